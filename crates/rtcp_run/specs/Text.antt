@@ -1,0 +1,62 @@
+-- The text of packets and of faults, as `rtcp check` shows them.
+use Rattle.std.specs.Prelude.{ℕ, ℤ, List, [], ◌∷◌, ◌++◌, length, map, codes}
+use Rattle.std.specs.List.{flat_map, join_with_byte}
+use Rattle.std.specs.Int.{w32, to_be_bytes}
+use Rattle.std.specs.Fmt.{decimal, signed_decimal}
+use Rattle.hex.specs.Hex.{encode_lower}
+use Rattle.rtcp_wire.specs.Values.{ReportBlock, ItemValue, ChunkValue, RtcpPacket, rr, sdes, other}
+use Rattle.rtcp_wire.specs.declared.fault.FaultReason.{FaultReason}
+use Rattle.rtcp_wire.specs.declared.fault.FaultReason.TheVariants.{Short, Version, FirstType, FirstPadding, Length, Padding, Body, Item, Reason, TooLong}
+use Rattle.rtcp_wire.specs.declared.fault.WireFault.{WireFault}
+
+-- eight digits of a number below 2 ^ 32
+abbrev pub hex_word : ℕ → List ℕ
+hex_word n = encode_lower (to_be_bytes w32 n)
+
+-- pieces with a separator between two of them: 44 is a comma, 59 a semicolon
+abbrev pub commas : List (List ℕ) → List ℕ
+commas pieces = join_with_byte 44 pieces
+
+abbrev pub semicolons : List (List ℕ) → List ℕ
+semicolons pieces = join_with_byte 59 pieces
+
+-- SSRC/fraction/lost/highest/jitter/LSR/DLSR
+abbrev pub block_text : ReportBlock → List ℕ
+block_text b =
+    hex_word b.ssrc ++ codes "/" ++ decimal b.fraction ++ codes "/" ++ signed_decimal b.lost ++ codes "/" ++ decimal b.highest
+    ++ codes "/" ++ decimal b.jitter ++ codes "/" ++ hex_word b.lsr ++ codes "/" ++ hex_word b.dlsr
+
+-- type=text
+abbrev pub item_text : ItemValue → List ℕ
+item_text i = decimal i.kind ++ codes "=" ++ encode_lower i.text
+
+-- id{items}
+abbrev pub chunk_text : ChunkValue → List ℕ
+chunk_text c = hex_word c.id ++ codes "{" ++ commas (map item_text c.items) ++ codes "}"
+
+abbrev pub packet_text : RtcpPacket → List ℕ
+packet_text (rr ssrc blocks extension) =
+    codes "RR(" ++ hex_word ssrc ++ codes ",[" ++ semicolons (map block_text blocks) ++ codes "]," ++ decimal (length extension) ++ codes ")"
+packet_text (sdes chunks) = codes "SDES([" ++ semicolons (map chunk_text chunks) ++ codes "])"
+packet_text (other kind count body) =
+    codes "OTHER(" ++ decimal kind ++ codes "," ++ decimal count ++ codes "," ++ decimal (length body) ++ codes ")"
+
+-- the line for an accepted datagram
+abbrev pub accepted_text : List RtcpPacket → List ℕ
+accepted_text packets = codes "ok" ++ flat_map (λ packet. codes " " ++ packet_text packet) packets ++ 10 ∷ []
+
+abbrev pub reason_text : FaultReason → List ℕ
+reason_text Short = codes "F1 Short"
+reason_text Version = codes "F2 Version"
+reason_text FirstType = codes "F3 FirstType"
+reason_text FirstPadding = codes "F4 FirstPadding"
+reason_text Length = codes "F5 Length"
+reason_text Padding = codes "F6 Padding"
+reason_text Body = codes "F7 Body"
+reason_text Item = codes "F8 Item"
+reason_text Reason = codes "F9 Reason"
+reason_text TooLong = codes "F10 TooLong"
+
+-- the line for a refused datagram
+abbrev pub fault_text : WireFault → List ℕ
+fault_text fault = reason_text fault.reason ++ codes " at " ++ decimal fault.place ++ 10 ∷ []

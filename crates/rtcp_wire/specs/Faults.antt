@@ -1,0 +1,93 @@
+-- Why a datagram is refused, and where: the first fault from its front (RFC 3550, appendix A.2, and this profile's own tests).
+use Rattle.std.specs.Prelude.{◌≡◌, ◌≢◌, ℕ, ◌+◌, ◌-◌, ◌*◌, ◌%◌, ◌<◌, ◌≤◌, ◌⊎◌, ◌==◌, Bool, true, List, [], ◌∷◌, ◌++◌, length}
+use Rattle.byteorder.specs.Endian.{big_number}
+use Rattle.rtcp_wire.specs.declared.fault.FaultReason.{FaultReason}
+use Rattle.rtcp_wire.specs.declared.fault.FaultReason.TheVariants.{Short, Version, FirstType, FirstPadding, Length, Padding, Body, Item, Reason, TooLong}
+use Rattle.rtcp_wire.specs.declared.fault.WireFault.{WireFault}
+use Rattle.rtcp_wire.specs.Values.{ItemValue, ChunkValue, RtcpPacket}
+use Rattle.rtcp_wire.specs.Grammar.{Joins, version_of, is_padded, count_of, type_of, size_of, padding_of, body_of, IsPadding, IsItem, IsChunk, IsSpelling, MayBegin, IsAccepted}
+
+-- Chunks were expected, and then no identifier could follow, or octets were left behind the last of them.
+pub record EndsBesideChunks (count : ℕ) (body : List ℕ) : Type 0 where
+  pub chunks : List ChunkValue
+  pub front : List ℕ
+  pub rest : List ℕ
+  pub parts : body ≡ front ++ rest
+  pub each : Joins IsChunk chunks front
+  pub stop : ((length chunks < count) × (length rest < 4)) ⊎ ((length chunks ≡ count) × (rest ≢ []))
+
+-- an item of which the length octet or a part of the text is missing, or nothing where an item or the zero octet is expected
+abbrev pub IsCut : List ℕ → Type 0
+IsCut [] = Unit {0}
+IsCut (kind ∷ []) = kind ≢ 0
+IsCut (kind ∷ size ∷ text) = (kind ≢ 0) × (length text < size)
+
+-- Inside a chunk, behind whole items, the body ends too early.
+pub record EndsInsideChunk (count : ℕ) (body : List ℕ) : Type 0 where
+  pub chunks : List ChunkValue
+  pub items : List ItemValue
+  pub front : List ℕ
+  pub id : List ℕ
+  pub middle : List ℕ
+  pub cut : List ℕ
+  pub parts : body ≡ front ++ (id ++ (middle ++ cut))
+  pub each : Joins IsChunk chunks front
+  pub expected : length chunks < count
+  pub id_size : length id ≡ 4
+  pub each_item : Joins IsItem items middle
+  pub ends : IsCut cut
+
+-- The test of a reason at the octets where a packet should begin; is_first where it is the datagram's first.
+abbrev pub Finds : FaultReason → Bool → List ℕ → Type 0
+Finds Short is_first octets = length octets < 4
+Finds Version is_first octets = version_of octets ≢ 2
+Finds FirstType is_first octets = (is_first ≡ true) × (type_of octets ≢ 200) × (type_of octets ≢ 201)
+Finds FirstPadding is_first octets = (is_first ≡ true) × (is_padded octets ≡ true)
+Finds Length is_first octets = length octets < size_of octets
+Finds Padding is_first octets = (is_padded octets ≡ true) × (IsPadding (size_of octets) (padding_of octets) → ⊥)
+Finds Body is_first octets =
+    ((type_of octets ≡ 201) × (length (body_of octets) < 4 + 24 * count_of octets))
+    ⊎ ((type_of octets ≡ 202) × EndsBesideChunks (count_of octets) (body_of octets))
+Finds Item is_first octets = (type_of octets ≡ 202) × EndsInsideChunk (count_of octets) (body_of octets)
+-- Packets of type 203 are kept as they are so far, so no reason is looked at.
+Finds Reason is_first octets = ⊥
+-- This one is tested of the whole datagram.
+Finds TooLong is_first octets = ⊥
+
+-- the order of the tests
+abbrev pub row_of : FaultReason → ℕ
+row_of Short = 1
+row_of Version = 2
+row_of FirstType = 3
+row_of FirstPadding = 4
+row_of Length = 5
+row_of Padding = 6
+row_of Body = 7
+row_of Item = 8
+row_of Reason = 9
+row_of TooLong = 10
+
+-- The test of this reason finds a fault, and no earlier one does.
+pub record IsFirstRow (reason : FaultReason) (is_first : Bool) (octets : List ℕ) : Type 0 where
+  pub found : Finds reason is_first octets
+  pub no_earlier : (earlier : FaultReason) → row_of earlier < row_of reason → Finds earlier is_first octets → ⊥
+
+-- The packet's octets may stand here.
+abbrev pub MayStand : Bool → List ℕ → Type 0
+MayStand is_first octets = is_first ≡ true → MayBegin octets
+
+-- Behind a front that is empty or accepted, no spelling may follow.
+pub record StopsAt (octets : List ℕ) (fault : WireFault) : Type 0 where
+  pub short : length octets ≤ 65535
+  pub front : List ℕ
+  pub rest : List ℕ
+  pub parts : octets ≡ front ++ rest
+  pub place : fault.place ≡ length front
+  pub before : (front ≡ []) ⊎ ((packets : List RtcpPacket) × IsAccepted front packets)
+  pub more : (rest ≢ []) ⊎ (octets ≡ [])
+  pub unreadable : (packet : RtcpPacket) (spelling after : List ℕ) → rest ≡ spelling ++ after → IsSpelling packet spelling → MayStand (length front == 0) spelling → ⊥
+  pub row : IsFirstRow fault.reason (length front == 0) rest
+
+-- the datagram's first fault
+abbrev pub IsFirstFault : List ℕ → WireFault → Type 0
+IsFirstFault octets fault = ((65535 < length octets) × (fault.reason ≡ TooLong) × (fault.place ≡ 0)) ⊎ StopsAt octets fault

@@ -1,0 +1,108 @@
+-- The octets that spell a packet, and the datagrams that are read: RFC 3550, 6.1, 6.4 to 6.7 and appendix A.2.
+-- Octets are a list of numbers, the first octet first. No definition here says how to read them.
+use Rattle.std.specs.Prelude.{◌≡◌, ◌≢◌, ℕ, ◌+◌, ◌-◌, ◌*◌, ◌/◌, ◌%◌, ◌<◌, ◌≤◌, ◌⊎◌, ◌==◌, Bool, true, false, if◌then◌else◌, List, [], ◌∷◌, ◌++◌, length, take, drop, slice_index, All}
+use Rattle.byteorder.specs.Endian.{big_number, twos_complement}
+use Rattle.rtcp_wire.specs.Values.{ReportBlock, ItemValue, ChunkValue, RtcpPacket, rr, sdes, other}
+
+-- The octets are spellings of these values, one after the other.
+abbrev pub Joins : {A : Type 0} → (A → List ℕ → Type 0) → List A → List ℕ → Type 0
+Joins Spells [] octets = octets ≡ []
+Joins Spells (x ∷ xs) octets = (front : List ℕ) × (rest : List ℕ) × (octets ≡ front ++ rest) × Spells x front × Joins Spells xs rest
+
+-- ---- The header's word (6.4.1): version 2, padding bit, count; type; length in words less one.
+
+abbrev pub version_of : List ℕ → ℕ
+version_of octets = slice_index octets 0 / 64
+
+abbrev pub is_padded : List ℕ → Bool
+is_padded octets = slice_index octets 0 / 32 % 2 == 1
+
+abbrev pub count_of : List ℕ → ℕ
+count_of octets = slice_index octets 0 % 32
+
+abbrev pub type_of : List ℕ → ℕ
+type_of octets = slice_index octets 1
+
+-- how many octets the packet has that begins here, its header and its padding included
+abbrev pub size_of : List ℕ → ℕ
+size_of octets = 4 * (big_number 2 (drop 2 octets) + 1)
+
+-- Where the padding bit is set, the packet's last octet is the number of padding octets, itself included.
+abbrev pub padding_of : List ℕ → ℕ
+padding_of octets = if is_padded octets then slice_index octets (size_of octets - 1) else 0
+
+-- That number is a multiple of four, at least 4, and leaves the header. The octets before it are free.
+abbrev pub IsPadding : ℕ → ℕ → Type 0
+IsPadding size padding = (padding ≢ 0) × (padding % 4 ≡ 0) × (padding ≤ size - 4)
+
+-- what stands between the header and the padding
+abbrev pub body_of : List ℕ → List ℕ
+body_of octets = take (size_of octets - 4 - padding_of octets) (drop 4 octets)
+
+-- ---- Bodies
+
+-- the block that 24 octets say (6.4.1)
+abbrev pub block_in : List ℕ → ReportBlock
+block_in octets = record {
+  ssrc = big_number 4 octets;
+  fraction = slice_index octets 4;
+  lost = twos_complement 3 (big_number 3 (drop 5 octets));
+  highest = big_number 4 (drop 8 octets);
+  jitter = big_number 4 (drop 12 octets);
+  lsr = big_number 4 (drop 16 octets);
+  dlsr = big_number 4 (drop 20 octets);
+}
+
+abbrev pub IsBlock : ReportBlock → List ℕ → Type 0
+IsBlock block octets = (length octets ≡ 24) × (block ≡ block_in octets)
+
+-- A receiver report (6.4.2): an identifier, as many blocks as the count says, and an extension.
+pub record IsReport (ssrc : ℕ) (blocks : List ReportBlock) (extension : List ℕ) (count : ℕ) (body : List ℕ) : Type 0 where
+  pub id : List ℕ
+  pub reports : List ℕ
+  pub parts : body ≡ id ++ (reports ++ extension)
+  pub id_size : length id ≡ 4
+  pub sender : ssrc ≡ big_number 4 id
+  pub counted : length blocks ≡ count
+  pub each : Joins IsBlock blocks reports
+
+-- An item (6.5): a type that is not 0, the length of the text, and the text.
+abbrev pub IsItem : ItemValue → List ℕ → Type 0
+IsItem item octets = (item.kind ≢ 0) × (octets ≡ item.kind ∷ length item.text ∷ item.text)
+
+-- A chunk (6.5): an identifier, items, a zero octet, and up to three free octets that fill the word.
+pub record IsChunk (chunk : ChunkValue) (octets : List ℕ) : Type 0 where
+  pub id : List ℕ
+  pub items : List ℕ
+  pub free : List ℕ
+  pub parts : octets ≡ id ++ (items ++ 0 ∷ free)
+  pub id_size : length id ≡ 4
+  pub source : chunk.id ≡ big_number 4 id
+  pub each : Joins IsItem chunk.items items
+  pub fill : length free < 4
+  pub aligned : length octets % 4 ≡ 0
+
+-- a packet's body, under its type and count
+abbrev pub IsBody : RtcpPacket → ℕ → ℕ → List ℕ → Type 0
+IsBody (rr ssrc blocks extension) kind count body = (kind ≡ 201) × IsReport ssrc blocks extension count body
+IsBody (sdes chunks) kind count body = (kind ≡ 202) × (length chunks ≡ count) × Joins IsChunk chunks body
+IsBody (other its_kind its_count its_body) kind count body = (kind ≢ 201) × (kind ≢ 202) × (its_kind ≡ kind) × (its_count ≡ count) × (its_body ≡ body)
+
+-- ---- Packets and compounds
+
+-- The octets are one spelling of the packet. Those of padding but the last, and those behind the zero of a chunk, are free.
+pub record IsSpelling (packet : RtcpPacket) (octets : List ℕ) : Type 0 where
+  pub version : version_of octets ≡ 2
+  pub size : length octets ≡ size_of octets
+  pub padding : is_padded octets ≡ true → IsPadding (size_of octets) (padding_of octets)
+  pub body : IsBody packet (type_of octets) (count_of octets) (body_of octets)
+
+-- A compound begins with a sender's or a receiver's report without padding (6.1, A.2).
+abbrev pub MayBegin : List ℕ → Type 0
+MayBegin octets = ((type_of octets ≡ 200) ⊎ (type_of octets ≡ 201)) × (is_padded octets ≡ false)
+
+-- The datagram is these packets. As nothing begins with no octets, there is at least one.
+pub record IsAccepted (octets : List ℕ) (packets : List RtcpPacket) : Type 0 where
+  pub short : length octets ≤ 65535
+  pub begins : MayBegin octets
+  pub joined : Joins IsSpelling packets octets

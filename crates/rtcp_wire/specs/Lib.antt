@@ -1,0 +1,5 @@
+pub mod Values
+pub mod Grammar
+pub mod Faults
+pub mod Views
+pub mod Reading

@@ -1,0 +1,30 @@
+-- What the octets of RTCP packets say, in numbers and lists (RFC 3550, 6.4 to 6.7).
+use Rattle.std.specs.Prelude.{ℕ, ℤ, List}
+
+-- a reception report block (6.4.1)
+pub record ReportBlock : Type 0 where
+  pub ssrc : ℕ
+  pub fraction : ℕ
+  pub lost : ℤ
+  pub highest : ℕ
+  pub jitter : ℕ
+  pub lsr : ℕ
+  pub dlsr : ℕ
+
+-- an SDES item: its type, and the octets of its text (6.5)
+pub record ItemValue : Type 0 where
+  pub kind : ℕ
+  pub text : List ℕ
+
+-- an SDES chunk: a source, and what it says of itself (6.5)
+pub record ChunkValue : Type 0 where
+  pub id : ℕ
+  pub items : List ItemValue
+
+pub data RtcpPacket : Type 0 where
+  -- a receiver report (6.4.2): its sender, its blocks, and the extension behind them
+  rr : (ssrc : ℕ) (blocks : List ReportBlock) (extension : List ℕ) → RtcpPacket
+  -- a source description (6.5)
+  sdes : (chunks : List ChunkValue) → RtcpPacket
+  -- a packet of another type, whose body is kept as it is
+  other : (kind count : ℕ) (body : List ℕ) → RtcpPacket

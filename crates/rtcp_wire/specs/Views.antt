@@ -1,0 +1,25 @@
+-- What the crate's types say, as values of the grammar.
+use Rattle.std.specs.Prelude.{List, map}
+use Rattle.rtcp_wire.specs.declared.block.Block.{Block}
+use Rattle.rtcp_wire.specs.declared.sdes.SdesItem.{SdesItem}
+use Rattle.rtcp_wire.specs.declared.sdes.Chunk.{Chunk}
+use Rattle.rtcp_wire.specs.declared.packet.Packet.{Packet}
+use Rattle.rtcp_wire.specs.declared.packet.Packet.TheVariants.{Rr, Sdes, Other}
+use Rattle.rtcp_wire.specs.Values.{ReportBlock, ItemValue, ChunkValue, RtcpPacket, rr, sdes, other}
+
+abbrev pub block_of : Block → ReportBlock
+block_of b = record { ssrc = b.ssrc; fraction = b.fraction; lost = b.lost; highest = b.highest; jitter = b.jitter; lsr = b.lsr; dlsr = b.dlsr }
+
+abbrev pub item_of : SdesItem → ItemValue
+item_of i = record { kind = i.kind; text = i.text.items }
+
+abbrev pub chunk_of : Chunk → ChunkValue
+chunk_of c = record { id = c.id; items = map item_of c.items.items }
+
+abbrev pub packet_of : Packet → RtcpPacket
+packet_of (Rr r) = rr r.ssrc (map block_of r.blocks.items) r.extension.items
+packet_of (Sdes d) = sdes (map chunk_of d.chunks.items)
+packet_of (Other o) = other o.kind o.count o.body.items
+
+abbrev pub packets_of : List Packet → List RtcpPacket
+packets_of ps = map packet_of ps
