@@ -3,3 +3,4 @@ pub mod Grammar
 pub mod Faults
 pub mod Views
 pub mod Reading
+pub mod Parts

@@ -1,6 +1,31 @@
 //! Reception report blocks (RFC 3550, 6.4.1).
 
+ghost use Rattle.std.specs.Prelude.{◌≡◌, ◌*◌, ◌≤◌, length, map, take, drop, IfOk};
+ghost use Rattle.rtcp_wire.specs.Grammar.{Joins, IsBlock, block_in};
+ghost use Rattle.rtcp_wire.specs.Views.{block_of};
+
+use crate::reader::Reader;
+use std::alloc::{AllocError, Global};
+
+/// The octets of a block.
+pub(crate) const BLOCK_SIZE: usize = 24;
+
 /// What a report says of one source (RFC 3550, 6.4.1).
+///
+/// ```text
+///  0                   1                   2                   3
+///  0 1 2 3 4 5 6 7 8 9 0 1 2 3 4 5 6 7 8 9 0 1 2 3 4 5 6 7 8 9 0 1
+/// +-+-+-+-+-+-+-+-+-+-+-+-+-+-+-+-+-+-+-+-+-+-+-+-+-+-+-+-+-+-+-+-+
+/// |                             ssrc                              |
+/// +---------------+-----------------------------------------------+
+/// |   fraction    |              lost (signed)                    |
+/// +---------------+-----------------------------------------------+
+/// |                            highest                            |
+/// |                            jitter                             |
+/// |                              lsr                              |
+/// |                             dlsr                              |
+/// +---------------------------------------------------------------+
+/// ```
 #[derive(Clone, Copy, Debug, PartialEq, Eq)]
 pub struct Block {
     /// The source that the block speaks of.
@@ -17,4 +42,45 @@ pub struct Block {
     pub lsr: u32,
     /// The time since that report, in 1/65,536 of a second, or 0.
     pub dlsr: u32,
+}
+
+fn block_from(octets: &[u8]) -> Block
+    requires { length octets.now ≡ 24 }
+    ensures { block_of result ≡ block_in octets.now }
+{
+    let mut reader = Reader::new(octets);
+    let ssrc = reader.u32();
+    let fraction = reader.octet();
+    let lost = reader.i24();
+    let highest = reader.u32();
+    let jitter = reader.u32();
+    let lsr = reader.u32();
+    let dlsr = reader.u32();
+    Block {
+        ssrc,
+        fraction,
+        lost,
+        highest,
+        jitter,
+        lsr,
+        dlsr,
+    }
+}
+
+/// The next `count` blocks.
+pub(crate) fn read_blocks(
+    alloc: Global,
+    count: u8,
+    reader: &mut Reader<'_>,
+) -> Result<Vec<Block>, AllocError>
+    requires { 24 * count ≤ length reader.old }
+    ensures blocks { IfOk result (λ blocks. Joins IsBlock (map block_of blocks.items) (take (24 * count) reader.old)) }
+    ensures counted { IfOk result (λ blocks. length blocks.items ≡ count) }
+    ensures rest { IfOk result (λ _. reader.new ≡ drop (24 * count) reader.old) }
+{
+    let mut blocks = Vec::with_capacity(alloc, count as usize)?;
+    for _ in 0..count {
+        blocks.push(block_from(reader.take(BLOCK_SIZE)))?;
+    }
+    Ok(blocks)
 }

@@ -1,13 +1,29 @@
-//! RTCP packets as octets and as values (RFC 3550, sections 6.1 to 6.7).
+//! RTCP packets (RFC 3550, sections 6.1 to 6.7), from octets to values: it is deterministic, reads no clock, opens no socket and
+//! draws no random number. It asks for memory for what the packets hold, through the allocator that it is given.
+//!
+//! ```
+//! let datagram = [0x80, 0xc9, 0, 1, 0, 0, 0, 7, 0x81, 0xca, 0, 2, 0, 0, 0, 7, 1, 1, 0x61, 0];
+//! match read_owned(rt.alloc(), &datagram) {
+//!     Ok(packets) => assert_eq!(rt; packets.len(), 2),
+//!     Err(ReadError::Wire(fault)) => panic!(rt; "{fault}"),
+//!     Err(ReadError::Memory) => panic!(rt; "out of memory"),
+//! }
+//! ```
+//!
+//! What octets are is defined in `specs/` (`Grammar`, `Faults`); `laws` has what holds of these definitions.
 #![tactic(auto)]
 
 mod block;
+mod compound;
 mod fault;
+mod header;
+pub mod laws;
 mod other;
 mod packet;
+mod part_error;
+mod reader;
 mod rr;
 mod sdes;
-mod compound;
 
 pub use block::Block;
 pub use compound::{MAX_DATAGRAM, read_owned};
@@ -16,3 +32,6 @@ pub use other::OtherPacket;
 pub use packet::Packet;
 pub use rr::ReceiverReport;
 pub use sdes::{Chunk, SdesItem, SourceDescription};
+
+#[cfg(test)]
+mod tests;

@@ -1,8 +1,18 @@
 //! Packets of any type.
 
+ghost use Rattle.std.specs.Prelude.{◌≡◌, ◌%◌, ℕ, List, length, MatchResult};
+ghost use Rattle.rtcp_wire.specs.Grammar.{IsBody, IsSpelling};
+ghost use Rattle.rtcp_wire.specs.Faults.{MayStand};
+ghost use Rattle.rtcp_wire.specs.Parts.{Takes, IsBodyFault, IsPacketFault};
+ghost use Rattle.rtcp_wire.specs.Views.{packet_of};
+
+use crate::header::{RECEIVER_REPORT, SOURCE_DESCRIPTION, read_header, unpadded};
 use crate::other::OtherPacket;
-use crate::rr::ReceiverReport;
-use crate::sdes::SourceDescription;
+use crate::part_error::PartError;
+use crate::reader::Reader;
+use crate::rr::{ReceiverReport, read_report};
+use crate::sdes::{SourceDescription, read_description};
+use std::alloc::Global;
 
 /// An RTCP packet, with memory of its own.
 #[derive(Debug, Drop)]
@@ -13,4 +23,44 @@ pub enum Packet {
     Sdes(SourceDescription),
     /// A packet of any other type, kept as it is.
     Other(OtherPacket),
+}
+
+/// Reads a body under its packet's type and count.
+fn read_body(alloc: Global, kind: u8, count: u8, body: &[u8]) -> Result<Packet, PartError>
+    requires { length body.now % 4 ≡ 0 }
+    ensures { MatchResult result
+        (λ packet. IsBody (packet_of packet) kind count body.now)
+        (λ error. IsBodyFault error kind count body.now) }
+{
+    match kind {
+        RECEIVER_REPORT => {
+            let report = read_report(alloc, count, body)?;
+            Ok(Packet::Rr(report))
+        }
+        SOURCE_DESCRIPTION => {
+            let description = read_description(alloc, count, body)?;
+            Ok(Packet::Sdes(description))
+        }
+        _ => {
+            let body = Vec::from_slice(alloc, body)?;
+            Ok(Packet::Other(OtherPacket { kind, count, body }))
+        }
+    }
+}
+
+/// Reads the packet at the front of what is left. The tests come in the order of the table of faults, and at the
+/// datagram's first packet all of them come before memory is asked for.
+pub(crate) fn read_packet(
+    alloc: Global,
+    reader: &mut Reader<'_>,
+    is_first: bool,
+) -> Result<Packet, PartError>
+    ensures { MatchResult result
+        (λ packet. Takes reader.old reader.new (λ octets. IsSpelling (packet_of packet) octets × MayStand is_first octets))
+        (λ error. IsPacketFault error is_first reader.old) }
+{
+    let header = read_header(reader.rest(), is_first)?;
+    let octets = reader.take(header.size);
+    let body = unpadded(octets, header.is_padded)?;
+    read_body(alloc, header.kind, header.count, body)
 }

@@ -1,5 +1,16 @@
 //! Source descriptions (RFC 3550, 6.5).
 
+ghost use Rattle.std.specs.Prelude.{◌≡◌, ◌≤◌, ◌<◌, ◌%◌, ◌++◌, ◌∷◌, ℕ, List, length, map, MatchResult};
+ghost use Rattle.rtcp_wire.specs.Grammar.{Joins, IsItem, IsChunk};
+ghost use Rattle.rtcp_wire.specs.Faults.{IsCut};
+ghost use Rattle.rtcp_wire.specs.Parts.{Takes, Fails, TakesItem, EndsInItems, EndsInChunk, IsChunksFault};
+ghost use Rattle.rtcp_wire.specs.Views.{item_of, chunk_of};
+
+use crate::fault::FaultReason;
+use crate::part_error::PartError;
+use crate::reader::Reader;
+use std::alloc::Global;
+
 /// Something that a source says of itself (RFC 3550, 6.5.1 to 6.5.8).
 #[derive(Debug, Drop)]
 pub struct SdesItem {
@@ -23,4 +34,81 @@ pub struct Chunk {
 pub struct SourceDescription {
     /// At most 31 chunks.
     pub chunks: Vec<Chunk>,
+}
+
+/// The next item, or None for the zero octet behind the last one.
+fn read_item(alloc: Global, reader: &mut Reader<'_>) -> Result<Option<SdesItem>, PartError>
+    ensures { MatchResult result
+        (λ item. TakesItem reader.old reader.new item)
+        (λ error. Fails error FaultReason.Item (IsCut reader.old)) }
+{
+    if reader.left() == 0 {
+        return Err(PartError::Fault(FaultReason::Item));
+    }
+    let kind = reader.octet();
+    if kind == 0 {
+        return Ok(None);
+    }
+    if reader.left() == 0 {
+        return Err(PartError::Fault(FaultReason::Item));
+    }
+    let size = reader.octet() as usize;
+    if reader.left() < size {
+        return Err(PartError::Fault(FaultReason::Item));
+    }
+    let text = Vec::from_slice(alloc, reader.take(size))?;
+    Ok(Some(SdesItem { kind, text }))
+}
+
+/// The items up to the zero octet behind them.
+fn read_items(alloc: Global, reader: &mut Reader<'_>) -> Result<Vec<SdesItem>, PartError>
+    ensures { MatchResult result
+        (λ items. (front : List ℕ) × (reader.old ≡ front ++ 0 ∷ reader.new) × Joins IsItem (map item_of items.items) front)
+        (λ error. Fails error FaultReason.Item (EndsInItems reader.old)) }
+{
+    let mut items = Vec::new(alloc);
+    while let Some(item) = read_item(alloc, reader)? {
+        items.push(item)?;
+    }
+    Ok(items)
+}
+
+/// The next chunk. As what is left is whole words, the fill behind the zero octet is what is left over of a word.
+fn read_chunk(alloc: Global, reader: &mut Reader<'_>) -> Result<Chunk, PartError>
+    requires room { 4 ≤ length reader.old }
+    requires words { length reader.old % 4 ≡ 0 }
+    ensures { MatchResult result
+        (λ chunk. Takes reader.old reader.new (IsChunk (chunk_of chunk)) × (length reader.new % 4 ≡ 0))
+        (λ error. Fails error FaultReason.Item (EndsInChunk reader.old)) }
+{
+    let id = reader.u32();
+    let items = read_items(alloc, reader)?;
+    let fill = reader.left() % 4;
+    reader.take(fill);
+    Ok(Chunk { id, items })
+}
+
+/// Reads the body of a source description whose header counts `count` chunks.
+pub(crate) fn read_description(
+    alloc: Global,
+    count: u8,
+    body: &[u8],
+) -> Result<SourceDescription, PartError>
+    requires { length body.now % 4 ≡ 0 }
+    ensures { MatchResult result
+        (λ description. (length description.chunks.items ≡ count) × Joins IsChunk (map chunk_of description.chunks.items) body.now)
+        (λ error. IsChunksFault error count body.now) }
+{
+    let mut reader = Reader::new(body);
+    let mut chunks = Vec::new(alloc);
+    for _ in 0..count {
+        if reader.left() < 4 {
+            return Err(PartError::Fault(FaultReason::Body));
+        }
+        chunks.push(read_chunk(alloc, &mut reader)?)?;
+    }
+    if reader.left() > 0 {
+        return Err(PartError::Fault(FaultReason::Body));
+    }
+    Ok(SourceDescription { chunks })
 }

@@ -1,0 +1,188 @@
+//! The text of packets and of faults, as `rtcp check` shows them. After an error it is left open what was appended.
+
+ghost use Rattle.std.specs.Prelude.{◌≡◌, ◌++◌, map, length, OnOk};
+ghost use Rattle.rtcp_wire.specs.Views.{block_of, item_of, chunk_of, packet_of, packets_of};
+ghost use Rattle.rtcp_wire.specs.Values.{rr, sdes, other};
+ghost use Rattle.rtcp_run.specs.Text.{block_text, item_text, chunk_text, packet_text, accepted_text, reason_text, fault_text, commas, semicolons};
+
+mod digits;
+#[cfg(test)]
+mod tests;
+
+use digits::{push_decimal, push_octets, push_signed, push_word};
+use rtcp_wire::{
+    Block, Chunk, FaultReason, OtherPacket, Packet, ReceiverReport, SdesItem, SourceDescription,
+    WireFault,
+};
+use std::alloc::AllocError;
+
+/// Appends the line for an accepted datagram.
+pub(crate) fn push_accepted(out: &mut Vec<u8>, packets: &[Packet]) -> Result<(), AllocError>
+    ensures { OnOk result (out.new.items ≡ out.old.items ++ accepted_text (packets_of packets.now)) }
+{
+    out.extend_from_slice(b"ok")?;
+    for packet in packets {
+        out.push(b' ')?;
+        push_packet(out, packet)?;
+    }
+    out.push(b'\n')?;
+    Ok(())
+}
+
+/// Appends the line for a refused datagram.
+pub(crate) fn push_fault(out: &mut Vec<u8>, fault: &WireFault) -> Result<(), AllocError>
+    ensures { OnOk result (out.new.items ≡ out.old.items ++ fault_text fault.now) }
+{
+    out.extend_from_slice(reason_name(fault.reason).as_bytes())?;
+    out.extend_from_slice(b" at ")?;
+    push_decimal(out, fault.place as u64)?;
+    out.push(b'\n')?;
+    Ok(())
+}
+
+/// The number of a rule and its name.
+fn reason_name(reason: FaultReason) -> &'static str
+    ensures { result.now ≡ reason_text reason }
+{
+    match reason {
+        FaultReason::Short => "F1 Short",
+        FaultReason::Version => "F2 Version",
+        FaultReason::FirstType => "F3 FirstType",
+        FaultReason::FirstPadding => "F4 FirstPadding",
+        FaultReason::Length => "F5 Length",
+        FaultReason::Padding => "F6 Padding",
+        FaultReason::Body => "F7 Body",
+        FaultReason::Item => "F8 Item",
+        FaultReason::Reason => "F9 Reason",
+        FaultReason::TooLong => "F10 TooLong",
+    }
+}
+
+/// Appends the text of a packet.
+fn push_packet(out: &mut Vec<u8>, packet: &Packet) -> Result<(), AllocError>
+    ensures { OnOk result (out.new.items ≡ out.old.items ++ packet_text (packet_of packet.now)) }
+{
+    match packet {
+        Packet::Rr(report) => push_report(out, report),
+        Packet::Sdes(description) => push_description(out, description),
+        Packet::Other(packet) => push_other(out, packet),
+    }
+}
+
+/// Appends the text of a receiver report: of its extension the length, in octets.
+fn push_report(out: &mut Vec<u8>, report: &ReceiverReport) -> Result<(), AllocError>
+    ensures { OnOk result (out.new.items ≡ out.old.items
+        ++ packet_text (rr report.now.ssrc (map block_of report.now.blocks.items) report.now.extension.items)) }
+{
+    out.extend_from_slice(b"RR(")?;
+    push_word(out, report.ssrc)?;
+    out.extend_from_slice(b",[")?;
+    push_blocks(out, &report.blocks)?;
+    out.extend_from_slice(b"],")?;
+    push_decimal(out, report.extension.len() as u64)?;
+    out.push(b')')?;
+    Ok(())
+}
+
+/// Appends the text of a source description.
+fn push_description(out: &mut Vec<u8>, description: &SourceDescription) -> Result<(), AllocError>
+    ensures { OnOk result (out.new.items ≡ out.old.items
+        ++ packet_text (sdes (map chunk_of description.now.chunks.items))) }
+{
+    out.extend_from_slice(b"SDES([")?;
+    push_chunks(out, &description.chunks)?;
+    out.extend_from_slice(b"])")
+}
+
+/// Appends the text of a packet of another type: of its body the length, in octets.
+fn push_other(out: &mut Vec<u8>, packet: &OtherPacket) -> Result<(), AllocError>
+    ensures { OnOk result (out.new.items ≡ out.old.items
+        ++ packet_text (other packet.now.kind packet.now.count packet.now.body.items)) }
+{
+    out.extend_from_slice(b"OTHER(")?;
+    push_decimal(out, u64::from(packet.kind))?;
+    out.push(b',')?;
+    push_decimal(out, u64::from(packet.count))?;
+    out.push(b',')?;
+    push_decimal(out, packet.body.len() as u64)?;
+    out.push(b')')?;
+    Ok(())
+}
+
+/// Appends the texts of blocks, with semicolons between them.
+fn push_blocks(out: &mut Vec<u8>, blocks: &[Block]) -> Result<(), AllocError>
+    ensures { OnOk result (out.new.items ≡ out.old.items ++ semicolons (map block_text (map block_of blocks.now))) }
+{
+    for (i, block) in blocks.iter().enumerate() {
+        if i > 0 {
+            out.push(b';')?;
+        }
+        push_block(out, block)?;
+    }
+    Ok(())
+}
+
+/// Appends the text of a block.
+fn push_block(out: &mut Vec<u8>, block: &Block) -> Result<(), AllocError>
+    ensures { OnOk result (out.new.items ≡ out.old.items ++ block_text (block_of block.now)) }
+{
+    push_word(out, block.ssrc)?;
+    out.push(b'/')?;
+    push_decimal(out, u64::from(block.fraction))?;
+    out.push(b'/')?;
+    push_signed(out, block.lost)?;
+    out.push(b'/')?;
+    push_decimal(out, u64::from(block.highest))?;
+    out.push(b'/')?;
+    push_decimal(out, u64::from(block.jitter))?;
+    out.push(b'/')?;
+    push_word(out, block.lsr)?;
+    out.push(b'/')?;
+    push_word(out, block.dlsr)
+}
+
+/// Appends the texts of chunks, with semicolons between them.
+fn push_chunks(out: &mut Vec<u8>, chunks: &[Chunk]) -> Result<(), AllocError>
+    ensures { OnOk result (out.new.items ≡ out.old.items ++ semicolons (map chunk_text (map chunk_of chunks.now))) }
+{
+    for (i, chunk) in chunks.iter().enumerate() {
+        if i > 0 {
+            out.push(b';')?;
+        }
+        push_chunk(out, chunk)?;
+    }
+    Ok(())
+}
+
+/// Appends the text of a chunk.
+fn push_chunk(out: &mut Vec<u8>, chunk: &Chunk) -> Result<(), AllocError>
+    ensures { OnOk result (out.new.items ≡ out.old.items ++ chunk_text (chunk_of chunk.now)) }
+{
+    push_word(out, chunk.id)?;
+    out.push(b'{')?;
+    push_items(out, &chunk.items)?;
+    out.push(b'}')?;
+    Ok(())
+}
+
+/// Appends the texts of items, with commas between them.
+fn push_items(out: &mut Vec<u8>, items: &[SdesItem]) -> Result<(), AllocError>
+    ensures { OnOk result (out.new.items ≡ out.old.items ++ commas (map item_text (map item_of items.now))) }
+{
+    for (i, item) in items.iter().enumerate() {
+        if i > 0 {
+            out.push(b',')?;
+        }
+        push_item(out, item)?;
+    }
+    Ok(())
+}
+
+/// Appends the text of an item.
+fn push_item(out: &mut Vec<u8>, item: &SdesItem) -> Result<(), AllocError>
+    ensures { OnOk result (out.new.items ≡ out.old.items ++ item_text (item_of item.now)) }
+{
+    push_decimal(out, u64::from(item.kind))?;
+    out.push(b'=')?;
+    push_octets(out, &item.text)
+}

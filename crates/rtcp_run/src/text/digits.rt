@@ -1,0 +1,61 @@
+//! Numbers and octets as digits.
+
+ghost use Rattle.std.specs.Prelude.{◌≡◌, ◌++◌, OnOk};
+ghost use Rattle.std.specs.Fmt.{decimal, signed_decimal};
+ghost use Rattle.hex.specs.Hex.{encode_lower};
+ghost use Rattle.rtcp_run.specs.Text.{hex_word};
+
+use std::alloc::AllocError;
+
+/// The most decimal digits that a `u64` has.
+const MAX_DIGITS: usize = 20;
+
+/// The digits of base 16.
+const HEX_DIGITS: &[u8; 16] = b"0123456789abcdef";
+
+/// Appends a number in decimal, with no leading zero.
+pub(super) fn push_decimal(out: &mut Vec<u8>, number: u64) -> Result<(), AllocError>
+    ensures { OnOk result (out.new.items ≡ out.old.items ++ decimal number) }
+{
+    let mut digits = [0u8; MAX_DIGITS];
+    let mut start = MAX_DIGITS - 1;
+    let mut rest = number;
+    while rest >= 10 {
+        digits[start] = b'0' + (rest % 10) as u8;
+        start -= 1;
+        rest /= 10;
+    }
+    digits[start] = b'0' + rest as u8;
+    out.extend_from_slice(&digits[start..])
+}
+
+/// Appends a number in decimal, with a minus sign if it is below 0.
+pub(super) fn push_signed(out: &mut Vec<u8>, number: i32) -> Result<(), AllocError>
+    ensures { OnOk result (out.new.items ≡ out.old.items ++ signed_decimal number) }
+{
+    if number < 0 {
+        out.push(b'-')?;
+    }
+    push_decimal(out, u64::from(number.unsigned_abs()))
+}
+
+/// Appends octets, each as two hex digits.
+pub(super) fn push_octets(out: &mut Vec<u8>, octets: &[u8]) -> Result<(), AllocError>
+    ensures { OnOk result (out.new.items ≡ out.old.items ++ encode_lower octets.now) }
+{
+    for octet in octets {
+        let high = HEX_DIGITS[(*octet / 16) as usize];
+        let low = HEX_DIGITS[(*octet % 16) as usize];
+        out.extend_from_slice(&[high, low])?;
+    }
+    Ok(())
+}
+
+/// Appends a word as eight hex digits.
+pub(super) fn push_word(out: &mut Vec<u8>, word: u32) -> Result<(), AllocError>
+    ensures { OnOk result (out.new.items ≡ out.old.items ++ hex_word word) }
+{
+    let mut digits = [0u8; 8];
+    hex::encode_to_slice(&word.to_be_bytes(), &mut digits).unwrap();
+    out.extend_from_slice(&digits)
+}

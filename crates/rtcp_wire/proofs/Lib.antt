@@ -1,0 +1,14 @@
+pub mod Joining
+pub mod Fronts
+pub mod Chunks
+pub mod Spellings
+pub mod Stops
+pub mod Refusals
+pub mod Deciding
+pub mod Standing
+pub mod Walking
+pub mod Rows
+pub mod ReadingReports
+pub mod ReadingDescriptions
+pub mod ReadingPackets
+pub mod ReadingCompounds

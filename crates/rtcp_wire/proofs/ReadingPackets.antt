@@ -1,0 +1,114 @@
+-- A packet that is read at the front of octets, and the first row of the table where none is.
+use Rattle.std.proofs.Common.{◌≡◌, ℕ, ◌+◌, ◌*◌, ◌≤◌, ◌<◌, Bool, true, false, List, length, drop, Result, Ok, Err, MatchResult, sym, ap, ◌∙◌, arith, inl, inr}
+use Rattle.std.proofs.lemmas.List.{take-append-drop}
+use Rattle.rtcp_wire.specs.declared.fault.FaultReason.{FaultReason}
+use Rattle.rtcp_wire.specs.declared.fault.FaultReason.TheVariants.{Short, Version, FirstType, FirstPadding, Length, Padding, Body, Item, Reason, TooLong}
+use Rattle.rtcp_wire.specs.declared.part_error.PartError.{PartError}
+use Rattle.rtcp_wire.specs.declared.part_error.PartError.TheVariants.{Fault, Memory}
+use Rattle.rtcp_wire.specs.declared.packet.Packet.{Packet}
+use Rattle.rtcp_wire.specs.Grammar.{is_padded, count_of, type_of, size_of, padding_of, body_of, IsPadding, IsBody, IsSpelling, MayBegin}
+use Rattle.rtcp_wire.specs.Faults.{Finds, IsFirstRow, MayStand}
+use Rattle.rtcp_wire.specs.Parts.{Takes, IsWhole, IsUnpadded, IsBodyFault, IsPacketFault}
+use Rattle.rtcp_wire.specs.Views.{packet_of}
+use Rattle.rtcp_wire.proofs.Chunks.{not_both}
+use Rattle.rtcp_wire.proofs.Spellings.{own, is_own}
+use Rattle.rtcp_wire.proofs.Stops.{body_at, padding_at}
+use Rattle.rtcp_wire.proofs.Standing.{NoneBefore, none_at_first, next_row, IsSound, spelled_here}
+
+-- ---- The header and the padding
+
+not_both_bits : (p : Bool) → p ≡ true → p ≡ false → ⊥
+not_both_bits p set clear = cc
+
+-- no test before the padding's finds a fault in a good header
+none_before_padding : (is_first : Bool) (octets : List ℕ) → IsWhole is_first octets → NoneBefore 6 is_first octets
+none_before_padding is_first octets good =
+    let one = next_row Short is_first octets (none_at_first is_first octets) (λ (few : length octets < 4). omega (arith, few, good.header)) in
+    let two = next_row Version is_first octets one (λ differs. differs good.version) in
+    let three = next_row FirstType is_first octets two (λ bad. elim (good.may_stand bad.0).0 [ inl e ↦ bad.1 e | inr e ↦ bad.2 e ]) in
+    let four = next_row FirstPadding is_first octets three (λ bad. not_both_bits (is_padded octets) bad.1 (good.may_stand bad.0).1) in
+    next_row Length is_first octets four (λ (few : length octets < size_of octets). omega (arith, few, good.size))
+
+-- a padding that is not good is the first fault
+pub padding_row : (is_first : Bool) (octets : List ℕ) → IsWhole is_first octets → Finds Padding false (own octets) → IsFirstRow Padding is_first octets
+padding_row is_first octets good found =
+    let same = (is_own octets good.size).parts in
+    record {
+      found = (same.header.padded ∙ found.0, λ padding. found.1 (padding_at (size_of octets) (size_of (own octets)) (padding_of octets) (padding_of (own octets)) same.header.size same.padding padding));
+      no_earlier = none_before_padding is_first octets good;
+    }
+
+-- ---- The body
+
+-- A whole packet stands here, and this is its body, with the header's type and count.
+pub record HasBody (is_first : Bool) (octets body : List ℕ) (kind count : ℕ) : Type 0 where
+  pub good : IsWhole is_first octets
+  pub unpadded : IsUnpadded (own octets) body
+  pub kind_is : kind ≡ type_of octets
+  pub count_is : count ≡ count_of octets
+
+is_sound : (is_first : Bool) (octets body : List ℕ) (kind count : ℕ) → HasBody is_first octets body kind count → IsSound is_first octets
+is_sound is_first octets body kind count h =
+    let same = (is_own octets h.good.size).parts in
+    let padding : is_padded octets ≡ true → IsPadding (size_of octets) (padding_of octets) = λ set.
+    padding_at (size_of (own octets)) (size_of octets) (padding_of (own octets)) (padding_of octets) (sym same.header.size) (sym same.padding) (h.unpadded.1 (sym same.header.padded ∙ set)) in
+    record {
+      enough = h.good.header;
+      version = h.good.version;
+      kind = λ first. (h.good.may_stand first).0;
+      unpadded = λ first. (h.good.may_stand first).1;
+      room = h.good.size;
+      padding = padding;
+      none = next_row Padding is_first octets (none_before_padding is_first octets h.good) (λ bad. bad.1 (padding bad.0));
+    }
+
+same_body : (is_first : Bool) (octets body : List ℕ) (kind count : ℕ) → HasBody is_first octets body kind count → body ≡ body_of octets
+same_body is_first octets body kind count h = h.unpadded.0 ∙ sym (is_own octets h.good.size).parts.body
+
+-- a source description that ends inside a chunk does not end beside one
+none_before_item : (is_first : Bool) (octets : List ℕ) → NoneBefore 7 is_first octets → Finds Item is_first octets → NoneBefore 8 is_first octets
+none_before_item is_first octets none item =
+    next_row Body is_first octets none (λ found. elim found [ inl report ↦ omega (arith, item.0, report.0) | inr beside ↦ not_both (count_of octets) (body_of octets) beside.1 item.1 ])
+
+-- ---- Want of memory
+
+not_first : (octets : List ℕ) → MayBegin octets → type_of octets ≡ 202 → ⊥
+not_first octets begins kind = elim begins.0 [ inl sender ↦ omega (arith, kind, sender) | inr receiver ↦ omega (arith, kind, receiver) ]
+
+has_room : (body its_body : List ℕ) (count its_count : ℕ) → count ≡ its_count → body ≡ its_body → 4 + 24 * count ≤ length body → length its_body < 4 + 24 * its_count → ⊥
+has_room body its_body count its_count same_count same room short = let sizes : length body ≡ length its_body = ap length same in omega arith
+
+-- Where the datagram's first packet begins with room for its blocks, no row finds a fault.
+no_row : (is_first : Bool) (octets body : List ℕ) (kind count : ℕ) → HasBody is_first octets body kind count → (kind ≡ 201 → 4 + 24 * count ≤ length body) → is_first ≡ true
+    → (row : FaultReason) → Finds row is_first octets → ⊥
+no_row is_first octets body kind count h room first Body found =
+    elim found [
+      | inl report ↦ has_room body (body_of octets) count (count_of octets) h.count_is (same_body is_first octets body kind count h) (room (h.kind_is ∙ report.0)) report.1
+      | inr beside ↦ not_first octets (h.good.may_stand first) beside.0
+    ]
+no_row is_first octets body kind count h room first Item found = not_first octets (h.good.may_stand first) found.0
+no_row is_first octets body kind count h room first Reason found = found
+no_row is_first octets body kind count h room first TooLong found = found
+no_row is_first octets body kind count h room first row found = (is_sound is_first octets body kind count h).none row (omega arith) found
+
+-- ---- What is read
+
+-- the fault of a body is the first one
+body_row : (is_first : Bool) (octets body : List ℕ) (kind count : ℕ) (error : PartError) → HasBody is_first octets body kind count → IsBodyFault error kind count body → IsPacketFault error is_first octets
+body_row is_first octets body kind count (Fault Body) h found =
+    record { found = rw (← h.kind_is, ← h.count_is, ← same_body is_first octets body kind count h) found; no_earlier = (is_sound is_first octets body kind count h).none }
+body_row is_first octets body kind count (Fault Item) h found =
+    let here : Finds Item is_first octets = rw (← h.kind_is, ← h.count_is, ← same_body is_first octets body kind count h) found in
+    record { found = here; no_earlier = none_before_item is_first octets (is_sound is_first octets body kind count h).none here }
+body_row is_first octets body kind count (Fault _) h found = absurd found
+body_row is_first octets body kind count Memory h room = no_row is_first octets body kind count h room
+
+-- what is read of a body is read of the packet
+pub packet_read : (is_first : Bool) (octets body : List ℕ) (kind count : ℕ) (read : Result Packet PartError) → HasBody is_first octets body kind count
+    → MatchResult read (λ packet. IsBody (packet_of packet) kind count body) (λ error. IsBodyFault error kind count body)
+    → MatchResult read (λ packet. Takes octets (drop (size_of octets) octets) (λ s. IsSpelling (packet_of packet) s × MayStand is_first s)) (λ error. IsPacketFault error is_first octets)
+packet_read is_first octets body kind count (Ok packet) h made =
+    let here = spelled_here is_first octets (is_sound is_first octets body kind count h) (packet_of packet)
+    (body_at (packet_of packet) kind (type_of octets) count (count_of octets) body (body_of octets) h.kind_is h.count_is (same_body is_first octets body kind count h) made) in
+    (own octets, sym (take-append-drop (size_of octets) octets), here)
+packet_read is_first octets body kind count (Err error) h found = body_row is_first octets body kind count error h found

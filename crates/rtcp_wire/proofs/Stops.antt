@@ -1,0 +1,132 @@
+-- Where the test of a reason finds a fault, no packet's octets stand; and the first reason is one.
+use Rattle.std.proofs.Common.{◌≡◌, ℕ, ◌+◌, ◌*◌, ◌<◌, ◌≤◌, ◌⊎◌, ◌==◌, if◌then◌else◌, Bool, true, false, List, ◌++◌, length, refl, sym, ap, subst, ◌∙◌, arith, inl, inr}
+use Rattle.std.proofs.lemmas.Bool.{cases_order}
+use Rattle.std.proofs.lemmas.List.{length-append}
+use Rattle.rtcp_wire.specs.declared.fault.FaultReason.{FaultReason}
+use Rattle.rtcp_wire.specs.declared.fault.FaultReason.TheVariants.{Short, Version, FirstType, FirstPadding, Length, Padding, Body, Item, Reason, TooLong}
+use Rattle.rtcp_wire.specs.Values.{ReportBlock, RtcpPacket, rr, sdes, other}
+use Rattle.rtcp_wire.specs.Grammar.{is_padded, count_of, type_of, size_of, padding_of, body_of, IsPadding, IsReport, IsBody, IsSpelling, MayBegin}
+use Rattle.rtcp_wire.specs.Faults.{EndsBesideChunks, EndsInsideChunk, Finds, row_of, IsFirstRow, MayStand}
+use Rattle.rtcp_wire.proofs.Fronts.{length_parts}
+use Rattle.rtcp_wire.proofs.Chunks.{blocks_length, not_inside, not_beside}
+use Rattle.rtcp_wire.proofs.Spellings.{SameHeader, spelling_length, spelling_parts}
+
+-- ---- Bodies that have room
+
+-- A report has room for what is counted.
+report_length : (ssrc count : ℕ) (bs : List ReportBlock) (x body : List ℕ) → IsReport ssrc bs x count body → 4 + 24 * count ≤ length body
+report_length ssrc count bs x body h =
+    omega (arith, length_parts body h.id (h.reports ++ x) h.parts, length-append h.reports x, h.id_size, blocks_length bs h.reports h.each, h.counted)
+
+-- So no spelling of type 201 lacks it.
+not_short : (p : RtcpPacket) (kind count : ℕ) (body : List ℕ) → IsBody p kind count body → kind ≡ 201 → length body < 4 + 24 * count → ⊥
+not_short (rr ssrc bs x) kind count body h is_rr few = omega (arith, report_length ssrc count bs x body h.1)
+not_short (sdes chunks) kind count body h is_rr few = omega (arith, h.0)
+not_short (other l m b) kind count body h is_rr few = h.0 is_rr
+
+-- Nor does one of type 202 end beside its chunks or inside one.
+whole_chunks : (p : RtcpPacket) (kind count : ℕ) (body : List ℕ) → IsBody p kind count body → kind ≡ 202 → EndsBesideChunks count body ⊎ EndsInsideChunk count body → ⊥
+whole_chunks (rr ssrc bs x) kind count body h is_sdes ends = omega (arith, h.0)
+whole_chunks (sdes chunks) kind count body h is_sdes ends =
+    elim ends [ inl e ↦ not_beside count body chunks h.1 h.2 e | inr e ↦ not_inside count body chunks h.1 h.2 e ]
+whole_chunks (other l m b) kind count body h is_sdes ends = h.1 is_sdes
+
+-- ---- No spelling at a fault
+
+-- A packet's own parts are those of the octets where it stands.
+pub body_at : (p : RtcpPacket) (k l c d : ℕ) (x y : List ℕ) → k ≡ l → c ≡ d → x ≡ y → IsBody p k c x → IsBody p l d y
+body_at p k l c d x y kinds counts bodies h =
+    subst (λ (n : ℕ). IsBody p n d y) kinds (subst (λ (n : ℕ). IsBody p k n y) counts (subst (λ (z : List ℕ). IsBody p k c z) bodies h))
+
+-- the same of padding
+pub padding_at : (m n p q : ℕ) → m ≡ n → p ≡ q → IsPadding m p → IsPadding n q
+padding_at m n p q sizes paddings h = subst (λ (z : ℕ). IsPadding z q) sizes (subst (λ (z : ℕ). IsPadding m z) paddings h)
+
+-- What may begin a datagram is told by the header: at a front,
+pub begins_at : (s b : List ℕ) → SameHeader s b → MayBegin b → MayBegin s
+begins_at s b header h =
+    let kinds : (type_of s ≡ 200) ⊎ (type_of s ≡ 201) = elim h.0 [ inl e ↦ inl (sym header.kind ∙ e) | inr e ↦ inr (sym header.kind ∙ e) ] in
+    (kinds, sym header.padded ∙ h.1)
+
+-- and at the whole.
+pub begins_on : (s b : List ℕ) → SameHeader s b → MayBegin s → MayBegin b
+begins_on s b header h =
+    let kinds : (type_of b ≡ 200) ⊎ (type_of b ≡ 201) = elim h.0 [ inl e ↦ inl (header.kind ∙ e) | inr e ↦ inr (header.kind ∙ e) ] in
+    (kinds, header.padded ∙ h.1)
+
+-- A packet's body stands where it stands.
+pub spelling_body : (p : RtcpPacket) (s after : List ℕ) → IsSpelling p s → IsBody p (type_of (s ++ after)) (count_of (s ++ after)) (body_of (s ++ after))
+spelling_body p s after h =
+    let same = spelling_parts p s after h in
+    body_at p (type_of s) (type_of (s ++ after)) (count_of s) (count_of (s ++ after)) (body_of s) (body_of (s ++ after)) (sym same.header.kind) (sym same.header.count) (sym same.body) h.body
+
+-- A part isn't longer than the whole.
+not_longer : (n m k l : ℕ) → n ≡ m + k → m ≡ l → n < l → ⊥
+not_longer n m k l e same lt = omega arith
+
+-- One bit isn't both.
+both_bits : (p q : Bool) → p ≡ q → p ≡ true → q ≡ false → ⊥
+both_bits p q e set clear = cc
+
+-- the same, at a spelling with what follows it
+at_spelling : (r : FaultReason) (first : Bool) (p : RtcpPacket) (s after : List ℕ) → IsSpelling p s → MayStand first s → Finds r first (s ++ after) → ⊥
+at_spelling Short first p s after h may found = omega (arith, length-append s after, spelling_length p s h)
+at_spelling Version first p s after h may found = found ((spelling_parts p s after h).header.version ∙ h.version)
+at_spelling FirstType first p s after h may found =
+    let kind = (spelling_parts p s after h).header.kind in
+    elim (may found.0).0 [ inl e ↦ found.1 (kind ∙ e) | inr e ↦ found.2 (kind ∙ e) ]
+at_spelling FirstPadding first p s after h may found =
+    both_bits (is_padded (s ++ after)) (is_padded s) (spelling_parts p s after h).header.padded found.1 (may found.0).1
+at_spelling Length first p s after h may found =
+    not_longer (length (s ++ after)) (length s) (length after) (size_of (s ++ after)) (length-append s after) (h.size ∙ sym (spelling_parts p s after h).header.size) found
+at_spelling Padding first p s after h may found =
+    let same = spelling_parts p s after h in
+    found.1 (padding_at (size_of s) (size_of (s ++ after)) (padding_of s) (padding_of (s ++ after)) (sym same.header.size) (sym same.padding) (h.padding (sym same.header.padded ∙ found.0)))
+at_spelling Body first p s after h may found =
+    let body = spelling_body p s after h in
+    elim found [
+      | inl e ↦ not_short p (type_of (s ++ after)) (count_of (s ++ after)) (body_of (s ++ after)) body e.0 e.1
+      | inr e ↦ whole_chunks p (type_of (s ++ after)) (count_of (s ++ after)) (body_of (s ++ after)) body e.0 (inl e.1)
+    ]
+at_spelling Item first p s after h may found =
+    whole_chunks p (type_of (s ++ after)) (count_of (s ++ after)) (body_of (s ++ after)) (spelling_body p s after h) found.0 (inr found.1)
+at_spelling Reason first p s after h may found = found
+at_spelling TooLong first p s after h may found = found
+
+-- Where a reason's test finds a fault, no spelling that may stand there is a front.
+pub finds_no_spelling : (r : FaultReason) (first : Bool) (b : List ℕ) → Finds r first b → (p : RtcpPacket) (s after : List ℕ) → b ≡ s ++ after → IsSpelling p s → MayStand first s → ⊥
+finds_no_spelling r first b found p s after e h may = at_spelling r first p s after h may (subst (λ (z : List ℕ). Finds r first z) e found)
+
+-- ---- The order of the tests
+
+-- the reason in this row
+abbrev reason_in : ℕ → FaultReason
+reason_in n =
+    if n == 1 then Short else if n == 2 then Version else if n == 3 then FirstType else if n == 4 then FirstPadding else if n == 5 then Length
+    else if n == 6 then Padding else if n == 7 then Body else if n == 8 then Item else if n == 9 then Reason else TooLong
+
+-- Each reason is the one in its row.
+reason_in_row : (r : FaultReason) → reason_in (row_of r) ≡ r
+reason_in_row Short = refl
+reason_in_row Version = refl
+reason_in_row FirstType = refl
+reason_in_row FirstPadding = refl
+reason_in_row Length = refl
+reason_in_row Padding = refl
+reason_in_row Body = refl
+reason_in_row Item = refl
+reason_in_row Reason = refl
+reason_in_row TooLong = refl
+
+-- No two reasons have one row.
+pub same_row : (r q : FaultReason) → row_of r ≡ row_of q → r ≡ q
+same_row r q e = sym (reason_in_row r) ∙ ap reason_in e ∙ reason_in_row q
+
+-- The first row that finds a fault is one.
+pub one_row : (r q : FaultReason) (first : Bool) (b : List ℕ) → IsFirstRow r first b → IsFirstRow q first b → r ≡ q
+one_row r q first b h k =
+    elim (cases_order (row_of r) (row_of q)) [
+      | inl same ↦ same_row r q same
+      | inr (inl below) ↦ absurd (k.no_earlier r below h.found)
+      | inr (inr above) ↦ absurd (h.no_earlier q above k.found)
+    ]

@@ -1,0 +1,98 @@
+//! A cursor over octets.
+
+ghost use Rattle.std.specs.Prelude.{◌≡◌, ◌≤◌, ◌<◌, length, take, drop, slice_index};
+ghost use Rattle.byteorder.specs.Endian.{big_number, twos_complement};
+
+use byteorder::{BigEndian, ByteOrder};
+use std::marker::Model;
+
+/// Octets that are still to be read. It gives only what is there: each call but `left` asks that enough is left.
+#[derive(Drop)]
+pub(crate) struct Reader<'a> {
+    rest: &'a [u8],
+}
+
+impl<'a> Model for Reader<'a> {
+    ghost use Rattle.std.specs.Prelude.{List, ℕ};
+
+    ghost Value = { List ℕ };
+
+    ghost view = { λ reader. reader.rest.now };
+}
+
+impl<'a> Reader<'a> {
+    pub(crate) fn new(octets: &'a [u8]) -> Reader<'a>
+        ensures { result ≡ octets.now }
+    {
+        Reader { rest: octets }
+    }
+
+    /// How many octets are left.
+    pub(crate) fn left(&self) -> usize
+        ensures { result ≡ length self.now }
+    {
+        self.rest.len()
+    }
+
+    /// What is left, which stays.
+    pub(crate) fn rest(&self) -> &'a [u8]
+        ensures { result.now ≡ self.now }
+    {
+        self.rest
+    }
+
+    /// The next `count` octets.
+    pub(crate) fn take(&mut self, count: usize) -> &'a [u8]
+        requires { count ≤ length self.old }
+        ensures taken { result.now ≡ take count self.old }
+        ensures rest { self.new ≡ drop count self.old }
+    {
+        let (front, rest) = self.rest.split_at(count);
+        self.rest = rest;
+        front
+    }
+
+    /// The next octet.
+    pub(crate) fn octet(&mut self) -> u8
+        requires { 1 ≤ length self.old }
+        ensures value { result ≡ slice_index self.old 0 }
+        ensures rest { self.new ≡ drop 1 self.old }
+    {
+        let octet = self.rest[0];
+        self.take(1);
+        octet
+    }
+
+    /// The next 16 bits as a number.
+    pub(crate) fn u16(&mut self) -> u16
+        requires { 2 ≤ length self.old }
+        ensures value { result ≡ big_number 2 self.old }
+        ensures rest { self.new ≡ drop 2 self.old }
+    {
+        let number = BigEndian::read_u16(self.rest);
+        self.take(2);
+        number
+    }
+
+    /// The next 24 bits as a signed number.
+    pub(crate) fn i24(&mut self) -> i32
+        requires { 3 ≤ length self.old }
+        ensures value { result ≡ twos_complement 3 (big_number 3 self.old) }
+        ensures rest { self.new ≡ drop 3 self.old }
+    {
+        let number = BigEndian::read_i24(self.rest);
+        self.take(3);
+        number
+    }
+
+    /// The next 32 bits as a number.
+    pub(crate) fn u32(&mut self) -> u32
+        requires { 4 ≤ length self.old }
+        ensures value { result ≡ big_number 4 self.old }
+        ensures rest { self.new ≡ drop 4 self.old }
+    {
+        let number = BigEndian::read_u32(self.rest);
+        self.take(4);
+        number
+    }
+}

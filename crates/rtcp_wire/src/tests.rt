@@ -1,0 +1,176 @@
+use super::*;
+use std::test::*;
+
+/// A receiver report of source 7 with no blocks, and its CNAME, `a`.
+const NAMED: [u8; 20] = [
+    0x80, 0xc9, 0, 1, 0, 0, 0, 7, 0x81, 0xca, 0, 2, 0, 0, 0, 7, 1, 1, 0x61, 0,
+];
+
+fn fault(reason: FaultReason, place: usize) -> Option<ReadError> {
+    Some(ReadError::Wire(WireFault { reason, place }))
+}
+
+/// The example at the head of the crate.
+#[test]
+fn example(rt: HostRuntime) {
+    let datagram = [
+        0x80, 0xc9, 0, 1, 0, 0, 0, 7, 0x81, 0xca, 0, 2, 0, 0, 0, 7, 1, 1, 0x61, 0,
+    ];
+    match read_owned(rt.alloc(), &datagram) {
+        Ok(packets) => assert_eq!(rt; packets.len(), 2),
+        Err(ReadError::Wire(fault)) => panic!(rt; "{fault}"),
+        Err(ReadError::Memory) => panic!(rt; "out of memory"),
+    }
+}
+
+#[test]
+fn named_report(rt: HostRuntime) -> Result<(), Fail> {
+    let packets = read_owned(rt.alloc(), &NAMED)?;
+    assert_eq!(rt; packets.len(), 2);
+    for packet in &packets {
+        match packet {
+            Packet::Rr(report) => {
+                assert_eq!(rt; report.ssrc, 7);
+                assert_eq!(rt; report.blocks.len(), 0);
+                assert_eq!(rt; report.extension.len(), 0);
+            }
+            Packet::Sdes(description) => {
+                assert_eq!(rt; description.chunks.len(), 1);
+                for chunk in &description.chunks {
+                    assert_eq!(rt; chunk.id, 7);
+                    assert_eq!(rt; chunk.items.len(), 1);
+                    for item in &chunk.items {
+                        assert_eq!(rt; item.kind, 1);
+                        assert_eq!(rt; item.text.as_slice(), b"a".as_slice());
+                    }
+                }
+            }
+            Packet::Other(_) => panic!(rt; "no other packet stands there"),
+        }
+    }
+    Ok(())
+}
+
+/// A block of 24 octets, each of its fields: 25/256 lost since the last report, two packets more received than expected.
+#[test]
+fn block_and_extension(rt: HostRuntime) -> Result<(), Fail> {
+    let octets = [
+        0x81, 0xc9, 0, 8, 0, 0, 0, 7, 0, 0, 0, 9, 25, 0xff, 0xff, 0xfe, 0, 1, 0, 2, 0, 0, 0, 10,
+        0xb7, 5, 0x20, 0, 0, 5, 0x40, 0, 1, 2, 3, 4,
+    ];
+    let packets = read_owned(rt.alloc(), &octets)?;
+    for packet in &packets {
+        match packet {
+            Packet::Rr(report) => {
+                let block = Block {
+                    ssrc: 9,
+                    fraction: 25,
+                    lost: -2,
+                    highest: 65_538,
+                    jitter: 10,
+                    lsr: 0xb705_2000,
+                    dlsr: 0x0005_4000,
+                };
+                assert_eq!(rt; report.blocks.as_slice(), [block].as_slice());
+                assert_eq!(rt; report.extension.as_slice(), [1, 2, 3, 4].as_slice());
+            }
+            _ => panic!(rt; "it is a receiver report"),
+        }
+    }
+    Ok(())
+}
+
+#[test]
+fn first_faults(rt: HostRuntime) {
+    assert_eq!(rt;
+        read_owned(rt.alloc(), &[]).err(),
+        fault(FaultReason::Short, 0)
+    );
+    assert_eq!(rt;
+        read_owned(rt.alloc(), &[0x40, 0xc9, 0, 1, 0, 0, 0, 7]).err(),
+        fault(FaultReason::Version, 0)
+    );
+    assert_eq!(rt;
+        read_owned(rt.alloc(), &[0x80, 0xca, 0, 0]).err(),
+        fault(FaultReason::FirstType, 0)
+    );
+    assert_eq!(rt;
+        read_owned(rt.alloc(), &[0xa0, 0xc9, 0, 2, 0, 0, 0, 7, 0, 0, 0, 4]).err(),
+        fault(FaultReason::FirstPadding, 0)
+    );
+    assert_eq!(rt;
+        read_owned(rt.alloc(), &[0x80, 0xc9, 0, 1, 0, 0, 0]).err(),
+        fault(FaultReason::Length, 0)
+    );
+    assert_eq!(rt;
+        read_owned(rt.alloc(), &[0x81, 0xc9, 0, 1, 0, 0, 0, 7]).err(),
+        fault(FaultReason::Body, 0)
+    );
+    assert_eq!(rt;
+        read_owned(
+            rt.alloc(),
+            &[0x80, 0xc9, 0, 1, 0, 0, 0, 7, 0xa0, 0xcc, 0, 1, 0, 0, 0, 8]
+        )
+        .err(),
+        fault(FaultReason::Padding, 8)
+    );
+    assert_eq!(rt;
+        read_owned(
+            rt.alloc(),
+            &[
+                0x80, 0xc9, 0, 1, 0, 0, 0, 7, 0x81, 0xca, 0, 2, 0, 0, 0, 7, 1, 5, 0x61, 0
+            ]
+        )
+        .err(),
+        fault(FaultReason::Item, 8)
+    );
+}
+
+#[test]
+fn too_long(rt: HostRuntime) -> Result<(), Fail> {
+    let octets = vec![in rt.alloc(); 0; MAX_DATAGRAM + 1]?;
+    assert_eq!(rt;
+        read_owned(rt.alloc(), octets.as_slice()).err(),
+        fault(FaultReason::TooLong, 0)
+    );
+    Ok(())
+}
+
+/// Each front of the named report: whole packets are read, and else the fault tells where and why.
+#[test]
+fn fronts(rt: HostRuntime) {
+    for size in 0..NAMED.len() {
+        let (front, _) = NAMED.split_at(size);
+        let expected = match size {
+            0..4 => fault(FaultReason::Short, 0),
+            4..8 => fault(FaultReason::Length, 0),
+            8 => None,
+            9..12 => fault(FaultReason::Short, 8),
+            _ => fault(FaultReason::Length, 8),
+        };
+        assert_eq!(rt;
+            read_owned(rt.alloc(), front).err(),
+            expected,
+            "{size} octets"
+        );
+    }
+}
+
+/// The messages of the derived errors.
+#[test]
+fn messages(rt: HostRuntime) -> Result<(), Fail> {
+    let wire = WireFault {
+        reason: FaultReason::TooLong,
+        place: 0,
+    };
+    assert_eq!(rt; wire.to_string(rt.alloc())?.as_str(), "F10 TooLong at 0");
+    assert_eq!(rt;
+        ReadError::Wire(wire).to_string(rt.alloc())?.as_str(),
+        "F10 TooLong at 0"
+    );
+    assert_eq!(rt;
+        ReadError::Memory.to_string(rt.alloc())?.as_str(),
+        "out of memory"
+    );
+    Ok(())
+}
