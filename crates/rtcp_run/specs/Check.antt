@@ -56,7 +56,7 @@ IsCheckText n [] text end = (text ≡ []) × (end ≡ None)
 IsCheckText n (line ∷ lines) text end =
     ((fault : LineFault) × IsLineFault n line fault × (text ≡ []) × (end ≡ Some (n, fault)))
     ⊎ ((octets : List ℕ) × (answer : List ℕ) × (others : List ℕ) × IsLine n line octets × IsAnswer octets answer
-        × (text ≡ answer ++ others) × IsCheckText (n + 1) lines others end)
+    × (text ≡ answer ++ others) × IsCheckText (n + 1) lines others end)
 
 -- ---- What a check leaves
 

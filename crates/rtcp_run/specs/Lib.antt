@@ -1,2 +1,5 @@
 pub mod Text
 pub mod Check
+pub mod Counted
+pub mod Progress
+pub mod Status

@@ -1,13 +1,64 @@
 //! The program `rtcp`.
 #![tactic(auto)]
 
-ghost use Rattle.rtcp_run.specs.Check.{Writes, IsTextOf, IsFrontOfText, AnswersWhatCame, AnswersLinesBefore};
-
+mod answer;
+mod check;
+mod command;
+mod counted;
 mod fault;
+mod lines;
+mod order;
+mod orders;
+#[cfg(test)]
+mod tests;
+mod text;
+mod writing;
 
-use std::io;
+use order::refuse;
+use orders::{Order, OrderFault, TextOrder};
+use std::alloc::{AllocError, Global};
+use std::io::{BufReader, BufWriter, ErrorKind};
+use std::process::ExitCode;
+use std::{env, io};
 
-fn main(rt: HostRuntime) -> io::Result<()> {
-    println!(rt; "rtcp")?;
-    Ok(())
+fn main(rt: HostRuntime) -> ExitCode {
+    let status = match asked(&rt) {
+        Ok(Order::Text(order)) => run_text(&rt, order),
+        Err(fault) => refuse(&fault, &mut rt.stderr()),
+    };
+    ExitCode::from(status)
+}
+
+/// What the process's command line asks for.
+fn asked(rt: &HostRuntime) -> Result<Order, OrderFault> {
+    let alloc = rt.alloc();
+    let Ok(arguments) = env::args(rt) else {
+        return Err(OrderFault::Memory);
+    };
+    let mut texts = Vec::new(alloc);
+    for argument in arguments {
+        if texts.push(argument).is_err() {
+            return Err(OrderFault::Memory);
+        }
+    }
+    let mut words = Vec::new(alloc);
+    for text in &texts {
+        if words.push(text.as_str()).is_err() {
+            return Err(OrderFault::Memory);
+        }
+    }
+    order::order(alloc, &words)
+}
+
+/// Runs an order between the standard streams, and gives the status to end with.
+fn run_text(rt: &HostRuntime, order: TextOrder) -> u8 {
+    let alloc = rt.alloc();
+    let mut faults = rt.stderr();
+    let Ok(reader) = BufReader::new(alloc, rt.stdin()) else {
+        return refuse(&OrderFault::Memory, &mut faults);
+    };
+    let Ok(writer) = BufWriter::new(alloc, rt.stdout()) else {
+        return refuse(&OrderFault::Memory, &mut faults);
+    };
+    command::command(alloc, order, reader, writer, &mut faults)
 }

@@ -1,0 +1,113 @@
+-- Lemmas on what a whole check leaves.
+use Rattle.std.proofs.Common.{◌≡◌, ℕ, ◌+◌, List, [], ◌++◌, Option, Some, None, Result, Ok, Err, refl, sym, ◌∙◌, ap, subst, append_assoc, append-nil, arith}
+use Rattle.std.specs.Io.KnownBytes.{Keeps, Appends, Consumes, IsAtEnd}
+use Rattle.rtcp_run.specs.declared.fault.LineFault.{LineFault}
+use Rattle.rtcp_run.specs.declared.fault.TextFault.{TextFault}
+use Rattle.rtcp_run.specs.declared.fault.TextFault.TheVariants.{Text, Read, Write, Memory}
+use Rattle.rtcp_run.specs.Check.{lines_of, IsCheckText, Writes}
+use Rattle.rtcp_run.specs.Progress.{Answers, PartLeaves, EndLeaves, CheckLeaves}
+use Rattle.rtcp_run.proofs.LinesLemmas.{lines_of-begins, IsCheckText-append}
+use Rattle.rtcp_run.proofs.ProgressLemmas.{ne-append, BeginsWithLines-longer, PartLeaves-after}
+use Rattle.std.proofs.KnownBytes.{Consumes-trans, Appends-trans}
+
+-- The input is what was taken, and what the reader has left.
+pub taken_of : (a b : Option (List ℕ)) (taken input : List ℕ) → Consumes a b taken → a ≡ Some input → (rest : List ℕ) × (b ≡ Some rest) × (input ≡ taken ++ rest)
+taken_of None b taken input consumed e = absurd (cc e)
+taken_of (Some x) None taken input consumed e = absurd consumed
+taken_of (Some x) (Some y) taken input consumed e = (y, refl, cc (consumed, e))
+
+-- The writer holds what it held, and the text.
+pub written_of : (a b : Option (List ℕ)) (text before : List ℕ) → Appends a b text → a ≡ Some before → b ≡ Some (before ++ text)
+written_of None b text before appended e = absurd (cc e)
+written_of (Some x) None text before appended e = absurd appended
+written_of (Some x) (Some y) text before appended e = cc (appended, e)
+
+-- A read that answered an error gave nothing.
+pub Consumes-failed : (a b c : Option (List ℕ)) (taken : List ℕ) → Consumes a b taken → Keeps b c → Consumes a c taken
+Consumes-failed None b c taken p q = tt
+Consumes-failed (Some x) None c taken p q = absurd p
+Consumes-failed (Some x) (Some y) None taken p q = absurd q
+Consumes-failed (Some x) (Some y) (Some z) taken p q = p ∙ ap (λ l. taken ++ l) (sym q)
+
+-- Nothing is left at the end.
+nothing_left : (b : Option (List ℕ)) (rest : List ℕ) → b ≡ Some rest → IsAtEnd b → rest ≡ []
+nothing_left None rest e end = absurd (cc e)
+nothing_left (Some x) rest e end = cc (e, end)
+
+-- ---- The reader's end
+
+-- The last line's outcome, behind the answers to the lines before it.
+ends : {A : Type 0} (r : Result A TextFault) (left : Option (List ℕ)) (taken pending text text' : List ℕ) (answered : ℕ) → Answers 0 taken answered pending text
+    → EndLeaves r answered pending text' → CheckLeaves r left taken (text ++ text')
+ends r left taken pending text text' answered first last =
+    let all = lines_of-begins taken first.lines pending first.begins in
+    let joined : (end : Option (ℕ × LineFault)) (more : List ℕ) → IsCheckText (answered + 1) (lines_of pending) more end → IsCheckText 1 (lines_of taken) (text ++ more) end =
+    λ end more h. subst (λ lines. IsCheckText 1 lines (text ++ more) end) (sym all)
+    (IsCheckText-append 1 first.lines (lines_of pending) text more end first.texts
+    (subst (λ m. IsCheckText m (lines_of pending) more end) (let number = first.number in omega arith) h)) in
+    by_cases r joined last
+  where
+    by_cases : {A : Type 0} (r : Result A TextFault) → ((end : Option (ℕ × LineFault)) (more : List ℕ) → IsCheckText (answered + 1) (lines_of pending) more end → IsCheckText 1 (lines_of taken) (text ++ more) end)
+        → EndLeaves r answered pending text' → CheckLeaves r left taken (text ++ text')
+    by_cases (Ok x) joined last = joined None text' last
+    by_cases (Err (Text number fault)) joined last = joined (Some (number, fault)) text' last
+    by_cases (Err Memory) joined last = (
+      first.lines,
+      pending,
+      last.0,
+      first.begins,
+      subst (λ t. IsCheckText 1 first.lines t None) (sym (ap (λ t. text ++ t) last.1 ∙ append-nil text)) first.texts,
+    )
+    by_cases (Err Write) joined last = (
+      lines_of taken,
+      [],
+      last.0,
+      sym (append-nil (lines_of taken)),
+      subst (λ t. IsCheckText 1 (lines_of taken) t None) (sym (append_assoc text text' last.0)) (joined None (text' ++ last.0) last.1),
+    )
+    by_cases (Err Read) joined last = absurd last
+
+-- The reader is at its end, and the last line is answered.
+pub Writes-at_end : {A : Type 0} (r : Result A TextFault) (start now left held holds last : Option (List ℕ)) (taken pending text gone text' : List ℕ) (answered : ℕ)
+    → Consumes start now taken → Appends held holds text → Answers 0 taken answered pending text → Consumes now left gone → gone ≡ [] → IsAtEnd left
+    → Appends holds last text' → EndLeaves r answered pending text' → Writes start held last (CheckLeaves r left)
+Writes-at_end r start now left held holds last taken pending text gone text' answered consumed appended first none is_none end appended' leaves =
+    λ input before known written.
+    let found = taken_of start left (taken ++ gone) input (Consumes-trans _ _ _ taken gone consumed none) known in
+    let whole : taken ≡ input =
+    sym (found.2 ∙ ap (λ l. (taken ++ l) ++ found.0) is_none ∙ ap (λ l. (taken ++ []) ++ l) (nothing_left left found.0 found.1 end)
+    ∙ append-nil (taken ++ []) ∙ append-nil taken) in (
+      text ++ text',
+      written_of held last (text ++ text') before (Appends-trans _ _ _ text text' appended appended') written,
+      subst (λ i. CheckLeaves r left i (text ++ text')) whole (ends r left taken pending text text' answered first leaves),
+    )
+
+-- ---- A fault before the reader's end
+
+fails : (fault : TextFault) (left : Option (List ℕ)) (octets behind text rest : List ℕ) (answered : ℕ)
+    → PartLeaves {A = Unit {0}} (Err fault) 0 octets answered rest text → CheckLeaves {A = Unit {0}} (Err fault) left (octets ++ behind) text
+fails (Text number fault) left octets behind text rest answered leaves = leaves behind
+fails Memory left octets behind text rest answered leaves =
+    (leaves.lines, leaves.rest ++ behind, ne-append leaves.rest behind leaves.some, BeginsWithLines-longer octets behind leaves.lines leaves.rest leaves.begins, leaves.texts)
+fails Write left octets behind text rest answered leaves = (
+  leaves.lines,
+  lines_of (leaves.rest ++ behind),
+  leaves.more,
+  lines_of-begins (octets ++ behind) leaves.lines (leaves.rest ++ behind) (BeginsWithLines-longer octets behind leaves.lines leaves.rest leaves.begins),
+  leaves.texts,
+)
+fails Read left octets behind text rest answered leaves = absurd leaves
+
+-- A fault in a block.
+pub Writes-at_fault : (fault : TextFault) (start now left held holds last : Option (List ℕ)) (taken pending text block text' rest : List ℕ) (answered answered' : ℕ)
+    → Consumes start now taken → Appends held holds text → Answers 0 taken answered pending text → Consumes now left block
+    → Appends holds last text' → PartLeaves {A = Unit {0}} (Err fault) answered (pending ++ block) answered' rest text'
+    → Writes start held last (CheckLeaves {A = Unit {0}} (Err fault) left)
+Writes-at_fault fault start now left held holds last taken pending text block text' rest answered answered' consumed appended first consumed' appended' leaves =
+    λ input before known written.
+    let found = taken_of start left (taken ++ block) input (Consumes-trans _ _ _ taken block consumed consumed') known in
+    let all = PartLeaves-after 0 answered taken pending text block first {A = Unit {0}} (Err fault) answered' rest text' leaves in (
+      text ++ text',
+      written_of held last (text ++ text') before (Appends-trans _ _ _ text text' appended appended') written,
+      subst (λ i. CheckLeaves {A = Unit {0}} (Err fault) left i (text ++ text')) (sym found.2) (fails fault left (taken ++ block) found.0 (text ++ text') rest answered' all),
+    )

@@ -1,0 +1,8 @@
+pub mod CheckLemmas
+pub mod CountedLemmas
+pub mod DecimalSteps
+pub mod FrontLemmas
+pub mod HexSteps
+pub mod Joined
+pub mod LinesLemmas
+pub mod ProgressLemmas

@@ -1,0 +1,50 @@
+//! The answer to a line: what the octets are that it spells in hex.
+
+ghost use Rattle.std.specs.Prelude.{◌≡◌, ◌++◌, ◌≤◌, ℕ, List, length, OnOk};
+ghost use Rattle.rtcp_run.specs.Check.{IsAnswer};
+ghost use Rattle.rtcp_run.specs.Progress.{AnswersLine};
+
+use crate::fault::{LineFault, TextFault};
+use crate::text::{push_accepted, push_fault};
+use hex::FromHexError;
+use rtcp_wire::ReadError;
+use std::alloc::{AllocError, Global};
+
+/// Puts the line of text for a datagram behind `text`.
+fn push_reading(alloc: Global, datagram: &[u8], text: &mut Vec<u8>) -> Result<(), AllocError>
+    ensures { OnOk result ((answer : List ℕ) × IsAnswer datagram.now answer × (text.new.items ≡ text.old.items ++ answer)) }
+{
+    match rtcp_wire::read_owned(alloc, datagram) {
+        Ok(packets) => push_accepted(text, &packets),
+        Err(ReadError::Wire(fault)) => push_fault(text, &fault),
+        Err(ReadError::Memory) => Err(AllocError),
+    }
+}
+
+/// Makes `text` the answer to a line, which is no more than 131,200 octets long and no later than line 65,536.
+pub(crate) fn compose(
+    alloc: Global,
+    number: u64,
+    line: &[u8],
+    text: &mut Vec<u8>,
+) -> Result<(), TextFault>
+    requires few { number ≤ 65536 }
+    requires short { length line.now ≤ 131200 }
+    ensures { AnswersLine result number line.now text.new.items }
+{
+    text.clear();
+    let datagram = match hex::decode(alloc, line) {
+        Ok(datagram) => datagram,
+        Err(FromHexError::OutOfMemory) => return Err(TextFault::Memory),
+        Err(_) => {
+            return Err(TextFault::Text {
+                line: number,
+                fault: LineFault::Hex,
+            });
+        }
+    };
+    match push_reading(alloc, &datagram, text) {
+        Ok(()) => Ok(()),
+        Err(AllocError) => Err(TextFault::Memory),
+    }
+}

@@ -1,0 +1,93 @@
+//! A check of a text: a line of answer for each line of hex.
+
+ghost use Rattle.std.specs.Prelude.{◌≡◌, ◌≢◌, ◌↔◌, ℕ, Some, None, OnOk};
+ghost use Rattle.rtcp_run.specs.Check.{Writes, IsTextOf, IsFrontOfText, AnswersWhatCame, AnswersLinesBefore};
+ghost use Rattle.rtcp_run.specs.Counted.{failures_of, inner_of};
+ghost use Rattle.rtcp_run.specs.Progress.{CheckLeaves};
+ghost use Rattle.rtcp_run.specs.declared.fault.LineFault.{LineFault as Fault};
+
+use crate::counted::Counted;
+use crate::fault::TextFault;
+use crate::lines::LineChecker;
+use rtcp_wire::laws::accepted_or_faulty;
+use std::alloc::Global;
+use std::io::{Read, Write};
+
+/// How many octets a read is asked for.
+const BLOCK: usize = 8_192;
+
+/// Answers the lines of the reader's input, block by block, up to its end or the first fault.
+fn answer_blocks<R: Read, W: Write>(
+    alloc: Global,
+    reader: &mut Counted<R>,
+    writer: &mut Counted<W>,
+) -> Result<(), TextFault>
+    requires reader_unfailed { failures_of reader.old ≡ 0 }
+    requires writer_unfailed { failures_of writer.old ≡ 0 }
+    ensures leaves { Writes (R.remaining (inner_of reader.old)) (W.contents (inner_of writer.old))
+        (W.contents (inner_of writer.new)) (CheckLeaves result (R.remaining (inner_of reader.new))) }
+    ensures read_failed { (result ≡ Err TextFault.Read) ↔ (failures_of reader.new ≢ 0) }
+    ensures write_failed { (result ≡ Err TextFault.Write) ↔ (failures_of writer.new ≢ 0) }
+{
+    let mut checker = LineChecker::new(alloc);
+    let mut block = [0; BLOCK];
+    'turns: loop {
+        let count = match reader.read(&mut block) {
+            Ok(count) => count,
+            Err(_) => return Err(TextFault::Read),
+        };
+        if count == 0 {
+            return checker.finish(writer);
+        }
+        match checker.take(&block[..count], writer) {
+            Ok(()) => {}
+            Err(fault) => return Err(fault),
+        }
+    }
+}
+
+/// Reads a text, a datagram in hex on each line, and writes a line for each: the datagram's packets, or its first fault.
+///
+/// A line has at most 131,200 octets before its line feed, the last line may lack the line feed, and at most
+/// 65,536 lines are looked at. The answer to a line is written before the next line is cut.
+///
+/// # Errors
+///
+/// - [`TextFault::Text`] at the first line that is too long, one too many, or no hex. The answers to the lines
+///   before it are written.
+/// - [`TextFault::Read`] where a call of the reader fails, whatever its error: none is made again. The answers to
+///   the whole lines that came are written.
+/// - [`TextFault::Write`] where a call of the writer fails or takes nothing. A front of the answers is written.
+/// - [`TextFault::Memory`] where memory is refused. The answers to the lines before are written.
+pub fn check<R: Read, W: Write>(
+    alloc: Global,
+    reader: &mut Counted<R>,
+    writer: &mut Counted<W>,
+) -> Result<(), TextFault>
+    requires reader_unfailed { failures_of reader.old ≡ 0 }
+    requires writer_unfailed { failures_of writer.old ≡ 0 }
+
+    // What is written is always a front of the text of the whole input.
+    ensures front { Writes (R.remaining (inner_of reader.old)) (W.contents (inner_of writer.old))
+        (W.contents (inner_of writer.new)) IsFrontOfText }
+
+    // How much of it, by how the run ended.
+    ensures whole { OnOk result (Writes (R.remaining (inner_of reader.old)) (W.contents (inner_of writer.old))
+        (W.contents (inner_of writer.new)) (IsTextOf None)) }
+    ensures refused { (line : ℕ) (fault : Fault) → result ≡ Err (TextFault.Text line fault)
+        → Writes (R.remaining (inner_of reader.old)) (W.contents (inner_of writer.old))
+        (W.contents (inner_of writer.new)) (IsTextOf (Some (line, fault))) }
+    ensures read { result ≡ Err TextFault.Read
+        → Writes (R.remaining (inner_of reader.old)) (W.contents (inner_of writer.old))
+        (W.contents (inner_of writer.new)) (AnswersWhatCame (R.remaining (inner_of reader.new))) }
+    ensures memory { result ≡ Err TextFault.Memory
+        → Writes (R.remaining (inner_of reader.old)) (W.contents (inner_of writer.old))
+        (W.contents (inner_of writer.new)) AnswersLinesBefore }
+
+    // A call failed exactly where the fault says so.
+    ensures read_failed { (result ≡ Err TextFault.Read) ↔ (failures_of reader.new ≢ 0) }
+    ensures write_failed { (result ≡ Err TextFault.Write) ↔ (failures_of writer.new ≢ 0) }
+{
+    accepted_or_faulty();
+    answer_blocks(alloc, reader, writer)
+}

@@ -1,0 +1,78 @@
+//! A run over text, from its order to its status.
+
+ghost use Rattle.std.specs.Prelude.{◌≡◌, ◌≢◌, ◌⊎◌, ◌↔◌, ℕ, Some, None, OnOk};
+ghost use Rattle.rtcp_run.specs.Check.{Writes, IsTextOf};
+ghost use Rattle.rtcp_run.specs.Counted.{failures_of, inner_of};
+ghost use Rattle.rtcp_run.specs.declared.fault.LineFault.{LineFault as Fault};
+ghost use Rattle.rtcp_run.specs.Status.{text_status};
+
+use crate::check::check;
+use crate::counted::Counted;
+use crate::fault::TextFault;
+use crate::orders::TextOrder;
+use std::alloc::Global;
+use std::io::{Read, Write};
+
+/// Runs an order over text, tells a fault as a line on `faults`, and gives the status to end with: 0 where all went
+/// well, 2 where the text is refused, and 1 where reading, writing or memory failed.
+///
+/// What is written is flushed in any case, and a failed flush is the fault `write`. A failed write of the fault
+/// changes nothing.
+pub fn command<R: Read + Drop, W: Write + Drop, F: Write>(
+    alloc: Global,
+    order: TextOrder,
+    reader: R,
+    writer: W,
+    faults: &mut F,
+) -> u8
+    ensures { (result ≡ 0) ⊎ (result ≡ 1) ⊎ (result ≡ 2) }
+{
+    let mut reader = Counted::new(reader);
+    let mut writer = Counted::new(writer);
+    let outcome = run(alloc, order, &mut reader, &mut writer);
+    if let Err(fault) = &outcome {
+        let _ = writeln!(faults, "{fault}");
+    }
+    status(&outcome)
+}
+
+/// Runs an order over text and flushes what is written.
+fn run<R: Read, W: Write>(
+    alloc: Global,
+    order: TextOrder,
+    reader: &mut Counted<R>,
+    writer: &mut Counted<W>,
+) -> Result<(), TextFault>
+    requires reader_unfailed { failures_of reader.old ≡ 0 }
+    requires writer_unfailed { failures_of writer.old ≡ 0 }
+
+    ensures whole { OnOk result (Writes (R.remaining (inner_of reader.old)) (W.contents (inner_of writer.old))
+        (W.contents (inner_of writer.new)) (IsTextOf None)) }
+    ensures refused { (line : ℕ) (fault : Fault) → result ≡ Err (TextFault.Text line fault)
+        → Writes (R.remaining (inner_of reader.old)) (W.contents (inner_of writer.old))
+        (W.contents (inner_of writer.new)) (IsTextOf (Some (line, fault))) }
+
+    // A failed flush is told before what else failed.
+    ensures read_failed { result ≡ Err TextFault.Read → failures_of reader.new ≢ 0 }
+    ensures write_failed { (result ≡ Err TextFault.Write) ↔ (failures_of writer.new ≢ 0) }
+    ensures whole_read { OnOk result (failures_of reader.new ≡ 0) }
+{
+    let outcome = match order {
+        TextOrder::Check => check(alloc, reader, writer),
+    };
+    match writer.flush() {
+        Ok(()) => outcome,
+        Err(_) => Err(TextFault::Write),
+    }
+}
+
+/// The status of an outcome.
+fn status(outcome: &Result<(), TextFault>) -> u8
+    ensures { result ≡ text_status outcome.now }
+{
+    match outcome {
+        Ok(()) => 0,
+        Err(TextFault::Text { .. }) => 2,
+        Err(TextFault::Read | TextFault::Write | TextFault::Memory) => 1,
+    }
+}

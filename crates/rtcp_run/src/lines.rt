@@ -1,0 +1,155 @@
+//! The lines of a text that comes in blocks, and their answers.
+
+ghost use Rattle.std.specs.Prelude.{◌≡◌, ◌≢◌, ◌+◌, ◌<◌, ◌≤◌, ◌++◌, ◌↔◌, [], length, OnOk, vec_len};
+ghost use Rattle.rtcp_run.specs.Check.{HasNoLineFeed};
+ghost use Rattle.rtcp_run.specs.Counted.{failures_of, inner_of};
+ghost use Rattle.rtcp_run.specs.Progress.{Grows, IsBetween, IsBehindLine, Lengthens, LineLeaves, PartLeaves, EndLeaves};
+
+use crate::answer::compose;
+use crate::counted::Counted;
+use crate::fault::{LineFault, TextFault};
+use crate::writing::hand_over;
+use std::alloc::Global;
+use std::io::Write;
+
+/// The most lines that are looked at.
+const MAX_LINES: u64 = 65_536;
+
+/// The most octets of a line, its line feed not counted.
+const MAX_LINE: usize = 131_200;
+
+/// What stands before the first line feed, and the rest from that line feed on.
+fn split_line(octets: &[u8]) -> (&[u8], &[u8])
+    ensures parts { octets.now ≡ result.0.now ++ result.1.now }
+    ensures part { HasNoLineFeed result.0.now }
+    ensures feed { IsBehindLine result.1.now }
+{
+    let end = octets
+        .iter()
+        .position(|octet| *octet == b'\n')
+        .unwrap_or(octets.len());
+    octets.split_at(end)
+}
+
+/// Answers lines as they come. The buffers are kept from line to line.
+#[derive(Drop)]
+pub(crate) struct LineChecker {
+    alloc: Global,
+    answered: u64,
+    pending: Vec<u8>,
+    text: Vec<u8>,
+}
+
+impl LineChecker {
+    /// No line is answered yet.
+    pub(crate) fn new(alloc: Global) -> Self
+        ensures answered { result.answered ≡ 0 }
+        ensures pending { result.pending.items ≡ [] }
+    {
+        LineChecker {
+            alloc,
+            answered: 0,
+            pending: Vec::new(alloc),
+            text: Vec::new(alloc),
+        }
+    }
+
+    /// Puts a piece to the pending part of a line. Something of the input stands in the line or behind it.
+    fn append(&mut self, piece: &[u8]) -> Result<(), TextFault>
+        requires { IsBetween self.old.answered self.old.pending.items }
+        ensures longer { Lengthens result self.old.answered self.old.pending.items piece.now self.new.pending.items }
+        ensures answered { self.new.answered ≡ self.old.answered }
+    {
+        if self.answered >= MAX_LINES {
+            return Err(self.refused(LineFault::TooManyLines));
+        }
+        if piece.len() > MAX_LINE - self.pending.len() {
+            return Err(self.refused(LineFault::LineTooLong));
+        }
+        match self.pending.extend_from_slice(piece) {
+            Ok(()) => Ok(()),
+            Err(_) => Err(TextFault::Memory),
+        }
+    }
+
+    /// The fault at the line behind those that are answered.
+    fn refused(&self, fault: LineFault) -> TextFault
+        requires { self.now.answered ≤ 65536 }
+        ensures { result ≡ TextFault.Text (self.now.answered + 1) fault }
+    {
+        TextFault::Text {
+            line: self.answered + 1,
+            fault,
+        }
+    }
+
+    /// Answers the pending line.
+    fn answer<W: Write>(&mut self, writer: &mut Counted<W>) -> Result<(), TextFault>
+        requires few { self.old.answered < 65536 }
+        requires short { vec_len self.old.pending ≤ 131200 }
+        requires unfailed { failures_of writer.old ≡ 0 }
+        ensures written { Grows (W.contents (inner_of writer.old)) (W.contents (inner_of writer.new))
+            (LineLeaves result (self.old.answered + 1) self.old.pending.items) }
+        ensures answered { OnOk result (self.new.answered ≡ self.old.answered + 1) }
+        ensures pending { OnOk result (self.new.pending.items ≡ []) }
+        ensures failed { (result ≡ Err TextFault.Write) ↔ (failures_of writer.new ≢ 0) }
+    {
+        let number = self.answered + 1;
+        match compose(self.alloc, number, &self.pending, &mut self.text) {
+            Ok(()) => {}
+            Err(fault) => return Err(fault),
+        }
+        match hand_over(writer, &self.text) {
+            Ok(()) => {}
+            Err(fault) => return Err(fault),
+        }
+        self.answered = number;
+        self.pending.clear();
+        Ok(())
+    }
+
+    /// Takes the next octets of the input, and answers each line that a line feed ends there.
+    pub(crate) fn take<W: Write>(
+        &mut self,
+        block: &[u8],
+        writer: &mut Counted<W>,
+    ) -> Result<(), TextFault>
+        requires between { IsBetween self.old.answered self.old.pending.items }
+        requires unfailed { failures_of writer.old ≡ 0 }
+        ensures written { Grows (W.contents (inner_of writer.old)) (W.contents (inner_of writer.new))
+            (PartLeaves result self.old.answered (self.old.pending.items ++ block.now) self.new.answered self.new.pending.items) }
+        ensures between { OnOk result (IsBetween self.new.answered self.new.pending.items) }
+        ensures failed { (result ≡ Err TextFault.Write) ↔ (failures_of writer.new ≢ 0) }
+    {
+        let mut rest = block;
+        while !rest.is_empty() {
+            let (piece, behind) = split_line(rest);
+            match self.append(piece) {
+                Ok(()) => {}
+                Err(fault) => return Err(fault),
+            }
+            let Some((_, others)) = behind.split_first() else {
+                return Ok(());
+            };
+            match self.answer(writer) {
+                Ok(()) => rest = others,
+                Err(fault) => return Err(fault),
+            }
+        }
+        Ok(())
+    }
+
+    /// Answers the last line, where the input ends without a line feed.
+    pub(crate) fn finish<W: Write>(&mut self, writer: &mut Counted<W>) -> Result<(), TextFault>
+        requires between { IsBetween self.old.answered self.old.pending.items }
+        requires unfailed { failures_of writer.old ≡ 0 }
+        ensures written { Grows (W.contents (inner_of writer.old)) (W.contents (inner_of writer.new))
+            (EndLeaves result self.old.answered self.old.pending.items) }
+        ensures failed { (result ≡ Err TextFault.Write) ↔ (failures_of writer.new ≢ 0) }
+    {
+        if self.pending.is_empty() {
+            return Ok(());
+        }
+        self.answer(writer)
+    }
+}

@@ -1,0 +1,92 @@
+//! The command line.
+
+ghost use Rattle.std.specs.Prelude.{◌≡◌};
+ghost use Rattle.rtcp_run.specs.Status.{order_status};
+
+use crate::orders::{Order, OrderFault, TextOrder};
+use clap::Command;
+use clap::error::ErrorKind;
+use std::alloc::{AllocError, Global};
+use std::io::Write;
+
+const ABOUT: &str = "The control half of an RTP participant (RFC 3550)";
+
+const CHECK_ABOUT: &str = "Show what RTCP datagrams are, or why they are refused";
+
+const CHECK_LONG: &str = "\
+Show what RTCP datagrams are, or why they are refused.
+
+Pipe in one datagram a line, its octets in hex of either case: for instance the UDP payloads
+that tshark prints of a capture.
+
+    tshark -r call.pcap -Y rtcp -T fields -e udp.payload | rtcp check
+
+One line comes out for each line that goes in. It begins with ok, and the packets follow, or it
+is the first fault and the octet where the packet with it begins.
+
+    ok RR(11223344,[],0) SDES([11223344{1=616263}])
+    F2 Version at 8
+
+A line of more than 131200 characters, a line beyond the first 65536 and a line that is no hex
+end the run: the line's number and its fault are told on standard error.
+
+The status is 0 where every line was answered, 2 where the command line or a line of the text is
+refused, and 1 where reading, writing or memory failed.";
+
+/// What the words of a command line ask for. The first word is the program's name.
+///
+/// # Errors
+///
+/// - [`OrderFault::Clap`] where a subcommand is missing, a word is unknown, or help is asked for.
+/// - [`OrderFault::Memory`] where memory is refused.
+pub fn order<'a>(alloc: Global, words: &'a [&'a str]) -> Result<Order, OrderFault> {
+    let Ok(mut program) = program(alloc) else {
+        return Err(OrderFault::Memory);
+    };
+    match program.try_get_matches_from_mut(words) {
+        Ok(matches) => match matches.subcommand_name() {
+            Some("check") => Ok(Order::Text(TextOrder::Check)),
+            _ => Err(told(program.render_help())),
+        },
+        Err(error) if error.kind() == ErrorKind::OutOfMemory => Err(OrderFault::Memory),
+        Err(error) => Err(told(format!(in alloc; "{error}"))),
+    }
+}
+
+/// The program's command line, as `clap` reads it.
+fn program<'a>(alloc: Global) -> Result<Command<'a>, AllocError> {
+    let check = Command::new(alloc, "check")
+        .about(CHECK_ABOUT)
+        .long_about(CHECK_LONG);
+    Command::new(alloc, "rtcp")
+        .bin_name("rtcp")?
+        .about(ABOUT)
+        .after_help("Run `rtcp check --help` for what to pipe in and what comes out.")
+        .disable_help_subcommand(true)
+        .subcommand_required(true)
+        .subcommand(check)
+}
+
+/// A text to show, unless there was no memory for it.
+fn told(text: Result<String, AllocError>) -> OrderFault {
+    match text {
+        Ok(text) => OrderFault::Clap(text),
+        Err(AllocError) => OrderFault::Memory,
+    }
+}
+
+/// Tells why there is no order, and gives the status to end with. A failed write changes nothing.
+pub fn refuse<W: Write>(fault: &OrderFault, faults: &mut W) -> u8
+    ensures { result ≡ order_status fault.now }
+{
+    match fault {
+        OrderFault::Clap(text) => {
+            let _ = faults.write_all(text.as_bytes());
+            2
+        }
+        OrderFault::Memory => {
+            let _ = faults.write_all(b"memory\n");
+            1
+        }
+    }
+}

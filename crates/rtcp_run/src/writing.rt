@@ -1,0 +1,31 @@
+//! Handing a text to a writer.
+
+ghost use Rattle.std.specs.Prelude.{◌≡◌, ◌≢◌, ◌++◌, ◌↔◌, ℕ, List, [], OnOk, IsOkUnless};
+ghost use Rattle.std.specs.Io.KnownBytes.{Appends};
+ghost use Rattle.rtcp_run.specs.Counted.{failures_of, inner_of};
+
+use crate::counted::Counted;
+use crate::fault::TextFault;
+use std::io::Write;
+
+/// Writes all of the text, or a front of it up to the first call that fails or takes nothing: the fault is then `Write`.
+pub(crate) fn hand_over<W: Write>(writer: &mut Counted<W>, text: &[u8]) -> Result<(), TextFault>
+    requires { failures_of writer.old ≡ 0 }
+    ensures only { IsOkUnless result TextFault.Write }
+    ensures written { (front : List ℕ) × (more : List ℕ) × (text.now ≡ front ++ more) × OnOk result (more ≡ [])
+        × Appends (W.contents (inner_of writer.old)) (W.contents (inner_of writer.new)) front }
+    ensures failed { (result ≡ Err TextFault.Write) ↔ (failures_of writer.new ≢ 0) }
+{
+    let mut rest = text;
+    while !rest.is_empty() {
+        let count = match writer.write(rest) {
+            Ok(count) => count,
+            Err(_) => return Err(TextFault::Write),
+        };
+        if count == 0 {
+            return Err(TextFault::Write);
+        }
+        rest = rest.split_at(count).1;
+    }
+    Ok(())
+}
