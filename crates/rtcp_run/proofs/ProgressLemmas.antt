@@ -1,6 +1,8 @@
 -- Lemmas on what the parts of a check leave.
 use Rattle.std.proofs.Common.{Bool, false, eqb, ◌≡◌, ◌≢◌, ℕ, ◌+◌, ◌<◌, ◌≤◌, inl, List, [], ◌∷◌, ◌++◌, length, Option, Some, None, Result, Ok, Err, refl, sym, ◌∙◌, ap, subst, append_assoc, append-nil, arith, add-zero, length-append}
 use Rattle.std.specs.List.{flat_map}
+use Rattle.std.specs.Result.{IsErrAnd}
+use Rattle.std.proofs.lemmas.Result.{err_from_is_err_and}
 use Rattle.std.proofs.lemmas.Bool.{false≢true}
 use Rattle.std.proofs.lemmas.List.Concat.{flat_map-append}
 use Rattle.std.proofs.lemmas.List.Elements.{All-nil, All-cons, All-append}
@@ -317,3 +319,11 @@ module _ (n answered : ℕ) (old front rest block pending text : List ℕ) (firs
 pub IsBetween-answered : (answered answered' answered'' : ℕ) (rest : List ℕ) → answered < 65536 → answered'' ≡ answered → answered' ≡ answered'' + 1 → rest ≡ [] → IsBetween answered' rest
 IsBetween-answered answered answered' answered'' rest room same next none =
     subst (IsBetween answered') (sym none) (IsBetween-none answered' (omega arith))
+
+-- ---- the exit of a `?`
+
+-- What holds at the fault holds of what the exit returns.
+pub at_exit : {A : Type 0} (P : Result A TextFault → Type 0) (r : Result A TextFault) (fault : TextFault) → IsErrAnd r (λ e. e ≡ fault) → P (Err fault) → P r
+at_exit P r fault exit holds =
+    let found = err_from_is_err_and r exit in
+    subst P (sym (found.1 ∙ ap Err found.2)) holds

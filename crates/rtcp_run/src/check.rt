@@ -39,10 +39,7 @@ fn answer_blocks<R: Read, W: Write>(
         if count == 0 {
             return checker.finish(writer);
         }
-        match checker.take(&block[..count], writer) {
-            Ok(()) => {}
-            Err(fault) => return Err(fault),
-        }
+        checker.take(&block[..count], writer)?;
     }
 }
 
@@ -70,8 +67,6 @@ pub fn check<R: Read, W: Write>(
     // What is written is always a front of the text of the whole input.
     ensures front { Writes (R.remaining (inner_of reader.old)) (W.contents (inner_of writer.old))
         (W.contents (inner_of writer.new)) IsFrontOfText }
-
-    // How much of it, by how the run ended.
     ensures whole { OnOk result (Writes (R.remaining (inner_of reader.old)) (W.contents (inner_of writer.old))
         (W.contents (inner_of writer.new)) (IsTextOf None)) }
     ensures refused { (line : ℕ) (fault : Fault) → result ≡ Err (TextFault.Text line fault)
@@ -88,6 +83,7 @@ pub fn check<R: Read, W: Write>(
     ensures read_failed { (result ≡ Err TextFault.Read) ↔ (failures_of reader.new ≢ 0) }
     ensures write_failed { (result ≡ Err TextFault.Write) ↔ (failures_of writer.new ≢ 0) }
 {
+    // So every input has a text, of which what is written is a front.
     accepted_or_faulty();
     answer_blocks(alloc, reader, writer)
 }

@@ -95,14 +95,8 @@ impl LineChecker {
         ensures failed { (result ≡ Err TextFault.Write) ↔ (failures_of writer.new ≢ 0) }
     {
         let number = self.answered + 1;
-        match compose(self.alloc, number, &self.pending, &mut self.text) {
-            Ok(()) => {}
-            Err(fault) => return Err(fault),
-        }
-        match hand_over(writer, &self.text) {
-            Ok(()) => {}
-            Err(fault) => return Err(fault),
-        }
+        compose(self.alloc, number, &self.pending, &mut self.text)?;
+        hand_over(writer, &self.text)?;
         self.answered = number;
         self.pending.clear();
         Ok(())
@@ -124,17 +118,12 @@ impl LineChecker {
         let mut rest = block;
         while !rest.is_empty() {
             let (piece, behind) = split_line(rest);
-            match self.append(piece) {
-                Ok(()) => {}
-                Err(fault) => return Err(fault),
-            }
+            self.append(piece)?;
             let Some((_, others)) = behind.split_first() else {
                 return Ok(());
             };
-            match self.answer(writer) {
-                Ok(()) => rest = others,
-                Err(fault) => return Err(fault),
-            }
+            self.answer(writer)?;
+            rest = others;
         }
         Ok(())
     }

@@ -32,8 +32,10 @@ fn main(rt: HostRuntime) -> ExitCode {
 /// What the process's command line asks for.
 fn asked(rt: &HostRuntime) -> Result<Order, OrderFault> {
     let alloc = rt.alloc();
-    let Ok(arguments) = env::args(rt) else {
-        return Err(OrderFault::Memory);
+    let arguments = match env::args(rt) {
+        Ok(arguments) => arguments,
+        Err(error) if error.kind() == ErrorKind::OutOfMemory => return Err(OrderFault::Memory),
+        Err(_) => return Err(order::no_text(alloc)),
     };
     let mut texts = Vec::new(alloc);
     for argument in arguments {

@@ -33,6 +33,12 @@ end the run: the line's number and its fault are told on standard error.
 The status is 0 where every line was answered, 2 where the command line or a line of the text is
 refused, and 1 where reading, writing or memory failed.";
 
+const NO_TEXT: &str = "\
+error: invalid UTF-8 was detected in one or more arguments
+
+For more information, try '--help'.
+";
+
 /// What the words of a command line ask for. The first word is the program's name.
 ///
 /// # Errors
@@ -51,6 +57,11 @@ pub fn order<'a>(alloc: Global, words: &'a [&'a str]) -> Result<Order, OrderFaul
         Err(error) if error.kind() == ErrorKind::OutOfMemory => Err(OrderFault::Memory),
         Err(error) => Err(told(format!(in alloc; "{error}"))),
     }
+}
+
+/// The fault of a command line that is no text.
+pub(crate) fn no_text(alloc: Global) -> OrderFault {
+    told(String::from_str(alloc, NO_TEXT))
 }
 
 /// The program's command line, as `clap` reads it.

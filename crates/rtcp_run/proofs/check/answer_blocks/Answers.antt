@@ -4,7 +4,9 @@ use Rattle.std.proofs.KnownBytes.{Consumes-trans, Appends-trans}
 use Rattle.rtcp_run.specs.Counted.{inner_of}
 use Rattle.rtcp_run.proofs.CountedLemmas.{zero_unless}
 use Rattle.rtcp_run.proofs.CheckLemmas.{Writes-at_end, Writes-at_fault}
-use Rattle.rtcp_run.proofs.ProgressLemmas.{PartLeaves-after}
+use Rattle.rtcp_run.specs.Check.{Writes}
+use Rattle.rtcp_run.specs.Progress.{CheckLeaves}
+use Rattle.rtcp_run.proofs.ProgressLemmas.{at_exit, PartLeaves-after}
 use Rattle.rtcp_run.proofs.check.answer_blocks.Goals as goal
 
 pub returns-then-count-eq0-clause-leaves : goal.returns-then-count-eq0-clause-leaves
@@ -21,28 +23,34 @@ pub turns-preserved : goal.turns-preserved
 turns-preserved g c =
     let so_far = c.turns.invariant.written in
     let given = c.in-Ok.ensures.bytes in
-    let written = c.in-Ok-take.ensures.written in
+    let written = c.in_ok-take.ensures.written in
     let block = take c.in-Ok.count c.read.new.buf in
     record {
-      between = c.in-Ok-take.ensures.between;
+      between = c.in_ok-take.ensures.between;
       size = omega arith;
       reading = omega (arith, c.in-Ok.ensures.counted);
-      writing = zero_unless _ (λ failed. let wrong = c.in-Ok-take.ensures.failed.1 failed in cc);
+      writing = zero_unless _ (λ failed. let wrong = c.in_ok-take.ensures.failed.1 failed in cc);
       written = (
         so_far.0 ++ block,
         so_far.1 ++ written.0,
         Consumes-trans _ _ _ so_far.0 block so_far.2 given.0,
         Appends-trans _ _ _ so_far.1 written.0 so_far.3 written.1,
-        PartLeaves-after 0 c.turns.checker.answered so_far.0 c.turns.checker.pending.items so_far.1 block so_far.4 {A = Unit {0}} (Ok c.in-Ok-take.field-0)
+        PartLeaves-after 0 c.turns.checker.answered so_far.0 c.turns.checker.pending.items so_far.1 block so_far.4 {A = Unit {0}} (Ok tt)
             c.take.new.self.answered c.take.new.self.pending.items written.0 written.2,
       );
     }
 
-pub returns-in-Err-take-clause-leaves : goal.returns-in-Err-take-clause-leaves
-returns-in-Err-take-clause-leaves g c =
+pub returns-in_err-take-clause-leaves : goal.returns-in_err-take-clause-leaves
+returns-in_err-take-clause-leaves g c =
     let so_far = c.turns.invariant.written in
     let given = c.in-Ok.ensures.bytes in
-    let written = c.in-Err-take.ensures.written in
-    Writes-at_fault c.in-Err-take.fault _ (g.R.Read.remaining (inner_of c.turns.reader)) _ _ (g.W.Write.contents (inner_of c.turns.writer)) _
+    let written = c.in_err-take.ensures.written in
+    let fault = c.in_err-take.field-0.0 in
+    let start = g.R.Read.remaining (inner_of c.args.reader.now) in
+    let left = g.R.Read.remaining (inner_of c.read.new.self) in
+    let held = g.W.Write.contents (inner_of c.args.writer.now) in
+    let last = g.W.Write.contents (inner_of c.take.new.writer) in
+    at_exit (λ r. Writes start held last (CheckLeaves r left)) c.from_residual.result fault c.from_residual.ensures.1
+    (Writes-at_fault fault start (g.R.Read.remaining (inner_of c.turns.reader)) left held (g.W.Write.contents (inner_of c.turns.writer)) last
     so_far.0 c.turns.checker.pending.items so_far.1 (take c.in-Ok.count c.read.new.buf) written.0 c.take.new.self.pending.items c.turns.checker.answered c.take.new.self.answered
-    so_far.2 so_far.3 so_far.4 given.0 written.1 written.2
+    so_far.2 so_far.3 so_far.4 given.0 written.1 written.2)

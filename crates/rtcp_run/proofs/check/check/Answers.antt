@@ -1,10 +1,16 @@
 -- Each clause is one case of what the blocks' answers leave.
-use Rattle.rtcp_run.specs.Counted.{inner_of}
-use Rattle.rtcp_run.specs.declared.fault.TextFault.TheVariants.{Text, Read, Memory}
-use Rattle.rtcp_run.proofs.FrontLemmas.{Writes-whole, Writes-refused, Writes-weaker, IsFrontOfText-leaves}
 use Rattle.rtcp_run.specs.Check.{IsFrontOfText}
+use Rattle.rtcp_run.specs.Counted.{inner_of}
 use Rattle.rtcp_run.specs.Progress.{CheckLeaves}
+use Rattle.rtcp_run.specs.declared.fault.TextFault.TheVariants.{Text, Read, Memory}
+use Rattle.rtcp_run.proofs.FrontLemmas.{IsFrontOfText-leaves, Writes-weaker, Writes-whole, Writes-refused}
 use Rattle.rtcp_run.proofs.check.check.Goals as goal
+
+pub returns-clause-front : goal.returns-clause-front
+returns-clause-front g c =
+    let left = g.R.Read.remaining (inner_of c.answer_blocks.new.reader) in
+    Writes-weaker _ _ _ (CheckLeaves c.answer_blocks.result left) IsFrontOfText
+    (IsFrontOfText-leaves c.accepted_or_faulty.ensures.always_one c.answer_blocks.result left) c.answer_blocks.ensures.leaves
 
 pub returns-clause-whole : goal.returns-clause-whole
 returns-clause-whole g c =
@@ -21,8 +27,3 @@ returns-clause-read g c = λ is.
 pub returns-clause-memory : goal.returns-clause-memory
 returns-clause-memory g c = λ is.
     Writes-refused _ _ _ (g.R.Read.remaining (inner_of c.answer_blocks.new.reader)) c.answer_blocks.result c.answer_blocks.ensures.leaves Memory is
-
-pub returns-clause-front : goal.returns-clause-front
-returns-clause-front g c =
-    let left = g.R.Read.remaining (inner_of c.answer_blocks.new.reader) in
-    Writes-weaker _ _ _ (CheckLeaves c.answer_blocks.result left) IsFrontOfText (IsFrontOfText-leaves c.accepted_or_faulty.ensures.always_one c.answer_blocks.result left) c.answer_blocks.ensures.leaves

@@ -1,0 +1,81 @@
+"""A plain decoder of the lines of `rtcp check`, written from docs/PROTOCOL.md and docs/FORMATS.md alone, to compare with."""
+
+
+class Fault(Exception):
+    pass
+
+
+def block_text(octets):
+    number = lambda start, size: int.from_bytes(octets[start:start + size], "big")
+    lost = int.from_bytes(octets[5:8], "big", signed=True)
+    return (f"{number(0, 4):08x}/{number(4, 1)}/{lost}/{number(8, 4)}/{number(12, 4)}"
+            f"/{number(16, 4):08x}/{number(20, 4):08x}")
+
+
+def report_text(body, count):
+    if len(body) < 4 + 24 * count:
+        raise Fault("F7 Body")
+    blocks = [block_text(body[4 + 24 * i:28 + 24 * i]) for i in range(count)]
+    return f"RR({body[:4].hex()},[{';'.join(blocks)}],{len(body) - 4 - 24 * count})"
+
+
+def description_text(body, count):
+    at, chunks = 0, []
+    for _ in range(count):
+        if len(body) - at < 4:
+            raise Fault("F7 Body")
+        identifier, at, items = body[at:at + 4].hex(), at + 4, []
+        while True:
+            if at >= len(body):
+                raise Fault("F8 Item")
+            if body[at] == 0:
+                break
+            if at + 1 >= len(body) or at + 2 + body[at + 1] > len(body):
+                raise Fault("F8 Item")
+            items.append(f"{body[at]}={body[at + 2:at + 2 + body[at + 1]].hex()}")
+            at += 2 + body[at + 1]
+        at = (at + 4) // 4 * 4
+        chunks.append(f"{identifier}{{{','.join(items)}}}")
+    if at < len(body):
+        raise Fault("F7 Body")
+    return f"SDES([{';'.join(chunks)}])"
+
+
+def packet_text(octets, is_first):
+    """The text of the packet at the front, and its size."""
+    if len(octets) < 4:
+        raise Fault("F1 Short")
+    version, padded, count, kind = octets[0] >> 6, octets[0] & 0x20, octets[0] & 0x1f, octets[1]
+    size = 4 * (int.from_bytes(octets[2:4], "big") + 1)
+    if version != 2:
+        raise Fault("F2 Version")
+    if is_first and kind not in (200, 201):
+        raise Fault("F3 FirstType")
+    if is_first and padded:
+        raise Fault("F4 FirstPadding")
+    if size > len(octets):
+        raise Fault("F5 Length")
+    padding = octets[size - 1] if padded else 0
+    if padded and (padding == 0 or padding % 4 or padding > size - 4):
+        raise Fault("F6 Padding")
+    body = octets[4:size - padding]
+    if kind == 201:
+        return report_text(body, count), size
+    if kind == 202:
+        return description_text(body, count), size
+    return f"OTHER({kind},{count},{len(body)})", size
+
+
+def answer(octets):
+    """The line of text for a datagram, without its line feed."""
+    if len(octets) > 65535:
+        return "F10 TooLong at 0"
+    place, texts = 0, []
+    try:
+        while place == 0 or place < len(octets):
+            text, size = packet_text(octets[place:], place == 0)
+            texts.append(text)
+            place += size
+    except Fault as fault:
+        return f"{fault} at {place}"
+    return " ".join(["ok", *texts])

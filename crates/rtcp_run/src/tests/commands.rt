@@ -1,0 +1,149 @@
+//! Command lines, fault lines and statuses.
+
+use super::ends::{Narrow, Pieces};
+use crate::command::command;
+use crate::order::{order, refuse};
+use crate::orders::{Order, OrderFault, TextOrder};
+use std::alloc::{AllocError, Global};
+use std::io;
+use std::io::{ErrorKind, Read, Write};
+use std::test::Fail;
+
+/// Takes all, and fails when it is flushed.
+#[derive(Drop)]
+struct NeverFlushed;
+
+impl Write for NeverFlushed {
+    fn write(&mut self, buf: &[u8]) -> io::Result<usize> {
+        Ok(buf.len())
+    }
+
+    fn flush(&mut self) -> io::Result<()> {
+        Err(io::Error::from(ErrorKind::Other))
+    }
+}
+
+/// A writer with no room at all.
+fn full(alloc: Global) -> Narrow {
+    Narrow {
+        taken: Vec::new(alloc),
+        piece: 1,
+        calls: 0,
+        fails: true,
+    }
+}
+
+/// The status of a check, and its fault line.
+fn ended<R: Read + Drop, W: Write + Drop>(alloc: Global, reader: R, writer: W) -> (u8, Vec<u8>) {
+    let mut faults = Vec::new(alloc);
+    let status = command(alloc, TextOrder::Check, reader, writer, &mut faults);
+    (status, faults)
+}
+
+#[test]
+fn ends(rt: HostRuntime) {
+    let alloc = rt.alloc();
+    let (status, fault) = ended(alloc, b"80c9000100000007\n".as_slice(), Vec::new(alloc));
+    assert_eq!(rt; status, 0);
+    assert_eq!(rt; fault.as_slice(), b"".as_slice());
+    let (status, fault) = ended(alloc, b"\n80\n0".as_slice(), Vec::new(alloc));
+    assert_eq!(rt; status, 2);
+    assert_eq!(rt; fault.as_slice(), b"line 3: X4 Hex\n".as_slice());
+    let broken = Pieces {
+        rest: b"",
+        piece: 1,
+        calls: 0,
+    };
+    let (status, fault) = ended(alloc, broken, Vec::new(alloc));
+    assert_eq!(rt; status, 1);
+    assert_eq!(rt; fault.as_slice(), b"read\n".as_slice());
+    let (status, fault) = ended(alloc, b"\n".as_slice(), full(alloc));
+    assert_eq!(rt; status, 1);
+    assert_eq!(rt; fault.as_slice(), b"write\n".as_slice());
+    let (status, fault) = ended(alloc, b"\n".as_slice(), NeverFlushed);
+    assert_eq!(rt; status, 1);
+    assert_eq!(rt; fault.as_slice(), b"write\n".as_slice());
+}
+
+#[test]
+fn limits(rt: HostRuntime) -> Result<(), Fail> {
+    let alloc = rt.alloc();
+    let zeros = vec![in alloc; b'0'; 131_201]?;
+    let (status, fault) = ended(alloc, zeros.as_slice(), Vec::new(alloc));
+    assert_eq!(rt; status, 2);
+    assert_eq!(rt; fault.as_slice(), b"line 1: X1 LineTooLong\n".as_slice());
+    let feeds = vec![in alloc; b'\n'; 65_537]?;
+    let (status, fault) = ended(alloc, feeds.as_slice(), Vec::new(alloc));
+    assert_eq!(rt; status, 2);
+    assert_eq!(rt;
+        fault.as_slice(),
+        b"line 65537: X2 TooManyLines\n".as_slice()
+    );
+    Ok(())
+}
+
+/// A fault that can't be told changes no status.
+#[test]
+fn untold(rt: HostRuntime) {
+    let alloc = rt.alloc();
+    let mut faults = full(alloc);
+    let reader = b"0".as_slice();
+    let status = command(
+        alloc,
+        TextOrder::Check,
+        reader,
+        Vec::new(alloc),
+        &mut faults,
+    );
+    assert_eq!(rt; status, 2);
+    assert_eq!(rt; refuse(&OrderFault::Memory, &mut faults), 1);
+}
+
+/// The status of a refused command line, and what is told.
+fn told(alloc: Global, words: &[&str]) -> Result<(u8, Vec<u8>), Fail> {
+    let fault = order(alloc, words).err().ok_or("it was understood")?;
+    let mut faults = Vec::new(alloc);
+    let status = refuse(&fault, &mut faults);
+    Ok((status, faults))
+}
+
+#[test]
+fn orders(rt: HostRuntime) -> Result<(), Fail> {
+    let alloc = rt.alloc();
+    let asked = order(alloc, &["rtcp", "check"]);
+    assert!(rt; matches!(asked, Ok(Order::Text(TextOrder::Check))));
+    let rows: [(&[&str], &str); 6] = [
+        (&["rtcp"], "error: 'rtcp' requires a subcommand"),
+        (
+            &["rtcp", "replay"],
+            "error: unrecognized subcommand 'replay'",
+        ),
+        (
+            &["rtcp", "check", "--fast"],
+            "error: unexpected argument '--fast' found",
+        ),
+        (
+            &["rtcp", "check", "file"],
+            "error: unexpected argument 'file' found",
+        ),
+        (
+            &["rtcp", "--help"],
+            "The control half of an RTP participant",
+        ),
+        (&["rtcp", "check", "--help"], "Show what RTCP datagrams are"),
+    ];
+    for (words, beginning) in rows {
+        let (status, text) = told(alloc, words)?;
+        assert_eq!(rt; status, 2, "{beginning}");
+        assert!(rt; text.starts_with(beginning.as_bytes()), "{beginning}");
+    }
+    Ok(())
+}
+
+#[test]
+fn no_memory_for_an_order(rt: HostRuntime) -> Result<(), AllocError> {
+    let mut faults = Vec::new(rt.alloc());
+    assert_eq!(rt; refuse(&OrderFault::Memory, &mut faults), 1);
+    assert_eq!(rt; faults.as_slice(), b"memory\n".as_slice());
+    Ok(())
+}
