@@ -12,11 +12,40 @@ def block_text(octets):
             f"/{number(16, 4):08x}/{number(20, 4):08x}")
 
 
+def blocks_text(octets, count):
+    blocks = [block_text(octets[24 * i:24 * i + 24]) for i in range(count)]
+    return f"[{';'.join(blocks)}],{len(octets) - 24 * count}"
+
+
+def sender_report_text(body, count):
+    if len(body) < 24 + 24 * count:
+        raise Fault("F7 Body")
+    sent = [int.from_bytes(body[at:at + 4], "big") for at in (16, 20)]
+    return f"SR({body[:4].hex()},{body[4:12].hex()},{body[12:16].hex()},{sent[0]},{sent[1]},{blocks_text(body[24:], count)})"
+
+
 def report_text(body, count):
     if len(body) < 4 + 24 * count:
         raise Fault("F7 Body")
-    blocks = [block_text(body[4 + 24 * i:28 + 24 * i]) for i in range(count)]
-    return f"RR({body[:4].hex()},[{';'.join(blocks)}],{len(body) - 4 - 24 * count})"
+    return f"RR({body[:4].hex()},{blocks_text(body[4:], count)})"
+
+
+def goodbye_text(body, count):
+    if len(body) < 4 * count:
+        raise Fault("F7 Body")
+    identifiers = ";".join(body[4 * i:4 * i + 4].hex() for i in range(count))
+    part, reason = body[4 * count:], "-"
+    if part:
+        if 1 + part[0] > len(part) or len(part) - 1 - part[0] > 3:
+            raise Fault("F9 Reason")
+        reason = "=" + part[1:1 + part[0]].hex()
+    return f"BYE([{identifiers}],{reason})"
+
+
+def application_text(body, count):
+    if len(body) < 8:
+        raise Fault("F7 Body")
+    return f"APP({count},{body[:4].hex()},{body[4:8].hex()},{len(body) - 8})"
 
 
 def description_text(body, count):
@@ -59,10 +88,9 @@ def packet_text(octets, is_first):
     if padded and (padding == 0 or padding % 4 or padding > size - 4):
         raise Fault("F6 Padding")
     body = octets[4:size - padding]
-    if kind == 201:
-        return report_text(body, count), size
-    if kind == 202:
-        return description_text(body, count), size
+    texts = {200: sender_report_text, 201: report_text, 202: description_text, 203: goodbye_text, 204: application_text}
+    if kind in texts:
+        return texts[kind](body, count), size
     return f"OTHER({kind},{count},{len(body)})", size
 
 

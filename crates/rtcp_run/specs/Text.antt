@@ -1,10 +1,10 @@
 -- The text of packets and of faults, as `rtcp check` shows them.
-use Rattle.std.specs.Prelude.{ℕ, List, [], ◌∷◌, ◌++◌, length, map, codes}
+use Rattle.std.specs.Prelude.{ℕ, List, [], ◌∷◌, ◌++◌, Option, Some, None, length, map, codes}
 use Rattle.std.specs.List.{flat_map, join_with_byte}
-use Rattle.std.specs.Int.{w32, to_be_bytes}
+use Rattle.std.specs.Int.{w32, w64, to_be_bytes}
 use Rattle.std.specs.Fmt.{decimal, signed_decimal}
 use Rattle.hex.specs.Hex.{encode_lower}
-use Rattle.rtcp_wire.specs.Values.{ReportBlock, ItemValue, ChunkValue, RtcpPacket, rr, sdes, other}
+use Rattle.rtcp_wire.specs.Values.{SenderValue, ReportBlock, ItemValue, ChunkValue, RtcpPacket, sr, rr, sdes, bye, app, other}
 use Rattle.rtcp_wire.specs.declared.fault.FaultReason.{FaultReason}
 use Rattle.rtcp_wire.specs.declared.fault.FaultReason.TheVariants.{Short, Version, FirstType, FirstPadding, Length, Padding, Body, Item, Reason, TooLong}
 use Rattle.rtcp_wire.specs.declared.fault.WireFault.{WireFault}
@@ -12,6 +12,10 @@ use Rattle.rtcp_wire.specs.declared.fault.WireFault.{WireFault}
 -- eight digits of a number below 2 ^ 32
 abbrev pub hex_word : ℕ → List ℕ
 hex_word n = encode_lower (to_be_bytes w32 n)
+
+-- sixteen digits of a number below 2 ^ 64
+abbrev pub hex_long : ℕ → List ℕ
+hex_long n = encode_lower (to_be_bytes w64 n)
 
 -- pieces with a separator between two of them: 44 is a comma, 59 a semicolon
 abbrev pub commas : List (List ℕ) → List ℕ
@@ -26,6 +30,19 @@ block_text b =
     hex_word b.ssrc ++ codes "/" ++ decimal b.fraction ++ codes "/" ++ signed_decimal b.lost ++ codes "/" ++ decimal b.highest
     ++ codes "/" ++ decimal b.jitter ++ codes "/" ++ hex_word b.lsr ++ codes "/" ++ hex_word b.dlsr
 
+-- [blocks],octets of the extension
+abbrev pub report_end_text : List ReportBlock → List ℕ → List ℕ
+report_end_text blocks extension = codes "[" ++ semicolons (map block_text blocks) ++ codes "]," ++ decimal (length extension)
+
+-- SSRC,NTP,RTP,packets,octets
+abbrev pub sender_text : SenderValue → List ℕ
+sender_text s = hex_word s.ssrc ++ codes "," ++ hex_long s.ntp ++ codes "," ++ hex_word s.rtp ++ codes "," ++ decimal s.packets ++ codes "," ++ decimal s.octets
+
+-- a text as =hex, where there is one
+abbrev pub goodbye_reason_text : Option (List ℕ) → List ℕ
+goodbye_reason_text None = codes "-"
+goodbye_reason_text (Some text) = codes "=" ++ encode_lower text
+
 -- type=text
 abbrev pub item_text : ItemValue → List ℕ
 item_text i = decimal i.kind ++ codes "=" ++ encode_lower i.text
@@ -35,9 +52,12 @@ abbrev pub chunk_text : ChunkValue → List ℕ
 chunk_text c = hex_word c.id ++ codes "{" ++ commas (map item_text c.items) ++ codes "}"
 
 abbrev pub packet_text : RtcpPacket → List ℕ
-packet_text (rr ssrc blocks extension) =
-    codes "RR(" ++ hex_word ssrc ++ codes ",[" ++ semicolons (map block_text blocks) ++ codes "]," ++ decimal (length extension) ++ codes ")"
+packet_text (sr sender blocks extension) = codes "SR(" ++ sender_text sender ++ codes "," ++ report_end_text blocks extension ++ codes ")"
+packet_text (rr ssrc blocks extension) = codes "RR(" ++ hex_word ssrc ++ codes "," ++ report_end_text blocks extension ++ codes ")"
 packet_text (sdes chunks) = codes "SDES([" ++ semicolons (map chunk_text chunks) ++ codes "])"
+packet_text (bye ids reason) = codes "BYE([" ++ semicolons (map hex_word ids) ++ codes "]," ++ goodbye_reason_text reason ++ codes ")"
+packet_text (app subtype ssrc name content) =
+    codes "APP(" ++ decimal subtype ++ codes "," ++ hex_word ssrc ++ codes "," ++ encode_lower name ++ codes "," ++ decimal (length content) ++ codes ")"
 packet_text (other kind count body) =
     codes "OTHER(" ++ decimal kind ++ codes "," ++ decimal count ++ codes "," ++ decimal (length body) ++ codes ")"
 

@@ -1,18 +1,20 @@
 //! The text of packets and of faults, as `rtcp check` shows them. After an error it is left open what was appended.
 
-ghost use Rattle.std.specs.Prelude.{◌≡◌, ◌++◌, map, length, OnOk};
-ghost use Rattle.rtcp_wire.specs.Views.{block_of, item_of, chunk_of, packet_of, packets_of};
-ghost use Rattle.rtcp_wire.specs.Values.{rr, sdes, other};
-ghost use Rattle.rtcp_run.specs.Text.{block_text, item_text, chunk_text, packet_text, accepted_text, reason_text, fault_text, commas, semicolons};
+ghost use Rattle.std.specs.Prelude.{◌≡◌, ◌++◌, map, OnOk};
+ghost use Rattle.rtcp_wire.specs.Views.{sender_of, block_of, item_of, chunk_of, reason_of, packet_of, packets_of};
+ghost use Rattle.rtcp_wire.specs.Values.{sr, rr, sdes, bye, app, other};
+ghost use Rattle.rtcp_run.specs.Text.{hex_word, commas, semicolons};
+ghost use Rattle.rtcp_run.specs.Text.{block_text, report_end_text, sender_text, goodbye_reason_text, item_text, chunk_text, packet_text, accepted_text};
+ghost use Rattle.rtcp_run.specs.Text.{reason_text, fault_text};
 
 mod digits;
 #[cfg(test)]
 mod tests;
 
-use digits::{push_decimal, push_octets, push_signed, push_word};
+use digits::{push_decimal, push_long, push_octets, push_signed, push_word};
 use rtcp_wire::{
-    Block, Chunk, FaultReason, OtherPacket, Packet, ReceiverReport, SdesItem, SourceDescription,
-    WireFault,
+    Application, Block, Chunk, FaultReason, Goodbye, OtherPacket, Packet, ReceiverReport, SdesItem,
+    SenderReport, SourceDescription, WireFault,
 };
 use std::alloc::AllocError;
 
@@ -63,25 +65,64 @@ fn push_packet(out: &mut Vec<u8>, packet: &Packet) -> Result<(), AllocError>
     ensures { OnOk result (out.new.items ≡ out.old.items ++ packet_text (packet_of packet.now)) }
 {
     match packet {
+        Packet::Sr(report) => push_sender_report(out, report),
         Packet::Rr(report) => push_report(out, report),
         Packet::Sdes(description) => push_description(out, description),
+        Packet::Bye(goodbye) => push_goodbye(out, goodbye),
+        Packet::App(packet) => push_application(out, packet),
         Packet::Other(packet) => push_other(out, packet),
     }
 }
 
-/// Appends the text of a receiver report: of its extension the length, in octets.
+/// Appends the text of a sender report.
+fn push_sender_report(out: &mut Vec<u8>, report: &SenderReport) -> Result<(), AllocError>
+    ensures { OnOk result (out.new.items ≡ out.old.items
+        ++ packet_text (sr (sender_of report.now) (map block_of report.now.blocks.items) report.now.extension.items)) }
+{
+    out.extend_from_slice(b"SR(")?;
+    push_sender(out, report)?;
+    out.push(b',')?;
+    push_report_end(out, &report.blocks, &report.extension)?;
+    out.push(b')')?;
+    Ok(())
+}
+
+/// Appends what a sender report says of its sender.
+fn push_sender(out: &mut Vec<u8>, report: &SenderReport) -> Result<(), AllocError>
+    ensures { OnOk result (out.new.items ≡ out.old.items ++ sender_text (sender_of report.now)) }
+{
+    push_word(out, report.ssrc)?;
+    out.push(b',')?;
+    push_long(out, report.ntp)?;
+    out.push(b',')?;
+    push_word(out, report.rtp)?;
+    out.push(b',')?;
+    push_decimal(out, u64::from(report.packets))?;
+    out.push(b',')?;
+    push_decimal(out, u64::from(report.octets))
+}
+
+/// Appends the text of a receiver report.
 fn push_report(out: &mut Vec<u8>, report: &ReceiverReport) -> Result<(), AllocError>
     ensures { OnOk result (out.new.items ≡ out.old.items
         ++ packet_text (rr report.now.ssrc (map block_of report.now.blocks.items) report.now.extension.items)) }
 {
     out.extend_from_slice(b"RR(")?;
     push_word(out, report.ssrc)?;
-    out.extend_from_slice(b",[")?;
-    push_blocks(out, &report.blocks)?;
-    out.extend_from_slice(b"],")?;
-    push_decimal(out, report.extension.len() as u64)?;
+    out.push(b',')?;
+    push_report_end(out, &report.blocks, &report.extension)?;
     out.push(b')')?;
     Ok(())
+}
+
+/// Appends the text of blocks and an extension: of the extension the length, in octets.
+fn push_report_end(out: &mut Vec<u8>, blocks: &[Block], extension: &[u8]) -> Result<(), AllocError>
+    ensures { OnOk result (out.new.items ≡ out.old.items ++ report_end_text (map block_of blocks.now) extension.now) }
+{
+    out.push(b'[')?;
+    push_blocks(out, blocks)?;
+    out.extend_from_slice(b"],")?;
+    push_decimal(out, extension.len() as u64)
 }
 
 /// Appends the text of a source description.
@@ -92,6 +133,65 @@ fn push_description(out: &mut Vec<u8>, description: &SourceDescription) -> Resul
     out.extend_from_slice(b"SDES([")?;
     push_chunks(out, &description.chunks)?;
     out.extend_from_slice(b"])")
+}
+
+/// Appends the text of a goodbye.
+fn push_goodbye(out: &mut Vec<u8>, goodbye: &Goodbye) -> Result<(), AllocError>
+    ensures { OnOk result (out.new.items ≡ out.old.items
+        ++ packet_text (bye goodbye.now.ids.items (reason_of goodbye.now.reason))) }
+{
+    out.extend_from_slice(b"BYE([")?;
+    push_ids(out, &goodbye.ids)?;
+    out.extend_from_slice(b"],")?;
+    push_goodbye_reason(out, &goodbye.reason)?;
+    out.push(b')')?;
+    Ok(())
+}
+
+/// Appends identifiers, with semicolons between them.
+fn push_ids(out: &mut Vec<u8>, ids: &[u32]) -> Result<(), AllocError>
+    ensures { OnOk result (out.new.items ≡ out.old.items ++ semicolons (map hex_word ids.now)) }
+{
+    for (i, id) in ids.iter().enumerate() {
+        if i > 0 {
+            out.push(b';')?;
+        }
+        push_word(out, *id)?;
+    }
+    Ok(())
+}
+
+/// Appends a goodbye's reason, or a dash where it has none.
+fn push_goodbye_reason(out: &mut Vec<u8>, reason: &Option<Vec<u8>>) -> Result<(), AllocError>
+    ensures { OnOk result (out.new.items ≡ out.old.items ++ goodbye_reason_text (reason_of reason.now)) }
+{
+    match reason {
+        Some(text) => {
+            out.push(b'=')?;
+            push_octets(out, text)
+        }
+        None => {
+            out.push(b'-')?;
+            Ok(())
+        }
+    }
+}
+
+/// Appends the text of an application's packet: of its data the length, in octets.
+fn push_application(out: &mut Vec<u8>, packet: &Application) -> Result<(), AllocError>
+    ensures { OnOk result (out.new.items ≡ out.old.items
+        ++ packet_text (app packet.now.subtype packet.now.ssrc packet.now.name packet.now.data.items)) }
+{
+    out.extend_from_slice(b"APP(")?;
+    push_decimal(out, u64::from(packet.subtype))?;
+    out.push(b',')?;
+    push_word(out, packet.ssrc)?;
+    out.push(b',')?;
+    push_octets(out, &packet.name)?;
+    out.push(b',')?;
+    push_decimal(out, packet.data.len() as u64)?;
+    out.push(b')')?;
+    Ok(())
 }
 
 /// Appends the text of a packet of another type: of its body the length, in octets.

@@ -1,26 +1,12 @@
--- Blocks, items and chunks have no proper fronts, and a body of chunks ends in one way.
-use Rattle.std.proofs.Common.{◌≡◌, ℕ, ◌+◌, ◌*◌, ◌%◌, ◌<◌, List, [], ◌∷◌, ◌++◌, length, sym, ap, ◌∙◌, append_assoc, append-nil, arith, inl, inr}
+-- Items and chunks have no proper fronts, and a body of chunks ends in one way.
+use Rattle.std.proofs.Common.{◌≡◌, ℕ, ◌+◌, ◌%◌, ◌<◌, List, [], ◌∷◌, ◌++◌, length, sym, ap, ◌∙◌, append_assoc, append-nil, arith, inl, inr}
 use Rattle.std.proofs.lemmas.List.{length-append}
 use Rattle.byteorder.specs.Endian.{big_number}
-use Rattle.rtcp_wire.specs.Values.{ReportBlock, ItemValue, ChunkValue}
-use Rattle.rtcp_wire.specs.Grammar.{Joins, block_in, IsBlock, IsItem, IsChunk}
+use Rattle.rtcp_wire.specs.Values.{ItemValue, ChunkValue}
+use Rattle.rtcp_wire.specs.Grammar.{Joins, IsItem, IsChunk}
 use Rattle.rtcp_wire.specs.Faults.{IsCut, EndsBesideChunks, EndsInsideChunk}
 use Rattle.rtcp_wire.proofs.Joining.{IsPrefixFree, IsNeverEmpty, same_count}
 use Rattle.rtcp_wire.proofs.Fronts.{cons_parts, cons_not_nil, same_fronts, cut_front, length_parts, BeginsNone, same_end, no_longer}
-
--- ---- Blocks
-
--- A block has 24 octets, which say it.
-pub one_block : IsPrefixFree IsBlock
-one_block x y a c r s h k e =
-    let same : length a ≡ length c = omega arith in
-    let both = same_fronts a c r s same e in
-    (both.0, h.1 ∙ ap block_in both.0 ∙ sym k.1)
-
--- as many blocks have 24 octets each
-pub blocks_length : (blocks : List ReportBlock) (octets : List ℕ) → Joins IsBlock blocks octets → length octets ≡ 24 * length blocks
-blocks_length [] octets h = ap length h
-blocks_length (x ∷ xs) octets h = omega (arith, length_parts octets h.0 h.1 h.2, h.3.0, blocks_length xs h.1 h.4)
 
 -- ---- Items
 

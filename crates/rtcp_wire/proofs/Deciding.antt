@@ -1,14 +1,13 @@
--- Each body is read, or ends beside chunks or inside one.
-use Rattle.std.proofs.Common.{◌≡◌, ◌≢◌, ℕ, zero, suc, ◌+◌, ◌-◌, ◌*◌, ◌%◌, ◌<◌, ◌≤◌, ◌⊎◌, List, [], ◌∷◌, ◌++◌, length, take, drop, refl, sym, ap, subst, ◌∙◌, append_assoc, arith, inl, inr}
+-- Each body of chunks is read, or ends beside them or inside one.
+use Rattle.std.proofs.Common.{◌≡◌, ◌≢◌, ℕ, zero, suc, ◌+◌, ◌-◌, ◌%◌, ◌<◌, ◌≤◌, ◌⊎◌, List, [], ◌∷◌, ◌++◌, length, take, drop, refl, sym, ap, ◌∙◌, append_assoc, arith, inl, inr}
 use Rattle.std.proofs.lemmas.Bool.{cases_lt, cases_eq}
-use Rattle.std.proofs.lemmas.List.{take-append-drop, length-append, length-drop, length-take-le, nil_from_length}
+use Rattle.std.proofs.lemmas.List.{take-append-drop, length-append, length-drop, length-take-le}
 use Rattle.byteorder.specs.Endian.{big_number}
-use Rattle.rtcp_wire.specs.Values.{ReportBlock, ItemValue, ChunkValue, RtcpPacket, rr, sdes, other}
-use Rattle.rtcp_wire.specs.Grammar.{Joins, block_in, IsBlock, IsItem, IsChunk, IsBody}
+use Rattle.rtcp_wire.specs.Values.{ItemValue, ChunkValue}
+use Rattle.rtcp_wire.specs.Grammar.{Joins, IsItem, IsChunk}
 use Rattle.rtcp_wire.specs.Faults.{IsCut, EndsBesideChunks, EndsInsideChunk}
 use Rattle.rtcp_wire.proofs.Joining.{Joins-cons}
 use Rattle.rtcp_wire.proofs.Fronts.{cons_not_nil, length_parts}
-use Rattle.rtcp_wire.proofs.Chunks.{not_both}
 
 -- ---- Items up to where no item begins
 
@@ -195,71 +194,4 @@ chunks_from (suc n) body whole =
     elim (chunk_from (suc n) body (omega arith) whole) [
       | inl one ↦ chunks_more n body one (chunks_from n one.rest (rest_is_whole (length body) (length one.front) (length one.rest) (length_parts body one.front one.rest one.parts) whole one.spelled.aligned))
       | inr ends ↦ inr ends
-    ]
-
--- ---- Reports
-
--- Any 24 octets are a block.
-pub blocks_from : (n : ℕ) (octets : List ℕ) → length octets ≡ 24 * n → (blocks : List ReportBlock) × (length blocks ≡ n) × Joins IsBlock blocks octets
-blocks_from zero octets e = ([], refl, nil_from_length octets (omega arith))
-blocks_from (suc n) octets e =
-    let more = blocks_from n (drop 24 octets) (omega (arith, length-drop 24 octets)) in
-    let len : length (take 24 octets) ≡ 24 = length-take-le 24 octets (omega arith) in
-    (block_in (take 24 octets) ∷ more.0, ap suc more.1, (take 24 octets, drop 24 octets, sym (take-append-drop 24 octets), (len, refl), more.2))
-
--- With room for an identifier and the blocks that are counted a body is a report.
-pub report_from : (count : ℕ) (body : List ℕ) → 4 + 24 * count ≤ length body → (packet : RtcpPacket) × IsBody packet 201 count body
-report_from count body room =
-    let size : ℕ = 24 * count in
-    let rest : List ℕ = drop 4 body in
-    let fits : size ≤ length rest = omega (arith, length-drop 4 body) in
-    let blocks = blocks_from count (take size rest) (length-take-le size rest fits) in (
-      rr (big_number 4 (take 4 body)) blocks.0 (drop size rest),
-      (
-        refl,
-        record {
-          id = take 4 body;
-          reports = take size rest;
-          parts = sym (take-append-drop 4 body) ∙ ap (λ (t : List ℕ). take 4 body ++ t) (sym (take-append-drop size rest));
-          id_size = length-take-le 4 body (omega arith);
-          sender = refl;
-          counted = blocks.1;
-          each = blocks.2;
-        },
-      ),
-    )
-
--- ---- Bodies
-
--- the body's fault under a type and a count
-abbrev pub BodyFault : ℕ → ℕ → List ℕ → Type 0
-BodyFault kind count body = ((kind ≡ 201) × (length body < 4 + 24 * count)) ⊎ ((kind ≡ 202) × EndsBesideChunks count body)
-
--- A body is read, or has no room or is left over, or an item passes its end.
-abbrev pub BodyEnd : ℕ → ℕ → List ℕ → Type 0
-BodyEnd kind count body = ((packet : RtcpPacket) × IsBody packet kind count body) ⊎ (BodyFault kind count body ⊎ ((BodyFault kind count body → ⊥) × (kind ≡ 202) × EndsInsideChunk count body))
-
--- A body that ends inside a chunk has no other fault.
-pub no_chunk_fault : (kind count : ℕ) (body : List ℕ) → kind ≡ 202 → EndsInsideChunk count body → BodyFault kind count body → ⊥
-no_chunk_fault kind count body is_sdes inside (inl e) = omega (arith, e.0)
-no_chunk_fault kind count body is_sdes inside (inr e) = not_both count body e.1 inside
-
--- a body of chunks, as what it says or its fault
-chunks_end : (kind count : ℕ) (body : List ℕ) → kind ≡ 202 → ChunksEnd count body → BodyEnd kind count body
-chunks_end kind count body is_sdes (inl more) = inl (sdes more.0, (is_sdes, more.1, more.2))
-chunks_end kind count body is_sdes (inr (inl beside)) = inr (inl (inr (is_sdes, beside)))
-chunks_end kind count body is_sdes (inr (inr inside)) = inr (inr (no_chunk_fault kind count body is_sdes inside, is_sdes, inside))
-
--- Each body of whole words is read or has a fault.
-pub body_from : (kind count : ℕ) (body : List ℕ) → length body % 4 ≡ 0 → BodyEnd kind count body
-body_from kind count body whole =
-    elim (cases_eq kind 201) [
-      | inl is_rr ↦ elim (cases_lt (length body) (4 + 24 * count)) [
-        | inl few ↦ inr (inl (inl (is_rr, few)))
-        | inr room ↦ (let report = report_from count body room in inl (report.0, subst (λ (k : ℕ). IsBody report.0 k count body) (sym is_rr) report.1))
-      ]
-      | inr not_rr ↦ elim (cases_eq kind 202) [
-        | inl is_sdes ↦ chunks_end kind count body is_sdes (chunks_from count body whole)
-        | inr not_sdes ↦ inl (other kind count body, (not_rr, not_sdes, refl, refl, refl))
-      ]
     ]

@@ -1,5 +1,5 @@
 -- A packet that is read at the front of octets, and the first row of the table where none is.
-use Rattle.std.proofs.Common.{◌≡◌, ℕ, ◌+◌, ◌*◌, ◌≤◌, ◌<◌, Bool, true, false, List, length, drop, Result, Ok, Err, MatchResult, sym, ap, ◌∙◌, arith, inl, inr}
+use Rattle.std.proofs.Common.{◌≡◌, ℕ, ◌≤◌, ◌<◌, Bool, true, false, List, length, drop, Result, Ok, Err, MatchResult, sym, ◌∙◌, arith, inl, inr}
 use Rattle.std.proofs.lemmas.List.{take-append-drop}
 use Rattle.rtcp_wire.specs.declared.fault.FaultReason.{FaultReason}
 use Rattle.rtcp_wire.specs.declared.fault.FaultReason.TheVariants.{Short, Version, FirstType, FirstPadding, Length, Padding, Body, Item, Reason, TooLong}
@@ -7,13 +7,12 @@ use Rattle.rtcp_wire.specs.declared.part_error.PartError.{PartError}
 use Rattle.rtcp_wire.specs.declared.part_error.PartError.TheVariants.{Fault, Memory}
 use Rattle.rtcp_wire.specs.declared.packet.Packet.{Packet}
 use Rattle.rtcp_wire.specs.Grammar.{is_padded, count_of, type_of, size_of, padding_of, body_of, IsPadding, IsBody, IsSpelling, MayBegin}
-use Rattle.rtcp_wire.specs.Faults.{Finds, IsFirstRow, MayStand}
+use Rattle.rtcp_wire.specs.Faults.{least_size, Finds, IsFirstRow, MayStand}
 use Rattle.rtcp_wire.specs.Parts.{Takes, IsWhole, IsUnpadded, IsBodyFault, IsPacketFault}
 use Rattle.rtcp_wire.specs.Views.{packet_of}
-use Rattle.rtcp_wire.proofs.Chunks.{not_both}
 use Rattle.rtcp_wire.proofs.Spellings.{own, is_own}
 use Rattle.rtcp_wire.proofs.Stops.{body_at, padding_at}
-use Rattle.rtcp_wire.proofs.Standing.{NoneBefore, none_at_first, next_row, IsSound, spelled_here}
+use Rattle.rtcp_wire.proofs.Standing.{NoneBefore, none_at_first, next_row, IsSound, spelled_here, body_row}
 
 -- ---- The header and the padding
 
@@ -65,43 +64,31 @@ is_sound is_first octets body kind count h =
 same_body : (is_first : Bool) (octets body : List ℕ) (kind count : ℕ) → HasBody is_first octets body kind count → body ≡ body_of octets
 same_body is_first octets body kind count h = h.unpadded.0 ∙ sym (is_own octets h.good.size).parts.body
 
--- a source description that ends inside a chunk does not end beside one
-none_before_item : (is_first : Bool) (octets : List ℕ) → NoneBefore 7 is_first octets → Finds Item is_first octets → NoneBefore 8 is_first octets
-none_before_item is_first octets none item =
-    next_row Body is_first octets none (λ found. elim found [ inl report ↦ omega (arith, item.0, report.0) | inr beside ↦ not_both (count_of octets) (body_of octets) beside.1 item.1 ])
-
 -- ---- Want of memory
 
-not_first : (octets : List ℕ) → MayBegin octets → type_of octets ≡ 202 → ⊥
-not_first octets begins kind = elim begins.0 [ inl sender ↦ omega (arith, kind, sender) | inr receiver ↦ omega (arith, kind, receiver) ]
+-- A datagram begins with a report.
+not_first : (octets : List ℕ) (kind : ℕ) → MayBegin octets → 201 < kind → type_of octets ≡ kind → ⊥
+not_first octets kind begins above is = elim begins.0 [ inl sender ↦ omega (arith, above, is, sender) | inr receiver ↦ omega (arith, above, is, receiver) ]
 
-has_room : (body its_body : List ℕ) (count its_count : ℕ) → count ≡ its_count → body ≡ its_body → 4 + 24 * count ≤ length body → length its_body < 4 + 24 * its_count → ⊥
-has_room body its_body count its_count same_count same room short = let sizes : length body ≡ length its_body = ap length same in omega arith
-
--- Where the datagram's first packet begins with room for its blocks, no row finds a fault.
-no_row : (is_first : Bool) (octets body : List ℕ) (kind count : ℕ) → HasBody is_first octets body kind count → (kind ≡ 201 → 4 + 24 * count ≤ length body) → is_first ≡ true
+-- Where the datagram's first packet has the octets that its type asks for, no row finds a fault.
+no_row : (is_first : Bool) (octets body : List ℕ) (kind count : ℕ) → HasBody is_first octets body kind count → least_size kind count ≤ length body → is_first ≡ true
     → (row : FaultReason) → Finds row is_first octets → ⊥
-no_row is_first octets body kind count h room first Body found =
-    elim found [
-      | inl report ↦ has_room body (body_of octets) count (count_of octets) h.count_is (same_body is_first octets body kind count h) (room (h.kind_is ∙ report.0)) report.1
-      | inr beside ↦ not_first octets (h.good.may_stand first) beside.0
-    ]
-no_row is_first octets body kind count h room first Item found = not_first octets (h.good.may_stand first) found.0
-no_row is_first octets body kind count h room first Reason found = found
+no_row is_first octets body kind count h room first Body (inl few) =
+    let here : least_size (type_of octets) (count_of octets) ≤ length (body_of octets) = rw (← h.kind_is, ← h.count_is, ← same_body is_first octets body kind count h) room in
+    omega (arith, here, few)
+no_row is_first octets body kind count h room first Body (inr beside) = not_first octets 202 (h.good.may_stand first) (omega arith) beside.0
+no_row is_first octets body kind count h room first Item found = not_first octets 202 (h.good.may_stand first) (omega arith) found.0
+no_row is_first octets body kind count h room first Reason found = not_first octets 203 (h.good.may_stand first) (omega arith) found.0
 no_row is_first octets body kind count h room first TooLong found = found
 no_row is_first octets body kind count h room first row found = (is_sound is_first octets body kind count h).none row (omega arith) found
 
 -- ---- What is read
 
 -- the fault of a body is the first one
-body_row : (is_first : Bool) (octets body : List ℕ) (kind count : ℕ) (error : PartError) → HasBody is_first octets body kind count → IsBodyFault error kind count body → IsPacketFault error is_first octets
-body_row is_first octets body kind count (Fault Body) h found =
-    record { found = rw (← h.kind_is, ← h.count_is, ← same_body is_first octets body kind count h) found; no_earlier = (is_sound is_first octets body kind count h).none }
-body_row is_first octets body kind count (Fault Item) h found =
-    let here : Finds Item is_first octets = rw (← h.kind_is, ← h.count_is, ← same_body is_first octets body kind count h) found in
-    record { found = here; no_earlier = none_before_item is_first octets (is_sound is_first octets body kind count h).none here }
-body_row is_first octets body kind count (Fault _) h found = absurd found
-body_row is_first octets body kind count Memory h room = no_row is_first octets body kind count h room
+body_fault : (is_first : Bool) (octets body : List ℕ) (kind count : ℕ) (error : PartError) → HasBody is_first octets body kind count → IsBodyFault error kind count body → IsPacketFault error is_first octets
+body_fault is_first octets body kind count (Fault reason) h found =
+    body_row reason is_first octets (is_sound is_first octets body kind count h) (rw (← h.kind_is, ← h.count_is, ← same_body is_first octets body kind count h) found)
+body_fault is_first octets body kind count Memory h room = no_row is_first octets body kind count h room
 
 -- what is read of a body is read of the packet
 pub packet_read : (is_first : Bool) (octets body : List ℕ) (kind count : ℕ) (read : Result Packet PartError) → HasBody is_first octets body kind count
@@ -111,4 +98,4 @@ packet_read is_first octets body kind count (Ok packet) h made =
     let here = spelled_here is_first octets (is_sound is_first octets body kind count h) (packet_of packet)
     (body_at (packet_of packet) kind (type_of octets) count (count_of octets) body (body_of octets) h.kind_is h.count_is (same_body is_first octets body kind count h) made) in
     (own octets, sym (take-append-drop (size_of octets) octets), here)
-packet_read is_first octets body kind count (Err error) h found = body_row is_first octets body kind count error h found
+packet_read is_first octets body kind count (Err error) h found = body_fault is_first octets body kind count error h found

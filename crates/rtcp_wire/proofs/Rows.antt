@@ -1,22 +1,22 @@
 -- Worked examples: what the definitions say of datagrams that are written out, octet by octet.
-use Rattle.std.proofs.Common.{◌≡◌, ℕ, ◌<◌, ◌≤◌, Bool, true, false, List, [], ◌∷◌, ◌++◌, length, drop, refl, arith, inl, inr}
+use Rattle.std.proofs.Common.{◌≡◌, ℕ, ◌<◌, ◌≤◌, Bool, true, false, List, [], ◌∷◌, ◌++◌, length, drop, None, refl, arith, inl, inr}
 use Rattle.rtcp_wire.specs.declared.fault.FaultReason.TheVariants.{Short, Version, FirstType, FirstPadding, Length, Padding, Body, Item}
-use Rattle.rtcp_wire.specs.Values.{ItemValue, ChunkValue, rr, sdes, other}
-use Rattle.rtcp_wire.specs.Grammar.{version_of, is_padded, type_of, IsSpelling, IsAccepted}
+use Rattle.rtcp_wire.specs.Values.{ItemValue, ChunkValue, rr, sdes, bye}
+use Rattle.rtcp_wire.specs.Grammar.{version_of, is_padded, type_of, size_of, IsSpelling, IsAccepted}
 use Rattle.rtcp_wire.specs.Faults.{EndsInsideChunk, IsFirstFault}
 use Rattle.rtcp_wire.proofs.Fronts.{cons_not_nil}
-use Rattle.rtcp_wire.proofs.Deciding.{no_chunk_fault}
+use Rattle.rtcp_wire.proofs.BodyFaults.{body_or_item}
 use Rattle.rtcp_wire.proofs.Standing.{NoneBefore, none_at_first, next_row}
 use Rattle.rtcp_wire.proofs.Walking.{IsReadTo, stops_at}
 
 -- A bit that is clear isn't set.
-differs : false ≡ true → ⊥
+pub differs : false ≡ true → ⊥
 differs e = absurd cc
 
 -- ---- Packets
 
 -- an empty receiver report of source 7
-abbrev report : List ℕ
+abbrev pub report : List ℕ
 report = 128 ∷ 201 ∷ 0 ∷ 1 ∷ 0 ∷ 0 ∷ 0 ∷ 7 ∷ []
 
 -- It spells itself.
@@ -25,7 +25,16 @@ report_spelled = record {
   version = refl;
   size = refl;
   padding = λ set. absurd (differs set);
-  body = (refl, record { id = 0 ∷ 0 ∷ 0 ∷ 7 ∷ []; reports = []; parts = refl; id_size = refl; sender = refl; counted = refl; each = refl });
+  body = (
+    refl,
+    record {
+      id = 0 ∷ 0 ∷ 0 ∷ 7 ∷ [];
+      rest = [];
+      parts = refl;
+      sender = (refl, refl);
+      ends = record { reports = []; parts = refl; counted = refl; each = refl };
+    },
+  );
 }
 
 -- a description of source 7 with one item, the name "a"
@@ -69,17 +78,27 @@ description_spelled = record {
   );
 }
 
--- a BYE of source 7 with four octets of padding
+-- a goodbye of source 7 with four octets of padding
 abbrev padded : List ℕ
 padded = 161 ∷ 203 ∷ 0 ∷ 2 ∷ 0 ∷ 0 ∷ 0 ∷ 7 ∷ 0 ∷ 0 ∷ 0 ∷ 4 ∷ []
 
 -- Its padding is no part of its body.
-pub padded_spelled : IsSpelling (other 203 1 (0 ∷ 0 ∷ 0 ∷ 7 ∷ [])) padded
+pub padded_spelled : IsSpelling (bye (7 ∷ []) None) padded
 padded_spelled = record {
   version = refl;
   size = refl;
   padding = λ set. (λ e. absurd (omega arith), refl, omega arith);
-  body = (λ e. absurd (omega arith), λ e. absurd (omega arith), refl, refl, refl);
+  body = (
+    refl,
+    record {
+      front = 0 ∷ 0 ∷ 0 ∷ 7 ∷ [];
+      rest = [];
+      parts = refl;
+      counted = refl;
+      each = (0 ∷ 0 ∷ 0 ∷ 7 ∷ [], [], refl, (refl, refl), refl);
+      ends = refl;
+    },
+  );
 }
 
 -- ---- Datagrams that are accepted
@@ -97,7 +116,7 @@ description_accepted = record {
 }
 
 -- 80c9000100000007 a1cb0002 00000007 00000004
-pub padded_accepted : IsAccepted (report ++ padded) (rr 7 [] [] ∷ other 203 1 (0 ∷ 0 ∷ 0 ∷ 7 ∷ []) ∷ [])
+pub padded_accepted : IsAccepted (report ++ padded) (rr 7 [] [] ∷ bye (7 ∷ []) None ∷ [])
 padded_accepted = record {
   short = omega arith;
   begins = (inr refl, refl);
@@ -105,6 +124,14 @@ padded_accepted = record {
 }
 
 -- ---- Datagrams that are refused
+
+-- A bit isn't both.
+pub not_both_bits : (p : Bool) → p ≡ true → p ≡ false → ⊥
+not_both_bits p set clear = cc
+
+-- The report is read.
+pub behind_report : (octets : List ℕ) → length (report ++ octets) ≤ 65535 → IsReadTo (report ++ octets) report octets
+behind_report octets short = record { short = short; parts = refl; before = inr (rr 7 [] [] ∷ [], report_accepted) }
 
 -- Nothing is read yet.
 from_start : (octets : List ℕ) → length octets ≤ 65535 → IsReadTo octets [] octets
@@ -131,9 +158,6 @@ before_padding octets enough version kind =
 -- Nor does that of the padding bit in one without padding.
 before_length : (octets : List ℕ) → 4 ≤ length octets → version_of octets ≡ 2 → type_of octets ≡ 201 → is_padded octets ≡ false → NoneBefore 5 true octets
 before_length octets enough version kind unpadded = next_row FirstPadding true octets (before_padding octets enough version kind) (λ wrong. not_both_bits (is_padded octets) wrong.1 unpadded)
-  where
-    not_both_bits : (p : Bool) → p ≡ true → p ≡ false → ⊥
-    not_both_bits p set clear = cc
 
 -- a0c90002 00000007 00000004
 abbrev padded_first : List ℕ
@@ -164,7 +188,7 @@ pub no_block_refused : IsFirstFault no_block (record { reason = Body; place = 0 
 no_block_refused =
     let none6 : NoneBefore 6 true no_block = next_row Length true no_block (before_length no_block (omega arith) refl refl refl) (λ (few : 8 < 8). omega arith) in
     let none7 : NoneBefore 7 true no_block = next_row Padding true no_block none6 (λ wrong. differs wrong.0) in
-    stops_at no_block [] no_block Body (from_start no_block (omega arith)) (inl (cons_not_nil 129 (drop 1 no_block))) (record { found = inl (refl, omega arith); no_earlier = none7 })
+    stops_at no_block [] no_block Body (from_start no_block (omega arith)) (inl (cons_not_nil 129 (drop 1 no_block))) (record { found = inl (omega arith); no_earlier = none7 })
 
 -- a description whose one item says five octets of text, and has two
 abbrev long_item : List ℕ
@@ -187,19 +211,22 @@ ends_inside = record {
   ends = (λ e. absurd (omega arith), omega arith);
 }
 
+-- No test before those of the body finds a fault in a later packet without padding.
+pub before_body : (octets : List ℕ) → 4 ≤ length octets → version_of octets ≡ 2 → is_padded octets ≡ false → size_of octets ≤ length octets → NoneBefore 7 false octets
+before_body octets enough version unpadded room =
+    let none2 : NoneBefore 2 false octets = next_row Short false octets (none_at_first false octets) (λ (few : length octets < 4). omega (arith, few, enough)) in
+    let none3 : NoneBefore 3 false octets = next_row Version false octets none2 (λ wrong. wrong version) in
+    let none4 : NoneBefore 4 false octets = next_row FirstType false octets none3 (λ wrong. differs wrong.0) in
+    let none5 : NoneBefore 5 false octets = next_row FirstPadding false octets none4 (λ wrong. differs wrong.0) in
+    let none6 : NoneBefore 6 false octets = next_row Length false octets none5 (λ (few : length octets < size_of octets). omega (arith, few, room)) in
+    next_row Padding false octets none6 (λ wrong. not_both_bits (is_padded octets) wrong.0 unpadded)
+
 -- No test before that of the items finds a fault.
 before_item : NoneBefore 8 false long_item
 before_item =
-    let none2 : NoneBefore 2 false long_item = next_row Short false long_item (none_at_first false long_item) (λ (few : 12 < 4). omega arith) in
-    let none3 : NoneBefore 3 false long_item = next_row Version false long_item none2 (λ wrong. wrong refl) in
-    let none4 : NoneBefore 4 false long_item = next_row FirstType false long_item none3 (λ wrong. differs wrong.0) in
-    let none5 : NoneBefore 5 false long_item = next_row FirstPadding false long_item none4 (λ wrong. differs wrong.0) in
-    let none6 : NoneBefore 6 false long_item = next_row Length false long_item none5 (λ (few : 12 < 12). omega arith) in
-    let none7 : NoneBefore 7 false long_item = next_row Padding false long_item none6 (λ wrong. differs wrong.0) in
-    next_row Body false long_item none7 (no_chunk_fault 202 1 (0 ∷ 0 ∷ 0 ∷ 7 ∷ 1 ∷ 5 ∷ 97 ∷ 0 ∷ []) refl ends_inside)
+    next_row Body false long_item (before_body long_item (omega arith) refl refl (omega arith))
+    (λ found. body_or_item 202 1 (0 ∷ 0 ∷ 0 ∷ 7 ∷ 1 ∷ 5 ∷ 97 ∷ 0 ∷ []) found (refl, ends_inside))
 
 -- 80c9000100000007 81ca0002 00000007 01056100
 pub long_item_refused : IsFirstFault (report ++ long_item) (record { reason = Item; place = 8 })
-long_item_refused =
-    stops_at (report ++ long_item) report long_item Item (record { short = omega arith; parts = refl; before = inr (rr 7 [] [] ∷ [], report_accepted) })
-    (inl (cons_not_nil 129 (drop 1 long_item))) (record { found = (refl, ends_inside); no_earlier = before_item })
+long_item_refused = stops_at (report ++ long_item) report long_item Item (behind_report long_item (omega arith)) (inl (cons_not_nil 129 (drop 1 long_item))) (record { found = (refl, ends_inside); no_earlier = before_item })

@@ -3,11 +3,11 @@ use Rattle.std.proofs.Common.{◌≡◌, ℕ, ◌+◌, ◌-◌, ◌*◌, ◌<◌
 use Rattle.std.proofs.lemmas.List.{get_or_append_left, take-append-le, drop-append-le, length-drop}
 use Rattle.std.proofs.lemmas.List.{take-append-drop, length-take-le}
 use Rattle.byteorder.specs.Endian.{big_number}
-use Rattle.rtcp_wire.specs.Values.{ReportBlock, RtcpPacket, rr, sdes, other}
-use Rattle.rtcp_wire.specs.Grammar.{version_of, is_padded, count_of, type_of, size_of, padding_of, body_of, IsBlock, IsReport, IsChunk, IsBody, IsSpelling, IsAccepted}
-use Rattle.rtcp_wire.proofs.Joining.{IsNeverEmpty, same_count, same_whole}
-use Rattle.rtcp_wire.proofs.Fronts.{same_fronts, cut_front}
-use Rattle.rtcp_wire.proofs.Chunks.{one_block, one_chunk, chunk_has_octets}
+use Rattle.rtcp_wire.specs.Values.{RtcpPacket}
+use Rattle.rtcp_wire.specs.Grammar.{version_of, is_padded, count_of, type_of, size_of, padding_of, body_of, IsBody, IsSpelling, IsAccepted}
+use Rattle.rtcp_wire.proofs.Joining.{IsNeverEmpty, same_whole}
+use Rattle.rtcp_wire.proofs.Fronts.{same_fronts}
+use Rattle.rtcp_wire.proofs.Bodies.{same_body}
 
 -- ---- The header's word
 
@@ -106,33 +106,6 @@ pub spelling_has_octets : IsNeverEmpty IsSpelling
 spelling_has_octets p h = absurd (omega (arith, spelling_length p [] h))
 
 -- ---- One packet for each spelling
-
--- Under a count a body says one report.
-same_report : (i j count : ℕ) (bs cs : List ReportBlock) (x y body : List ℕ) → IsReport i bs x count body → IsReport j cs y count body → rr i bs x ≡ rr j cs y
-same_report i j count bs cs x y body h k =
-    let sizes : length h.id ≡ length k.id = h.id_size ∙ sym k.id_size in
-    let ids = same_fronts h.id k.id (h.reports ++ x) (k.reports ++ y) sizes (sym h.parts ∙ k.parts) in
-    let blocks = same_count IsBlock one_block bs cs h.reports k.reports x y h.each k.each ids.1 (h.counted ∙ sym k.counted) in
-    let sender : i ≡ j = h.sender ∙ ap (big_number 4) ids.0 ∙ sym k.sender in
-    let same_blocks : bs ≡ cs = blocks.1 in
-    let extension : x ≡ y = cut_front h.reports k.reports x y blocks.0 ids.1 in
-    cc
-
--- Under a type and a count a body says one packet.
-pub same_body : (p q : RtcpPacket) (kind count : ℕ) (body : List ℕ) → IsBody p kind count body → IsBody q kind count body → p ≡ q
-same_body (rr i bs x) (rr j cs y) kind count body h k = same_report i j count bs cs x y body h.1 k.1
-same_body (rr i bs x) (sdes cs) kind count body h k = absurd (omega (arith, h.0, k.0))
-same_body (rr i bs x) (other l m b) kind count body h k = absurd (k.0 h.0)
-same_body (sdes bs) (rr j cs y) kind count body h k = absurd (omega (arith, h.0, k.0))
-same_body (sdes bs) (sdes cs) kind count body h k = ap sdes (same_whole IsChunk one_chunk chunk_has_octets bs cs body h.2 k.2)
-same_body (sdes bs) (other l m b) kind count body h k = absurd (k.1 h.0)
-same_body (other l m b) (rr j cs y) kind count body h k = absurd (h.0 k.0)
-same_body (other l m b) (sdes cs) kind count body h k = absurd (h.1 k.0)
-same_body (other l m b) (other n o c) kind count body h k =
-    let kinds : l ≡ n = h.2 ∙ sym k.2 in
-    let counts : m ≡ o = h.3 ∙ sym k.3 in
-    let bodies : b ≡ c = h.4 ∙ sym k.4 in
-    cc
 
 -- No spelling is a proper front of another, and a spelling says one packet.
 pub one_spelling : (p q : RtcpPacket) (s t x y : List ℕ) → IsSpelling p s → IsSpelling q t → s ++ x ≡ t ++ y → (s ≡ t) × (p ≡ q)

@@ -7,10 +7,11 @@ use Rattle.rtcp_wire.specs.declared.fault.FaultReason.{FaultReason}
 use Rattle.rtcp_wire.specs.declared.fault.FaultReason.TheVariants.{Short, Version, FirstType, FirstPadding, Length, Padding, Body, Item, Reason, TooLong}
 use Rattle.rtcp_wire.specs.Values.{RtcpPacket}
 use Rattle.rtcp_wire.specs.Grammar.{version_of, is_padded, count_of, type_of, size_of, padding_of, body_of, IsPadding, IsBody, IsSpelling}
-use Rattle.rtcp_wire.specs.Faults.{Finds, row_of, IsFirstRow, MayStand}
+use Rattle.rtcp_wire.specs.Faults.{FindsInBody, Finds, row_of, IsFirstRow, MayStand}
 use Rattle.rtcp_wire.proofs.Spellings.{own, is_own}
 use Rattle.rtcp_wire.proofs.Stops.{body_at, padding_at, begins_at, same_row}
-use Rattle.rtcp_wire.proofs.Deciding.{BodyEnd, body_from}
+use Rattle.rtcp_wire.proofs.BodyFaults.{body_or_item, body_or_reason, item_or_reason}
+use Rattle.rtcp_wire.proofs.DecidingBodies.{BodyEnd, body_from}
 
 -- ---- Rows
 
@@ -198,11 +199,19 @@ stands first b h p body =
     let here = spelled_here first b h p body in
     record { packet = p; spelling = own b; after = drop (size_of b) b; parts = sym (take-append-drop (size_of b) b); spelled = here.0; may = here.1 }
 
+-- The fault of a body is the first one.
+pub body_row : (r : FaultReason) (first : Bool) (b : List ℕ) → IsSound first b → FindsInBody r (type_of b) (count_of b) (body_of b) → IsFirstRow r first b
+body_row Body first b h found = record { found = found; no_earlier = h.none }
+body_row Item first b h found = record { found = found; no_earlier = next_row Body first b h.none (λ body. body_or_item (type_of b) (count_of b) (body_of b) body found) }
+body_row Reason first b h found =
+    let none8 : NoneBefore 8 first b = next_row Body first b h.none (λ body. body_or_reason (type_of b) (count_of b) (body_of b) body found) in
+    record { found = found; no_earlier = next_row Item first b none8 (λ item. item_or_reason (type_of b) (count_of b) (body_of b) item found) }
+body_row r first b h found = absurd found
+
 -- A body decides.
 of_body : (first : Bool) (b : List ℕ) → IsSound first b → BodyEnd (type_of b) (count_of b) (body_of b) → Stands first b ⊎ IsFaulty first b
 of_body first b h (inl read) = inl (stands first b h read.0 read.1)
-of_body first b h (inr (inl fault)) = inr (faulty Body first b h.none fault)
-of_body first b h (inr (inr fault)) = inr (faulty Item first b (next_row Body first b h.none fault.0) (fault.1, fault.2))
+of_body first b h (inr fault) = inr (fault.0, body_row fault.0 first b h fault.1)
 
 -- A packet stands, or a first row finds a fault.
 pub stands_or_not : (first : Bool) (b : List ℕ) → Stands first b ⊎ IsFaulty first b

@@ -1,35 +1,14 @@
 -- Where the test of a reason finds a fault, no packet's octets stand; and the first reason is one.
-use Rattle.std.proofs.Common.{◌≡◌, ℕ, ◌+◌, ◌*◌, ◌<◌, ◌≤◌, ◌⊎◌, ◌==◌, if◌then◌else◌, Bool, true, false, List, ◌++◌, length, refl, sym, ap, subst, ◌∙◌, arith, inl, inr}
+use Rattle.std.proofs.Common.{◌≡◌, ℕ, ◌+◌, ◌<◌, ◌⊎◌, ◌==◌, if◌then◌else◌, Bool, true, false, List, ◌++◌, length, refl, sym, ap, subst, ◌∙◌, arith, inl, inr}
 use Rattle.std.proofs.lemmas.Bool.{cases_order}
 use Rattle.std.proofs.lemmas.List.{length-append}
 use Rattle.rtcp_wire.specs.declared.fault.FaultReason.{FaultReason}
 use Rattle.rtcp_wire.specs.declared.fault.FaultReason.TheVariants.{Short, Version, FirstType, FirstPadding, Length, Padding, Body, Item, Reason, TooLong}
-use Rattle.rtcp_wire.specs.Values.{ReportBlock, RtcpPacket, rr, sdes, other}
-use Rattle.rtcp_wire.specs.Grammar.{is_padded, count_of, type_of, size_of, padding_of, body_of, IsPadding, IsReport, IsBody, IsSpelling, MayBegin}
-use Rattle.rtcp_wire.specs.Faults.{EndsBesideChunks, EndsInsideChunk, Finds, row_of, IsFirstRow, MayStand}
-use Rattle.rtcp_wire.proofs.Fronts.{length_parts}
-use Rattle.rtcp_wire.proofs.Chunks.{blocks_length, not_inside, not_beside}
+use Rattle.rtcp_wire.specs.Values.{RtcpPacket}
+use Rattle.rtcp_wire.specs.Grammar.{is_padded, count_of, type_of, size_of, padding_of, body_of, IsPadding, IsBody, IsSpelling, MayBegin}
+use Rattle.rtcp_wire.specs.Faults.{FindsInBody, Finds, row_of, IsFirstRow, MayStand}
+use Rattle.rtcp_wire.proofs.BodyFaults.{no_body_fault}
 use Rattle.rtcp_wire.proofs.Spellings.{SameHeader, spelling_length, spelling_parts}
-
--- ---- Bodies that have room
-
--- A report has room for what is counted.
-report_length : (ssrc count : ℕ) (bs : List ReportBlock) (x body : List ℕ) → IsReport ssrc bs x count body → 4 + 24 * count ≤ length body
-report_length ssrc count bs x body h =
-    omega (arith, length_parts body h.id (h.reports ++ x) h.parts, length-append h.reports x, h.id_size, blocks_length bs h.reports h.each, h.counted)
-
--- So no spelling of type 201 lacks it.
-not_short : (p : RtcpPacket) (kind count : ℕ) (body : List ℕ) → IsBody p kind count body → kind ≡ 201 → length body < 4 + 24 * count → ⊥
-not_short (rr ssrc bs x) kind count body h is_rr few = omega (arith, report_length ssrc count bs x body h.1)
-not_short (sdes chunks) kind count body h is_rr few = omega (arith, h.0)
-not_short (other l m b) kind count body h is_rr few = h.0 is_rr
-
--- Nor does one of type 202 end beside its chunks or inside one.
-whole_chunks : (p : RtcpPacket) (kind count : ℕ) (body : List ℕ) → IsBody p kind count body → kind ≡ 202 → EndsBesideChunks count body ⊎ EndsInsideChunk count body → ⊥
-whole_chunks (rr ssrc bs x) kind count body h is_sdes ends = omega (arith, h.0)
-whole_chunks (sdes chunks) kind count body h is_sdes ends =
-    elim ends [ inl e ↦ not_beside count body chunks h.1 h.2 e | inr e ↦ not_inside count body chunks h.1 h.2 e ]
-whole_chunks (other l m b) kind count body h is_sdes ends = h.1 is_sdes
 
 -- ---- No spelling at a fault
 
@@ -68,7 +47,11 @@ not_longer n m k l e same lt = omega arith
 both_bits : (p q : Bool) → p ≡ q → p ≡ true → q ≡ false → ⊥
 both_bits p q e set clear = cc
 
--- the same, at a spelling with what follows it
+-- At a spelling with what follows it no test of a body finds a fault,
+at_body : (r : FaultReason) (p : RtcpPacket) (s after : List ℕ) → IsSpelling p s → FindsInBody r (type_of (s ++ after)) (count_of (s ++ after)) (body_of (s ++ after)) → ⊥
+at_body r p s after h found = no_body_fault r p (type_of (s ++ after)) (count_of (s ++ after)) (body_of (s ++ after)) (spelling_body p s after h) found
+
+-- and no other test does.
 at_spelling : (r : FaultReason) (first : Bool) (p : RtcpPacket) (s after : List ℕ) → IsSpelling p s → MayStand first s → Finds r first (s ++ after) → ⊥
 at_spelling Short first p s after h may found = omega (arith, length-append s after, spelling_length p s h)
 at_spelling Version first p s after h may found = found ((spelling_parts p s after h).header.version ∙ h.version)
@@ -82,15 +65,9 @@ at_spelling Length first p s after h may found =
 at_spelling Padding first p s after h may found =
     let same = spelling_parts p s after h in
     found.1 (padding_at (size_of s) (size_of (s ++ after)) (padding_of s) (padding_of (s ++ after)) (sym same.header.size) (sym same.padding) (h.padding (sym same.header.padded ∙ found.0)))
-at_spelling Body first p s after h may found =
-    let body = spelling_body p s after h in
-    elim found [
-      | inl e ↦ not_short p (type_of (s ++ after)) (count_of (s ++ after)) (body_of (s ++ after)) body e.0 e.1
-      | inr e ↦ whole_chunks p (type_of (s ++ after)) (count_of (s ++ after)) (body_of (s ++ after)) body e.0 (inl e.1)
-    ]
-at_spelling Item first p s after h may found =
-    whole_chunks p (type_of (s ++ after)) (count_of (s ++ after)) (body_of (s ++ after)) (spelling_body p s after h) found.0 (inr found.1)
-at_spelling Reason first p s after h may found = found
+at_spelling Body first p s after h may found = at_body Body p s after h found
+at_spelling Item first p s after h may found = at_body Item p s after h found
+at_spelling Reason first p s after h may found = at_body Reason p s after h found
 at_spelling TooLong first p s after h may found = found
 
 -- Where a reason's test finds a fault, no spelling that may stand there is a front.

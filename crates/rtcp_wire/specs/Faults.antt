@@ -1,10 +1,15 @@
 -- Why a datagram is refused, and where: the first fault from its front (RFC 3550, appendix A.2, and this profile's own tests).
-use Rattle.std.specs.Prelude.{◌≡◌, ◌≢◌, ℕ, ◌+◌, ◌*◌, ◌<◌, ◌≤◌, ◌⊎◌, ◌==◌, Bool, true, List, [], ◌∷◌, ◌++◌, length}
+use Rattle.std.specs.Prelude.{◌≡◌, ◌≢◌, ℕ, ◌+◌, ◌*◌, ◌<◌, ◌≤◌, ◌⊎◌, ◌==◌, if◌then◌else◌, Bool, true, List, [], ◌∷◌, ◌++◌, length, drop}
 use Rattle.rtcp_wire.specs.declared.fault.FaultReason.{FaultReason}
 use Rattle.rtcp_wire.specs.declared.fault.FaultReason.TheVariants.{Short, Version, FirstType, FirstPadding, Length, Padding, Body, Item, Reason, TooLong}
 use Rattle.rtcp_wire.specs.declared.fault.WireFault.{WireFault}
 use Rattle.rtcp_wire.specs.Values.{ItemValue, ChunkValue, RtcpPacket}
 use Rattle.rtcp_wire.specs.Grammar.{Joins, version_of, is_padded, count_of, type_of, size_of, padding_of, body_of, IsPadding, IsItem, IsChunk, IsSpelling, MayBegin, IsAccepted}
+
+-- The fewest octets that a body of this type has: what the count says has room (6.4.1, 6.4.2, 6.6, 6.7). Chunks are of any length.
+abbrev pub least_size : ℕ → ℕ → ℕ
+least_size kind count =
+    if kind == 200 then 24 + 24 * count else if kind == 201 then 4 + 24 * count else if kind == 203 then 4 * count else if kind == 204 then 8 else 0
 
 -- Chunks were expected, and then no identifier could follow, or octets were left behind the last of them.
 pub record EndsBesideChunks (count : ℕ) (body : List ℕ) : Type 0 where
@@ -36,6 +41,18 @@ pub record EndsInsideChunk (count : ℕ) (body : List ℕ) : Type 0 where
   pub each_item : Joins IsItem items middle
   pub ends : IsCut cut
 
+-- Octets that are no reason: the text passes their end, or a word or more is left behind it.
+abbrev pub IsNoReason : List ℕ → Type 0
+IsNoReason [] = ⊥
+IsNoReason (size ∷ text) = (length text < size) ⊎ (size + 4 ≤ length text)
+
+-- The test of a reason at a packet's body, under its type and count.
+abbrev pub FindsInBody : FaultReason → ℕ → ℕ → List ℕ → Type 0
+FindsInBody Body kind count body = (length body < least_size kind count) ⊎ ((kind ≡ 202) × EndsBesideChunks count body)
+FindsInBody Item kind count body = (kind ≡ 202) × EndsInsideChunk count body
+FindsInBody Reason kind count body = (kind ≡ 203) × IsNoReason (drop (4 * count) body)
+FindsInBody _ kind count body = ⊥
+
 -- The test of a reason at the octets where a packet should begin; is_first where it is the datagram's first.
 abbrev pub Finds : FaultReason → Bool → List ℕ → Type 0
 Finds Short is_first octets = length octets < 4
@@ -44,12 +61,9 @@ Finds FirstType is_first octets = (is_first ≡ true) × (type_of octets ≢ 200
 Finds FirstPadding is_first octets = (is_first ≡ true) × (is_padded octets ≡ true)
 Finds Length is_first octets = length octets < size_of octets
 Finds Padding is_first octets = (is_padded octets ≡ true) × (IsPadding (size_of octets) (padding_of octets) → ⊥)
-Finds Body is_first octets =
-    ((type_of octets ≡ 201) × (length (body_of octets) < 4 + 24 * count_of octets))
-    ⊎ ((type_of octets ≡ 202) × EndsBesideChunks (count_of octets) (body_of octets))
-Finds Item is_first octets = (type_of octets ≡ 202) × EndsInsideChunk (count_of octets) (body_of octets)
--- Packets of type 203 are kept as they are so far, so no reason is looked at.
-Finds Reason is_first octets = ⊥
+Finds Body is_first octets = FindsInBody Body (type_of octets) (count_of octets) (body_of octets)
+Finds Item is_first octets = FindsInBody Item (type_of octets) (count_of octets) (body_of octets)
+Finds Reason is_first octets = FindsInBody Reason (type_of octets) (count_of octets) (body_of octets)
 -- This one is tested of the whole datagram.
 Finds TooLong is_first octets = ⊥
 

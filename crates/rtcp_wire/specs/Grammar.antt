@@ -1,8 +1,8 @@
 -- The octets that spell a packet, and the datagrams that are read: RFC 3550, 6.1, 6.4 to 6.7 and appendix A.2.
 -- Octets are a list of numbers, the first octet first. No definition here says how to read them.
-use Rattle.std.specs.Prelude.{◌≡◌, ◌≢◌, ℕ, ◌+◌, ◌-◌, ◌*◌, ◌/◌, ◌%◌, ◌<◌, ◌≤◌, ◌⊎◌, ◌==◌, Bool, true, false, if◌then◌else◌, List, [], ◌∷◌, ◌++◌, length, take, drop, slice_index}
+use Rattle.std.specs.Prelude.{◌≡◌, ◌≢◌, ℕ, ◌+◌, ◌-◌, ◌*◌, ◌/◌, ◌%◌, ◌<◌, ◌≤◌, ◌⊎◌, ◌==◌, Bool, true, false, if◌then◌else◌, List, [], ◌∷◌, ◌++◌, Option, Some, None, length, take, drop, slice_index}
 use Rattle.byteorder.specs.Endian.{big_number, twos_complement}
-use Rattle.rtcp_wire.specs.Values.{ReportBlock, ItemValue, ChunkValue, RtcpPacket, rr, sdes, other}
+use Rattle.rtcp_wire.specs.Values.{SenderValue, ReportBlock, ItemValue, ChunkValue, RtcpPacket, sr, rr, sdes, bye, app, other}
 
 -- The octets are spellings of these values, one after the other.
 abbrev pub Joins : {A : Type 0} → (A → List ℕ → Type 0) → List A → List ℕ → Type 0
@@ -56,15 +56,43 @@ block_in octets = record {
 abbrev pub IsBlock : ReportBlock → List ℕ → Type 0
 IsBlock block octets = (length octets ≡ 24) × (block ≡ block_in octets)
 
--- A receiver report (6.4.2): an identifier, as many blocks as the count says, and an extension.
-pub record IsReport (ssrc : ℕ) (blocks : List ReportBlock) (extension : List ℕ) (count : ℕ) (body : List ℕ) : Type 0 where
-  pub id : List ℕ
+-- What both reports end with (6.4.1, 6.4.2): as many blocks as the count says, and an extension.
+pub record IsReportEnd (blocks : List ReportBlock) (extension : List ℕ) (count : ℕ) (octets : List ℕ) : Type 0 where
   pub reports : List ℕ
-  pub parts : body ≡ id ++ (reports ++ extension)
-  pub id_size : length id ≡ 4
-  pub sender : ssrc ≡ big_number 4 id
+  pub parts : octets ≡ reports ++ extension
   pub counted : length blocks ≡ count
   pub each : Joins IsBlock blocks reports
+
+-- the sender that 24 octets say (6.4.1)
+abbrev pub sender_in : List ℕ → SenderValue
+sender_in octets = record {
+  ssrc = big_number 4 octets;
+  ntp = big_number 8 (drop 4 octets);
+  rtp = big_number 4 (drop 12 octets);
+  packets = big_number 4 (drop 16 octets);
+  octets = big_number 4 (drop 20 octets);
+}
+
+-- A sender report (6.4.1): its sender, and then blocks and an extension.
+pub record IsSenderReport (sender : SenderValue) (blocks : List ReportBlock) (extension : List ℕ) (count : ℕ) (body : List ℕ) : Type 0 where
+  pub front : List ℕ
+  pub rest : List ℕ
+  pub parts : body ≡ front ++ rest
+  pub front_size : length front ≡ 24
+  pub says : sender ≡ sender_in front
+  pub ends : IsReportEnd blocks extension count rest
+
+-- the identifier that four octets say
+abbrev pub IsId : ℕ → List ℕ → Type 0
+IsId id octets = (length octets ≡ 4) × (id ≡ big_number 4 octets)
+
+-- A receiver report (6.4.2): an identifier, and then blocks and an extension.
+pub record IsReport (ssrc : ℕ) (blocks : List ReportBlock) (extension : List ℕ) (count : ℕ) (body : List ℕ) : Type 0 where
+  pub id : List ℕ
+  pub rest : List ℕ
+  pub parts : body ≡ id ++ rest
+  pub sender : IsId ssrc id
+  pub ends : IsReportEnd blocks extension count rest
 
 -- An item (6.5): a type that is not 0, the length of the text, and the text.
 abbrev pub IsItem : ItemValue → List ℕ → Type 0
@@ -82,15 +110,50 @@ pub record IsChunk (chunk : ChunkValue) (octets : List ℕ) : Type 0 where
   pub fill : length free < 4
   pub aligned : length octets % 4 ≡ 0
 
+-- A reason (6.6): the length of its text, the text, and up to three free octets that fill the word.
+pub record IsReason (text octets : List ℕ) : Type 0 where
+  pub free : List ℕ
+  pub parts : octets ≡ length text ∷ (text ++ free)
+  pub fill : length free < 4
+  pub aligned : length octets % 4 ≡ 0
+
+-- what stands behind the identifiers of a goodbye (6.6): a reason, or nothing
+abbrev pub IsReasonPart : Option (List ℕ) → List ℕ → Type 0
+IsReasonPart None octets = octets ≡ []
+IsReasonPart (Some text) octets = IsReason text octets
+
+-- A goodbye (6.6): as many identifiers as the count says, and perhaps a reason.
+pub record IsGoodbye (ids : List ℕ) (reason : Option (List ℕ)) (count : ℕ) (body : List ℕ) : Type 0 where
+  pub front : List ℕ
+  pub rest : List ℕ
+  pub parts : body ≡ front ++ rest
+  pub counted : length ids ≡ count
+  pub each : Joins IsId ids front
+  pub ends : IsReasonPart reason rest
+
+-- An application's own packet (6.7): an identifier, a name of four octets, and what the application says.
+pub record IsApplication (ssrc : ℕ) (name content body : List ℕ) : Type 0 where
+  pub id : List ℕ
+  pub parts : body ≡ id ++ (name ++ content)
+  pub source : IsId ssrc id
+  pub name_size : length name ≡ 4
+
+-- a type whose body is not looked into
+abbrev pub IsOtherType : ℕ → Type 0
+IsOtherType kind = (kind < 200) ⊎ (204 < kind)
+
 -- a packet's body, under its type and count
 abbrev pub IsBody : RtcpPacket → ℕ → ℕ → List ℕ → Type 0
+IsBody (sr sender blocks extension) kind count body = (kind ≡ 200) × IsSenderReport sender blocks extension count body
 IsBody (rr ssrc blocks extension) kind count body = (kind ≡ 201) × IsReport ssrc blocks extension count body
 IsBody (sdes chunks) kind count body = (kind ≡ 202) × (length chunks ≡ count) × Joins IsChunk chunks body
-IsBody (other its_kind its_count its_body) kind count body = (kind ≢ 201) × (kind ≢ 202) × (its_kind ≡ kind) × (its_count ≡ count) × (its_body ≡ body)
+IsBody (bye ids reason) kind count body = (kind ≡ 203) × IsGoodbye ids reason count body
+IsBody (app subtype ssrc name content) kind count body = (kind ≡ 204) × (subtype ≡ count) × IsApplication ssrc name content body
+IsBody (other its_kind its_count its_body) kind count body = IsOtherType kind × (its_kind ≡ kind) × (its_count ≡ count) × (its_body ≡ body)
 
 -- ---- Packets and compounds
 
--- The octets are one spelling of the packet. Those of padding but the last, and those behind the zero of a chunk, are free.
+-- The octets are one spelling of the packet. Those of padding but the last, and those that fill a word behind a chunk's zero or a reason's text, are free.
 pub record IsSpelling (packet : RtcpPacket) (octets : List ℕ) : Type 0 where
   pub version : version_of octets ≡ 2
   pub size : length octets ≡ size_of octets

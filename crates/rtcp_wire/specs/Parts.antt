@@ -1,7 +1,7 @@
 -- What the readers of the parts of a packet answer, for the contracts between them.
-use Rattle.std.specs.Prelude.{◌≡◌, ℕ, ◌+◌, ◌*◌, ◌<◌, ◌≤◌, ◌⊎◌, Bool, true, List, ◌∷◌, ◌++◌, length, Option, Some, None}
+use Rattle.std.specs.Prelude.{◌≡◌, ℕ, ◌*◌, ◌<◌, ◌≤◌, Bool, true, List, ◌∷◌, ◌++◌, length, drop, Option, Some, None}
 use Rattle.rtcp_wire.specs.declared.fault.FaultReason.{FaultReason}
-use Rattle.rtcp_wire.specs.declared.fault.FaultReason.TheVariants.{Body, Item}
+use Rattle.rtcp_wire.specs.declared.fault.FaultReason.TheVariants.{Body, Item, Reason}
 use Rattle.rtcp_wire.specs.declared.fault.ReadError.{ReadError}
 use Rattle.rtcp_wire.specs.declared.fault.ReadError.TheVariants as errors
 use Rattle.rtcp_wire.specs.declared.part_error.PartError.{PartError}
@@ -9,7 +9,7 @@ use Rattle.rtcp_wire.specs.declared.part_error.PartError.TheVariants.{Fault, Mem
 use Rattle.rtcp_wire.specs.declared.sdes.SdesItem.{SdesItem}
 use Rattle.rtcp_wire.specs.Values.{ItemValue}
 use Rattle.rtcp_wire.specs.Grammar.{Joins, IsItem, version_of, is_padded, size_of, padding_of, body_of, IsPadding}
-use Rattle.rtcp_wire.specs.Faults.{IsCut, Finds, EndsBesideChunks, EndsInsideChunk, IsFirstRow, MayStand}
+use Rattle.rtcp_wire.specs.Faults.{least_size, IsCut, IsNoReason, FindsInBody, Finds, EndsBesideChunks, EndsInsideChunk, IsFirstRow, MayStand}
 use Rattle.rtcp_wire.specs.Views.{item_of}
 
 -- A part was taken from the front of the octets, and the rest is left.
@@ -21,12 +21,12 @@ abbrev pub Fails : PartError → FaultReason → Type 0 → Type 0
 Fails (Fault found) expected holds = (found ≡ expected) × holds
 Fails Memory expected holds = Unit {0}
 
--- ---- Reports
+-- ---- Reports and applications
 
--- A report has no room for its blocks; only one that has takes memory.
-abbrev pub IsShortReport : PartError → ℕ → List ℕ → Type 0
-IsShortReport (Fault found) count body = (found ≡ Body) × (length body < 4 + 24 * count)
-IsShortReport Memory count body = 4 + 24 * count ≤ length body
+-- A body has fewer octets than it must have; only one that has them takes memory.
+abbrev pub IsTooShort : PartError → ℕ → List ℕ → Type 0
+IsTooShort (Fault found) least body = (found ≡ Body) × (length body < least)
+IsTooShort Memory least body = least ≤ length body
 
 -- ---- Source descriptions
 
@@ -59,14 +59,21 @@ IsChunksFault (Fault Item) count body = EndsInsideChunk count body
 IsChunksFault (Fault _) count body = ⊥
 IsChunksFault Memory count body = Unit {0}
 
+-- ---- Goodbyes
+
+-- the fault of the identifiers or of the reason; a body with room for its identifiers, and nothing else, is known where memory is short
+abbrev pub IsGoodbyeFault : PartError → ℕ → List ℕ → Type 0
+IsGoodbyeFault (Fault Body) count body = length body < 4 * count
+IsGoodbyeFault (Fault Reason) count body = IsNoReason (drop (4 * count) body)
+IsGoodbyeFault (Fault _) count body = ⊥
+IsGoodbyeFault Memory count body = 4 * count ≤ length body
+
 -- ---- Packets
 
--- the fault of a body under its type and count; a report whose blocks have room, and nothing else, is known where memory is short
+-- the fault of a body under its type and count; that it is not too short, and nothing else, is known where memory is short
 abbrev pub IsBodyFault : PartError → ℕ → ℕ → List ℕ → Type 0
-IsBodyFault (Fault Body) kind count body = ((kind ≡ 201) × (length body < 4 + 24 * count)) ⊎ ((kind ≡ 202) × EndsBesideChunks count body)
-IsBodyFault (Fault Item) kind count body = (kind ≡ 202) × EndsInsideChunk count body
-IsBodyFault (Fault _) kind count body = ⊥
-IsBodyFault Memory kind count body = kind ≡ 201 → 4 + 24 * count ≤ length body
+IsBodyFault (Fault found) kind count body = FindsInBody found kind count body
+IsBodyFault Memory kind count body = least_size kind count ≤ length body
 
 -- The header is good where a packet should begin, and the packet is whole.
 pub record IsWhole (is_first : Bool) (octets : List ℕ) : Type 0 where

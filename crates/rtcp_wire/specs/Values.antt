@@ -1,5 +1,13 @@
 -- What the octets of RTCP packets say, in numbers and lists (RFC 3550, 6.4 to 6.7).
-use Rattle.std.specs.Prelude.{ℕ, ℤ, List}
+use Rattle.std.specs.Prelude.{ℕ, ℤ, List, Option}
+
+-- what a sender report says of its sender (6.4.1): a moment on two clocks, and what was sent up to then
+pub record SenderValue : Type 0 where
+  pub ssrc : ℕ
+  pub ntp : ℕ
+  pub rtp : ℕ
+  pub packets : ℕ
+  pub octets : ℕ
 
 -- a reception report block (6.4.1)
 pub record ReportBlock : Type 0 where
@@ -22,9 +30,15 @@ pub record ChunkValue : Type 0 where
   pub items : List ItemValue
 
 pub data RtcpPacket : Type 0 where
+  -- a sender report (6.4.1): its sender, its blocks, and the extension behind them
+  sr : (sender : SenderValue) (blocks : List ReportBlock) (extension : List ℕ) → RtcpPacket
   -- a receiver report (6.4.2): its sender, its blocks, and the extension behind them
   rr : (ssrc : ℕ) (blocks : List ReportBlock) (extension : List ℕ) → RtcpPacket
   -- a source description (6.5)
   sdes : (chunks : List ChunkValue) → RtcpPacket
+  -- a goodbye (6.6): the sources that leave, and the octets of the text that says why
+  bye : (ids : List ℕ) (reason : Option (List ℕ)) → RtcpPacket
+  -- an application's own packet (6.7): its subtype, its source, its name of four octets, and what the application says
+  app : (subtype ssrc : ℕ) (name content : List ℕ) → RtcpPacket
   -- a packet of another type, whose body is kept as it is
   other : (kind count : ℕ) (body : List ℕ) → RtcpPacket

@@ -28,7 +28,7 @@ pub enum FaultReason {
     /// The number of padding octets is 0, no multiple of four, or more than what follows the header.
     #[error("F6 Padding")]
     Padding,
-    /// The body has no room for what the header counts, or holds more than that.
+    /// The body has no room for what its type and the header's count ask for, or chunks that are counted end before it does.
     #[error("F7 Body")]
     Body,
     /// An SDES item or its chunk's zero octet passes the end of the body (RFC 3550, 6.5).

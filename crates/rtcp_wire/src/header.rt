@@ -16,13 +16,19 @@ pub(crate) const HEADER_SIZE: usize = 4;
 const VERSION: u8 = 2;
 
 /// A sender report (RFC 3550, 6.4.1).
-const SENDER_REPORT: u8 = 200;
+pub(crate) const SENDER_REPORT: u8 = 200;
 
 /// A receiver report (RFC 3550, 6.4.2).
 pub(crate) const RECEIVER_REPORT: u8 = 201;
 
 /// A source description (RFC 3550, 6.5).
 pub(crate) const SOURCE_DESCRIPTION: u8 = 202;
+
+/// A goodbye (RFC 3550, 6.6).
+pub(crate) const GOODBYE: u8 = 203;
+
+/// An application's own packet (RFC 3550, 6.7).
+pub(crate) const APPLICATION: u8 = 204;
 
 /// A packet's first word (RFC 3550, 6.4.1).
 ///

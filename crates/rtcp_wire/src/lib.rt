@@ -1,5 +1,6 @@
-//! RTCP packets (RFC 3550, sections 6.1 to 6.7), from octets to values: it is deterministic, reads no clock, opens no socket and
-//! draws no random number. It asks for memory for what the packets hold, through the allocator that it is given.
+//! RTCP packets (RFC 3550, sections 6.1 to 6.7) and RTP heads (5.1), from octets to values and from values to octets: it is
+//! deterministic, reads no clock, opens no socket and draws no random number. Only `read_owned` asks for memory, for what the
+//! packets hold, through the allocator that it is given.
 //!
 //! ```
 //! let datagram = [0x80, 0xc9, 0, 1, 0, 0, 0, 7, 0x81, 0xca, 0, 2, 0, 0, 0, 7, 1, 1, 0x61, 0];
@@ -10,10 +11,13 @@
 //! }
 //! ```
 //!
-//! What octets are is defined in `specs/` (`Grammar`, `Faults`); `laws` has what holds of these definitions.
+//! What octets are is defined in `specs/` (`Grammar`, `Faults`, `RtpHeads`, `Writing`); `laws`, `rtp_laws` and `write_laws` have what
+//! holds of these definitions.
 #![tactic(auto)]
 
+mod app;
 mod block;
+mod bye;
 mod compound;
 mod fault;
 mod header;
@@ -24,14 +28,18 @@ mod part_error;
 mod reader;
 mod rr;
 mod sdes;
+mod sr;
 
+pub use app::Application;
 pub use block::Block;
+pub use bye::Goodbye;
 pub use compound::{MAX_DATAGRAM, read_owned};
 pub use fault::{FaultReason, ReadError, WireFault};
 pub use other::OtherPacket;
 pub use packet::Packet;
 pub use rr::ReceiverReport;
 pub use sdes::{Chunk, SdesItem, SourceDescription};
+pub use sr::SenderReport;
 
 #[cfg(test)]
 mod tests;

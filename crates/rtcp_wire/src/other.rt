@@ -1,4 +1,4 @@
-//! Packets of types that are not looked into.
+//! Packets of types other than 200 to 204, which are not looked into.
 
 /// A packet of another type, kept as it is.
 #[derive(Debug, Drop)]

@@ -6,21 +6,32 @@ ghost use Rattle.rtcp_wire.specs.Faults.{MayStand};
 ghost use Rattle.rtcp_wire.specs.Parts.{Takes, IsBodyFault, IsPacketFault};
 ghost use Rattle.rtcp_wire.specs.Views.{packet_of};
 
-use crate::header::{RECEIVER_REPORT, SOURCE_DESCRIPTION, read_header, unpadded};
+use crate::app::{Application, read_application};
+use crate::bye::{Goodbye, read_goodbye};
+use crate::header::{
+    APPLICATION, GOODBYE, RECEIVER_REPORT, SENDER_REPORT, SOURCE_DESCRIPTION, read_header, unpadded,
+};
 use crate::other::OtherPacket;
 use crate::part_error::PartError;
 use crate::reader::Reader;
 use crate::rr::{ReceiverReport, read_report};
 use crate::sdes::{SourceDescription, read_description};
+use crate::sr::{SenderReport, read_sender_report};
 use std::alloc::Global;
 
 /// An RTCP packet, with memory of its own.
 #[derive(Debug, Drop)]
 pub enum Packet {
+    /// A sender report, type 200 (RFC 3550, 6.4.1).
+    Sr(SenderReport),
     /// A receiver report, type 201 (RFC 3550, 6.4.2).
     Rr(ReceiverReport),
     /// A source description, type 202 (RFC 3550, 6.5).
     Sdes(SourceDescription),
+    /// A goodbye, type 203 (RFC 3550, 6.6).
+    Bye(Goodbye),
+    /// An application's own packet, type 204 (RFC 3550, 6.7).
+    App(Application),
     /// A packet of any other type, kept as it is.
     Other(OtherPacket),
 }
@@ -33,6 +44,10 @@ fn read_body(alloc: Global, kind: u8, count: u8, body: &[u8]) -> Result<Packet, 
         (λ error. IsBodyFault error kind count body.now) }
 {
     match kind {
+        SENDER_REPORT => {
+            let report = read_sender_report(alloc, count, body)?;
+            Ok(Packet::Sr(report))
+        }
         RECEIVER_REPORT => {
             let report = read_report(alloc, count, body)?;
             Ok(Packet::Rr(report))
@@ -40,6 +55,14 @@ fn read_body(alloc: Global, kind: u8, count: u8, body: &[u8]) -> Result<Packet, 
         SOURCE_DESCRIPTION => {
             let description = read_description(alloc, count, body)?;
             Ok(Packet::Sdes(description))
+        }
+        GOODBYE => {
+            let goodbye = read_goodbye(alloc, count, body)?;
+            Ok(Packet::Bye(goodbye))
+        }
+        APPLICATION => {
+            let packet = read_application(alloc, count, body)?;
+            Ok(Packet::App(packet))
         }
         _ => {
             let body = Vec::from_slice(alloc, body)?;

@@ -95,4 +95,26 @@ impl<'a> Reader<'a> {
         self.take(4);
         number
     }
+
+    /// The next 64 bits as a number.
+    pub(crate) fn u64(&mut self) -> u64
+        requires { 8 ≤ length self.old }
+        ensures value { result ≡ big_number 8 self.old }
+        ensures rest { self.new ≡ drop 8 self.old }
+    {
+        let number = BigEndian::read_u64(self.rest);
+        self.take(8);
+        number
+    }
+
+    /// The next four octets.
+    pub(crate) fn word(&mut self) -> [u8; 4]
+        requires { 4 ≤ length self.old }
+        ensures taken { result ≡ take 4 self.old }
+        ensures rest { self.new ≡ drop 4 self.old }
+    {
+        let mut word = [0; 4];
+        word.copy_from_slice(self.take(4));
+        word
+    }
 }

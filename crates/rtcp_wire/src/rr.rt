@@ -1,8 +1,8 @@
 //! Receiver reports (RFC 3550, 6.4.2).
 
-ghost use Rattle.std.specs.Prelude.{◌≡◌, length, map, MatchResult};
+ghost use Rattle.std.specs.Prelude.{◌+◌, ◌*◌, map, MatchResult};
 ghost use Rattle.rtcp_wire.specs.Grammar.{IsReport};
-ghost use Rattle.rtcp_wire.specs.Parts.{IsShortReport};
+ghost use Rattle.rtcp_wire.specs.Parts.{IsTooShort};
 ghost use Rattle.rtcp_wire.specs.Views.{block_of};
 
 use crate::block::{BLOCK_SIZE, Block, read_blocks};
@@ -39,7 +39,7 @@ pub(crate) fn read_report(
 ) -> Result<ReceiverReport, PartError>
     ensures { MatchResult result
         (λ report. IsReport report.ssrc (map block_of report.blocks.items) report.extension.items count body.now)
-        (λ error. IsShortReport error count body.now) }
+        (λ error. IsTooShort error (4 + 24 * count) body.now) }
 {
     let mut reader = Reader::new(body);
     if reader.left() < 4 + BLOCK_SIZE * count as usize {

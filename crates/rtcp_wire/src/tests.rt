@@ -1,6 +1,10 @@
 use super::*;
 use std::test::*;
 
+mod body_faults;
+mod changes;
+mod types;
+
 /// A receiver report of source 7 with no blocks, and its CNAME, `a`.
 const NAMED: [u8; 20] = [
     0x80, 0xc9, 0, 1, 0, 0, 0, 7, 0x81, 0xca, 0, 2, 0, 0, 0, 7, 1, 1, 0x61, 0,
@@ -45,7 +49,7 @@ fn named_report(rt: HostRuntime) -> Result<(), Fail> {
                     }
                 }
             }
-            Packet::Other(_) => panic!(rt; "no other packet stands there"),
+            _ => panic!(rt; "no other packet stands there"),
         }
     }
     Ok(())

@@ -3,7 +3,7 @@
 ghost use Rattle.std.specs.Prelude.{◌≡◌, ◌++◌, OnOk};
 ghost use Rattle.std.specs.Fmt.{decimal, signed_decimal};
 ghost use Rattle.hex.specs.Hex.{encode_lower};
-ghost use Rattle.rtcp_run.specs.Text.{hex_word};
+ghost use Rattle.rtcp_run.specs.Text.{hex_word, hex_long};
 
 use std::alloc::AllocError;
 
@@ -57,5 +57,14 @@ pub(super) fn push_word(out: &mut Vec<u8>, word: u32) -> Result<(), AllocError>
 {
     let mut digits = [0u8; 8];
     hex::encode_to_slice(&word.to_be_bytes(), &mut digits).unwrap();
+    out.extend_from_slice(&digits)
+}
+
+/// Appends a number of 64 bits as sixteen hex digits.
+pub(super) fn push_long(out: &mut Vec<u8>, number: u64) -> Result<(), AllocError>
+    ensures { OnOk result (out.new.items ≡ out.old.items ++ hex_long number) }
+{
+    let mut digits = [0u8; 16];
+    hex::encode_to_slice(&number.to_be_bytes(), &mut digits).unwrap();
     out.extend_from_slice(&digits)
 }

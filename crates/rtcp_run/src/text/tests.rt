@@ -52,7 +52,7 @@ fn receiver_report(alloc: Global) -> Result<ReceiverReport, AllocError> {
 
 fn other_packet(alloc: Global) -> Result<OtherPacket, AllocError> {
     Ok(OtherPacket {
-        kind: 203,
+        kind: 205,
         count: 31,
         body: vec![in alloc; 0; 12]?,
     })
@@ -123,6 +123,76 @@ fn report_with_an_extension(rt: HostRuntime) -> Result<(), Fail> {
     Ok(())
 }
 
+/// A sender that hears one source, and one that hears none.
+#[test]
+fn sender_reports(rt: HostRuntime) -> Result<(), Fail> {
+    let hears_none = SenderReport {
+        ssrc: 9,
+        ntp: 0x0000_b705_2000_0000,
+        rtp: 10,
+        packets: 3,
+        octets: 480,
+        blocks: Vec::new(rt.alloc()),
+        extension: Vec::new(rt.alloc()),
+    };
+    let mut out = Vec::new(rt.alloc());
+    push_packet(&mut out, &Packet::Sr(hears_none))?;
+    assert_eq!(rt;
+        out.as_slice(),
+        b"SR(00000009,0000b70520000000,0000000a,3,480,[],0)".as_slice()
+    );
+    let hears_one = SenderReport {
+        ssrc: 0xdead_beef,
+        ntp: u64::MAX,
+        rtp: 0,
+        packets: u32::MAX,
+        octets: 0,
+        blocks: vec![in rt.alloc(); REPEATED]?,
+        extension: vec![in rt.alloc(); 0; 4]?,
+    };
+    let mut out = Vec::new(rt.alloc());
+    push_packet(&mut out, &Packet::Sr(hears_one))?;
+    let want: &[u8] =
+        b"SR(deadbeef,ffffffffffffffff,00000000,4294967295,0,[0000000a/25/-1/11/0/b7052000/00054000],4)";
+    assert_eq!(rt; out.as_slice(), want);
+    Ok(())
+}
+
+/// A goodbye with a reason, with an empty one, and with none.
+#[test]
+fn goodbyes(rt: HostRuntime) -> Result<(), Fail> {
+    let rows: [(&[u32], Option<&[u8]>, &str); 3] = [
+        (&[7], Some(b"ab"), "BYE([00000007],=6162)"),
+        (&[7, 8], Some(b""), "BYE([00000007;00000008],=)"),
+        (&[], None, "BYE([],-)"),
+    ];
+    for (ids, text, want) in rows {
+        let reason = match text {
+            Some(text) => Some(Vec::from_slice(rt.alloc(), text)?),
+            None => None,
+        };
+        let ids = Vec::from_slice(rt.alloc(), ids)?;
+        let mut out = Vec::new(rt.alloc());
+        push_packet(&mut out, &Packet::Bye(Goodbye { ids, reason }))?;
+        assert_eq!(rt; out.as_slice(), want.as_bytes());
+    }
+    Ok(())
+}
+
+#[test]
+fn application(rt: HostRuntime) -> Result<(), Fail> {
+    let packet = Application {
+        subtype: 5,
+        ssrc: 7,
+        name: *b"ABCD",
+        data: vec![in rt.alloc(); 1; 4]?,
+    };
+    let mut out = Vec::new(rt.alloc());
+    push_packet(&mut out, &Packet::App(packet))?;
+    assert_eq!(rt; out.as_slice(), b"APP(5,00000007,41424344,4)".as_slice());
+    Ok(())
+}
+
 #[test]
 fn description_with_an_empty_chunk(rt: HostRuntime) -> Result<(), Fail> {
     let mut out = Vec::new(rt.alloc());
@@ -138,7 +208,7 @@ fn description_with_an_empty_chunk(rt: HostRuntime) -> Result<(), Fail> {
 fn other_type(rt: HostRuntime) -> Result<(), Fail> {
     let mut out = Vec::new(rt.alloc());
     push_packet(&mut out, &Packet::Other(other_packet(rt.alloc())?))?;
-    assert_eq!(rt; out.as_slice(), b"OTHER(203,31,12)".as_slice());
+    assert_eq!(rt; out.as_slice(), b"OTHER(205,31,12)".as_slice());
     Ok(())
 }
 
@@ -158,7 +228,7 @@ fn accepted_lines(rt: HostRuntime) -> Result<(), Fail> {
     push_accepted(&mut out, &packets)?;
     push_accepted(&mut out, &[])?;
     let want: &[u8] =
-        b"ok RR(01234567,[],0) SDES([00000007{1=61,2=};00000008{}]) OTHER(203,31,12)\nok\n";
+        b"ok RR(01234567,[],0) SDES([00000007{1=61,2=};00000008{}]) OTHER(205,31,12)\nok\n";
     assert_eq!(rt; out.as_slice(), want);
     Ok(())
 }

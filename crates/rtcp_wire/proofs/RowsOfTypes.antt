@@ -1,0 +1,200 @@
+-- Worked examples: sender reports, goodbyes and applications' packets, octet by octet.
+use Rattle.std.proofs.Common.{◌≡◌, ℕ, ◌≤◌, List, [], ◌∷◌, ◌++◌, length, drop, false, Some, None, refl, arith, inl, inr}
+use Rattle.rtcp_wire.specs.declared.fault.FaultReason.{FaultReason}
+use Rattle.rtcp_wire.specs.declared.fault.FaultReason.TheVariants.{Body, Reason}
+use Rattle.rtcp_wire.specs.Values.{SenderValue, RtcpPacket, sr, rr, bye, app}
+use Rattle.rtcp_wire.specs.Grammar.{version_of, is_padded, count_of, type_of, size_of, body_of, IsSpelling, IsAccepted}
+use Rattle.rtcp_wire.specs.Faults.{FindsInBody, IsFirstRow, IsFirstFault}
+use Rattle.rtcp_wire.proofs.Joining.{Joins-one}
+use Rattle.rtcp_wire.proofs.Fronts.{cons_not_nil}
+use Rattle.rtcp_wire.proofs.Standing.{body_row}
+use Rattle.rtcp_wire.proofs.Walking.{stops_at}
+use Rattle.rtcp_wire.proofs.Rows.{differs, not_both_bits, report, report_spelled, behind_report, before_body}
+
+-- ---- Sender reports
+
+-- 80c80006 00000009 0000b705 20000000 0000000a 00000003 000001e0
+abbrev sending : List ℕ
+sending = 128 ∷ 200 ∷ 0 ∷ 6 ∷ 0 ∷ 0 ∷ 0 ∷ 9 ∷ 0 ∷ 0 ∷ 183 ∷ 5 ∷ 32 ∷ 0 ∷ 0 ∷ 0 ∷ 0 ∷ 0 ∷ 0 ∷ 10 ∷ 0 ∷ 0 ∷ 0 ∷ 3 ∷ 0 ∷ 0 ∷ 1 ∷ 224 ∷ []
+
+-- 0x0000b70520000000 is 46853 * 2 ^ 32 + 536870912.
+abbrev sender : SenderValue
+sender = record { ssrc = 9; ntp = 201232639590400; rtp = 10; packets = 3; octets = 480 }
+
+pub sending_spelled : IsSpelling (sr sender [] []) sending
+sending_spelled = record {
+  version = refl;
+  size = refl;
+  padding = λ set. absurd (differs set);
+  body = (
+    refl,
+    record {
+      front = drop 4 sending;
+      rest = [];
+      parts = refl;
+      front_size = refl;
+      says = refl;
+      ends = record { reports = []; parts = refl; counted = refl; each = refl };
+    },
+  );
+}
+
+-- It may be the first packet.
+pub sending_accepted : IsAccepted sending (sr sender [] [] ∷ [])
+sending_accepted = record { short = omega arith; begins = (inl refl, refl); joined = (sending, [], refl, sending_spelled, refl) }
+
+-- ---- Goodbyes
+
+-- 81cb0002 00000007 02616200
+abbrev leaving : List ℕ
+leaving = 129 ∷ 203 ∷ 0 ∷ 2 ∷ 0 ∷ 0 ∷ 0 ∷ 7 ∷ 2 ∷ 97 ∷ 98 ∷ 0 ∷ []
+
+-- The text ends before the word does.
+pub leaving_spelled : IsSpelling (bye (7 ∷ []) (Some (97 ∷ 98 ∷ []))) leaving
+leaving_spelled = record {
+  version = refl;
+  size = refl;
+  padding = λ set. absurd (differs set);
+  body = (
+    refl,
+    record {
+      front = 0 ∷ 0 ∷ 0 ∷ 7 ∷ [];
+      rest = 2 ∷ 97 ∷ 98 ∷ 0 ∷ [];
+      parts = refl;
+      counted = refl;
+      each = (0 ∷ 0 ∷ 0 ∷ 7 ∷ [], [], refl, (refl, refl), refl);
+      ends = record { free = 0 ∷ []; parts = refl; fill = omega arith; aligned = refl };
+    },
+  );
+}
+
+-- 81cb0002 00000007 00000000
+abbrev silent : List ℕ
+silent = 129 ∷ 203 ∷ 0 ∷ 2 ∷ 0 ∷ 0 ∷ 0 ∷ 7 ∷ 0 ∷ 0 ∷ 0 ∷ 0 ∷ []
+
+-- A word of zeros is a reason without text.
+pub silent_spelled : IsSpelling (bye (7 ∷ []) (Some [])) silent
+silent_spelled = record {
+  version = refl;
+  size = refl;
+  padding = λ set. absurd (differs set);
+  body = (
+    refl,
+    record {
+      front = 0 ∷ 0 ∷ 0 ∷ 7 ∷ [];
+      rest = 0 ∷ 0 ∷ 0 ∷ 0 ∷ [];
+      parts = refl;
+      counted = refl;
+      each = (0 ∷ 0 ∷ 0 ∷ 7 ∷ [], [], refl, (refl, refl), refl);
+      ends = record { free = 0 ∷ 0 ∷ 0 ∷ []; parts = refl; fill = omega arith; aligned = refl };
+    },
+  );
+}
+
+-- 80cb0000
+abbrev nobody : List ℕ
+nobody = 128 ∷ 203 ∷ 0 ∷ 0 ∷ []
+
+-- A goodbye may name no source.
+pub nobody_spelled : IsSpelling (bye [] None) nobody
+nobody_spelled = record {
+  version = refl;
+  size = refl;
+  padding = λ set. absurd (differs set);
+  body = (refl, record { front = []; rest = []; parts = refl; counted = refl; each = refl; ends = refl });
+}
+
+-- ---- Applications
+
+-- 85cc0003 00000007 41424344 01020304
+abbrev applied : List ℕ
+applied = 133 ∷ 204 ∷ 0 ∷ 3 ∷ 0 ∷ 0 ∷ 0 ∷ 7 ∷ 65 ∷ 66 ∷ 67 ∷ 68 ∷ 1 ∷ 2 ∷ 3 ∷ 4 ∷ []
+
+-- subtype 5 of the name "ABCD"
+pub applied_spelled : IsSpelling (app 5 7 (65 ∷ 66 ∷ 67 ∷ 68 ∷ []) (1 ∷ 2 ∷ 3 ∷ 4 ∷ [])) applied
+applied_spelled = record {
+  version = refl;
+  size = refl;
+  padding = λ set. absurd (differs set);
+  body = (refl, refl, record { id = 0 ∷ 0 ∷ 0 ∷ 7 ∷ []; parts = refl; source = (refl, refl); name_size = refl });
+}
+
+-- ---- Behind a report
+
+-- A packet behind 80c9000100000007 is accepted.
+pub behind_accepted : (p : RtcpPacket) (octets : List ℕ) → IsSpelling p octets → length (report ++ octets) ≤ 65535 → IsAccepted (report ++ octets) (rr 7 [] [] ∷ p ∷ [])
+behind_accepted p octets spelled short = record {
+  short = short;
+  begins = (inr refl, refl);
+  joined = (report, octets, refl, report_spelled, Joins-one IsSpelling p octets spelled);
+}
+
+pub leaving_accepted : IsAccepted (report ++ leaving) (rr 7 [] [] ∷ bye (7 ∷ []) (Some (97 ∷ 98 ∷ [])) ∷ [])
+leaving_accepted = behind_accepted (bye (7 ∷ []) (Some (97 ∷ 98 ∷ []))) leaving leaving_spelled (omega arith)
+
+pub silent_accepted : IsAccepted (report ++ silent) (rr 7 [] [] ∷ bye (7 ∷ []) (Some []) ∷ [])
+silent_accepted = behind_accepted (bye (7 ∷ []) (Some [])) silent silent_spelled (omega arith)
+
+pub nobody_accepted : IsAccepted (report ++ nobody) (rr 7 [] [] ∷ bye [] None ∷ [])
+nobody_accepted = behind_accepted (bye [] None) nobody nobody_spelled (omega arith)
+
+pub applied_accepted : IsAccepted (report ++ applied) (rr 7 [] [] ∷ app 5 7 (65 ∷ 66 ∷ 67 ∷ 68 ∷ []) (1 ∷ 2 ∷ 3 ∷ 4 ∷ []) ∷ [])
+applied_accepted = behind_accepted (app 5 7 (65 ∷ 66 ∷ 67 ∷ 68 ∷ []) (1 ∷ 2 ∷ 3 ∷ 4 ∷ [])) applied applied_spelled (omega arith)
+
+-- ---- Refused
+
+-- Where the test of a reason finds a fault in the body of a later packet, it is the first that does.
+first_row : (reason : FaultReason) (octets : List ℕ) → 4 ≤ length octets → version_of octets ≡ 2 → is_padded octets ≡ false → size_of octets ≤ length octets
+    → FindsInBody reason (type_of octets) (count_of octets) (body_of octets) → IsFirstRow reason false octets
+first_row reason octets enough version unpadded room found =
+    body_row reason false octets
+    (record {
+      enough = enough;
+      version = version;
+      kind = λ first. absurd (differs first);
+      unpadded = λ first. absurd (differs first);
+      room = room;
+      padding = λ set. absurd (not_both_bits (is_padded octets) set unpadded);
+      none = before_body octets enough version unpadded room;
+    })
+    found
+
+-- 81cb0002 00000007 05616263
+abbrev long_reason : List ℕ
+long_reason = 129 ∷ 203 ∷ 0 ∷ 2 ∷ 0 ∷ 0 ∷ 0 ∷ 7 ∷ 5 ∷ 97 ∷ 98 ∷ 99 ∷ []
+
+-- A text of five octets is no three.
+pub long_reason_refused : IsFirstFault (report ++ long_reason) (record { reason = Reason; place = 8 })
+long_reason_refused =
+    stops_at (report ++ long_reason) report long_reason Reason (behind_report long_reason (omega arith)) (inl (cons_not_nil 129 (drop 1 long_reason)))
+    (first_row Reason long_reason (omega arith) refl refl (omega arith) (refl, inl (omega arith)))
+
+-- 81cb0003 00000007 02616200 00000000
+abbrev word_more : List ℕ
+word_more = 129 ∷ 203 ∷ 0 ∷ 3 ∷ 0 ∷ 0 ∷ 0 ∷ 7 ∷ 2 ∷ 97 ∷ 98 ∷ 0 ∷ 0 ∷ 0 ∷ 0 ∷ 0 ∷ []
+
+-- Behind a reason no word is left.
+pub word_more_refused : IsFirstFault (report ++ word_more) (record { reason = Reason; place = 8 })
+word_more_refused =
+    stops_at (report ++ word_more) report word_more Reason (behind_report word_more (omega arith)) (inl (cons_not_nil 129 (drop 1 word_more)))
+    (first_row Reason word_more (omega arith) refl refl (omega arith) (refl, inr (omega arith)))
+
+-- 82cb0001 00000007
+abbrev one_id_short : List ℕ
+one_id_short = 130 ∷ 203 ∷ 0 ∷ 1 ∷ 0 ∷ 0 ∷ 0 ∷ 7 ∷ []
+
+-- A goodbye that counts two identifiers has them.
+pub one_id_short_refused : IsFirstFault (report ++ one_id_short) (record { reason = Body; place = 8 })
+one_id_short_refused =
+    stops_at (report ++ one_id_short) report one_id_short Body (behind_report one_id_short (omega arith)) (inl (cons_not_nil 130 (drop 1 one_id_short)))
+    (first_row Body one_id_short (omega arith) refl refl (omega arith) (inl (omega arith)))
+
+-- 80cc0001 00000007
+abbrev no_name : List ℕ
+no_name = 128 ∷ 204 ∷ 0 ∷ 1 ∷ 0 ∷ 0 ∷ 0 ∷ 7 ∷ []
+
+-- An application's packet has a name.
+pub no_name_refused : IsFirstFault (report ++ no_name) (record { reason = Body; place = 8 })
+no_name_refused =
+    stops_at (report ++ no_name) report no_name Body (behind_report no_name (omega arith)) (inl (cons_not_nil 128 (drop 1 no_name)))
+    (first_row Body no_name (omega arith) refl refl (omega arith) (inl (omega arith)))

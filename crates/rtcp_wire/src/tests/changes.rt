@@ -1,0 +1,60 @@
+//! Each change of one octet of a named report: the answers were worked out by hand.
+
+use super::*;
+
+/// How many of the 256 values of an octet give which answer: the fault, or none.
+fn counted(rt: &HostRuntime, place: usize, expected: Option<ReadError>) -> u32 {
+    let mut count: u32 = 0;
+    for value in 0..=255u8 {
+        let mut octets = NAMED;
+        if place < octets.len() {
+            octets[place] = value;
+        }
+        if read_owned(rt.alloc(), &octets).err() == expected && count < 256 {
+            count += 1;
+        }
+    }
+    count
+}
+
+/// The first word: version, padding bit and count; type; length.
+#[test]
+fn first_word(rt: HostRuntime) {
+    let rows = [
+        (0, fault(FaultReason::Version, 0), 192),
+        (0, fault(FaultReason::FirstPadding, 0), 32),
+        (0, fault(FaultReason::Body, 0), 31),
+        (0, None, 1),
+        (1, fault(FaultReason::FirstType, 0), 254),
+        (1, fault(FaultReason::Body, 0), 1),
+        (1, None, 1),
+        (2, fault(FaultReason::Length, 0), 255),
+        (2, None, 1),
+        (3, fault(FaultReason::Body, 0), 1),
+        (3, fault(FaultReason::Version, 12), 1),
+        (3, fault(FaultReason::Version, 16), 1),
+        (3, fault(FaultReason::Length, 0), 251),
+        (3, None, 2),
+    ];
+    for (place, expected, count) in rows {
+        assert_eq!(rt; counted(&rt, place, expected), count, "octet {place}");
+    }
+}
+
+/// Any SSRC is read, and so is any octet of the text.
+#[test]
+fn free_octets(rt: HostRuntime) {
+    for place in [4, 5, 6, 7, 12, 13, 14, 15, 18] {
+        assert_eq!(rt; counted(&rt, place, None), 256, "octet {place}");
+    }
+}
+
+/// The item's type and length, and the zero behind it: a type of 0 ends the items at once, and three octets are left for the fill.
+#[test]
+fn item(rt: HostRuntime) {
+    assert_eq!(rt; counted(&rt, 16, None), 256);
+    assert_eq!(rt; counted(&rt, 17, None), 1);
+    assert_eq!(rt; counted(&rt, 17, fault(FaultReason::Item, 8)), 255);
+    assert_eq!(rt; counted(&rt, 19, None), 1);
+    assert_eq!(rt; counted(&rt, 19, fault(FaultReason::Item, 8)), 255);
+}

@@ -1,0 +1,168 @@
+//! A packet of each type that is looked into, with all of its fields.
+
+use super::*;
+use std::alloc::Global;
+use std::process::Abort;
+
+/// The packets of a receiver report of source 7 with no blocks, and of `behind`.
+fn read_behind_report(alloc: Global, behind: &[u8]) -> Result<Vec<Packet>, ReadError> {
+    let mut datagram = Vec::from_slice(alloc, &[0x80, 0xc9, 0, 1, 0, 0, 0, 7])?;
+    datagram.extend_from_slice(behind)?;
+    read_owned(alloc, &datagram)
+}
+
+/// The reason of the goodbye behind the report, and its identifiers.
+fn read_goodbye(rt: &impl Abort, alloc: Global, goodbye: &[u8]) -> Result<Goodbye, ReadError> {
+    let mut packets = read_behind_report(alloc, goodbye)?;
+    assert_eq!(rt; packets.len(), 2);
+    match packets.pop() {
+        Some(Packet::Bye(goodbye)) => Ok(goodbye),
+        _ => panic!(rt; "it is a goodbye"),
+    }
+}
+
+/// A sender report that comes first, with no blocks.
+#[test]
+fn sender_report(rt: HostRuntime) -> Result<(), Fail> {
+    let octets = [
+        0x80, 0xc8, 0, 6, 0, 0, 0, 9, 0, 0, 0xb7, 5, 0x20, 0, 0, 0, 0, 0, 0, 10, 0, 0, 0, 3, 0, 0,
+        1, 0xe0,
+    ];
+    let mut packets = read_owned(rt.alloc(), &octets)?;
+    assert_eq!(rt; packets.len(), 1);
+    match packets.pop() {
+        Some(Packet::Sr(report)) => {
+            assert_eq!(rt; report.ssrc, 9);
+            assert_eq!(rt; report.ntp, 0x0000_b705_2000_0000);
+            assert_eq!(rt; report.rtp, 10);
+            assert_eq!(rt; report.packets, 3);
+            assert_eq!(rt; report.octets, 480);
+            assert_eq!(rt; report.blocks.len(), 0);
+            assert_eq!(rt; report.extension.len(), 0);
+        }
+        _ => panic!(rt; "it is a sender report"),
+    }
+    Ok(())
+}
+
+/// A sender report with one block and an extension of one word.
+#[test]
+fn sender_report_with_block(rt: HostRuntime) -> Result<(), Fail> {
+    let octets = [
+        0x81, 0xc8, 0, 13, 0xde, 0xad, 0xbe, 0xef, 1, 2, 3, 4, 5, 6, 7, 8, 9, 10, 11, 12, 0, 0, 0,
+        1, 0, 0, 0, 2, 0, 0, 0, 9, 25, 0, 0, 1, 0, 1, 0, 2, 0, 0, 0, 10, 0xb7, 5, 0x20, 0, 0, 5,
+        0x40, 0, 1, 2, 3, 4,
+    ];
+    let mut packets = read_owned(rt.alloc(), &octets)?;
+    match packets.pop() {
+        Some(Packet::Sr(report)) => {
+            assert_eq!(rt; report.ssrc, 0xdead_beef);
+            assert_eq!(rt; report.ntp, 0x0102_0304_0506_0708);
+            assert_eq!(rt; report.rtp, 0x090a_0b0c);
+            assert_eq!(rt; report.packets, 1);
+            assert_eq!(rt; report.octets, 2);
+            let block = Block {
+                ssrc: 9,
+                fraction: 25,
+                lost: 1,
+                highest: 65_538,
+                jitter: 10,
+                lsr: 0xb705_2000,
+                dlsr: 0x0005_4000,
+            };
+            assert_eq!(rt; report.blocks.as_slice(), [block].as_slice());
+            assert_eq!(rt; report.extension.as_slice(), [1, 2, 3, 4].as_slice());
+        }
+        _ => panic!(rt; "it is a sender report"),
+    }
+    Ok(())
+}
+
+/// Two sources leave, and say why.
+#[test]
+fn goodbye_with_reason(rt: HostRuntime) -> Result<(), Fail> {
+    let octets = [0x82, 0xcb, 0, 3, 0, 0, 0, 7, 0, 0, 1, 0, 2, 0x61, 0x62, 0];
+    let goodbye = read_goodbye(&rt, rt.alloc(), &octets)?;
+    assert_eq!(rt; goodbye.ids.as_slice(), [7, 256].as_slice());
+    let reason = goodbye.reason.ok_or("no reason")?;
+    assert_eq!(rt; reason.as_slice(), b"ab".as_slice());
+    Ok(())
+}
+
+/// A reason that ends with its word, and one with three octets behind it.
+#[test]
+fn filled_reasons(rt: HostRuntime) -> Result<(), Fail> {
+    let full = [0x80, 0xcb, 0, 1, 3, 0x61, 0x62, 0x63];
+    let reason = read_goodbye(&rt, rt.alloc(), &full)?
+        .reason
+        .ok_or("no reason")?;
+    assert_eq!(rt; reason.as_slice(), b"abc".as_slice());
+    let filled = [0x80, 0xcb, 0, 2, 4, 0x61, 0x62, 0x63, 0x64, 9, 9, 9];
+    let reason = read_goodbye(&rt, rt.alloc(), &filled)?
+        .reason
+        .ok_or("no reason")?;
+    assert_eq!(rt; reason.as_slice(), b"abcd".as_slice());
+    Ok(())
+}
+
+/// A word of zeros is a reason without text.
+#[test]
+fn goodbye_with_empty_reason(rt: HostRuntime) -> Result<(), Fail> {
+    let octets = [0x81, 0xcb, 0, 2, 0, 0, 0, 7, 0, 0, 0, 0];
+    let goodbye = read_goodbye(&rt, rt.alloc(), &octets)?;
+    assert_eq!(rt; goodbye.ids.as_slice(), [7].as_slice());
+    let reason = goodbye.reason.ok_or("no reason")?;
+    assert_eq!(rt; reason.len(), 0);
+    Ok(())
+}
+
+#[test]
+fn goodbye_without_reason(rt: HostRuntime) -> Result<(), Fail> {
+    let octets = [0xa1, 0xcb, 0, 2, 0, 0, 0, 7, 0, 0, 0, 4];
+    let goodbye = read_goodbye(&rt, rt.alloc(), &octets)?;
+    assert_eq!(rt; goodbye.ids.as_slice(), [7].as_slice());
+    assert!(rt; goodbye.reason.is_none());
+    Ok(())
+}
+
+#[test]
+fn goodbye_of_nobody(rt: HostRuntime) -> Result<(), Fail> {
+    let goodbye = read_goodbye(&rt, rt.alloc(), &[0x80, 0xcb, 0, 0])?;
+    assert_eq!(rt; goodbye.ids.len(), 0);
+    assert!(rt; goodbye.reason.is_none());
+    Ok(())
+}
+
+#[test]
+fn application(rt: HostRuntime) -> Result<(), Fail> {
+    let octets = [
+        0x85, 0xcc, 0, 3, 0, 0, 0, 7, 0x41, 0x42, 0x43, 0x44, 1, 2, 3, 4,
+    ];
+    let mut packets = read_behind_report(rt.alloc(), &octets)?;
+    assert_eq!(rt; packets.len(), 2);
+    match packets.pop() {
+        Some(Packet::App(packet)) => {
+            assert_eq!(rt; packet.subtype, 5);
+            assert_eq!(rt; packet.ssrc, 7);
+            assert_eq!(rt; packet.name.as_slice(), b"ABCD".as_slice());
+            assert_eq!(rt; packet.data.as_slice(), [1, 2, 3, 4].as_slice());
+        }
+        _ => panic!(rt; "it is an application's packet"),
+    }
+    Ok(())
+}
+
+/// A type behind those that are looked into is kept as it is.
+#[test]
+fn other_type(rt: HostRuntime) -> Result<(), Fail> {
+    let mut packets = read_behind_report(rt.alloc(), &[0x83, 0xcd, 0, 1, 1, 2, 3, 4])?;
+    match packets.pop() {
+        Some(Packet::Other(packet)) => {
+            assert_eq!(rt; packet.kind, 205);
+            assert_eq!(rt; packet.count, 3);
+            assert_eq!(rt; packet.body.as_slice(), [1, 2, 3, 4].as_slice());
+        }
+        _ => panic!(rt; "its type is not looked into"),
+    }
+    Ok(())
+}
