@@ -13,6 +13,11 @@ pub mod Standing
 pub mod Walking
 pub mod Rows
 pub mod RowsOfTypes
+pub mod RtpLists
+pub mod RtpHeading
+pub mod RtpFaults
+pub mod ReadingRtp
+pub mod RtpRows
 pub mod ReadingReports
 pub mod ReadingDescriptions
 pub mod ReadingGoodbyes

@@ -4,3 +4,4 @@ pub mod Faults
 pub mod Views
 pub mod Reading
 pub mod Parts
+pub mod RtpHeads

@@ -27,6 +27,8 @@ mod packet;
 mod part_error;
 mod reader;
 mod rr;
+mod rtp;
+pub mod rtp_laws;
 mod sdes;
 mod sr;
 
@@ -38,6 +40,7 @@ pub use fault::{FaultReason, ReadError, WireFault};
 pub use other::OtherPacket;
 pub use packet::Packet;
 pub use rr::ReceiverReport;
+pub use rtp::{Csrcs, RtpFault, RtpHead};
 pub use sdes::{Chunk, SdesItem, SourceDescription};
 pub use sr::SenderReport;
 

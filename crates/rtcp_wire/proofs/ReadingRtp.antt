@@ -1,0 +1,94 @@
+-- How far the reader of an RTP packet has come, and what it answers from there.
+use Rattle.std.proofs.Common.{◌≡◌, ℕ, ◌*◌, ◌<◌, ◌≤◌, ◌⊎◌, Bool, true, List, length, take, drop, sym, ap, subst, ◌∙◌, arith, inl, inr}
+use Rattle.std.proofs.lemmas.List.{drop-drop, length-drop, length-take-le}
+use Rattle.byteorder.specs.Endian.{big_number}
+use Rattle.rtcp_wire.specs.declared.rtp.fault.RtpFault.TheVariants.{Extension, Padding}
+use Rattle.rtcp_wire.specs.RtpHeads.{RtpValue, rtp_version_of, has_padding, has_extension, csrc_count_of, marker_of, payload_type_of, IsReserved, extension_size, IsRtpHead, lists_size, behind_csrcs, without_extension, behind_extension, csrcs_in, IsRtpFault, IsPadded, without_padding}
+use Rattle.rtcp_wire.proofs.RtpLists.{words_joined}
+use Rattle.rtcp_wire.proofs.RtpHeading.{values_equal, head_in, head_made}
+use Rattle.rtcp_wire.proofs.RtpFaults.{is_extension, is_padding, not_padded}
+
+-- The fixed part was taken, and there is room for the CSRC list.
+pub record HasRoom (octets reader : List ℕ) (csrcs_size : ℕ) : Type 0 where
+  pub room : lists_size octets ≤ length octets
+  pub size : csrcs_size ≡ 4 * csrc_count_of octets
+  pub rest : reader ≡ drop 12 octets
+
+pub has_room : (octets reader : List ℕ) (csrcs_size : ℕ) → 12 ≤ length octets → reader ≡ drop 12 octets → csrcs_size ≡ 4 * csrc_count_of octets → csrcs_size ≤ length reader → HasRoom octets reader csrcs_size
+has_room octets reader csrcs_size fixed rest size enough = record { room = omega (arith, ap length rest, length-drop 12 octets); size = size; rest = rest }
+
+-- what is left behind the CSRC list
+pub behind_list : (octets reader : List ℕ) (csrcs_size : ℕ) → HasRoom octets reader csrcs_size → drop csrcs_size reader ≡ behind_csrcs octets
+behind_list octets reader csrcs_size h =
+    ap (λ (t : List ℕ). drop csrcs_size t) h.rest ∙ drop-drop csrcs_size 12 octets ∙ ap (λ (n : ℕ). drop n octets) (omega (arith, h.size))
+
+-- the octets of the CSRC list
+pub list_taken : (octets reader : List ℕ) (csrcs_size : ℕ) → HasRoom octets reader csrcs_size → take csrcs_size reader ≡ take (4 * csrc_count_of octets) (drop 12 octets)
+list_taken octets reader csrcs_size h = ap (λ (n : ℕ). take n reader) h.size ∙ ap (λ (t : List ℕ). take (4 * csrc_count_of octets) t) h.rest
+
+-- Four bits count them, so they are at most 15.
+pub few_csrcs : (octets reader : List ℕ) (csrcs_size : ℕ) → HasRoom octets reader csrcs_size → length (csrcs_in (take csrcs_size reader)) ≤ 15
+few_csrcs octets reader csrcs_size h =
+    let count : ℕ = csrc_count_of octets in
+    let words : List ℕ = take (4 * count) (drop 12 octets) in
+    let size : length words ≡ 4 * count = length-take-le (4 * count) (drop 12 octets) (omega (arith, h.room, length-drop 12 octets)) in
+    omega (arith, ap (λ (t : List ℕ). length (csrcs_in t)) (list_taken octets reader csrcs_size h), (words_joined count words size).1)
+
+-- A type beside the reserved ones is free.
+pub free_type : (octets : List ℕ) (kind : ℕ) → kind ≡ payload_type_of octets → ((72 ≤ kind) × (76 < kind)) ⊎ (kind < 72) → IsReserved (payload_type_of octets) → ⊥
+free_type octets kind is (inl high) reserved = omega (arith, is, high.1, reserved.1)
+free_type octets kind is (inr low) reserved = omega (arith, is, low, reserved.0)
+
+-- The tests before the extension's were passed, and this is left, and may begin with one.
+pub record IsBeforeExtension (octets rest : List ℕ) (extended : Bool) : Type 0 where
+  pub room : lists_size octets ≤ length octets
+  pub version : rtp_version_of octets ≡ 2
+  pub not_reserved : IsReserved (payload_type_of octets) → ⊥
+  pub bit : extended ≡ has_extension octets
+  pub behind : rest ≡ behind_csrcs octets
+
+-- no room for the extension
+pub extension_exit : (octets rest : List ℕ) (extended : Bool) → IsBeforeExtension octets rest extended → extended ≡ true → length rest < extension_size rest → IsRtpFault octets Extension
+extension_exit octets rest extended h set few =
+    is_extension octets h.room h.version h.not_reserved (sym h.bit ∙ set, subst (λ (t : List ℕ). length t < extension_size t) h.behind few)
+
+-- The extension was passed too, and this is left.
+pub record IsBeforePadding (octets rest : List ℕ) (padded : Bool) : Type 0 where
+  pub room : lists_size octets ≤ length octets
+  pub version : rtp_version_of octets ≡ 2
+  pub not_reserved : IsReserved (payload_type_of octets) → ⊥
+  pub extension : has_extension octets ≡ true → extension_size (behind_csrcs octets) ≤ length (behind_csrcs octets)
+  pub bit : padded ≡ has_padding octets
+  pub behind : rest ≡ behind_extension octets
+
+pub extension_passed : (octets rest left : List ℕ) (extended padded : Bool) → IsBeforeExtension octets rest extended → padded ≡ has_padding octets → left ≡ without_extension extended rest → (extended ≡ true → extension_size rest ≤ length rest)
+    → IsBeforePadding octets left padded
+extension_passed octets rest left extended padded h bit is room = record {
+  room = h.room;
+  version = h.version;
+  not_reserved = h.not_reserved;
+  extension = λ set. subst (λ (t : List ℕ). extension_size t ≤ length t) h.behind (room (h.bit ∙ set));
+  bit = bit;
+  behind = is ∙ ap (λ (x : Bool). without_extension x rest) h.bit ∙ ap (λ (t : List ℕ). without_extension (has_extension octets) t) h.behind;
+}
+
+-- no padding that is counted right
+pub padding_exit : (octets rest : List ℕ) (padded : Bool) → IsBeforePadding octets rest padded → padded ≡ true → (IsPadded rest → ⊥) → IsRtpFault octets Padding
+padding_exit octets rest padded h set bad =
+    is_padding octets h.room h.version h.not_reserved h.extension
+    (sym h.bit ∙ set, not_padded (behind_extension octets) (subst (λ (t : List ℕ). IsPadded t → ⊥) h.behind bad))
+
+-- the packet, where its padding was passed
+pub head_read : (octets rest : List ℕ) (padded : Bool) (head : RtpValue) → IsBeforePadding octets rest padded → (padded ≡ true → IsPadded rest)
+    → head.payload_type ≡ payload_type_of octets → head.marker ≡ marker_of octets → head.sequence ≡ big_number 2 (drop 2 octets) → head.timestamp ≡ big_number 4 (drop 4 octets) → head.ssrc ≡ big_number 4 (drop 8 octets)
+    → head.csrcs ≡ csrcs_in (take (4 * csrc_count_of octets) (drop 12 octets)) → head.payload ≡ without_padding padded rest → IsRtpHead octets head
+head_read octets rest padded head h counted kind marker sequence timestamp ssrc sources is =
+    head_made octets head (record {
+      room = h.room;
+      version = h.version;
+      not_reserved = h.not_reserved;
+      extension = h.extension;
+      padding = λ set. subst IsPadded h.behind (counted (h.bit ∙ set));
+      says = values_equal head (head_in octets) kind marker sequence timestamp ssrc sources
+          (is ∙ ap (λ (x : Bool). without_padding x rest) h.bit ∙ ap (λ (t : List ℕ). without_padding (has_padding octets) t) h.behind);
+    })

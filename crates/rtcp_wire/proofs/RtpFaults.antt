@@ -1,0 +1,201 @@
+-- Octets are an RTP packet or have a first fault, and never both.
+use Rattle.std.proofs.Common.{◌≡◌, ◌≢◌, ℕ, suc, ◌<◌, ◌≤◌, ◌⊎◌, Bool, true, false, List, [], length, refl, sym, ap, subst, ◌∙◌, arith, inl, inr, Result, Err}
+use Rattle.std.proofs.lemmas.Bool.{cases_lt, cases_eq, cases_order}
+use Rattle.rtcp_wire.specs.declared.rtp.fault.RtpFault.{RtpFault}
+use Rattle.rtcp_wire.specs.declared.rtp.fault.RtpFault.TheVariants.{Short, Version, PayloadType, Extension, Padding}
+use Rattle.rtcp_wire.specs.RtpHeads.{RtpValue, rtp_version_of, has_padding, has_extension, payload_type_of, IsReserved, extension_size, IsRtpHead, lists_size, behind_csrcs, behind_extension, last_of, FindsRtp, rtp_row_of, IsRtpFault, IsPadded}
+use Rattle.rtcp_wire.proofs.RtpHeading.{head_in, IsSoundRtp, sound_head, head_made}
+
+-- ---- Packets
+
+-- Octets are at most one packet.
+pub one_head : (octets : List ℕ) (h k : RtpValue) → IsRtpHead octets h → IsRtpHead octets k → h ≡ k
+one_head octets h k is_h is_k = (sound_head octets h is_h).says ∙ sym (sound_head octets k is_k).says
+
+-- No test finds a fault in sound octets.
+sound_faultless : (octets : List ℕ) (head : RtpValue) → IsSoundRtp octets head → (fault : RtpFault) → FindsRtp fault octets → ⊥
+sound_faultless octets head h Short found = omega (arith, h.room, found)
+sound_faultless octets head h Version found = found h.version
+sound_faultless octets head h PayloadType found = h.not_reserved found
+sound_faultless octets head h Extension found = omega (arith, h.extension found.0, found.1)
+sound_faultless octets head h Padding found =
+    let good : IsPadded (behind_extension octets) = h.padding found.0 in
+    elim found.1 [
+      | inl none ↦ omega (arith, ap length none, good.0, good.1)
+      | inr (inl zero) ↦ good.0 zero
+      | inr (inr more) ↦ omega (arith, good.1, more)
+    ]
+
+-- A packet has no fault.
+pub never_both : (octets : List ℕ) (head : RtpValue) (fault : RtpFault) → IsRtpHead octets head → IsRtpFault octets fault → ⊥
+never_both octets head fault h f = sound_faultless octets head (sound_head octets head h) fault f.found
+
+-- ---- Rows
+
+-- One row is one fault.
+same_row : (f g : RtpFault) → rtp_row_of f ≡ rtp_row_of g → f ≡ g
+same_row Short Short e = refl
+same_row Version Version e = refl
+same_row PayloadType PayloadType e = refl
+same_row Extension Extension e = refl
+same_row Padding Padding e = refl
+same_row Short Version e = absurd (omega arith)
+same_row Short PayloadType e = absurd (omega arith)
+same_row Short Extension e = absurd (omega arith)
+same_row Short Padding e = absurd (omega arith)
+same_row Version Short e = absurd (omega arith)
+same_row Version PayloadType e = absurd (omega arith)
+same_row Version Extension e = absurd (omega arith)
+same_row Version Padding e = absurd (omega arith)
+same_row PayloadType Short e = absurd (omega arith)
+same_row PayloadType Version e = absurd (omega arith)
+same_row PayloadType Extension e = absurd (omega arith)
+same_row PayloadType Padding e = absurd (omega arith)
+same_row Extension Short e = absurd (omega arith)
+same_row Extension Version e = absurd (omega arith)
+same_row Extension PayloadType e = absurd (omega arith)
+same_row Extension Padding e = absurd (omega arith)
+same_row Padding Short e = absurd (omega arith)
+same_row Padding Version e = absurd (omega arith)
+same_row Padding PayloadType e = absurd (omega arith)
+same_row Padding Extension e = absurd (omega arith)
+
+-- Octets have at most one first fault.
+pub one_fault : (octets : List ℕ) (f g : RtpFault) → IsRtpFault octets f → IsRtpFault octets g → f ≡ g
+one_fault octets f g is_f is_g =
+    elim (cases_order (rtp_row_of f) (rtp_row_of g)) [
+      | inl same ↦ same_row f g same
+      | inr (inl lower) ↦ absurd (is_g.no_earlier f lower is_f.found)
+      | inr (inr higher) ↦ absurd (is_f.no_earlier g higher is_g.found)
+    ]
+
+-- The fault that is answered is the first one.
+pub same_fault : (octets : List ℕ) (f g : RtpFault) → IsRtpFault octets f → ◌≡◌ {A = Result RtpValue RtpFault} (Err f) (Err g) → IsRtpFault octets g
+same_fault octets f g is_f e = let same : f ≡ g = cc in subst (IsRtpFault octets) same is_f
+
+-- No test of an earlier row finds a fault.
+abbrev pub NoneBefore : ℕ → List ℕ → Type 0
+NoneBefore n octets = (earlier : RtpFault) → rtp_row_of earlier < n → FindsRtp earlier octets → ⊥
+
+-- Rows count from 1.
+row_is_some : (f : RtpFault) → 0 < rtp_row_of f
+row_is_some Short = omega arith
+row_is_some Version = omega arith
+row_is_some PayloadType = omega arith
+row_is_some Extension = omega arith
+row_is_some Padding = omega arith
+
+-- No test comes before the first.
+none_at_first : (octets : List ℕ) → NoneBefore 1 octets
+none_at_first octets earlier below found = omega (arith, row_is_some earlier)
+
+-- one row further, where its test finds nothing
+next_row : (f : RtpFault) (octets : List ℕ) → NoneBefore (rtp_row_of f) octets → (FindsRtp f octets → ⊥) → NoneBefore (suc (rtp_row_of f)) octets
+next_row f octets none not_here earlier below found =
+    elim (cases_order (rtp_row_of earlier) (rtp_row_of f)) [
+      | inl same ↦ not_here (subst (λ (g : RtpFault). FindsRtp g octets) (same_row earlier f same) found)
+      | inr (inl lower) ↦ none earlier lower found
+      | inr (inr higher) ↦ absurd (omega arith)
+    ]
+
+-- ---- Each first fault
+
+pub is_short : (octets : List ℕ) → length octets < lists_size octets → IsRtpFault octets Short
+is_short octets few = record { found = few; no_earlier = none_at_first octets }
+
+-- Before the version the size is tested,
+before_version : (octets : List ℕ) → lists_size octets ≤ length octets → NoneBefore 2 octets
+before_version octets room = next_row Short octets (none_at_first octets) (λ (few : length octets < lists_size octets). omega (arith, room, few))
+
+pub is_version : (octets : List ℕ) → lists_size octets ≤ length octets → rtp_version_of octets ≢ 2 → IsRtpFault octets Version
+is_version octets room wrong = record { found = wrong; no_earlier = before_version octets room }
+
+-- before the payload type the version,
+before_type : (octets : List ℕ) → lists_size octets ≤ length octets → rtp_version_of octets ≡ 2 → NoneBefore 3 octets
+before_type octets room version = next_row Version octets (before_version octets room) (λ wrong. wrong version)
+
+pub is_payload_type : (octets : List ℕ) → lists_size octets ≤ length octets → rtp_version_of octets ≡ 2 → IsReserved (payload_type_of octets) → IsRtpFault octets PayloadType
+is_payload_type octets room version reserved = record { found = reserved; no_earlier = before_type octets room version }
+
+-- before the extension the payload type,
+before_extension : (octets : List ℕ) → lists_size octets ≤ length octets → rtp_version_of octets ≡ 2 → (IsReserved (payload_type_of octets) → ⊥) → NoneBefore 4 octets
+before_extension octets room version free = next_row PayloadType octets (before_type octets room version) free
+
+pub is_extension : (octets : List ℕ) → lists_size octets ≤ length octets → rtp_version_of octets ≡ 2 → (IsReserved (payload_type_of octets) → ⊥) → FindsRtp Extension octets → IsRtpFault octets Extension
+is_extension octets room version free found = record { found = found; no_earlier = before_extension octets room version free }
+
+-- and before the padding the extension.
+pub is_padding : (octets : List ℕ) → lists_size octets ≤ length octets → rtp_version_of octets ≡ 2 → (IsReserved (payload_type_of octets) → ⊥)
+    → (has_extension octets ≡ true → extension_size (behind_csrcs octets) ≤ length (behind_csrcs octets)) → FindsRtp Padding octets → IsRtpFault octets Padding
+is_padding octets room version free extended found = record {
+  found = found;
+  no_earlier = next_row Extension octets (before_extension octets room version free) (λ wrong. omega (arith, extended wrong.0, wrong.1));
+}
+
+-- ---- Always one
+
+-- whether a payload type is free
+reserved_or_not : (n : ℕ) → IsReserved n ⊎ (IsReserved n → ⊥)
+reserved_or_not n =
+    elim (cases_lt n 72) [
+      | inl low ↦ inr (λ r. omega (arith, r.0))
+      | inr least ↦ elim (cases_lt 76 n) [ inl high ↦ inr (λ r. omega (arith, r.1)) | inr most ↦ inl (least, most) ]
+    ]
+
+-- whether there is room for an extension
+extension_or_not : (extended : Bool) (n size : ℕ) → ((extended ≡ true) × (n < size)) ⊎ (extended ≡ true → size ≤ n)
+extension_or_not false n size = inr (λ e. absurd cc)
+extension_or_not true n size = elim (cases_lt n size) [ inl few ↦ inl (refl, few) | inr room ↦ inr (λ e. room) ]
+
+-- why octets end with no padding
+pub not_padded : (octets : List ℕ) → (IsPadded octets → ⊥) → (octets ≡ []) ⊎ (last_of octets ≡ 0) ⊎ (length octets < last_of octets)
+not_padded octets bad =
+    elim (cases_eq (last_of octets) 0) [
+      | inl zero ↦ inr (inl zero)
+      | inr some ↦ elim (cases_lt (length octets) (last_of octets)) [ inl more ↦ inr (inr more) | inr fits ↦ absurd (bad (some, fits)) ]
+    ]
+
+-- whether octets end with padding
+padding_or_not : (octets : List ℕ) → IsPadded octets ⊎ (IsPadded octets → ⊥)
+padding_or_not octets =
+    elim (cases_eq (last_of octets) 0) [
+      | inl zero ↦ inr (λ good. good.0 zero)
+      | inr some ↦ elim (cases_lt (length octets) (last_of octets)) [ inl more ↦ inr (λ good. omega (arith, good.1, more)) | inr fits ↦ inl (some, fits) ]
+    ]
+
+-- whether there is no padding, or one that is counted right
+padding_is_good : (padded : Bool) (octets : List ℕ) → ((padded ≡ true) × (IsPadded octets → ⊥)) ⊎ (padded ≡ true → IsPadded octets)
+padding_is_good false octets = inr (λ e. absurd cc)
+padding_is_good true octets = elim (padding_or_not octets) [ inl good ↦ inr (λ e. good) | inr bad ↦ inl (refl, bad) ]
+
+-- The octets are a packet or have a first fault.
+abbrev IsDecided : List ℕ → Type 0
+IsDecided octets = ((head : RtpValue) × IsRtpHead octets head) ⊎ ((fault : RtpFault) × IsRtpFault octets fault)
+
+-- the tests of the extension and the padding
+from_extension : (octets : List ℕ) → lists_size octets ≤ length octets → rtp_version_of octets ≡ 2 → (IsReserved (payload_type_of octets) → ⊥) → IsDecided octets
+from_extension octets room version free =
+    elim (extension_or_not (has_extension octets) (length (behind_csrcs octets)) (extension_size (behind_csrcs octets))) [
+      | inl few ↦ inr (Extension, is_extension octets room version free few)
+      | inr extended ↦ elim (padding_is_good (has_padding octets) (behind_extension octets)) [
+        | inl bad ↦ inr (Padding, is_padding octets room version free extended (bad.0, not_padded (behind_extension octets) bad.1))
+        | inr padded ↦ inl (
+          head_in octets,
+          head_made octets (head_in octets) (record { room = room; version = version; not_reserved = free; extension = extended; padding = padded; says = refl }),
+        )
+      ]
+    ]
+
+-- Each list of octets is a packet or has a first fault.
+pub always_one : (octets : List ℕ) → ((head : RtpValue) × IsRtpHead octets head) ⊎ ((fault : RtpFault) × IsRtpFault octets fault)
+always_one octets =
+    elim (cases_lt (length octets) (lists_size octets)) [
+      | inl few ↦ inr (Short, is_short octets few)
+      | inr room ↦ elim (cases_eq (rtp_version_of octets) 2) [
+        | inr wrong ↦ inr (Version, is_version octets room wrong)
+        | inl version ↦ elim (reserved_or_not (payload_type_of octets)) [
+          | inl reserved ↦ inr (PayloadType, is_payload_type octets room version reserved)
+          | inr free ↦ from_extension octets room version free
+        ]
+      ]
+    ]

@@ -1,0 +1,14 @@
+//! RTP packets (RFC 3550, 5.1 and 5.3.1): what their header says, and where their payload stands. Nothing is copied, and no
+//! memory is asked for.
+
+mod csrcs;
+mod fault;
+mod fixed;
+mod head;
+
+pub use csrcs::Csrcs;
+pub use fault::RtpFault;
+pub use head::RtpHead;
+
+#[cfg(test)]
+mod tests;
