@@ -23,3 +23,5 @@ pub mod ReadingDescriptions
 pub mod ReadingGoodbyes
 pub mod ReadingPackets
 pub mod ReadingCompounds
+pub mod FactLists
+pub mod FactRows

@@ -5,3 +5,5 @@ pub mod Views
 pub mod Reading
 pub mod Parts
 pub mod RtpHeads
+pub mod Facts
+pub mod Pending

@@ -3,6 +3,7 @@ use std::test::*;
 
 mod body_faults;
 mod changes;
+mod facts;
 mod types;
 
 /// A receiver report of source 7 with no blocks, and its CNAME, `a`.

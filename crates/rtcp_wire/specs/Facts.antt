@@ -1,0 +1,27 @@
+-- What the packets of a compound say of sources (RFC 3550, 6.4 to 6.7). The blocks inside reports say nothing here.
+use Rattle.std.specs.Prelude.{◌==◌, Bool, List, [], ◌∷◌, map, flat_map, if◌then◌else◌}
+use Rattle.std.specs.List.{list_any}
+use Rattle.rtcp_wire.specs.declared.fact.Fact.{Fact}
+use Rattle.rtcp_wire.specs.declared.fact.Fact.TheVariants.{Heard, Told, Named, Gone}
+use Rattle.rtcp_wire.specs.Values.{ItemValue, ChunkValue, RtcpPacket, sr, rr, sdes, bye, app, other}
+
+-- a CNAME, an item of type 1 (6.5.1), however long its text
+abbrev pub is_cname : ItemValue → Bool
+is_cname item = item.kind == 1
+
+-- A chunk's source was heard, and gave its name if any of the chunk's items is a CNAME: one fact, however many there are.
+abbrev pub facts_of_chunk : ChunkValue → List Fact
+facts_of_chunk chunk = Heard chunk.id ∷ (if list_any is_cname chunk.items then Named chunk.id ∷ [] else [])
+
+-- what one packet says
+abbrev pub facts_of_packet : RtcpPacket → List Fact
+facts_of_packet (sr sender blocks extension) = Heard sender.ssrc ∷ Told sender.ssrc sender.ntp ∷ []
+facts_of_packet (rr ssrc blocks extension) = Heard ssrc ∷ []
+facts_of_packet (sdes chunks) = flat_map facts_of_chunk chunks
+facts_of_packet (bye ids reason) = map Gone ids
+facts_of_packet (app subtype ssrc name content) = Heard ssrc ∷ []
+facts_of_packet (other kind count body) = []
+
+-- what a compound says, packet after packet
+abbrev pub facts_of : List RtcpPacket → List Fact
+facts_of packets = flat_map facts_of_packet packets

@@ -1,0 +1,95 @@
+ghost use Rattle.std.specs.Prelude.{◌≡◌, ◌<◌, ◌^◌, length, IfOk};
+ghost use Rattle.rtcp_wire.specs.Views.{packets_of};
+ghost use Rattle.rtcp_wire.specs.Facts.{facts_of};
+
+use super::*;
+use std::alloc::{AllocError, Global};
+
+/// A sender report of source 9 with a block about source 13; a source description of 9, with two CNAMEs, and of 7, with
+/// a NAME alone; a goodbye of both; an application's packet of source 11; and a packet of type 205.
+const CALL: [u8; 108] = [
+    0x81, 0xc8, 0, 12, 0, 0, 0, 9, 0, 0, 0, 1, 0, 0, 0, 5, 0, 0, 0, 2, 0, 0, 0, 3, 0, 0, 0, 4, 0,
+    0, 0, 13, 0, 0, 0, 0, 0, 0, 0, 0, 0, 0, 0, 0, 0, 0, 0, 0, 0, 0, 0, 0, 0x82, 0xca, 0, 5, 0, 0,
+    0, 9, 1, 1, 0x61, 1, 0, 0, 0, 0, 0, 0, 0, 7, 2, 1, 0x62, 0, 0x82, 0xcb, 0, 2, 0, 0, 0, 9, 0, 0,
+    0, 7, 0x80, 0xcc, 0, 2, 0, 0, 0, 11, 0x61, 0x62, 0x63, 0x64, 0x80, 0xcd, 0, 1, 0, 0, 0, 15,
+];
+
+/// The facts that these packets give, collected.
+fn collected(alloc: Global, packets: &[Packet]) -> Result<Vec<Fact>, AllocError>
+    ensures { IfOk result (λ found. found.items ≡ facts_of (packets_of packets.now)) }
+{
+    crate::facts(packets).collect(alloc)
+}
+
+/// The facts that these packets give, one after the other.
+fn visited(alloc: Global, packets: &[Packet]) -> Result<Vec<Fact>, AllocError>
+    ensures { IfOk result (λ found. found.items ≡ facts_of (packets_of packets.now)) }
+{
+    let mut found = Vec::new(alloc);
+    for fact in crate::facts(packets) {
+        found.push(fact)?;
+    }
+    Ok(found)
+}
+
+/// How many facts these packets give.
+fn fact_count(packets: &[Packet]) -> usize
+    requires { length (facts_of (packets_of packets.now)) < 2 ^ 64 }
+    ensures { result ≡ length (facts_of (packets_of packets.now)) }
+{
+    crate::facts(packets).count()
+}
+
+#[test]
+fn each_type(rt: HostRuntime) -> Result<(), Fail> {
+    let packets = read_owned(rt.alloc(), &CALL)?;
+    let found = collected(rt.alloc(), packets.as_slice())?;
+    assert_eq!(rt;
+        found.as_slice(),
+        [
+            Fact::Heard(9),
+            Fact::Told(9, 0x1_0000_0005),
+            Fact::Heard(9),
+            Fact::Named(9),
+            Fact::Heard(7),
+            Fact::Gone(9),
+            Fact::Gone(7),
+            Fact::Heard(11),
+        ]
+        .as_slice()
+    );
+    assert_eq!(rt;
+        visited(rt.alloc(), packets.as_slice())?.as_slice(),
+        found.as_slice()
+    );
+    Ok(())
+}
+
+#[test]
+fn report_alone(rt: HostRuntime) -> Result<(), Fail> {
+    let packets = read_owned(rt.alloc(), &[0x80, 0xc9, 0, 1, 0, 0, 0, 7])?;
+    let mut count = 0u8;
+    for fact in crate::facts(packets.as_slice()) {
+        assert_eq!(rt; fact, Fact::Heard(7));
+        count = count.saturating_add(1);
+    }
+    assert_eq!(rt; count, 1);
+    Ok(())
+}
+
+/// A source description of no chunks and a goodbye of no identifiers give nothing, between other packets and at the end.
+#[test]
+fn empty_packets(rt: HostRuntime) -> Result<(), Fail> {
+    let octets = [
+        0x80, 0xc9, 0, 1, 0, 0, 0, 7, 0x80, 0xca, 0, 0, 0x80, 0xcb, 0, 0, 0x80, 0xcc, 0, 2, 0, 0,
+        0, 8, 0x61, 0x62, 0x63, 0x64, 0x80, 0xcb, 0, 0, 0x80, 0xca, 0, 0,
+    ];
+    let packets = read_owned(rt.alloc(), &octets)?;
+    let mut left = crate::facts(packets.as_slice());
+    assert_eq!(rt; left.next(), Some(Fact::Heard(7)));
+    assert_eq!(rt; left.next(), Some(Fact::Heard(8)));
+    assert_eq!(rt; left.next(), None);
+    assert_eq!(rt; left.next(), None);
+    assert_eq!(rt; fact_count(&[]), 0);
+    Ok(())
+}
