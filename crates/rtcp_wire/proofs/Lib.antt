@@ -25,3 +25,6 @@ pub mod ReadingPackets
 pub mod ReadingCompounds
 pub mod FactLists
 pub mod FactRows
+pub mod Appending
+pub mod Written
+pub mod WrittenPackets

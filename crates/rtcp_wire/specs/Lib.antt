@@ -7,3 +7,5 @@ pub mod Parts
 pub mod RtpHeads
 pub mod Facts
 pub mod Pending
+pub mod Writing
+pub mod WriterViews

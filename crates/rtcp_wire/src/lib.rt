@@ -32,6 +32,8 @@ mod rtp;
 pub mod rtp_laws;
 mod sdes;
 mod sr;
+pub mod write_laws;
+mod writer;
 
 pub use app::Application;
 pub use block::Block;
@@ -45,6 +47,7 @@ pub use rr::ReceiverReport;
 pub use rtp::{Csrcs, RtpFault, RtpHead};
 pub use sdes::{Chunk, SdesItem, SourceDescription};
 pub use sr::SenderReport;
+pub use writer::{ChunkRef, Full, ItemRef, MAX_COMPOUND, PacketRef, write_compound};
 
 #[cfg(test)]
 mod tests;

@@ -5,6 +5,7 @@ mod body_faults;
 mod changes;
 mod facts;
 mod types;
+mod writing;
 
 /// A receiver report of source 7 with no blocks, and its CNAME, `a`.
 const NAMED: [u8; 20] = [

@@ -1,0 +1,9 @@
+use Rattle.std.proofs.Common.{◌≡◌, ◌++◌, map, take}
+use Rattle.std.specs.List.{flat_map}
+use Rattle.rtcp_wire.specs.WriterViews.{item_ref_of}
+use Rattle.rtcp_wire.specs.Writing.{written_item}
+use Rattle.rtcp_wire.proofs.writer.descriptions.append_items.Given as goal
+
+abbrev pub invariant-loop-item : goal.invariant-loop-item
+invariant-loop-item l =
+    l.buffer.items ≡ l.initial.buffer.items ++ flat_map written_item (map item_ref_of (take l.item-index l.items))

@@ -1,0 +1,164 @@
+-- The one spelling that the writer gives a packet (RFC 3550, 6.4 to 6.7), and the packets that it writes.
+-- It has no padding, and each octet that may be anything is zero.
+use Rattle.std.specs.Prelude.{◌≡◌, ℕ, pos, negsuc, ◌+◌, ◌-◌, ◌/◌, ◌%◌, ◌^◌, ◌<◌, ◌≤◌, ◌≤ℤ◌, List, [], ◌∷◌, ◌++◌, Option, Some, None, All, length, replicate}
+use Rattle.std.specs.Int.{w64}
+use Rattle.std.specs.List.{flat_map}
+use Rattle.byteorder.specs.Endian.{big_bytes, low_bytes}
+use Rattle.rtcp_wire.specs.Values.{SenderValue, ReportBlock, ItemValue, ChunkValue, RtcpPacket, sr, rr, sdes, bye, app, other}
+use Rattle.rtcp_wire.specs.Grammar.{IsOtherType, IsAccepted}
+
+-- ---- Parts
+
+-- zeros behind so many octets, up to the end of their last word
+abbrev pub fill_behind : ℕ → List ℕ
+fill_behind size = replicate ((4 - size % 4) % 4) 0
+
+-- an identifier, or another number of a word
+abbrev pub written_word : ℕ → List ℕ
+written_word number = big_bytes 4 number
+
+-- A block (6.4.1). The packets lost are a two's complement of 24 bits.
+abbrev pub written_block : ReportBlock → List ℕ
+written_block block =
+    written_word block.ssrc
+    ++ (block.fraction ∷ big_bytes 3 (low_bytes w64 3 block.lost)
+    ++ (written_word block.highest ++ (written_word block.jitter ++ (written_word block.lsr ++ written_word block.dlsr))))
+
+-- the front of a sender report (6.4.1)
+abbrev pub written_sender : SenderValue → List ℕ
+written_sender sender =
+    written_word sender.ssrc
+    ++ (big_bytes 8 sender.ntp ++ (written_word sender.rtp ++ (written_word sender.packets ++ written_word sender.octets)))
+
+-- An item (6.5): its type, the length of its text, and the text.
+abbrev pub written_item : ItemValue → List ℕ
+written_item item = item.kind ∷ length item.text ∷ item.text
+
+-- A chunk (6.5): an identifier, the items, and zeros: one that ends the items, and as many as fill the word.
+abbrev pub written_chunk : ChunkValue → List ℕ
+written_chunk chunk =
+    let items = flat_map written_item chunk.items in
+    written_word chunk.id ++ (items ++ 0 ∷ fill_behind (length items + 1))
+
+-- A reason (6.6): the length of its text, the text, and zeros that fill the word.
+abbrev pub written_reason : Option (List ℕ) → List ℕ
+written_reason None = []
+written_reason (Some text) = length text ∷ (text ++ fill_behind (length text + 1))
+
+-- ---- Packets
+
+-- what stands behind the header
+abbrev pub written_body : RtcpPacket → List ℕ
+written_body (sr sender blocks extension) = written_sender sender ++ (flat_map written_block blocks ++ extension)
+written_body (rr ssrc blocks extension) = written_word ssrc ++ (flat_map written_block blocks ++ extension)
+written_body (sdes chunks) = flat_map written_chunk chunks
+written_body (bye ids reason) = flat_map written_word ids ++ written_reason reason
+written_body (app subtype ssrc name content) = written_word ssrc ++ (name ++ content)
+written_body (other kind count body) = body
+
+-- what the five bits of the header say: a count, or a subtype
+abbrev pub written_count : RtcpPacket → ℕ
+written_count (sr sender blocks extension) = length blocks
+written_count (rr ssrc blocks extension) = length blocks
+written_count (sdes chunks) = length chunks
+written_count (bye ids reason) = length ids
+written_count (app subtype ssrc name content) = subtype
+written_count (other kind count body) = count
+
+abbrev pub written_type : RtcpPacket → ℕ
+written_type (sr sender blocks extension) = 200
+written_type (rr ssrc blocks extension) = 201
+written_type (sdes chunks) = 202
+written_type (bye ids reason) = 203
+written_type (app subtype ssrc name content) = 204
+written_type (other kind count body) = kind
+
+-- The header's word (6.4.1): version 2, no padding, the count; the type; the length in words less one, which is the body's.
+abbrev pub written_header : ℕ → ℕ → ℕ → List ℕ
+written_header count kind size = (128 + count) ∷ kind ∷ big_bytes 2 (size / 4)
+
+-- the packet's octets
+abbrev pub written : RtcpPacket → List ℕ
+written packet = written_header (written_count packet) (written_type packet) (length (written_body packet)) ++ written_body packet
+
+-- the octets of one packet after the other
+abbrev pub written_all : List RtcpPacket → List ℕ
+written_all packets = flat_map written packets
+
+-- ---- What can be written
+
+-- So many octets are whole words.
+abbrev pub IsWords : List ℕ → Type 0
+IsWords octets = length octets % 4 ≡ 0
+
+-- The packets lost have 24 bits, with their sign.
+abbrev pub IsWritableBlock : ReportBlock → Type 0
+IsWritableBlock block = (negsuc 8388607 ≤ℤ block.lost) × (block.lost ≤ℤ pos 8388607)
+
+abbrev pub IsWritableItem : ItemValue → Type 0
+IsWritableItem item = (1 ≤ item.kind) × (item.kind ≤ 255) × (length item.text ≤ 255)
+
+abbrev pub IsWritableChunk : ChunkValue → Type 0
+IsWritableChunk chunk = All IsWritableItem chunk.items
+
+abbrev pub IsWritableReason : Option (List ℕ) → Type 0
+IsWritableReason None = Unit {0}
+IsWritableReason (Some text) = length text ≤ 255
+
+-- The blocks and the extension of a report can be written.
+abbrev pub IsWritableEnd : List ReportBlock → List ℕ → Type 0
+IsWritableEnd blocks extension = (length blocks ≤ 31) × All IsWritableBlock blocks × IsWords extension
+
+-- each part alone
+abbrev pub HasWritableParts : RtcpPacket → Type 0
+HasWritableParts (sr sender blocks extension) = IsWritableEnd blocks extension
+HasWritableParts (rr ssrc blocks extension) = IsWritableEnd blocks extension
+HasWritableParts (sdes chunks) = (length chunks ≤ 31) × All IsWritableChunk chunks
+HasWritableParts (bye ids reason) = (length ids ≤ 31) × IsWritableReason reason
+HasWritableParts (app subtype ssrc name content) = (subtype ≤ 31) × IsWords content
+HasWritableParts (other kind count body) = IsOtherType kind × (count ≤ 31) × IsWords body
+
+-- Each part can be written, and the header can say the length: 65,536 words at most.
+pub record IsWritable (packet : RtcpPacket) : Type 0 where
+  pub parts : HasWritableParts packet
+  pub size : length (written packet) ≤ 262144
+
+-- ---- Numbers in the ranges of their fields, as Rust's types have them
+
+pub record IsBlockInRange (block : ReportBlock) : Type 0 where
+  pub ssrc : block.ssrc < 2 ^ 32
+  pub highest : block.highest < 2 ^ 32
+  pub jitter : block.jitter < 2 ^ 32
+  pub lsr : block.lsr < 2 ^ 32
+  pub dlsr : block.dlsr < 2 ^ 32
+
+pub record IsSenderInRange (sender : SenderValue) : Type 0 where
+  pub ssrc : sender.ssrc < 2 ^ 32
+  pub ntp : sender.ntp < 2 ^ 64
+  pub rtp : sender.rtp < 2 ^ 32
+  pub packets : sender.packets < 2 ^ 32
+  pub octets : sender.octets < 2 ^ 32
+
+abbrev pub IsChunkInRange : ChunkValue → Type 0
+IsChunkInRange chunk = chunk.id < 2 ^ 32
+
+abbrev pub IsInRange : RtcpPacket → Type 0
+IsInRange (sr sender blocks extension) = IsSenderInRange sender × All IsBlockInRange blocks
+IsInRange (rr ssrc blocks extension) = (ssrc < 2 ^ 32) × All IsBlockInRange blocks
+IsInRange (sdes chunks) = All IsChunkInRange chunks
+IsInRange (bye ids reason) = All (λ id. id < 2 ^ 32) ids
+IsInRange (app subtype ssrc name content) = (ssrc < 2 ^ 32) × (length name ≡ 4)
+IsInRange (other kind count body) = Unit {0}
+
+-- ---- Compounds
+
+-- There is a first packet, and it is a sender's or a receiver's report (6.1).
+abbrev pub BeginsWithReport : List RtcpPacket → Type 0
+BeginsWithReport [] = ⊥
+BeginsWithReport (sr sender blocks extension ∷ packets) = Unit {0}
+BeginsWithReport (rr ssrc blocks extension ∷ packets) = Unit {0}
+BeginsWithReport (_ ∷ packets) = ⊥
+
+-- Where they begin with a report, the octets are a datagram of these packets.
+abbrev pub ReadsBack : List ℕ → List RtcpPacket → Type 0
+ReadsBack octets packets = BeginsWithReport packets → IsAccepted octets packets

@@ -1,0 +1,270 @@
+//! Packets that are written, and read back.
+
+use super::*;
+use arrayvec::ArrayVec;
+use std::process::Abort;
+
+type Buffer = ArrayVec<u8, MAX_COMPOUND>;
+
+const BLOCK: Block = Block {
+    ssrc: 9,
+    fraction: 25,
+    lost: -2,
+    highest: 65_538,
+    jitter: 10,
+    lsr: 0xb705_2000,
+    dlsr: 0x0005_4000,
+};
+
+/// A receiver report of source 7 with no blocks.
+const EMPTY_REPORT: PacketRef<'static> = PacketRef::Rr {
+    ssrc: 7,
+    blocks: &[],
+    extension: &[],
+};
+
+/// Appends one packet.
+fn append(rt: &impl Abort, packet: PacketRef<'_>, buffer: &mut Buffer) -> Result<(), Full> {
+    assert!(rt; packet.is_writable());
+    write_compound(&[packet], buffer)
+}
+
+/// Appends two packets.
+fn append_both(
+    rt: &impl Abort,
+    first: PacketRef<'_>,
+    second: PacketRef<'_>,
+    buffer: &mut Buffer,
+) -> Result<(), Full> {
+    assert!(rt; first.is_writable());
+    assert!(rt; second.is_writable());
+    write_compound(&[first, second], buffer)
+}
+
+/// The octets of one packet.
+fn octets_of(rt: &impl Abort, packet: PacketRef<'_>) -> Buffer {
+    let mut buffer = Buffer::new();
+    assert_eq!(rt; append(rt, packet, &mut buffer), Ok(()));
+    buffer
+}
+
+const REPORT: PacketRef<'static> = PacketRef::Sr {
+    ssrc: 9,
+    ntp: 0x0000_b705_2000_0000,
+    rtp: 10,
+    packets: 3,
+    octets: 480,
+    blocks: &[],
+    extension: &[],
+};
+
+/// The last 28 octets of a buffer take a sender report, and 24 take none of it.
+#[test]
+fn full(rt: HostRuntime) -> Result<(), Fail> {
+    let mut buffer = Buffer::new();
+    buffer.try_extend_from_slice(&[7; 1_444])?;
+    assert_eq!(rt; append(&rt, REPORT, &mut buffer), Ok(()));
+    assert_eq!(rt; buffer.len(), 1_472);
+    assert_eq!(rt;
+        &buffer.as_slice()[1_444..],
+        [
+            0x80, 0xc8, 0, 6, 0, 0, 0, 9, 0, 0, 0xb7, 5, 0x20, 0, 0, 0, 0, 0, 0, 10, 0, 0, 0, 3, 0,
+            0, 1, 0xe0
+        ]
+        .as_slice()
+    );
+    let mut buffer = Buffer::new();
+    buffer.try_extend_from_slice(&[7; 1_448])?;
+    assert_eq!(rt; append(&rt, REPORT, &mut buffer), Err(Full));
+    assert_eq!(rt; buffer.as_slice(), [7; 1_448].as_slice());
+    assert_eq!(rt;
+        Full.to_string(rt.alloc())?.as_str(),
+        "the compound does not fit"
+    );
+    Ok(())
+}
+
+/// A report and the CNAME `a` are the example at the head of the crate, and are read back.
+#[test]
+fn named(rt: HostRuntime) -> Result<(), Fail> {
+    let items = [ItemRef {
+        kind: 1,
+        text: b"a",
+    }];
+    let chunks = [ChunkRef {
+        id: 7,
+        items: &items,
+    }];
+    let mut buffer = Buffer::new();
+    let names = PacketRef::Sdes { chunks: &chunks };
+    assert_eq!(rt; append_both(&rt, EMPTY_REPORT, names, &mut buffer), Ok(()));
+    assert_eq!(rt; buffer.as_slice(), NAMED.as_slice());
+    let mut packets = read_owned(rt.alloc(), buffer.as_slice())?;
+    assert_eq!(rt; packets.len(), 2);
+    match packets.pop() {
+        Some(Packet::Sdes(description)) => {
+            assert_eq!(rt; description.chunks.len(), 1);
+            for chunk in &description.chunks {
+                assert_eq!(rt; chunk.id, 7);
+                assert_eq!(rt; chunk.items.len(), 1);
+                for item in &chunk.items {
+                    assert_eq!(rt; item.kind, 1);
+                    assert_eq!(rt; item.text.as_slice(), b"a".as_slice());
+                }
+            }
+        }
+        _ => panic!(rt; "it is a source description"),
+    }
+    Ok(())
+}
+
+/// No packets are no octets.
+#[test]
+fn nothing(rt: HostRuntime) {
+    let mut buffer = Buffer::new();
+    assert_eq!(rt; write_compound(&[], &mut buffer), Ok(()));
+    assert_eq!(rt; buffer.len(), 0);
+}
+
+/// A block with two packets more received than expected, and an extension.
+#[test]
+fn block_and_extension(rt: HostRuntime) -> Result<(), Fail> {
+    let report = PacketRef::Rr {
+        ssrc: 7,
+        blocks: &[BLOCK],
+        extension: &[1, 2, 3, 4],
+    };
+    let buffer = octets_of(&rt, report);
+    assert_eq!(rt;
+        buffer.as_slice(),
+        [
+            0x81, 0xc9, 0, 8, 0, 0, 0, 7, 0, 0, 0, 9, 25, 0xff, 0xff, 0xfe, 0, 1, 0, 2, 0, 0, 0,
+            10, 0xb7, 5, 0x20, 0, 0, 5, 0x40, 0, 1, 2, 3, 4,
+        ]
+        .as_slice()
+    );
+    let mut packets = read_owned(rt.alloc(), buffer.as_slice())?;
+    match packets.pop() {
+        Some(Packet::Rr(report)) => {
+            assert_eq!(rt; report.blocks.as_slice(), [BLOCK].as_slice());
+            assert_eq!(rt; report.extension.as_slice(), [1, 2, 3, 4].as_slice());
+        }
+        _ => panic!(rt; "it is a receiver report"),
+    }
+    Ok(())
+}
+
+/// Goodbyes with a reason, with an empty one, and with none.
+#[test]
+fn goodbyes(rt: HostRuntime) {
+    let with = |reason| PacketRef::Bye { ids: &[9], reason };
+    assert_eq!(rt;
+        octets_of(&rt, with(Some(b"bye"))).as_slice(),
+        [0x81, 0xcb, 0, 2, 0, 0, 0, 9, 3, b'b', b'y', b'e'].as_slice()
+    );
+    assert_eq!(rt;
+        octets_of(&rt, with(Some(b""))).as_slice(),
+        [0x81, 0xcb, 0, 2, 0, 0, 0, 9, 0, 0, 0, 0].as_slice()
+    );
+    assert_eq!(rt;
+        octets_of(&rt, with(None)).as_slice(),
+        [0x81, 0xcb, 0, 1, 0, 0, 0, 9].as_slice()
+    );
+}
+
+#[test]
+fn application_and_other(rt: HostRuntime) {
+    let packet = PacketRef::App {
+        subtype: 31,
+        ssrc: 9,
+        name: *b"test",
+        data: &[1, 2, 3, 4],
+    };
+    assert_eq!(rt;
+        octets_of(&rt, packet).as_slice(),
+        [
+            0x9f, 0xcc, 0, 3, 0, 0, 0, 9, b't', b'e', b's', b't', 1, 2, 3, 4
+        ]
+        .as_slice()
+    );
+    let packet = PacketRef::Other {
+        kind: 205,
+        count: 1,
+        body: &[5, 6, 7, 8],
+    };
+    assert_eq!(rt;
+        octets_of(&rt, packet).as_slice(),
+        [0x81, 0xcd, 0, 1, 5, 6, 7, 8].as_slice()
+    );
+}
+
+fn is_writable_report(blocks: &[Block], extension: &[u8]) -> bool {
+    let report = PacketRef::Rr {
+        ssrc: 7,
+        blocks,
+        extension,
+    };
+    report.is_writable()
+}
+
+fn is_writable_item(kind: u8, text: &[u8]) -> bool {
+    let items = [ItemRef { kind, text }];
+    let chunks = [ChunkRef {
+        id: 7,
+        items: &items,
+    }];
+    let description = PacketRef::Sdes { chunks: &chunks };
+    description.is_writable()
+}
+
+fn is_writable_other(kind: u8, count: u8, body: &[u8]) -> bool {
+    let packet = PacketRef::Other { kind, count, body };
+    packet.is_writable()
+}
+
+/// Each limit, where it is met and where it is broken.
+#[test]
+fn limits(rt: HostRuntime) {
+    assert!(rt; is_writable_report(&[BLOCK; 31], &[]));
+    assert!(rt; !is_writable_report(&[BLOCK; 32], &[]));
+    assert!(rt; !is_writable_report(&[], &[1, 2, 3]));
+    for (lost, expected) in [
+        (8_388_607, true),
+        (8_388_608, false),
+        (-8_388_608, true),
+        (-8_388_609, false),
+    ] {
+        let block = Block { lost, ..BLOCK };
+        assert_eq!(rt; is_writable_report(&[block], &[]), expected, "{lost} lost");
+    }
+    assert!(rt; is_writable_item(1, &[b'a'; 255]));
+    assert!(rt; !is_writable_item(1, &[b'a'; 256]));
+    assert!(rt; !is_writable_item(0, b"a"));
+    let reason = |text| PacketRef::Bye {
+        ids: &[],
+        reason: Some(text),
+    };
+    assert!(rt; reason(&[b'a'; 255]).is_writable());
+    assert!(rt; !reason(&[b'a'; 256]).is_writable());
+    assert!(rt; is_writable_other(205, 31, &[]));
+    assert!(rt; !is_writable_other(205, 32, &[]));
+    assert!(rt; !is_writable_other(201, 0, &[]));
+    assert!(rt; !is_writable_other(205, 0, &[1]));
+    let application = PacketRef::App {
+        subtype: 32,
+        ssrc: 9,
+        name: *b"test",
+        data: &[],
+    };
+    assert!(rt; !application.is_writable());
+}
+
+/// The longest packet, whose header can say its length, and one that is a word longer.
+#[test]
+fn longest(rt: HostRuntime) -> Result<(), Fail> {
+    let longest = vec![in rt.alloc(); 0; 262_140]?;
+    assert!(rt; is_writable_other(192, 0, longest.as_slice()));
+    let longer = vec![in rt.alloc(); 0; 262_144]?;
+    assert!(rt; !is_writable_other(192, 0, longer.as_slice()));
+    Ok(())
+}
