@@ -28,3 +28,4 @@ pub mod FactRows
 pub mod Appending
 pub mod Written
 pub mod WrittenPackets
+pub mod WritableReports
