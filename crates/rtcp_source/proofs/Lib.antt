@@ -1,0 +1,4 @@
+pub mod Stepping
+pub mod Integers
+pub mod News
+pub mod Rows

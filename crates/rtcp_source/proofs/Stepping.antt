@@ -1,0 +1,43 @@
+-- The numbers that are kept of a source follow what it is given.
+use Rattle.std.proofs.Common.{◌≡◌, ℕ, suc, ◌+◌, true, false, if◌then◌else◌, List, [], ◌∷◌, length, Option, arith, refl}
+use Rattle.rtcp_source.specs.declared.taken.Taken.{Taken}
+use Rattle.rtcp_source.specs.declared.taken.Taken.TheVariants.{Probation, Counted, Became, Restarted, Bad}
+use Rattle.rtcp_source.specs.Packets.{Given, packet_came, CountedPacket, Run, is_near, follows, newest, taken_in, run_with, transit_of, run_of, greatest_place}
+use Rattle.rtcp_source.specs.Summary.{ToldValue, SourceValue, numbers_of, packet_count, last_told, summary_of, StandsAt}
+use Rattle.rtcp_source.specs.Steps.{taken_by, source_with, after_packet}
+
+-- what is kept of a run, beside the count of packets and the last sender report
+abbrev summarised : (packets : ℕ) (last : Option ToldValue) → Run → SourceValue
+summarised packets last run =
+    record { packets = packets; run = numbers_of run.counted run.reported; stray = newest run.strays; told = last }
+
+abbrev Moves : (seq transit packets : ℕ) (last : Option ToldValue) → Run → Taken → Type 0
+Moves seq transit packets last run taken =
+    summarised (packets + 1) last (run_with taken seq transit run) ≡ source_with taken seq transit (summarised packets last run)
+
+one_more : (n : ℕ) → suc n ≡ n + 1
+one_more n = omega arith
+
+counted_moves : (seq transit packets : ℕ) (last : Option ToldValue) (p : CountedPacket) (earlier before : List CountedPacket) (strays : List ℕ)
+    → Moves seq transit packets last (record { counted = p ∷ earlier; strays = strays; reported = before }) Counted
+counted_moves seq transit packets last p earlier before strays = rw (one_more (length (p ∷ earlier))) refl
+
+moves : (seq transit packets : ℕ) (last : Option ToldValue) (counted before : List CountedPacket) (strays : List ℕ)
+    → let run : Run = record { counted = counted; strays = strays; reported = before } in
+    let source = summarised packets last run in
+    summarised (packets + 1) last (run_with (taken_in run seq) seq transit run) ≡ source_with (taken_by source seq) seq transit source
+moves seq transit packets last [] before strays =
+    elim (follows (newest strays) seq) as (λ b. Moves seq transit packets last (record { counted = []; strays = strays; reported = before }) (if b then Became else Probation)) [ true ↦ refl | false ↦ refl ]
+moves seq transit packets last (p ∷ earlier) before strays =
+    elim (is_near (greatest_place (p ∷ earlier)) seq) as (λ near. Moves seq transit packets last (record { counted = p ∷ earlier; strays = strays; reported = before }) (if near then Counted else (if follows (newest strays) seq then Restarted else Bad))) [
+      | true ↦ counted_moves seq transit packets last p earlier before strays
+      | false ↦ elim (follows (newest strays) seq) as (λ b. Moves seq transit packets last (record { counted = p ∷ earlier; strays = strays; reported = before }) (if b then Restarted else Bad)) [ true ↦ refl | false ↦ refl ]
+    ]
+
+-- One packet more moves the summary as it moves the numbers.
+pub summary_moves : (seq timestamp arrival : ℕ) (given : List Given) → summary_of (packet_came seq timestamp arrival ∷ given) ≡ after_packet seq timestamp arrival (summary_of given)
+summary_moves seq timestamp arrival given =
+    let run : Run = run_of given in moves seq (transit_of timestamp arrival) (packet_count given) (last_told given) run.counted run.reported run.strays
+
+pub stands_after : (seq timestamp arrival : ℕ) (source next : SourceValue) → next ≡ after_packet seq timestamp arrival source → (given : List Given) → StandsAt source given → StandsAt next (packet_came seq timestamp arrival ∷ given)
+stands_after seq timestamp arrival source next step given stands = rw (step, stands, summary_moves seq timestamp arrival given) refl

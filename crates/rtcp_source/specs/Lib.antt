@@ -1,0 +1,7 @@
+pub mod Packets
+pub mod Integers
+pub mod Summary
+pub mod Blocks
+pub mod Steps
+pub mod Bounds
+pub mod Views

@@ -1,0 +1,68 @@
+-- How the numbers that are kept of a source change with one thing more that it is given.
+use Rattle.std.specs.Prelude.{ℕ, ◌+◌, max, Option, Some, None}
+use Rattle.rtcp_source.specs.declared.taken.Taken.{Taken}
+use Rattle.rtcp_source.specs.declared.taken.Taken.TheVariants.{Probation, Counted, Became, Restarted, Bad}
+use Rattle.rtcp_source.specs.Packets.{place_near, taken_as, transit_of}
+use Rattle.rtcp_source.specs.Summary.{RunValue, SourceValue, transit_distance, jitter_with, middle_bits}
+use Rattle.rtcp_source.specs.Blocks.{expected_in}
+
+-- a source that was given nothing
+abbrev pub no_source : SourceValue
+no_source = record { packets = 0; run = None; stray = None; told = None }
+
+abbrev pub greatest_in : Option RunValue → Option ℕ
+greatest_in None = None
+greatest_in (Some run) = Some run.greatest
+
+-- what a packet of this number is to the source
+abbrev pub taken_by : SourceValue → (seq : ℕ) → Taken
+taken_by source seq = taken_as (greatest_in source.run) source.stray seq
+
+-- a run that starts with a packet
+abbrev pub run_from : (seq transit : ℕ) → RunValue
+run_from seq transit =
+    record {
+      first = seq + 65536;
+      greatest = seq + 65536;
+      received = 1;
+      expected_before = 0;
+      received_before = 0;
+      transit = transit;
+      jitter = 0;
+    }
+
+-- a run with one counted packet more
+abbrev pub run_after : (seq transit : ℕ) → RunValue → RunValue
+run_after seq transit run =
+    record run {
+      greatest = max (place_near run.greatest seq) run.greatest;
+      received = run.received + 1;
+      transit = transit;
+      jitter = jitter_with run.jitter (transit_distance transit run.transit);
+    }
+
+abbrev pub counted_in : (seq transit : ℕ) → Option RunValue → Option RunValue
+counted_in seq transit None = None
+counted_in seq transit (Some run) = Some (run_after seq transit run)
+
+abbrev pub source_with : Taken → (seq transit : ℕ) → SourceValue → SourceValue
+source_with Counted seq transit source = record source { packets = source.packets + 1; run = counted_in seq transit source.run }
+source_with Became seq transit source =
+    record source { packets = source.packets + 1; run = Some (run_from seq transit); stray = None }
+source_with Restarted seq transit source =
+    record source { packets = source.packets + 1; run = Some (run_from seq transit); stray = None }
+source_with Probation seq transit source = record source { packets = source.packets + 1; stray = Some seq }
+source_with Bad seq transit source = record source { packets = source.packets + 1; stray = Some seq }
+
+abbrev pub after_packet : (seq timestamp arrival : ℕ) → SourceValue → SourceValue
+after_packet seq timestamp arrival source = source_with (taken_by source seq) seq (transit_of timestamp arrival) source
+
+abbrev pub after_told : (ntp moment : ℕ) → SourceValue → SourceValue
+after_told ntp moment source = record source { told = Some (record { lsr = middle_bits ntp; moment = moment }) }
+
+abbrev pub run_reported : Option RunValue → Option RunValue
+run_reported None = None
+run_reported (Some run) = Some (record run { expected_before = expected_in run; received_before = run.received })
+
+abbrev pub after_block : SourceValue → SourceValue
+after_block source = record source { run = run_reported source.run }

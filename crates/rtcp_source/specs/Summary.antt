@@ -1,0 +1,97 @@
+-- What is kept of what a source was given: counts, extremes and folds of the lists of its last run.
+use Rattle.std.specs.Prelude.{◌≡◌, ℕ, ◌+◌, ◌-◌, ◌/◌, ◌%◌, ◌^◌, min, List, [], ◌∷◌, length, Option, Some, None}
+use Rattle.rtcp_source.specs.Packets.{Given, packet_came, report_came, block_made, CountedPacket, greatest_place, first_place, newest, run_of}
+
+-- A run in numbers.
+pub record RunValue : Type 0 where
+  -- the place of its first packet, and the greatest one
+  pub first : ℕ
+  pub greatest : ℕ
+  -- how many packets were counted in it
+  pub received : ℕ
+  -- how many were expected, and counted, when a block was last made of it
+  pub expected_before : ℕ
+  pub received_before : ℕ
+  -- the transit of its newest packet
+  pub transit : ℕ
+  -- its jitter, in 1/16 unit of the media's clock
+  pub jitter : ℕ
+
+-- The last sender report: the middle 32 bits of its NTP timestamp, and the moment that it came at.
+pub record ToldValue : Type 0 where
+  pub lsr : ℕ
+  pub moment : ℕ
+
+pub record SourceValue : Type 0 where
+  -- how many packets were given
+  pub packets : ℕ
+  -- the last run, if one was started
+  pub run : Option RunValue
+  -- the number of the last stray in it
+  pub stray : Option ℕ
+  pub told : Option ToldValue
+
+-- ---- Expected packets and jitter of a run
+
+-- The packets expected (A.3): the integers from the first one's to the greatest.
+abbrev pub expected_of : List CountedPacket → ℕ
+expected_of [] = 0
+expected_of (p ∷ earlier) = greatest_place (p ∷ earlier) + 1 - first_place (p ∷ earlier)
+
+-- The distance of two transits, whose difference is a number of 32 bits with a sign.
+abbrev pub transit_distance : (transit before : ℕ) → ℕ
+transit_distance transit before = min ((transit + 2 ^ 32 - before) % 2 ^ 32) ((before + 2 ^ 32 - transit) % 2 ^ 32)
+
+-- The jitter behind one more distance (6.4.1, A.8): j + d - (j + 8) / 16.
+abbrev pub jitter_with : (jitter distance : ℕ) → ℕ
+jitter_with jitter distance = jitter + distance - (jitter + 8) / 16
+
+-- The jitter of a run: folded from 0 over the distances of successive transits.
+abbrev pub jitter_of : List CountedPacket → ℕ
+jitter_of [] = 0
+jitter_of (p ∷ []) = 0
+jitter_of (p ∷ q ∷ earlier) = jitter_with (jitter_of (q ∷ earlier)) (transit_distance p.transit q.transit)
+
+-- ---- What is kept
+
+abbrev pub numbers_of : (counted before : List CountedPacket) → Option RunValue
+numbers_of [] before = None
+numbers_of (p ∷ earlier) before =
+    Some (record {
+      first = first_place (p ∷ earlier);
+      greatest = greatest_place (p ∷ earlier);
+      received = length (p ∷ earlier);
+      expected_before = expected_of before;
+      received_before = length before;
+      transit = p.transit;
+      jitter = jitter_of (p ∷ earlier);
+    })
+
+abbrev pub packet_count : List Given → ℕ
+packet_count [] = 0
+packet_count (packet_came seq timestamp arrival ∷ given) = packet_count given + 1
+packet_count (report_came ntp moment ∷ given) = packet_count given
+packet_count (block_made ∷ given) = packet_count given
+
+abbrev pub middle_bits : ℕ → ℕ
+middle_bits ntp = ntp / 65536 % 2 ^ 32
+
+abbrev pub last_told : List Given → Option ToldValue
+last_told [] = None
+last_told (packet_came seq timestamp arrival ∷ given) = last_told given
+last_told (report_came ntp moment ∷ given) = Some (record { lsr = middle_bits ntp; moment = moment })
+last_told (block_made ∷ given) = last_told given
+
+abbrev pub summary_of : List Given → SourceValue
+summary_of given =
+    let run = run_of given in
+    record {
+      packets = packet_count given;
+      run = numbers_of run.counted run.reported;
+      stray = newest run.strays;
+      told = last_told given;
+    }
+
+-- A source stands at what it was given.
+abbrev pub StandsAt : SourceValue → List Given → Type 0
+StandsAt source given = source ≡ summary_of given

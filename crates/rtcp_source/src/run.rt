@@ -1,0 +1,151 @@
+//! A run of counted packets (RFC 3550, 6.4.1, appendices A.1, A.3 and A.8).
+
+ghost use Rattle.std.specs.Prelude.{◌≡◌, ◌+◌, ◌≤◌, ◌<◌, ◌^◌, Some};
+ghost use Rattle.rtcp_wire.specs.Views.{block_of};
+ghost use Rattle.rtcp_wire.specs.Writing.{IsWritableBlock};
+ghost use Rattle.rtcp_source.specs.Blocks.{expected_in, fraction_of, lost_of, block_of_run, news_of};
+ghost use Rattle.rtcp_source.specs.Bounds.{IsRunBounded};
+ghost use Rattle.rtcp_source.specs.Steps.{run_from, run_after, run_reported};
+ghost use Rattle.rtcp_source.specs.Summary.{transit_distance, jitter_with};
+ghost use Rattle.rtcp_source.specs.Views.{run_value};
+
+use crate::sequence::{FIRST, nearest_place};
+use rtcp_wire::Block;
+
+/// The packets of a run, in numbers. Places are as in `sequence`.
+#[derive(Clone, Copy)]
+pub(crate) struct Run {
+    /// The place of the first packet.
+    pub(crate) first: u64,
+    /// The greatest place.
+    pub(crate) greatest: u64,
+    /// How many packets were counted, repeated ones too.
+    pub(crate) received: u64,
+    /// How many packets were expected at the last block.
+    pub(crate) expected_before: u64,
+    /// How many packets were counted at the last block.
+    pub(crate) received_before: u64,
+    /// The arrival of the newest packet less its timestamp, modulo 2^32.
+    pub(crate) transit: u32,
+    /// The jitter, in 1/16 unit of the media's clock.
+    pub(crate) jitter: u64,
+}
+
+/// The distance of two transits, whose difference is a number of 32 bits with a sign.
+fn distance(transit: u32, before: u32) -> u32
+    ensures exact { result ≡ transit_distance transit before }
+    ensures half { result ≤ 2 ^ 31 }
+{
+    transit
+        .wrapping_sub(before)
+        .min(before.wrapping_sub(transit))
+}
+
+/// The fraction lost of the packets expected, in 1/256, where some were counted if some were expected.
+fn fraction(expected: u64, received: u64) -> u8
+    requires high { expected < 2 ^ 55 }
+    requires counted { 1 ≤ expected → 1 ≤ received }
+    ensures { result ≡ fraction_of expected received }
+{
+    if expected == 0 || expected <= received {
+        0
+    } else {
+        (256 * (expected - received) / expected) as u8
+    }
+}
+
+/// The packets lost, in 24 bits with a sign.
+fn lost(expected: u64, received: u64) -> i32
+    requires expected { expected < 2 ^ 55 }
+    requires received { received < 2 ^ 55 }
+    ensures { result ≡ lost_of expected received }
+{
+    (expected as i64 - received as i64).clamp(-8_388_608, 8_388_607) as i32
+}
+
+impl Run {
+    /// The run that starts with this packet.
+    pub(crate) fn started(seq: u16, transit: u32) -> Run
+        ensures run { run_value result ≡ run_from seq transit }
+        ensures bounded { IsRunBounded 1 (run_value result) }
+    {
+        Run {
+            first: FIRST + seq as u64,
+            greatest: FIRST + seq as u64,
+            received: 1,
+            expected_before: 0,
+            received_before: 0,
+            transit,
+            jitter: 0,
+        }
+    }
+
+    /// The run with one more packet, whose number is near the greatest place.
+    pub(crate) fn with(self, seq: u16, transit: u32) -> Run
+        requires few { self.received < 2 ^ 40 }
+        requires bounded { IsRunBounded self.received (run_value self) }
+        ensures run { run_value result ≡ run_after seq transit (run_value self) }
+        ensures bounded { IsRunBounded (self.received + 1) (run_value result) }
+    {
+        let distance = distance(transit, self.transit) as u64;
+        Run {
+            greatest: self.greatest.max(nearest_place(self.greatest, seq)),
+            received: self.received + 1,
+            transit,
+            jitter: self.jitter + distance - (self.jitter + 8) / 16,
+            ..self
+        }
+    }
+
+    /// The packets expected, from the first one to the greatest.
+    fn expected(self) -> u64
+        requires ordered { self.first ≤ self.greatest }
+        requires high { self.greatest < 2 ^ 55 }
+        ensures { result ≡ expected_in (run_value self) }
+    {
+        self.greatest - self.first + 1
+    }
+
+    /// The run once a block was made of it.
+    pub(crate) fn reported(self) -> Run
+        requires few { self.received ≤ 2 ^ 40 }
+        requires bounded { IsRunBounded self.received (run_value self) }
+        ensures run { Some (run_value result) ≡ run_reported (Some (run_value self)) }
+        ensures bounded { IsRunBounded self.received (run_value result) }
+    {
+        Run {
+            expected_before: self.expected(),
+            received_before: self.received,
+            ..self
+        }
+    }
+
+    /// The block of the run's source, with what is known of its last sender report.
+    pub(crate) fn block(self, ssrc: u32, lsr: u32, dlsr: u32) -> Block
+        requires few { self.received ≤ 2 ^ 40 }
+        requires bounded { IsRunBounded self.received (run_value self) }
+        ensures block { block_of result ≡ block_of_run ssrc lsr dlsr (run_value self) }
+        ensures writable { IsWritableBlock (block_of result) }
+    {
+        let expected = self.expected();
+        Block {
+            ssrc,
+            fraction: fraction(
+                expected - self.expected_before,
+                self.received - self.received_before,
+            ),
+            lost: lost(expected, self.received),
+            highest: ((self.greatest - FIRST) % (1 << 32)) as u32,
+            jitter: (self.jitter / 16) as u32,
+            lsr,
+            dlsr,
+        }
+    }
+
+    /// Whether a packet was counted since the last block.
+    pub(crate) fn has_news(self) -> bool
+        ensures { result ≡ news_of (Some (run_value self)) }
+    {
+        self.received_before < self.received
+    }
+}

@@ -1,0 +1,126 @@
+//! One source, from its first packet on (RFC 3550, 6.4.1, appendices A.1, A.3 and A.8).
+
+ghost use Rattle.std.specs.Prelude.{◌≡◌, ◌∷◌, [], ◌<◌, ◌^◌, List, Some, IsSome};
+ghost use Rattle.rtcp_wire.specs.Views.{block_of};
+ghost use Rattle.rtcp_wire.specs.Writing.{IsWritableBlock};
+ghost use Rattle.rtcp_source.specs.Packets.{Given, packet_came, report_came, block_made, taken_in, run_of, has_news_since};
+ghost use Rattle.rtcp_source.specs.Summary.{StandsAt};
+ghost use Rattle.rtcp_source.specs.Blocks.{block_for, news_of};
+ghost use Rattle.rtcp_source.specs.Steps.{no_source, taken_by, after_packet, after_told, after_block};
+
+use crate::run::Run;
+use crate::sequence::judge;
+use crate::taken::Taken;
+use rtcp_clock::short_delay;
+use rtcp_wire::Block;
+use std::marker::Model;
+
+/// The last sender report of a source.
+#[derive(Clone, Copy)]
+pub(crate) struct Told {
+    /// The middle 32 bits of its NTP timestamp.
+    pub(crate) lsr: u32,
+    /// The moment that it came at, in microseconds.
+    pub(crate) moment: u64,
+}
+
+/// What a receiver keeps of one source: a few numbers, from which its next report block is made.
+///
+/// A contract sees a source as the summary of all that it was given, the newest thing first (`StandsAt`).
+#[derive(Drop)]
+pub struct Source {
+    packets: u64,
+    run: Option<Run>,
+    stray: Option<u16>,
+    told: Option<Told>,
+}
+
+impl Model for Source {
+    ghost use Rattle.std.specs.Prelude.{option_map};
+    ghost use Rattle.rtcp_source.specs.Summary.{SourceValue};
+    ghost use Rattle.rtcp_source.specs.Views.{run_value, told_value};
+    ghost use Rattle.rtcp_source.specs.Bounds.{IsBounded};
+
+    ghost Value = { SourceValue };
+
+    ghost view = { λ s. record { packets = s.packets; run = option_map run_value s.run; stray = s.stray; told = option_map told_value s.told } };
+
+    ghost invariant = { λ s. IsBounded s.packets (option_map run_value s.run) };
+}
+
+impl Source {
+    /// A source that nothing came from yet.
+    pub fn new() -> Source
+        ensures nothing { result ≡ no_source }
+        ensures stands { StandsAt result [] }
+    {
+        Source {
+            packets: 0,
+            run: None,
+            stray: None,
+            told: None,
+        }
+    }
+
+    /// What the packet is to the source (appendix A.1). It is counted where the answer is `Counted`, `Became` or `Restarted`.
+    ///
+    /// `seq` and `rtp_ts` are the packet's sequence number and timestamp, `arrival` is its arrival in units of the same clock as
+    /// the timestamp, modulo 2^32, as rtcp_clock's `rtp_units` gives it. A source takes fewer than 2^40 packets.
+    pub fn take(&mut self, seq: u16, rtp_ts: u32, arrival: u32) -> Taken
+        requires { self.old.packets < 2 ^ 40 }
+        ensures taken { result ≡ taken_by self.old seq }
+        ensures step { self.new ≡ after_packet seq rtp_ts arrival self.old }
+        ensures taken_in_run { (given : List Given) → StandsAt self.old given → result ≡ taken_in (run_of given) seq }
+        ensures stands { (given : List Given) → StandsAt self.old given → StandsAt self.new (packet_came seq rtp_ts arrival ∷ given) }
+    {
+        let transit = arrival.wrapping_sub(rtp_ts);
+        let taken = judge(self.run.map(|run| run.greatest), self.stray, seq);
+        match taken {
+            Taken::Counted => self.run = self.run.map(|run| run.with(seq, transit)),
+            Taken::Became | Taken::Restarted => {
+                self.run = Some(Run::started(seq, transit));
+                self.stray = None;
+            }
+            Taken::Probation | Taken::Bad => self.stray = Some(seq),
+        }
+        self.packets += 1;
+        taken
+    }
+
+    /// The source sent a sender report with this NTP timestamp, which came at the moment `t`, in microseconds (6.4.1).
+    pub fn saw_sr(&mut self, ntp: u64, t: u64)
+        ensures step { self.new ≡ after_told ntp t self.old }
+        ensures stands { (given : List Given) → StandsAt self.old given → StandsAt self.new (report_came ntp t ∷ given) }
+    {
+        self.told = Some(Told {
+            lsr: (ntp / 65_536 % (1 << 32)) as u32,
+            moment: t,
+        });
+    }
+
+    /// The reception report block of the source, `ssrc`, at the moment `t`, in microseconds (6.4.1, A.3). Some packet of it was
+    /// counted, as it was where it has news. The fraction lost is over what came since the last block, and the news end.
+    pub fn block(&mut self, ssrc: u32, t: u64) -> Block
+        requires { IsSome self.old.run }
+        ensures block { Some (block_of result) ≡ block_for ssrc t self.old }
+        ensures step { self.new ≡ after_block self.old }
+        ensures stands { (given : List Given) → StandsAt self.old given → StandsAt self.new (block_made ∷ given) }
+        ensures writable { IsWritableBlock (block_of result) }
+    {
+        let run = self.run.unwrap();
+        let (lsr, dlsr) = match self.told {
+            Some(told) => (told.lsr, short_delay(t.saturating_sub(told.moment))),
+            None => (0, 0),
+        };
+        self.run = Some(run.reported());
+        run.block(ssrc, lsr, dlsr)
+    }
+
+    /// Whether some packet was counted since the last block, or at all if there was none.
+    pub fn has_news(&self) -> bool
+        ensures news { result ≡ news_of self.now.run }
+        ensures since_block { (given : List Given) → StandsAt self.now given → result ≡ has_news_since given }
+    {
+        self.run.is_some_and(|run| run.has_news())
+    }
+}
