@@ -1,0 +1,5 @@
+pub mod Rows
+pub mod Quotients
+pub mod Averaging
+pub mod Sharing
+pub mod Departures

@@ -1,0 +1,3 @@
+pub mod Averages
+pub mod Loads
+pub mod Schedules

@@ -1,0 +1,78 @@
+-- When the next report is due (RFC 3550, 6.3.2, 6.3.4 and 6.3.6; appendix A.7). Moments and intervals are microseconds, `members`
+-- are numbers of members, and lists of what happened are newest first.
+use Rattle.std.specs.Prelude.{ℕ, ◌+◌, ◌-◌, ◌≤◌, List, [], ◌∷◌, nat_lt, nat_le, if◌then◌else◌}
+use Rattle.rtcp_clock.specs.Intervals.{scaled_down}
+
+-- what happens to a schedule
+pub data Happening : Type 0 where
+  -- a report was sent, and an interval drawn (6.3.6); the start is one sent at 0, with one member (6.3.2)
+  transmitted : (moment interval members : ℕ) → Happening
+  -- the next transmission's moment had come, and an interval was drawn to see whether it is due (6.3.6)
+  tried : (moment interval members : ℕ) → Happening
+  -- the members were counted, as some may have departed (6.3.4)
+  counted : (moment members : ℕ) → Happening
+
+-- where a schedule stands
+pub record Timing : Type 0 where
+  -- the moment of the last transmission, as departures have moved it
+  pub last : ℕ
+  -- the moment of the next transmission
+  pub next : ℕ
+  -- the members at the last draw or departure
+  pub known : ℕ
+
+-- A transmission is due where the next one's moment has come, and the interval has passed since the last one (6.3.6).
+pub record IsDue (timing : Timing) (moment interval : ℕ) : Type 0 where
+  pub came : timing.next ≤ moment
+  pub passed : timing.last + interval ≤ moment
+
+-- Reconsideration (6.3.6): where the interval has not passed yet, the next transmission is when it will have.
+abbrev pub after_try : (moment interval members : ℕ) → Timing → Timing
+after_try moment interval members timing = record {
+  last = timing.last;
+  next = if nat_le (timing.last + interval) moment then timing.next else timing.last + interval;
+  known = members;
+}
+
+-- Reverse reconsideration (6.3.4): the distances to the last and to the next transmission shrink as the members do. A next one
+-- that is overdue stays.
+abbrev pub after_departure : (moment members : ℕ) → Timing → Timing
+after_departure moment members timing = record {
+  last = moment - scaled_down (moment - timing.last) members timing.known;
+  next = if nat_le moment timing.next then moment + scaled_down (timing.next - moment) members timing.known else timing.next;
+  known = members;
+}
+
+-- where a schedule stands after one happening more; members that are no fewer change nothing
+abbrev pub after : Happening → Timing → Timing
+after (transmitted moment interval members) timing = record { last = moment; next = moment + interval; known = members }
+after (tried moment interval members) timing = after_try moment interval members timing
+after (counted moment members) timing = if nat_lt members timing.known then after_departure moment members timing else timing
+
+-- where a schedule stands to which all this happened
+abbrev pub schedule_at : List Happening → Timing
+schedule_at [] = record { last = 0; next = 0; known = 1 }
+schedule_at (newest ∷ before) = after newest (schedule_at before)
+
+-- ---- The moments at which it happened
+
+abbrev pub moment_of : Happening → ℕ
+moment_of (transmitted moment interval members) = moment
+moment_of (tried moment interval members) = moment
+moment_of (counted moment members) = moment
+
+abbrev pub newest_moment : List Happening → ℕ
+newest_moment [] = 0
+newest_moment (newest ∷ before) = moment_of newest
+
+-- the moment at which the last report was sent in truth
+abbrev pub newest_transmission : List Happening → ℕ
+newest_transmission [] = 0
+newest_transmission (transmitted moment interval members ∷ before) = moment
+newest_transmission (tried moment interval members ∷ before) = newest_transmission before
+newest_transmission (counted moment members ∷ before) = newest_transmission before
+
+-- Moments do not fall.
+abbrev pub IsInOrder : List Happening → Type 0
+IsInOrder [] = Unit {0}
+IsInOrder (newest ∷ before) = (newest_moment before ≤ moment_of newest) × IsInOrder before

@@ -1,0 +1,48 @@
+//! Laws of the average, the interval and the schedule. The functions do nothing, and what they ensure is the law.
+
+ghost use Rattle.std.specs.Prelude.{ℕ, ◌+◌, ◌*◌, ◌≤◌, List, All};
+ghost use Rattle.rtcp_timer.specs.Averages.{with_headers, average_of, IsBetween};
+ghost use Rattle.rtcp_timer.specs.declared.load.Load.{Load};
+ghost use Rattle.rtcp_timer.specs.Loads.{minimum_of, interval_of, KeepsToShare};
+ghost use Rattle.rtcp_timer.specs.Schedules.{Happening, counted, Timing, IsDue, IsInOrder, after, schedule_at, newest_moment, newest_transmission};
+
+/// Where all sizes lie between two numbers, so does the average, in 1/256 octet and with the lower headers (RFC 3550, 6.3.3).
+pub fn average_lies_between()
+    ensures { (low high first : ℕ) (sizes : List ℕ) → IsBetween low high first → All (IsBetween low high) sizes →
+        IsBetween (256 * with_headers low) (256 * with_headers high) (average_of first sizes) }
+{}
+
+/// Where each of those who share a part of the bandwidth with the participant sends one compound of average size in each
+/// deterministic interval, they take at most that part (RFC 3550, 6.3.1).
+pub fn interval_keeps_to_share()
+    ensures { (load : Load) → 1 ≤ load.rtcp_bw → KeepsToShare load (interval_of load) }
+{}
+
+/// The deterministic interval is never below the minimum (RFC 3550, 6.2).
+pub fn interval_has_minimum()
+    ensures { (load : Load) → minimum_of load.initial ≤ interval_of load }
+{}
+
+/// No shorter interval keeps to the share and has the minimum.
+pub fn interval_is_least()
+    ensures { (load : Load) (interval : ℕ) → 1 ≤ load.rtcp_bw → minimum_of load.initial ≤ interval → KeepsToShare load interval →
+        interval_of load ≤ interval }
+{}
+
+/// Where moments do not fall, the last transmission that a schedule goes by is never before the moment of the newest one, and never
+/// after the newest moment, however many departed (RFC 3550, 6.3.4).
+pub fn last_lies_between()
+    ensures not_before_sent { (events : List Happening) → IsInOrder events → newest_transmission events ≤ (schedule_at events).last }
+    ensures not_after_newest { (events : List Happening) → IsInOrder events → (schedule_at events).last ≤ newest_moment events }
+{}
+
+/// So no report is due before the interval drawn has passed since the newest transmission (RFC 3550, 6.3.6).
+pub fn never_due_too_soon()
+    ensures { (events : List Happening) (moment interval : ℕ) → IsInOrder events → IsDue (schedule_at events) moment interval →
+        newest_transmission events + interval ≤ moment }
+{}
+
+/// A departure never puts the next transmission later (RFC 3550, 6.3.4).
+pub fn departure_never_puts_later()
+    ensures { (timing : Timing) (moment members : ℕ) → (after (counted moment members) timing).next ≤ timing.next }
+{}

@@ -1,0 +1,26 @@
+//! When the next RTCP report is due (RFC 3550, 6.2 and 6.3.1 to 6.3.6; appendix A.7): it is deterministic, reads no clock, opens no
+//! socket, draws no random number and asks for no memory. Moments and random words are handed in.
+//!
+//! ```
+//! let mut schedule = Schedule::begin(2_500_000, 0);
+//! assert_eq!(rt; schedule.next(), 1_026_037);
+//! assert_eq!(rt; schedule.expire(1_026_037, 2_500_000, 0, 4), Verdict::Due);
+//! schedule.sent(1_026_037, 5_000_000, 0, 4);
+//! assert_eq!(rt; schedule.next(), 3_078_111);
+//! ```
+//!
+//! A moment is a number of microseconds since the session began. What each call gives is defined in `specs/` (`Loads`, `Averages`,
+//! `Schedules`); `laws` has what holds of these definitions.
+#![tactic(auto)]
+
+mod average;
+pub mod laws;
+mod load;
+mod schedule;
+
+pub use average::Average;
+pub use load::{Load, interval};
+pub use schedule::{Schedule, Verdict};
+
+#[cfg(test)]
+mod tests;

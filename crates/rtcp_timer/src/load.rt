@@ -1,0 +1,92 @@
+//! The deterministic interval (RFC 3550, 6.3.1).
+
+ghost use Rattle.std.specs.Prelude.{◌≡◌, ◌≤◌, ◌<◌, ◌*◌, ◌^◌};
+ghost use Rattle.rtcp_timer.specs.Loads.{sharers_of, count_of, quarters_of, interval_at_share, interval_of};
+
+use crate::average::PARTS;
+
+/// Microseconds in a second.
+const SECOND: u64 = 1_000_000;
+
+/// The least interval before the participant's first report, in microseconds (RFC 3550, 6.2).
+const INITIAL_MINIMUM: u64 = 2_500_000;
+
+/// The least interval from then on.
+const MINIMUM: u64 = 5_000_000;
+
+/// What the interval depends on (RFC 3550, 6.3).
+#[derive(Clone, Copy, Debug, PartialEq, Eq)]
+pub struct Load {
+    /// The members of the session, the participant among them.
+    pub members: u32,
+    /// Those of the members that send RTP packets.
+    pub senders: u32,
+    /// The participant is one of the senders.
+    pub we_sent: bool,
+    /// The participant has sent no report yet.
+    pub initial: bool,
+    /// The average size of compounds in 1/256 octet, as `Average::value` gives it.
+    pub avg: u32,
+    /// The session's bandwidth for RTCP, in octets a second.
+    pub rtcp_bw: u32,
+}
+
+/// The deterministic interval, in microseconds (RFC 3550, 6.3.1): the interval in which all who share a part of the bandwidth with
+/// the participant can send one compound of average size each, rounded up, or the minimum where that is longer.
+///
+/// Members are at most 65,535, the average is at most that of compounds of 65,535 octets, and the bandwidth is at least 16 octets a
+/// second.
+pub fn interval(load: &Load) -> u64
+    requires members_fit { load.now.members ≤ 65535 }
+    requires average_fits { load.now.avg ≤ 256 * 65563 }
+    requires some_bandwidth { 16 ≤ load.now.rtcp_bw }
+    ensures exact { result ≡ interval_of load.now }
+    ensures bounded { result < 2 ^ 49 }
+{
+    let minimum = if load.initial {
+        INITIAL_MINIMUM
+    } else {
+        MINIMUM
+    };
+    minimum.max(share_interval(load))
+}
+
+/// The interval that the bandwidth asks for, whatever the minimum.
+fn share_interval(load: &Load) -> u64
+    requires members_fit { load.now.members ≤ 65535 }
+    requires average_fits { load.now.avg ≤ 256 * 65563 }
+    requires some_bandwidth { 16 ≤ load.now.rtcp_bw }
+    ensures exact { result ≡ interval_at_share (sharers_of load.now) load.now }
+    ensures bounded { result < 2 ^ 49 }
+{
+    let share = share_of(load);
+    let parts = 4 * SECOND * share.sharers * load.avg as u64;
+    parts.div_ceil(share.quarters * PARTS as u64 * load.rtcp_bw as u64)
+}
+
+/// A part of the bandwidth.
+#[derive(Clone, Copy)]
+struct Share {
+    /// How many share it.
+    sharers: u64,
+    /// How many quarters of the bandwidth it is.
+    quarters: u64,
+}
+
+/// The part of the bandwidth that the participant shares: senders have a quarter and the others the rest, unless the senders are
+/// more than a quarter of the members (RFC 3550, 6.3.1).
+fn share_of(load: &Load) -> Share
+    ensures sharers { result.sharers ≡ count_of (sharers_of load.now) load.now }
+    ensures quarters { result.quarters ≡ quarters_of (sharers_of load.now) }
+{
+    let members = load.members as u64;
+    let senders = load.senders as u64;
+    let (sharers, quarters) = if 4 * senders > members {
+        (members, 4)
+    } else if load.we_sent {
+        (senders, 1)
+    } else {
+        (members - senders, 3)
+    };
+    Share { sharers, quarters }
+}

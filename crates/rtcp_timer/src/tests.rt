@@ -1,0 +1,124 @@
+use super::*;
+use rtcp_clock::draw;
+use std::test::*;
+
+/// The example at the head of the crate.
+#[test]
+fn example(rt: HostRuntime) {
+    let mut schedule = Schedule::begin(2_500_000, 0);
+    assert_eq!(rt; schedule.next(), 1_026_037);
+    assert_eq!(rt; schedule.expire(1_026_037, 2_500_000, 0, 4), Verdict::Due);
+    schedule.sent(1_026_037, 5_000_000, 0, 4);
+    assert_eq!(rt; schedule.next(), 3_078_111);
+}
+
+#[test]
+fn averages(rt: HostRuntime) {
+    let mut average = Average::start(20);
+    assert_eq!(rt; average.value(), 12_288);
+    average.add(8);
+    assert_eq!(rt; average.value(), 12_096);
+
+    let mut average = Average::start(28);
+    assert_eq!(rt; average.value(), 14_336);
+    average.add(16);
+    assert_eq!(rt; average.value(), 14_144);
+}
+
+/// An average with a part of an octet is rounded down.
+#[test]
+fn average_is_rounded_down(rt: HostRuntime) {
+    let mut average = Average::start(0);
+    average.add(20);
+    average.add(290);
+    assert_eq!(rt; average.value(), 12_108);
+    average.add(8);
+    assert_eq!(rt; average.value(), 11_927);
+}
+
+#[test]
+fn intervals(rt: HostRuntime) {
+    let rows = [
+        (0, false, 20_000_000),
+        (12, true, 12_000_000),
+        (12, false, 16_000_000),
+        (16, false, 15_000_000),
+    ];
+    for (senders, we_sent, wanted) in rows {
+        let load = Load {
+            members: 60,
+            senders,
+            we_sent,
+            initial: false,
+            avg: 25_600,
+            rtcp_bw: 400,
+        };
+        assert_eq!(rt; interval(&load), wanted, "{senders} senders");
+    }
+    assert_eq!(rt; draw(20_000_000, 0x8000_0000), 16_416_588);
+}
+
+/// A session of one has the minimum, which doubles after the first report.
+#[test]
+fn minimum(rt: HostRuntime) {
+    let mut load = Load {
+        members: 1,
+        senders: 0,
+        we_sent: false,
+        initial: true,
+        avg: 12_288,
+        rtcp_bw: 400,
+    };
+    assert_eq!(rt; interval(&load), 2_500_000);
+    load.initial = false;
+    assert_eq!(rt; interval(&load), 5_000_000);
+}
+
+#[test]
+fn starts(rt: HostRuntime) {
+    let least = Schedule::begin(2_500_000, 0);
+    assert_eq!(rt; (least.last(), least.next()), (0, 1_026_037));
+    let greatest = Schedule::begin(2_500_000, 0xffff_ffff);
+    assert_eq!(rt; greatest.next(), 3_078_111);
+}
+
+/// A session from its start to its second try.
+#[test]
+fn session(rt: HostRuntime) {
+    let mut schedule = Schedule::begin(2_500_000, 0);
+    assert_eq!(rt; schedule.next(), 1_026_037);
+    assert_eq!(rt; schedule.expire(1_026_036, 2_500_000, 0, 4), Verdict::Early);
+    assert_eq!(rt; schedule.expire(1_026_037, 2_500_000, 0, 4), Verdict::Due);
+    schedule.sent(1_026_037, 5_000_000, 0, 4);
+    assert_eq!(rt; schedule.next(), 3_078_111);
+
+    schedule.departed(2_026_037, 3);
+    assert_eq!(rt; schedule.last(), 1_276_037);
+    assert_eq!(rt; schedule.next(), 2_815_092);
+    // the second call finds no fewer members
+    schedule.departed(2_026_037, 3);
+    assert_eq!(rt; schedule.last(), 1_276_037);
+    assert_eq!(rt; schedule.next(), 2_815_092);
+    assert_eq!(rt; schedule.expire(2_815_092, 5_000_000, 0, 3), Verdict::Later);
+    assert_eq!(rt; (schedule.last(), schedule.next()), (1_276_037, 3_328_111));
+}
+
+/// Scaled distances are rounded down.
+#[test]
+fn departure(rt: HostRuntime) {
+    let mut schedule = Schedule::begin(2_500_000, 0);
+    schedule.sent(8_000_001, 4_873_122, 0x8000_0000, 4);
+    assert_eq!(rt; (schedule.last(), schedule.next()), (8_000_001, 12_000_003));
+    schedule.departed(10_000_000, 3);
+    assert_eq!(rt; (schedule.last(), schedule.next()), (8_500_001, 11_500_002));
+}
+
+/// A departure leaves an overdue transmission as it is.
+#[test]
+fn departure_when_overdue(rt: HostRuntime) {
+    let mut schedule = Schedule::begin(2_500_000, 0);
+    schedule.sent(8_000_001, 2_436_557, 0x8000_0000, 4);
+    assert_eq!(rt; (schedule.last(), schedule.next()), (8_000_001, 9_999_999));
+    schedule.departed(10_000_000, 3);
+    assert_eq!(rt; (schedule.last(), schedule.next()), (8_500_001, 9_999_999));
+}
