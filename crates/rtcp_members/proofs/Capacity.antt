@@ -1,0 +1,64 @@
+-- How many entries a table has behind a step.
+use Rattle.std.proofs.Common.{◌≡◌, ◌≤◌, ◌+◌, ℕ, suc, Bool, true, false, cond, if◌then◌else◌, nat_lt, List, [], ◌∷◌, length, Option, Some, None, is_some, option_map, filter_map, nat_cmp, arith, refl, le_trans, le_of_eq, le_refl, zero-le}
+use Rattle.std.proofs.lemmas.Bool.{ltb-true}
+use Rattle.std.specs.List.{cons_option}
+use Rattle.std.specs.Cmp.{nat_cmp_total}
+use Rattle.std.specs.FinMap as map
+use Rattle.rtcp_wire.specs.declared.fact.Fact.{Fact}
+use Rattle.rtcp_members.specs.declared.table.Place.TheVariants.{Added, NoRoom, Ignored}
+use Rattle.rtcp_members.specs.Traces.{Horizons, subject, is_gone}
+use Rattle.rtcp_members.specs.Entries.{EntryValue}
+use Rattle.rtcp_members.specs.Tables.{EntryMap, TableValue, changes, placed, place_of, after_fact, entry_after_check, after_check, updated_row, updated, no_members}
+
+-- ---- Facts
+
+len_if : (b : Bool) (table next : TableValue) → map.len (if b then next else table).entries ≡ cond b (map.len next.entries) (map.len table.entries)
+len_if true table next = refl
+len_if false table next = refl
+
+-- Where an entry is added there is room for it.
+len_behind : (fact : Fact) (entry : Option EntryValue) (len capacity : ℕ) → len ≤ capacity
+    → cond (changes (place_of fact entry (nat_lt len capacity))) (cond (is_some entry) len (len + 1)) len ≤ capacity
+len_behind fact (Some entry) len capacity within = elim (changes (place_of fact (Some entry) (nat_lt len capacity))) as (λ b. cond b len len ≤ capacity) [ true ↦ within | false ↦ within ]
+len_behind fact None len capacity within =
+    elim (is_gone fact) as (λ gone. cond (changes (if gone then Ignored else (if nat_lt len capacity then Added else NoRoom))) (len + 1) len ≤ capacity) [
+      | true ↦ within
+      | false ↦ elim (nat_lt len capacity) as (λ room. nat_lt len capacity ≡ room → cond (changes (if room then Added else NoRoom)) (len + 1) len ≤ capacity) [
+        | true ↦ λ room. omega (arith, ltb-true len capacity room)
+        | false ↦ λ _. within
+      ] refl
+    ]
+
+pub fact_keeps_capacity : (table : TableValue) (fact : Fact) (moment : ℕ) → map.len table.entries ≤ table.capacity → map.len (after_fact fact moment table).entries ≤ table.capacity
+fact_keeps_capacity table fact moment within =
+    rw (len_if (changes (placed table fact)) table, map.len-insert nat_cmp_total table.entries (subject fact)) (len_behind fact (map.get table.entries (subject fact)) (map.len table.entries) table.capacity within)
+
+-- ---- Checks
+
+length_updated : (step : EntryValue → Option EntryValue) (rows : List (ℕ × EntryValue)) → length (filter_map (updated_row step) rows) ≤ length rows
+length_updated step [] = le_refl 0
+length_updated step (row ∷ rows) =
+    let rest = length_updated step rows in
+    elim (step row.1) as (λ entry. length (cons_option (option_map (λ e. (row.0, e)) entry) (filter_map (updated_row step) rows)) ≤ suc (length rows)) [
+      | None ↦ omega arith
+      | Some e ↦ omega arith
+    ]
+
+len_from_rows : (rows : List (ℕ × EntryValue)) → map.len (map.from_entries {R = nat_cmp} rows) ≤ length rows
+len_from_rows [] = le_of_eq (map.len-empty nat_cmp EntryValue)
+len_from_rows (row ∷ rows) =
+    let rest = len_from_rows rows in
+    let entries : EntryMap = map.from_entries rows in
+    rw (map.len-insert nat_cmp_total entries row.0 row.1) (elim (map.contains_key entries row.0) as (λ b. cond b (map.len entries) (map.len entries + 1) ≤ suc (length rows)) [ true ↦ omega arith | false ↦ omega arith ])
+
+pub len_updated : (step : EntryValue → Option EntryValue) (entries : EntryMap) → map.len (updated step entries) ≤ map.len entries
+len_updated step entries =
+    rw (map.len-entries entries) (le_trans (len_from_rows (filter_map (updated_row step) (map.entries entries))) (length_updated step (map.entries entries)))
+
+pub check_keeps_capacity : (table : TableValue) (horizons : Horizons) → map.len table.entries ≤ table.capacity → map.len (after_check horizons table).entries ≤ table.capacity
+check_keeps_capacity table horizons within = le_trans (len_updated (entry_after_check horizons) table.entries) within
+
+-- ---- The empty table
+
+pub none_within : (capacity rate : ℕ) → map.len (no_members capacity rate).entries ≤ capacity
+none_within capacity rate = rw (map.len-empty nat_cmp EntryValue) zero-le

@@ -1,0 +1,14 @@
+pub mod Updated
+pub mod Counting
+pub mod Naming
+pub mod Capacity
+pub mod Staying
+pub mod Moving
+pub mod Following
+pub mod Packets
+pub mod Listing
+pub mod Changing
+pub mod Applying
+pub mod Admitting
+pub mod Tallies
+pub mod Rows

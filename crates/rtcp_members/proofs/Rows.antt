@@ -1,0 +1,78 @@
+-- Worked examples: the definitions, computed on short traces.
+use Rattle.std.proofs.Common.{◌≡◌, ℕ, Bool, true, false, List, [], ◌∷◌, is_some, refl}
+use Rattle.rtcp_wire.specs.declared.fact.Fact.TheVariants.{Heard, Named, Gone, Media}
+use Rattle.rtcp_members.specs.Traces.{horizons_at, TraceStep, fact_came, check_made}
+use Rattle.rtcp_members.specs.Stays.{stay_of}
+use Rattle.rtcp_members.specs.Entries.{members_at, senders_at}
+
+abbrev horizons : (silent idle gone : ℕ) → TraceStep
+horizons silent idle gone = check_made (horizons_at silent idle gone)
+
+abbrev is_present : List TraceStep → ℕ → Bool
+is_present trace ssrc = is_some (stay_of 2 trace ssrc)
+
+-- ---- Room for two
+
+abbrev full : List TraceStep
+full = fact_came (Heard 3) 0 ∷ fact_came (Heard 2) 0 ∷ fact_came (Named 1) 0 ∷ fact_came (Heard 1) 0 ∷ []
+
+first_is_present : is_present full 1 ≡ true
+first_is_present = refl
+
+third_has_no_room : is_present full 3 ≡ false
+third_has_no_room = refl
+
+one_is_member : members_at 2 8000 full ≡ 1
+one_is_member = refl
+
+abbrev left : List TraceStep
+left = fact_came (Heard 1) 1000001 ∷ fact_came (Gone 1) 1000000 ∷ fact_came (Gone 9) 0 ∷ full
+
+none_is_member : members_at 2 8000 left ≡ 0
+none_is_member = refl
+
+marked_is_held : is_present (horizons 0 0 1000000 ∷ left) 1 ≡ true
+marked_is_held = refl
+
+marked_is_dropped : is_present (horizons 0 0 1000001 ∷ horizons 0 0 1000000 ∷ left) 1 ≡ false
+marked_is_dropped = refl
+
+abbrev room_again : List TraceStep
+room_again = fact_came (Heard 3) 6000000 ∷ horizons 0 0 1000001 ∷ horizons 0 0 1000000 ∷ left
+
+third_is_added : is_present room_again 3 ≡ true
+third_is_added = refl
+
+-- ---- A sender
+
+abbrev sending : List TraceStep
+sending = fact_came (Media 4 11 0) 100 ∷ fact_came (Media 4 10 0) 0 ∷ []
+
+one_packet_is_none : members_at 2 8000 (fact_came (Media 4 10 0) 0 ∷ []) ≡ 0
+one_packet_is_none = refl
+
+sends : senders_at 2 8000 sending ≡ 1
+sends = refl
+
+still_sends : senders_at 2 8000 (horizons 0 100 0 ∷ sending) ≡ 1
+still_sends = refl
+
+abbrev idle : List TraceStep
+idle = horizons 0 50 0 ∷ horizons 0 101 0 ∷ horizons 0 100 0 ∷ sending
+
+no_longer_sends : senders_at 2 8000 idle ≡ 0
+no_longer_sends = refl
+
+is_still_member : members_at 2 8000 idle ≡ 1
+is_still_member = refl
+
+sends_again : senders_at 2 8000 (fact_came (Media 4 12 0) 200 ∷ idle) ≡ 1
+sends_again = refl
+
+-- ---- Silence
+
+seen_at_the_horizon : is_present (horizons 0 0 0 ∷ fact_came (Heard 7) 0 ∷ []) 7 ≡ true
+seen_at_the_horizon = refl
+
+seen_before_the_horizon : is_present (horizons 1 0 0 ∷ fact_came (Heard 7) 0 ∷ []) 7 ≡ false
+seen_before_the_horizon = refl

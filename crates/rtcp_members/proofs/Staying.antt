@@ -1,0 +1,103 @@
+-- What a stay says of its source, behind one step more.
+use Rattle.std.proofs.Common.{◌≡◌, ℕ, true, false, if◌then◌else◌, ◌||◌, ◌==◌, List, [], ◌∷◌, Option, Some, None, is_some, refl, sym, ap, ◌∙◌}
+use Rattle.rtcp_wire.specs.declared.fact.Fact.{Fact}
+use Rattle.rtcp_wire.specs.declared.fact.Fact.TheVariants.{Heard, Told, Named, Gone, Media}
+use Rattle.rtcp_clock.specs.Moments.{media_units}
+use Rattle.rtcp_source.specs.Packets.{Given, CountedPacket, packet_came, taken_in, Run, greatest_of, taken_as, newest, is_counted, run_of}
+use Rattle.rtcp_source.specs.Summary.{summary_of, numbers_of}
+use Rattle.rtcp_source.specs.Steps.{greatest_in, taken_by, after_packet}
+use Rattle.rtcp_source.proofs.Stepping.{summary_moves}
+use Rattle.rtcp_members.specs.Traces.{Horizons, TraceStep, fact_came, check_made, subject}
+use Rattle.rtcp_members.specs.Stays.{mark_at, mark_of, before_mark, last_naming}
+use Rattle.rtcp_members.specs.Entries.{EntryValue, given_of, is_valid, sending_of, still_sending, entry_of}
+use Rattle.rtcp_members.specs.Tables.{entry_after}
+
+-- ---- The mark
+
+-- what a stay says whose part before the mark is `own`
+abbrev pub entry_with : (rate ssrc : ℕ) (own : List TraceStep) (mark : Option ℕ) → EntryValue
+entry_with rate ssrc own marked =
+    record {
+      valid = is_valid rate ssrc own;
+      mark = marked;
+      sighting = last_naming ssrc own;
+      sending = sending_of rate ssrc own;
+      source = summary_of (given_of rate ssrc own);
+    }
+
+-- what a stay without a mark says with one step more
+abbrev pub moved_entry : (rate ssrc : ℕ) → TraceStep → (stay : List TraceStep) → EntryValue
+moved_entry rate ssrc step stay = entry_with rate ssrc (if is_some (mark_at ssrc step None) then stay else step ∷ stay) (mark_at ssrc step None)
+
+before_none : (ssrc : ℕ) (stay : List TraceStep) → mark_of ssrc stay ≡ None → before_mark ssrc stay ≡ stay
+before_none ssrc [] unmarked = refl
+before_none ssrc (step ∷ stay) unmarked = ap (λ m. if is_some m then before_mark ssrc stay else step ∷ stay) unmarked
+
+pub entry_unmarked : (rate ssrc : ℕ) (stay : List TraceStep) → mark_of ssrc stay ≡ None → entry_of rate ssrc stay ≡ entry_with rate ssrc stay None
+entry_unmarked rate ssrc stay unmarked = λ i. entry_with rate ssrc (before_none ssrc stay unmarked i) (unmarked i)
+
+module _ (rate ssrc : ℕ) (step : TraceStep) (stay : List TraceStep) where
+  -- With a mark no step changes anything.
+  pub entry_marked : (mark : ℕ) → mark_of ssrc stay ≡ Some mark → entry_of rate ssrc (step ∷ stay) ≡ entry_of rate ssrc stay
+  entry_marked mark marked =
+      ap (λ m. entry_with rate ssrc (if is_some (mark_at ssrc step m) then before_mark ssrc stay else step ∷ stay) (mark_at ssrc step m)) marked
+      ∙ ap (entry_with rate ssrc (before_mark ssrc stay)) (sym marked)
+
+  pub entry_moves : mark_of ssrc stay ≡ None → entry_of rate ssrc (step ∷ stay) ≡ moved_entry rate ssrc step stay
+  entry_moves unmarked = λ i. entry_with rate ssrc (if is_some (mark_at ssrc step (unmarked i)) then before_none ssrc stay unmarked i else step ∷ stay) (mark_at ssrc step (unmarked i))
+
+-- ---- Facts
+
+same_taken : (counted before : List CountedPacket) (stray : Option ℕ) (seq : ℕ) → taken_as (greatest_in (numbers_of counted before)) stray seq ≡ taken_as (greatest_of counted) stray seq
+same_taken [] before stray seq = refl
+same_taken (p ∷ counted) before stray seq = refl
+
+-- A packet is to the summary what it is to the run.
+taken_by_summary : (given : List Given) (seq : ℕ) → taken_by (summary_of given) seq ≡ taken_in (run_of given) seq
+taken_by_summary given seq = let run : Run = run_of given in same_taken run.counted run.reported (newest run.strays) seq
+
+-- A fact of the source moves what is said of it as the tables say.
+pub own_fact : (rate ssrc moment : ℕ) (fact : Fact) (stay : List TraceStep) → (subject fact == ssrc) ≡ true
+    → moved_entry rate ssrc (fact_came fact moment) stay ≡ entry_after rate fact moment (entry_with rate ssrc stay None)
+own_fact rate ssrc moment (Heard other) stay own = rw own refl
+own_fact rate ssrc moment (Told other ntp) stay own = rw own refl
+own_fact rate ssrc moment (Named other) stay own = rw own refl
+own_fact rate ssrc moment (Gone other) stay own = rw own refl
+own_fact rate ssrc moment (Media other seq timestamp) stay own =
+    let given = given_of rate ssrc stay in
+    let taken : taken_in (run_of given) seq ≡ taken_by (summary_of given) seq = sym (taken_by_summary given seq) in
+    let arrival = media_units moment rate in
+    let moved : summary_of (packet_came seq timestamp arrival ∷ given) ≡ after_packet seq timestamp arrival (summary_of given) = summary_moves seq timestamp arrival given in
+    rw own (λ i. record {
+      valid = is_counted (taken i) || is_valid rate ssrc stay;
+      mark = None;
+      sighting = moment;
+      sending = (if is_counted (taken i) then Some moment else sending_of rate ssrc stay);
+      source = moved i;
+    })
+
+-- A fact of another source changes nothing.
+pub other_fact : (rate ssrc moment : ℕ) (fact : Fact) (stay : List TraceStep) → (subject fact == ssrc) ≡ false
+    → moved_entry rate ssrc (fact_came fact moment) stay ≡ entry_with rate ssrc stay None
+other_fact rate ssrc moment (Heard other) stay apart = rw apart refl
+other_fact rate ssrc moment (Told other ntp) stay apart = rw apart refl
+other_fact rate ssrc moment (Named other) stay apart = rw apart refl
+other_fact rate ssrc moment (Gone other) stay apart = rw apart refl
+other_fact rate ssrc moment (Media other seq timestamp) stay apart = rw apart refl
+
+-- ---- Checks
+
+-- an entry without a mark, behind a check that does not remove it
+abbrev pub checked : Horizons → EntryValue → EntryValue
+checked horizons entry = record entry { sending = still_sending horizons entry.sending }
+
+-- A check that does not remove a source changes at most whether it sends, and nothing where it has a mark.
+pub check_behind : (rate ssrc : ℕ) (horizons : Horizons) (stay : List TraceStep)
+    → let entry = entry_of rate ssrc stay in
+    entry_of rate ssrc (check_made horizons ∷ stay) ≡ (if is_some (mark_of ssrc stay) then entry else checked horizons entry)
+check_behind rate ssrc horizons stay =
+    let entry = entry_of rate ssrc stay in
+    elim (mark_of ssrc stay) as (λ m. mark_of ssrc stay ≡ m → entry_of rate ssrc (check_made horizons ∷ stay) ≡ (if is_some m then entry else checked horizons entry)) [
+      | None ↦ λ unmarked. entry_moves rate ssrc (check_made horizons) stay unmarked ∙ ap (checked horizons) (sym (entry_unmarked rate ssrc stay unmarked))
+      | Some mark ↦ λ marked. entry_marked rate ssrc (check_made horizons) stay mark marked
+    ] refl

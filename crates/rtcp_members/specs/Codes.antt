@@ -1,0 +1,38 @@
+-- Codes, by which a proof tells tables apart.
+use Rattle.std.specs.Prelude.{ℕ, Bool, Option, refl}
+use Rattle.std.specs.Coded.{Coded, code_by, coded×, coded_ℕ, coded_bool, coded_option}
+use Rattle.std.specs.FinMap as map
+use Rattle.rtcp_source.specs.Summary.{RunValue, ToldValue, SourceValue}
+use Rattle.rtcp_members.specs.Entries.{EntryValue}
+use Rattle.rtcp_members.specs.Tables.{EntryMap, TableValue}
+
+abbrev pub run_code : Coded RunValue
+run_code =
+    code_by (ℕ × (ℕ × (ℕ × (ℕ × (ℕ × (ℕ × ℕ)))))) (coded× coded_ℕ (coded× coded_ℕ (coded× coded_ℕ (coded× coded_ℕ (coded× coded_ℕ (coded× coded_ℕ coded_ℕ))))))
+    (λ r. (r.first, (r.greatest, (r.received, (r.expected_before, (r.received_before, (r.transit, r.jitter)))))))
+    (λ p. record { first = p.0; greatest = p.1.0; received = p.1.1.0; expected_before = p.1.1.1.0; received_before = p.1.1.1.1.0; transit = p.1.1.1.1.1.0; jitter = p.1.1.1.1.1.1 })
+    (λ _. refl)
+
+abbrev pub told_code : Coded ToldValue
+told_code = code_by (ℕ × ℕ) (coded× coded_ℕ coded_ℕ) (λ t. (t.lsr, t.moment)) (λ p. record { lsr = p.0; moment = p.1 }) (λ _. refl)
+
+abbrev pub source_code : Coded SourceValue
+source_code =
+    code_by (ℕ × (Option RunValue × (Option ℕ × Option ToldValue))) (coded× coded_ℕ (coded× (coded_option run_code) (coded× (coded_option coded_ℕ) (coded_option told_code))))
+    (λ s. (s.packets, (s.run, (s.stray, s.told))))
+    (λ p. record { packets = p.0; run = p.1.0; stray = p.1.1.0; told = p.1.1.1 })
+    (λ _. refl)
+
+abbrev pub entry_code : Coded EntryValue
+entry_code =
+    code_by (Bool × (Option ℕ × (ℕ × (Option ℕ × SourceValue)))) (coded× coded_bool (coded× (coded_option coded_ℕ) (coded× coded_ℕ (coded× (coded_option coded_ℕ) source_code))))
+    (λ e. (e.valid, (e.mark, (e.sighting, (e.sending, e.source)))))
+    (λ p. record { valid = p.0; mark = p.1.0; sighting = p.1.1.0; sending = p.1.1.1.0; source = p.1.1.1.1 })
+    (λ _. refl)
+
+abbrev pub table_code : Coded TableValue
+table_code =
+    code_by (ℕ × (ℕ × EntryMap)) (coded× coded_ℕ (coded× coded_ℕ (map.code coded_ℕ entry_code)))
+    (λ t. (t.capacity, (t.rate, t.entries)))
+    (λ p. record { capacity = p.0; rate = p.1.0; entries = p.1.1 })
+    (λ _. refl)

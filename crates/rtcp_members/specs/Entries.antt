@@ -1,0 +1,120 @@
+-- What a session knows of each source that is present, and how many are members and senders (RFC 3550, 6.2.1, 6.3).
+use Rattle.std.specs.Prelude.{ℕ, ◌||◌, ◌==◌, ◌&&◌, Bool, false, List, [], ◌∷◌, filter, length, if◌then◌else◌, Option, Some, None, is_some, is_none, option_map}
+use Rattle.rtcp_wire.specs.declared.fact.Fact.{Fact}
+use Rattle.rtcp_wire.specs.declared.fact.Fact.TheVariants.{Heard, Told, Named, Gone, Media}
+use Rattle.rtcp_clock.specs.Moments.{media_units}
+use Rattle.rtcp_source.specs.Packets.{Given, packet_came, report_came, block_made, taken_in, is_counted, run_of}
+use Rattle.rtcp_source.specs.Summary.{SourceValue, summary_of}
+use Rattle.rtcp_members.specs.Traces.{Horizons, TraceStep, fact_came, check_made, block_taken, names}
+use Rattle.rtcp_members.specs.Stays.{mark_of, before_mark, last_naming, is_before, stay_of}
+
+pub record EntryValue : Type 0 where
+  -- whether the source was named, or had a counted packet
+  pub valid : Bool
+  -- when it said goodbye
+  pub mark : Option ℕ
+  -- its last sighting
+  pub sighting : ℕ
+  -- its last counted packet, while it is a sender
+  pub sending : Option ℕ
+  pub source : SourceValue
+
+-- ---- Of the part of a stay before the mark
+
+abbrev pub given_by : (rate ssrc : ℕ) → Fact → (moment : ℕ) → List Given → List Given
+given_by rate ssrc (Heard other) moment given = given
+given_by rate ssrc (Told other ntp) moment given = if other == ssrc then report_came ntp moment ∷ given else given
+given_by rate ssrc (Named other) moment given = given
+given_by rate ssrc (Gone other) moment given = given
+given_by rate ssrc (Media other seq timestamp) moment given =
+    if other == ssrc then packet_came seq timestamp (media_units moment rate) ∷ given else given
+
+abbrev pub given_with : (rate ssrc : ℕ) → TraceStep → List Given → List Given
+given_with rate ssrc (fact_came fact moment) given = given_by rate ssrc fact moment given
+given_with rate ssrc (check_made horizons) given = given
+given_with rate ssrc (block_taken other) given = if other == ssrc then block_made ∷ given else given
+
+-- What a stay gives of a source, with arrivals in units of the media's clock (5.1).
+abbrev pub given_of : (rate ssrc : ℕ) → List TraceStep → List Given
+given_of rate ssrc [] = []
+given_of rate ssrc (step ∷ earlier) = given_with rate ssrc step (given_of rate ssrc earlier)
+
+abbrev pub is_counted_fact : (ssrc : ℕ) → Fact → List Given → Bool
+is_counted_fact ssrc (Heard other) given = false
+is_counted_fact ssrc (Told other ntp) given = false
+is_counted_fact ssrc (Named other) given = false
+is_counted_fact ssrc (Gone other) given = false
+is_counted_fact ssrc (Media other seq timestamp) given = other == ssrc && is_counted (taken_in (run_of given) seq)
+
+-- Whether a step is a counted packet of the source, to which this was given before (A.1).
+abbrev pub is_counted_by : (ssrc : ℕ) → TraceStep → List Given → Bool
+is_counted_by ssrc (fact_came fact moment) given = is_counted_fact ssrc fact given
+is_counted_by ssrc (check_made horizons) given = false
+is_counted_by ssrc (block_taken other) given = false
+
+abbrev pub names_it : (ssrc : ℕ) → TraceStep → Bool
+names_it ssrc (fact_came (Heard other) moment) = false
+names_it ssrc (fact_came (Told other ntp) moment) = false
+names_it ssrc (fact_came (Named other) moment) = other == ssrc
+names_it ssrc (fact_came (Gone other) moment) = false
+names_it ssrc (fact_came (Media other seq timestamp) moment) = false
+names_it ssrc (check_made horizons) = false
+names_it ssrc (block_taken other) = false
+
+-- A source is valid once it gave its name, or a packet of it was counted.
+abbrev pub is_valid : (rate ssrc : ℕ) → List TraceStep → Bool
+is_valid rate ssrc [] = false
+is_valid rate ssrc (step ∷ earlier) =
+    names_it ssrc step || is_counted_by ssrc step (given_of rate ssrc earlier) || is_valid rate ssrc earlier
+
+abbrev pub still_sending : Horizons → Option ℕ → Option ℕ
+still_sending horizons sending = if is_before sending horizons.idle then None else sending
+
+abbrev pub sending_with : (rate ssrc : ℕ) → TraceStep → List Given → Option ℕ → Option ℕ
+sending_with rate ssrc (fact_came fact moment) given sending = if is_counted_fact ssrc fact given then Some moment else sending
+sending_with rate ssrc (check_made horizons) given sending = still_sending horizons sending
+sending_with rate ssrc (block_taken other) given sending = sending
+
+-- The moment of the last counted packet, as long as no check behind it had a later horizon for packets.
+abbrev pub sending_of : (rate ssrc : ℕ) → List TraceStep → Option ℕ
+sending_of rate ssrc [] = None
+sending_of rate ssrc (step ∷ earlier) = sending_with rate ssrc step (given_of rate ssrc earlier) (sending_of rate ssrc earlier)
+
+-- ---- Entries
+
+-- what a stay says of its source
+abbrev pub entry_of : (rate ssrc : ℕ) → List TraceStep → EntryValue
+entry_of rate ssrc stay =
+    let own = before_mark ssrc stay in
+    record {
+      valid = is_valid rate ssrc own;
+      mark = mark_of ssrc stay;
+      sighting = last_naming ssrc own;
+      sending = sending_of rate ssrc own;
+      source = summary_of (given_of rate ssrc own);
+    }
+
+-- What the trace says of a source, if it is present.
+abbrev pub entry_at : (capacity rate : ℕ) → List TraceStep → (ssrc : ℕ) → Option EntryValue
+entry_at capacity rate trace ssrc = option_map (entry_of rate ssrc) (stay_of capacity trace ssrc)
+
+-- Members are valid and not marked (6.2.1, 6.3.7); senders are the members who send (6.3).
+abbrev pub is_member : EntryValue → Bool
+is_member entry = entry.valid && is_none entry.mark
+
+abbrev pub is_sender : EntryValue → Bool
+is_sender entry = is_member entry && is_some entry.sending
+
+abbrev pub is_such : (EntryValue → Bool) → Option EntryValue → Bool
+is_such test None = false
+is_such test (Some entry) = test entry
+
+-- how many of the sources of a trace are such
+abbrev pub count_at : (EntryValue → Bool) → (capacity rate : ℕ) → List TraceStep → ℕ
+count_at test capacity rate trace = length (filter (λ ssrc. is_such test (entry_at capacity rate trace ssrc)) (names trace))
+
+abbrev pub members_at : (capacity rate : ℕ) → List TraceStep → ℕ
+members_at = count_at is_member
+
+abbrev pub senders_at : (capacity rate : ℕ) → List TraceStep → ℕ
+senders_at = count_at is_sender

@@ -1,0 +1,43 @@
+-- What the entries of a list say, in the values of the definitions.
+use Rattle.std.specs.Prelude.{ℕ, ◌≡◌, Bool, List, map, length, not, ◌&&◌, ◌≤◌, if◌then◌else◌, Some, None, is_none, slice_get}
+use Rattle.std.specs.FinMap as finite
+use Rattle.rtcp_members.specs.declared.entry.Entry.{Entry}
+use Rattle.rtcp_members.specs.Entries.{EntryValue}
+use Rattle.rtcp_members.specs.Traces.{Horizons}
+use Rattle.rtcp_members.specs.Stays.{is_before, is_removed}
+use Rattle.rtcp_members.specs.Tables.{EntryMap, IsApart, TableValue}
+
+abbrev pub entry_value : Entry → EntryValue
+entry_value e = record { valid = e.valid; mark = e.mark; sighting = e.sighting; sending = e.sending; source = e.source }
+
+abbrev pub row_of : Entry → ℕ × EntryValue
+row_of e = (e.ssrc, entry_value e)
+
+abbrev pub rows_of : List Entry → List (ℕ × EntryValue)
+rows_of entries = map row_of entries
+
+abbrev pub map_of : List Entry → EntryMap
+map_of entries = finite.from_entries (rows_of entries)
+
+abbrev pub table_of : (capacity rate : ℕ) → List Entry → TableValue
+table_of capacity rate entries = record { capacity = capacity; rate = rate; entries = map_of entries }
+
+-- an entry that stays behind a check
+abbrev pub lapsed : (idle : ℕ) → Entry → Entry
+lapsed idle e = if is_none e.mark && is_before e.sending idle then record e { sending = None } else e
+
+abbrev pub outlasts : Horizons → Entry → Bool
+outlasts horizons e = not (is_removed horizons e.sighting e.mark)
+
+-- A source's entry stands here, and is the one that the map has.
+pub record IsPlaceOf (ssrc : ℕ) (entries : List Entry) (at : ℕ) : Type 0 where
+  pub entry : Entry
+  pub stands : slice_get entries at ≡ Some entry
+  pub its_ssrc : entry.ssrc ≡ ssrc
+  pub found : finite.get (map_of entries) ssrc ≡ Some (entry_value entry)
+
+-- What holds of a table's list: no SSRC stands in it twice, and it is no longer than the capacity, which it has room for.
+pub record IsListed (capacity : ℕ) (entries : List Entry) : Type 0 where
+  pub apart : IsApart (rows_of entries)
+  pub within : length entries ≤ capacity
+  pub room : capacity ≤ 1024

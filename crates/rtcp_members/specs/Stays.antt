@@ -1,0 +1,64 @@
+-- Who is present in a session, and since when (RFC 3550, 6.3.3 to 6.3.5, 6.3.7).
+-- The stay of a source is the trace from its last admission on, as long as no check removes it.
+use Rattle.std.specs.Prelude.{ℕ, ◌||◌, ◌==◌, ◌&&◌, Bool, true, false, nat_lt, List, [], ◌∷◌, filter, length, if◌then◌else◌, Option, Some, None, is_some}
+use Rattle.rtcp_members.specs.Traces.{Horizons, TraceStep, fact_came, check_made, block_taken, subject, is_gone, is_naming, names}
+
+-- ---- Parts of a stay
+
+abbrev pub mark_at : (ssrc : ℕ) → TraceStep → Option ℕ → Option ℕ
+mark_at ssrc step (Some mark) = Some mark
+mark_at ssrc (fact_came fact moment) None = if is_gone fact && subject fact == ssrc then Some moment else None
+mark_at ssrc (check_made horizons) None = None
+mark_at ssrc (block_taken other) None = None
+
+-- The mark of a source: the moment of its first goodbye.
+abbrev pub mark_of : (ssrc : ℕ) → List TraceStep → Option ℕ
+mark_of ssrc [] = None
+mark_of ssrc (step ∷ earlier) = mark_at ssrc step (mark_of ssrc earlier)
+
+-- what stands before the mark
+abbrev pub before_mark : (ssrc : ℕ) → List TraceStep → List TraceStep
+before_mark ssrc [] = []
+before_mark ssrc (step ∷ earlier) = if is_some (mark_of ssrc (step ∷ earlier)) then before_mark ssrc earlier else step ∷ earlier
+
+abbrev pub moment_of : TraceStep → ℕ
+moment_of (fact_came fact moment) = moment
+moment_of (check_made horizons) = 0
+moment_of (block_taken ssrc) = 0
+
+-- The moment of the last sighting, a naming before the mark. (A stay has one, its admission.)
+abbrev pub last_naming : (ssrc : ℕ) → List TraceStep → ℕ
+last_naming ssrc [] = 0
+last_naming ssrc (step ∷ earlier) = if is_naming ssrc step then moment_of step else last_naming ssrc earlier
+
+abbrev pub last_sighting : (ssrc : ℕ) → List TraceStep → ℕ
+last_sighting ssrc stay = last_naming ssrc (before_mark ssrc stay)
+
+abbrev pub is_before : Option ℕ → ℕ → Bool
+is_before None horizon = false
+is_before (Some moment) horizon = nat_lt moment horizon
+
+-- Whether a check removes a source whose last sighting and mark these are.
+abbrev pub is_removed : Horizons → (sighting : ℕ) (mark : Option ℕ) → Bool
+is_removed horizons sighting mark = nat_lt sighting horizons.silent || is_before mark horizons.gone
+
+abbrev pub ends_stay : (ssrc : ℕ) → TraceStep → List TraceStep → Bool
+ends_stay ssrc (fact_came fact moment) stay = false
+ends_stay ssrc (check_made horizons) stay = is_removed horizons (last_sighting ssrc stay) (mark_of ssrc stay)
+ends_stay ssrc (block_taken other) stay = false
+
+-- ---- Stays
+
+-- How many of these sources are present, where `stay` gives the stay of each.
+abbrev pub present_among : List ℕ → (stay : ℕ → Option (List TraceStep)) → ℕ
+present_among named stay = length (filter (λ ssrc. is_some (stay ssrc)) named)
+
+abbrev pub stay_with : (capacity : ℕ) → TraceStep → List ℕ → (ℕ → Option (List TraceStep)) → (ssrc : ℕ) → Option (List TraceStep) → Option (List TraceStep)
+stay_with capacity step named others ssrc None =
+    elim (is_naming ssrc step) [ false ↦ None | true ↦ if nat_lt (present_among named others) capacity then Some (step ∷ []) else None ]
+stay_with capacity step named others ssrc (Some stay) = if ends_stay ssrc step stay then None else Some (step ∷ stay)
+
+-- The stay of each source, if it is present. A naming admits it where it is not, and fewer than `capacity` sources are.
+abbrev pub stay_of : (capacity : ℕ) → List TraceStep → (ssrc : ℕ) → Option (List TraceStep)
+stay_of capacity [] = λ ssrc. None
+stay_of capacity (step ∷ earlier) = λ ssrc. stay_with capacity step (names earlier) (stay_of capacity earlier) ssrc (stay_of capacity earlier ssrc)

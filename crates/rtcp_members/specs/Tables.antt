@@ -1,0 +1,153 @@
+-- What a table of members holds, a finite map from SSRC to entry, and how it moves.
+use Rattle.std.specs.Prelude.{ℕ, ◌≡◌, ◌-◌, ◌<◌, ◌≤◌, ◌^◌, ◌||◌, ◌&&◌, Bool, true, false, nat_lt, List, [], ◌∷◌, filter, filter_map, length, if◌then◌else◌, Option, Some, None, is_some, is_none, option_map, unwrap_or}
+use Rattle.std.specs.Ordering.{nat_cmp}
+use Rattle.std.specs.FinMap as map
+use Rattle.rtcp_wire.specs.declared.fact.Fact.{Fact}
+use Rattle.rtcp_wire.specs.declared.fact.Fact.TheVariants.{Heard, Told, Named, Gone, Media}
+use Rattle.rtcp_clock.specs.Moments.{media_units}
+use Rattle.rtcp_source.specs.Packets.{is_counted}
+use Rattle.rtcp_source.specs.Summary.{SourceValue}
+use Rattle.rtcp_source.specs.Steps.{no_source, taken_by, after_packet, after_told}
+use Rattle.rtcp_members.specs.declared.table.Place.{Place}
+use Rattle.rtcp_members.specs.declared.table.Place.TheVariants.{Kept, Added, NoRoom, Ignored, Left}
+use Rattle.rtcp_members.specs.Traces.{Horizons, TraceStep, subject, is_gone}
+use Rattle.rtcp_members.specs.Stays.{is_removed}
+use Rattle.rtcp_members.specs.Entries.{EntryValue, still_sending, entry_at, is_member, is_sender}
+
+abbrev pub EntryMap : Type 0
+EntryMap = map.FinMap nat_cmp EntryValue
+
+pub record TableValue : Type 0 where
+  -- how many entries it may hold
+  pub capacity : ℕ
+  -- units of the media's clock a second
+  pub rate : ℕ
+  pub entries : EntryMap
+
+-- ---- Facts
+
+-- what is known of a source before the fact that adds it
+abbrev pub new_entry : EntryValue
+new_entry = record { valid = false; mark = None; sighting = 0; sending = None; source = no_source }
+
+-- whether the fact is a packet that the source counts
+abbrev pub counts : Fact → SourceValue → Bool
+counts (Heard ssrc) source = false
+counts (Told ssrc ntp) source = false
+counts (Named ssrc) source = false
+counts (Gone ssrc) source = false
+counts (Media ssrc seq timestamp) source = is_counted (taken_by source seq)
+
+-- an entry without a mark, behind a fact of its source
+abbrev pub entry_after : (rate : ℕ) → Fact → (moment : ℕ) → EntryValue → EntryValue
+entry_after rate (Heard ssrc) moment entry = record entry { sighting = moment }
+entry_after rate (Told ssrc ntp) moment entry = record entry { sighting = moment; source = after_told ntp moment entry.source }
+entry_after rate (Named ssrc) moment entry = record entry { valid = true; sighting = moment }
+entry_after rate (Gone ssrc) moment entry = record entry { mark = Some moment }
+entry_after rate (Media ssrc seq timestamp) moment entry =
+    let counted = is_counted (taken_by entry.source seq) in
+    record entry {
+      valid = counted || entry.valid;
+      sighting = moment;
+      sending = (if counted then Some moment else entry.sending);
+      source = after_packet seq timestamp (media_units moment rate) entry.source;
+    }
+
+-- an entry behind a fact of its source: one with a mark stays as it is
+abbrev pub entry_behind : (rate : ℕ) → Fact → (moment : ℕ) → EntryValue → EntryValue
+entry_behind rate fact moment entry = if is_some entry.mark then entry else entry_after rate fact moment entry
+
+-- What becomes of a fact, by the entry of its source, if it has one, and by whether there is room for one more.
+abbrev pub place_of : Fact → Option EntryValue → (room : Bool) → Place
+place_of fact None room = if is_gone fact then Ignored else (if room then Added else NoRoom)
+place_of fact (Some entry) room = if is_some entry.mark then Ignored else (if is_gone fact then Left else Kept)
+
+abbrev pub changes : Place → Bool
+changes Kept = true
+changes Added = true
+changes Left = true
+changes NoRoom = false
+changes Ignored = false
+
+abbrev pub has_room : TableValue → Bool
+has_room table = nat_lt (map.len table.entries) table.capacity
+
+abbrev pub placed : TableValue → Fact → Place
+placed table fact = place_of fact (map.get table.entries (subject fact)) (has_room table)
+
+-- the entry that a fact finds, or a new one
+abbrev pub entry_for : TableValue → Fact → EntryValue
+entry_for table fact = unwrap_or (map.get table.entries (subject fact)) new_entry
+
+-- Whether a fact is a packet that is counted: one that a source counts which is present and has no mark. (The first packet of a
+-- source is not.)
+abbrev pub counted_of : Fact → Option EntryValue → Bool
+counted_of fact None = false
+counted_of fact (Some entry) = is_none entry.mark && counts fact entry.source
+
+abbrev pub counted : TableValue → Fact → Bool
+counted table fact = counted_of fact (map.get table.entries (subject fact))
+
+abbrev pub after_fact : Fact → (moment : ℕ) → TableValue → TableValue
+after_fact fact moment table =
+    if changes (placed table fact)
+    then record table { entries = map.insert table.entries (subject fact) (entry_after table.rate fact moment (entry_for table fact)) }
+    else table
+
+-- A source is given fewer than 2^40 packets.
+abbrev pub IsFew : EntryValue → Type 0
+IsFew entry = entry.source.packets < 2 ^ 40
+
+-- No source was given more packets than this.
+abbrev pub HasFew : (packets : ℕ) → TableValue → Type 0
+HasFew packets table = (ssrc : ℕ) (entry : EntryValue) → map.get table.entries ssrc ≡ Some entry → entry.source.packets ≤ packets
+
+-- ---- Checks
+
+-- An entry behind a check, if it stays. One with a mark only waits to be dropped.
+abbrev pub entry_after_check : Horizons → EntryValue → Option EntryValue
+entry_after_check horizons entry =
+    if is_removed horizons entry.sighting entry.mark then None
+    else Some (if is_some entry.mark then entry else record entry { sending = still_sending horizons entry.sending })
+
+-- No key stands twice in the rows.
+abbrev pub IsApart : List (ℕ × EntryValue) → Type 0
+IsApart [] = Unit {0}
+IsApart (row ∷ rows) = (map.find nat_cmp row.0 rows ≡ None) × IsApart rows
+
+-- each entry as `step` leaves it, or dropped
+abbrev pub updated_row : (EntryValue → Option EntryValue) → ℕ × EntryValue → Option (ℕ × EntryValue)
+updated_row step row = option_map (λ entry. (row.0, entry)) (step row.1)
+
+abbrev pub updated : (EntryValue → Option EntryValue) → EntryMap → EntryMap
+updated step entries = map.from_entries (filter_map (updated_row step) (map.entries entries))
+
+abbrev pub after_check : Horizons → TableValue → TableValue
+after_check horizons table = record table { entries = updated (entry_after_check horizons) table.entries }
+
+-- ---- Counts
+
+abbrev pub count_in : (EntryValue → Bool) → TableValue → ℕ
+count_in test table = length (filter (λ row. test row.1) (map.entries table.entries))
+
+abbrev pub members_in : TableValue → ℕ
+members_in = count_in is_member
+
+abbrev pub senders_in : TableValue → ℕ
+senders_in = count_in is_sender
+
+-- How many fewer entries and senders there are behind a check. It adds none of either.
+abbrev pub dropped_entries : Horizons → TableValue → ℕ
+dropped_entries horizons table = map.len table.entries - map.len (after_check horizons table).entries
+
+abbrev pub dropped_senders : Horizons → TableValue → ℕ
+dropped_senders horizons table = senders_in table - senders_in (after_check horizons table)
+
+-- ---- Tables and traces
+
+abbrev pub no_members : (capacity rate : ℕ) → TableValue
+no_members capacity rate = record { capacity = capacity; rate = rate; entries = map.empty }
+
+-- A table stands at a trace where it has, for each source, the entry of the trace.
+abbrev pub StandsAt : TableValue → List TraceStep → Type 0
+StandsAt table trace = (ssrc : ℕ) → map.get table.entries ssrc ≡ entry_at table.capacity table.rate trace ssrc

@@ -1,0 +1,137 @@
+//! What a list table keeps of a source (RFC 3550, 6.2.1, 6.3.3 to 6.3.5 and 6.3.7).
+
+ghost use Rattle.std.specs.Prelude.{◌≡◌, ◌<◌, ◌^◌, None, Some, Bool, not};
+ghost use Rattle.rtcp_members.specs.ListViews.{entry_value, lapsed};
+ghost use Rattle.rtcp_members.specs.Traces.{horizons_at, is_gone, subject};
+ghost use Rattle.rtcp_members.specs.Stays.{is_removed};
+ghost use Rattle.rtcp_members.specs.Entries.{is_member, is_sender, still_sending};
+ghost use Rattle.rtcp_source.specs.Packets.{is_counted};
+ghost use Rattle.rtcp_members.specs.Tables.{new_entry, counts, counted_of, entry_after, entry_behind, place_of};
+
+use crate::table::{Applied, Place};
+use rtcp_clock::rtp_units;
+use rtcp_source::{Source, Taken};
+use rtcp_wire::Fact;
+
+/// A source that is present.
+#[derive(Drop)]
+pub(crate) struct Entry {
+    pub(crate) ssrc: u32,
+    /// Whether it gave its name, or a packet of it was counted.
+    pub(crate) valid: bool,
+    /// When it said goodbye, in microseconds.
+    pub(crate) mark: Option<u64>,
+    /// Its last sighting, in microseconds.
+    pub(crate) sighting: u64,
+    /// Its last counted packet, in microseconds, while it is a sender.
+    pub(crate) sending: Option<u64>,
+    pub(crate) source: Source,
+}
+
+impl Default for Entry {
+    fn default() -> Entry {
+        Entry::new(0)
+    }
+}
+
+impl Entry {
+    /// A source of which nothing is known.
+    pub(crate) fn new(ssrc: u32) -> Entry
+        ensures ssrc { result.ssrc ≡ ssrc }
+        ensures value { entry_value result ≡ new_entry }
+    {
+        Entry {
+            ssrc,
+            valid: false,
+            mark: None,
+            sighting: 0,
+            sending: None,
+            source: Source::new(),
+        }
+    }
+
+    pub(crate) fn is_member(&self) -> bool
+        ensures { result ≡ is_member (entry_value self.now) }
+    {
+        self.valid && self.mark.is_none()
+    }
+
+    pub(crate) fn is_sender(&self) -> bool
+        ensures { result ≡ is_sender (entry_value self.now) }
+    {
+        self.is_member() && self.sending.is_some()
+    }
+
+    /// The entry, which has no mark, behind a fact of its source at the moment `t`. The answer is whether the fact was a packet
+    /// that was counted.
+    pub(crate) fn take(&mut self, fact: Fact, t: u64, rate: u32) -> bool
+        requires { self.old.source.packets < 2 ^ 40 }
+        ensures counted { result ≡ counts fact self.old.source }
+        ensures ssrc { self.new.ssrc ≡ self.old.ssrc }
+        ensures value { entry_value self.new ≡ entry_after rate fact t (entry_value self.old) }
+    {
+        match fact {
+            Fact::Gone(_) => {
+                self.mark = Some(t);
+                return false;
+            }
+            Fact::Heard(_) => {}
+            Fact::Named(_) => self.valid = true,
+            Fact::Told(_, ntp) => self.source.saw_sr(ntp, t),
+            Fact::Media(_, seq, timestamp) => {
+                let counted = is_counted(self.source.take(seq, timestamp, rtp_units(t, rate)));
+                if counted {
+                    self.valid = true;
+                    self.sending = Some(t);
+                }
+                self.sighting = t;
+                return counted;
+            }
+        }
+        self.sighting = t;
+        false
+    }
+
+    /// A fact of the entry's source comes at the moment `t`.
+    pub(crate) fn apply(&mut self, fact: Fact, t: u64, rate: u32) -> Applied
+        requires { self.old.source.packets < 2 ^ 40 }
+        ensures place { (room : Bool) → result.place ≡ place_of fact (Some (entry_value self.old)) room }
+        ensures counted { result.counted ≡ counted_of fact (Some (entry_value self.old)) }
+        ensures ssrc { self.new.ssrc ≡ self.old.ssrc }
+        ensures value { entry_value self.new ≡ entry_behind rate fact t (entry_value self.old) }
+    {
+        if self.mark.is_some() {
+            return Applied {
+                place: Place::Ignored,
+                counted: false,
+            };
+        }
+        let place = match fact {
+            Fact::Gone(_) => Place::Left,
+            _ => Place::Kept,
+        };
+        let counted = self.take(fact, t, rate);
+        Applied { place, counted }
+    }
+
+    /// Whether the entry stays behind a check with these horizons. It is a sender behind it only where its last counted packet does
+    /// not lie before `idle`.
+    pub(crate) fn outlasts(&mut self, silent: u64, idle: u64, gone: u64) -> bool
+        ensures stays { result ≡ not (is_removed (horizons_at silent idle gone) self.old.sighting self.old.mark) }
+        ensures entry { self.new ≡ lapsed idle self.old }
+    {
+        if self.mark.is_none() && self.sending.is_some_and(|sent| sent < idle) {
+            self.sending = None;
+        }
+        silent <= self.sighting && self.mark.is_none_or(|mark| gone <= mark)
+    }
+}
+
+fn is_counted(taken: Taken) -> bool
+    ensures { result ≡ is_counted taken }
+{
+    match taken {
+        Taken::Counted | Taken::Became | Taken::Restarted => true,
+        Taken::Probation | Taken::Bad => false,
+    }
+}

@@ -1,0 +1,188 @@
+//! A table that keeps its entries in a list, in order of arrival, and walks it.
+
+ghost use Rattle.std.specs.Prelude.{◌≡◌, ℕ, ◌<◌, ◌≤◌, ◌^◌, true, List, length, filter, IfSome, MatchOption, Some, None};
+ghost use Rattle.std.specs.FinMap as finite;
+ghost use Rattle.std.specs.List.{retain_mut};
+ghost use Rattle.rtcp_members.specs.Traces.{horizons_at, subject, is_gone};
+ghost use Rattle.rtcp_members.specs.ListViews.{entry_value, rows_of, map_of, table_of, lapsed, outlasts, IsListed, IsPlaceOf};
+ghost use Rattle.rtcp_members.specs.Entries.{is_member, is_sender};
+ghost use Rattle.rtcp_members.specs.Tables.{TableValue, IsApart, IsFew, no_members, placed, counted, after_fact, after_check, dropped_entries, dropped_senders, members_in, senders_in, count_in};
+
+use crate::entry::Entry;
+use crate::table::{Applied, Dropped, MemberTable, Place};
+use arrayvec::ArrayVec;
+use rtcp_wire::Fact;
+use std::marker::Model;
+
+/// The greatest capacity of a table.
+const MAX_CAPACITY: usize = 1024;
+
+/// A table of members as a list, in order of arrival. Each call walks it, and none asks for memory.
+#[derive(Drop)]
+pub struct ListTable {
+    capacity: u32,
+    rate: u32,
+    entries: ArrayVec<Entry, MAX_CAPACITY>,
+}
+
+impl Model for ListTable {
+    ghost use Rattle.rtcp_members.specs.Tables.{TableValue};
+    ghost use Rattle.rtcp_members.specs.Codes.{table_code};
+    ghost use Rattle.rtcp_members.specs.ListViews.{table_of, IsListed};
+
+    ghost Value = { TableValue };
+
+    ghost coded = { table_code };
+
+    ghost view = { λ t. table_of t.capacity t.rate t.entries.items };
+
+    ghost invariant = { λ t. IsListed t.capacity t.entries.items };
+}
+
+fn source_of(fact: Fact) -> u32
+    ensures { result ≡ subject fact }
+{
+    match fact {
+        Fact::Heard(ssrc)
+        | Fact::Told(ssrc, _)
+        | Fact::Named(ssrc)
+        | Fact::Gone(ssrc)
+        | Fact::Media(ssrc, _, _) => ssrc,
+    }
+}
+
+fn is_goodbye(fact: Fact) -> bool
+    ensures { result ≡ is_gone fact }
+{
+    matches!(fact, Fact::Gone(_))
+}
+
+/// Where the entry of a source stands, if it has one.
+fn place_in(entries: &[Entry], ssrc: u32) -> Option<usize>
+    ensures { MatchOption result (finite.get (map_of entries.now) ssrc ≡ None) (λ (at : ℕ). IsPlaceOf ssrc entries.now at) }
+{
+    'entries: for at in 0..entries.len() {
+        if entries[at].ssrc == ssrc {
+            return Some(at);
+        }
+    }
+    None
+}
+
+/// A fact comes to the entry of its source, which stands at `at`.
+fn apply_at(entries: &mut [Entry], at: usize, fact: Fact, t: u64, rate: u32) -> Applied
+    requires apart { IsApart (rows_of entries.old) }
+    requires place { IsPlaceOf (subject fact) entries.old at }
+    requires few { IfSome (finite.get (map_of entries.old) (subject fact)) IsFew }
+    ensures apart { IsApart (rows_of entries.new) }
+    ensures place { (capacity : ℕ) → result.place ≡ placed (table_of capacity rate entries.old) fact }
+    ensures counted { (capacity : ℕ) → result.counted ≡ counted (table_of capacity rate entries.old) fact }
+    ensures table { (capacity : ℕ) → table_of capacity rate entries.new ≡ after_fact fact t (table_of capacity rate entries.old) }
+{
+    entries[at].apply(fact, t, rate)
+}
+
+/// A fact comes whose source has no entry.
+fn admit(
+    entries: &mut ArrayVec<Entry, MAX_CAPACITY>,
+    capacity: u32,
+    fact: Fact,
+    t: u64,
+    rate: u32,
+) -> Place
+    requires listed { IsListed capacity entries.old.items }
+    requires absent { finite.get (map_of entries.old.items) (subject fact) ≡ None }
+    ensures listed { IsListed capacity entries.new.items }
+    ensures place { result ≡ placed (table_of capacity rate entries.old.items) fact }
+    ensures table { table_of capacity rate entries.new.items ≡ after_fact fact t (table_of capacity rate entries.old.items) }
+{
+    if is_goodbye(fact) {
+        return Place::Ignored;
+    }
+    if entries.len() >= capacity as usize {
+        return Place::NoRoom;
+    }
+    let mut entry = Entry::new(source_of(fact));
+    let _ = entry.take(fact, t, rate);
+    entries.push(entry);
+    Place::Added
+}
+
+/// Drops the entries that do not outlast a check, and ends the sending of the idle ones.
+fn drop_silent(entries: &mut ArrayVec<Entry, MAX_CAPACITY>, silent: u64, idle: u64, gone: u64)
+    ensures { entries.new.items ≡ retain_mut (outlasts (horizons_at silent idle gone)) (lapsed idle) entries.old.items }
+{
+    entries.retain(|entry| entry.outlasts(silent, idle, gone));
+}
+
+fn members_among(entries: &[Entry]) -> u32
+    requires { length entries.now ≤ 1024 }
+    ensures { result ≡ length (filter (λ (e : Entry). is_member (entry_value e)) entries.now) }
+{
+    let mut members = 0;
+    'entries: for entry in entries {
+        if entry.is_member() {
+            members += 1;
+        }
+    }
+    members
+}
+
+fn senders_among(entries: &[Entry]) -> u32
+    requires { length entries.now ≤ 1024 }
+    ensures { result ≡ length (filter (λ (e : Entry). is_sender (entry_value e)) entries.now) }
+{
+    let mut senders = 0;
+    'entries: for entry in entries {
+        if entry.is_sender() {
+            senders += 1;
+        }
+    }
+    senders
+}
+
+impl MemberTable for ListTable {
+    ghost content = { λ t. t };
+
+    fn empty(capacity: u32, rate: u32) -> ListTable {
+        ListTable {
+            capacity,
+            rate,
+            entries: ArrayVec::new(),
+        }
+    }
+
+    fn apply(&mut self, fact: Fact, t: u64) -> Applied {
+        if let Some(at) = place_in(self.entries.as_slice(), source_of(fact)) {
+            return apply_at(self.entries.as_mut_slice(), at, fact, t, self.rate);
+        }
+        let place = admit(&mut self.entries, self.capacity, fact, t, self.rate);
+        Applied {
+            place,
+            counted: false,
+        }
+    }
+
+    fn check(
+        &mut self,
+        _t: u64,
+        silent_before: u64,
+        data_before: u64,
+        gone_before: u64,
+    ) -> Dropped {
+        let (entries, senders) = (self.entries.len(), self.senders());
+        drop_silent(&mut self.entries, silent_before, data_before, gone_before);
+        Dropped {
+            entries: (entries - self.entries.len()) as u32,
+            senders: senders - self.senders(),
+        }
+    }
+
+    fn members(&self) -> u32 {
+        members_among(self.entries.as_slice())
+    }
+
+    fn senders(&self) -> u32 {
+        senders_among(self.entries.as_slice())
+    }
+}

@@ -1,0 +1,79 @@
+//! Tables of members (RFC 3550, 6.2.1, 6.3.3 to 6.3.5 and 6.3.7).
+
+ghost use Rattle.std.specs.Prelude.{◌≡◌, ◌≤◌, ◌^◌, IfSome, Some};
+ghost use Rattle.std.specs.FinMap as map;
+ghost use Rattle.rtcp_members.specs.Traces.{horizons_at, subject};
+ghost use Rattle.rtcp_members.specs.Tables.{TableValue, IsFew, no_members, placed, counted, after_fact, after_check, dropped_entries, dropped_senders, members_in, senders_in};
+
+use rtcp_wire::Fact;
+
+/// What became of a fact.
+#[derive(Clone, Copy, Debug, PartialEq, Eq)]
+pub enum Place {
+    /// The source is present, and the fact is a sighting of it.
+    Kept,
+    /// The source was not present and has an entry now.
+    Added,
+    /// The source is not present and the table is full: nothing changed.
+    NoRoom,
+    /// The source said goodbye before, or says so without being present: nothing changed.
+    Ignored,
+    /// The source says goodbye. Its entry is held, so that late packets do not bring it back, until a check drops it.
+    Left,
+}
+
+/// What `apply` answers.
+#[derive(Clone, Copy, Debug, PartialEq, Eq)]
+pub struct Applied {
+    /// What became of the fact.
+    pub place: Place,
+    /// Whether the fact was an RTP packet that its source counted (RFC 3550, A.1).
+    pub counted: bool,
+}
+
+/// What `check` answers.
+#[derive(Clone, Copy, Debug, PartialEq, Eq)]
+pub struct Dropped {
+    /// How many entries the check removed.
+    pub entries: u32,
+    /// How many fewer senders there are behind the check.
+    pub senders: u32,
+}
+
+/// A table of the other participants of a session, at most `capacity` of them.
+///
+/// A contract sees a table as a finite map from SSRC to entry, with its capacity and the rate of the media's clock. Where that map
+/// stands at the trace of a session (`StandsAt`), so does the map behind each call, with one step more (`laws`).
+pub trait MemberTable {
+    ghost content: { Self → TableValue };
+
+    /// A table without entries, for at most `capacity` of them, from 1 to 1,024, of a session whose media's clock has `rate` units
+    /// a second.
+    fn empty(capacity: u32, rate: u32) -> Self
+        requires some { 1 ≤ capacity }
+        requires few { capacity ≤ 1024 }
+        ensures { content result ≡ no_members capacity rate };
+
+    /// A fact came at the moment `t`, in microseconds (RFC 3550, 6.2.1, 6.3.3, 6.3.7). A source takes fewer than 2^40 packets.
+    fn apply(&mut self, fact: Fact, t: u64) -> Applied
+        requires { IfSome (map.get (content self.old).entries (subject fact)) IsFew }
+        ensures place { result.place ≡ placed (content self.old) fact }
+        ensures counted { result.counted ≡ counted (content self.old) fact }
+        ensures content { content self.new ≡ after_fact fact t (content self.old) };
+
+    /// Drops those who are silent for too long, at the moment `t`, in microseconds (RFC 3550, 6.3.5): entries last seen before
+    /// `silent_before`, and those that left before `gone_before`. A sender whose last counted packet lies before `data_before` is
+    /// no sender from then on, until another packet of it is counted.
+    fn check(&mut self, t: u64, silent_before: u64, data_before: u64, gone_before: u64) -> Dropped
+        ensures entries { result.entries ≡ dropped_entries (horizons_at silent_before data_before gone_before) (content self.old) }
+        ensures senders { result.senders ≡ dropped_senders (horizons_at silent_before data_before gone_before) (content self.old) }
+        ensures content { content self.new ≡ after_check (horizons_at silent_before data_before gone_before) (content self.old) };
+
+    /// How many members are in the table: entries that are valid and did not leave. The participant itself is not counted.
+    fn members(&self) -> u32
+        ensures { result ≡ members_in (content self.now) };
+
+    /// How many senders are in the table, the participant itself not counted.
+    fn senders(&self) -> u32
+        ensures { result ≡ senders_in (content self.now) };
+}

@@ -1,0 +1,60 @@
+//! A table under test, whichever it is.
+
+ghost use Rattle.std.specs.Prelude.{◌≡◌, ◌+◌, ◌≤◌, ◌<◌};
+ghost use Rattle.rtcp_members.specs.Tables.{HasFew};
+
+use super::*;
+
+/// A table, and how many facts came to it: few, so no source was given too many packets.
+#[derive(Drop)]
+pub(crate) struct Session<T: MemberTable> {
+    table: T,
+    facts: u32,
+    ghost few: { HasFew facts (T.content table) },
+}
+
+impl<T: MemberTable> Session<T> {
+    /// A session of which the media's clock has 8,000 units a second.
+    pub(crate) fn new(capacity: u32) -> Session<T>
+        requires some { 1 ≤ capacity }
+        requires few { capacity ≤ 1024 }
+        ensures { result.facts ≡ 0 }
+    {
+        Session {
+            table: T::empty(capacity, 8000),
+            facts: 0,
+        }
+    }
+
+    pub(crate) fn apply(&mut self, fact: Fact, t: u64) -> Applied
+        requires { self.old.facts < 1000 }
+        ensures { self.new.facts ≡ self.old.facts + 1 }
+    {
+        let applied = self.table.apply(fact, t);
+        self.facts += 1;
+        applied
+    }
+
+    /// Where a fact goes that is no counted packet.
+    pub(crate) fn place(&mut self, fact: Fact, t: u64) -> Option<Place>
+        requires { self.old.facts < 1000 }
+        ensures { self.new.facts ≡ self.old.facts + 1 }
+    {
+        let applied = self.apply(fact, t);
+        (!applied.counted).then_some(applied.place)
+    }
+
+    pub(crate) fn check(&mut self, t: u64, silent: u64, data: u64, gone: u64) -> Dropped
+        ensures { self.new.facts ≡ self.old.facts }
+    {
+        self.table.check(t, silent, data, gone)
+    }
+
+    pub(crate) fn members(&self) -> u32 {
+        self.table.members()
+    }
+
+    pub(crate) fn senders(&self) -> u32 {
+        self.table.senders()
+    }
+}
