@@ -9,6 +9,7 @@ use crate::answer::compose;
 use crate::counted::Counted;
 use crate::fault::{LineFault, TextFault};
 use crate::writing::hand_over;
+use memchr::memchr;
 use std::alloc::Global;
 use std::io::Write;
 
@@ -24,10 +25,7 @@ fn split_line(octets: &[u8]) -> (&[u8], &[u8])
     ensures part { HasNoLineFeed result.0.now }
     ensures feed { IsBehindLine result.1.now }
 {
-    let end = octets
-        .iter()
-        .position(|octet| *octet == b'\n')
-        .unwrap_or(octets.len());
+    let end = memchr(b'\n', octets).unwrap_or(octets.len());
     octets.split_at(end)
 }
 
