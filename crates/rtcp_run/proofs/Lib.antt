@@ -1,6 +1,5 @@
 pub mod CheckLemmas
 pub mod CountedLemmas
-pub mod DecimalSteps
 pub mod FrontLemmas
 pub mod HexSteps
 pub mod Joined
