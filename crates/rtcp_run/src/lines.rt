@@ -35,6 +35,7 @@ pub(crate) struct LineChecker {
     alloc: Global,
     answered: u64,
     pending: Vec<u8>,
+    datagram: Vec<u8>,
     text: Vec<u8>,
 }
 
@@ -48,6 +49,7 @@ impl LineChecker {
             alloc,
             answered: 0,
             pending: Vec::new(alloc),
+            datagram: Vec::new(alloc),
             text: Vec::new(alloc),
         }
     }
@@ -93,7 +95,13 @@ impl LineChecker {
         ensures failed { (result ≡ Err TextFault.Write) ↔ (failures_of writer.new ≢ 0) }
     {
         let number = self.answered + 1;
-        compose(self.alloc, number, &self.pending, &mut self.text)?;
+        compose(
+            self.alloc,
+            number,
+            &self.pending,
+            &mut self.datagram,
+            &mut self.text,
+        )?;
         hand_over(writer, &self.text)?;
         self.answered = number;
         self.pending.clear();
