@@ -1,6 +1,6 @@
 pub mod CheckLemmas
 pub mod CountedLemmas
-pub mod DecimalSteps
+pub mod DigitTable
 pub mod FrontLemmas
 pub mod HexSteps
 pub mod Joined

@@ -4,6 +4,7 @@ ghost use Rattle.std.specs.Prelude.{◌≡◌, ◌++◌, ◌≤◌, ℕ, List, l
 ghost use Rattle.rtcp_run.specs.Check.{IsAnswer};
 ghost use Rattle.rtcp_run.specs.Progress.{AnswersLine};
 
+use crate::digit_pairs::decode;
 use crate::fault::{LineFault, TextFault};
 use crate::text::{push_accepted, push_fault};
 use hex::FromHexError;
@@ -21,11 +22,13 @@ fn push_reading(alloc: Global, datagram: &[u8], text: &mut Vec<u8>) -> Result<()
     }
 }
 
-/// Makes `text` the answer to a line, which is no more than 131,200 octets long and no later than line 65,536.
+/// Makes `text` the answer to a line, which is no more than 131,200 octets long and no later than line 65,536. The
+/// octets that the line spells go into `datagram`.
 pub(crate) fn compose(
     alloc: Global,
     number: u64,
     line: &[u8],
+    datagram: &mut Vec<u8>,
     text: &mut Vec<u8>,
 ) -> Result<(), TextFault>
     requires few { number ≤ 65536 }
@@ -33,8 +36,8 @@ pub(crate) fn compose(
     ensures { AnswersLine result number line.now text.new.items }
 {
     text.clear();
-    let datagram = match hex::decode(alloc, line) {
-        Ok(datagram) => datagram,
+    match decode(line, datagram) {
+        Ok(()) => (),
         Err(FromHexError::OutOfMemory) => return Err(TextFault::Memory),
         Err(_) => {
             return Err(TextFault::Text {
@@ -42,8 +45,8 @@ pub(crate) fn compose(
                 fault: LineFault::Hex,
             });
         }
-    };
-    match push_reading(alloc, &datagram, text) {
+    }
+    match push_reading(alloc, datagram, text) {
         Ok(()) => Ok(()),
         Err(AllocError) => Err(TextFault::Memory),
     }

@@ -9,6 +9,7 @@ use crate::answer::compose;
 use crate::counted::Counted;
 use crate::fault::{LineFault, TextFault};
 use crate::writing::hand_over;
+use memchr::memchr;
 use std::alloc::Global;
 use std::io::Write;
 
@@ -24,10 +25,7 @@ fn split_line(octets: &[u8]) -> (&[u8], &[u8])
     ensures part { HasNoLineFeed result.0.now }
     ensures feed { IsBehindLine result.1.now }
 {
-    let end = octets
-        .iter()
-        .position(|octet| *octet == b'\n')
-        .unwrap_or(octets.len());
+    let end = memchr(b'\n', octets).unwrap_or(octets.len());
     octets.split_at(end)
 }
 
@@ -37,6 +35,7 @@ pub(crate) struct LineChecker {
     alloc: Global,
     answered: u64,
     pending: Vec<u8>,
+    datagram: Vec<u8>,
     text: Vec<u8>,
 }
 
@@ -50,6 +49,7 @@ impl LineChecker {
             alloc,
             answered: 0,
             pending: Vec::new(alloc),
+            datagram: Vec::new(alloc),
             text: Vec::new(alloc),
         }
     }
@@ -95,7 +95,13 @@ impl LineChecker {
         ensures failed { (result ≡ Err TextFault.Write) ↔ (failures_of writer.new ≢ 0) }
     {
         let number = self.answered + 1;
-        compose(self.alloc, number, &self.pending, &mut self.text)?;
+        compose(
+            self.alloc,
+            number,
+            &self.pending,
+            &mut self.datagram,
+            &mut self.text,
+        )?;
         hand_over(writer, &self.text)?;
         self.answered = number;
         self.pending.clear();

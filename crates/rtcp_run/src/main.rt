@@ -5,6 +5,7 @@ mod answer;
 mod check;
 mod command;
 mod counted;
+mod digit_pairs;
 mod fault;
 mod lines;
 mod order;

@@ -5,10 +5,8 @@ ghost use Rattle.std.specs.Fmt.{decimal, signed_decimal};
 ghost use Rattle.hex.specs.Hex.{encode_lower};
 ghost use Rattle.rtcp_run.specs.Text.{hex_word, hex_long};
 
+use itoa::Buffer;
 use std::alloc::AllocError;
-
-/// The most decimal digits that a `u64` has.
-const MAX_DIGITS: usize = 20;
 
 /// The digits of base 16.
 const HEX_DIGITS: &[u8; 16] = b"0123456789abcdef";
@@ -17,26 +15,16 @@ const HEX_DIGITS: &[u8; 16] = b"0123456789abcdef";
 pub(super) fn push_decimal(out: &mut Vec<u8>, number: u64) -> Result<(), AllocError>
     ensures { OnOk result (out.new.items ≡ out.old.items ++ decimal number) }
 {
-    let mut digits = [0u8; MAX_DIGITS];
-    let mut start = MAX_DIGITS - 1;
-    let mut rest = number;
-    while rest >= 10 {
-        digits[start] = b'0' + (rest % 10) as u8;
-        start -= 1;
-        rest /= 10;
-    }
-    digits[start] = b'0' + rest as u8;
-    out.extend_from_slice(&digits[start..])
+    let mut digits = Buffer::new();
+    out.extend_from_slice(digits.format(number).as_bytes())
 }
 
 /// Appends a number in decimal, with a minus sign if it is below 0.
 pub(super) fn push_signed(out: &mut Vec<u8>, number: i32) -> Result<(), AllocError>
     ensures { OnOk result (out.new.items ≡ out.old.items ++ signed_decimal number) }
 {
-    if number < 0 {
-        out.push(b'-')?;
-    }
-    push_decimal(out, u64::from(number.unsigned_abs()))
+    let mut digits = Buffer::new();
+    out.extend_from_slice(digits.format(number).as_bytes())
 }
 
 /// Appends octets, each as two hex digits.
