@@ -11,4 +11,11 @@ pub mod Changing
 pub mod Applying
 pub mod Admitting
 pub mod Tallies
+pub mod LeastDue
+pub mod Reporting
+pub mod Blocking
+pub mod TurnsRows
+pub mod Turns
+pub mod NextDue
+pub mod TurnsSamples
 pub mod Rows

@@ -24,7 +24,7 @@ nil_of_length : {X : Type 0} (xs : List X) → length xs ≡ 0 → xs ≡ []
 nil_of_length [] e = refl
 nil_of_length (x ∷ xs) e = absurd (omega arith)
 
-none_in_empty : finite.entries (finite.empty {X = EntryValue} {R = nat_cmp}) ≡ []
+pub none_in_empty : finite.entries (finite.empty {X = EntryValue} {R = nat_cmp}) ≡ []
 none_in_empty = nil_of_length _ (sym (finite.len-entries (finite.empty {X = EntryValue} {R = nat_cmp})) ∙ finite.len-empty nat_cmp EntryValue)
 
 -- ---- Counts

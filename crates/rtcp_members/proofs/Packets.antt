@@ -17,7 +17,7 @@ use Rattle.rtcp_members.specs.Entries.{EntryValue, still_sending}
 use Rattle.rtcp_members.specs.Tables.{TableValue, HasFew, IsFew, new_entry, entry_after, entry_after_check, entry_for, changes, placed, no_members, after_fact, after_check}
 use Rattle.rtcp_members.proofs.Updated.{get_updated}
 
-abbrev Few : ℕ → Option EntryValue → Type 0
+abbrev pub Few : ℕ → Option EntryValue → Type 0
 Few packets entry = IfSome entry (λ e. e.source.packets ≤ packets)
 
 one_packet : (taken : Taken) (seq transit : ℕ) (source : SourceValue) → (source_with taken seq transit source).packets ≡ source.packets + 1
@@ -47,10 +47,10 @@ few_where : (packets : ℕ) (entry : Option EntryValue) → ((e : EntryValue) �
 few_where packets None each = tt
 few_where packets (Some entry) each = each entry refl
 
-few_at : (packets : ℕ) (table : TableValue) → HasFew packets table → (ssrc : ℕ) → Few packets (map.get table.entries ssrc)
+pub few_at : (packets : ℕ) (table : TableValue) → HasFew packets table → (ssrc : ℕ) → Few packets (map.get table.entries ssrc)
 few_at packets table few ssrc = few_where packets (map.get table.entries ssrc) (few ssrc)
 
-has_few : (packets : ℕ) (table : TableValue) → ((ssrc : ℕ) → Few packets (map.get table.entries ssrc)) → HasFew packets table
+pub has_few : (packets : ℕ) (table : TableValue) → ((ssrc : ℕ) → Few packets (map.get table.entries ssrc)) → HasFew packets table
 has_few packets table each ssrc entry found = subst (Few packets) found (each ssrc)
 
 pub few_none : (capacity rate : ℕ) → HasFew 0 (no_members capacity rate)

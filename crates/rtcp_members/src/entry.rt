@@ -1,17 +1,21 @@
 //! What a list table keeps of a source (RFC 3550, 6.2.1, 6.3.3 to 6.3.5 and 6.3.7).
 
-ghost use Rattle.std.specs.Prelude.{◌≡◌, ◌<◌, ◌^◌, None, Some, Bool, not};
+ghost use Rattle.std.specs.Prelude.{◌≡◌, ◌<◌, ◌^◌, None, Some, Bool, IsTrue, not};
 ghost use Rattle.rtcp_members.specs.ListViews.{entry_value, lapsed};
 ghost use Rattle.rtcp_members.specs.Traces.{horizons_at, is_gone, subject};
 ghost use Rattle.rtcp_members.specs.Stays.{is_removed};
 ghost use Rattle.rtcp_members.specs.Entries.{is_member, is_sender, still_sending};
+ghost use Rattle.rtcp_wire.specs.Views.{block_of};
+ghost use Rattle.rtcp_wire.specs.Writing.{IsWritableBlock};
 ghost use Rattle.rtcp_source.specs.Packets.{is_counted};
+ghost use Rattle.rtcp_source.specs.Blocks.{block_for};
+ghost use Rattle.rtcp_members.specs.Waiting.{is_due, reported_entry};
 ghost use Rattle.rtcp_members.specs.Tables.{new_entry, counts, counted_of, entry_after, entry_behind, place_of};
 
 use crate::table::{Applied, Place};
 use rtcp_clock::rtp_units;
 use rtcp_source::{Source, Taken};
-use rtcp_wire::Fact;
+use rtcp_wire::{Block, Fact};
 
 /// A source that is present.
 #[derive(Drop)]
@@ -112,6 +116,24 @@ impl Entry {
         };
         let counted = self.take(fact, t, rate);
         Applied { place, counted }
+    }
+
+    /// Whether a block of the source is due.
+    pub(crate) fn is_due(&self) -> bool
+        ensures { result ≡ is_due (entry_value self.now) }
+    {
+        self.mark.is_none() && self.source.has_news()
+    }
+
+    /// The report block of the source at the moment `t`.
+    pub(crate) fn report(&mut self, t: u64) -> Block
+        requires { IsTrue (is_due (entry_value self.old)) }
+        ensures block { Some (block_of result) ≡ block_for self.old.ssrc t self.old.source }
+        ensures ssrc { self.new.ssrc ≡ self.old.ssrc }
+        ensures value { entry_value self.new ≡ reported_entry (entry_value self.old) }
+        ensures writable { IsWritableBlock (block_of result) }
+    {
+        self.source.block(self.ssrc, t)
     }
 
     /// Whether the entry stays behind a check with these horizons. It is a sender behind it only where its last counted packet does

@@ -3,13 +3,15 @@
 //! for no memory.
 //!
 //! Who is present, a member or a sender is defined in `specs/` over the whole trace of a session (`Traces`, `Stays`, `Entries`);
-//! a table is seen as a finite map (`Tables`), and `laws` ties the two.
+//! a table is seen as a finite map (`Tables`), and `laws` ties the two. Which source is reported next is defined over that map
+//! (`Waiting`); `turn_laws` has what holds of it.
 #![tactic(auto)]
 
 mod entry;
 pub mod laws;
 mod list_table;
 mod table;
+pub mod turn_laws;
 
 pub use list_table::ListTable;
 pub use table::{Applied, Dropped, MemberTable, Place};

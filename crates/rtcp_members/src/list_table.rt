@@ -1,17 +1,21 @@
 //! A table that keeps its entries in a list, in order of arrival, and walks it.
 
-ghost use Rattle.std.specs.Prelude.{◌≡◌, ℕ, ◌<◌, ◌≤◌, ◌^◌, true, List, length, filter, IfSome, MatchOption, Some, None};
+ghost use Rattle.std.specs.Prelude.{◌≡◌, ℕ, ◌<◌, ◌≤◌, ◌^◌, true, List, length, filter, IfSome, MatchOption, IsTrue, Some, None};
 ghost use Rattle.std.specs.FinMap as finite;
 ghost use Rattle.std.specs.List.{retain_mut};
 ghost use Rattle.rtcp_members.specs.Traces.{horizons_at, subject, is_gone};
 ghost use Rattle.rtcp_members.specs.ListViews.{entry_value, rows_of, map_of, table_of, lapsed, outlasts, IsListed, IsPlaceOf};
-ghost use Rattle.rtcp_members.specs.Entries.{is_member, is_sender};
+ghost use Rattle.rtcp_wire.specs.Views.{block_of};
+ghost use Rattle.rtcp_wire.specs.Writing.{IsWritableBlock};
+ghost use Rattle.rtcp_members.specs.Entries.{is_member, is_sender, is_such};
+ghost use Rattle.rtcp_members.specs.Waiting.{is_due, block_at, after_block};
+ghost use Rattle.rtcp_members.specs.Least.{is_due_above, least, lesser_of};
 ghost use Rattle.rtcp_members.specs.Tables.{TableValue, IsApart, IsFew, no_members, placed, counted, after_fact, after_check, dropped_entries, dropped_senders, members_in, senders_in, count_in};
 
 use crate::entry::Entry;
 use crate::table::{Applied, Dropped, MemberTable, Place};
 use arrayvec::ArrayVec;
-use rtcp_wire::Fact;
+use rtcp_wire::{Block, Fact};
 use std::marker::Model;
 
 /// The greatest capacity of a table.
@@ -141,6 +145,42 @@ fn senders_among(entries: &[Entry]) -> u32
     senders
 }
 
+/// The least SSRC above `above` of a source of which a block is due.
+fn least_due(entries: &[Entry], above: Option<u32>) -> Option<u32>
+    ensures { result ≡ least (is_due_above above) (rows_of entries.now) }
+{
+    let mut found = None;
+    'entries: for entry in entries {
+        if entry.is_due() && above.is_none_or(|above| above < entry.ssrc) {
+            found = lesser(found, entry.ssrc);
+        }
+    }
+    found
+}
+
+/// The lesser of what was found and of one more SSRC.
+fn lesser(found: Option<u32>, ssrc: u32) -> Option<u32>
+    ensures { result ≡ lesser_of found (Some ssrc) }
+{
+    match found {
+        Some(least) => Some(least.min(ssrc)),
+        None => Some(ssrc),
+    }
+}
+
+/// The block of the source whose entry stands at `at`.
+fn report_at(entries: &mut [Entry], at: usize, ssrc: u32, t: u64) -> Block
+    requires apart { IsApart (rows_of entries.old) }
+    requires place { IsPlaceOf ssrc entries.old at }
+    requires due { IsTrue (is_such is_due (finite.get (map_of entries.old) ssrc)) }
+    ensures apart { IsApart (rows_of entries.new) }
+    ensures block { (capacity rate : ℕ) → Some (block_of result) ≡ block_at ssrc t (table_of capacity rate entries.old) }
+    ensures table { (capacity rate : ℕ) → table_of capacity rate entries.new ≡ after_block ssrc (table_of capacity rate entries.old) }
+    ensures writable { IsWritableBlock (block_of result) }
+{
+    entries[at].report(t)
+}
+
 impl MemberTable for ListTable {
     ghost content = { λ t. t };
 
@@ -184,5 +224,18 @@ impl MemberTable for ListTable {
 
     fn senders(&self) -> u32 {
         senders_among(self.entries.as_slice())
+    }
+
+    fn next_with_news(&self, after: Option<u32>) -> Option<u32> {
+        let entries = self.entries.as_slice();
+        match least_due(entries, after) {
+            Some(ssrc) => Some(ssrc),
+            None => least_due(entries, None),
+        }
+    }
+
+    fn block_of(&mut self, ssrc: u32, t: u64) -> Block {
+        let at = place_in(self.entries.as_slice(), ssrc).unwrap();
+        report_at(self.entries.as_mut_slice(), at, ssrc, t)
     }
 }

@@ -1,11 +1,14 @@
 //! Tables of members (RFC 3550, 6.2.1, 6.3.3 to 6.3.5 and 6.3.7).
 
-ghost use Rattle.std.specs.Prelude.{◌≡◌, ◌≤◌, ◌^◌, IfSome, Some};
+ghost use Rattle.std.specs.Prelude.{◌≡◌, ◌≤◌, ◌^◌, IfSome, IsTrue, Some};
 ghost use Rattle.std.specs.FinMap as map;
 ghost use Rattle.rtcp_members.specs.Traces.{horizons_at, subject};
 ghost use Rattle.rtcp_members.specs.Tables.{TableValue, IsFew, no_members, placed, counted, after_fact, after_check, dropped_entries, dropped_senders, members_in, senders_in};
+ghost use Rattle.rtcp_wire.specs.Views.{block_of};
+ghost use Rattle.rtcp_wire.specs.Writing.{IsWritableBlock};
+ghost use Rattle.rtcp_members.specs.Waiting.{waiting, first_ssrc, is_due_at, block_at, after_block};
 
-use rtcp_wire::Fact;
+use rtcp_wire::{Block, Fact};
 
 /// What became of a fact.
 #[derive(Clone, Copy, Debug, PartialEq, Eq)]
@@ -76,4 +79,17 @@ pub trait MemberTable {
     /// How many senders are in the table, the participant itself not counted.
     fn senders(&self) -> u32
         ensures { result ≡ senders_in (content self.now) };
+
+    /// The source that the next report block is for, if any has news: the least SSRC above `after` of a source that did not leave and
+    /// of which some packet was counted since its last block, else the least SSRC of all such sources (RFC 3550, 6.4).
+    fn next_with_news(&self, after: Option<u32>) -> Option<u32>
+        ensures { result ≡ first_ssrc (waiting after (content self.now)) };
+
+    /// The reception report block of the source `ssrc`, which has news and did not leave, as `next_with_news` answers it, at the moment
+    /// `t`, in microseconds (RFC 3550, 6.4.1). With it the source's interval begins anew, and its news end.
+    fn block_of(&mut self, ssrc: u32, t: u64) -> Block
+        requires { IsTrue (is_due_at ssrc (content self.old)) }
+        ensures block { Some (block_of result) ≡ block_at ssrc t (content self.old) }
+        ensures content { content self.new ≡ after_block ssrc (content self.old) }
+        ensures writable { IsWritableBlock (block_of result) };
 }

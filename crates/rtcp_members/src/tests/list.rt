@@ -22,3 +22,18 @@ fn one_sender(rt: HostRuntime) {
 fn senders_leave(rt: HostRuntime) {
     senders::senders_leave::<ListTable>(&rt);
 }
+
+#[test]
+fn in_turn(rt: HostRuntime) {
+    turns::in_turn::<ListTable>(&rt);
+}
+
+#[test]
+fn not_behind_a_goodbye(rt: HostRuntime) {
+    turns::not_behind_a_goodbye::<ListTable>(&rt);
+}
+
+#[test]
+fn fractions(rt: HostRuntime) {
+    turns::fractions::<ListTable>(&rt);
+}

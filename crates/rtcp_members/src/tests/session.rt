@@ -50,6 +50,14 @@ impl<T: MemberTable> Session<T> {
         self.table.check(t, silent, data, gone)
     }
 
+    /// The block of the source that is next behind this one, at the moment `t`, if any waits.
+    pub(crate) fn block(&mut self, after: Option<u32>, t: u64) -> Option<Block>
+        ensures { self.new.facts ≡ self.old.facts }
+    {
+        let ssrc = self.table.next_with_news(after)?;
+        Some(self.table.block_of(ssrc, t))
+    }
+
     pub(crate) fn members(&self) -> u32 {
         self.table.members()
     }

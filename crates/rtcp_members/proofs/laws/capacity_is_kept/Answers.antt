@@ -1,4 +1,5 @@
 -- A fact adds an entry only where there is room, and a check adds none.
+use Rattle.rtcp_members.proofs.Blocking.{capacity_behind}
 use Rattle.rtcp_members.proofs.Capacity.{none_within, fact_keeps_capacity, check_keeps_capacity}
 use Rattle.rtcp_members.proofs.laws.capacity_is_kept.Goals as goal
 
@@ -10,3 +11,6 @@ returns-clause-fact c = fact_keeps_capacity
 
 pub returns-clause-check : goal.returns-clause-check
 returns-clause-check c = check_keeps_capacity
+
+pub returns-clause-block : goal.returns-clause-block
+returns-clause-block c = capacity_behind

@@ -1,3 +1,4 @@
+use Rattle.rtcp_members.proofs.Blocking.{few_block}
 use Rattle.rtcp_members.proofs.Packets.{few_none, few_fact, few_check, may_apply}
 use Rattle.rtcp_members.proofs.laws.packets_are_few.Goals as goal
 
@@ -12,3 +13,6 @@ returns-clause-check c = few_check
 
 pub returns-clause-apply : goal.returns-clause-apply
 returns-clause-apply c = may_apply
+
+pub returns-clause-block : goal.returns-clause-block
+returns-clause-block c = few_block

@@ -1,0 +1,15 @@
+-- The least SSRC of the rows that pass a test, whatever their order.
+use Rattle.std.specs.Prelude.{ℕ, ◌&&◌, Bool, min, List, [], ◌∷◌, if◌then◌else◌, Option, Some, None}
+use Rattle.rtcp_members.specs.Waiting.{EntryRow, is_above, is_due}
+
+abbrev pub lesser_of : Option ℕ → Option ℕ → Option ℕ
+lesser_of None b = b
+lesser_of (Some a) None = Some a
+lesser_of (Some a) (Some b) = Some (min a b)
+
+abbrev pub least : (EntryRow → Bool) → List EntryRow → Option ℕ
+least test [] = None
+least test (row ∷ rows) = lesser_of (if test row then Some row.0 else None) (least test rows)
+
+abbrev pub is_due_above : (last : Option ℕ) → EntryRow → Bool
+is_due_above last row = is_due row.1 && is_above last row
