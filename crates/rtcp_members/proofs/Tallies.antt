@@ -9,19 +9,16 @@ use Rattle.rtcp_members.specs.Traces.{Horizons}
 use Rattle.rtcp_members.specs.Stays.{is_before}
 use Rattle.rtcp_members.specs.Entries.{EntryValue, is_sender}
 use Rattle.rtcp_members.specs.Tables.{TableValue, IsApart, count_in, after_check, dropped_entries, dropped_senders, senders_in}
-use Rattle.rtcp_members.specs.ListViews.{entry_value, row_of, rows_of, map_of, table_of, lapsed, outlasts, IsListed}
+use Rattle.rtcp_members.specs.ListViews.{entry_value, row_of, rows_of, map_of, table_of, tally_of, lapsed, outlasts, IsListed}
 use Rattle.rtcp_members.proofs.Listing.{passing_rows, len_rows}
 use Rattle.rtcp_members.proofs.Changing.{map_checked, apart_checked}
 
-abbrev tally : (EntryValue → Bool) → List Entry → ℕ
-tally test entries = length (filter (λ (e : Entry). test (entry_value e)) entries)
-
-one_more : (test : EntryValue → Bool) (e : Entry) (entries : List Entry) → tally test (e ∷ entries) ≡ cond (test (entry_value e)) 1 0 + tally test entries
+one_more : (test : EntryValue → Bool) (e : Entry) (entries : List Entry) → tally_of test (e ∷ entries) ≡ cond (test (entry_value e)) 1 0 + tally_of test entries
 one_more test e entries =
-    elim (test (entry_value e)) as (λ b. length (cond b (e ∷ filter (λ (x : Entry). test (entry_value x)) entries) (filter (λ (x : Entry). test (entry_value x)) entries)) ≡ cond b 1 0 + tally test entries)
+    elim (test (entry_value e)) as (λ b. length (cond b (e ∷ filter (λ (x : Entry). test (entry_value x)) entries) (filter (λ (x : Entry). test (entry_value x)) entries)) ≡ cond b 1 0 + tally_of test entries)
     [ true ↦ omega arith | false ↦ omega arith ]
 
-tally_rows : (test : EntryValue → Bool) (entries : List Entry) → length (filter (λ (row : ℕ × EntryValue). test row.1) (rows_of entries)) ≡ tally test entries
+tally_rows : (test : EntryValue → Bool) (entries : List Entry) → length (filter (λ (row : ℕ × EntryValue). test row.1) (rows_of entries)) ≡ tally_of test entries
 tally_rows test [] = refl
 tally_rows test (e ∷ entries) =
     elim (test (entry_value e)) as (λ b. length (cond b (row_of e ∷ filter (λ (row : ℕ × EntryValue). test row.1) (rows_of entries)) (filter (λ (row : ℕ × EntryValue). test row.1) (rows_of entries)))
@@ -29,10 +26,10 @@ tally_rows test (e ∷ entries) =
     [ true ↦ omega (arith, tally_rows test entries) | false ↦ tally_rows test entries ]
 
 -- a count of the list is one of its table
-pub counted_in : (test : EntryValue → Bool) (capacity rate : ℕ) (entries : List Entry) → IsApart (rows_of entries) → count_in test (table_of capacity rate entries) ≡ tally test entries
+pub counted_in : (test : EntryValue → Bool) (capacity rate : ℕ) (entries : List Entry) → IsApart (rows_of entries) → count_in test (table_of capacity rate entries) ≡ tally_of test entries
 counted_in test capacity rate entries apart = passing_rows test (rows_of entries) apart ∙ tally_rows test entries
 
-pub counted_at : (test : EntryValue → Bool) (capacity rate : ℕ) (entries : List Entry) (table : TableValue) (count : ℕ) → IsApart (rows_of entries) → table_of capacity rate entries ≡ table → count ≡ tally test entries → count ≡ count_in test table
+pub counted_at : (test : EntryValue → Bool) (capacity rate : ℕ) (entries : List Entry) (table : TableValue) (count : ℕ) → IsApart (rows_of entries) → table_of capacity rate entries ≡ table → count ≡ tally_of test entries → count ≡ count_in test table
 counted_at test capacity rate entries table count apart is counts = counts ∙ sym (counted_in test capacity rate entries apart) ∙ ap (count_in test) is
 
 -- ---- Behind a check
@@ -49,11 +46,11 @@ lapsed_weight idle e =
       | false ↦ omega arith
     ]
 
-fewer_senders : (horizons : Horizons) (entries : List Entry) → tally is_sender (retain_mut (outlasts horizons) (lapsed horizons.idle) entries) ≤ tally is_sender entries
+fewer_senders : (horizons : Horizons) (entries : List Entry) → tally_of is_sender (retain_mut (outlasts horizons) (lapsed horizons.idle) entries) ≤ tally_of is_sender entries
 fewer_senders horizons [] = omega arith
 fewer_senders horizons (e ∷ entries) =
     let rest : List Entry = retain_mut (outlasts horizons) (lapsed horizons.idle) entries in
-    elim (outlasts horizons e) as (λ stays. tally is_sender (cond stays (lapsed horizons.idle e ∷ rest) rest) ≤ tally is_sender (e ∷ entries)) [
+    elim (outlasts horizons e) as (λ stays. tally_of is_sender (cond stays (lapsed horizons.idle e ∷ rest) rest) ≤ tally_of is_sender (e ∷ entries)) [
       | true ↦ omega (arith, one_more is_sender (lapsed horizons.idle e) rest, one_more is_sender e entries, lapsed_weight horizons.idle e, fewer_senders horizons entries)
       | false ↦ omega (arith, one_more is_sender e entries, fewer_senders horizons entries)
     ]
@@ -67,7 +64,7 @@ fewer horizons (e ∷ entries) =
 pub fewer_behind : (horizons : Horizons) (entries next : List Entry) → next ≡ retain_mut (outlasts horizons) (lapsed horizons.idle) entries → length next ≤ length entries
 fewer_behind horizons entries next is = rw is (fewer horizons entries)
 
-pub fewer_senders_behind : (horizons : Horizons) (entries next : List Entry) → next ≡ retain_mut (outlasts horizons) (lapsed horizons.idle) entries → tally is_sender next ≤ tally is_sender entries
+pub fewer_senders_behind : (horizons : Horizons) (entries next : List Entry) → next ≡ retain_mut (outlasts horizons) (lapsed horizons.idle) entries → tally_of is_sender next ≤ tally_of is_sender entries
 fewer_senders_behind horizons entries next is = rw is (fewer_senders horizons entries)
 
 pub listed_behind : (horizons : Horizons) (capacity : ℕ) (entries next : List Entry) → next ≡ retain_mut (outlasts horizons) (lapsed horizons.idle) entries → IsListed capacity entries → IsListed capacity next
@@ -95,7 +92,7 @@ senders_behind horizons capacity rate entries next before after is listed at_fir
 -- ---- What a walk has counted
 
 -- No more pass than stand before the index.
-pub few_before : (test : EntryValue → Bool) (entries : List Entry) (index : ℕ) → index ≤ length entries → tally test (take index entries) ≤ index
+pub few_before : (test : EntryValue → Bool) (entries : List Entry) (index : ℕ) → index ≤ length entries → tally_of test (take index entries) ≤ index
 few_before test entries index within =
     omega (arith, length-take-le index entries within, length-filter_both (λ (e : Entry). test (entry_value e)) (λ (e : Entry). not (test (entry_value e))) (λ e. refl) (take index entries))
 

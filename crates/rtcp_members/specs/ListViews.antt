@@ -1,5 +1,5 @@
 -- What the entries of a list say, in the values of the definitions.
-use Rattle.std.specs.Prelude.{ℕ, ◌≡◌, Bool, List, map, length, not, ◌&&◌, ◌≤◌, if◌then◌else◌, Some, None, is_none, slice_get}
+use Rattle.std.specs.Prelude.{ℕ, ◌≡◌, Bool, List, map, length, filter, Bool, not, ◌&&◌, ◌≤◌, if◌then◌else◌, Some, None, is_none, slice_get}
 use Rattle.std.specs.FinMap as finite
 use Rattle.rtcp_members.specs.declared.entry.Entry.{Entry}
 use Rattle.rtcp_members.specs.Entries.{EntryValue}
@@ -21,6 +21,10 @@ map_of entries = finite.from_entries (rows_of entries)
 
 abbrev pub table_of : (capacity rate : ℕ) → List Entry → TableValue
 table_of capacity rate entries = record { capacity = capacity; rate = rate; entries = map_of entries }
+
+-- how many entries pass a test
+abbrev pub tally_of : (EntryValue → Bool) → List Entry → ℕ
+tally_of test entries = length (filter (λ (e : Entry). test (entry_value e)) entries)
 
 -- an entry that stays behind a check
 abbrev pub lapsed : (idle : ℕ) → Entry → Entry

@@ -4,7 +4,7 @@ ghost use Rattle.std.specs.Prelude.{◌≡◌, ℕ, ◌<◌, ◌≤◌, ◌^◌,
 ghost use Rattle.std.specs.FinMap as finite;
 ghost use Rattle.std.specs.List.{retain_mut};
 ghost use Rattle.rtcp_members.specs.Traces.{horizons_at, subject, is_gone};
-ghost use Rattle.rtcp_members.specs.ListViews.{entry_value, rows_of, map_of, table_of, lapsed, outlasts, IsListed, IsPlaceOf};
+ghost use Rattle.rtcp_members.specs.ListViews.{entry_value, rows_of, map_of, table_of, tally_of, lapsed, outlasts, IsListed, IsPlaceOf};
 ghost use Rattle.rtcp_wire.specs.Views.{block_of};
 ghost use Rattle.rtcp_wire.specs.Writing.{IsWritableBlock};
 ghost use Rattle.rtcp_members.specs.Entries.{is_member, is_sender, is_such};
@@ -119,30 +119,29 @@ fn drop_silent(entries: &mut ArrayVec<Entry, MAX_CAPACITY>, silent: u64, idle: u
     entries.retain(|entry| entry.outlasts(silent, idle, gone));
 }
 
-fn members_among(entries: &[Entry]) -> u32
+/// How many entries of a list are members and senders.
+#[derive(Clone, Copy)]
+struct Counts {
+    members: u32,
+    senders: u32,
+}
+
+fn tally(entries: &[Entry]) -> Counts
     requires { length entries.now ≤ 1024 }
-    ensures { result ≡ length (filter (λ (e : Entry). is_member (entry_value e)) entries.now) }
+    ensures members { result.members ≡ tally_of is_member entries.now }
+    ensures senders { result.senders ≡ tally_of is_sender entries.now }
 {
     let mut members = 0;
+    let mut senders = 0;
     'entries: for entry in entries {
         if entry.is_member() {
             members += 1;
         }
-    }
-    members
-}
-
-fn senders_among(entries: &[Entry]) -> u32
-    requires { length entries.now ≤ 1024 }
-    ensures { result ≡ length (filter (λ (e : Entry). is_sender (entry_value e)) entries.now) }
-{
-    let mut senders = 0;
-    'entries: for entry in entries {
         if entry.is_sender() {
             senders += 1;
         }
     }
-    senders
+    Counts { members, senders }
 }
 
 /// The least SSRC above `above` of a source of which a block is due.
@@ -219,11 +218,11 @@ impl MemberTable for ListTable {
     }
 
     fn members(&self) -> u32 {
-        members_among(self.entries.as_slice())
+        tally(self.entries.as_slice()).members
     }
 
     fn senders(&self) -> u32 {
-        senders_among(self.entries.as_slice())
+        tally(self.entries.as_slice()).senders
     }
 
     fn next_with_news(&self, after: Option<u32>) -> Option<u32> {

@@ -5,4 +5,4 @@ use Rattle.rtcp_members.proofs.Tallies.{counted_at}
 use Rattle.rtcp_members.proofs.list_table.ListTableMemberTable.members.Goals as goal
 
 pub returns : goal.returns
-returns c = counted_at is_member c.self.inside.capacity c.self.inside.rate c.self.inside.entries.items c.args.self.now c.members_among.result c.self.invariant.apart c.self.view_is (search rules)
+returns c = counted_at is_member c.self.inside.capacity c.self.inside.rate c.self.inside.entries.items c.args.self.now c.tally.result.members c.self.invariant.apart c.self.view_is (search rules)

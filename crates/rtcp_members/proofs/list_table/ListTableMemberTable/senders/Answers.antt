@@ -5,4 +5,4 @@ use Rattle.rtcp_members.proofs.Tallies.{counted_at}
 use Rattle.rtcp_members.proofs.list_table.ListTableMemberTable.senders.Goals as goal
 
 pub returns : goal.returns
-returns c = counted_at is_sender c.self.inside.capacity c.self.inside.rate c.self.inside.entries.items c.args.self.now c.senders_among.result c.self.invariant.apart c.self.view_is (search rules)
+returns c = counted_at is_sender c.self.inside.capacity c.self.inside.rate c.self.inside.entries.items c.args.self.now c.tally.result.senders c.self.invariant.apart c.self.view_is (search rules)
