@@ -26,7 +26,7 @@ pub(crate) const BLOCK_SIZE: usize = 24;
 /// |                             dlsr                              |
 /// +---------------------------------------------------------------+
 /// ```
-#[derive(Clone, Copy, Debug, PartialEq, Eq)]
+#[derive(Clone, Copy, Debug, Default, PartialEq, Eq)]
 pub struct Block {
     /// The source that the block speaks of.
     pub ssrc: u32,

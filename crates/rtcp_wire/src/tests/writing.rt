@@ -58,6 +58,15 @@ const REPORT: PacketRef<'static> = PacketRef::Sr {
     extension: &[],
 };
 
+/// The size of a packet is that of its octets, and the header counts.
+#[test]
+fn sizes(rt: HostRuntime) {
+    assert!(rt; EMPTY_REPORT.is_writable());
+    assert_eq!(rt; EMPTY_REPORT.size(), 8);
+    assert!(rt; REPORT.is_writable());
+    assert_eq!(rt; REPORT.size(), 28);
+}
+
 /// The last 28 octets of a buffer take a sender report, and 24 take none of it.
 #[test]
 fn full(rt: HostRuntime) -> Result<(), Fail> {

@@ -4,10 +4,13 @@
 ghost use Rattle.std.specs.Prelude.{◌≡◌, ◌+◌, ◌≤◌, ◌<◌, ◌%◌, ◌∷◌, [], All, map, min, length, option_copied};
 ghost use Rattle.std.specs.List.{flat_map};
 ghost use Rattle.rtcp_wire.specs.WriterViews.{item_ref_of, chunk_ref_of, packet_ref_of, packet_refs_of};
-ghost use Rattle.rtcp_wire.specs.Writing.{fill_behind, written_item, written_chunk, written_reason, written_body, written_all, IsWritableReason, HasWritableParts, IsWritable};
+ghost use Rattle.rtcp_wire.specs.Writing.{fill_behind, written_item, written_chunk, written_reason, written_body, written, written_all, IsWritableReason, HasWritableParts, IsWritable};
 
 use crate::block::BLOCK_SIZE;
 use crate::writer::refs::{ChunkRef, ItemRef, PacketRef};
+
+/// The octets of a packet's header.
+const HEADER_SIZE: usize = 4;
 
 /// One more than the most octets of a packet. What has as many or more is counted as this.
 const SIZE_LIMIT: usize = 262_145;
@@ -101,6 +104,17 @@ pub(super) fn body_size(packet: &PacketRef<'_>) -> usize
     }
 }
 
+impl PacketRef<'_> {
+    /// How many octets `write_compound` appends of the packet, its header included, at most 262,144. The caller has
+    /// seen that the packet `is_writable`.
+    pub fn size(&self) -> usize
+        requires { IsWritable (packet_ref_of self.now) }
+        ensures { result ≡ length (written (packet_ref_of self.now)) }
+    {
+        body_size(self) + HEADER_SIZE
+    }
+}
+
 /// The octets of packets, their headers included.
 pub(super) fn compound_size(packets: &[PacketRef<'_>]) -> usize
     requires { All IsWritable (packet_refs_of packets.now) }
@@ -108,7 +122,7 @@ pub(super) fn compound_size(packets: &[PacketRef<'_>]) -> usize
 {
     let mut size = 0;
     for packet in packets {
-        size = capped_sum(size, body_size(packet) + 4);
+        size = capped_sum(size, body_size(packet) + HEADER_SIZE);
     }
     size
 }
