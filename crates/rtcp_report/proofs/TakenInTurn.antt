@@ -1,0 +1,83 @@
+-- Blocks taken of the sources that wait, one after the other.
+use Rattle.std.proofs.Common.{◌≡◌, ℕ, List, [], ◌∷◌, ◌++◌, All, length, map, Option, Some, arith, refl, sym, ap, subst, ◌∙◌, append_assoc}
+use Rattle.std.proofs.lemmas.List.{length-append, map_push}
+use Rattle.std.proofs.lemmas.List.Elements.{All-push, filter_map-append}
+use Rattle.std.specs.List.{cons_option}
+use Rattle.rtcp_wire.specs.Values.{ReportBlock}
+use Rattle.rtcp_wire.specs.declared.block.Block.{Block}
+use Rattle.rtcp_wire.specs.Views.{block_of}
+use Rattle.rtcp_wire.specs.Writing.{IsWritableBlock}
+use Rattle.rtcp_members.specs.Tables.{TableValue}
+use Rattle.rtcp_members.specs.Waiting.{EntryRow, waiting, first_ssrc, block_of_row, block_at, after_block, blocks_of, after_blocks, last_reported}
+use Rattle.rtcp_members.proofs.Turns.{block_of_first, others_wait}
+
+-- A front of the rows that waited was reported, and the rest waits.
+pub record IsTaken (t : ℕ) (first : Option ℕ) (start : TableValue) (last : Option ℕ) (table : TableValue) (blocks : List ReportBlock) : Type 0 where
+  pub front : List EntryRow
+  pub rest : List EntryRow
+  pub parts : waiting first start ≡ front ++ rest
+  pub waits : waiting last table ≡ rest
+  pub content : table ≡ after_blocks front start
+  pub cursor : last ≡ last_reported first front
+  pub each : blocks ≡ blocks_of t front
+  pub count : length blocks ≡ length front
+  pub writable : All IsWritableBlock blocks
+
+pub none_taken : (t : ℕ) (first : Option ℕ) (start : TableValue) → IsTaken t first start first start []
+none_taken t first start = record {
+  front = [];
+  rest = waiting first start;
+  parts = refl;
+  waits = refl;
+  content = refl;
+  cursor = refl;
+  each = refl;
+  count = refl;
+  writable = λ i d less. absurd (omega (arith, less));
+}
+
+-- ---- One more
+
+after_more : (front : List EntryRow) (row : EntryRow) (table : TableValue) → after_blocks (front ++ row ∷ []) table ≡ after_block row.0 (after_blocks front table)
+after_more [] row table = refl
+after_more (first ∷ front) row table = after_more front row (after_block first.0 table)
+
+last_of_more : (front : List EntryRow) (row : EntryRow) (last : Option ℕ) → last_reported last (front ++ row ∷ []) ≡ Some row.0
+last_of_more [] row last = refl
+last_of_more (first ∷ front) row last = last_of_more front row (Some first.0)
+
+first_row : (rows : List EntryRow) (ssrc : ℕ) → Some ssrc ≡ first_ssrc rows → (row : EntryRow) × (rest : List EntryRow) × (rows ≡ row ∷ rest) × (row.0 ≡ ssrc)
+first_row [] ssrc is = absurd (cc)
+first_row (row ∷ rest) ssrc is = (row, rest, refl, cc)
+
+cons_given : {A : Type 0} {given : Option A} {x : A} → given ≡ Some x → x ∷ [] ≡ cons_option given []
+cons_given {A = A} is = sym (ap (λ (o : Option A). cons_option o []) is)
+
+one_more_at : (t : ℕ) (first : Option ℕ) (start : TableValue) (last : Option ℕ) (table after : TableValue) (blocks : List ReportBlock) (block : ReportBlock) (row : EntryRow) (rest : List EntryRow)
+    → (taken : IsTaken t first start last table blocks) → waiting last table ≡ row ∷ rest → Some block ≡ block_at row.0 t table → after ≡ after_block row.0 table → IsWritableBlock block
+    → IsTaken t first start (Some row.0) after (blocks ++ block ∷ [])
+one_more_at t first start last table after blocks block row rest taken waits is moved can =
+    let here : block_of_row t row ≡ Some block = sym (block_of_first t last table row rest waits) ∙ sym is in
+    record {
+      front = taken.front ++ row ∷ [];
+      rest = rest;
+      parts = taken.parts ∙ ap (λ (r : List EntryRow). taken.front ++ r) (sym taken.waits ∙ waits) ∙ sym (append_assoc taken.front (row ∷ []) rest);
+      waits = ap (λ (x : TableValue). waiting (Some row.0) x) moved ∙ others_wait last table row rest waits;
+      content = moved ∙ ap (after_block row.0) taken.content ∙ sym (after_more taken.front row start);
+      cursor = sym (last_of_more taken.front row first);
+      each = (λ i. taken.each i ++ cons_given here i) ∙ sym (filter_map-append (block_of_row t) taken.front (row ∷ []));
+      count = omega (arith, taken.count, length-append blocks (block ∷ []), length-append taken.front (row ∷ []));
+      writable = All-push IsWritableBlock blocks block taken.writable can;
+    }
+
+pub one_more : (t : ℕ) (first : Option ℕ) (start : TableValue) (last : Option ℕ) (table after : TableValue) (blocks : List ReportBlock) (block : ReportBlock) (ssrc : ℕ)
+    → IsTaken t first start last table blocks → Some ssrc ≡ first_ssrc (waiting last table) → Some block ≡ block_at ssrc t table → after ≡ after_block ssrc table → IsWritableBlock block
+    → IsTaken t first start (Some ssrc) after (blocks ++ block ∷ [])
+one_more t first start last table after blocks block ssrc taken is made moved can =
+    let next = first_row (waiting last table) ssrc is in
+    subst (λ (s : ℕ). Some block ≡ block_at s t table → after ≡ after_block s table → IsTaken t first start (Some s) after (blocks ++ block ∷ [])) next.3
+    (λ made moved. one_more_at t first start last table after blocks block next.0 next.1 taken next.2 made moved can) made moved
+
+-- The values of blocks, of which one more is pushed.
+pub pushed : (blocks after : List Block) (block : Block) → after ≡ blocks ++ block ∷ [] → map block_of blocks ++ block_of block ∷ [] ≡ map block_of after
+pushed blocks after block is = sym (ap (λ (b : List Block). map block_of b) is ∙ map_push block_of blocks block)

@@ -1,0 +1,76 @@
+-- The parts of a report, put together.
+use Rattle.std.proofs.Common.{◌≡◌, ℕ, ◌+◌, ◌<◌, ◌≤◌, List, length, take, sum_by, Option, Some, None, option_map, arith, refl, sym, ap, subst, ◌∙◌}
+use Rattle.std.specs.Option.{ForSome}
+use Rattle.std.proofs.lemmas.List.{length-take}
+use Rattle.rtcp_wire.specs.Values.{ReportBlock, ItemValue, RtcpPacket}
+use Rattle.rtcp_wire.specs.Grammar.{IsAccepted}
+use Rattle.rtcp_wire.specs.Writing.{written_all, IsWritableItem}
+use Rattle.rtcp_members.specs.Tables.{TableValue}
+use Rattle.rtcp_members.specs.Waiting.{EntryRow, waiting, blocks_of, after_blocks, last_reported}
+use Rattle.rtcp_report.specs.declared.sender.Sender.{Sender}
+use Rattle.rtcp_report.specs.Reports.{SentValue, Reporter, packets_with}
+use Rattle.rtcp_report.specs.Sizes.{front_size, item_size, report_size, reported_rows, report_of}
+use Rattle.rtcp_report.specs.Views.{items_of, reporter_with, sent_value}
+use Rattle.rtcp_report.proofs.ReportSizes.{packets_length}
+use Rattle.rtcp_report.proofs.Fronts.{size_rises, front_is}
+
+-- ---- The least report
+
+items_are_short : (cname : List ℕ) (extra : Option ItemValue) → length cname ≤ 255 → ForSome extra IsWritableItem → sum_by item_size (items_of cname extra) ≤ 514
+items_are_short cname None short can = omega (arith, short)
+items_are_short cname (Some item) short can = omega (arith, short, (can item refl).2)
+
+front_is_short : (sent : Option SentValue) → front_size sent ≤ 28
+front_is_short None = omega arith
+front_is_short (Some sent) = omega arith
+
+pub least_fits : (s : Sender) (cname : List ℕ) (extra : Option ItemValue) (items : List ItemValue) (limit : ℕ) → items ≡ items_of cname extra → length cname ≤ 255 → ForSome extra IsWritableItem → 576 ≤ limit → report_size (reporter_with s items) 0 ≤ limit
+least_fits s cname extra items limit is short can least =
+    omega (arith, least, ap (λ (i : List ItemValue). sum_by item_size i) is, items_are_short cname extra short can, front_is_short (option_map sent_value s.sr))
+
+-- ---- The whole
+
+-- What a call ensures of its octets, and of the table and the cursor behind it.
+pub record IsReport (reporter : Reporter) (limit t : ℕ) (last : Option ℕ) (table : TableValue) (octets : List ℕ) (after : TableValue) (cursor : Option ℕ) : Type 0 where
+  pub octets_are : octets ≡ written_all (report_of reporter limit t last table)
+  pub within : length octets ≤ limit
+  pub size : length octets ≡ report_size reporter (length (reported_rows reporter limit last table))
+  pub reads_back : IsAccepted octets (report_of reporter limit t last table)
+  pub content : after ≡ after_blocks (reported_rows reporter limit last table) table
+  pub cursor_is : cursor ≡ last_reported last (reported_rows reporter limit last table)
+
+-- What was written of the blocks that were taken, where so many fit and no more.
+pub record IsWritten (given : Reporter) (most t : ℕ) (last : Option ℕ) (table : TableValue) (blocks : List ReportBlock) (octets : List ℕ) (after : TableValue) (cursor : Option ℕ) : Type 0 where
+  pub blocks_are : blocks ≡ blocks_of t (take most (waiting last table))
+  pub count : length blocks ≡ length (take most (waiting last table))
+  pub octets_are : octets ≡ written_all (packets_with given blocks)
+  pub reads_back : IsAccepted octets (packets_with given blocks)
+  pub content : after ≡ after_blocks (take most (waiting last table)) table
+  pub cursor_is : cursor ≡ last_reported last (take most (waiting last table))
+
+module _ (limit most t : ℕ) (last : Option ℕ) (table : TableValue) (given reporter : Reporter) (same : given ≡ reporter) (fits : report_size given most ≤ limit) (greatest : limit < report_size given (most + 1)) where
+  rows_are : take most (waiting last table) ≡ reported_rows reporter limit last table
+  rows_are =
+      sym (front_is reporter limit most (subst (λ (r : Reporter). report_size r most ≤ limit) same fits) (subst (λ (r : Reporter). limit < report_size r (most + 1)) same greatest) (waiting last table))
+
+  packets_are : (blocks : List ReportBlock) → blocks ≡ blocks_of t (take most (waiting last table)) → packets_with given blocks ≡ report_of reporter limit t last table
+  packets_are blocks is = λ i. packets_with (same i) ((is ∙ ap (blocks_of t) rows_are) i)
+
+  within_limit : (blocks : List ReportBlock) → length blocks ≡ length (take most (waiting last table)) → report_size given (length blocks) ≤ limit
+  within_limit blocks count =
+      let few : length blocks ≤ most = omega (arith, count, length-take most (waiting last table)) in
+      omega (arith, fits, size_rises given (length blocks) most few)
+
+  pub whole_report : (blocks : List ReportBlock) (octets : List ℕ) (after : TableValue) (cursor : Option ℕ) → IsWritten given most t last table blocks octets after cursor → IsReport reporter limit t last table octets after cursor
+  whole_report blocks octets after cursor is =
+      let packets : packets_with given blocks ≡ report_of reporter limit t last table = packets_are blocks is.blocks_are in
+      let size : length octets ≡ report_size given (length blocks) = ap (λ (o : List ℕ). length o) is.octets_are ∙ packets_length given blocks in
+      let count : length blocks ≡ length (reported_rows reporter limit last table) = is.count ∙ ap (λ (rows : List EntryRow). length rows) rows_are in
+      record {
+        octets_are = is.octets_are ∙ ap (λ (p : List RtcpPacket). written_all p) packets;
+        within = omega (arith, size, within_limit blocks is.count);
+        size = size ∙ (λ i. report_size (same i) (count i));
+        reads_back = subst (IsAccepted octets) packets is.reads_back;
+        content = is.content ∙ ap (λ (rows : List EntryRow). after_blocks rows table) rows_are;
+        cursor_is = is.cursor_is ∙ ap (last_reported last) rows_are;
+      }

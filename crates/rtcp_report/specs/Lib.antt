@@ -1,0 +1,5 @@
+pub mod Reports
+pub mod Sizes
+pub mod Traced
+pub mod Views
+pub mod Described

@@ -1,0 +1,46 @@
+-- The packets of a compound report (RFC 3550, 6.1, 6.4, 6.5).
+use Rattle.std.specs.Prelude.{ℕ, zero, suc, ◌-◌, ◌/◌, List, [], ◌∷◌, ◌++◌, length, take, drop, Option, Some, None}
+use Rattle.rtcp_wire.specs.Values.{ReportBlock, ItemValue, RtcpPacket, rr, sr, sdes}
+
+-- What a sender's report says beside its SSRC (6.4.1).
+pub record SentValue : Type 0 where
+  pub ntp : ℕ
+  pub rtp : ℕ
+  pub packets : ℕ
+  pub octets : ℕ
+
+-- Who reports: its SSRC, what it sent, where it reports as a sender, and the items that describe it (6.5).
+pub record Reporter : Type 0 where
+  pub ssrc : ℕ
+  pub sent : Option SentValue
+  pub items : List ItemValue
+
+-- the item that names a source (6.5.1)
+abbrev pub cname_item : List ℕ → ItemValue
+cname_item text = record { kind = 1; text = text }
+
+-- a sender's report, or a receiver's
+abbrev pub report_with : (ssrc : ℕ) → Option SentValue → List ReportBlock → RtcpPacket
+report_with ssrc None blocks = rr ssrc blocks []
+report_with ssrc (Some sent) blocks =
+    sr (record { ssrc = ssrc; ntp = sent.ntp; rtp = sent.rtp; packets = sent.packets; octets = sent.octets }) blocks []
+
+-- How many reports stand behind the first one: each report has at most 31 blocks.
+abbrev pub further_count : (blocks : ℕ) → ℕ
+further_count blocks = (blocks - 1) / 31
+
+-- as many receiver's reports, each with the next 31 blocks, or with those that are left
+abbrev pub further_reports : (ssrc count : ℕ) → List ReportBlock → List RtcpPacket
+further_reports ssrc zero blocks = []
+further_reports ssrc (suc count) blocks = rr ssrc (take 31 blocks) [] ∷ further_reports ssrc count (drop 31 blocks)
+
+abbrev pub reports_with : (ssrc : ℕ) → Option SentValue → List ReportBlock → List RtcpPacket
+reports_with ssrc sent blocks = report_with ssrc sent (take 31 blocks) ∷ further_reports ssrc (further_count (length blocks)) (drop 31 blocks)
+
+-- the source description, of one chunk
+abbrev pub description_of : Reporter → RtcpPacket
+description_of reporter = sdes (record { id = reporter.ssrc; items = reporter.items } ∷ [])
+
+-- The packets of a report with these blocks.
+abbrev pub packets_with : Reporter → List ReportBlock → List RtcpPacket
+packets_with reporter blocks = reports_with reporter.ssrc reporter.sent blocks ++ description_of reporter ∷ []

@@ -1,0 +1,39 @@
+//! The blocks of a report, taken from a table in turn (RFC 3550, 6.4).
+
+ghost use Rattle.std.specs.Prelude.{◌≡◌, ◌≤◌, All, length, map, take};
+ghost use Rattle.rtcp_wire.specs.Views.{block_of};
+ghost use Rattle.rtcp_wire.specs.Writing.{IsWritableBlock};
+ghost use Rattle.rtcp_members.specs.Waiting.{waiting, blocks_of, after_blocks, last_reported};
+
+use arrayvec::ArrayVec;
+use rtcp_members::MemberTable;
+use rtcp_wire::Block;
+
+/// The most blocks of a compound: 61 of them have 1,464 octets, and what stands around them has at least 28.
+pub(crate) const MOST_BLOCKS: usize = 60;
+
+/// The blocks of the first `most` sources that wait behind the cursor, or of all of them, at the moment `t`. The cursor goes to the
+/// last one.
+pub(crate) fn gather<T: MemberTable>(
+    table: &mut T,
+    t: u64,
+    cursor: &mut Option<u32>,
+    most: usize,
+) -> ArrayVec<Block, MOST_BLOCKS>
+    requires { most ≤ 60 }
+    ensures blocks { map block_of result.items ≡ blocks_of t (take most (waiting cursor.old (T.content table.old))) }
+    ensures count { length result.items ≡ length (take most (waiting cursor.old (T.content table.old))) }
+    ensures writable { All IsWritableBlock (map block_of result.items) }
+    ensures content { T.content table.new ≡ after_blocks (take most (waiting cursor.old (T.content table.old))) (T.content table.old) }
+    ensures cursor { cursor.new ≡ last_reported cursor.old (take most (waiting cursor.old (T.content table.old))) }
+{
+    let mut blocks = ArrayVec::new();
+    'sources: for _ in 0..most {
+        let Some(ssrc) = table.next_with_news(*cursor) else {
+            break;
+        };
+        blocks.push(table.block_of(ssrc, t));
+        *cursor = Some(ssrc);
+    }
+    blocks
+}

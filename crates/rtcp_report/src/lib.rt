@@ -1,0 +1,26 @@
+//! Compound reports of an RTP participant (RFC 3550, 6.1, 6.4, 6.5): what it sends when a report is due, over any table of members.
+//! It is deterministic, reads no clock, opens no socket, draws no random number and asks for no memory.
+//!
+//! ```
+//! let mut table = ListTable::empty(1_024, 8_000);
+//! let mut cursor = None;
+//! let sender = Sender { ssrc: 7, cname: b"a", sr: None };
+//! let octets = report(&sender, &mut table, 0, 1_472, &mut cursor, None);
+//! assert_eq!(rt; octets.len(), 20);
+//! ```
+//!
+//! What a report is, is defined in `specs/` (`Reports`, `Sizes`); `laws` has what holds of these definitions.
+#![tactic(auto)]
+
+mod compound;
+mod description;
+mod gathering;
+pub mod laws;
+mod sender;
+mod writing;
+
+pub use compound::{first_size, report};
+pub use sender::{Item, Sender, SrPart};
+
+#[cfg(test)]
+mod tests;

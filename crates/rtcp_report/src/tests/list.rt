@@ -1,0 +1,43 @@
+//! Reports of the table that keeps a list.
+
+use super::*;
+use rtcp_members::ListTable;
+
+/// The example at the head of the crate.
+#[test]
+fn example(rt: HostRuntime) {
+    let mut table = ListTable::empty(1_024, 8_000);
+    let mut cursor = None;
+    let sender = Sender {
+        ssrc: 7,
+        cname: b"a",
+        sr: None,
+    };
+    let octets = report(&sender, &mut table, 0, 1_472, &mut cursor, None);
+    assert_eq!(rt; octets.len(), 20);
+}
+
+#[test]
+fn no_news(rt: HostRuntime) {
+    rows::no_news::<ListTable>(&rt);
+}
+
+#[test]
+fn two_reports(rt: HostRuntime) {
+    rows::two_reports::<ListTable>(&rt);
+}
+
+#[test]
+fn one_at_a_time(rt: HostRuntime) {
+    rows::one_at_a_time::<ListTable>(&rt);
+}
+
+#[test]
+fn forty(rt: HostRuntime) {
+    rows::forty::<ListTable>(&rt);
+}
+
+#[test]
+fn seventy(rt: HostRuntime) {
+    rows::seventy::<ListTable>(&rt);
+}

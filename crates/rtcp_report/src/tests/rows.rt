@@ -1,0 +1,106 @@
+//! Reports of the sources of a table, whichever it is.
+
+ghost use Rattle.std.specs.Prelude.{◌≡◌, length};
+
+use super::session::Session;
+use super::*;
+use std::process::Abort;
+
+const SENT: SrPart = SrPart {
+    ntp: 0x0000_b705_2000_0000,
+    rtp: 10,
+    packets: 3,
+    octets: 480,
+};
+
+/// The participant 000000aa with the CNAME `a`.
+fn named_a(sr: Option<SrPart>) -> Sender<'static>
+    ensures { length result.cname.now ≡ 1 }
+{
+    Sender {
+        ssrc: 0xaa,
+        cname: b"a",
+        sr,
+    }
+}
+
+/// An empty receiver report and the CNAME; the cursor stays.
+pub(crate) fn no_news<T: MemberTable + Drop>(rt: &impl Abort) {
+    let mut session: Session<T> = Session::new();
+    session.packet(rt, 7, 10);
+    session.cursor = Some(5);
+    let octets = session.report(&named_a(None), 1_472, None);
+    assert_eq!(rt;
+        octets.as_slice(),
+        [
+            0x80, 0xc9, 0, 1, 0, 0, 0, 0xaa, 0x81, 0xca, 0, 2, 0, 0, 0, 0xaa, 1, 1, 0x61, 0
+        ]
+        .as_slice()
+    );
+    assert_eq!(rt; session.cursor, Some(5));
+}
+
+/// 31 blocks in the sender report, and one in a receiver report behind it.
+pub(crate) fn two_reports<T: MemberTable + Drop>(rt: &impl Abort) {
+    let mut session: Session<T> = Session::new();
+    session.sources(rt, 32);
+    let octets = session.report(&named_a(Some(SENT)), 1_472, None);
+    assert_eq!(rt; octets.len(), 816);
+    let octets = octets.as_slice();
+    assert_eq!(rt; &octets[..4], [0x9f, 0xc8, 0, 0xc0].as_slice());
+    assert_eq!(rt; &octets[772..776], [0x81, 0xc9, 0, 7].as_slice());
+    assert_eq!(rt; &octets[780..784], [0, 0, 0, 32].as_slice());
+    assert_eq!(rt; &octets[804..808], [0x81, 0xca, 0, 2].as_slice());
+    assert_eq!(rt; session.cursor, Some(32));
+}
+
+/// Where one block fits, three sources take turns.
+pub(crate) fn one_at_a_time<T: MemberTable + Drop>(rt: &impl Abort) {
+    let mut session: Session<T> = Session::new();
+    session.sources(rt, 3);
+    let mut extra = Item {
+        kind: 2,
+        text: ArrayVec::new(),
+    };
+    assert!(rt; extra.text.try_extend_from_slice(&[0x62; 255]).is_ok());
+    let sender = Sender {
+        ssrc: 0xaa,
+        cname: &[0x61; 255],
+        sr: Some(SENT),
+    };
+    for turn in 0..4_u16 {
+        for ssrc in 1..4 {
+            session.packet(rt, ssrc, turn + 12);
+        }
+        let octets = session.report(&sender, 576, Some(&extra));
+        assert_eq!(rt; octets.len(), 576);
+        let expected = turn as u8 % 3 + 1;
+        assert_eq!(rt; &octets.as_slice()[..2], [0x81, 0xc8].as_slice());
+        assert_eq!(rt; &octets.as_slice()[28..32], [0, 0, 0, expected].as_slice());
+        assert_eq!(rt; session.cursor, Some(expected as u32));
+    }
+}
+
+/// All 40 sources fit.
+pub(crate) fn forty<T: MemberTable + Drop>(rt: &impl Abort) {
+    let mut session: Session<T> = Session::new();
+    session.sources(rt, 40);
+    let octets = session.report(&named_a(None), 1_472, None);
+    assert_eq!(rt; octets.len(), 988);
+    let octets = octets.as_slice();
+    assert_eq!(rt; &octets[..4], [0x9f, 0xc9, 0, 0xbb].as_slice());
+    assert_eq!(rt; &octets[752..756], [0x89, 0xc9, 0, 0x37].as_slice());
+}
+
+/// Of 70 sources 60 fit, and the next report has the others.
+pub(crate) fn seventy<T: MemberTable + Drop>(rt: &impl Abort) {
+    let mut session: Session<T> = Session::new();
+    session.sources(rt, 70);
+    let octets = session.report(&named_a(None), 1_472, None);
+    assert_eq!(rt; octets.len(), 1_468);
+    assert_eq!(rt; session.cursor, Some(60));
+    let octets = session.report(&named_a(None), 1_472, None);
+    assert_eq!(rt; octets.len(), 260);
+    assert_eq!(rt; &octets.as_slice()[..2], [0x8a, 0xc9].as_slice());
+    assert_eq!(rt; session.cursor, Some(70));
+}
