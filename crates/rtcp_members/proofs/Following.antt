@@ -15,7 +15,7 @@ use Rattle.rtcp_members.proofs.Moving.{kept_by, own_entry_at, other_entry_at, ch
 
 -- ---- Counts
 
-is_some_mapped : {X Y : Type 0} (f : X → Y) (o : Option X) → is_some (option_map f o) ≡ is_some o
+pub is_some_mapped : {X Y : Type 0} (f : X → Y) (o : Option X) → is_some (option_map f o) ≡ is_some o
 is_some_mapped f None = refl
 is_some_mapped f (Some x) = refl
 

@@ -18,4 +18,5 @@ pub mod TurnsRows
 pub mod Turns
 pub mod NextDue
 pub mod TurnsSamples
+pub mod TraceTables
 pub mod Rows

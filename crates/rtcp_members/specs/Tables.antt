@@ -10,7 +10,7 @@ use Rattle.rtcp_source.specs.Summary.{SourceValue}
 use Rattle.rtcp_source.specs.Steps.{no_source, taken_by, after_packet, after_told}
 use Rattle.rtcp_members.specs.declared.table.Place.{Place}
 use Rattle.rtcp_members.specs.declared.table.Place.TheVariants.{Kept, Added, NoRoom, Ignored, Left}
-use Rattle.rtcp_members.specs.Traces.{Horizons, TraceStep, subject, is_gone}
+use Rattle.rtcp_members.specs.Traces.{Horizons, TraceStep, subject, is_gone, names}
 use Rattle.rtcp_members.specs.Stays.{is_removed}
 use Rattle.rtcp_members.specs.Entries.{EntryValue, still_sending, entry_at, is_member, is_sender}
 
@@ -151,3 +151,11 @@ no_members capacity rate = record { capacity = capacity; rate = rate; entries = 
 -- A table stands at a trace where it has, for each source, the entry of the trace.
 abbrev pub StandsAt : TableValue → List TraceStep → Type 0
 StandsAt table trace = (ssrc : ℕ) → map.get table.entries ssrc ≡ entry_at table.capacity table.rate trace ssrc
+
+-- The table of a trace: an entry for each source that is present.
+abbrev pub row_at : (capacity rate : ℕ) → List TraceStep → (ssrc : ℕ) → Option (ℕ × EntryValue)
+row_at capacity rate trace ssrc = option_map (λ entry. (ssrc, entry)) (entry_at capacity rate trace ssrc)
+
+abbrev pub table_at : (capacity rate : ℕ) → List TraceStep → TableValue
+table_at capacity rate trace =
+    record { capacity = capacity; rate = rate; entries = map.from_entries (filter_map (row_at capacity rate trace) (names trace)) }

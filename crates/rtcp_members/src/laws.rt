@@ -7,7 +7,7 @@ ghost use Rattle.rtcp_members.specs.Traces.{Horizons, subject, TraceStep, fact_c
 ghost use Rattle.rtcp_members.specs.Stays.{present_among, stay_of};
 ghost use Rattle.rtcp_members.specs.Entries.{members_at, senders_at};
 ghost use Rattle.rtcp_members.specs.Waiting.{is_due_at, after_block};
-ghost use Rattle.rtcp_members.specs.Tables.{TableValue, StandsAt, HasFew, IsFew, no_members, after_fact, after_check, members_in, senders_in};
+ghost use Rattle.rtcp_members.specs.Tables.{TableValue, StandsAt, table_at, HasFew, IsFew, no_members, after_fact, after_check, members_in, senders_in};
 
 /// A table that stands at a trace goes with each step to one that stands at the trace with that step.
 pub fn tables_follow_traces()
@@ -15,6 +15,12 @@ pub fn tables_follow_traces()
     ensures fact { (table : TableValue) (trace : List TraceStep) (fact : Fact) (moment : ℕ) → StandsAt table trace → StandsAt (after_fact fact moment table) (fact_came fact moment ∷ trace) }
     ensures check { (table : TableValue) (trace : List TraceStep) (horizons : Horizons) → StandsAt table trace → StandsAt (after_check horizons table) (check_made horizons ∷ trace) }
     ensures block { (table : TableValue) (trace : List TraceStep) (ssrc : ℕ) → IsTrue (is_due_at ssrc table) → StandsAt table trace → StandsAt (after_block ssrc table) (block_taken ssrc ∷ trace) }
+{}
+
+/// A trace has one table that stands at it: so whatever is said of a table is said of its trace.
+pub fn trace_has_one_table()
+    ensures stands { (capacity rate : ℕ) (trace : List TraceStep) → StandsAt (table_at capacity rate trace) trace }
+    ensures only { (table : TableValue) (trace : List TraceStep) → StandsAt table trace → table ≡ table_at table.capacity table.rate trace }
 {}
 
 /// A table that stands at a trace has as many entries as sources are present, and as many members and senders as the trace.
