@@ -7,7 +7,7 @@ use Rattle.rtcp_wire.specs.declared.fact.Fact.{Fact}
 use Rattle.rtcp_members.specs.declared.entry.Entry.{Entry}
 use Rattle.rtcp_members.specs.declared.table.Place.{Place}
 use Rattle.rtcp_members.specs.declared.table.Place.TheVariants.{Added, NoRoom, Ignored}
-use Rattle.rtcp_members.specs.Traces.{subject, is_gone}
+use Rattle.rtcp_wire.specs.Facts.{subject, is_gone}
 use Rattle.rtcp_members.specs.Tables.{TableValue, IsApart, new_entry, entry_after, place_of, changes, placed, after_fact, has_room}
 use Rattle.rtcp_members.specs.ListViews.{entry_value, row_of, rows_of, map_of, table_of, IsListed}
 use Rattle.rtcp_members.proofs.Listing.{len_rows}

@@ -9,7 +9,7 @@ use Rattle.rtcp_wire.specs.declared.fact.Fact.{Fact}
 use Rattle.rtcp_members.specs.declared.entry.Entry.{Entry}
 use Rattle.rtcp_members.specs.declared.table.Place.{Place}
 use Rattle.rtcp_members.specs.declared.table.Place.TheVariants.{Kept, Ignored, Left}
-use Rattle.rtcp_members.specs.Traces.{subject, is_gone}
+use Rattle.rtcp_wire.specs.Facts.{subject, is_gone}
 use Rattle.rtcp_members.specs.Entries.{EntryValue}
 use Rattle.rtcp_members.specs.Tables.{EntryMap, TableValue, IsApart, new_entry, entry_after, entry_behind, place_of, changes, placed, counted, counted_of, after_fact, has_room}
 use Rattle.rtcp_members.specs.ListViews.{entry_value, rows_of, map_of, table_of, IsPlaceOf}

@@ -6,7 +6,8 @@ use Rattle.std.specs.Cmp.{nat_cmp_total}
 use Rattle.std.specs.FinMap as map
 use Rattle.rtcp_wire.specs.declared.fact.Fact.{Fact}
 use Rattle.rtcp_members.specs.declared.table.Place.TheVariants.{Added, NoRoom, Ignored}
-use Rattle.rtcp_members.specs.Traces.{Horizons, subject, is_gone}
+use Rattle.rtcp_wire.specs.Facts.{subject, is_gone}
+use Rattle.rtcp_members.specs.Traces.{Horizons}
 use Rattle.rtcp_members.specs.Entries.{EntryValue}
 use Rattle.rtcp_members.specs.Tables.{EntryMap, TableValue, changes, placed, place_of, after_fact, entry_after_check, after_check, updated_row, updated, no_members}
 

@@ -4,7 +4,8 @@ use Rattle.std.proofs.lemmas.Bool.{eqb-true, eqb-false, eq-eqb, ne_eqb}
 use Rattle.std.specs.Cmp.{nat_cmp_total, unsigned_tied}
 use Rattle.std.specs.FinMap as map
 use Rattle.rtcp_wire.specs.declared.fact.Fact.{Fact}
-use Rattle.rtcp_members.specs.Traces.{Horizons, TraceStep, fact_came, check_made, subject, names}
+use Rattle.rtcp_wire.specs.Facts.{subject}
+use Rattle.rtcp_members.specs.Traces.{Horizons, TraceStep, fact_came, check_made, names}
 use Rattle.rtcp_members.specs.Stays.{present_among, stay_of}
 use Rattle.rtcp_members.specs.Entries.{EntryValue, is_such, entry_at, count_at}
 use Rattle.rtcp_members.specs.Tables.{TableValue, StandsAt, no_members, changes, placed, has_room, entry_for, entry_after, after_fact, entry_after_check, after_check, count_in}

@@ -3,7 +3,8 @@ use Rattle.std.proofs.Common.{◌≡◌, ℕ, Bool, true, false, if◌then◌els
 use Rattle.std.proofs.lemmas.Bool.{and_right}
 use Rattle.rtcp_wire.specs.declared.fact.Fact.{Fact}
 use Rattle.rtcp_members.specs.declared.table.Place.TheVariants.{Kept, Added, NoRoom, Ignored, Left}
-use Rattle.rtcp_members.specs.Traces.{Horizons, TraceStep, fact_came, check_made, subject, is_gone, names}
+use Rattle.rtcp_wire.specs.Facts.{subject, is_gone}
+use Rattle.rtcp_members.specs.Traces.{Horizons, TraceStep, fact_came, check_made, names}
 use Rattle.rtcp_members.specs.Stays.{mark_of, before_mark, last_naming, is_removed, stay_with, stay_of}
 use Rattle.rtcp_members.specs.Entries.{EntryValue, entry_of, entry_at}
 use Rattle.rtcp_members.specs.Tables.{changes, place_of, new_entry, entry_after, entry_after_check}

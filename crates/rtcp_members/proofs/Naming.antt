@@ -2,7 +2,8 @@
 use Rattle.std.proofs.Common.{◌≡◌, ℕ, Bool, true, false, true≢false, cond, if◌then◌else◌, not, ◌||◌, ◌==◌, nat_lt, List, [], ◌∷◌, Option, Some, None, is_some, refl, sym, ap, ◌∙◌}
 use Rattle.std.proofs.lemmas.Bool.{eqb-true, or_parts, and_parts, or_left, or_right, not-true}
 use Rattle.rtcp_wire.specs.declared.fact.Fact.{Fact}
-use Rattle.rtcp_members.specs.Traces.{TraceStep, fact_came, check_made, block_taken, subject, is_gone, is_naming, with_name, names}
+use Rattle.rtcp_wire.specs.Facts.{subject, is_gone}
+use Rattle.rtcp_members.specs.Traces.{TraceStep, fact_came, check_made, block_taken, is_naming, with_name, names}
 use Rattle.rtcp_members.specs.Stays.{present_among, stay_with, stay_of}
 use Rattle.rtcp_members.proofs.Counting.{has, IsOnce}
 

@@ -11,7 +11,8 @@ use Rattle.rtcp_source.specs.declared.taken.Taken.TheVariants.{Probation, Counte
 use Rattle.rtcp_source.specs.Packets.{transit_of}
 use Rattle.rtcp_source.specs.Summary.{SourceValue}
 use Rattle.rtcp_source.specs.Steps.{source_with, taken_by}
-use Rattle.rtcp_members.specs.Traces.{Horizons, subject}
+use Rattle.rtcp_wire.specs.Facts.{subject}
+use Rattle.rtcp_members.specs.Traces.{Horizons}
 use Rattle.rtcp_members.specs.Stays.{is_removed}
 use Rattle.rtcp_members.specs.Entries.{EntryValue, still_sending}
 use Rattle.rtcp_members.specs.Tables.{TableValue, HasFew, IsFew, new_entry, entry_after, entry_after_check, entry_for, changes, placed, no_members, after_fact, after_check}

@@ -3,11 +3,12 @@ use Rattle.std.proofs.Common.{◌≡◌, ℕ, true, false, if◌then◌else◌, 
 use Rattle.rtcp_wire.specs.declared.fact.Fact.{Fact}
 use Rattle.rtcp_wire.specs.declared.fact.Fact.TheVariants.{Heard, Told, Named, Gone, Media}
 use Rattle.rtcp_clock.specs.Moments.{media_units}
-use Rattle.rtcp_source.specs.Packets.{Given, CountedPacket, packet_came, taken_in, Run, greatest_of, taken_as, newest, is_counted, run_of}
+use Rattle.rtcp_source.specs.Packets.{Given, CountedPacket, packet_came, taken_in, PacketRun, greatest_of, taken_as, newest, is_counted, run_of}
 use Rattle.rtcp_source.specs.Summary.{summary_of, numbers_of}
 use Rattle.rtcp_source.specs.Steps.{greatest_in, taken_by, after_packet}
 use Rattle.rtcp_source.proofs.Stepping.{summary_moves}
-use Rattle.rtcp_members.specs.Traces.{Horizons, TraceStep, fact_came, check_made, subject}
+use Rattle.rtcp_wire.specs.Facts.{subject}
+use Rattle.rtcp_members.specs.Traces.{Horizons, TraceStep, fact_came, check_made}
 use Rattle.rtcp_members.specs.Stays.{mark_at, mark_of, before_mark, last_naming}
 use Rattle.rtcp_members.specs.Entries.{EntryValue, given_of, is_valid, sending_of, still_sending, entry_of}
 use Rattle.rtcp_members.specs.Tables.{entry_after}
@@ -54,7 +55,7 @@ same_taken (p ∷ counted) before stray seq = refl
 
 -- A packet is to the summary what it is to the run.
 taken_by_summary : (given : List Given) (seq : ℕ) → taken_by (summary_of given) seq ≡ taken_in (run_of given) seq
-taken_by_summary given seq = let run : Run = run_of given in same_taken run.counted run.reported (newest run.strays) seq
+taken_by_summary given seq = let run : PacketRun = run_of given in same_taken run.counted run.reported (newest run.strays) seq
 
 -- A fact of the source moves what is said of it as the tables say.
 pub own_fact : (rate ssrc moment : ℕ) (fact : Fact) (stay : List TraceStep) → (subject fact == ssrc) ≡ true

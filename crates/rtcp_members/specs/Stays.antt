@@ -1,7 +1,8 @@
 -- Who is present in a session, and since when (RFC 3550, 6.3.3 to 6.3.5, 6.3.7).
 -- The stay of a source is the trace from its last admission on, as long as no check removes it.
 use Rattle.std.specs.Prelude.{ℕ, ◌||◌, ◌==◌, ◌&&◌, Bool, true, false, nat_lt, List, [], ◌∷◌, filter, length, if◌then◌else◌, Option, Some, None, is_some}
-use Rattle.rtcp_members.specs.Traces.{Horizons, TraceStep, fact_came, check_made, block_taken, subject, is_gone, is_naming, names}
+use Rattle.rtcp_wire.specs.Facts.{subject, is_gone}
+use Rattle.rtcp_members.specs.Traces.{Horizons, TraceStep, fact_came, check_made, block_taken, is_naming, names}
 
 -- ---- Parts of a stay
 
@@ -21,15 +22,15 @@ abbrev pub before_mark : (ssrc : ℕ) → List TraceStep → List TraceStep
 before_mark ssrc [] = []
 before_mark ssrc (step ∷ earlier) = if is_some (mark_of ssrc (step ∷ earlier)) then before_mark ssrc earlier else step ∷ earlier
 
-abbrev pub moment_of : TraceStep → ℕ
-moment_of (fact_came fact moment) = moment
-moment_of (check_made horizons) = 0
-moment_of (block_taken ssrc) = 0
+abbrev pub step_moment : TraceStep → ℕ
+step_moment (fact_came fact moment) = moment
+step_moment (check_made horizons) = 0
+step_moment (block_taken ssrc) = 0
 
 -- The moment of the last sighting, a naming before the mark. (A stay has one, its admission.)
 abbrev pub last_naming : (ssrc : ℕ) → List TraceStep → ℕ
 last_naming ssrc [] = 0
-last_naming ssrc (step ∷ earlier) = if is_naming ssrc step then moment_of step else last_naming ssrc earlier
+last_naming ssrc (step ∷ earlier) = if is_naming ssrc step then step_moment step else last_naming ssrc earlier
 
 abbrev pub last_sighting : (ssrc : ℕ) → List TraceStep → ℕ
 last_sighting ssrc stay = last_naming ssrc (before_mark ssrc stay)

@@ -10,7 +10,8 @@ use Rattle.rtcp_source.specs.Summary.{SourceValue}
 use Rattle.rtcp_source.specs.Steps.{no_source, taken_by, after_packet, after_told}
 use Rattle.rtcp_members.specs.declared.table.Place.{Place}
 use Rattle.rtcp_members.specs.declared.table.Place.TheVariants.{Kept, Added, NoRoom, Ignored, Left}
-use Rattle.rtcp_members.specs.Traces.{Horizons, TraceStep, subject, is_gone, names}
+use Rattle.rtcp_wire.specs.Facts.{subject, is_gone}
+use Rattle.rtcp_members.specs.Traces.{Horizons, TraceStep, names}
 use Rattle.rtcp_members.specs.Stays.{is_removed}
 use Rattle.rtcp_members.specs.Entries.{EntryValue, still_sending, entry_at, is_member, is_sender}
 

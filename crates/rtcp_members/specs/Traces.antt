@@ -2,7 +2,7 @@
 use Rattle.std.specs.Prelude.{ℕ, ◌&&◌, ◌||◌, ◌==◌, Bool, true, false, not, List, [], ◌∷◌, if◌then◌else◌}
 use Rattle.std.specs.List.{list_any}
 use Rattle.rtcp_wire.specs.declared.fact.Fact.{Fact}
-use Rattle.rtcp_wire.specs.declared.fact.Fact.TheVariants.{Heard, Told, Named, Gone, Media}
+use Rattle.rtcp_wire.specs.Facts.{subject, is_gone}
 
 -- The moments that a check goes by.
 pub record Horizons : Type 0 where
@@ -23,21 +23,6 @@ pub data TraceStep : Type 0 where
   check_made : (horizons : Horizons) → TraceStep
   -- a report block that was made of a source
   block_taken : (ssrc : ℕ) → TraceStep
-
--- the source that a fact speaks of
-abbrev pub subject : Fact → ℕ
-subject (Heard ssrc) = ssrc
-subject (Told ssrc ntp) = ssrc
-subject (Named ssrc) = ssrc
-subject (Gone ssrc) = ssrc
-subject (Media ssrc seq timestamp) = ssrc
-
-abbrev pub is_gone : Fact → Bool
-is_gone (Heard ssrc) = false
-is_gone (Told ssrc ntp) = false
-is_gone (Named ssrc) = false
-is_gone (Gone ssrc) = true
-is_gone (Media ssrc seq timestamp) = false
 
 -- Whether a step names a source: each fact of it but that it has gone does.
 abbrev pub is_naming : (ssrc : ℕ) → TraceStep → Bool

@@ -3,7 +3,7 @@ use Rattle.std.specs.Prelude.{ℕ, ◌&&◌, Bool, true, not, nat_lt, List, [], 
 use Rattle.std.specs.FinMap as finite
 use Rattle.rtcp_wire.specs.Values.{ReportBlock}
 use Rattle.rtcp_source.specs.Blocks.{block_for, news_of}
-use Rattle.rtcp_source.specs.Steps as sources
+use Rattle.rtcp_source.specs.Steps.{after_block_made}
 use Rattle.rtcp_members.specs.Entries.{EntryValue, is_such}
 use Rattle.rtcp_members.specs.Tables.{TableValue}
 
@@ -50,7 +50,7 @@ abbrev pub block_at : (ssrc t : ℕ) → TableValue → Option ReportBlock
 block_at ssrc t table = option_and_then (λ entry. block_for ssrc t entry.source) (finite.get table.entries ssrc)
 
 abbrev pub reported_entry : EntryValue → EntryValue
-reported_entry entry = record entry { source = sources.after_block entry.source }
+reported_entry entry = record entry { source = after_block_made entry.source }
 
 abbrev pub with_reported : (ssrc : ℕ) → TableValue → Option EntryValue → TableValue
 with_reported ssrc table None = table

@@ -2,19 +2,19 @@
 
 ghost use Rattle.std.specs.Prelude.{◌≡◌, ◌<◌, ◌^◌, None, Some, Bool, IsTrue, not};
 ghost use Rattle.rtcp_members.specs.ListViews.{entry_value, lapsed};
-ghost use Rattle.rtcp_members.specs.Traces.{horizons_at, is_gone, subject};
+ghost use Rattle.rtcp_wire.specs.Facts.{is_gone, subject};
+ghost use Rattle.rtcp_members.specs.Traces.{horizons_at};
 ghost use Rattle.rtcp_members.specs.Stays.{is_removed};
 ghost use Rattle.rtcp_members.specs.Entries.{is_member, is_sender, still_sending};
-ghost use Rattle.rtcp_wire.specs.Views.{block_of};
+ghost use Rattle.rtcp_wire.specs.Views.{block_value};
 ghost use Rattle.rtcp_wire.specs.Writing.{IsWritableBlock};
-ghost use Rattle.rtcp_source.specs.Packets.{is_counted};
 ghost use Rattle.rtcp_source.specs.Blocks.{block_for};
 ghost use Rattle.rtcp_members.specs.Waiting.{is_due, reported_entry};
 ghost use Rattle.rtcp_members.specs.Tables.{new_entry, counts, counted_of, entry_after, entry_behind, place_of};
 
 use crate::table::{Applied, Place};
 use rtcp_clock::rtp_units;
-use rtcp_source::{Source, Taken};
+use rtcp_source::Source;
 use rtcp_wire::{Block, Fact};
 
 /// A source that is present.
@@ -83,7 +83,8 @@ impl Entry {
             Fact::Named(_) => self.valid = true,
             Fact::Told(_, ntp) => self.source.saw_sr(ntp, t),
             Fact::Media(_, seq, timestamp) => {
-                let counted = is_counted(self.source.take(seq, timestamp, rtp_units(t, rate)));
+                let taken = self.source.take(seq, timestamp, rtp_units(t, rate));
+                let counted = taken.is_counted();
                 if counted {
                     self.valid = true;
                     self.sending = Some(t);
@@ -128,17 +129,17 @@ impl Entry {
     /// The report block of the source at the moment `t`.
     pub(crate) fn report(&mut self, t: u64) -> Block
         requires { IsTrue (is_due (entry_value self.old)) }
-        ensures block { Some (block_of result) ≡ block_for self.old.ssrc t self.old.source }
+        ensures block { Some (block_value result) ≡ block_for self.old.ssrc t self.old.source }
         ensures ssrc { self.new.ssrc ≡ self.old.ssrc }
         ensures value { entry_value self.new ≡ reported_entry (entry_value self.old) }
-        ensures writable { IsWritableBlock (block_of result) }
+        ensures writable { IsWritableBlock (block_value result) }
     {
         self.source.block(self.ssrc, t)
     }
 
     /// Whether the entry stays behind a check with these horizons. It is a sender behind it only where its last counted packet does
     /// not lie before `idle`.
-    pub(crate) fn outlasts(&mut self, silent: u64, idle: u64, gone: u64) -> bool
+    pub(crate) fn check(&mut self, silent: u64, idle: u64, gone: u64) -> bool
         ensures stays { result ≡ not (is_removed (horizons_at silent idle gone) self.old.sighting self.old.mark) }
         ensures entry { self.new ≡ lapsed idle self.old }
     {
@@ -146,14 +147,5 @@ impl Entry {
             self.sending = None;
         }
         silent <= self.sighting && self.mark.is_none_or(|mark| gone <= mark)
-    }
-}
-
-fn is_counted(taken: Taken) -> bool
-    ensures { result ≡ is_counted taken }
-{
-    match taken {
-        Taken::Counted | Taken::Became | Taken::Restarted => true,
-        Taken::Probation | Taken::Bad => false,
     }
 }

@@ -3,7 +3,8 @@
 ghost use Rattle.std.specs.Prelude.{◌≡◌, ◌<◌, ◌≤◌, ◌+◌, ◌^◌, IfSome, IsTrue, ℕ, List, [], ◌∷◌};
 ghost use Rattle.std.specs.FinMap as map;
 ghost use Rattle.rtcp_wire.specs.declared.fact.Fact.{Fact};
-ghost use Rattle.rtcp_members.specs.Traces.{Horizons, subject, TraceStep, fact_came, check_made, block_taken, names};
+ghost use Rattle.rtcp_wire.specs.Facts.{subject};
+ghost use Rattle.rtcp_members.specs.Traces.{Horizons, TraceStep, fact_came, check_made, block_taken, names};
 ghost use Rattle.rtcp_members.specs.Stays.{present_among, stay_of};
 ghost use Rattle.rtcp_members.specs.Entries.{members_at, senders_at};
 ghost use Rattle.rtcp_members.specs.Waiting.{is_due_at, after_block};

@@ -3,9 +3,10 @@
 ghost use Rattle.std.specs.Prelude.{◌≡◌, ℕ, ◌<◌, ◌≤◌, ◌^◌, true, List, length, filter, IfSome, MatchOption, IsTrue, Some, None};
 ghost use Rattle.std.specs.FinMap as finite;
 ghost use Rattle.std.specs.List.{retain_mut};
-ghost use Rattle.rtcp_members.specs.Traces.{horizons_at, subject, is_gone};
+ghost use Rattle.rtcp_wire.specs.Facts.{subject, is_gone};
+ghost use Rattle.rtcp_members.specs.Traces.{horizons_at};
 ghost use Rattle.rtcp_members.specs.ListViews.{entry_value, rows_of, map_of, table_of, tally_of, lapsed, outlasts, IsListed, IsPlaceOf};
-ghost use Rattle.rtcp_wire.specs.Views.{block_of};
+ghost use Rattle.rtcp_wire.specs.Views.{block_value};
 ghost use Rattle.rtcp_wire.specs.Writing.{IsWritableBlock};
 ghost use Rattle.rtcp_members.specs.Entries.{is_member, is_sender, is_such};
 ghost use Rattle.rtcp_members.specs.Waiting.{is_due, block_at, after_block};
@@ -41,24 +42,6 @@ impl Model for ListTable {
     ghost view = { λ t. table_of t.capacity t.rate t.entries.items };
 
     ghost invariant = { λ t. IsListed t.capacity t.entries.items };
-}
-
-fn source_of(fact: Fact) -> u32
-    ensures { result ≡ subject fact }
-{
-    match fact {
-        Fact::Heard(ssrc)
-        | Fact::Told(ssrc, _)
-        | Fact::Named(ssrc)
-        | Fact::Gone(ssrc)
-        | Fact::Media(ssrc, _, _) => ssrc,
-    }
-}
-
-fn is_goodbye(fact: Fact) -> bool
-    ensures { result ≡ is_gone fact }
-{
-    matches!(fact, Fact::Gone(_))
 }
 
 /// Where the entry of a source stands, if it has one.
@@ -100,13 +83,13 @@ fn admit(
     ensures place { result ≡ placed (table_of capacity rate entries.old.items) fact }
     ensures table { table_of capacity rate entries.new.items ≡ after_fact fact t (table_of capacity rate entries.old.items) }
 {
-    if is_goodbye(fact) {
+    if fact.is_goodbye() {
         return Place::Ignored;
     }
     if entries.len() >= capacity as usize {
         return Place::NoRoom;
     }
-    let mut entry = Entry::new(source_of(fact));
+    let mut entry = Entry::new(fact.ssrc());
     let _ = entry.take(fact, t, rate);
     entries.push(entry);
     Place::Added
@@ -116,7 +99,7 @@ fn admit(
 fn drop_silent(entries: &mut ArrayVec<Entry, MAX_CAPACITY>, silent: u64, idle: u64, gone: u64)
     ensures { entries.new.items ≡ retain_mut (outlasts (horizons_at silent idle gone)) (lapsed idle) entries.old.items }
 {
-    entries.retain(|entry| entry.outlasts(silent, idle, gone));
+    entries.retain(|entry| entry.check(silent, idle, gone));
 }
 
 /// How many entries of a list are members and senders.
@@ -173,9 +156,9 @@ fn report_at(entries: &mut [Entry], at: usize, ssrc: u32, t: u64) -> Block
     requires place { IsPlaceOf ssrc entries.old at }
     requires due { IsTrue (is_such is_due (finite.get (map_of entries.old) ssrc)) }
     ensures apart { IsApart (rows_of entries.new) }
-    ensures block { (capacity rate : ℕ) → Some (block_of result) ≡ block_at ssrc t (table_of capacity rate entries.old) }
+    ensures block { (capacity rate : ℕ) → Some (block_value result) ≡ block_at ssrc t (table_of capacity rate entries.old) }
     ensures table { (capacity rate : ℕ) → table_of capacity rate entries.new ≡ after_block ssrc (table_of capacity rate entries.old) }
-    ensures writable { IsWritableBlock (block_of result) }
+    ensures writable { IsWritableBlock (block_value result) }
 {
     entries[at].report(t)
 }
@@ -192,7 +175,7 @@ impl MemberTable for ListTable {
     }
 
     fn apply(&mut self, fact: Fact, t: u64) -> Applied {
-        if let Some(at) = place_in(self.entries.as_slice(), source_of(fact)) {
+        if let Some(at) = place_in(self.entries.as_slice(), fact.ssrc()) {
             return apply_at(self.entries.as_mut_slice(), at, fact, t, self.rate);
         }
         let place = admit(&mut self.entries, self.capacity, fact, t, self.rate);

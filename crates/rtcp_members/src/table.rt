@@ -2,9 +2,10 @@
 
 ghost use Rattle.std.specs.Prelude.{◌≡◌, ◌≤◌, ◌^◌, IfSome, IsTrue, Some};
 ghost use Rattle.std.specs.FinMap as map;
-ghost use Rattle.rtcp_members.specs.Traces.{horizons_at, subject};
+ghost use Rattle.rtcp_wire.specs.Facts.{subject};
+ghost use Rattle.rtcp_members.specs.Traces.{horizons_at};
 ghost use Rattle.rtcp_members.specs.Tables.{TableValue, IsFew, no_members, placed, counted, after_fact, after_check, dropped_entries, dropped_senders, members_in, senders_in};
-ghost use Rattle.rtcp_wire.specs.Views.{block_of};
+ghost use Rattle.rtcp_wire.specs.Views.{block_value};
 ghost use Rattle.rtcp_wire.specs.Writing.{IsWritableBlock};
 ghost use Rattle.rtcp_members.specs.Waiting.{waiting, first_ssrc, is_due_at, block_at, after_block};
 
@@ -89,7 +90,7 @@ pub trait MemberTable {
     /// `t`, in microseconds (RFC 3550, 6.4.1). With it the source's interval begins anew, and its news end.
     fn block_of(&mut self, ssrc: u32, t: u64) -> Block
         requires { IsTrue (is_due_at ssrc (content self.old)) }
-        ensures block { Some (block_of result) ≡ block_at ssrc t (content self.old) }
+        ensures block { Some (block_value result) ≡ block_at ssrc t (content self.old) }
         ensures content { content self.new ≡ after_block ssrc (content self.old) }
-        ensures writable { IsWritableBlock (block_of result) };
+        ensures writable { IsWritableBlock (block_value result) };
 }

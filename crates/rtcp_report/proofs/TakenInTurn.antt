@@ -5,7 +5,7 @@ use Rattle.std.proofs.lemmas.List.Elements.{All-push, filter_map-append}
 use Rattle.std.specs.List.{cons_option}
 use Rattle.rtcp_wire.specs.Values.{ReportBlock}
 use Rattle.rtcp_wire.specs.declared.block.Block.{Block}
-use Rattle.rtcp_wire.specs.Views.{block_of}
+use Rattle.rtcp_wire.specs.Views.{block_value}
 use Rattle.rtcp_wire.specs.Writing.{IsWritableBlock}
 use Rattle.rtcp_members.specs.Tables.{TableValue}
 use Rattle.rtcp_members.specs.Waiting.{EntryRow, waiting, first_ssrc, block_of_row, block_at, after_block, blocks_of, after_blocks, last_reported}
@@ -79,5 +79,5 @@ one_more t first start last table after blocks block ssrc taken is made moved ca
     (λ made moved. one_more_at t first start last table after blocks block next.0 next.1 taken next.2 made moved can) made moved
 
 -- The values of blocks, of which one more is pushed.
-pub pushed : (blocks after : List Block) (block : Block) → after ≡ blocks ++ block ∷ [] → map block_of blocks ++ block_of block ∷ [] ≡ map block_of after
-pushed blocks after block is = sym (ap (λ (b : List Block). map block_of b) is ∙ map_push block_of blocks block)
+pub pushed : (blocks after : List Block) (block : Block) → after ≡ blocks ++ block ∷ [] → map block_value blocks ++ block_value block ∷ [] ≡ map block_value after
+pushed blocks after block is = sym (ap (λ (b : List Block). map block_value b) is ∙ map_push block_value blocks block)

@@ -10,7 +10,7 @@ ghost use Rattle.rtcp_report.specs.Reports.{Reporter, packets_with};
 ghost use Rattle.rtcp_report.specs.Sizes.{report_size, reported_rows, report_of};
 ghost use Rattle.rtcp_report.specs.Views.{items_of, extra_of, reporter_with, reporter_of};
 
-use crate::description::{Description, size_of};
+use crate::description::{Description, description_size};
 use crate::gathering::gather;
 use crate::sender::{Item, Sender};
 use crate::writing::{BLOCKS_OF_PACKET, write};
@@ -41,7 +41,7 @@ fn most_blocks(sender: &Sender<'_>, items: &[ItemRef<'_>], limit: u32) -> usize
     } else {
         RECEIVER_SIZE
     };
-    let room = limit as usize - front - size_of(items);
+    let room = limit as usize - front - description_size(items);
     if room / BLOCK_SIZE <= BLOCKS_OF_PACKET {
         room / BLOCK_SIZE
     } else {
@@ -92,5 +92,5 @@ pub fn first_size(cname: &[u8]) -> u32
     ensures { (ssrc : ℕ) → result ≡ length (written_all (packets_with (record { ssrc = ssrc; sent = None; items = items_of cname.now None }) [])) }
 {
     let description = Description::new(cname, None);
-    (RECEIVER_SIZE + size_of(description.items())) as u32
+    (RECEIVER_SIZE + description_size(description.items())) as u32
 }

@@ -58,7 +58,7 @@ impl<'a> Description<'a> {
 }
 
 /// The octets of a source description with one chunk of these items, its header included.
-pub(crate) fn size_of(items: &[ItemRef<'_>]) -> usize
+pub(crate) fn description_size(items: &[ItemRef<'_>]) -> usize
     requires writable { All IsWritableItem (map item_ref_of items.now) }
     requires short { description_size (map item_ref_of items.now) ≤ 1472 }
     ensures { result ≡ description_size (map item_ref_of items.now) }

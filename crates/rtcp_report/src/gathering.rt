@@ -1,7 +1,7 @@
 //! The blocks of a report, taken from a table in turn (RFC 3550, 6.4).
 
 ghost use Rattle.std.specs.Prelude.{◌≡◌, ◌≤◌, All, length, map, take};
-ghost use Rattle.rtcp_wire.specs.Views.{block_of};
+ghost use Rattle.rtcp_wire.specs.Views.{block_value};
 ghost use Rattle.rtcp_wire.specs.Writing.{IsWritableBlock};
 ghost use Rattle.rtcp_members.specs.Waiting.{waiting, blocks_of, after_blocks, last_reported};
 
@@ -21,9 +21,9 @@ pub(crate) fn gather<T: MemberTable>(
     most: usize,
 ) -> ArrayVec<Block, MOST_BLOCKS>
     requires { most ≤ 60 }
-    ensures blocks { map block_of result.items ≡ blocks_of t (take most (waiting cursor.old (T.content table.old))) }
+    ensures blocks { map block_value result.items ≡ blocks_of t (take most (waiting cursor.old (T.content table.old))) }
     ensures count { length result.items ≡ length (take most (waiting cursor.old (T.content table.old))) }
-    ensures writable { All IsWritableBlock (map block_of result.items) }
+    ensures writable { All IsWritableBlock (map block_value result.items) }
     ensures content { T.content table.new ≡ after_blocks (take most (waiting cursor.old (T.content table.old))) (T.content table.old) }
     ensures cursor { cursor.new ≡ last_reported cursor.old (take most (waiting cursor.old (T.content table.old))) }
 {

@@ -2,7 +2,7 @@
 
 ghost use Rattle.std.specs.Prelude.{◌≡◌, ◌≤◌, [], ◌∷◌, ◌++◌, All, length, map, option_map};
 ghost use Rattle.rtcp_wire.specs.Grammar.{IsAccepted};
-ghost use Rattle.rtcp_wire.specs.Views.{block_of};
+ghost use Rattle.rtcp_wire.specs.Views.{block_value};
 ghost use Rattle.rtcp_wire.specs.Writing.{written_all, IsWritable, IsWritableBlock, IsWritableItem, BeginsWithReport};
 ghost use Rattle.rtcp_wire.specs.WriterViews.{item_ref_of, packet_ref_of, packet_refs_of};
 ghost use Rattle.rtcp_report.specs.Reports.{report_with, packets_with};
@@ -18,7 +18,7 @@ pub(crate) const BLOCKS_OF_PACKET: usize = 31;
 
 /// The first report of a compound.
 fn first_report<'a>(sender: &Sender<'_>, blocks: &'a [Block]) -> PacketRef<'a>
-    ensures { packet_ref_of result ≡ report_with sender.now.ssrc (option_map sent_value sender.now.sr) (map block_of blocks.now) }
+    ensures { packet_ref_of result ≡ report_with sender.now.ssrc (option_map sent_value sender.now.sr) (map block_value blocks.now) }
 {
     match sender.sr {
         Some(sent) => PacketRef::Sr {
@@ -53,17 +53,17 @@ fn compound_of(packets: &[PacketRef<'_>]) -> ArrayVec<u8, MAX_COMPOUND>
 }
 
 /// The reports with these blocks, and the description behind them.
-fn reports_with<'a>(
+fn compound_with<'a>(
     sender: &Sender<'_>,
     blocks: &'a [Block],
     description: PacketRef<'a>,
 ) -> ArrayVec<u8, MAX_COMPOUND>
     requires few { length blocks.now ≤ 60 }
-    requires writable { All IsWritableBlock (map block_of blocks.now) }
+    requires writable { All IsWritableBlock (map block_value blocks.now) }
     requires described { IsWritable (packet_ref_of description) }
-    requires fits { length (written_all (reports_of sender.now (map block_of blocks.now) ++ packet_ref_of description ∷ [])) ≤ 1472 }
-    ensures octets { result.items ≡ written_all (reports_of sender.now (map block_of blocks.now) ++ packet_ref_of description.entry ∷ []) }
-    ensures reads_back { IsAccepted result.items (reports_of sender.now (map block_of blocks.now) ++ packet_ref_of description.entry ∷ []) }
+    requires fits { length (written_all (reports_of sender.now (map block_value blocks.now) ++ packet_ref_of description ∷ [])) ≤ 1472 }
+    ensures octets { result.items ≡ written_all (reports_of sender.now (map block_value blocks.now) ++ packet_ref_of description.entry ∷ []) }
+    ensures reads_back { IsAccepted result.items (reports_of sender.now (map block_value blocks.now) ++ packet_ref_of description.entry ∷ []) }
 {
     if blocks.len() <= BLOCKS_OF_PACKET {
         return compound_of(&[first_report(sender, blocks), description]);
@@ -84,16 +84,16 @@ pub(crate) fn write(
     blocks: &[Block],
 ) -> ArrayVec<u8, MAX_COMPOUND>
     requires few { length blocks.now ≤ 60 }
-    requires writable_blocks { All IsWritableBlock (map block_of blocks.now) }
+    requires writable_blocks { All IsWritableBlock (map block_value blocks.now) }
     requires writable_items { All IsWritableItem (map item_ref_of items.now) }
     requires fits { report_size (reporter_with sender.now (map item_ref_of items.now)) (length blocks.now) ≤ 1472 }
-    ensures octets { result.items ≡ written_all (packets_with (reporter_with sender.now (map item_ref_of items.now)) (map block_of blocks.now)) }
-    ensures reads_back { IsAccepted result.items (packets_with (reporter_with sender.now (map item_ref_of items.now)) (map block_of blocks.now)) }
+    ensures octets { result.items ≡ written_all (packets_with (reporter_with sender.now (map item_ref_of items.now)) (map block_value blocks.now)) }
+    ensures reads_back { IsAccepted result.items (packets_with (reporter_with sender.now (map item_ref_of items.now)) (map block_value blocks.now)) }
 {
     let chunks = [ChunkRef {
         id: sender.ssrc,
         items: &*items,
     }];
     let description = PacketRef::Sdes { chunks: &chunks };
-    reports_with(sender, &*blocks, description)
+    compound_with(sender, &*blocks, description)
 }

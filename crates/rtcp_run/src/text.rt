@@ -1,7 +1,7 @@
 //! The text of packets and of faults, as `rtcp check` shows them. After an error it is left open what was appended.
 
 ghost use Rattle.std.specs.Prelude.{◌≡◌, ◌++◌, map, OnOk};
-ghost use Rattle.rtcp_wire.specs.Views.{sender_of, block_of, item_of, chunk_of, reason_of, packet_of, packets_of};
+ghost use Rattle.rtcp_wire.specs.Views.{sender_of, block_value, item_of, chunk_of, reason_of, packet_of, packets_of};
 ghost use Rattle.rtcp_wire.specs.Values.{sr, rr, sdes, bye, app, other};
 ghost use Rattle.rtcp_run.specs.Text.{hex_word, commas, semicolons};
 ghost use Rattle.rtcp_run.specs.Text.{block_text, report_end_text, sender_text, goodbye_reason_text, item_text, chunk_text, packet_text, accepted_text};
@@ -77,7 +77,7 @@ fn push_packet(out: &mut Vec<u8>, packet: &Packet) -> Result<(), AllocError>
 /// Appends the text of a sender report.
 fn push_sender_report(out: &mut Vec<u8>, report: &SenderReport) -> Result<(), AllocError>
     ensures { OnOk result (out.new.items ≡ out.old.items
-        ++ packet_text (sr (sender_of report.now) (map block_of report.now.blocks.items) report.now.extension.items)) }
+        ++ packet_text (sr (sender_of report.now) (map block_value report.now.blocks.items) report.now.extension.items)) }
 {
     out.extend_from_slice(b"SR(")?;
     push_sender(out, report)?;
@@ -105,7 +105,7 @@ fn push_sender(out: &mut Vec<u8>, report: &SenderReport) -> Result<(), AllocErro
 /// Appends the text of a receiver report.
 fn push_report(out: &mut Vec<u8>, report: &ReceiverReport) -> Result<(), AllocError>
     ensures { OnOk result (out.new.items ≡ out.old.items
-        ++ packet_text (rr report.now.ssrc (map block_of report.now.blocks.items) report.now.extension.items)) }
+        ++ packet_text (rr report.now.ssrc (map block_value report.now.blocks.items) report.now.extension.items)) }
 {
     out.extend_from_slice(b"RR(")?;
     push_word(out, report.ssrc)?;
@@ -117,7 +117,7 @@ fn push_report(out: &mut Vec<u8>, report: &ReceiverReport) -> Result<(), AllocEr
 
 /// Appends the text of blocks and an extension: of the extension the length, in octets.
 fn push_report_end(out: &mut Vec<u8>, blocks: &[Block], extension: &[u8]) -> Result<(), AllocError>
-    ensures { OnOk result (out.new.items ≡ out.old.items ++ report_end_text (map block_of blocks.now) extension.now) }
+    ensures { OnOk result (out.new.items ≡ out.old.items ++ report_end_text (map block_value blocks.now) extension.now) }
 {
     out.push(b'[')?;
     push_blocks(out, blocks)?;
@@ -211,7 +211,7 @@ fn push_other(out: &mut Vec<u8>, packet: &OtherPacket) -> Result<(), AllocError>
 
 /// Appends the texts of blocks, with semicolons between them.
 fn push_blocks(out: &mut Vec<u8>, blocks: &[Block]) -> Result<(), AllocError>
-    ensures { OnOk result (out.new.items ≡ out.old.items ++ semicolons (map block_text (map block_of blocks.now))) }
+    ensures { OnOk result (out.new.items ≡ out.old.items ++ semicolons (map block_text (map block_value blocks.now))) }
 {
     for (i, block) in blocks.iter().enumerate() {
         if i > 0 {
@@ -224,7 +224,7 @@ fn push_blocks(out: &mut Vec<u8>, blocks: &[Block]) -> Result<(), AllocError>
 
 /// Appends the text of a block.
 fn push_block(out: &mut Vec<u8>, block: &Block) -> Result<(), AllocError>
-    ensures { OnOk result (out.new.items ≡ out.old.items ++ block_text (block_of block.now)) }
+    ensures { OnOk result (out.new.items ≡ out.old.items ++ block_text (block_value block.now)) }
 {
     push_word(out, block.ssrc)?;
     out.push(b'/')?;

@@ -3,17 +3,17 @@ use Rattle.std.proofs.Common.{◌≡◌, ℕ, ◌≤◌, ◌||◌, nat_lt, Bool,
 use Rattle.std.proofs.lemmas.Bool.Decides.{nat_tests}
 use Rattle.rtcp_source.specs.declared.taken.Taken.{Taken}
 use Rattle.rtcp_source.specs.declared.taken.Taken.TheVariants.{Probation, Counted, Became, Restarted, Bad}
-use Rattle.rtcp_source.specs.Packets.{Given, packet_came, report_came, block_made, CountedPacket, Run, taken_in, run_with, run_of, is_counted, has_news_since, transit_of}
+use Rattle.rtcp_source.specs.Packets.{Given, packet_came, report_came, block_made, CountedPacket, PacketRun, taken_in, run_with, run_of, is_counted, has_news_since, transit_of}
 use Rattle.rtcp_source.specs.Summary.{SourceValue, numbers_of, summary_of, StandsAt}
 use Rattle.rtcp_source.specs.Blocks.{news_of}
 
-abbrev IsOrdered : Run → Type 0
+abbrev IsOrdered : PacketRun → Type 0
 IsOrdered run = length run.reported ≤ length run.counted
 
-abbrev news_in : Run → Bool
+abbrev news_in : PacketRun → Bool
 news_in run = nat_lt (length run.reported) (length run.counted)
 
-ordered_with : (taken : Taken) (seq transit : ℕ) (run : Run) → IsOrdered run → IsOrdered (run_with taken seq transit run)
+ordered_with : (taken : Taken) (seq transit : ℕ) (run : PacketRun) → IsOrdered run → IsOrdered (run_with taken seq transit run)
 ordered_with Counted seq transit run before = omega (arith, before)
 ordered_with Became seq transit run before = omega arith
 ordered_with Restarted seq transit run before = omega arith
@@ -26,7 +26,7 @@ ordered (packet_came seq timestamp arrival ∷ given) = ordered_with (taken_in (
 ordered (report_came ntp moment ∷ given) = ordered given
 ordered (block_made ∷ given) = omega arith
 
-news_with : (taken : Taken) (seq transit : ℕ) (run : Run) → IsOrdered run → news_in (run_with taken seq transit run) ≡ is_counted taken || news_in run
+news_with : (taken : Taken) (seq transit : ℕ) (run : PacketRun) → IsOrdered run → news_in (run_with taken seq transit run) ≡ is_counted taken || news_in run
 news_with Counted seq transit run before = grind (arith, nat_tests, before)
 news_with Became seq transit run before = refl
 news_with Restarted seq transit run before = refl

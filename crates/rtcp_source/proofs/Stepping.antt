@@ -2,16 +2,16 @@
 use Rattle.std.proofs.Common.{◌≡◌, ℕ, suc, ◌+◌, true, false, if◌then◌else◌, List, [], ◌∷◌, length, Option, arith, refl}
 use Rattle.rtcp_source.specs.declared.taken.Taken.{Taken}
 use Rattle.rtcp_source.specs.declared.taken.Taken.TheVariants.{Probation, Counted, Became, Restarted, Bad}
-use Rattle.rtcp_source.specs.Packets.{Given, packet_came, CountedPacket, Run, is_near, follows, newest, taken_in, run_with, transit_of, run_of, greatest_place}
+use Rattle.rtcp_source.specs.Packets.{Given, packet_came, CountedPacket, PacketRun, is_near, follows, newest, taken_in, run_with, transit_of, run_of, greatest_place}
 use Rattle.rtcp_source.specs.Summary.{ToldValue, SourceValue, numbers_of, packet_count, last_told, summary_of, StandsAt}
 use Rattle.rtcp_source.specs.Steps.{taken_by, source_with, after_packet}
 
 -- what is kept of a run, beside the count of packets and the last sender report
-abbrev summarised : (packets : ℕ) (last : Option ToldValue) → Run → SourceValue
+abbrev summarised : (packets : ℕ) (last : Option ToldValue) → PacketRun → SourceValue
 summarised packets last run =
     record { packets = packets; run = numbers_of run.counted run.reported; stray = newest run.strays; told = last }
 
-abbrev Moves : (seq transit packets : ℕ) (last : Option ToldValue) → Run → Taken → Type 0
+abbrev Moves : (seq transit packets : ℕ) (last : Option ToldValue) → PacketRun → Taken → Type 0
 Moves seq transit packets last run taken =
     summarised (packets + 1) last (run_with taken seq transit run) ≡ source_with taken seq transit (summarised packets last run)
 
@@ -23,7 +23,7 @@ counted_moves : (seq transit packets : ℕ) (last : Option ToldValue) (p : Count
 counted_moves seq transit packets last p earlier before strays = rw (one_more (length (p ∷ earlier))) refl
 
 moves : (seq transit packets : ℕ) (last : Option ToldValue) (counted before : List CountedPacket) (strays : List ℕ)
-    → let run : Run = record { counted = counted; strays = strays; reported = before } in
+    → let run : PacketRun = record { counted = counted; strays = strays; reported = before } in
     let source = summarised packets last run in
     summarised (packets + 1) last (run_with (taken_in run seq) seq transit run) ≡ source_with (taken_by source seq) seq transit source
 moves seq transit packets last [] before strays =
@@ -37,7 +37,7 @@ moves seq transit packets last (p ∷ earlier) before strays =
 -- One packet more moves the summary as it moves the numbers.
 pub summary_moves : (seq timestamp arrival : ℕ) (given : List Given) → summary_of (packet_came seq timestamp arrival ∷ given) ≡ after_packet seq timestamp arrival (summary_of given)
 summary_moves seq timestamp arrival given =
-    let run : Run = run_of given in moves seq (transit_of timestamp arrival) (packet_count given) (last_told given) run.counted run.reported run.strays
+    let run : PacketRun = run_of given in moves seq (transit_of timestamp arrival) (packet_count given) (last_told given) run.counted run.reported run.strays
 
 pub stands_after : (seq timestamp arrival : ℕ) (source next : SourceValue) → next ≡ after_packet seq timestamp arrival source → (given : List Given) → StandsAt source given → StandsAt next (packet_came seq timestamp arrival ∷ given)
 stands_after seq timestamp arrival source next step given stands = rw (step, stands, summary_moves seq timestamp arrival given) refl

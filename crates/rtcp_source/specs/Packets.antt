@@ -21,7 +21,7 @@ pub record CountedPacket : Type 0 where
 
 -- The last run of packets: those counted in it, the numbers of the strays since it started, and the packets that had been counted
 -- in it when a block was last made. Before the first run no packet is counted and each is a stray.
-pub record Run : Type 0 where
+pub record PacketRun : Type 0 where
   pub counted : List CountedPacket
   pub strays : List ℕ
   pub reported : List CountedPacket
@@ -73,11 +73,11 @@ newest [] = None
 newest (x ∷ xs) = Some x
 
 -- what a packet of this number is to a run
-abbrev pub taken_in : Run → (seq : ℕ) → Taken
+abbrev pub taken_in : PacketRun → (seq : ℕ) → Taken
 taken_in run seq = taken_as (greatest_of run.counted) (newest run.strays) seq
 
 -- a run with one packet more
-abbrev pub run_with : Taken → (seq transit : ℕ) → Run → Run
+abbrev pub run_with : Taken → (seq transit : ℕ) → PacketRun → PacketRun
 run_with Counted seq transit run =
     record run { counted = record { place = place_near (greatest_place run.counted) seq; transit = transit } ∷ run.counted }
 run_with Became seq transit run = record { counted = record { place = seq + 65536; transit = transit } ∷ []; strays = []; reported = [] }
@@ -90,7 +90,7 @@ abbrev pub transit_of : (timestamp arrival : ℕ) → ℕ
 transit_of timestamp arrival = (arrival + 2 ^ 32 - timestamp) % 2 ^ 32
 
 -- The last run of what was given.
-abbrev pub run_of : List Given → Run
+abbrev pub run_of : List Given → PacketRun
 run_of [] = record { counted = []; strays = []; reported = [] }
 run_of (packet_came seq timestamp arrival ∷ given) =
     let run = run_of given in run_with (taken_in run seq) seq (transit_of timestamp arrival) run

@@ -64,5 +64,5 @@ abbrev pub run_reported : Option RunValue → Option RunValue
 run_reported None = None
 run_reported (Some run) = Some (record run { expected_before = expected_in run; received_before = run.received })
 
-abbrev pub after_block : SourceValue → SourceValue
-after_block source = record source { run = run_reported source.run }
+abbrev pub after_block_made : SourceValue → SourceValue
+after_block_made source = record source { run = run_reported source.run }

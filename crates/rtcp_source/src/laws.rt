@@ -4,7 +4,7 @@ ghost use Rattle.std.specs.Prelude.{◌≡◌, [], ◌∷◌, ◌+◌, ◌<◌, 
 ghost use Rattle.std.specs.Int.{cast_signed, w32};
 ghost use Rattle.rtcp_source.specs.Packets.{Given, packet_came, report_came, block_made, is_near, place_near};
 ghost use Rattle.rtcp_source.specs.Integers.{IsIntegerNear, place_of};
-ghost use Rattle.rtcp_source.specs.Steps.{no_source, after_packet, after_told, after_block};
+ghost use Rattle.rtcp_source.specs.Steps.{no_source, after_packet, after_told, after_block_made};
 ghost use Rattle.rtcp_source.specs.Summary.{summary_of, transit_distance};
 
 /// A number that has an integer near the greatest one is near it, and has that integer's place (RFC 3550, A.1). So there is at most
@@ -23,7 +23,7 @@ pub fn summary_moves()
     ensures none { summary_of [] ≡ no_source }
     ensures packet { (seq timestamp arrival : ℕ) (given : List Given) → summary_of (packet_came seq timestamp arrival ∷ given) ≡ after_packet seq timestamp arrival (summary_of given) }
     ensures report { (ntp moment : ℕ) (given : List Given) → summary_of (report_came ntp moment ∷ given) ≡ after_told ntp moment (summary_of given) }
-    ensures block { (given : List Given) → summary_of (block_made ∷ given) ≡ after_block (summary_of given) }
+    ensures block { (given : List Given) → summary_of (block_made ∷ given) ≡ after_block_made (summary_of given) }
 {}
 
 /// The distance of two transits is the absolute value of their difference as a number of 32 bits with a sign (RFC 3550, A.8).

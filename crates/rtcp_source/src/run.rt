@@ -1,7 +1,7 @@
 //! A run of counted packets (RFC 3550, 6.4.1, appendices A.1, A.3 and A.8).
 
 ghost use Rattle.std.specs.Prelude.{◌≡◌, ◌+◌, ◌≤◌, ◌<◌, ◌^◌, Some};
-ghost use Rattle.rtcp_wire.specs.Views.{block_of};
+ghost use Rattle.rtcp_wire.specs.Views.{block_value};
 ghost use Rattle.rtcp_wire.specs.Writing.{IsWritableBlock};
 ghost use Rattle.rtcp_source.specs.Blocks.{expected_in, fraction_of, lost_of, block_of_run, news_of};
 ghost use Rattle.rtcp_source.specs.Bounds.{IsRunBounded};
@@ -124,8 +124,8 @@ impl Run {
     pub(crate) fn block(self, ssrc: u32, lsr: u32, dlsr: u32) -> Block
         requires few { self.received ≤ 2 ^ 40 }
         requires bounded { IsRunBounded self.received (run_value self) }
-        ensures block { block_of result ≡ block_of_run ssrc lsr dlsr (run_value self) }
-        ensures writable { IsWritableBlock (block_of result) }
+        ensures block { block_value result ≡ block_of_run ssrc lsr dlsr (run_value self) }
+        ensures writable { IsWritableBlock (block_value result) }
     {
         let expected = self.expected();
         Block {

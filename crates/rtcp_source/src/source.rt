@@ -1,12 +1,12 @@
 //! One source, from its first packet on (RFC 3550, 6.4.1, appendices A.1, A.3 and A.8).
 
 ghost use Rattle.std.specs.Prelude.{◌≡◌, ◌∷◌, [], ◌<◌, ◌^◌, List, Some, IsSome};
-ghost use Rattle.rtcp_wire.specs.Views.{block_of};
+ghost use Rattle.rtcp_wire.specs.Views.{block_value};
 ghost use Rattle.rtcp_wire.specs.Writing.{IsWritableBlock};
 ghost use Rattle.rtcp_source.specs.Packets.{Given, packet_came, report_came, block_made, taken_in, run_of, has_news_since};
 ghost use Rattle.rtcp_source.specs.Summary.{StandsAt};
 ghost use Rattle.rtcp_source.specs.Blocks.{block_for, news_of};
-ghost use Rattle.rtcp_source.specs.Steps.{no_source, taken_by, after_packet, after_told, after_block};
+ghost use Rattle.rtcp_source.specs.Steps.{no_source, taken_by, after_packet, after_told, after_block_made};
 
 use crate::run::Run;
 use crate::sequence::judge;
@@ -102,10 +102,10 @@ impl Source {
     /// counted, as it was where it has news. The fraction lost is over what came since the last block, and the news end.
     pub fn block(&mut self, ssrc: u32, t: u64) -> Block
         requires { IsSome self.old.run }
-        ensures block { Some (block_of result) ≡ block_for ssrc t self.old }
-        ensures step { self.new ≡ after_block self.old }
+        ensures block { Some (block_value result) ≡ block_for ssrc t self.old }
+        ensures step { self.new ≡ after_block_made self.old }
         ensures stands { (given : List Given) → StandsAt self.old given → StandsAt self.new (block_made ∷ given) }
-        ensures writable { IsWritableBlock (block_of result) }
+        ensures writable { IsWritableBlock (block_value result) }
     {
         let run = self.run.unwrap();
         let (lsr, dlsr) = match self.told {

@@ -1,5 +1,7 @@
 //! What a source makes of a packet (RFC 3550, appendix A.1).
 
+ghost use Rattle.std.specs.Prelude.{◌≡◌};
+
 /// What a packet is to its source.
 #[derive(Clone, Copy, Debug, PartialEq, Eq)]
 pub enum Taken {
@@ -14,4 +16,18 @@ pub enum Taken {
     Restarted,
     /// The packet's number is not near the greatest one. The packet is not counted.
     Bad,
+}
+
+impl Taken {
+    ghost use Rattle.rtcp_source.specs.Packets.{is_counted};
+
+    /// Whether the packet was counted.
+    pub fn is_counted(self) -> bool
+        ensures { result ≡ is_counted self }
+    {
+        match self {
+            Taken::Counted | Taken::Became | Taken::Restarted => true,
+            Taken::Probation | Taken::Bad => false,
+        }
+    }
 }

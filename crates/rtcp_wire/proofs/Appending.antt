@@ -7,7 +7,7 @@ use Rattle.std.proofs.lemmas.List.Elements.{All-push}
 use Rattle.std.proofs.Math.ListN.{get_or-map}
 use Rattle.std.proofs.Math.Nat.{mul-zero, mul-suc}
 use Rattle.rtcp_wire.specs.declared.block.Block.{Block}
-use Rattle.rtcp_wire.specs.Views.{block_of}
+use Rattle.rtcp_wire.specs.Views.{block_value}
 use Rattle.rtcp_wire.specs.Writing.{written_word, written_block}
 
 -- ---- One more behind a front
@@ -101,5 +101,5 @@ pub ids_size : (ids : List ℕ) → length (flat_map written_word ids) ≡ 4 * l
 ids_size ids = same_size written_word 4 (λ x. refl) ids
 
 -- six words for each block
-pub blocks_size : (blocks : List Block) → length (flat_map written_block (map block_of blocks)) ≡ 24 * length blocks
-blocks_size blocks = same_size written_block 24 (λ x. refl) (map block_of blocks) ∙ ap (λ (n : ℕ). 24 * n) (length-map blocks block_of)
+pub blocks_size : (blocks : List Block) → length (flat_map written_block (map block_value blocks)) ≡ 24 * length blocks
+blocks_size blocks = same_size written_block 24 (λ x. refl) (map block_value blocks) ∙ ap (λ (n : ℕ). 24 * n) (length-map blocks block_value)

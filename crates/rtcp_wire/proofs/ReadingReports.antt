@@ -6,7 +6,7 @@ use Rattle.std.proofs.lemmas.List.{take-append-drop, take-take, drop-take, map_p
 use Rattle.rtcp_wire.specs.declared.block.Block.{Block}
 use Rattle.rtcp_wire.specs.Values.{SenderValue}
 use Rattle.rtcp_wire.specs.Grammar.{Joins, block_in, sender_in, IsBlock, IsReportEnd, IsSenderReport, IsReport}
-use Rattle.rtcp_wire.specs.Views.{block_of}
+use Rattle.rtcp_wire.specs.Views.{block_value}
 use Rattle.rtcp_wire.proofs.Joining.{Joins-push}
 use Rattle.rtcp_wire.proofs.Fixed.{Says}
 
@@ -31,10 +31,10 @@ one_fixed_more size value octets count xs x room before is =
     subst (λ (t : List ℕ). Joins (Says size value) (xs ++ x ∷ []) t) (sym more) pushed
 
 -- the same of blocks, as the code has them
-pub one_block_more : (octets : List ℕ) (count : ℕ) (blocks : List Block) (block : Block) → 24 * (count + 1) ≤ length octets → Joins IsBlock (map block_of blocks) (take (24 * count) octets)
-    → block_of block ≡ block_in (take 24 (drop (24 * count) octets)) → Joins IsBlock (map block_of (blocks ++ block ∷ [])) (take (24 * (count + 1)) octets)
+pub one_block_more : (octets : List ℕ) (count : ℕ) (blocks : List Block) (block : Block) → 24 * (count + 1) ≤ length octets → Joins IsBlock (map block_value blocks) (take (24 * count) octets)
+    → block_value block ≡ block_in (take 24 (drop (24 * count) octets)) → Joins IsBlock (map block_value (blocks ++ block ∷ [])) (take (24 * (count + 1)) octets)
 one_block_more octets count blocks block room before is =
-    subst (λ t. Joins IsBlock t (take (24 * (count + 1)) octets)) (sym (map_push block_of blocks block)) (one_fixed_more 24 block_in octets count (map block_of blocks) (block_of block) room before is)
+    subst (λ t. Joins IsBlock t (take (24 * (count + 1)) octets)) (sym (map_push block_value blocks block)) (one_fixed_more 24 block_in octets count (map block_value blocks) (block_value block) room before is)
 
 -- the number in four octets is in them alone
 pub big_number-take : (octets : List ℕ) → big_number 4 (take 4 octets) ≡ big_number 4 octets
@@ -46,19 +46,19 @@ big_number-take octets =
     omega (arith, a, b, c, d)
 
 -- blocks and the extension behind them
-end_parts : (octets : List ℕ) (count : ℕ) (blocks : List Block) (extension : List ℕ) → Joins IsBlock (map block_of blocks) (take (24 * count) octets) → length blocks ≡ count → extension ≡ drop (24 * count) octets
-    → IsReportEnd (map block_of blocks) extension count octets
+end_parts : (octets : List ℕ) (count : ℕ) (blocks : List Block) (extension : List ℕ) → Joins IsBlock (map block_value blocks) (take (24 * count) octets) → length blocks ≡ count → extension ≡ drop (24 * count) octets
+    → IsReportEnd (map block_value blocks) extension count octets
 end_parts octets count blocks extension each counted behind = record {
   reports = take (24 * count) octets;
   parts = sym (ap (λ (t : List ℕ). take (24 * count) octets ++ t) behind ∙ take-append-drop (24 * count) octets);
-  counted = length-map blocks block_of ∙ counted;
+  counted = length-map blocks block_value ∙ counted;
   each = each;
 }
 
 -- the parts of a receiver report, each where it stands
 pub report_parts : (body : List ℕ) (count ssrc : ℕ) (blocks : List Block) (extension : List ℕ) → 4 + 24 * count ≤ length body → ssrc ≡ big_number 4 body
-    → Joins IsBlock (map block_of blocks) (take (24 * count) (drop 4 body)) → length blocks ≡ count → extension ≡ drop (24 * count) (drop 4 body)
-    → IsReport ssrc (map block_of blocks) extension count body
+    → Joins IsBlock (map block_value blocks) (take (24 * count) (drop 4 body)) → length blocks ≡ count → extension ≡ drop (24 * count) (drop 4 body)
+    → IsReport ssrc (map block_value blocks) extension count body
 report_parts body count ssrc blocks extension room sender each counted behind = record {
   id = take 4 body;
   rest = drop 4 body;
@@ -69,8 +69,8 @@ report_parts body count ssrc blocks extension room sender each counted behind = 
 
 -- the parts of a sender report
 pub sender_parts : (body : List ℕ) (count : ℕ) (sender : SenderValue) (blocks : List Block) (extension : List ℕ) → 24 + 24 * count ≤ length body → sender ≡ sender_in (take 24 body)
-    → Joins IsBlock (map block_of blocks) (take (24 * count) (drop 24 body)) → length blocks ≡ count → extension ≡ drop (24 * count) (drop 24 body)
-    → IsSenderReport sender (map block_of blocks) extension count body
+    → Joins IsBlock (map block_value blocks) (take (24 * count) (drop 24 body)) → length blocks ≡ count → extension ≡ drop (24 * count) (drop 24 body)
+    → IsSenderReport sender (map block_value blocks) extension count body
 sender_parts body count sender blocks extension room says each counted behind = record {
   front = take 24 body;
   rest = drop 24 body;

@@ -1,9 +1,29 @@
 -- What the packets of a compound say of sources (RFC 3550, 6.4 to 6.7). The blocks inside reports say nothing here.
-use Rattle.std.specs.Prelude.{◌==◌, Bool, List, [], ◌∷◌, map, flat_map, if◌then◌else◌}
+use Rattle.std.specs.Prelude.{ℕ, ◌==◌, Bool, true, false, List, [], ◌∷◌, map, flat_map, if◌then◌else◌}
 use Rattle.std.specs.List.{list_any}
 use Rattle.rtcp_wire.specs.declared.fact.Fact.{Fact}
-use Rattle.rtcp_wire.specs.declared.fact.Fact.TheVariants.{Heard, Told, Named, Gone}
+use Rattle.rtcp_wire.specs.declared.fact.Fact.TheVariants.{Heard, Told, Named, Gone, Media}
 use Rattle.rtcp_wire.specs.Values.{ItemValue, ChunkValue, RtcpPacket, sr, rr, sdes, bye, app, other}
+
+-- ---- A fact
+
+-- the source that a fact speaks of
+abbrev pub subject : Fact → ℕ
+subject (Heard ssrc) = ssrc
+subject (Told ssrc ntp) = ssrc
+subject (Named ssrc) = ssrc
+subject (Gone ssrc) = ssrc
+subject (Media ssrc seq timestamp) = ssrc
+
+-- whether it says that the source left
+abbrev pub is_gone : Fact → Bool
+is_gone (Heard ssrc) = false
+is_gone (Told ssrc ntp) = false
+is_gone (Named ssrc) = false
+is_gone (Gone ssrc) = true
+is_gone (Media ssrc seq timestamp) = false
+
+-- ---- The facts of packets
 
 -- a CNAME, an item of type 1 (6.5.1), however long its text
 abbrev pub is_cname : ItemValue → Bool

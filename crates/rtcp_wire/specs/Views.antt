@@ -9,8 +9,8 @@ use Rattle.rtcp_wire.specs.declared.packet.Packet.{Packet}
 use Rattle.rtcp_wire.specs.declared.packet.Packet.TheVariants.{Sr, Rr, Sdes, Bye, App, Other}
 use Rattle.rtcp_wire.specs.Values.{SenderValue, ReportBlock, ItemValue, ChunkValue, RtcpPacket, sr, rr, sdes, bye, app, other}
 
-abbrev pub block_of : Block → ReportBlock
-block_of b = record { ssrc = b.ssrc; fraction = b.fraction; lost = b.lost; highest = b.highest; jitter = b.jitter; lsr = b.lsr; dlsr = b.dlsr }
+abbrev pub block_value : Block → ReportBlock
+block_value b = record { ssrc = b.ssrc; fraction = b.fraction; lost = b.lost; highest = b.highest; jitter = b.jitter; lsr = b.lsr; dlsr = b.dlsr }
 
 abbrev pub sender_of : SenderReport → SenderValue
 sender_of s = record { ssrc = s.ssrc; ntp = s.ntp; rtp = s.rtp; packets = s.packets; octets = s.octets }
@@ -26,8 +26,8 @@ reason_of None = None
 reason_of (Some text) = Some text.items
 
 abbrev pub packet_of : Packet → RtcpPacket
-packet_of (Sr r) = sr (sender_of r) (map block_of r.blocks.items) r.extension.items
-packet_of (Rr r) = rr r.ssrc (map block_of r.blocks.items) r.extension.items
+packet_of (Sr r) = sr (sender_of r) (map block_value r.blocks.items) r.extension.items
+packet_of (Rr r) = rr r.ssrc (map block_value r.blocks.items) r.extension.items
 packet_of (Sdes d) = sdes (map chunk_of d.chunks.items)
 packet_of (Bye b) = bye b.ids.items (reason_of b.reason)
 packet_of (App a) = app a.subtype a.ssrc a.name a.data.items

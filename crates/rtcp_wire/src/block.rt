@@ -2,7 +2,7 @@
 
 ghost use Rattle.std.specs.Prelude.{◌≡◌, ◌*◌, ◌≤◌, length, map, take, drop, IfOk};
 ghost use Rattle.rtcp_wire.specs.Grammar.{Joins, IsBlock, block_in};
-ghost use Rattle.rtcp_wire.specs.Views.{block_of};
+ghost use Rattle.rtcp_wire.specs.Views.{block_value};
 
 use crate::reader::Reader;
 use std::alloc::{AllocError, Global};
@@ -46,7 +46,7 @@ pub struct Block {
 
 fn block_from(octets: &[u8]) -> Block
     requires { length octets.now ≡ 24 }
-    ensures { block_of result ≡ block_in octets.now }
+    ensures { block_value result ≡ block_in octets.now }
 {
     let mut reader = Reader::new(octets);
     let ssrc = reader.u32();
@@ -74,7 +74,7 @@ pub(crate) fn read_blocks(
     reader: &mut Reader<'_>,
 ) -> Result<Vec<Block>, AllocError>
     requires { 24 * count ≤ length reader.old }
-    ensures blocks { IfOk result (λ blocks. Joins IsBlock (map block_of blocks.items) (take (24 * count) reader.old)) }
+    ensures blocks { IfOk result (λ blocks. Joins IsBlock (map block_value blocks.items) (take (24 * count) reader.old)) }
     ensures counted { IfOk result (λ blocks. length blocks.items ≡ count) }
     ensures rest { IfOk result (λ _. reader.new ≡ drop (24 * count) reader.old) }
 {

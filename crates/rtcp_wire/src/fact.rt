@@ -25,6 +25,30 @@ pub enum Fact {
     Media(u32, u16, u32),
 }
 
+impl Fact {
+    ghost use Rattle.rtcp_wire.specs.Facts.{subject, is_gone};
+
+    /// The SSRC of the source that the fact speaks of.
+    pub fn ssrc(self) -> u32
+        ensures { result ≡ subject self }
+    {
+        match self {
+            Fact::Heard(ssrc)
+            | Fact::Told(ssrc, _)
+            | Fact::Named(ssrc)
+            | Fact::Gone(ssrc)
+            | Fact::Media(ssrc, _, _) => ssrc,
+        }
+    }
+
+    /// Whether the fact says that its source left.
+    pub fn is_goodbye(self) -> bool
+        ensures { result ≡ is_gone self }
+    {
+        matches!(self, Fact::Gone(_))
+    }
+}
+
 /// What these packets say of sources, packet by packet, with no memory asked for.
 ///
 /// A sender report says that its sender was heard, and its NTP timestamp; a receiver report and an application's own

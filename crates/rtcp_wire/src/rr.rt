@@ -3,7 +3,7 @@
 ghost use Rattle.std.specs.Prelude.{◌+◌, ◌*◌, map, MatchResult};
 ghost use Rattle.rtcp_wire.specs.Grammar.{IsReport};
 ghost use Rattle.rtcp_wire.specs.Parts.{IsTooShort};
-ghost use Rattle.rtcp_wire.specs.Views.{block_of};
+ghost use Rattle.rtcp_wire.specs.Views.{block_value};
 
 use crate::block::{BLOCK_SIZE, Block, read_blocks};
 use crate::fault::FaultReason;
@@ -38,7 +38,7 @@ pub(crate) fn read_report(
     body: &[u8],
 ) -> Result<ReceiverReport, PartError>
     ensures { MatchResult result
-        (λ report. IsReport report.ssrc (map block_of report.blocks.items) report.extension.items count body.now)
+        (λ report. IsReport report.ssrc (map block_value report.blocks.items) report.extension.items count body.now)
         (λ error. IsTooShort error (4 + 24 * count) body.now) }
 {
     let mut reader = Reader::new(body);

@@ -3,7 +3,7 @@
 ghost use Rattle.std.specs.Prelude.{◌≡◌, ◌+◌, ◌*◌, length, map, MatchResult};
 ghost use Rattle.rtcp_wire.specs.Grammar.{sender_in, IsSenderReport};
 ghost use Rattle.rtcp_wire.specs.Parts.{IsTooShort};
-ghost use Rattle.rtcp_wire.specs.Views.{sender_of, block_of};
+ghost use Rattle.rtcp_wire.specs.Views.{sender_of, block_value};
 
 use crate::block::{BLOCK_SIZE, Block, read_blocks};
 use crate::fault::FaultReason;
@@ -78,7 +78,7 @@ pub(crate) fn read_sender_report(
     body: &[u8],
 ) -> Result<SenderReport, PartError>
     ensures { MatchResult result
-        (λ report. IsSenderReport (sender_of report) (map block_of report.blocks.items) report.extension.items count body.now)
+        (λ report. IsSenderReport (sender_of report) (map block_value report.blocks.items) report.extension.items count body.now)
         (λ error. IsTooShort error (24 + 24 * count) body.now) }
 {
     let mut reader = Reader::new(body);

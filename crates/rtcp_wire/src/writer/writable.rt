@@ -1,7 +1,7 @@
 //! Which packets can be written.
 
 ghost use Rattle.std.specs.Prelude.{◌≡◌, ◌≤◌, ◌↔◌, All, IsTrue, map, option_copied};
-ghost use Rattle.rtcp_wire.specs.Views.{block_of};
+ghost use Rattle.rtcp_wire.specs.Views.{block_value};
 ghost use Rattle.rtcp_wire.specs.WriterViews.{item_ref_of, chunk_ref_of, packet_ref_of};
 ghost use Rattle.rtcp_wire.specs.Writing.{IsWords, IsWritableBlock, IsWritableItem, IsWritableChunk, IsWritableReason, IsWritableEnd, HasWritableParts, IsWritable};
 
@@ -68,19 +68,19 @@ fn is_words(octets: &[u8]) -> bool
 }
 
 fn is_writable_end(blocks: &[Block], extension: &[u8]) -> bool
-    ensures { IsTrue result ↔ IsWritableEnd (map block_of blocks.now) extension.now }
+    ensures { IsTrue result ↔ IsWritableEnd (map block_value blocks.now) extension.now }
 {
     blocks.len() <= MAX_COUNT && are_writable_blocks(blocks) && is_words(extension)
 }
 
 fn is_writable_block(block: &Block) -> bool
-    ensures { IsTrue result ↔ IsWritableBlock (block_of block.now) }
+    ensures { IsTrue result ↔ IsWritableBlock (block_value block.now) }
 {
     MIN_LOST <= block.lost && block.lost <= MAX_LOST
 }
 
 fn are_writable_blocks(blocks: &[Block]) -> bool
-    ensures { IsTrue result ↔ All IsWritableBlock (map block_of blocks.now) }
+    ensures { IsTrue result ↔ All IsWritableBlock (map block_value blocks.now) }
 {
     for block in blocks {
         if !is_writable_block(block) {

@@ -1,6 +1,6 @@
 -- What becomes of the fact is decided by whether it is a goodbye, and by the room that is left.
 use Rattle.std.proofs.Common.{rules, arith}
-use Rattle.rtcp_members.specs.Traces.{subject}
+use Rattle.rtcp_wire.specs.Facts.{subject}
 use Rattle.rtcp_members.proofs.Admitting.{no_room, admitted, listed_push}
 use Rattle.rtcp_members.proofs.list_table.admit.Goals as goal
 

@@ -1,6 +1,6 @@
 -- The entry at the place is the one that the map has.
 use Rattle.rtcp_members.proofs.Applying.{apart_applied, place_applied, counted_applied, table_applied}
-use Rattle.rtcp_members.specs.Traces.{subject}
+use Rattle.rtcp_wire.specs.Facts.{subject}
 use Rattle.rtcp_members.proofs.list_table.apply_at.Goals as goal
 
 pub returns-clause-apart : goal.returns-clause-apart

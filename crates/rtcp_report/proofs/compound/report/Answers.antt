@@ -1,7 +1,7 @@
 -- The blocks are those of the sources that fit, and the packets those of the report.
 use Rattle.std.proofs.Common.{map, length, ap, ◌∙◌}
 use Rattle.std.proofs.lemmas.List.{length-map}
-use Rattle.rtcp_wire.specs.Views.{block_of}
+use Rattle.rtcp_wire.specs.Views.{block_value}
 use Rattle.rtcp_wire.specs.WriterViews.{item_ref_of}
 use Rattle.rtcp_report.specs.Views.{extra_of, reporter_with, reporter_of}
 use Rattle.rtcp_report.proofs.WholeReports.{least_fits, whole_report}
@@ -17,10 +17,10 @@ returns g c =
     let items = map item_ref_of c.items-items.result.now in
     let same = ap (reporter_with c.args.sender.now) (c.items-items.ensures ∙ c.new-description.ensures) in
     let is = whole_report c.args.limit c.most_blocks-most.result c.args.t c.args.cursor.now start (reporter_with c.args.sender.now items) (reporter_of c.args.sender.now c.args.extra) same c.most_blocks-most.ensures.fits c.most_blocks-most.ensures.greatest
-    (map block_of c.as_slice.result.now) c.write.result.items (g.T.MemberTable.content c.gather-blocks.new.table) c.gather-blocks.new.cursor
+    (map block_value c.as_slice.result.now) c.write.result.items (g.T.MemberTable.content c.gather-blocks.new.table) c.gather-blocks.new.cursor
     (record {
-      blocks_are = ap (λ b. map block_of b) c.as_slice.ensures.value ∙ c.gather-blocks.ensures.blocks;
-      count = length-map c.as_slice.result.now block_of ∙ ap (λ b. length b) c.as_slice.ensures.value ∙ c.gather-blocks.ensures.count;
+      blocks_are = ap (λ b. map block_value b) c.as_slice.ensures.value ∙ c.gather-blocks.ensures.blocks;
+      count = length-map c.as_slice.result.now block_value ∙ ap (λ b. length b) c.as_slice.ensures.value ∙ c.gather-blocks.ensures.count;
       octets_are = c.write.ensures.octets;
       reads_back = c.write.ensures.reads_back;
       content = c.gather-blocks.ensures.content;

@@ -1,7 +1,7 @@
 -- The next source that waits is due, and its block is one more.
 use Rattle.std.proofs.Common.{arith, map, sym, ◌∙◌, subst, List, Some}
 use Rattle.rtcp_wire.specs.Values.{ReportBlock}
-use Rattle.rtcp_wire.specs.Views.{block_of}
+use Rattle.rtcp_wire.specs.Views.{block_value}
 use Rattle.rtcp_members.proofs.NextDue.{next_is_due}
 use Rattle.rtcp_report.proofs.TakenInTurn.{IsTaken, one_more, pushed}
 use Rattle.rtcp_report.proofs.gathering.gather.Goals as goal
@@ -13,8 +13,8 @@ pub sources-preserved : goal.sources-preserved
 sources-preserved g c =
     let start = g.T.MemberTable.content c.args.table.now in
     let after = g.T.MemberTable.content c.block_of.new.self in
-    let blocks = map block_of c.sources.blocks.items in
-    let taken = one_more c.args.t c.args.cursor.now start c.sources.cursor (g.T.MemberTable.content c.sources.table) after blocks (block_of c.block_of.result) c.in-Some.ssrc c.sources.invariant.taken (sym c.in-Some.is ∙ c.next_with_news.ensures) c.block_of.ensures.block c.block_of.ensures.content c.block_of.ensures.writable in
+    let blocks = map block_value c.sources.blocks.items in
+    let taken = one_more c.args.t c.args.cursor.now start c.sources.cursor (g.T.MemberTable.content c.sources.table) after blocks (block_value c.block_of.result) c.in-Some.ssrc c.sources.invariant.taken (sym c.in-Some.is ∙ c.next_with_news.ensures) c.block_of.ensures.block c.block_of.ensures.content c.block_of.ensures.writable in
     record {
       taken = subst (λ (b : List ReportBlock). IsTaken c.args.t c.args.cursor.now start (Some c.in-Some.ssrc) after b) (pushed c.sources.blocks.items c.push.new.self.items c.block_of.result c.push.ensures.items) taken;
       count = omega (arith, c.sources.invariant.count, c.push.ensures.len);

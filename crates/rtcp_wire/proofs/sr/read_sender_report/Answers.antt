@@ -1,7 +1,7 @@
 use Rattle.std.proofs.Common.{◌≡◌, ◌+◌, ◌*◌, ◌≤◌, length, map, take, drop, sym, ap, subst, ◌∙◌, arith}
 use Rattle.std.proofs.lemmas.List.{length-take-le}
 use Rattle.rtcp_wire.specs.Grammar.{Joins, IsBlock, sender_in}
-use Rattle.rtcp_wire.specs.Views.{sender_of, block_of}
+use Rattle.rtcp_wire.specs.Views.{sender_of, block_value}
 use Rattle.rtcp_wire.proofs.ReadingReports.{sender_parts}
 use Rattle.rtcp_wire.proofs.sr.read_sender_report.Goals as goal
 
@@ -20,6 +20,6 @@ returns c =
     let says = made.sender ∙ ap sender_in (c.take-front.ensures.taken ∙ ap (take 24) c.new-reader.ensures) in
     rw (made.blocks, made.extension) (sender_parts body c.args.count (sender_of c.report_from.result) c.in_ok-blocks.blocks.items c.in_ok-extension.extension.items
     (search Rattle.std.proofs.Common.rules) says
-    (subst (λ t. Joins IsBlock (map block_of c.in_ok-blocks.blocks.items) (take (24 * c.args.count) t)) after blocks.blocks)
+    (subst (λ t. Joins IsBlock (map block_value c.in_ok-blocks.blocks.items) (take (24 * c.args.count) t)) after blocks.blocks)
     blocks.counted
     (c.in_ok-extension.ensures.items ∙ c.rest.ensures ∙ blocks.rest ∙ ap (drop (24 * c.args.count)) after))

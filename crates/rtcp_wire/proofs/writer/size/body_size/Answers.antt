@@ -3,7 +3,7 @@ use Rattle.std.proofs.Common.{map, arith}
 use Rattle.std.specs.List.{flat_map}
 use Rattle.std.specs.Prelude.{option_copied}
 use Rattle.std.proofs.lemmas.List.{length-append}
-use Rattle.rtcp_wire.specs.Views.{block_of}
+use Rattle.rtcp_wire.specs.Views.{block_value}
 use Rattle.rtcp_wire.specs.Writing.{written_word, written_block, written_reason}
 use Rattle.rtcp_wire.proofs.Appending.{ids_size, blocks_size}
 use Rattle.rtcp_wire.proofs.writer.size.body_size.Goals as goal
@@ -12,13 +12,13 @@ pub returns-in-Sr : goal.returns-in-Sr
 returns-in-Sr c =
     let bs = c.in-Sr.blocks.now in
     let x = c.in-Sr.extension.now in
-    rw c.in-Sr.is (omega (arith, c.capped_sum.ensures, length-append (flat_map written_block (map block_of bs)) x, blocks_size bs))
+    rw c.in-Sr.is (omega (arith, c.capped_sum.ensures, length-append (flat_map written_block (map block_value bs)) x, blocks_size bs))
 
 pub returns-in-Rr : goal.returns-in-Rr
 returns-in-Rr c =
     let bs = c.in-Rr.blocks.now in
     let x = c.in-Rr.extension.now in
-    rw c.in-Rr.is (omega (arith, c.capped_sum-in-Rr.ensures, length-append (flat_map written_block (map block_of bs)) x, blocks_size bs))
+    rw c.in-Rr.is (omega (arith, c.capped_sum-in-Rr.ensures, length-append (flat_map written_block (map block_value bs)) x, blocks_size bs))
 
 pub returns-in-Bye : goal.returns-in-Bye
 returns-in-Bye c =

@@ -4,45 +4,45 @@ use Rattle.std.proofs.lemmas.List.{length-map, length-drop, take-map, drop-map}
 use Rattle.std.proofs.lemmas.List.Elements.{All-take, All-drop}
 use Rattle.rtcp_wire.specs.Values.{ReportBlock, RtcpPacket, rr}
 use Rattle.rtcp_wire.specs.declared.block.Block.{Block}
-use Rattle.rtcp_wire.specs.Views.{block_of}
+use Rattle.rtcp_wire.specs.Views.{block_value}
 use Rattle.rtcp_wire.specs.Writing.{IsWritable, IsWritableBlock}
 use Rattle.rtcp_wire.proofs.WritableReports.{receiver_writable}
 use Rattle.rtcp_report.specs.declared.sender.Sender.{Sender}
 use Rattle.rtcp_report.specs.Reports.{report_with}
 use Rattle.rtcp_report.specs.Views.{sent_value, reports_of}
 use Rattle.rtcp_report.proofs.ReportPackets.{whole_of_two, whole_of_three, fits_of, octets_of, accepted_of, report_writable, two_writable, three_writable}
-use Rattle.rtcp_report.proofs.writing.reports_with.Goals as goal
+use Rattle.rtcp_report.proofs.writing.compound_with.Goals as goal
 
 abbrev values : List Block → List ReportBlock
-values blocks = map block_of blocks
+values blocks = map block_value blocks
 
 abbrev first_of : Sender → List Block → RtcpPacket
 first_of s blocks = report_with s.ssrc (option_map sent_value s.sr) (values blocks)
 
 two_packets : (s : Sender) (blocks : List Block) (first last : RtcpPacket) → length blocks ≤ 31 → first ≡ first_of s blocks → reports_of s (values blocks) ++ last ∷ [] ≡ first ∷ last ∷ []
 two_packets s blocks first last few is =
-    whole_of_two s.ssrc (option_map sent_value s.sr) (values blocks) first last (omega (arith, few, length-map blocks block_of)) is
+    whole_of_two s.ssrc (option_map sent_value s.sr) (values blocks) first last (omega (arith, few, length-map blocks block_value)) is
 
 three_packets : (s : Sender) (blocks front others : List Block) (first last : RtcpPacket) → 31 < length blocks → length blocks ≤ 60 → front ≡ take 31 blocks → others ≡ drop 31 blocks → first ≡ first_of s front
     → reports_of s (values blocks) ++ last ∷ [] ≡ first ∷ rr s.ssrc (values others) [] ∷ last ∷ []
 three_packets s blocks front others first last many few is_front is_others is =
-    let count = length-map blocks block_of in
+    let count = length-map blocks block_value in
     whole_of_three s.ssrc (option_map sent_value s.sr) (values blocks) (values front) (values others) first last
     (omega (arith, many, count)) (omega (arith, few, count))
-    (ap values is_front ∙ sym (take-map block_of 31 blocks)) (ap values is_others ∙ sym (drop-map block_of 31 blocks)) is
+    (ap values is_front ∙ sym (take-map block_value 31 blocks)) (ap values is_others ∙ sym (drop-map block_value 31 blocks)) is
 
 first_writable : (s : Sender) (blocks : List Block) (first : RtcpPacket) → length blocks ≤ 31 → All IsWritableBlock (values blocks) → first ≡ first_of s blocks → IsWritable first
 first_writable s blocks first few can is =
-    subst IsWritable (sym is) (report_writable s.ssrc (option_map sent_value s.sr) (values blocks) (omega (arith, few, length-map blocks block_of)) can)
+    subst IsWritable (sym is) (report_writable s.ssrc (option_map sent_value s.sr) (values blocks) (omega (arith, few, length-map blocks block_value)) can)
 
 front_writable : (blocks front : List Block) → front ≡ take 31 blocks → All IsWritableBlock (values blocks) → All IsWritableBlock (values front)
 front_writable blocks front is can =
-    subst (λ (b : List ReportBlock). All IsWritableBlock b) (take-map block_of 31 blocks ∙ sym (ap values is)) (All-take IsWritableBlock 31 (values blocks) can)
+    subst (λ (b : List ReportBlock). All IsWritableBlock b) (take-map block_value 31 blocks ∙ sym (ap values is)) (All-take IsWritableBlock 31 (values blocks) can)
 
 others_writable : (s : Sender) (blocks others : List Block) → length blocks ≤ 60 → others ≡ drop 31 blocks → All IsWritableBlock (values blocks) → IsWritable (rr s.ssrc (values others) [])
 others_writable s blocks others few is can =
-    receiver_writable s.ssrc (values others) (omega (arith, few, length-map others block_of, ap length is, length-drop 31 blocks))
-    (subst (λ (b : List ReportBlock). All IsWritableBlock b) (drop-map block_of 31 blocks ∙ sym (ap values is)) (All-drop IsWritableBlock 31 (values blocks) can))
+    receiver_writable s.ssrc (values others) (omega (arith, few, length-map others block_value, ap length is, length-drop 31 blocks))
+    (subst (λ (b : List ReportBlock). All IsWritableBlock b) (drop-map block_value 31 blocks ∙ sym (ap values is)) (All-drop IsWritableBlock 31 (values blocks) can))
 
 -- ---- At most 31 blocks
 
