@@ -14,7 +14,8 @@ use Rattle.rtcp_members.specs.Stays.{last_naming}
 use Rattle.rtcp_members.specs.Tables.{TableValue, StandsAt, HasFew}
 use Rattle.std.specs.Ordering.{eq_by_cmp}
 use Rattle.rtcp_members.proofs.Packets.{Few, few_at, has_few}
-use Rattle.rtcp_members.specs.Waiting.{is_due, is_due_at, reported_entry, with_reported, after_block}
+use Rattle.rtcp_members.specs.Waiting.{is_due, is_due_at, EntryRow, reported_entry, with_reported, after_block, after_blocks}
+use Rattle.rtcp_members.proofs.Capacity.{block_keeps_bounds}
 use Rattle.rtcp_members.proofs.Staying.{entry_with, moved_entry, entry_unmarked, entry_marked, entry_moves}
 
 -- ---- What is said of a source
@@ -110,6 +111,13 @@ len_same table ssrc (Some entry) found =
 
 pub capacity_behind : (table : TableValue) (ssrc : ℕ) → map.len table.entries ≤ table.capacity → map.len (after_block ssrc table).entries ≤ table.capacity
 capacity_behind table ssrc within = omega (arith, within, len_same table ssrc (map.get table.entries ssrc) refl)
+
+pub capacity_after_blocks : (rows : List EntryRow) (table : TableValue) → map.len table.entries ≤ table.capacity → map.len (after_blocks rows table).entries ≤ table.capacity
+capacity_after_blocks [] table within = within
+capacity_after_blocks (row ∷ rows) table within =
+    let same : (after_block row.0 table).capacity ≡ table.capacity = (block_keeps_bounds table row.0).capacity in
+    let first : map.len (after_block row.0 table).entries ≤ (after_block row.0 table).capacity = omega (arith, same, capacity_behind table row.0 within) in
+    omega (arith, same, capacity_after_blocks rows (after_block row.0 table) first)
 
 few_reported : (packets : ℕ) (table : TableValue) (ssrc : ℕ) (entry : Option EntryValue) → map.get table.entries ssrc ≡ entry → HasFew packets table → HasFew packets (with_reported ssrc table entry)
 few_reported packets table ssrc None found few = few

@@ -1,5 +1,5 @@
 -- How many entries a table has behind a step.
-use Rattle.std.proofs.Common.{◌≡◌, ◌≤◌, ◌+◌, ℕ, suc, Bool, true, false, cond, if◌then◌else◌, nat_lt, List, [], ◌∷◌, length, Option, Some, None, is_some, option_map, filter_map, nat_cmp, arith, refl, le_trans, le_of_eq, le_refl, zero-le}
+use Rattle.std.proofs.Common.{◌≡◌, ◌≤◌, ◌+◌, ℕ, suc, Bool, true, false, cond, if◌then◌else◌, nat_lt, List, [], ◌∷◌, length, Option, Some, None, is_some, option_map, filter_map, nat_cmp, arith, refl, ◌∙◌, le_trans, le_of_eq, le_refl, zero-le}
 use Rattle.std.proofs.lemmas.Bool.{ltb-true}
 use Rattle.std.specs.List.{cons_option}
 use Rattle.std.specs.Cmp.{nat_cmp_total}
@@ -9,7 +9,41 @@ use Rattle.rtcp_members.specs.declared.table.Place.TheVariants.{Added, NoRoom, I
 use Rattle.rtcp_wire.specs.Facts.{subject, is_gone}
 use Rattle.rtcp_members.specs.Traces.{Horizons}
 use Rattle.rtcp_members.specs.Entries.{EntryValue}
-use Rattle.rtcp_members.specs.Tables.{EntryMap, TableValue, changes, placed, place_of, after_fact, entry_after_check, after_check, updated_row, updated, no_members}
+use Rattle.rtcp_members.specs.Waiting.{EntryRow, with_reported, after_block, after_blocks}
+use Rattle.rtcp_members.specs.Tables.{EntryMap, TableValue, KeepsBounds, changes, placed, place_of, entry_after, entry_for, after_fact, after_facts, entry_after_check, after_check, updated_row, updated, no_members}
+
+-- ---- Capacity and rate
+
+kept_if : (b : Bool) (table : TableValue) (entries : EntryMap) → KeepsBounds table (if b then record table { entries = entries } else table)
+kept_if true table entries = record { capacity = refl; rate = refl }
+kept_if false table entries = record { capacity = refl; rate = refl }
+
+kept_twice : (old next last : TableValue) → KeepsBounds old next → KeepsBounds next last → KeepsBounds old last
+kept_twice old next last first second = record { capacity = second.capacity ∙ first.capacity; rate = second.rate ∙ first.rate }
+
+pub fact_keeps_bounds : (table : TableValue) (fact : Fact) (moment : ℕ) → KeepsBounds table (after_fact fact moment table)
+fact_keeps_bounds table fact moment =
+    kept_if (changes (placed table fact)) table (map.insert table.entries (subject fact) (entry_after table.rate fact moment (entry_for table fact)))
+
+pub facts_keep_bounds : (facts : List Fact) (table : TableValue) (moment : ℕ) → KeepsBounds table (after_facts facts moment table)
+facts_keep_bounds [] table moment = record { capacity = refl; rate = refl }
+facts_keep_bounds (fact ∷ facts) table moment =
+    kept_twice table (after_fact fact moment table) _ (fact_keeps_bounds table fact moment) (facts_keep_bounds facts (after_fact fact moment table) moment)
+
+pub check_keeps_bounds : (table : TableValue) (horizons : Horizons) → KeepsBounds table (after_check horizons table)
+check_keeps_bounds table horizons = record { capacity = refl; rate = refl }
+
+reported_keeps : (table : TableValue) (ssrc : ℕ) (entry : Option EntryValue) → KeepsBounds table (with_reported ssrc table entry)
+reported_keeps table ssrc None = record { capacity = refl; rate = refl }
+reported_keeps table ssrc (Some entry) = record { capacity = refl; rate = refl }
+
+pub block_keeps_bounds : (table : TableValue) (ssrc : ℕ) → KeepsBounds table (after_block ssrc table)
+block_keeps_bounds table ssrc = reported_keeps table ssrc (map.get table.entries ssrc)
+
+pub blocks_keep_bounds : (rows : List EntryRow) (table : TableValue) → KeepsBounds table (after_blocks rows table)
+blocks_keep_bounds [] table = record { capacity = refl; rate = refl }
+blocks_keep_bounds (row ∷ rows) table =
+    kept_twice table (after_block row.0 table) _ (block_keeps_bounds table row.0) (blocks_keep_bounds rows (after_block row.0 table))
 
 -- ---- Facts
 
@@ -33,6 +67,13 @@ len_behind fact None len capacity within =
 pub fact_keeps_capacity : (table : TableValue) (fact : Fact) (moment : ℕ) → map.len table.entries ≤ table.capacity → map.len (after_fact fact moment table).entries ≤ table.capacity
 fact_keeps_capacity table fact moment within =
     rw (len_if (changes (placed table fact)) table, map.len-insert nat_cmp_total table.entries (subject fact)) (len_behind fact (map.get table.entries (subject fact)) (map.len table.entries) table.capacity within)
+
+pub facts_keep_capacity : (facts : List Fact) (table : TableValue) (moment : ℕ) → map.len table.entries ≤ table.capacity → map.len (after_facts facts moment table).entries ≤ table.capacity
+facts_keep_capacity [] table moment within = within
+facts_keep_capacity (fact ∷ facts) table moment within =
+    let same : (after_fact fact moment table).capacity ≡ table.capacity = (fact_keeps_bounds table fact moment).capacity in
+    let first : map.len (after_fact fact moment table).entries ≤ (after_fact fact moment table).capacity = omega (arith, same, fact_keeps_capacity table fact moment within) in
+    omega (arith, same, facts_keep_capacity facts (after_fact fact moment table) moment first)
 
 -- ---- Checks
 

@@ -21,7 +21,7 @@ IsOnce (key ∷ keys) = (has key keys ≡ false) × IsOnce keys
 abbrev pub passing : {X : Type 0} → (X → Bool) → List X → ℕ
 passing test xs = length (filter test xs)
 
-one_or_none : Bool → ℕ
+pub one_or_none : Bool → ℕ
 one_or_none b = cond b 1 0
 
 -- ---- Two tests of keys
@@ -29,7 +29,7 @@ one_or_none b = cond b 1 0
 pub same_passing : (f g : ℕ → Bool) → ((key : ℕ) → f key ≡ g key) → (keys : List ℕ) → passing f keys ≡ passing g keys
 same_passing f g same keys = λ i. passing (λ key. same key i) keys
 
-first_and_rest : {X : Type 0} (test : X → Bool) (x : X) (xs : List X) → passing test (x ∷ xs) ≡ one_or_none (test x) + passing test xs
+pub first_and_rest : {X : Type 0} (test : X → Bool) (x : X) (xs : List X) → passing test (x ∷ xs) ≡ one_or_none (test x) + passing test xs
 unfolding one_or_none
 first_and_rest test x xs = elim (test x) as (λ b. length (cond b (x ∷ filter test xs) (filter test xs)) ≡ one_or_none b + passing test xs) [ true ↦ omega arith | false ↦ omega arith ]
 

@@ -5,10 +5,10 @@ use Rattle.std.specs.Cmp.{nat_cmp_total, unsigned_tied}
 use Rattle.std.specs.FinMap as map
 use Rattle.rtcp_wire.specs.declared.fact.Fact.{Fact}
 use Rattle.rtcp_wire.specs.Facts.{subject}
-use Rattle.rtcp_members.specs.Traces.{Horizons, TraceStep, fact_came, check_made, names}
+use Rattle.rtcp_members.specs.Traces.{Horizons, TraceStep, fact_came, check_made, names, with_facts}
 use Rattle.rtcp_members.specs.Stays.{present_among, stay_of}
 use Rattle.rtcp_members.specs.Entries.{EntryValue, is_such, entry_at, count_at}
-use Rattle.rtcp_members.specs.Tables.{TableValue, StandsAt, no_members, changes, placed, has_room, entry_for, entry_after, after_fact, entry_after_check, after_check, count_in}
+use Rattle.rtcp_members.specs.Tables.{TableValue, StandsAt, no_members, changes, placed, has_room, entry_for, entry_after, after_fact, after_facts, entry_after_check, after_check, count_in}
 use Rattle.rtcp_members.proofs.Updated.{get_updated}
 use Rattle.rtcp_members.proofs.Counting.{has, same_passing, passing_entries, len_by_keys}
 use Rattle.rtcp_members.proofs.Naming.{room_at, names_are_once, present_is_named}
@@ -87,6 +87,10 @@ module _ (table : TableValue) (trace : List TraceStep) (fact : Fact) (moment : �
   fact_follows ssrc =
       let same = same_bounds table fact moment (changes (placed table fact)) in
       entry_follows ssrc ∙ (λ i. entry_at (sym same.0 i) (sym same.1 i) (fact_came fact moment ∷ trace) ssrc)
+
+pub facts_follow : (facts : List Fact) (table : TableValue) (trace : List TraceStep) (moment : ℕ) → StandsAt table trace → StandsAt (after_facts facts moment table) (with_facts facts moment trace)
+facts_follow [] table trace moment stands = stands
+facts_follow (fact ∷ facts) table trace moment stands = facts_follow facts (after_fact fact moment table) (fact_came fact moment ∷ trace) moment (fact_follows table trace fact moment stands)
 
 -- ---- Checks
 

@@ -1,22 +1,29 @@
-pub mod Updated
-pub mod Counting
-pub mod Naming
-pub mod Capacity
-pub mod Staying
-pub mod Moving
-pub mod Following
-pub mod Packets
-pub mod Listing
-pub mod Changing
-pub mod Applying
-pub mod Admitting
-pub mod Tallies
-pub mod LeastDue
-pub mod Reporting
-pub mod Blocking
-pub mod TurnsRows
-pub mod Turns
-pub mod NextDue
-pub mod TurnsSamples
-pub mod TraceTables
-pub mod Rows
+mod Updated
+mod Counting
+mod Naming
+mod Capacity
+mod Staying
+mod Moving
+mod Following
+mod Packets
+mod Listing
+mod Changing
+mod Applying
+mod Admitting
+mod Tallies
+mod LeastDue
+mod Reporting
+mod Blocking
+mod TurnsRows
+mod Turns
+mod NextDue
+mod TurnsSamples
+mod TraceTables
+mod Rows
+mod NewsRows
+mod StayLaws
+mod SenderLaws
+mod NewsOfTraces
+mod Agreeing
+mod Growing
+pub mod LawLemmas

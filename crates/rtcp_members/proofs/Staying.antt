@@ -54,7 +54,7 @@ same_taken [] before stray seq = refl
 same_taken (p ∷ counted) before stray seq = refl
 
 -- A packet is to the summary what it is to the run.
-taken_by_summary : (given : List Given) (seq : ℕ) → taken_by (summary_of given) seq ≡ taken_in (run_of given) seq
+pub taken_by_summary : (given : List Given) (seq : ℕ) → taken_by (summary_of given) seq ≡ taken_in (run_of given) seq
 taken_by_summary given seq = let run : PacketRun = run_of given in same_taken run.counted run.reported (newest run.strays) seq
 
 -- A fact of the source moves what is said of it as the tables say.

@@ -18,12 +18,12 @@ use Rattle.rtcp_members.proofs.Following.{is_some_mapped}
 not_named : false ≡ true → ⊥
 not_named e = absurd cc
 
-abbrev row_by : (ℕ → Option EntryValue) → ℕ → Option (ℕ × EntryValue)
+abbrev pub row_by : (ℕ → Option EntryValue) → ℕ → Option (ℕ × EntryValue)
 row_by entry ssrc = option_map (λ e. (ssrc, e)) (entry ssrc)
 
 -- ---- Rows of names
 
-tied : (q ssrc : ℕ) → eq_by_cmp nat_cmp q ssrc ≡ (ssrc == q)
+pub tied : (q ssrc : ℕ) → eq_by_cmp nat_cmp q ssrc ≡ (ssrc == q)
 tied q ssrc = (eq_by_cmp_equiv nat_cmp_total).symm q ssrc ∙ unsigned_tied ssrc q
 
 module _ (q ssrc : ℕ) (rows : List (ℕ × EntryValue)) where
@@ -40,7 +40,7 @@ either_none true entry none = none
 either_none false entry none = refl
 
 -- what a key finds among the rows of some names
-found_by : (entry : ℕ → Option EntryValue) (named : List ℕ) (q : ℕ) → map.find nat_cmp q (filter_map (row_by entry) named) ≡ (if has q named then entry q else None)
+pub found_by : (entry : ℕ → Option EntryValue) (named : List ℕ) (q : ℕ) → map.find nat_cmp q (filter_map (row_by entry) named) ≡ (if has q named then entry q else None)
 found_by entry [] q = refl
 found_by entry (ssrc ∷ named) q =
     let rows = filter_map (row_by entry) named in
@@ -53,7 +53,7 @@ found_by entry (ssrc ∷ named) q =
 
 -- ---- The table of a trace
 
-entry_if_named : (b : Bool) (entry : Option EntryValue) → (is_some entry ≡ true → b ≡ true) → (if b then entry else None) ≡ entry
+pub entry_if_named : (b : Bool) (entry : Option EntryValue) → (is_some entry ≡ true → b ≡ true) → (if b then entry else None) ≡ entry
 entry_if_named true entry named = refl
 entry_if_named false None named = refl
 entry_if_named false (Some entry) named = absurd (not_named (named refl))

@@ -165,8 +165,8 @@ entry_of_first last table row rest is =
 pub first_is_there : (last : Option ℕ) (table : TableValue) (row : EntryRow) (rest : List EntryRow) → waiting last table ≡ row ∷ rest → finite.get table.entries row.0 ≡ Some row.1
 first_is_there last table row rest is = (entry_of_first last table row rest is).0
 
-pub first_is_due : (last : Option ℕ) (table : TableValue) (row : EntryRow) (rest : List EntryRow) → waiting last table ≡ row ∷ rest → is_due_at row.0 table ≡ true
-first_is_due last table row rest is = let there = entry_of_first last table row rest is in ap (is_such is_due) there.0 ∙ there.1
+pub due_row : (last : Option ℕ) (table : TableValue) (row : EntryRow) (rest : List EntryRow) → waiting last table ≡ row ∷ rest → is_due_at row.0 table ≡ true
+due_row last table row rest is = let there = entry_of_first last table row rest is in ap (is_such is_due) there.0 ∙ there.1
 
 -- Its block is that of its row.
 pub block_of_first : (t : ℕ) (last : Option ℕ) (table : TableValue) (row : EntryRow) (rest : List EntryRow) → waiting last table ≡ row ∷ rest → block_at row.0 t table ≡ block_of_row t row

@@ -1,10 +1,11 @@
 -- What a session knows of each source that is present, and how many are members and senders (RFC 3550, 6.2.1, 6.3).
-use Rattle.std.specs.Prelude.{ℕ, ◌||◌, ◌==◌, ◌&&◌, Bool, false, List, [], ◌∷◌, filter, length, if◌then◌else◌, Option, Some, None, is_some, is_none, option_map}
+use Rattle.std.specs.Prelude.{ℕ, ◌≡◌, ◌≤◌, ◌||◌, ◌==◌, ◌&&◌, Bool, true, false, List, [], ◌∷◌, ◌++◌, filter, length, if◌then◌else◌, Option, Some, None, is_some, is_none, option_map}
 use Rattle.rtcp_wire.specs.declared.fact.Fact.{Fact}
 use Rattle.rtcp_wire.specs.declared.fact.Fact.TheVariants.{Heard, Told, Named, Gone, Media}
 use Rattle.rtcp_clock.specs.Moments.{media_units}
 use Rattle.rtcp_source.specs.Packets.{Given, packet_came, report_came, block_made, taken_in, is_counted, run_of}
 use Rattle.rtcp_source.specs.Summary.{SourceValue, summary_of}
+use Rattle.rtcp_wire.specs.Facts.{subject}
 use Rattle.rtcp_members.specs.Traces.{Horizons, TraceStep, fact_came, check_made, block_taken, names}
 use Rattle.rtcp_members.specs.Stays.{mark_of, before_mark, last_naming, is_before, stay_of}
 
@@ -80,6 +81,18 @@ abbrev pub sending_of : (rate ssrc : ℕ) → List TraceStep → Option ℕ
 sending_of rate ssrc [] = None
 sending_of rate ssrc (step ∷ earlier) = sending_with rate ssrc step (given_of rate ssrc earlier) (sending_of rate ssrc earlier)
 
+-- ---- Packets that are counted
+
+-- Whether a fact is a packet that is counted, by the stay of its source: there is one, without a mark, and the last run of what it
+-- gave counts the packet (A.1).
+abbrev pub counted_in_stay : (rate : ℕ) → Fact → Option (List TraceStep) → Bool
+counted_in_stay rate fact None = false
+counted_in_stay rate fact (Some stay) =
+    is_none (mark_of (subject fact) stay) && is_counted_fact (subject fact) fact (given_of rate (subject fact) stay)
+
+abbrev pub counted_at : (capacity rate : ℕ) → List TraceStep → Fact → Bool
+counted_at capacity rate trace fact = counted_in_stay rate fact (stay_of capacity trace (subject fact))
+
 -- ---- Entries
 
 -- what a stay says of its source
@@ -118,3 +131,25 @@ members_at = count_at is_member
 
 abbrev pub senders_at : (capacity rate : ℕ) → List TraceStep → ℕ
 senders_at = count_at is_sender
+
+-- ---- Senders in other words
+
+-- The newest counted packet of a source among these steps came at this moment, and no check since it had a later horizon for packets.
+pub record IsSendingSince (rate ssrc : ℕ) (own : List TraceStep) (moment : ℕ) : Type 0 where
+  pub since : List TraceStep
+  pub packet : Fact
+  pub before : List TraceStep
+  pub parts : own ≡ since ++ fact_came packet moment ∷ before
+  pub counted : is_counted_fact ssrc packet (given_of rate ssrc before) ≡ true
+  pub newest : (newer : List TraceStep) (other : Fact) (at : ℕ) (older : List TraceStep) → since ≡ newer ++ fact_came other at ∷ older →
+      is_counted_fact ssrc other (given_of rate ssrc (older ++ fact_came packet moment ∷ before)) ≡ false
+  pub recent : (newer : List TraceStep) (horizons : Horizons) (older : List TraceStep) → since ≡ newer ++ check_made horizons ∷ older →
+      horizons.idle ≤ moment
+
+-- A source is a sender where it is present without a mark, and sends since some moment of its stay.
+pub record IsSenderAt (capacity rate : ℕ) (trace : List TraceStep) (ssrc : ℕ) : Type 0 where
+  pub stay : List TraceStep
+  pub present : stay_of capacity trace ssrc ≡ Some stay
+  pub unmarked : mark_of ssrc stay ≡ None
+  pub moment : ℕ
+  pub sending : IsSendingSince rate ssrc stay moment

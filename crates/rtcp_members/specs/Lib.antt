@@ -3,6 +3,7 @@ pub mod Stays
 pub mod Entries
 pub mod Tables
 pub mod Waiting
+pub mod News
 pub mod Least
 pub mod Codes
 pub mod ListViews

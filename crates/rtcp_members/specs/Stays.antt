@@ -1,6 +1,6 @@
 -- Who is present in a session, and since when (RFC 3550, 6.3.3 to 6.3.5, 6.3.7).
 -- The stay of a source is the trace from its last admission on, as long as no check removes it.
-use Rattle.std.specs.Prelude.{ℕ, ◌||◌, ◌==◌, ◌&&◌, Bool, true, false, nat_lt, List, [], ◌∷◌, filter, length, if◌then◌else◌, Option, Some, None, is_some}
+use Rattle.std.specs.Prelude.{ℕ, ◌≡◌, ◌<◌, ◌||◌, ◌==◌, ◌&&◌, Bool, true, false, nat_lt, List, [], ◌∷◌, ◌++◌, filter, length, if◌then◌else◌, Option, Some, None, is_some}
 use Rattle.rtcp_wire.specs.Facts.{subject, is_gone}
 use Rattle.rtcp_members.specs.Traces.{Horizons, TraceStep, fact_came, check_made, block_taken, is_naming, names}
 
@@ -63,3 +63,24 @@ stay_with capacity step named others ssrc (Some stay) = if ends_stay ssrc step s
 abbrev pub stay_of : (capacity : ℕ) → List TraceStep → (ssrc : ℕ) → Option (List TraceStep)
 stay_of capacity [] = λ ssrc. None
 stay_of capacity (step ∷ earlier) = λ ssrc. stay_with capacity step (names earlier) (stay_of capacity earlier) ssrc (stay_of capacity earlier ssrc)
+
+-- ---- Stays in other words
+
+-- No check among these steps of a stay, of which the newest stand first, removes the source.
+abbrev pub OutlastsChecks : (ssrc : ℕ) → List TraceStep → Type 0
+OutlastsChecks ssrc stay =
+    (newer : List TraceStep) (horizons : Horizons) (older : List TraceStep) → stay ≡ newer ++ check_made horizons ∷ older →
+    is_removed horizons (last_sighting ssrc older) (mark_of ssrc older) ≡ false
+
+-- A stay is a prefix of the trace, newest first. Its oldest step names the source at a moment when it was absent and there was room,
+-- and no check in it removes the source.
+pub record IsStay (capacity : ℕ) (trace : List TraceStep) (ssrc : ℕ) (stay : List TraceStep) : Type 0 where
+  pub since : List TraceStep
+  pub admission : TraceStep
+  pub before : List TraceStep
+  pub parts : trace ≡ since ++ admission ∷ before
+  pub whole : stay ≡ since ++ admission ∷ []
+  pub named : is_naming ssrc admission ≡ true
+  pub absent : stay_of capacity before ssrc ≡ None
+  pub room : present_among (names before) (stay_of capacity before) < capacity
+  pub outlasts : OutlastsChecks ssrc stay

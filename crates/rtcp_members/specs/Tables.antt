@@ -25,6 +25,11 @@ pub record TableValue : Type 0 where
   pub rate : ℕ
   pub entries : EntryMap
 
+-- A table that another became has its capacity and its rate.
+pub record KeepsBounds (old new : TableValue) : Type 0 where
+  pub capacity : new.capacity ≡ old.capacity
+  pub rate : new.rate ≡ old.rate
+
 -- ---- Facts
 
 -- what is known of a source before the fact that adds it
@@ -94,6 +99,11 @@ after_fact fact moment table =
     if changes (placed table fact)
     then record table { entries = map.insert table.entries (subject fact) (entry_after table.rate fact moment (entry_for table fact)) }
     else table
+
+-- the table once these facts came at one moment, one after the other
+abbrev pub after_facts : List Fact → (moment : ℕ) → TableValue → TableValue
+after_facts [] moment table = table
+after_facts (fact ∷ facts) moment table = after_facts facts moment (after_fact fact moment table)
 
 -- A source is given fewer than 2^40 packets.
 abbrev pub IsFew : EntryValue → Type 0

@@ -39,3 +39,8 @@ names [] = []
 names (fact_came fact moment ∷ earlier) = with_name fact (names earlier)
 names (check_made horizons ∷ earlier) = names earlier
 names (block_taken ssrc ∷ earlier) = names earlier
+
+-- the trace once these facts came at one moment, one after the other
+abbrev pub with_facts : List Fact → (moment : ℕ) → List TraceStep → List TraceStep
+with_facts [] moment trace = trace
+with_facts (fact ∷ facts) moment trace = with_facts facts moment (fact_came fact moment ∷ trace)

@@ -24,9 +24,13 @@ is_due_at ssrc table = is_such is_due (finite.get table.entries ssrc)
 abbrev pub due_rows : TableValue → List EntryRow
 due_rows table = filter (λ row. is_due row.1) (finite.entries table.entries)
 
+-- whether an SSRC stands above the last one reported, if there was one
+abbrev pub is_after : (last : Option ℕ) → (ssrc : ℕ) → Bool
+is_after None ssrc = true
+is_after (Some last) ssrc = nat_lt last ssrc
+
 abbrev pub is_above : (last : Option ℕ) → EntryRow → Bool
-is_above None row = true
-is_above (Some last) row = nat_lt last row.0
+is_above last row = is_after last row.0
 
 -- rows in cyclic turn: those above the last SSRC, and then the others
 abbrev pub in_turn : (last : Option ℕ) → List EntryRow → List EntryRow

@@ -2,7 +2,7 @@
 
 ghost use Rattle.std.specs.Prelude.{◌≡◌, ◌<◌, ◌^◌, None, Some, Bool, IsTrue, not};
 ghost use Rattle.rtcp_members.specs.ListViews.{entry_value, lapsed};
-ghost use Rattle.rtcp_wire.specs.Facts.{is_gone, subject};
+ghost use Rattle.rtcp_wire.specs.Facts.{is_media};
 ghost use Rattle.rtcp_members.specs.Traces.{horizons_at};
 ghost use Rattle.rtcp_members.specs.Stays.{is_removed};
 ghost use Rattle.rtcp_members.specs.Entries.{is_member, is_sender, still_sending};
@@ -69,7 +69,7 @@ impl Entry {
     /// The entry, which has no mark, behind a fact of its source at the moment `t`. The answer is whether the fact was a packet
     /// that was counted.
     pub(crate) fn take(&mut self, fact: Fact, t: u64, rate: u32) -> bool
-        requires { self.old.source.packets < 2 ^ 40 }
+        requires { IsTrue (is_media fact) → self.old.source.packets < 2 ^ 40 }
         ensures counted { result ≡ counts fact self.old.source }
         ensures ssrc { self.new.ssrc ≡ self.old.ssrc }
         ensures value { entry_value self.new ≡ entry_after rate fact t (entry_value self.old) }
@@ -99,7 +99,7 @@ impl Entry {
 
     /// A fact of the entry's source comes at the moment `t`.
     pub(crate) fn apply(&mut self, fact: Fact, t: u64, rate: u32) -> Applied
-        requires { self.old.source.packets < 2 ^ 40 }
+        requires { IsTrue (is_media fact) → self.old.source.packets < 2 ^ 40 }
         ensures place { (room : Bool) → result.place ≡ place_of fact (Some (entry_value self.old)) room }
         ensures counted { result.counted ≡ counted_of fact (Some (entry_value self.old)) }
         ensures ssrc { self.new.ssrc ≡ self.old.ssrc }

@@ -11,6 +11,7 @@ mod entry;
 pub mod laws;
 mod list_table;
 mod table;
+pub mod trace_laws;
 pub mod turn_laws;
 
 pub use list_table::ListTable;

@@ -3,7 +3,7 @@
 ghost use Rattle.std.specs.Prelude.{◌≡◌, ℕ, ◌<◌, ◌≤◌, ◌^◌, true, List, length, filter, IfSome, MatchOption, IsTrue, Some, None};
 ghost use Rattle.std.specs.FinMap as finite;
 ghost use Rattle.std.specs.List.{retain_mut};
-ghost use Rattle.rtcp_wire.specs.Facts.{subject, is_gone};
+ghost use Rattle.rtcp_wire.specs.Facts.{subject, is_media};
 ghost use Rattle.rtcp_members.specs.Traces.{horizons_at};
 ghost use Rattle.rtcp_members.specs.ListViews.{entry_value, rows_of, map_of, table_of, tally_of, lapsed, outlasts, IsListed, IsPlaceOf};
 ghost use Rattle.rtcp_wire.specs.Views.{block_value};
@@ -60,7 +60,7 @@ fn place_in(entries: &[Entry], ssrc: u32) -> Option<usize>
 fn apply_at(entries: &mut [Entry], at: usize, fact: Fact, t: u64, rate: u32) -> Applied
     requires apart { IsApart (rows_of entries.old) }
     requires place { IsPlaceOf (subject fact) entries.old at }
-    requires few { IfSome (finite.get (map_of entries.old) (subject fact)) IsFew }
+    requires few { IsTrue (is_media fact) → IfSome (finite.get (map_of entries.old) (subject fact)) IsFew }
     ensures apart { IsApart (rows_of entries.new) }
     ensures place { (capacity : ℕ) → result.place ≡ placed (table_of capacity rate entries.old) fact }
     ensures counted { (capacity : ℕ) → result.counted ≡ counted (table_of capacity rate entries.old) fact }

@@ -2,7 +2,7 @@
 
 ghost use Rattle.std.specs.Prelude.{◌≡◌, ◌≤◌, ◌^◌, IfSome, IsTrue, Some};
 ghost use Rattle.std.specs.FinMap as map;
-ghost use Rattle.rtcp_wire.specs.Facts.{subject};
+ghost use Rattle.rtcp_wire.specs.Facts.{subject, is_media};
 ghost use Rattle.rtcp_members.specs.Traces.{horizons_at};
 ghost use Rattle.rtcp_members.specs.Tables.{TableValue, IsFew, no_members, placed, counted, after_fact, after_check, dropped_entries, dropped_senders, members_in, senders_in};
 ghost use Rattle.rtcp_wire.specs.Views.{block_value};
@@ -58,9 +58,10 @@ pub trait MemberTable {
         requires few { capacity ≤ 1024 }
         ensures { content result ≡ no_members capacity rate };
 
-    /// A fact came at the moment `t`, in microseconds (RFC 3550, 6.2.1, 6.3.3, 6.3.7). A source takes fewer than 2^40 packets.
+    /// A fact came at the moment `t`, in microseconds (RFC 3550, 6.2.1, 6.3.3, 6.3.7). A source takes fewer than 2^40 packets, so it was
+    /// given fewer where the fact is `Media`; any other fact may always come.
     fn apply(&mut self, fact: Fact, t: u64) -> Applied
-        requires { IfSome (map.get (content self.old).entries (subject fact)) IsFew }
+        requires { IsTrue (is_media fact) → IfSome (map.get (content self.old).entries (subject fact)) IsFew }
         ensures place { result.place ≡ placed (content self.old) fact }
         ensures counted { result.counted ≡ counted (content self.old) fact }
         ensures content { content self.new ≡ after_fact fact t (content self.old) };

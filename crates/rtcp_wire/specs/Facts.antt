@@ -23,6 +23,14 @@ is_gone (Named ssrc) = false
 is_gone (Gone ssrc) = true
 is_gone (Media ssrc seq timestamp) = false
 
+-- whether it is an RTP packet
+abbrev pub is_media : Fact → Bool
+is_media (Heard ssrc) = false
+is_media (Told ssrc ntp) = false
+is_media (Named ssrc) = false
+is_media (Gone ssrc) = false
+is_media (Media ssrc seq timestamp) = true
+
 -- ---- The facts of packets
 
 -- a CNAME, an item of type 1 (6.5.1), however long its text

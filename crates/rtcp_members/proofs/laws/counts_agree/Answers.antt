@@ -1,13 +1,14 @@
--- Whatever is counted in a table is counted by the names of its trace.
-use Rattle.rtcp_members.specs.Entries.{is_member, is_sender}
-use Rattle.rtcp_members.proofs.Following.{len_is_present, count_agrees}
+use Rattle.rtcp_members.proofs.LawLemmas.{counts_agree-entries, counts_agree-members, counts_agree-senders, counts_agree-counted}
 use Rattle.rtcp_members.proofs.laws.counts_agree.Goals as goal
 
 pub returns-clause-entries : goal.returns-clause-entries
-returns-clause-entries c = len_is_present
+returns-clause-entries c = counts_agree-entries
 
 pub returns-clause-members : goal.returns-clause-members
-returns-clause-members c = λ table trace stands. count_agrees table trace stands is_member
+returns-clause-members c = counts_agree-members
 
 pub returns-clause-senders : goal.returns-clause-senders
-returns-clause-senders c = λ table trace stands. count_agrees table trace stands is_sender
+returns-clause-senders c = counts_agree-senders
+
+pub returns-clause-counted : goal.returns-clause-counted
+returns-clause-counted c = counts_agree-counted

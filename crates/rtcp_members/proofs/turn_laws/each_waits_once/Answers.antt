@@ -1,5 +1,5 @@
-use Rattle.rtcp_members.proofs.Turns.{waits_once}
+use Rattle.rtcp_members.proofs.LawLemmas.{each_waits_once}
 use Rattle.rtcp_members.proofs.turn_laws.each_waits_once.Goals as goal
 
 pub returns : goal.returns
-returns c = waits_once
+returns c = each_waits_once

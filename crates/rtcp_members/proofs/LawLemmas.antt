@@ -1,0 +1,200 @@
+-- The laws of this crate as lemmas, for the proofs of the crates above: each has the name of its law, and of the clause where the law has
+-- several. Nothing here names a representation.
+use Rattle.std.proofs.Common.{◌≡◌, ◌==◌, ◌<◌, ◌≤◌, ◌+◌, ◌^◌, ◌↔◌, ◌∙◌, ap, rules, if◌then◌else◌, true, false, All, IfSome, IsTrue, ℕ, List, [], ◌∷◌, Option, Some, map, count_by}
+use Rattle.std.specs.FinMap as finite
+use Rattle.rtcp_wire.specs.declared.fact.Fact.{Fact}
+use Rattle.rtcp_wire.specs.Facts.{subject, is_gone, is_media}
+use Rattle.rtcp_members.specs.Traces.{Horizons, TraceStep, fact_came, check_made, block_taken, names, with_facts}
+use Rattle.rtcp_members.specs.Stays.{present_among, stay_of, IsStay}
+use Rattle.rtcp_members.specs.Entries.{counted_at, members_at, senders_at, sending_of, is_such, is_member, is_sender, entry_at, IsSendingSince, IsSenderAt}
+use Rattle.rtcp_members.specs.Waiting.{EntryRow, first_ssrc, is_due, is_due_at, waiting, block_at, block_of_row, after_block, after_blocks}
+use Rattle.rtcp_members.specs.News.{has_news_at, pending_at, waiting_at}
+use Rattle.rtcp_members.specs.Tables.{TableValue, StandsAt, KeepsBounds, table_at, HasFew, IsFew, no_members, counted, after_fact, after_facts, entry_after_check, after_check, members_in, senders_in}
+use Rattle.rtcp_members.proofs.Agreeing.{counted_agrees}
+use Rattle.rtcp_members.proofs.Blocking.{block_follows, capacity_behind, capacity_after_blocks, few_block}
+use Rattle.rtcp_members.proofs.Capacity.{fact_keeps_bounds, facts_keep_bounds, check_keeps_bounds, block_keeps_bounds, blocks_keep_bounds, none_within, fact_keeps_capacity, facts_keep_capacity, check_keeps_capacity, len_updated}
+use Rattle.rtcp_members.proofs.Following.{none_stands, fact_follows, facts_follow, check_follows, len_is_present, count_agrees}
+use Rattle.rtcp_members.proofs.Growing.{members_stay, senders_are_members, members_are_entries, check_adds_no_sender}
+use Rattle.rtcp_members.proofs.NewsOfTraces.{due_at_trace, waiting_is_traced, pending_have_rows}
+use Rattle.rtcp_members.proofs.NextDue.{next_is_due}
+use Rattle.rtcp_members.proofs.Packets.{few_none, few_fact, few_facts, few_check, few_of_more, may_apply}
+use Rattle.rtcp_members.proofs.SenderLaws.{kept_is_newest, newest_is_kept, sender_sends, who_sends_is_sender}
+use Rattle.rtcp_members.proofs.StayLaws.{stay_is_prefix, prefix_is_stay}
+use Rattle.rtcp_members.proofs.TraceTables.{table_stands, only_table}
+use Rattle.rtcp_members.proofs.Turns.{first_is_there, due_row, block_of_first, others_wait, waits_once}
+
+-- ---- Tables and traces
+
+pub tables_follow_traces-none : (capacity rate : ℕ) → StandsAt (no_members capacity rate) []
+tables_follow_traces-none = none_stands
+
+pub tables_follow_traces-fact : (table : TableValue) (trace : List TraceStep) (fact : Fact) (moment : ℕ) → StandsAt table trace →
+    StandsAt (after_fact fact moment table) (fact_came fact moment ∷ trace)
+tables_follow_traces-fact = fact_follows
+
+pub tables_follow_traces-facts : (table : TableValue) (trace : List TraceStep) (facts : List Fact) (moment : ℕ) → StandsAt table trace →
+    StandsAt (after_facts facts moment table) (with_facts facts moment trace)
+tables_follow_traces-facts = λ table trace facts moment. facts_follow facts table trace moment
+
+pub tables_follow_traces-check : (table : TableValue) (trace : List TraceStep) (horizons : Horizons) → StandsAt table trace →
+    StandsAt (after_check horizons table) (check_made horizons ∷ trace)
+tables_follow_traces-check = check_follows
+
+pub tables_follow_traces-block : (table : TableValue) (trace : List TraceStep) (ssrc : ℕ) → IsTrue (is_due_at ssrc table) → StandsAt table trace →
+    StandsAt (after_block ssrc table) (block_taken ssrc ∷ trace)
+tables_follow_traces-block = block_follows
+
+pub trace_has_one_table-stands : (capacity rate : ℕ) (trace : List TraceStep) → StandsAt (table_at capacity rate trace) trace
+trace_has_one_table-stands = table_stands
+
+pub trace_has_one_table-only : (table : TableValue) (trace : List TraceStep) → StandsAt table trace →
+    table ≡ table_at table.capacity table.rate trace
+trace_has_one_table-only = only_table
+
+pub counts_agree-entries : (table : TableValue) (trace : List TraceStep) → StandsAt table trace →
+    finite.len table.entries ≡ present_among (names trace) (stay_of table.capacity trace)
+counts_agree-entries = len_is_present
+
+pub counts_agree-members : (table : TableValue) (trace : List TraceStep) → StandsAt table trace →
+    members_in table ≡ members_at table.capacity table.rate trace
+counts_agree-members = λ table trace stands. count_agrees table trace stands is_member
+
+pub counts_agree-senders : (table : TableValue) (trace : List TraceStep) → StandsAt table trace →
+    senders_in table ≡ senders_at table.capacity table.rate trace
+counts_agree-senders = λ table trace stands. count_agrees table trace stands is_sender
+
+pub counts_agree-counted : (table : TableValue) (trace : List TraceStep) (fact : Fact) → StandsAt table trace →
+    counted table fact ≡ counted_at table.capacity table.rate trace fact
+counts_agree-counted = counted_agrees
+
+pub bounds_are_kept-fact : (table : TableValue) (fact : Fact) (moment : ℕ) → KeepsBounds table (after_fact fact moment table)
+bounds_are_kept-fact = fact_keeps_bounds
+
+pub bounds_are_kept-facts : (table : TableValue) (facts : List Fact) (moment : ℕ) → KeepsBounds table (after_facts facts moment table)
+bounds_are_kept-facts = λ table facts moment. facts_keep_bounds facts table moment
+
+pub bounds_are_kept-check : (table : TableValue) (horizons : Horizons) → KeepsBounds table (after_check horizons table)
+bounds_are_kept-check = check_keeps_bounds
+
+pub bounds_are_kept-block : (table : TableValue) (ssrc : ℕ) → KeepsBounds table (after_block ssrc table)
+bounds_are_kept-block = block_keeps_bounds
+
+pub bounds_are_kept-blocks : (table : TableValue) (rows : List EntryRow) → KeepsBounds table (after_blocks rows table)
+bounds_are_kept-blocks = λ table rows. blocks_keep_bounds rows table
+
+pub capacity_is_kept-none : (capacity rate : ℕ) → finite.len (no_members capacity rate).entries ≤ capacity
+capacity_is_kept-none = none_within
+
+pub capacity_is_kept-fact : (table : TableValue) (fact : Fact) (moment : ℕ) → finite.len table.entries ≤ table.capacity →
+    finite.len (after_fact fact moment table).entries ≤ table.capacity
+capacity_is_kept-fact = fact_keeps_capacity
+
+pub capacity_is_kept-facts : (table : TableValue) (facts : List Fact) (moment : ℕ) → finite.len table.entries ≤ table.capacity →
+    finite.len (after_facts facts moment table).entries ≤ table.capacity
+capacity_is_kept-facts = λ table facts moment. facts_keep_capacity facts table moment
+
+pub capacity_is_kept-check : (table : TableValue) (horizons : Horizons) → finite.len table.entries ≤ table.capacity →
+    finite.len (after_check horizons table).entries ≤ table.capacity
+capacity_is_kept-check = check_keeps_capacity
+
+pub capacity_is_kept-block : (table : TableValue) (ssrc : ℕ) → finite.len table.entries ≤ table.capacity →
+    finite.len (after_block ssrc table).entries ≤ table.capacity
+capacity_is_kept-block = capacity_behind
+
+pub capacity_is_kept-blocks : (table : TableValue) (rows : List EntryRow) → finite.len table.entries ≤ table.capacity →
+    finite.len (after_blocks rows table).entries ≤ table.capacity
+capacity_is_kept-blocks = λ table rows. capacity_after_blocks rows table
+
+pub counts_are_ordered-senders : (table : TableValue) → senders_in table ≤ members_in table
+counts_are_ordered-senders = senders_are_members
+
+pub counts_are_ordered-members : (table : TableValue) → members_in table ≤ finite.len table.entries
+counts_are_ordered-members = members_are_entries
+
+pub counts_are_ordered-check_entries : (table : TableValue) (horizons : Horizons) →
+    finite.len (after_check horizons table).entries ≤ finite.len table.entries
+counts_are_ordered-check_entries = λ table horizons. len_updated (entry_after_check horizons) table.entries
+
+pub counts_are_ordered-check_senders : (table : TableValue) (horizons : Horizons) → senders_in (after_check horizons table) ≤ senders_in table
+counts_are_ordered-check_senders = check_adds_no_sender
+
+pub facts_keep_members : (capacity rate : ℕ) (trace : List TraceStep) (fact : Fact) (moment : ℕ) → is_gone fact ≡ false →
+    members_at capacity rate trace ≤ members_at capacity rate (fact_came fact moment ∷ trace)
+facts_keep_members = members_stay
+
+pub packets_are_few-none : (capacity rate : ℕ) → HasFew 0 (no_members capacity rate)
+packets_are_few-none = few_none
+
+pub packets_are_few-fact : (packets : ℕ) (table : TableValue) (fact : Fact) (moment : ℕ) → HasFew packets table →
+    HasFew (if is_media fact then packets + 1 else packets) (after_fact fact moment table)
+packets_are_few-fact = few_fact
+
+pub packets_are_few-facts : (packets : ℕ) (table : TableValue) (facts : List Fact) (moment : ℕ) → All (λ fact. is_media fact ≡ false) facts →
+    HasFew packets table → HasFew packets (after_facts facts moment table)
+packets_are_few-facts = λ packets table facts moment. few_facts packets facts table moment
+
+pub packets_are_few-check : (packets : ℕ) (table : TableValue) (horizons : Horizons) → HasFew packets table →
+    HasFew packets (after_check horizons table)
+packets_are_few-check = few_check
+
+pub packets_are_few-block : (packets : ℕ) (table : TableValue) (ssrc : ℕ) → HasFew packets table → HasFew packets (after_block ssrc table)
+packets_are_few-block = few_block
+
+pub packets_are_few-more : (packets more : ℕ) (table : TableValue) → packets ≤ more → HasFew packets table → HasFew more table
+packets_are_few-more = few_of_more
+
+pub packets_are_few-apply : (packets : ℕ) (table : TableValue) (fact : Fact) → packets < 2 ^ 40 → HasFew packets table →
+    IfSome (finite.get table.entries (subject fact)) IsFew
+packets_are_few-apply = may_apply
+
+-- ---- Stays and senders
+
+pub stays_are_prefixes : (capacity : ℕ) (trace : List TraceStep) (ssrc : ℕ) (stay : List TraceStep) →
+    (stay_of capacity trace ssrc ≡ Some stay) ↔ IsStay capacity trace ssrc stay
+stays_are_prefixes = λ capacity trace ssrc stay. (stay_is_prefix capacity trace ssrc stay, prefix_is_stay capacity trace ssrc stay)
+
+pub senders_sent_lately-sending : (rate ssrc : ℕ) (own : List TraceStep) (moment : ℕ) →
+    (sending_of rate ssrc own ≡ Some moment) ↔ IsSendingSince rate ssrc own moment
+senders_sent_lately-sending = λ rate ssrc own moment. (kept_is_newest rate ssrc own moment, newest_is_kept rate ssrc own moment)
+
+pub senders_sent_lately-sender : (capacity rate : ℕ) (trace : List TraceStep) (ssrc : ℕ) →
+    (is_such is_sender (entry_at capacity rate trace ssrc) ≡ true) ↔ IsSenderAt capacity rate trace ssrc
+senders_sent_lately-sender = λ capacity rate trace ssrc. (sender_sends capacity rate trace ssrc, who_sends_is_sender capacity rate trace ssrc)
+
+-- ---- Turns
+
+pub first_is_due-there : (last : Option ℕ) (table : TableValue) (row : EntryRow) (rest : List EntryRow) → waiting last table ≡ row ∷ rest →
+    finite.get table.entries row.0 ≡ Some row.1
+first_is_due-there = first_is_there
+
+pub first_is_due-due : (last : Option ℕ) (table : TableValue) (row : EntryRow) (rest : List EntryRow) → waiting last table ≡ row ∷ rest →
+    IsTrue (is_due_at row.0 table)
+first_is_due-due = λ last table row rest is. search (rules, due_row last table row rest is)
+
+pub first_is_due-block : (t : ℕ) (last : Option ℕ) (table : TableValue) (row : EntryRow) (rest : List EntryRow) →
+    waiting last table ≡ row ∷ rest → block_at row.0 t table ≡ block_of_row t row
+first_is_due-block = block_of_first
+
+pub first_is_due-answered : (last : Option ℕ) (table : TableValue) (ssrc : ℕ) → Some ssrc ≡ first_ssrc (waiting last table) →
+    IsTrue (is_due_at ssrc table)
+first_is_due-answered = next_is_due
+
+pub others_wait_on : (last : Option ℕ) (table : TableValue) (row : EntryRow) (rest : List EntryRow) → waiting last table ≡ row ∷ rest →
+    waiting (Some row.0) (after_block row.0 table) ≡ rest
+others_wait_on = others_wait
+
+pub each_waits_once : (last : Option ℕ) (table : TableValue) (ssrc : ℕ) →
+    count_by (λ (row : EntryRow). row.0 == ssrc) (waiting last table) ≡ (if is_due_at ssrc table then 1 else 0)
+each_waits_once = waits_once
+
+pub turns_follow_traces-sources : (last : Option ℕ) (table : TableValue) (trace : List TraceStep) → StandsAt table trace →
+    map (λ (row : EntryRow). row.0) (waiting last table) ≡ pending_at last table.capacity table.rate trace
+turns_follow_traces-sources = λ last table trace stands. ap (map (λ (row : EntryRow). row.0)) (waiting_is_traced last table trace stands) ∙ pending_have_rows last table.capacity table.rate trace
+
+pub turns_follow_traces-rows : (last : Option ℕ) (table : TableValue) (trace : List TraceStep) → StandsAt table trace →
+    waiting last table ≡ waiting_at last table.capacity table.rate trace
+turns_follow_traces-rows = waiting_is_traced
+
+pub turns_follow_traces-due : (capacity rate : ℕ) (trace : List TraceStep) (ssrc : ℕ) →
+    is_such is_due (entry_at capacity rate trace ssrc) ≡ has_news_at capacity rate trace ssrc
+turns_follow_traces-due = due_at_trace

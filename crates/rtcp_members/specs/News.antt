@@ -1,0 +1,39 @@
+-- Which sources have news, by the trace of a session, and in which turn they are reported (RFC 3550, 6.4).
+use Rattle.std.specs.Prelude.{ℕ, ◌&&◌, Bool, true, false, not, nat_lt, List, [], ◌∷◌, ◌++◌, filter, filter_map, if◌then◌else◌, Option, Some, None, is_none}
+use Rattle.rtcp_source.specs.Packets.{has_news_since}
+use Rattle.rtcp_members.specs.Traces.{TraceStep, names}
+use Rattle.rtcp_members.specs.Stays.{mark_of, stay_of}
+use Rattle.rtcp_members.specs.Entries.{given_of}
+use Rattle.rtcp_members.specs.Tables.{row_at}
+use Rattle.rtcp_members.specs.Waiting.{EntryRow, is_after}
+
+-- Whether a source has news, by its stay: there is one, without a mark, that holds a counted packet after the source's last block.
+abbrev pub has_news_in : (rate ssrc : ℕ) → Option (List TraceStep) → Bool
+has_news_in rate ssrc None = false
+has_news_in rate ssrc (Some stay) = is_none (mark_of ssrc stay) && has_news_since (given_of rate ssrc stay)
+
+abbrev pub has_news_at : (capacity rate : ℕ) → List TraceStep → (ssrc : ℕ) → Bool
+has_news_at capacity rate trace ssrc = has_news_in rate ssrc (stay_of capacity trace ssrc)
+
+-- ---- By rising SSRC, in turn
+
+-- a number in its place among rising ones
+abbrev pub put_rising : ℕ → List ℕ → List ℕ
+put_rising x [] = x ∷ []
+put_rising x (y ∷ ys) = if nat_lt x y then x ∷ y ∷ ys else y ∷ put_rising x ys
+
+abbrev pub rising : List ℕ → List ℕ
+rising [] = []
+rising (x ∷ xs) = put_rising x (rising xs)
+
+-- SSRCs in cyclic turn: those above the last one reported, and then the others
+abbrev pub ssrcs_in_turn : (last : Option ℕ) → List ℕ → List ℕ
+ssrcs_in_turn last ssrcs = filter (is_after last) ssrcs ++ filter (λ ssrc. not (is_after last ssrc)) ssrcs
+
+-- The sources with news, in the turn in which they are reported after the last one that was, if there was one.
+abbrev pub pending_at : (last : Option ℕ) (capacity rate : ℕ) → List TraceStep → List ℕ
+pending_at last capacity rate trace = ssrcs_in_turn last (filter (has_news_at capacity rate trace) (rising (names trace)))
+
+-- The same sources, each with what the trace says of it.
+abbrev pub waiting_at : (last : Option ℕ) (capacity rate : ℕ) → List TraceStep → List EntryRow
+waiting_at last capacity rate trace = filter_map (row_at capacity rate trace) (pending_at last capacity rate trace)
