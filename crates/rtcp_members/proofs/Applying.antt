@@ -11,7 +11,7 @@ use Rattle.rtcp_members.specs.declared.table.Place.{Place}
 use Rattle.rtcp_members.specs.declared.table.Place.TheVariants.{Kept, Ignored, Left}
 use Rattle.rtcp_wire.specs.Facts.{subject, is_gone}
 use Rattle.rtcp_members.specs.Entries.{EntryValue}
-use Rattle.rtcp_members.specs.Tables.{EntryMap, TableValue, IsApart, new_entry, entry_after, entry_behind, place_of, changes, placed, counted, counted_of, after_fact, has_room}
+use Rattle.rtcp_members.specs.Tables.{EntryMap, TableValue, IsApart, new_entry, entry_after, entry_with_fact, place_of, changes, placed, counted, counted_of, after_fact, has_room}
 use Rattle.rtcp_members.specs.ListViews.{entry_value, rows_of, map_of, table_of, IsPlaceOf}
 use Rattle.rtcp_members.proofs.Listing.{map_set, apart_set, tied_key}
 
@@ -31,10 +31,10 @@ insert_same entries key value found =
 abbrev table_with : (capacity rate : ℕ) → EntryMap → TableValue
 table_with capacity rate entries = record { capacity = capacity; rate = rate; entries = entries }
 
-put_behind : (capacity rate : ℕ) (fact : Fact) (t : ℕ) (entries : EntryMap) (value : EntryValue) (room : Bool) → finite.get entries (subject fact) ≡ Some value
-    → table_with capacity rate (finite.insert entries (subject fact) (entry_behind rate fact t value))
+put_after : (capacity rate : ℕ) (fact : Fact) (t : ℕ) (entries : EntryMap) (value : EntryValue) (room : Bool) → finite.get entries (subject fact) ≡ Some value
+    → table_with capacity rate (finite.insert entries (subject fact) (entry_with_fact rate fact t value))
     ≡ (if changes (place_of fact (Some value) room) then table_with capacity rate (finite.insert entries (subject fact) (entry_after rate fact t value)) else table_with capacity rate entries)
-put_behind capacity rate fact t entries value room found =
+put_after capacity rate fact t entries value room found =
     elim (is_some value.mark) as (λ marked. table_with capacity rate (finite.insert entries (subject fact) (if marked then value else entry_after rate fact t value))
     ≡ (if changes (if marked then Ignored else (if is_gone fact then Left else Kept)) then table_with capacity rate (finite.insert entries (subject fact) (entry_after rate fact t value)) else table_with capacity rate entries)) [
       | true ↦ ap (table_with capacity rate) (insert_same entries (subject fact) value found)
@@ -42,22 +42,22 @@ put_behind capacity rate fact t entries value room found =
           ≡ (if changes (if gone then Left else Kept) then table_with capacity rate (finite.insert entries (subject fact) (entry_after rate fact t value)) else table_with capacity rate entries)) [ true ↦ refl | false ↦ refl ]
     ]
 
-found_behind : (capacity rate : ℕ) (fact : Fact) (t : ℕ) (entries : EntryMap) (value : EntryValue) → finite.get entries (subject fact) ≡ Some value
-    → table_with capacity rate (finite.insert entries (subject fact) (entry_behind rate fact t value)) ≡ after_fact fact t (table_with capacity rate entries)
-found_behind capacity rate fact t entries value found =
+found_after : (capacity rate : ℕ) (fact : Fact) (t : ℕ) (entries : EntryMap) (value : EntryValue) → finite.get entries (subject fact) ≡ Some value
+    → table_with capacity rate (finite.insert entries (subject fact) (entry_with_fact rate fact t value)) ≡ after_fact fact t (table_with capacity rate entries)
+found_after capacity rate fact t entries value found =
     let table : TableValue = table_with capacity rate entries in
-    put_behind capacity rate fact t entries value (has_room table) found
+    put_after capacity rate fact t entries value (has_room table) found
     ∙ ap (λ o. if changes (place_of fact o (has_room table)) then table_with capacity rate (finite.insert entries (subject fact) (entry_after rate fact t (unwrap_or o new_entry))) else table_with capacity rate entries) (sym found)
 
 pub table_applied : (entries : List Entry) (at : ℕ) (fact : Fact) (t rate : ℕ) (d next : Entry) → IsApart (rows_of entries) → IsPlaceOf (subject fact) entries at
-    → next.ssrc ≡ (slice_index_or entries at d).ssrc → entry_value next ≡ entry_behind rate fact t (entry_value (slice_index_or entries at d))
+    → next.ssrc ≡ (slice_index_or entries at d).ssrc → entry_value next ≡ entry_with_fact rate fact t (entry_value (slice_index_or entries at d))
     → (capacity : ℕ) → table_of capacity rate (set entries at next) ≡ after_fact fact t (table_of capacity rate entries)
 table_applied entries at fact t rate d next apart place same value capacity =
     let there = read_there (subject fact) entries at d place in
     let its_ssrc : next.ssrc ≡ place.entry.ssrc = same ∙ ap (λ (y : Entry). y.ssrc) there in
     ap (table_with capacity rate) (map_set entries at place.entry next apart place.stands its_ssrc
-    ∙ (λ i. finite.insert (map_of entries) (place.its_ssrc i) ((value ∙ ap (λ (y : Entry). entry_behind rate fact t (entry_value y)) there) i)))
-    ∙ found_behind capacity rate fact t (map_of entries) (entry_value place.entry) place.found
+    ∙ (λ i. finite.insert (map_of entries) (place.its_ssrc i) ((value ∙ ap (λ (y : Entry). entry_with_fact rate fact t (entry_value y)) there) i)))
+    ∙ found_after capacity rate fact t (map_of entries) (entry_value place.entry) place.found
 
 pub apart_applied : (ssrc : ℕ) (entries : List Entry) (at : ℕ) (d next : Entry) → IsApart (rows_of entries) → IsPlaceOf ssrc entries at → next.ssrc ≡ (slice_index_or entries at d).ssrc → IsApart (rows_of (set entries at next))
 apart_applied ssrc entries at d next apart place same =

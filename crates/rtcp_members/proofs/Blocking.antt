@@ -1,4 +1,4 @@
--- A table that stands at a trace, behind a block of a source.
+-- A table that stands at a trace, after a block of a source.
 use Rattle.std.proofs.Common.{◌≡◌, ◌≤◌, ◌+◌, ℕ, true, false, cond, if◌then◌else◌, ◌&&◌, ◌==◌, IsTrue, List, [], ◌∷◌, Option, Some, None, is_some, is_none, option_map, nat_cmp, arith, refl, sym, ap, subst, ◌∙◌}
 use Rattle.std.proofs.lemmas.Bool.{eqb-true, eqb-false, eq-eqb, ne_eqb}
 use Rattle.std.specs.Cmp.{nat_cmp_total, unsigned_tied}
@@ -14,7 +14,7 @@ use Rattle.rtcp_members.specs.Stays.{last_naming}
 use Rattle.rtcp_members.specs.Tables.{TableValue, StandsAt, HasFew}
 use Rattle.std.specs.Ordering.{eq_by_cmp}
 use Rattle.rtcp_members.proofs.Packets.{Few, few_at, has_few}
-use Rattle.rtcp_members.specs.Waiting.{is_due, is_due_at, EntryRow, reported_entry, with_reported, after_block, after_blocks}
+use Rattle.rtcp_members.specs.Pending.{is_due, is_due_at, EntryRow, reported_entry, with_reported, after_block, after_blocks}
 use Rattle.rtcp_members.proofs.Capacity.{block_keeps_bounds}
 use Rattle.rtcp_members.proofs.Staying.{entry_with, moved_entry, entry_unmarked, entry_marked, entry_moves}
 
@@ -37,26 +37,26 @@ own_block rate ssrc other stay own =
 other_block : (rate ssrc other : ℕ) (stay : List TraceStep) → (other == ssrc) ≡ false → moved_entry rate ssrc (block_taken other) stay ≡ entry_with rate ssrc stay None
 other_block rate ssrc other stay apart = rw apart refl
 
--- an entry behind a block of its source, if it has no mark
+-- an entry after a block of its source, if it has no mark
 abbrev reported_if : EntryValue → EntryValue
 reported_if entry = if is_some entry.mark then entry else reported_entry entry
 
 module _ (capacity rate ssrc other : ℕ) (trace : List TraceStep) where
-  abbrev behind_block : Option (List TraceStep) → Option EntryValue
-  behind_block stay = option_map (entry_of rate ssrc) (stay_with capacity (block_taken other) (names trace) (stay_of capacity trace) ssrc stay)
+  abbrev said_after_block : Option (List TraceStep) → Option EntryValue
+  said_after_block stay = option_map (entry_of rate ssrc) (stay_with capacity (block_taken other) (names trace) (stay_of capacity trace) ssrc stay)
 
-  own_stay : (other == ssrc) ≡ true → (stay : Option (List TraceStep)) → behind_block stay ≡ option_map reported_if (option_map (entry_of rate ssrc) stay)
+  own_stay : (other == ssrc) ≡ true → (stay : Option (List TraceStep)) → said_after_block stay ≡ option_map reported_if (option_map (entry_of rate ssrc) stay)
   own_stay own None = refl
   own_stay own (Some stay) =
-      elim (mark_of ssrc stay) as (λ m. mark_of ssrc stay ≡ m → behind_block (Some stay) ≡ Some (if is_some m then entry_of rate ssrc stay else reported_entry (entry_of rate ssrc stay))) [
+      elim (mark_of ssrc stay) as (λ m. mark_of ssrc stay ≡ m → said_after_block (Some stay) ≡ Some (if is_some m then entry_of rate ssrc stay else reported_entry (entry_of rate ssrc stay))) [
         | None ↦ λ unmarked. ap Some (entry_moves rate ssrc (block_taken other) stay unmarked ∙ own_block rate ssrc other stay own ∙ ap reported_entry (sym (entry_unmarked rate ssrc stay unmarked)))
         | Some mark ↦ λ marked. ap Some (entry_marked rate ssrc (block_taken other) stay mark marked)
       ] refl
 
-  other_stay : (other == ssrc) ≡ false → (stay : Option (List TraceStep)) → behind_block stay ≡ option_map (entry_of rate ssrc) stay
+  other_stay : (other == ssrc) ≡ false → (stay : Option (List TraceStep)) → said_after_block stay ≡ option_map (entry_of rate ssrc) stay
   other_stay apart None = refl
   other_stay apart (Some stay) =
-      elim (mark_of ssrc stay) as (λ m. mark_of ssrc stay ≡ m → behind_block (Some stay) ≡ Some (entry_of rate ssrc stay)) [
+      elim (mark_of ssrc stay) as (λ m. mark_of ssrc stay ≡ m → said_after_block (Some stay) ≡ Some (entry_of rate ssrc stay)) [
         | None ↦ λ unmarked. ap Some (entry_moves rate ssrc (block_taken other) stay unmarked ∙ other_block rate ssrc other stay apart ∙ sym (entry_unmarked rate ssrc stay unmarked))
         | Some mark ↦ λ marked. ap Some (entry_marked rate ssrc (block_taken other) stay mark marked)
       ] refl
@@ -94,7 +94,7 @@ module _ (table : TableValue) (trace : List TraceStep) (stands : StandsAt table 
         | false ↦ λ apart. at_other ssrc apart
       ] refl
 
--- Behind a block of a source that has news, a table stands at the trace with that block.
+-- After a block of a source that has news, a table stands at the trace with that block.
 pub block_follows : (table : TableValue) (trace : List TraceStep) (ssrc : ℕ) → IsTrue (is_due_at ssrc table) → StandsAt table trace → StandsAt (after_block ssrc table) (block_taken ssrc ∷ trace)
 block_follows table trace ssrc due stands =
     elim (map.get table.entries ssrc) as (λ o. map.get table.entries ssrc ≡ o → IsTrue (is_such is_due o) → StandsAt (with_reported ssrc table o) (block_taken ssrc ∷ trace)) [
@@ -109,15 +109,15 @@ len_same table ssrc None found = refl
 len_same table ssrc (Some entry) found =
     map.len-insert nat_cmp_total table.entries ssrc (reported_entry entry) ∙ ap (λ o. cond (is_some o) (map.len table.entries) (map.len table.entries + 1)) found
 
-pub capacity_behind : (table : TableValue) (ssrc : ℕ) → map.len table.entries ≤ table.capacity → map.len (after_block ssrc table).entries ≤ table.capacity
-capacity_behind table ssrc within = omega (arith, within, len_same table ssrc (map.get table.entries ssrc) refl)
+pub block_keeps_capacity : (table : TableValue) (ssrc : ℕ) → map.len table.entries ≤ table.capacity → map.len (after_block ssrc table).entries ≤ table.capacity
+block_keeps_capacity table ssrc within = omega (arith, within, len_same table ssrc (map.get table.entries ssrc) refl)
 
-pub capacity_after_blocks : (rows : List EntryRow) (table : TableValue) → map.len table.entries ≤ table.capacity → map.len (after_blocks rows table).entries ≤ table.capacity
-capacity_after_blocks [] table within = within
-capacity_after_blocks (row ∷ rows) table within =
+pub blocks_keep_capacity : (rows : List EntryRow) (table : TableValue) → map.len table.entries ≤ table.capacity → map.len (after_blocks rows table).entries ≤ table.capacity
+blocks_keep_capacity [] table within = within
+blocks_keep_capacity (row ∷ rows) table within =
     let same : (after_block row.0 table).capacity ≡ table.capacity = (block_keeps_bounds table row.0).capacity in
-    let first : map.len (after_block row.0 table).entries ≤ (after_block row.0 table).capacity = omega (arith, same, capacity_behind table row.0 within) in
-    omega (arith, same, capacity_after_blocks rows (after_block row.0 table) first)
+    let first : map.len (after_block row.0 table).entries ≤ (after_block row.0 table).capacity = omega (arith, same, block_keeps_capacity table row.0 within) in
+    omega (arith, same, blocks_keep_capacity rows (after_block row.0 table) first)
 
 few_reported : (packets : ℕ) (table : TableValue) (ssrc : ℕ) (entry : Option EntryValue) → map.get table.entries ssrc ≡ entry → HasFew packets table → HasFew packets (with_reported ssrc table entry)
 few_reported packets table ssrc None found few = few

@@ -1,4 +1,4 @@
--- How many entries a table has behind a step.
+-- How many entries a table has after a step.
 use Rattle.std.proofs.Common.{◌≡◌, ◌≤◌, ◌+◌, ℕ, suc, Bool, true, false, cond, if◌then◌else◌, nat_lt, List, [], ◌∷◌, length, Option, Some, None, is_some, option_map, filter_map, nat_cmp, arith, refl, ◌∙◌, le_trans, le_of_eq, le_refl, zero-le}
 use Rattle.std.proofs.lemmas.Bool.{ltb-true}
 use Rattle.std.specs.List.{cons_option}
@@ -9,7 +9,7 @@ use Rattle.rtcp_members.specs.declared.table.Place.TheVariants.{Added, NoRoom, I
 use Rattle.rtcp_wire.specs.Facts.{subject, is_gone}
 use Rattle.rtcp_members.specs.Traces.{Horizons}
 use Rattle.rtcp_members.specs.Entries.{EntryValue}
-use Rattle.rtcp_members.specs.Waiting.{EntryRow, with_reported, after_block, after_blocks}
+use Rattle.rtcp_members.specs.Pending.{EntryRow, with_reported, after_block, after_blocks}
 use Rattle.rtcp_members.specs.Tables.{EntryMap, TableValue, KeepsBounds, changes, placed, place_of, entry_after, entry_for, after_fact, after_facts, entry_after_check, after_check, updated_row, updated, no_members}
 
 -- ---- Capacity and rate
@@ -52,10 +52,10 @@ len_if true table next = refl
 len_if false table next = refl
 
 -- Where an entry is added there is room for it.
-len_behind : (fact : Fact) (entry : Option EntryValue) (len capacity : ℕ) → len ≤ capacity
+len_after : (fact : Fact) (entry : Option EntryValue) (len capacity : ℕ) → len ≤ capacity
     → cond (changes (place_of fact entry (nat_lt len capacity))) (cond (is_some entry) len (len + 1)) len ≤ capacity
-len_behind fact (Some entry) len capacity within = elim (changes (place_of fact (Some entry) (nat_lt len capacity))) as (λ b. cond b len len ≤ capacity) [ true ↦ within | false ↦ within ]
-len_behind fact None len capacity within =
+len_after fact (Some entry) len capacity within = elim (changes (place_of fact (Some entry) (nat_lt len capacity))) as (λ b. cond b len len ≤ capacity) [ true ↦ within | false ↦ within ]
+len_after fact None len capacity within =
     elim (is_gone fact) as (λ gone. cond (changes (if gone then Ignored else (if nat_lt len capacity then Added else NoRoom))) (len + 1) len ≤ capacity) [
       | true ↦ within
       | false ↦ elim (nat_lt len capacity) as (λ room. nat_lt len capacity ≡ room → cond (changes (if room then Added else NoRoom)) (len + 1) len ≤ capacity) [
@@ -66,7 +66,7 @@ len_behind fact None len capacity within =
 
 pub fact_keeps_capacity : (table : TableValue) (fact : Fact) (moment : ℕ) → map.len table.entries ≤ table.capacity → map.len (after_fact fact moment table).entries ≤ table.capacity
 fact_keeps_capacity table fact moment within =
-    rw (len_if (changes (placed table fact)) table, map.len-insert nat_cmp_total table.entries (subject fact)) (len_behind fact (map.get table.entries (subject fact)) (map.len table.entries) table.capacity within)
+    rw (len_if (changes (placed table fact)) table, map.len-insert nat_cmp_total table.entries (subject fact)) (len_after fact (map.get table.entries (subject fact)) (map.len table.entries) table.capacity within)
 
 pub facts_keep_capacity : (facts : List Fact) (table : TableValue) (moment : ℕ) → map.len table.entries ≤ table.capacity → map.len (after_facts facts moment table).entries ≤ table.capacity
 facts_keep_capacity [] table moment within = within

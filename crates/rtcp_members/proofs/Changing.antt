@@ -42,7 +42,7 @@ map_push entries e none =
 
 -- ---- A check
 
--- an entry that stays behind a check
+-- an entry that stays, after a check
 abbrev kept : Horizons → EntryValue → EntryValue
 kept horizons entry = if is_some entry.mark then entry else record entry { sending = still_sending horizons entry.sending }
 
@@ -83,7 +83,7 @@ apart_checked horizons entries apart = subst IsApart (sym (rows_checked horizons
 pub map_checked : (horizons : Horizons) (entries : List Entry) → IsApart (rows_of entries) → map_of (retain_mut (outlasts horizons) (lapsed horizons.idle) entries) ≡ updated (entry_after_check horizons) (map_of entries)
 map_checked horizons entries apart = ap finite.from_entries (rows_checked horizons entries) ∙ from_updated (entry_after_check horizons) (rows_of entries) apart
 
--- A closure that is the same after each call, and answers and changes by functions, leaves what they say.
+-- A closure that is the same after each call, and returns and changes by functions, leaves what they say.
 pub retained : {X F : Type 0} (R : F → X → Bool → F → X → Type 0) (test : X → Bool) (change : X → X) (f : F)
     → ((x : X) (b : Bool) (g : F) (y : X) → R f x b g y → (b ≡ test x) × (g ≡ f) × (y ≡ change x))
     → (xs ys : List X) → RetainsInTurn R f xs ys → ys ≡ retain_mut test change xs

@@ -101,8 +101,8 @@ passing_rows test keys once [] apart has_keys = sym (none_pass keys)
 passing_rows test keys once (row ∷ rows) apart has_keys =
     let rest = passing_rows test keys once rows apart.1 (keys_of_rest test row rows keys has_keys) in
     let before : ℕ → Bool = λ key. is_such test (map.find nat_cmp key rows) in
-    let behind : ℕ → Bool = λ key. is_such test (map.find nat_cmp key (row ∷ rows)) in
-    let more = one_more before behind row.0 (test row.1) (such_at test row rows) (ap (is_such test) apart.0) keys once (has_keys row.0 (first_is_found test row rows)) in
+    let later : ℕ → Bool = λ key. is_such test (map.find nat_cmp key (row ∷ rows)) in
+    let more = one_more before later row.0 (test row.1) (such_at test row rows) (ap (is_such test) apart.0) keys once (has_keys row.0 (first_is_found test row rows)) in
     first_and_rest (λ (r : ℕ × EntryValue). test r.1) row rows ∙ ap (λ n. one_or_none (test row.1) + n) rest ∙ sym more
 
 -- The same of a map.

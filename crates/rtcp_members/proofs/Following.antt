@@ -1,4 +1,4 @@
--- A table that stands at a trace: how much it holds, and what it is behind a step.
+-- A table that stands at a trace: how much it holds, and what it is after a step.
 use Rattle.std.proofs.Common.{◌≡◌, ℕ, Bool, true, false, cond, if◌then◌else◌, ◌==◌, nat_lt, List, [], ◌∷◌, Option, Some, None, is_some, option_map, option_and_then, nat_cmp, refl, sym, ap, subst, ◌∙◌}
 use Rattle.std.proofs.lemmas.Bool.{eqb-true, eqb-false, eq-eqb, ne_eqb}
 use Rattle.std.specs.Cmp.{nat_cmp_total, unsigned_tied}

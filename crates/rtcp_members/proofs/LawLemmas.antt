@@ -7,21 +7,21 @@ use Rattle.rtcp_wire.specs.Facts.{subject, is_gone, is_media}
 use Rattle.rtcp_members.specs.Traces.{Horizons, TraceStep, fact_came, check_made, block_taken, names, with_facts}
 use Rattle.rtcp_members.specs.Stays.{present_among, stay_of, IsStay}
 use Rattle.rtcp_members.specs.Entries.{counted_at, members_at, senders_at, sending_of, is_such, is_member, is_sender, entry_at, IsSendingSince, IsSenderAt}
-use Rattle.rtcp_members.specs.Waiting.{EntryRow, first_ssrc, is_due, is_due_at, waiting, block_at, block_of_row, after_block, after_blocks}
-use Rattle.rtcp_members.specs.News.{has_news_at, pending_at, waiting_at}
+use Rattle.rtcp_members.specs.Pending.{EntryRow, first_ssrc, is_due, is_due_at, pending, block_at, block_of_row, after_block, after_blocks}
+use Rattle.rtcp_members.specs.News.{has_news_at, pending_at, pending_rows_at}
 use Rattle.rtcp_members.specs.Tables.{TableValue, StandsAt, KeepsBounds, table_at, HasFew, IsFew, no_members, counted, after_fact, after_facts, entry_after_check, after_check, members_in, senders_in}
 use Rattle.rtcp_members.proofs.Agreeing.{counted_agrees}
-use Rattle.rtcp_members.proofs.Blocking.{block_follows, capacity_behind, capacity_after_blocks, few_block}
+use Rattle.rtcp_members.proofs.Blocking.{block_follows, block_keeps_capacity, blocks_keep_capacity, few_block}
 use Rattle.rtcp_members.proofs.Capacity.{fact_keeps_bounds, facts_keep_bounds, check_keeps_bounds, block_keeps_bounds, blocks_keep_bounds, none_within, fact_keeps_capacity, facts_keep_capacity, check_keeps_capacity, len_updated}
 use Rattle.rtcp_members.proofs.Following.{none_stands, fact_follows, facts_follow, check_follows, len_is_present, count_agrees}
 use Rattle.rtcp_members.proofs.Growing.{members_stay, senders_are_members, members_are_entries, check_adds_no_sender}
-use Rattle.rtcp_members.proofs.NewsOfTraces.{due_at_trace, waiting_is_traced, pending_have_rows}
+use Rattle.rtcp_members.proofs.NewsOfTraces.{due_at_trace, pending_is_traced, pending_have_rows}
 use Rattle.rtcp_members.proofs.NextDue.{next_is_due}
 use Rattle.rtcp_members.proofs.Packets.{few_none, few_fact, few_facts, few_check, few_of_more, may_apply}
 use Rattle.rtcp_members.proofs.SenderLaws.{kept_is_newest, newest_is_kept, sender_sends, who_sends_is_sender}
 use Rattle.rtcp_members.proofs.StayLaws.{stay_is_prefix, prefix_is_stay}
 use Rattle.rtcp_members.proofs.TraceTables.{table_stands, only_table}
-use Rattle.rtcp_members.proofs.Turns.{first_is_there, due_row, block_of_first, others_wait, waits_once}
+use Rattle.rtcp_members.proofs.Turns.{first_is_there, due_row, block_of_first, others_wait, is_pending_once}
 
 -- ---- Tables and traces
 
@@ -99,11 +99,11 @@ capacity_is_kept-check = check_keeps_capacity
 
 pub capacity_is_kept-block : (table : TableValue) (ssrc : ℕ) → finite.len table.entries ≤ table.capacity →
     finite.len (after_block ssrc table).entries ≤ table.capacity
-capacity_is_kept-block = capacity_behind
+capacity_is_kept-block = block_keeps_capacity
 
 pub capacity_is_kept-blocks : (table : TableValue) (rows : List EntryRow) → finite.len table.entries ≤ table.capacity →
     finite.len (after_blocks rows table).entries ≤ table.capacity
-capacity_is_kept-blocks = λ table rows. capacity_after_blocks rows table
+capacity_is_kept-blocks = λ table rows. blocks_keep_capacity rows table
 
 pub counts_are_ordered-senders : (table : TableValue) → senders_in table ≤ members_in table
 counts_are_ordered-senders = senders_are_members
@@ -163,37 +163,37 @@ senders_sent_lately-sender = λ capacity rate trace ssrc. (sender_sends capacity
 
 -- ---- Turns
 
-pub first_is_due-there : (last : Option ℕ) (table : TableValue) (row : EntryRow) (rest : List EntryRow) → waiting last table ≡ row ∷ rest →
+pub first_is_due-there : (last : Option ℕ) (table : TableValue) (row : EntryRow) (rest : List EntryRow) → pending last table ≡ row ∷ rest →
     finite.get table.entries row.0 ≡ Some row.1
 first_is_due-there = first_is_there
 
-pub first_is_due-due : (last : Option ℕ) (table : TableValue) (row : EntryRow) (rest : List EntryRow) → waiting last table ≡ row ∷ rest →
+pub first_is_due-due : (last : Option ℕ) (table : TableValue) (row : EntryRow) (rest : List EntryRow) → pending last table ≡ row ∷ rest →
     IsTrue (is_due_at row.0 table)
 first_is_due-due = λ last table row rest is. search (rules, due_row last table row rest is)
 
 pub first_is_due-block : (t : ℕ) (last : Option ℕ) (table : TableValue) (row : EntryRow) (rest : List EntryRow) →
-    waiting last table ≡ row ∷ rest → block_at row.0 t table ≡ block_of_row t row
+    pending last table ≡ row ∷ rest → block_at row.0 t table ≡ block_of_row t row
 first_is_due-block = block_of_first
 
-pub first_is_due-answered : (last : Option ℕ) (table : TableValue) (ssrc : ℕ) → Some ssrc ≡ first_ssrc (waiting last table) →
+pub first_is_due-answered : (last : Option ℕ) (table : TableValue) (ssrc : ℕ) → Some ssrc ≡ first_ssrc (pending last table) →
     IsTrue (is_due_at ssrc table)
 first_is_due-answered = next_is_due
 
-pub others_wait_on : (last : Option ℕ) (table : TableValue) (row : EntryRow) (rest : List EntryRow) → waiting last table ≡ row ∷ rest →
-    waiting (Some row.0) (after_block row.0 table) ≡ rest
-others_wait_on = others_wait
+pub others_stay_pending : (last : Option ℕ) (table : TableValue) (row : EntryRow) (rest : List EntryRow) → pending last table ≡ row ∷ rest →
+    pending (Some row.0) (after_block row.0 table) ≡ rest
+others_stay_pending = others_wait
 
-pub each_waits_once : (last : Option ℕ) (table : TableValue) (ssrc : ℕ) →
-    count_by (λ (row : EntryRow). row.0 == ssrc) (waiting last table) ≡ (if is_due_at ssrc table then 1 else 0)
-each_waits_once = waits_once
+pub each_is_pending_once : (last : Option ℕ) (table : TableValue) (ssrc : ℕ) →
+    count_by (λ (row : EntryRow). row.0 == ssrc) (pending last table) ≡ (if is_due_at ssrc table then 1 else 0)
+each_is_pending_once = is_pending_once
 
 pub turns_follow_traces-sources : (last : Option ℕ) (table : TableValue) (trace : List TraceStep) → StandsAt table trace →
-    map (λ (row : EntryRow). row.0) (waiting last table) ≡ pending_at last table.capacity table.rate trace
-turns_follow_traces-sources = λ last table trace stands. ap (map (λ (row : EntryRow). row.0)) (waiting_is_traced last table trace stands) ∙ pending_have_rows last table.capacity table.rate trace
+    map (λ (row : EntryRow). row.0) (pending last table) ≡ pending_at last table.capacity table.rate trace
+turns_follow_traces-sources = λ last table trace stands. ap (map (λ (row : EntryRow). row.0)) (pending_is_traced last table trace stands) ∙ pending_have_rows last table.capacity table.rate trace
 
 pub turns_follow_traces-rows : (last : Option ℕ) (table : TableValue) (trace : List TraceStep) → StandsAt table trace →
-    waiting last table ≡ waiting_at last table.capacity table.rate trace
-turns_follow_traces-rows = waiting_is_traced
+    pending last table ≡ pending_rows_at last table.capacity table.rate trace
+turns_follow_traces-rows = pending_is_traced
 
 pub turns_follow_traces-due : (capacity rate : ℕ) (trace : List TraceStep) (ssrc : ℕ) →
     is_such is_due (entry_at capacity rate trace ssrc) ≡ has_news_at capacity rate trace ssrc

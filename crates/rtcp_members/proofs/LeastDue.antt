@@ -1,4 +1,4 @@
--- The first of the rows that wait is the least of those that a walk finds.
+-- The first of the pending rows is the least of those that a walk finds.
 use Rattle.std.proofs.Common.{◌≡◌, ◌<◌, ℕ, suc, Bool, true, false, cond, not, ◌&&◌, T, List, [], ◌∷◌, ◌++◌, filter, length, drop, slice_index_or, if◌then◌else◌, Option, Some, None, is_some, nat_cmp, is_lt, is_eq, Less, Equal, Greater, arith, refl, sym, ap, subst, ◌∙◌}
 use Rattle.std.specs.Cmp.{nat_cmp_total, nat_cmp_is, ranked}
 use Rattle.std.specs.FinMap as finite
@@ -8,7 +8,7 @@ use Rattle.rtcp_members.specs.declared.entry.Entry.{Entry}
 use Rattle.rtcp_members.specs.Tables.{TableValue, IsApart}
 use Rattle.rtcp_members.specs.ListViews.{row_of, rows_of, map_of, table_of}
 use Rattle.std.proofs.Math.Seq.{drop-cons}
-use Rattle.rtcp_members.specs.Waiting.{EntryRow, first_ssrc, is_above, is_due, in_turn, waiting}
+use Rattle.rtcp_members.specs.Pending.{EntryRow, first_ssrc, is_above, is_due, in_turn, pending}
 use Rattle.rtcp_members.specs.Least.{lesser_of, least, is_due_above}
 use Rattle.rtcp_members.proofs.Listing.{none_in_empty}
 
@@ -152,10 +152,10 @@ and_true : (b : Bool) → b ≡ (b && true)
 and_true true = refl
 and_true false = refl
 
--- What two walks of a list find is the first that waits in its table.
+-- What two walks of a list find is the first pending source of its table.
 pub first_waiting : (last : Option ℕ) (capacity rate : ℕ) (entries : List Entry) (above all : Option ℕ) → IsApart (rows_of entries)
     → above ≡ least (is_due_above last) (rows_of entries) → all ≡ least (is_due_above None) (rows_of entries)
-    → first_ssrc (waiting last (table_of capacity rate entries)) ≡ (if is_some above then above else all)
+    → first_ssrc (pending last (table_of capacity rate entries)) ≡ (if is_some above then above else all)
 first_waiting last capacity rate entries above all apart finds finds_all =
     let rows : List EntryRow = finite.entries (map_of entries) in
     let due : List EntryRow = filter (λ row. is_due row.1) rows in
@@ -167,9 +167,9 @@ first_waiting last capacity rate entries above all apart finds finds_all =
 
 pub first_waiting_in : (last : Option ℕ) (capacity rate : ℕ) (entries : List Entry) (table : TableValue) (above all : Option ℕ) → IsApart (rows_of entries) → table_of capacity rate entries ≡ table
     → above ≡ least (is_due_above last) (rows_of entries) → all ≡ least (is_due_above None) (rows_of entries)
-    → (if is_some above then above else all) ≡ first_ssrc (waiting last table)
+    → (if is_some above then above else all) ≡ first_ssrc (pending last table)
 first_waiting_in last capacity rate entries table above all apart is finds finds_all =
-    sym (first_waiting last capacity rate entries above all apart finds finds_all) ∙ ap (λ (t : TableValue). first_ssrc (waiting last t)) is
+    sym (first_waiting last capacity rate entries above all apart finds finds_all) ∙ ap (λ (t : TableValue). first_ssrc (pending last t)) is
 
 -- ---- The walk
 

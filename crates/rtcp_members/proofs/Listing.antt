@@ -98,7 +98,7 @@ found_at (x ∷ xs) (suc at) e is =
     elim (eq_by_cmp nat_cmp e.ssrc x.ssrc) as (λ b. is_some (cond b (Some (entry_value x)) (finite.find nat_cmp e.ssrc (rows_of xs))) ≡ true)
     [ true ↦ refl | false ↦ found_at xs at e is ]
 
--- which stands behind another one is of another source
+-- which stands after another one is of another source
 other_source : (x : Entry) (xs : List Entry) (at : ℕ) (e : Entry) → IsApart (rows_of (x ∷ xs)) → slice_get xs at ≡ Some e → x.ssrc ≡ e.ssrc → ⊥
 other_source x xs at e apart is same = absurd (not_both (ap (λ k. is_some (finite.find nat_cmp k (rows_of xs))) same ∙ found_at xs at e is) (ap is_some apart.0))
 

@@ -9,7 +9,7 @@ use Rattle.rtcp_members.specs.Stays.{mark_of, before_mark, last_naming, is_remov
 use Rattle.rtcp_members.specs.Entries.{EntryValue, entry_of, entry_at}
 use Rattle.rtcp_members.specs.Tables.{changes, place_of, new_entry, entry_after, entry_after_check}
 use Rattle.rtcp_members.proofs.Naming.{admitted, room_at}
-use Rattle.rtcp_members.proofs.Staying.{entry_unmarked, entry_marked, entry_moves, own_fact, other_fact, checked, check_behind}
+use Rattle.rtcp_members.proofs.Staying.{entry_unmarked, entry_marked, entry_moves, own_fact, other_fact, checked, check_moves_entry}
 
 -- what a fact leaves of the entry of its source, if it has one
 abbrev pub kept_by : (rate : ℕ) → Fact → (moment : ℕ) (room : Bool) → Option EntryValue → Option EntryValue
@@ -19,14 +19,14 @@ kept_by rate fact moment room entry =
 -- ---- Facts
 
 module _ (capacity rate ssrc moment : ℕ) (fact : Fact) (trace : List TraceStep) where
-  -- what the trace says of the source behind the fact, by its stay before it
-  abbrev behind_fact : Option (List TraceStep) → Option EntryValue
-  behind_fact stay = option_map (entry_of rate ssrc) (stay_with capacity (fact_came fact moment) (names trace) (stay_of capacity trace) ssrc stay)
+  -- what the trace says of the source after the fact, by its stay before it
+  abbrev said_after_fact : Option (List TraceStep) → Option EntryValue
+  said_after_fact stay = option_map (entry_of rate ssrc) (stay_with capacity (fact_came fact moment) (names trace) (stay_of capacity trace) ssrc stay)
 
   added : (subject fact == ssrc) ≡ true → entry_of rate ssrc (fact_came fact moment ∷ []) ≡ entry_after rate fact moment new_entry
   added own = own_fact rate ssrc moment fact [] own
 
-  own_none : (subject fact == ssrc) ≡ true → behind_fact None ≡ kept_by rate fact moment (room_at capacity trace) None
+  own_none : (subject fact == ssrc) ≡ true → said_after_fact None ≡ kept_by rate fact moment (room_at capacity trace) None
   own_none own =
       let entry = entry_after rate fact moment new_entry in
       ap (λ b. option_map (entry_of rate ssrc) (admitted (not (is_gone fact) && b) (room_at capacity trace) (fact_came fact moment))) own
@@ -44,17 +44,17 @@ module _ (capacity rate ssrc moment : ℕ) (fact : Fact) (trace : List TraceStep
       ∙ own_fact rate ssrc moment fact stay own
       ∙ ap (entry_after rate fact moment) (sym (entry_unmarked rate ssrc stay unmarked))
 
-  own_some : (subject fact == ssrc) ≡ true → (stay : List TraceStep) → behind_fact (Some stay) ≡ kept_by rate fact moment (room_at capacity trace) (Some (entry_of rate ssrc stay))
+  own_some : (subject fact == ssrc) ≡ true → (stay : List TraceStep) → said_after_fact (Some stay) ≡ kept_by rate fact moment (room_at capacity trace) (Some (entry_of rate ssrc stay))
   own_some own stay =
       let entry = entry_of rate ssrc stay in
       let next = entry_after rate fact moment entry in
-      elim (mark_of ssrc stay) as (λ m. mark_of ssrc stay ≡ m → behind_fact (Some stay) ≡ (if changes (if is_some m then Ignored else (if is_gone fact then Left else Kept)) then Some next else Some entry)) [
+      elim (mark_of ssrc stay) as (λ m. mark_of ssrc stay ≡ m → said_after_fact (Some stay) ≡ (if changes (if is_some m then Ignored else (if is_gone fact then Left else Kept)) then Some next else Some entry)) [
         | None ↦ λ unmarked. ap Some (moved own stay unmarked)
             ∙ elim (is_gone fact) as (λ gone. Some next ≡ (if changes (if gone then Left else Kept) then Some next else Some entry)) [ true ↦ refl | false ↦ refl ]
         | Some mark ↦ λ marked. ap Some (entry_marked rate ssrc (fact_came fact moment) stay mark marked)
       ] refl
 
-  own_moves : (subject fact == ssrc) ≡ true → (stay : Option (List TraceStep)) → behind_fact stay ≡ kept_by rate fact moment (room_at capacity trace) (option_map (entry_of rate ssrc) stay)
+  own_moves : (subject fact == ssrc) ≡ true → (stay : Option (List TraceStep)) → said_after_fact stay ≡ kept_by rate fact moment (room_at capacity trace) (option_map (entry_of rate ssrc) stay)
   own_moves own None = own_none own
   own_moves own (Some stay) = own_some own stay
 
@@ -67,7 +67,7 @@ module _ (capacity rate ssrc moment : ℕ) (fact : Fact) (trace : List TraceStep
         | Some mark ↦ λ marked. entry_marked rate ssrc (fact_came fact moment) stay mark marked
       ] refl
 
-  other_stays : (subject fact == ssrc) ≡ false → (stay : Option (List TraceStep)) → behind_fact stay ≡ option_map (entry_of rate ssrc) stay
+  other_stays : (subject fact == ssrc) ≡ false → (stay : Option (List TraceStep)) → said_after_fact stay ≡ option_map (entry_of rate ssrc) stay
   other_stays apart None = ap (λ b. option_map (entry_of rate ssrc) (admitted b (room_at capacity trace) (fact_came fact moment))) (and_right (not (is_gone fact)) _ apart)
   other_stays apart (Some stay) = ap Some (other_some apart stay)
 
@@ -89,7 +89,7 @@ module _ (capacity rate ssrc : ℕ) (horizons : Horizons) (trace : List TraceSte
       let next : EntryValue = (if is_some (mark_of ssrc stay) then entry_of rate ssrc stay else checked horizons (entry_of rate ssrc stay)) in
       elim (is_removed horizons (last_naming ssrc (before_mark ssrc stay)) (mark_of ssrc stay)) as (λ removed. option_map (entry_of rate ssrc) (if removed then None else Some (check_made horizons ∷ stay)) ≡ (if removed then None else Some next)) [
         | true ↦ refl
-        | false ↦ ap Some (check_behind rate ssrc horizons stay)
+        | false ↦ ap Some (check_moves_entry rate ssrc horizons stay)
       ]
 
   -- A check drops what is said of a source, or moves it.

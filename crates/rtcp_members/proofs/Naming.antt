@@ -68,13 +68,13 @@ module _ (capacity : ℕ) (step : TraceStep) (trace : List TraceStep) (ssrc : �
         | false ↦ λ _ found. absurd (true≢false (sym found))
       ] refl
 
-  named_behind : (stay : Option (List TraceStep)) → (is_some stay ≡ true → has ssrc (names trace) ≡ true)
+  named_after : (stay : Option (List TraceStep)) → (is_some stay ≡ true → has ssrc (names trace) ≡ true)
       → is_some (stay_with capacity step (names trace) (stay_of capacity trace) ssrc stay) ≡ true → has ssrc (names (step ∷ trace)) ≡ true
-  named_behind None known found = named_where_admitted found
-  named_behind (Some stay) known found = still_named step trace ssrc (known refl)
+  named_after None known found = named_where_admitted found
+  named_after (Some stay) known found = still_named step trace ssrc (known refl)
 
 -- Who is present was named.
 pub present_is_named : (capacity : ℕ) (trace : List TraceStep) (ssrc : ℕ) → is_some (stay_of capacity trace ssrc) ≡ true → has ssrc (names trace) ≡ true
 present_is_named capacity [] ssrc found = absurd (true≢false (sym found))
 present_is_named capacity (step ∷ trace) ssrc found =
-    named_behind capacity step trace ssrc (stay_of capacity trace ssrc) (present_is_named capacity trace ssrc) found
+    named_after capacity step trace ssrc (stay_of capacity trace ssrc) (present_is_named capacity trace ssrc) found

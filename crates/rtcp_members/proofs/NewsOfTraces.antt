@@ -1,4 +1,4 @@
--- The sources that wait at a table, as a list over the names of its trace.
+-- The pending sources of a table, as a list over the names of its trace.
 use Rattle.std.proofs.Common.{◌≡◌, ℕ, ◌<◌, Bool, true, false, T, cond, if◌then◌else◌, not, ◌||◌, ◌==◌, ◌&&◌, nat_lt, nat_cmp, is_lt, List, [], ◌∷◌, ◌++◌, filter, filter_map, map, Option, Some, None, is_some, is_none, option_map, arith, refl, sym, ap, subst, ◌∙◌}
 use Rattle.std.proofs.lemmas.Bool.{or_parts}
 use Rattle.std.proofs.lemmas.Bool.Decides.{nat_tests}
@@ -14,8 +14,8 @@ use Rattle.rtcp_members.specs.Traces.{TraceStep, names}
 use Rattle.rtcp_members.specs.Stays.{mark_of, before_mark, stay_of}
 use Rattle.rtcp_members.specs.Entries.{EntryValue, given_of, entry_of, entry_at, is_such}
 use Rattle.rtcp_members.specs.Tables.{EntryMap, TableValue, StandsAt}
-use Rattle.rtcp_members.specs.Waiting.{EntryRow, is_due, due_rows, is_after, waiting}
-use Rattle.rtcp_members.specs.News.{has_news_in, has_news_at, put_rising, rising, ssrcs_in_turn, pending_at, waiting_at}
+use Rattle.rtcp_members.specs.Pending.{EntryRow, is_due, due_rows, is_after, pending}
+use Rattle.rtcp_members.specs.News.{has_news_in, has_news_at, put_rising, rising, ssrcs_in_turn, pending_at, pending_rows_at}
 use Rattle.rtcp_members.proofs.Counting.{has, IsOnce}
 use Rattle.rtcp_members.proofs.Naming.{names_are_once, present_is_named}
 use Rattle.rtcp_members.proofs.Following.{is_some_mapped}
@@ -238,8 +238,8 @@ module _ (last : Option ℕ) (table : TableValue) (trace : List TraceStep) (stan
       ap (λ (t : List EntryRow). filter (λ (row : EntryRow). is_due row.1) t) (entries_in_order table trace stands)
       ∙ rows_passing entries is_due (has_news_at table.capacity table.rate trace) (due_at_trace table.capacity table.rate trace) (rising (names trace))
 
-  pub waiting_is_traced : waiting last table ≡ waiting_at last table.capacity table.rate trace
-  waiting_is_traced =
+  pub pending_is_traced : pending last table ≡ pending_rows_at last table.capacity table.rate trace
+  pending_is_traced =
       (λ i. filter (λ (row : EntryRow). is_after last row.0) (due_are_news i) ++ filter (λ (row : EntryRow). not (is_after last row.0)) (due_are_news i))
       ∙ (λ i. rows_of_ssrcs entries (is_after last) news i ++ rows_of_ssrcs entries (λ ssrc. not (is_after last ssrc)) news i)
       ∙ rows_joined entries (filter (is_after last) news) (filter (λ ssrc. not (is_after last ssrc)) news)
@@ -249,7 +249,7 @@ such_is_there test None h = absurd cc
 such_is_there test (Some e) h = refl
 
 -- Each source that is pending has an entry, so the rows are those of all of them.
-pub pending_have_rows : (last : Option ℕ) (capacity rate : ℕ) (trace : List TraceStep) → map (λ (row : EntryRow). row.0) (waiting_at last capacity rate trace) ≡ pending_at last capacity rate trace
+pub pending_have_rows : (last : Option ℕ) (capacity rate : ℕ) (trace : List TraceStep) → map (λ (row : EntryRow). row.0) (pending_rows_at last capacity rate trace) ≡ pending_at last capacity rate trace
 pending_have_rows last capacity rate trace =
     let entry : ℕ → Option EntryValue = entry_at capacity rate trace in
     let all = have_passing entry (has_news_at capacity rate trace) (λ ssrc news. such_is_there is_due (entry ssrc) (due_at_trace capacity rate trace ssrc ∙ news)) (rising (names trace)) in

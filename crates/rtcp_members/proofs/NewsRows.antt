@@ -3,7 +3,7 @@ use Rattle.std.proofs.Common.{◌≡◌, ℕ, true, false, List, [], ◌∷◌, 
 use Rattle.rtcp_wire.specs.declared.fact.Fact.TheVariants.{Heard, Named, Gone, Media}
 use Rattle.rtcp_members.specs.Traces.{horizons_at, TraceStep, fact_came, check_made, block_taken}
 use Rattle.rtcp_members.specs.Entries.{counted_at}
-use Rattle.rtcp_members.specs.News.{pending_at, waiting_at}
+use Rattle.rtcp_members.specs.News.{pending_at, pending_rows_at}
 
 abbrev pending : Option ℕ → List TraceStep → List ℕ
 pending last trace = pending_at last 3 8000 trace
@@ -44,7 +44,7 @@ no_packets = refl
 dropped : pending None (fact_came (Media 1 12 0) 9 ∷ check_made (horizons_at 1 0 0) ∷ three_senders) ≡ []
 dropped = refl
 
-in_rows : map (λ row. row.0) (waiting_at (Some 1) 3 8000 three_senders) ≡ 2 ∷ 3 ∷ 1 ∷ []
+in_rows : map (λ row. row.0) (pending_rows_at (Some 1) 3 8000 three_senders) ≡ 2 ∷ 3 ∷ 1 ∷ []
 in_rows = refl
 
 -- ---- Packets that are counted

@@ -6,7 +6,7 @@ use Rattle.rtcp_source.specs.Blocks.{block_for}
 use Rattle.rtcp_members.specs.declared.entry.Entry.{Entry}
 use Rattle.rtcp_members.specs.Entries.{EntryValue}
 use Rattle.rtcp_members.specs.Tables.{TableValue, IsApart}
-use Rattle.rtcp_members.specs.Waiting.{block_at, reported_entry, with_reported, after_block}
+use Rattle.rtcp_members.specs.Pending.{block_at, reported_entry, with_reported, after_block}
 use Rattle.rtcp_members.specs.ListViews.{entry_value, rows_of, map_of, table_of, IsPlaceOf}
 use Rattle.rtcp_members.proofs.Listing.{map_set}
 use Rattle.rtcp_members.proofs.Applying.{read_there}

@@ -1,4 +1,4 @@
--- What a stay says of its source, behind one step more.
+-- What a stay says of its source, after one step more.
 use Rattle.std.proofs.Common.{◌≡◌, ℕ, true, false, if◌then◌else◌, ◌||◌, ◌==◌, List, [], ◌∷◌, Option, Some, None, is_some, refl, sym, ap, ◌∙◌}
 use Rattle.rtcp_wire.specs.declared.fact.Fact.{Fact}
 use Rattle.rtcp_wire.specs.declared.fact.Fact.TheVariants.{Heard, Told, Named, Gone, Media}
@@ -88,15 +88,15 @@ other_fact rate ssrc moment (Media other seq timestamp) stay apart = rw apart re
 
 -- ---- Checks
 
--- an entry without a mark, behind a check that does not remove it
+-- an entry without a mark, after a check that does not remove it
 abbrev pub checked : Horizons → EntryValue → EntryValue
 checked horizons entry = record entry { sending = still_sending horizons entry.sending }
 
 -- A check that does not remove a source changes at most whether it sends, and nothing where it has a mark.
-pub check_behind : (rate ssrc : ℕ) (horizons : Horizons) (stay : List TraceStep)
+pub check_moves_entry : (rate ssrc : ℕ) (horizons : Horizons) (stay : List TraceStep)
     → let entry = entry_of rate ssrc stay in
     entry_of rate ssrc (check_made horizons ∷ stay) ≡ (if is_some (mark_of ssrc stay) then entry else checked horizons entry)
-check_behind rate ssrc horizons stay =
+check_moves_entry rate ssrc horizons stay =
     let entry = entry_of rate ssrc stay in
     elim (mark_of ssrc stay) as (λ m. mark_of ssrc stay ≡ m → entry_of rate ssrc (check_made horizons ∷ stay) ≡ (if is_some m then entry else checked horizons entry)) [
       | None ↦ λ unmarked. entry_moves rate ssrc (check_made horizons) stay unmarked ∙ ap (checked horizons) (sym (entry_unmarked rate ssrc stay unmarked))

@@ -1,4 +1,4 @@
--- How many entries of a list pass a test, and how many fewer behind a check.
+-- How many entries of a list pass a test, and how many fewer after a check.
 use Rattle.std.proofs.Common.{◌≡◌, ◌≤◌, ◌+◌, ◌-◌, ℕ, Bool, true, false, cond, not, ◌&&◌, List, [], ◌∷◌, length, filter, if◌then◌else◌, None, is_none, take, arith, refl, sym, ap, ◌∙◌}
 use Rattle.std.proofs.lemmas.List.{length-map, length-take-le}
 use Rattle.std.proofs.lemmas.List.Filters.{length-filter_both}
@@ -32,7 +32,7 @@ counted_in test capacity rate entries apart = passing_rows test (rows_of entries
 pub counted_at : (test : EntryValue → Bool) (capacity rate : ℕ) (entries : List Entry) (table : TableValue) (count : ℕ) → IsApart (rows_of entries) → table_of capacity rate entries ≡ table → count ≡ tally_of test entries → count ≡ count_in test table
 counted_at test capacity rate entries table count apart is counts = counts ∙ sym (counted_in test capacity rate entries apart) ∙ ap (count_in test) is
 
--- ---- Behind a check
+-- ---- After a check
 
 none_of : (b : Bool) → (b && false) ≡ false
 none_of true = refl
@@ -61,33 +61,33 @@ fewer horizons (e ∷ entries) =
     let rest : List Entry = retain_mut (outlasts horizons) (lapsed horizons.idle) entries in
     elim (outlasts horizons e) as (λ stays. length (cond stays (lapsed horizons.idle e ∷ rest) rest) ≤ length (e ∷ entries)) [ true ↦ omega (arith, fewer horizons entries) | false ↦ omega (arith, fewer horizons entries) ]
 
-pub fewer_behind : (horizons : Horizons) (entries next : List Entry) → next ≡ retain_mut (outlasts horizons) (lapsed horizons.idle) entries → length next ≤ length entries
-fewer_behind horizons entries next is = rw is (fewer horizons entries)
+pub fewer_checked : (horizons : Horizons) (entries next : List Entry) → next ≡ retain_mut (outlasts horizons) (lapsed horizons.idle) entries → length next ≤ length entries
+fewer_checked horizons entries next is = rw is (fewer horizons entries)
 
-pub fewer_senders_behind : (horizons : Horizons) (entries next : List Entry) → next ≡ retain_mut (outlasts horizons) (lapsed horizons.idle) entries → tally_of is_sender next ≤ tally_of is_sender entries
-fewer_senders_behind horizons entries next is = rw is (fewer_senders horizons entries)
+pub fewer_senders_checked : (horizons : Horizons) (entries next : List Entry) → next ≡ retain_mut (outlasts horizons) (lapsed horizons.idle) entries → tally_of is_sender next ≤ tally_of is_sender entries
+fewer_senders_checked horizons entries next is = rw is (fewer_senders horizons entries)
 
-pub listed_behind : (horizons : Horizons) (capacity : ℕ) (entries next : List Entry) → next ≡ retain_mut (outlasts horizons) (lapsed horizons.idle) entries → IsListed capacity entries → IsListed capacity next
-listed_behind horizons capacity entries next is listed =
-    record { apart = rw is (apart_checked horizons entries listed.apart); within = omega (arith, fewer_behind horizons entries next is, listed.within); room = listed.room }
+pub listed_checked : (horizons : Horizons) (capacity : ℕ) (entries next : List Entry) → next ≡ retain_mut (outlasts horizons) (lapsed horizons.idle) entries → IsListed capacity entries → IsListed capacity next
+listed_checked horizons capacity entries next is listed =
+    record { apart = rw is (apart_checked horizons entries listed.apart); within = omega (arith, fewer_checked horizons entries next is, listed.within); room = listed.room }
 
-pub table_behind : (horizons : Horizons) (capacity rate : ℕ) (entries next : List Entry) → next ≡ retain_mut (outlasts horizons) (lapsed horizons.idle) entries → IsApart (rows_of entries)
+pub table_checked : (horizons : Horizons) (capacity rate : ℕ) (entries next : List Entry) → next ≡ retain_mut (outlasts horizons) (lapsed horizons.idle) entries → IsApart (rows_of entries)
     → table_of capacity rate next ≡ after_check horizons (table_of capacity rate entries)
-table_behind horizons capacity rate entries next is apart = ap (table_of capacity rate) is ∙ ap (λ m. record (table_of capacity rate entries) { entries = m }) (map_checked horizons entries apart)
+table_checked horizons capacity rate entries next is apart = ap (table_of capacity rate) is ∙ ap (λ m. record (table_of capacity rate entries) { entries = m }) (map_checked horizons entries apart)
 
-pub dropped_behind : (horizons : Horizons) (capacity rate : ℕ) (entries next : List Entry) (before after : ℕ) → next ≡ retain_mut (outlasts horizons) (lapsed horizons.idle) entries → IsListed capacity entries
+pub dropped_checked : (horizons : Horizons) (capacity rate : ℕ) (entries next : List Entry) (before after : ℕ) → next ≡ retain_mut (outlasts horizons) (lapsed horizons.idle) entries → IsListed capacity entries
     → before ≡ length entries → after ≡ length next → before - after ≡ dropped_entries horizons (table_of capacity rate entries)
-dropped_behind horizons capacity rate entries next before after is listed at_first behind =
+dropped_checked horizons capacity rate entries next before after is listed at_first at_last =
     let len_before : finite.len (map_of entries) ≡ length entries = len_rows (rows_of entries) listed.apart ∙ length-map entries row_of in
     let len_after : finite.len (after_check horizons (table_of capacity rate entries)).entries ≡ length next =
-    ap (λ (t : TableValue). finite.len t.entries) (sym (table_behind horizons capacity rate entries next is listed.apart))
-    ∙ len_rows (rows_of next) (listed_behind horizons capacity entries next is listed).apart ∙ length-map next row_of in
-    omega (arith, at_first, behind, len_before, len_after)
+    ap (λ (t : TableValue). finite.len t.entries) (sym (table_checked horizons capacity rate entries next is listed.apart))
+    ∙ len_rows (rows_of next) (listed_checked horizons capacity entries next is listed).apart ∙ length-map next row_of in
+    omega (arith, at_first, at_last, len_before, len_after)
 
-pub senders_behind : (horizons : Horizons) (capacity rate : ℕ) (entries next : List Entry) (before after : ℕ) → next ≡ retain_mut (outlasts horizons) (lapsed horizons.idle) entries → IsListed capacity entries
+pub senders_checked : (horizons : Horizons) (capacity rate : ℕ) (entries next : List Entry) (before after : ℕ) → next ≡ retain_mut (outlasts horizons) (lapsed horizons.idle) entries → IsListed capacity entries
     → before ≡ senders_in (table_of capacity rate entries) → after ≡ senders_in (table_of capacity rate next) → before - after ≡ dropped_senders horizons (table_of capacity rate entries)
-senders_behind horizons capacity rate entries next before after is listed at_first behind =
-    λ i. at_first i - (behind ∙ ap senders_in (table_behind horizons capacity rate entries next is listed.apart)) i
+senders_checked horizons capacity rate entries next before after is listed at_first at_last =
+    λ i. at_first i - (at_last ∙ ap senders_in (table_checked horizons capacity rate entries next is listed.apart)) i
 
 -- ---- What a walk has counted
 
@@ -98,5 +98,5 @@ few_before test entries index within =
 
 pub fewer_senders_in : (horizons : Horizons) (capacity rate : ℕ) (entries next : List Entry) (before after : ℕ) → next ≡ retain_mut (outlasts horizons) (lapsed horizons.idle) entries → IsListed capacity entries
     → before ≡ senders_in (table_of capacity rate entries) → after ≡ senders_in (table_of capacity rate next) → after ≤ before
-fewer_senders_in horizons capacity rate entries next before after is listed at_first behind =
-    omega (arith, at_first, behind, counted_in is_sender capacity rate entries listed.apart, counted_in is_sender capacity rate next (listed_behind horizons capacity entries next is listed).apart, fewer_senders_behind horizons entries next is)
+fewer_senders_in horizons capacity rate entries next before after is listed at_first at_last =
+    omega (arith, at_first, at_last, counted_in is_sender capacity rate entries listed.apart, counted_in is_sender capacity rate next (listed_checked horizons capacity entries next is listed).apart, fewer_senders_checked horizons entries next is)

@@ -1,4 +1,4 @@
--- Sources that wait for a block: each that is due waits once, and the others wait on behind the first one's block.
+-- Pending sources: each that is due is pending once, and the others stay pending after the first one's block.
 use Rattle.std.proofs.Common.{◌≡◌, ℕ, ◌+◌, ◌<◌, true, false, cond, not, ◌==◌, ◌&&◌, nat_cmp, Less, Equal, Greater, List, [], ◌∷◌, ◌++◌, filter, count_by, Option, Some, None, is_none, is_some, option_and_then, arith, refl, sym, ap, subst, ◌∙◌}
 use Rattle.std.proofs.lemmas.Bool.{eqb-true}
 use Rattle.std.proofs.lemmas.Bool.Decides.{nat_tests}
@@ -14,8 +14,8 @@ use Rattle.rtcp_source.specs.Blocks.{news_of}
 use Rattle.rtcp_source.specs.Steps.{run_reported}
 use Rattle.rtcp_members.specs.Entries.{EntryValue, is_such}
 use Rattle.rtcp_members.specs.Tables.{TableValue}
-use Rattle.rtcp_members.specs.Waiting.{EntryRow, is_due, is_due_at, due_rows, in_turn, waiting, reported_entry, with_reported, after_block, block_of_row, block_at}
-use Rattle.rtcp_members.proofs.TurnsRows.{AllAbove, AllBelow, IsRising, entries_rise, above_lower, above_filter, rising_filter, rising_around, without, without_above, without_middle, turn_behind, cut_in_turn, itself_dropped, high_rows, low_rows}
+use Rattle.rtcp_members.specs.Pending.{EntryRow, is_due, is_due_at, due_rows, in_turn, pending, reported_entry, with_reported, after_block, block_of_row, block_at}
+use Rattle.rtcp_members.proofs.TurnsRows.{AllAbove, AllBelow, IsRising, entries_rise, above_lower, above_filter, rising_filter, rising_around, without, without_above, without_middle, turn_after, cut_in_turn, itself_dropped, high_rows, low_rows}
 
 abbrev due_of : List EntryRow → List EntryRow
 due_of rows = filter (λ row. is_due row.1) rows
@@ -74,7 +74,7 @@ found_if_due (Some entry) value is =
       | false ↦ λ due same. absurd (cc)
     ] refl is
 
--- ---- The table behind a block
+-- ---- The table after a block
 
 not_news : (run : Option RunValue) → news_of (run_reported run) ≡ false
 not_news None = refl
@@ -118,7 +118,7 @@ due_after ssrc entry table is =
 
 -- ---- The first in turn
 
--- The due rows in front of the first in turn stand below it, and those behind it above.
+-- The due rows before the first in turn stand below it, and those after it above.
 record IsFirst (last : Option ℕ) (table : TableValue) (row : EntryRow) (rest : List EntryRow) : Type 0 where
   front : List EntryRow
   back : List EntryRow
@@ -148,11 +148,11 @@ first_of last table row rest (first ∷ high) low is parts =
     let others : rest ≡ high ++ low = cc in
     first_at last table low row high rest (sym parts ∙ ap (λ (r : EntryRow). low ++ r ∷ high) same) others
 
-is_first : (last : Option ℕ) (table : TableValue) (row : EntryRow) (rest : List EntryRow) → waiting last table ≡ row ∷ rest → IsFirst last table row rest
+is_first : (last : Option ℕ) (table : TableValue) (row : EntryRow) (rest : List EntryRow) → pending last table ≡ row ∷ rest → IsFirst last table row rest
 is_first last table row rest is =
     first_of last table row rest (high_rows last (due_rows table)) (low_rows last (due_rows table)) is (cut_in_turn last (due_rows table) (due_rise table))
 
-entry_of_first : (last : Option ℕ) (table : TableValue) (row : EntryRow) (rest : List EntryRow) → waiting last table ≡ row ∷ rest → (finite.get table.entries row.0 ≡ Some row.1) × (is_due row.1 ≡ true)
+entry_of_first : (last : Option ℕ) (table : TableValue) (row : EntryRow) (rest : List EntryRow) → pending last table ≡ row ∷ rest → (finite.get table.entries row.0 ≡ Some row.1) × (is_due row.1 ≡ true)
 entry_of_first last table row rest is =
     let at = is_first last table row rest is in
     let here : found row.0 (due_rows table) ≡ Some row.1 = ap (found row.0) at.parts ∙ found_middle at.front row at.back at.below in
@@ -161,25 +161,25 @@ entry_of_first last table row rest is =
 
 -- ---- The laws
 
--- The first that waits is in the table, and due.
-pub first_is_there : (last : Option ℕ) (table : TableValue) (row : EntryRow) (rest : List EntryRow) → waiting last table ≡ row ∷ rest → finite.get table.entries row.0 ≡ Some row.1
+-- The first pending source is in the table, and due.
+pub first_is_there : (last : Option ℕ) (table : TableValue) (row : EntryRow) (rest : List EntryRow) → pending last table ≡ row ∷ rest → finite.get table.entries row.0 ≡ Some row.1
 first_is_there last table row rest is = (entry_of_first last table row rest is).0
 
-pub due_row : (last : Option ℕ) (table : TableValue) (row : EntryRow) (rest : List EntryRow) → waiting last table ≡ row ∷ rest → is_due_at row.0 table ≡ true
+pub due_row : (last : Option ℕ) (table : TableValue) (row : EntryRow) (rest : List EntryRow) → pending last table ≡ row ∷ rest → is_due_at row.0 table ≡ true
 due_row last table row rest is = let there = entry_of_first last table row rest is in ap (is_such is_due) there.0 ∙ there.1
 
 -- Its block is that of its row.
-pub block_of_first : (t : ℕ) (last : Option ℕ) (table : TableValue) (row : EntryRow) (rest : List EntryRow) → waiting last table ≡ row ∷ rest → block_at row.0 t table ≡ block_of_row t row
+pub block_of_first : (t : ℕ) (last : Option ℕ) (table : TableValue) (row : EntryRow) (rest : List EntryRow) → pending last table ≡ row ∷ rest → block_at row.0 t table ≡ block_of_row t row
 block_of_first t last table row rest is = ap (option_and_then (λ entry. block_of_row t (row.0, entry))) (first_is_there last table row rest is)
 
--- Behind its block the others wait, in the same turn.
-pub others_wait : (last : Option ℕ) (table : TableValue) (row : EntryRow) (rest : List EntryRow) → waiting last table ≡ row ∷ rest → waiting (Some row.0) (after_block row.0 table) ≡ rest
+-- After its block the others stay pending, in the same turn.
+pub others_wait : (last : Option ℕ) (table : TableValue) (row : EntryRow) (rest : List EntryRow) → pending last table ≡ row ∷ rest → pending (Some row.0) (after_block row.0 table) ≡ rest
 others_wait last table row rest is =
     let at = is_first last table row rest is in
     ap (in_turn (Some row.0)) (due_after row.0 row.1 table (first_is_there last table row rest is)
     ∙ ap (without row.0) at.parts
     ∙ without_middle at.front row at.back at.below at.above)
-    ∙ turn_behind row.0 at.front at.back at.below at.above
+    ∙ turn_after row.0 at.front at.back at.below at.above
     ∙ sym at.turn
 
 -- ---- Each once
@@ -233,10 +233,10 @@ such_found : (entry : Option EntryValue) → is_some (option_and_then if_due ent
 such_found None = refl
 such_found (Some entry) = elim (is_due entry) as (λ b. is_some (cond b (Some entry) None) ≡ b) [ true ↦ refl | false ↦ refl ]
 
--- Each source that a block is due of waits once, and no other waits.
-pub waits_once : (last : Option ℕ) (table : TableValue) (ssrc : ℕ) → count_by (λ (row : EntryRow). row.0 == ssrc) (waiting last table) ≡ cond (is_due_at ssrc table) 1 0
+-- Each source that a block is due of is pending once, and no other is.
+pub is_pending_once : (last : Option ℕ) (table : TableValue) (ssrc : ℕ) → count_by (λ (row : EntryRow). row.0 == ssrc) (pending last table) ≡ cond (is_due_at ssrc table) 1 0
 unfolding count_of
-waits_once last table ssrc =
+is_pending_once last table ssrc =
     count_turned ssrc (high_rows last (due_rows table)) (low_rows last (due_rows table))
     ∙ ap (count_of ssrc) (cut_in_turn last (due_rows table) (due_rise table))
     ∙ counted_found ssrc (due_rows table) (due_rise table)

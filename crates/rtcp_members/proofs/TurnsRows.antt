@@ -7,7 +7,7 @@ use Rattle.std.proofs.lemmas.List.Elements.{filter-append}
 use Rattle.std.specs.FinMap as finite
 use Rattle.std.specs.FinMap.Entries.{below_all}
 use Rattle.rtcp_members.specs.Entries.{EntryValue}
-use Rattle.rtcp_members.specs.Waiting.{EntryRow, is_above, in_turn}
+use Rattle.rtcp_members.specs.Pending.{EntryRow, is_above, in_turn}
 
 abbrev pub AllAbove : ℕ → List EntryRow → Type 0
 AllAbove ssrc [] = Unit {0}
@@ -62,15 +62,15 @@ rising_filter test (row ∷ rows) h =
     let rest = rising_filter test rows h.1 in
     elim (test row) as (λ b. IsRising (cond b (row ∷ filter test rows) (filter test rows))) [ true ↦ (above_filter test row.0 rows h.0, rest) | false ↦ rest ]
 
-above_behind : (ssrc : ℕ) (front : List EntryRow) (row : EntryRow) (back : List EntryRow) → AllAbove ssrc (front ++ row ∷ back) → ssrc < row.0
-above_behind ssrc [] row back h = h.0
-above_behind ssrc (first ∷ front) row back h = above_behind ssrc front row back h.1
+above_later : (ssrc : ℕ) (front : List EntryRow) (row : EntryRow) (back : List EntryRow) → AllAbove ssrc (front ++ row ∷ back) → ssrc < row.0
+above_later ssrc [] row back h = h.0
+above_later ssrc (first ∷ front) row back h = above_later ssrc front row back h.1
 
--- A row in rising rows stands above those in front of it, and below those behind it.
+-- A row in rising rows stands above those before it, and below those after it.
 pub rising_around : (front : List EntryRow) (row : EntryRow) (back : List EntryRow) → IsRising (front ++ row ∷ back) → AllBelow row.0 front × AllAbove row.0 back
 rising_around [] row back h = (tt, h.0)
 rising_around (first ∷ front) row back h =
-    let rest = rising_around front row back h.1 in ((above_behind first.0 front row back h.0, rest.0), rest.1)
+    let rest = rising_around front row back h.1 in ((above_later first.0 front row back h.0, rest.0), rest.1)
 
 -- ---- Tests of rows
 
@@ -127,9 +127,9 @@ without_middle front row back below above =
 
 -- ---- Turns
 
--- Rows below an SSRC and rows above it, in turn behind it.
-pub turn_behind : (ssrc : ℕ) (front back : List EntryRow) → AllBelow ssrc front → AllAbove ssrc back → in_turn (Some ssrc) (front ++ back) ≡ back ++ front
-turn_behind ssrc front back below above =
+-- Rows below an SSRC and rows above it, in turn after it.
+pub turn_after : (ssrc : ℕ) (front back : List EntryRow) → AllBelow ssrc front → AllAbove ssrc back → in_turn (Some ssrc) (front ++ back) ≡ back ++ front
+turn_after ssrc front back below above =
     let high : filter (is_above (Some ssrc)) (front ++ back) ≡ back =
     filter-append (is_above (Some ssrc)) front back ∙ (λ i. filter_none _ front (fails_below ssrc front below) i ++ filter_all _ back (passes_above ssrc back above) i) in
     let low : filter (λ row. not (is_above (Some ssrc) row)) (front ++ back) ≡ front =
@@ -138,7 +138,7 @@ turn_behind ssrc front back below above =
     ∙ append-nil front in
     λ i. high i ++ low i
 
--- A turn is a cut of the rows: those that fail the test stand in front of those that pass it.
+-- A turn is a cut of the rows: those that fail the test stand before those that pass it.
 abbrev pub high_rows : (last : Option ℕ) → List EntryRow → List EntryRow
 high_rows last rows = filter (is_above last) rows
 

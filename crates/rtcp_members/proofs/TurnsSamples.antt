@@ -1,28 +1,28 @@
 -- Worked examples: rows in cyclic turn.
 use Rattle.std.proofs.Common.{◌≡◌, ℕ, List, [], ◌∷◌, map, Option, Some, None, refl}
 use Rattle.rtcp_members.specs.Tables.{new_entry}
-use Rattle.rtcp_members.specs.Waiting.{EntryRow, in_turn, first_ssrc, last_reported}
+use Rattle.rtcp_members.specs.Pending.{EntryRow, in_turn, first_ssrc, last_reported}
 
 abbrev rows : List EntryRow
 rows = (1, new_entry) ∷ (2, new_entry) ∷ (3, new_entry) ∷ []
 
-abbrev turn_behind : Option ℕ → List ℕ
-turn_behind last = map (λ row. row.0) (in_turn last rows)
+abbrev turn_after : Option ℕ → List ℕ
+turn_after last = map (λ row. row.0) (in_turn last rows)
 
-from_the_least : turn_behind None ≡ 1 ∷ 2 ∷ 3 ∷ []
+from_the_least : turn_after None ≡ 1 ∷ 2 ∷ 3 ∷ []
 from_the_least = refl
 
-behind_one : turn_behind (Some 1) ≡ 2 ∷ 3 ∷ 1 ∷ []
-behind_one = refl
+after_one : turn_after (Some 1) ≡ 2 ∷ 3 ∷ 1 ∷ []
+after_one = refl
 
-behind_two : turn_behind (Some 2) ≡ 3 ∷ 1 ∷ 2 ∷ []
-behind_two = refl
+after_two : turn_after (Some 2) ≡ 3 ∷ 1 ∷ 2 ∷ []
+after_two = refl
 
-behind_the_greatest : turn_behind (Some 9) ≡ 1 ∷ 2 ∷ 3 ∷ []
-behind_the_greatest = refl
+after_the_greatest : turn_after (Some 9) ≡ 1 ∷ 2 ∷ 3 ∷ []
+after_the_greatest = refl
 
-next_behind_two : first_ssrc (in_turn (Some 2) rows) ≡ Some 3
-next_behind_two = refl
+next_after_two : first_ssrc (in_turn (Some 2) rows) ≡ Some 3
+next_after_two = refl
 
 none_reported : last_reported (Some 7) [] ≡ Some 7
 none_reported = refl

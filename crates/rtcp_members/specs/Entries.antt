@@ -76,7 +76,7 @@ sending_with rate ssrc (fact_came fact moment) given sending = if is_counted_fac
 sending_with rate ssrc (check_made horizons) given sending = still_sending horizons sending
 sending_with rate ssrc (block_taken other) given sending = sending
 
--- The moment of the last counted packet, as long as no check behind it had a later horizon for packets.
+-- The moment of the last counted packet, as long as no check after it had a later horizon for packets.
 abbrev pub sending_of : (rate ssrc : ℕ) → List TraceStep → Option ℕ
 sending_of rate ssrc [] = None
 sending_of rate ssrc (step ∷ earlier) = sending_with rate ssrc step (given_of rate ssrc earlier) (sending_of rate ssrc earlier)

@@ -1,6 +1,6 @@
 -- The least SSRC of the rows that pass a test, whatever their order.
 use Rattle.std.specs.Prelude.{ℕ, ◌&&◌, Bool, min, List, [], ◌∷◌, if◌then◌else◌, Option, Some, None}
-use Rattle.rtcp_members.specs.Waiting.{EntryRow, is_above, is_due}
+use Rattle.rtcp_members.specs.Pending.{EntryRow, is_above, is_due}
 
 abbrev pub lesser_of : Option ℕ → Option ℕ → Option ℕ
 lesser_of None b = b

@@ -2,7 +2,7 @@ pub mod Traces
 pub mod Stays
 pub mod Entries
 pub mod Tables
-pub mod Waiting
+pub mod Pending
 pub mod News
 pub mod Least
 pub mod Codes

@@ -26,7 +26,7 @@ table_of capacity rate entries = record { capacity = capacity; rate = rate; entr
 abbrev pub tally_of : (EntryValue → Bool) → List Entry → ℕ
 tally_of test entries = length (filter (λ (e : Entry). test (entry_value e)) entries)
 
--- an entry that stays behind a check
+-- an entry that stays, after a check
 abbrev pub lapsed : (idle : ℕ) → Entry → Entry
 lapsed idle e = if is_none e.mark && is_before e.sending idle then record e { sending = None } else e
 

@@ -5,7 +5,7 @@ use Rattle.rtcp_members.specs.Traces.{TraceStep, names}
 use Rattle.rtcp_members.specs.Stays.{mark_of, stay_of}
 use Rattle.rtcp_members.specs.Entries.{given_of}
 use Rattle.rtcp_members.specs.Tables.{row_at}
-use Rattle.rtcp_members.specs.Waiting.{EntryRow, is_after}
+use Rattle.rtcp_members.specs.Pending.{EntryRow, is_after}
 
 -- Whether a source has news, by its stay: there is one, without a mark, that holds a counted packet after the source's last block.
 abbrev pub has_news_in : (rate ssrc : ℕ) → Option (List TraceStep) → Bool
@@ -35,5 +35,5 @@ abbrev pub pending_at : (last : Option ℕ) (capacity rate : ℕ) → List Trace
 pending_at last capacity rate trace = ssrcs_in_turn last (filter (has_news_at capacity rate trace) (rising (names trace)))
 
 -- The same sources, each with what the trace says of it.
-abbrev pub waiting_at : (last : Option ℕ) (capacity rate : ℕ) → List TraceStep → List EntryRow
-waiting_at last capacity rate trace = filter_map (row_at capacity rate trace) (pending_at last capacity rate trace)
+abbrev pub pending_rows_at : (last : Option ℕ) (capacity rate : ℕ) → List TraceStep → List EntryRow
+pending_rows_at last capacity rate trace = filter_map (row_at capacity rate trace) (pending_at last capacity rate trace)

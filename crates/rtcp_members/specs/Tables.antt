@@ -44,7 +44,7 @@ counts (Named ssrc) source = false
 counts (Gone ssrc) source = false
 counts (Media ssrc seq timestamp) source = is_counted (taken_by source seq)
 
--- an entry without a mark, behind a fact of its source
+-- an entry without a mark, after a fact of its source
 abbrev pub entry_after : (rate : ℕ) → Fact → (moment : ℕ) → EntryValue → EntryValue
 entry_after rate (Heard ssrc) moment entry = record entry { sighting = moment }
 entry_after rate (Told ssrc ntp) moment entry = record entry { sighting = moment; source = after_told ntp moment entry.source }
@@ -59,9 +59,9 @@ entry_after rate (Media ssrc seq timestamp) moment entry =
       source = after_packet seq timestamp (media_units moment rate) entry.source;
     }
 
--- an entry behind a fact of its source: one with a mark stays as it is
-abbrev pub entry_behind : (rate : ℕ) → Fact → (moment : ℕ) → EntryValue → EntryValue
-entry_behind rate fact moment entry = if is_some entry.mark then entry else entry_after rate fact moment entry
+-- an entry after a fact of its source: one with a mark stays as it is
+abbrev pub entry_with_fact : (rate : ℕ) → Fact → (moment : ℕ) → EntryValue → EntryValue
+entry_with_fact rate fact moment entry = if is_some entry.mark then entry else entry_after rate fact moment entry
 
 -- What becomes of a fact, by the entry of its source, if it has one, and by whether there is room for one more.
 abbrev pub place_of : Fact → Option EntryValue → (room : Bool) → Place
@@ -115,7 +115,7 @@ HasFew packets table = (ssrc : ℕ) (entry : EntryValue) → map.get table.entri
 
 -- ---- Checks
 
--- An entry behind a check, if it stays. One with a mark only waits to be dropped.
+-- An entry after a check, if it stays. One with a mark is only held until it is dropped.
 abbrev pub entry_after_check : Horizons → EntryValue → Option EntryValue
 entry_after_check horizons entry =
     if is_removed horizons entry.sighting entry.mark then None
@@ -147,7 +147,7 @@ members_in = count_in is_member
 abbrev pub senders_in : TableValue → ℕ
 senders_in = count_in is_sender
 
--- How many fewer entries and senders there are behind a check. It adds none of either.
+-- How many fewer entries and senders there are after a check. It adds none of either (law `counts_are_ordered`).
 abbrev pub dropped_entries : Horizons → TableValue → ℕ
 dropped_entries horizons table = map.len table.entries - map.len (after_check horizons table).entries
 
@@ -159,7 +159,7 @@ dropped_senders horizons table = senders_in table - senders_in (after_check hori
 abbrev pub no_members : (capacity rate : ℕ) → TableValue
 no_members capacity rate = record { capacity = capacity; rate = rate; entries = map.empty }
 
--- A table stands at a trace where it has, for each source, the entry of the trace.
+-- A table equals the one computed from the whole trace, or *stands at* the trace, where it has for each source the entry of the trace.
 abbrev pub StandsAt : TableValue → List TraceStep → Type 0
 StandsAt table trace = (ssrc : ℕ) → map.get table.entries ssrc ≡ entry_at table.capacity table.rate trace ssrc
 

@@ -9,8 +9,8 @@ ghost use Rattle.rtcp_members.specs.Entries.{is_member, is_sender, still_sending
 ghost use Rattle.rtcp_wire.specs.Views.{block_value};
 ghost use Rattle.rtcp_wire.specs.Writing.{IsWritableBlock};
 ghost use Rattle.rtcp_source.specs.Blocks.{block_for};
-ghost use Rattle.rtcp_members.specs.Waiting.{is_due, reported_entry};
-ghost use Rattle.rtcp_members.specs.Tables.{new_entry, counts, counted_of, entry_after, entry_behind, place_of};
+ghost use Rattle.rtcp_members.specs.Pending.{is_due, reported_entry};
+ghost use Rattle.rtcp_members.specs.Tables.{new_entry, counts, counted_of, entry_after, entry_with_fact, place_of};
 
 use crate::table::{Applied, Place};
 use rtcp_clock::rtp_units;
@@ -66,8 +66,8 @@ impl Entry {
         self.is_member() && self.sending.is_some()
     }
 
-    /// The entry, which has no mark, behind a fact of its source at the moment `t`. The answer is whether the fact was a packet
-    /// that was counted.
+    /// Takes a fact of the source at the moment `t`, where the entry has no mark. Returns whether the fact was a packet that was
+    /// counted.
     pub(crate) fn take(&mut self, fact: Fact, t: u64, rate: u32) -> bool
         requires { IsTrue (is_media fact) → self.old.source.packets < 2 ^ 40 }
         ensures counted { result ≡ counts fact self.old.source }
@@ -103,7 +103,7 @@ impl Entry {
         ensures place { (room : Bool) → result.place ≡ place_of fact (Some (entry_value self.old)) room }
         ensures counted { result.counted ≡ counted_of fact (Some (entry_value self.old)) }
         ensures ssrc { self.new.ssrc ≡ self.old.ssrc }
-        ensures value { entry_value self.new ≡ entry_behind rate fact t (entry_value self.old) }
+        ensures value { entry_value self.new ≡ entry_with_fact rate fact t (entry_value self.old) }
     {
         if self.mark.is_some() {
             return Applied {
@@ -137,8 +137,8 @@ impl Entry {
         self.source.block(self.ssrc, t)
     }
 
-    /// Whether the entry stays behind a check with these horizons. It is a sender behind it only where its last counted packet does
-    /// not lie before `idle`.
+    /// Takes a check with these horizons: ends the sending of a source whose last counted packet lies before `idle`, and returns whether
+    /// the entry stays.
     pub(crate) fn check(&mut self, silent: u64, idle: u64, gone: u64) -> bool
         ensures stays { result ≡ not (is_removed (horizons_at silent idle gone) self.old.sighting self.old.mark) }
         ensures entry { self.new ≡ lapsed idle self.old }

@@ -8,7 +8,7 @@ ghost use Rattle.rtcp_wire.specs.Facts.{subject, is_gone, is_media};
 ghost use Rattle.rtcp_members.specs.Traces.{Horizons, TraceStep, fact_came, check_made, block_taken, names, with_facts};
 ghost use Rattle.rtcp_members.specs.Stays.{present_among, stay_of};
 ghost use Rattle.rtcp_members.specs.Entries.{counted_at, members_at, senders_at};
-ghost use Rattle.rtcp_members.specs.Waiting.{EntryRow, is_due_at, after_block, after_blocks};
+ghost use Rattle.rtcp_members.specs.Pending.{EntryRow, is_due_at, after_block, after_blocks};
 ghost use Rattle.rtcp_members.specs.Tables.{TableValue, StandsAt, KeepsBounds, table_at, HasFew, IsFew, no_members, counted, after_fact, after_facts, after_check, members_in, senders_in};
 
 /// A table that stands at a trace goes with each step to one that stands at the trace with that step.

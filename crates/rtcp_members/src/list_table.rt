@@ -9,7 +9,7 @@ ghost use Rattle.rtcp_members.specs.ListViews.{entry_value, rows_of, map_of, tab
 ghost use Rattle.rtcp_wire.specs.Views.{block_value};
 ghost use Rattle.rtcp_wire.specs.Writing.{IsWritableBlock};
 ghost use Rattle.rtcp_members.specs.Entries.{is_member, is_sender, is_such};
-ghost use Rattle.rtcp_members.specs.Waiting.{is_due, block_at, after_block};
+ghost use Rattle.rtcp_members.specs.Pending.{is_due, block_at, after_block};
 ghost use Rattle.rtcp_members.specs.Least.{is_due_above, least, lesser_of};
 ghost use Rattle.rtcp_members.specs.Tables.{TableValue, IsApart, IsFew, no_members, placed, counted, after_fact, after_check, dropped_entries, dropped_senders, members_in, senders_in, count_in};
 
@@ -22,7 +22,7 @@ use std::marker::Model;
 /// The greatest capacity of a table.
 const MAX_CAPACITY: usize = 1024;
 
-/// A table of members as a list, in order of arrival. Each call walks it, and none asks for memory.
+/// A table of members as a list, in order of arrival. Each call walks it, and none allocates.
 #[derive(Drop)]
 pub struct ListTable {
     capacity: u32,
@@ -44,16 +44,63 @@ impl Model for ListTable {
     ghost invariant = { λ t. IsListed t.capacity t.entries.items };
 }
 
-/// Where the entry of a source stands, if it has one.
-fn place_in(entries: &[Entry], ssrc: u32) -> Option<usize>
-    ensures { MatchOption result (finite.get (map_of entries.now) ssrc ≡ None) (λ (at : ℕ). IsPlaceOf ssrc entries.now at) }
-{
-    'entries: for at in 0..entries.len() {
-        if entries[at].ssrc == ssrc {
-            return Some(at);
+impl MemberTable for ListTable {
+    ghost content = { λ t. t };
+
+    fn empty(capacity: u32, rate: u32) -> ListTable {
+        ListTable {
+            capacity,
+            rate,
+            entries: ArrayVec::new(),
         }
     }
-    None
+
+    fn apply(&mut self, fact: Fact, t: u64) -> Applied {
+        if let Some(at) = place_in(self.entries.as_slice(), fact.ssrc()) {
+            return apply_at(self.entries.as_mut_slice(), at, fact, t, self.rate);
+        }
+        let place = admit(&mut self.entries, self.capacity, fact, t, self.rate);
+        Applied {
+            place,
+            counted: false,
+        }
+    }
+
+    fn check(
+        &mut self,
+        _t: u64,
+        silent_before: u64,
+        data_before: u64,
+        gone_before: u64,
+    ) -> Dropped {
+        let (entries, senders) = (self.entries.len(), self.senders());
+        drop_silent(&mut self.entries, silent_before, data_before, gone_before);
+        Dropped {
+            entries: (entries - self.entries.len()) as u32,
+            senders: senders - self.senders(),
+        }
+    }
+
+    fn members(&self) -> u32 {
+        tally(self.entries.as_slice()).members
+    }
+
+    fn senders(&self) -> u32 {
+        tally(self.entries.as_slice()).senders
+    }
+
+    fn next_with_news(&self, after: Option<u32>) -> Option<u32> {
+        let entries = self.entries.as_slice();
+        match least_due(entries, after) {
+            Some(ssrc) => Some(ssrc),
+            None => least_due(entries, None),
+        }
+    }
+
+    fn block_of(&mut self, ssrc: u32, t: u64) -> Block {
+        let at = place_in(self.entries.as_slice(), ssrc).unwrap();
+        report_at(self.entries.as_mut_slice(), at, ssrc, t)
+    }
 }
 
 /// A fact comes to the entry of its source, which stands at `at`.
@@ -163,61 +210,14 @@ fn report_at(entries: &mut [Entry], at: usize, ssrc: u32, t: u64) -> Block
     entries[at].report(t)
 }
 
-impl MemberTable for ListTable {
-    ghost content = { λ t. t };
-
-    fn empty(capacity: u32, rate: u32) -> ListTable {
-        ListTable {
-            capacity,
-            rate,
-            entries: ArrayVec::new(),
+/// Where the entry of a source stands, if it has one.
+fn place_in(entries: &[Entry], ssrc: u32) -> Option<usize>
+    ensures { MatchOption result (finite.get (map_of entries.now) ssrc ≡ None) (λ (at : ℕ). IsPlaceOf ssrc entries.now at) }
+{
+    'entries: for at in 0..entries.len() {
+        if entries[at].ssrc == ssrc {
+            return Some(at);
         }
     }
-
-    fn apply(&mut self, fact: Fact, t: u64) -> Applied {
-        if let Some(at) = place_in(self.entries.as_slice(), fact.ssrc()) {
-            return apply_at(self.entries.as_mut_slice(), at, fact, t, self.rate);
-        }
-        let place = admit(&mut self.entries, self.capacity, fact, t, self.rate);
-        Applied {
-            place,
-            counted: false,
-        }
-    }
-
-    fn check(
-        &mut self,
-        _t: u64,
-        silent_before: u64,
-        data_before: u64,
-        gone_before: u64,
-    ) -> Dropped {
-        let (entries, senders) = (self.entries.len(), self.senders());
-        drop_silent(&mut self.entries, silent_before, data_before, gone_before);
-        Dropped {
-            entries: (entries - self.entries.len()) as u32,
-            senders: senders - self.senders(),
-        }
-    }
-
-    fn members(&self) -> u32 {
-        tally(self.entries.as_slice()).members
-    }
-
-    fn senders(&self) -> u32 {
-        tally(self.entries.as_slice()).senders
-    }
-
-    fn next_with_news(&self, after: Option<u32>) -> Option<u32> {
-        let entries = self.entries.as_slice();
-        match least_due(entries, after) {
-            Some(ssrc) => Some(ssrc),
-            None => least_due(entries, None),
-        }
-    }
-
-    fn block_of(&mut self, ssrc: u32, t: u64) -> Block {
-        let at = place_in(self.entries.as_slice(), ssrc).unwrap();
-        report_at(self.entries.as_mut_slice(), at, ssrc, t)
-    }
+    None
 }

@@ -7,7 +7,7 @@ ghost use Rattle.rtcp_members.specs.Traces.{horizons_at};
 ghost use Rattle.rtcp_members.specs.Tables.{TableValue, IsFew, no_members, placed, counted, after_fact, after_check, dropped_entries, dropped_senders, members_in, senders_in};
 ghost use Rattle.rtcp_wire.specs.Views.{block_value};
 ghost use Rattle.rtcp_wire.specs.Writing.{IsWritableBlock};
-ghost use Rattle.rtcp_members.specs.Waiting.{waiting, first_ssrc, is_due_at, block_at, after_block};
+ghost use Rattle.rtcp_members.specs.Pending.{pending, first_ssrc, is_due_at, block_at, after_block};
 
 use rtcp_wire::{Block, Fact};
 
@@ -26,7 +26,7 @@ pub enum Place {
     Left,
 }
 
-/// What `apply` answers.
+/// What `apply` returns.
 #[derive(Clone, Copy, Debug, PartialEq, Eq)]
 pub struct Applied {
     /// What became of the fact.
@@ -35,19 +35,20 @@ pub struct Applied {
     pub counted: bool,
 }
 
-/// What `check` answers.
+/// What `check` returns.
 #[derive(Clone, Copy, Debug, PartialEq, Eq)]
 pub struct Dropped {
     /// How many entries the check removed.
     pub entries: u32,
-    /// How many fewer senders there are behind the check.
+    /// How many fewer senders there are after the check.
     pub senders: u32,
 }
 
 /// A table of the other participants of a session, at most `capacity` of them.
 ///
-/// A contract sees a table as a finite map from SSRC to entry, with its capacity and the rate of the media's clock. Where that map
-/// stands at the trace of a session (`StandsAt`), so does the map behind each call, with one step more (`laws`).
+/// A contract sees a table as a finite map from SSRC to entry, with its capacity and the rate of the media's clock. A table *stands at*
+/// the trace of a session (`StandsAt`) where that map is the one computed from the whole trace; after each call it stands at the trace
+/// with one step more (`laws`).
 pub trait MemberTable {
     ghost content: { Self → TableValue };
 
@@ -85,10 +86,10 @@ pub trait MemberTable {
     /// The source that the next report block is for, if any has news: the least SSRC above `after` of a source that did not leave and
     /// of which some packet was counted since its last block, else the least SSRC of all such sources (RFC 3550, 6.4).
     fn next_with_news(&self, after: Option<u32>) -> Option<u32>
-        ensures { result ≡ first_ssrc (waiting after (content self.now)) };
+        ensures { result ≡ first_ssrc (pending after (content self.now)) };
 
-    /// The reception report block of the source `ssrc`, which has news and did not leave, as `next_with_news` answers it, at the moment
-    /// `t`, in microseconds (RFC 3550, 6.4.1). With it the source's interval begins anew, and its news end.
+    /// The reception report block of the source `ssrc`, which has news and did not leave, as that of `next_with_news` does, at the moment
+    /// `t`, in microseconds (RFC 3550, 6.4.1). With it the source's loss interval begins anew, and its news end.
     fn block_of(&mut self, ssrc: u32, t: u64) -> Block
         requires { IsTrue (is_due_at ssrc (content self.old)) }
         ensures block { Some (block_value result) ≡ block_at ssrc t (content self.old) }

@@ -1,7 +1,8 @@
-pub mod TakenInTurn
-pub mod ReportSizes
-pub mod ReportPackets
-pub mod Fronts
-pub mod WholeReports
-pub mod Following
-pub mod Rows
+mod TakenInTurn
+mod ReportSizes
+mod ReportPackets
+mod Prefixes
+mod WholeReports
+mod Following
+mod Rows
+pub mod LawLemmas

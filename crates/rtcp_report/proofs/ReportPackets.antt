@@ -35,10 +35,10 @@ pub whole_of_two : (ssrc : ℕ) (sent : Option SentValue) (blocks : List ReportB
 whole_of_two ssrc sent blocks first last few is =
     ap (λ (packets : List RtcpPacket). packets ++ last ∷ []) (one_report ssrc sent blocks few) ∙ ap (λ (packet : RtcpPacket). packet ∷ last ∷ []) (sym is)
 
-pub whole_of_three : (ssrc : ℕ) (sent : Option SentValue) (blocks front others : List ReportBlock) (first last : RtcpPacket) → 31 < length blocks → length blocks ≤ 60
-    → front ≡ take 31 blocks → others ≡ drop 31 blocks → first ≡ report_with ssrc sent front
+pub whole_of_three : (ssrc : ℕ) (sent : Option SentValue) (blocks prefix others : List ReportBlock) (first last : RtcpPacket) → 31 < length blocks → length blocks ≤ 60
+    → prefix ≡ take 31 blocks → others ≡ drop 31 blocks → first ≡ report_with ssrc sent prefix
     → reports_with ssrc sent blocks ++ last ∷ [] ≡ first ∷ rr ssrc others [] ∷ last ∷ []
-whole_of_three ssrc sent blocks front others first last many few is_front is_others is =
+whole_of_three ssrc sent blocks prefix others first last many few is_front is_others is =
     ap (λ (packets : List RtcpPacket). packets ++ last ∷ []) (two_reports ssrc sent blocks many few)
     ∙ (λ i. (ap (report_with ssrc sent) (sym is_front) ∙ sym is) i ∷ rr ssrc (sym is_others i) [] ∷ last ∷ [])
 

@@ -8,7 +8,7 @@ use Rattle.rtcp_wire.specs.Values.{ReportBlock, ItemValue, RtcpPacket, ChunkValu
 use Rattle.rtcp_wire.specs.Writing.{fill_behind, written_block, written_item, written_chunk, written, written_all}
 use Rattle.rtcp_wire.proofs.Appending.{same_size}
 use Rattle.rtcp_report.specs.Reports.{SentValue, Reporter, report_with, further_count, further_reports, reports_with, description_of, packets_with}
-use Rattle.rtcp_report.specs.Sizes.{front_size, item_size, description_size, report_size}
+use Rattle.rtcp_report.specs.Sizes.{first_report_size, item_size, description_size, report_size}
 
 -- ---- Descriptions
 
@@ -42,7 +42,7 @@ blocks_length blocks = omega (arith, length-append (flat_map written_block block
 receiver_length : (ssrc : ℕ) (blocks : List ReportBlock) → length (written (rr ssrc blocks [])) ≡ 8 + 24 * length blocks
 receiver_length ssrc blocks = omega (arith, blocks_length blocks)
 
-report_length : (ssrc : ℕ) (sent : Option SentValue) (blocks : List ReportBlock) → length (written (report_with ssrc sent blocks)) ≡ front_size sent + 24 * length blocks
+report_length : (ssrc : ℕ) (sent : Option SentValue) (blocks : List ReportBlock) → length (written (report_with ssrc sent blocks)) ≡ first_report_size sent + 24 * length blocks
 report_length ssrc None blocks = receiver_length ssrc blocks
 report_length ssrc (Some sent) blocks = omega (arith, blocks_length blocks)
 
@@ -55,7 +55,7 @@ further_length ssrc (suc count) blocks few =
 enough : (blocks : ℕ) → blocks - 31 ≤ 31 * further_count blocks
 enough blocks = omega arith
 
-pub reports_length : (ssrc : ℕ) (sent : Option SentValue) (blocks : List ReportBlock) → length (written_all (reports_with ssrc sent blocks)) ≡ front_size sent + 24 * length blocks + 8 * further_count (length blocks)
+pub reports_length : (ssrc : ℕ) (sent : Option SentValue) (blocks : List ReportBlock) → length (written_all (reports_with ssrc sent blocks)) ≡ first_report_size sent + 24 * length blocks + 8 * further_count (length blocks)
 reports_length ssrc sent blocks =
     let further : List RtcpPacket = further_reports ssrc (further_count (length blocks)) (drop 31 blocks) in
     let rest : length (written_all further) ≡ 8 * further_count (length blocks) + 24 * length (drop 31 blocks) =

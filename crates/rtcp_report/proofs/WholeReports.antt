@@ -6,13 +6,13 @@ use Rattle.rtcp_wire.specs.Values.{ReportBlock, ItemValue, RtcpPacket}
 use Rattle.rtcp_wire.specs.Grammar.{IsAccepted}
 use Rattle.rtcp_wire.specs.Writing.{written_all, IsWritableItem}
 use Rattle.rtcp_members.specs.Tables.{TableValue}
-use Rattle.rtcp_members.specs.Waiting.{EntryRow, waiting, blocks_of, after_blocks, last_reported}
+use Rattle.rtcp_members.specs.Pending.{EntryRow, pending, blocks_of, after_blocks, last_reported}
 use Rattle.rtcp_report.specs.declared.sender.Sender.{Sender}
 use Rattle.rtcp_report.specs.Reports.{SentValue, Reporter, packets_with}
-use Rattle.rtcp_report.specs.Sizes.{front_size, item_size, report_size, reported_rows, report_of}
+use Rattle.rtcp_report.specs.Sizes.{first_report_size, item_size, report_size, reported_rows, report_of}
 use Rattle.rtcp_report.specs.Views.{items_of, reporter_with, sent_value}
 use Rattle.rtcp_report.proofs.ReportSizes.{packets_length}
-use Rattle.rtcp_report.proofs.Fronts.{size_rises, front_is}
+use Rattle.rtcp_report.proofs.Prefixes.{size_rises, front_is}
 
 -- ---- The least report
 
@@ -20,7 +20,7 @@ items_are_short : (cname : List ℕ) (extra : Option ItemValue) → length cname
 items_are_short cname None short can = omega (arith, short)
 items_are_short cname (Some item) short can = omega (arith, short, (can item refl).2)
 
-front_is_short : (sent : Option SentValue) → front_size sent ≤ 28
+front_is_short : (sent : Option SentValue) → first_report_size sent ≤ 28
 front_is_short None = omega arith
 front_is_short (Some sent) = omega arith
 
@@ -41,24 +41,24 @@ pub record IsReport (reporter : Reporter) (limit t : ℕ) (last : Option ℕ) (t
 
 -- What was written of the blocks that were taken, where so many fit and no more.
 pub record IsWritten (given : Reporter) (most t : ℕ) (last : Option ℕ) (table : TableValue) (blocks : List ReportBlock) (octets : List ℕ) (after : TableValue) (cursor : Option ℕ) : Type 0 where
-  pub blocks_are : blocks ≡ blocks_of t (take most (waiting last table))
-  pub count : length blocks ≡ length (take most (waiting last table))
+  pub blocks_are : blocks ≡ blocks_of t (take most (pending last table))
+  pub count : length blocks ≡ length (take most (pending last table))
   pub octets_are : octets ≡ written_all (packets_with given blocks)
   pub reads_back : IsAccepted octets (packets_with given blocks)
-  pub content : after ≡ after_blocks (take most (waiting last table)) table
-  pub cursor_is : cursor ≡ last_reported last (take most (waiting last table))
+  pub content : after ≡ after_blocks (take most (pending last table)) table
+  pub cursor_is : cursor ≡ last_reported last (take most (pending last table))
 
 module _ (limit most t : ℕ) (last : Option ℕ) (table : TableValue) (given reporter : Reporter) (same : given ≡ reporter) (fits : report_size given most ≤ limit) (greatest : limit < report_size given (most + 1)) where
-  rows_are : take most (waiting last table) ≡ reported_rows reporter limit last table
+  rows_are : take most (pending last table) ≡ reported_rows reporter limit last table
   rows_are =
-      sym (front_is reporter limit most (subst (λ (r : Reporter). report_size r most ≤ limit) same fits) (subst (λ (r : Reporter). limit < report_size r (most + 1)) same greatest) (waiting last table))
+      sym (front_is reporter limit most (subst (λ (r : Reporter). report_size r most ≤ limit) same fits) (subst (λ (r : Reporter). limit < report_size r (most + 1)) same greatest) (pending last table))
 
-  packets_are : (blocks : List ReportBlock) → blocks ≡ blocks_of t (take most (waiting last table)) → packets_with given blocks ≡ report_of reporter limit t last table
+  packets_are : (blocks : List ReportBlock) → blocks ≡ blocks_of t (take most (pending last table)) → packets_with given blocks ≡ report_of reporter limit t last table
   packets_are blocks is = λ i. packets_with (same i) ((is ∙ ap (blocks_of t) rows_are) i)
 
-  within_limit : (blocks : List ReportBlock) → length blocks ≡ length (take most (waiting last table)) → report_size given (length blocks) ≤ limit
+  within_limit : (blocks : List ReportBlock) → length blocks ≡ length (take most (pending last table)) → report_size given (length blocks) ≤ limit
   within_limit blocks count =
-      let few : length blocks ≤ most = omega (arith, count, length-take most (waiting last table)) in
+      let few : length blocks ≤ most = omega (arith, count, length-take most (pending last table)) in
       omega (arith, fits, size_rises given (length blocks) most few)
 
   pub whole_report : (blocks : List ReportBlock) (octets : List ℕ) (after : TableValue) (cursor : Option ℕ) → IsWritten given most t last table blocks octets after cursor → IsReport reporter limit t last table octets after cursor

@@ -2,15 +2,15 @@
 use Rattle.std.specs.Prelude.{ℕ, zero, suc, ◌+◌, ◌*◌, ◌/◌, ◌≡◌, ◌<◌, ◌≤◌, Bool, nat_le, if◌then◌else◌, List, ◌++◌, length, sum_by, take, Option, Some, None}
 use Rattle.rtcp_wire.specs.Values.{ItemValue, RtcpPacket}
 use Rattle.rtcp_members.specs.Tables.{TableValue}
-use Rattle.rtcp_members.specs.Waiting.{EntryRow, waiting, blocks_of}
+use Rattle.rtcp_members.specs.Pending.{EntryRow, pending, blocks_of}
 use Rattle.rtcp_report.specs.Reports.{SentValue, Reporter, further_count, packets_with}
 
 -- ---- Sizes
 
 -- the first report, without blocks
-abbrev pub front_size : Option SentValue → ℕ
-front_size None = 8
-front_size (Some sent) = 28
+abbrev pub first_report_size : Option SentValue → ℕ
+first_report_size None = 8
+first_report_size (Some sent) = 28
 
 abbrev pub item_size : ItemValue → ℕ
 item_size item = length item.text + 2
@@ -21,7 +21,7 @@ description_size items = 8 + 4 * (sum_by item_size items / 4 + 1)
 
 -- A report with so many blocks, in octets.
 abbrev pub report_size : Reporter → (blocks : ℕ) → ℕ
-report_size reporter blocks = front_size reporter.sent + 24 * blocks + 8 * further_count blocks + description_size reporter.items
+report_size reporter blocks = first_report_size reporter.sent + 24 * blocks + 8 * further_count blocks + description_size reporter.items
 
 -- ---- As many as fit
 
@@ -31,23 +31,23 @@ greatest_passing test zero = 0
 greatest_passing test (suc n) = if test (suc n) then suc n else greatest_passing test n
 
 -- how many blocks a report has where so many sources wait
-abbrev pub block_count : Reporter → (limit waiting : ℕ) → ℕ
-block_count reporter limit waiting = greatest_passing (λ blocks. nat_le (report_size reporter blocks) limit) waiting
+abbrev pub block_count : Reporter → (limit pending : ℕ) → ℕ
+block_count reporter limit pending = greatest_passing (λ blocks. nat_le (report_size reporter blocks) limit) pending
 
--- The sources that a report is of: the longest front of those that wait that fits the limit.
+-- The sources that a report is of: the longest prefix of those that wait that fits the limit.
 abbrev pub fitting : Reporter → (limit : ℕ) → List EntryRow → List EntryRow
 fitting reporter limit rows = take (block_count reporter limit (length rows)) rows
 
 abbrev pub reported_rows : Reporter → (limit : ℕ) → (last : Option ℕ) → TableValue → List EntryRow
-reported_rows reporter limit last table = fitting reporter limit (waiting last table)
+reported_rows reporter limit last table = fitting reporter limit (pending last table)
 
 -- The packets of the report at the moment `t`.
 abbrev pub report_of : Reporter → (limit t : ℕ) → (last : Option ℕ) → TableValue → List RtcpPacket
 report_of reporter limit t last table = packets_with reporter (blocks_of t (reported_rows reporter limit last table))
 
--- A front of the rows whose report fits, while that of no longer one does.
-pub record IsLongestFitting (reporter : Reporter) (limit : ℕ) (rows front : List EntryRow) : Type 0 where
+-- A prefix of the rows whose report fits, while that of no longer one does.
+pub record IsLongestFitting (reporter : Reporter) (limit : ℕ) (rows prefix : List EntryRow) : Type 0 where
   pub rest : List EntryRow
-  pub parts : rows ≡ front ++ rest
-  pub fits : report_size reporter (length front) ≤ limit
-  pub longest : (blocks : ℕ) → length front < blocks → blocks ≤ length rows → limit < report_size reporter blocks
+  pub parts : rows ≡ prefix ++ rest
+  pub fits : report_size reporter (length prefix) ≤ limit
+  pub longest : (blocks : ℕ) → length prefix < blocks → blocks ≤ length rows → limit < report_size reporter blocks

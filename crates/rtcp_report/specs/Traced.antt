@@ -1,7 +1,7 @@
 -- The trace of a session behind a report.
 use Rattle.std.specs.Prelude.{List, [], ◌∷◌}
 use Rattle.rtcp_members.specs.Traces.{TraceStep, block_taken}
-use Rattle.rtcp_members.specs.Waiting.{EntryRow}
+use Rattle.rtcp_members.specs.Pending.{EntryRow}
 
 -- The trace, newest first, with a block of each of the sources, in their order.
 abbrev pub with_blocks : List EntryRow → List TraceStep → List TraceStep

@@ -5,7 +5,7 @@ ghost use Rattle.std.specs.Option.{ForSome};
 ghost use Rattle.rtcp_wire.specs.Grammar.{IsAccepted};
 ghost use Rattle.rtcp_wire.specs.Writing.{written_all, IsWritableItem};
 ghost use Rattle.rtcp_wire.specs.WriterViews.{item_ref_of};
-ghost use Rattle.rtcp_members.specs.Waiting.{after_blocks, last_reported};
+ghost use Rattle.rtcp_members.specs.Pending.{after_blocks, last_reported};
 ghost use Rattle.rtcp_report.specs.Reports.{Reporter, packets_with};
 ghost use Rattle.rtcp_report.specs.Sizes.{report_size, reported_rows, report_of};
 ghost use Rattle.rtcp_report.specs.Views.{items_of, extra_of, reporter_with, reporter_of};
@@ -27,7 +27,7 @@ const SENDER_SIZE: usize = 28;
 /// The octets of a block.
 const BLOCK_SIZE: usize = 24;
 
-/// How many blocks fit the limit: each packet behind the first one has a header and an SSRC of its own.
+/// How many blocks fit the limit: each packet after the first one has a header and an SSRC of its own.
 fn most_blocks(sender: &Sender<'_>, items: &[ItemRef<'_>], limit: u32) -> usize
     requires writable { All IsWritableItem (map item_ref_of items.now) }
     requires least { report_size (reporter_with sender.now (map item_ref_of items.now)) 0 ≤ limit }
@@ -36,12 +36,12 @@ fn most_blocks(sender: &Sender<'_>, items: &[ItemRef<'_>], limit: u32) -> usize
     ensures fits { report_size (reporter_with sender.now (map item_ref_of items.now)) result ≤ limit }
     ensures greatest { limit < report_size (reporter_with sender.now (map item_ref_of items.now)) (result + 1) }
 {
-    let front = if sender.sr.is_some() {
+    let first = if sender.sr.is_some() {
         SENDER_SIZE
     } else {
         RECEIVER_SIZE
     };
-    let room = limit as usize - front - description_size(items);
+    let room = limit as usize - first - description_size(items);
     if room / BLOCK_SIZE <= BLOCKS_OF_PACKET {
         room / BLOCK_SIZE
     } else {
@@ -53,7 +53,7 @@ fn most_blocks(sender: &Sender<'_>, items: &[ItemRef<'_>], limit: u32) -> usize
 ///
 /// It begins with a sender report where `sender.sr` says what was sent, else with a receiver report (RFC 3550, 6.4). It has a
 /// block of each source that has news, or of as many as fit: in cyclic turn by rising SSRC, beginning above the cursor, none
-/// twice. At most 31 blocks stand in a packet, and the others in receiver reports behind it. The last packet describes the
+/// twice. At most 31 blocks stand in a packet, and the others in receiver reports after it. The last packet describes the
 /// participant by its CNAME, of at most 255 octets, and by the extra item, if there is one (6.5).
 ///
 /// The sources that it has blocks of have no news any more, and the cursor is left at the SSRC of the last block, or as it was where
@@ -89,7 +89,9 @@ pub fn report<T: MemberTable>(
 /// receiver report without blocks, and the description by the CNAME alone.
 pub fn first_size(cname: &[u8]) -> u32
     requires { length cname.now ≤ 255 }
-    ensures { (ssrc : ℕ) → result ≡ length (written_all (packets_with (record { ssrc = ssrc; sent = None; items = items_of cname.now None }) [])) }
+    ensures exact { (ssrc : ℕ) →
+        result ≡ length (written_all (packets_with (record { ssrc = ssrc; sent = None; items = items_of cname.now None }) [])) }
+    ensures small { result ≤ 276 }
 {
     let description = Description::new(cname, None);
     (RECEIVER_SIZE + description_size(description.items())) as u32

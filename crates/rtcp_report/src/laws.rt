@@ -5,16 +5,16 @@ ghost use Rattle.rtcp_wire.specs.Values.{ReportBlock};
 ghost use Rattle.rtcp_wire.specs.Writing.{written_all};
 ghost use Rattle.rtcp_members.specs.Traces.{TraceStep};
 ghost use Rattle.rtcp_members.specs.Tables.{TableValue, StandsAt, HasFew};
-ghost use Rattle.rtcp_members.specs.Waiting.{EntryRow, after_blocks};
+ghost use Rattle.rtcp_members.specs.Pending.{EntryRow, after_blocks};
 ghost use Rattle.rtcp_report.specs.Reports.{Reporter, packets_with};
 ghost use Rattle.rtcp_report.specs.Sizes.{report_size, fitting, reported_rows, IsLongestFitting};
 ghost use Rattle.rtcp_report.specs.Traced.{with_blocks};
 
-/// The sources of a report are the longest front of those that wait that fits, where a report without blocks fits: none is left out
-/// that fits. There is one such front.
-pub fn longest_front_is_reported()
+/// The sources of a report are the longest prefix of those that wait that fits, where a report without blocks fits: none is left out
+/// that fits. There is one such prefix.
+pub fn longest_prefix_is_reported()
     ensures longest { (reporter : Reporter) (limit : ℕ) (rows : List EntryRow) → report_size reporter 0 ≤ limit → IsLongestFitting reporter limit rows (fitting reporter limit rows) }
-    ensures only { (reporter : Reporter) (limit : ℕ) (rows front : List EntryRow) → IsLongestFitting reporter limit rows front → front ≡ fitting reporter limit rows }
+    ensures only { (reporter : Reporter) (limit : ℕ) (rows prefix : List EntryRow) → IsLongestFitting reporter limit rows prefix → prefix ≡ fitting reporter limit rows }
 {}
 
 /// No source is reported twice in a report.

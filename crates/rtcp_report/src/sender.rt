@@ -27,7 +27,7 @@ pub struct SrPart {
 }
 
 /// Something that a participant says of itself beside its CNAME (RFC 3550, 6.5.2 to 6.5.8).
-#[derive(Debug, Drop)]
+#[derive(Debug, Default, Drop)]
 pub struct Item {
     /// The item's type, from 2 to 8: NAME 2, EMAIL 3, PHONE 4, LOC 5, TOOL 6, NOTE 7, PRIV 8.
     pub kind: u8,

@@ -52,7 +52,7 @@ fn compound_of(packets: &[PacketRef<'_>]) -> ArrayVec<u8, MAX_COMPOUND>
     octets
 }
 
-/// The reports with these blocks, and the description behind them.
+/// The reports with these blocks, and the description after them.
 fn compound_with<'a>(
     sender: &Sender<'_>,
     blocks: &'a [Block],
@@ -68,13 +68,13 @@ fn compound_with<'a>(
     if blocks.len() <= BLOCKS_OF_PACKET {
         return compound_of(&[first_report(sender, blocks), description]);
     }
-    let (front, others) = blocks.split_at(BLOCKS_OF_PACKET);
+    let (first, others) = blocks.split_at(BLOCKS_OF_PACKET);
     let further = PacketRef::Rr {
         ssrc: sender.ssrc,
         blocks: others,
         extension: &[],
     };
-    compound_of(&[first_report(sender, front), further, description])
+    compound_of(&[first_report(sender, first), further, description])
 }
 
 /// The compound of a report with these blocks and a description of these items.

@@ -3,6 +3,18 @@
 use super::*;
 use std::test::*;
 
+/// The example at the head of the crate.
+#[test]
+fn example(rt: HostRuntime) {
+    let mut table = ListTable::empty(1_024, 8_000);
+    assert_eq!(rt; table.apply(Fact::Heard(7), 0).place, Place::Added);
+    assert_eq!(rt; table.members(), 0);
+    assert_eq!(rt; table.apply(Fact::Named(7), 0).place, Place::Kept);
+    assert_eq!(rt; table.members(), 1);
+    let dropped = table.check(25_000_001, 1, 0, 0);
+    assert_eq!(rt; (dropped.entries, table.members()), (1, 0));
+}
+
 #[test]
 fn room_for_two(rt: HostRuntime) {
     rooms::room_for_two::<ListTable>(&rt);
@@ -24,13 +36,18 @@ fn senders_leave(rt: HostRuntime) {
 }
 
 #[test]
+fn dropped_begins_anew(rt: HostRuntime) {
+    senders::dropped_begins_anew::<ListTable>(&rt);
+}
+
+#[test]
 fn in_turn(rt: HostRuntime) {
     turns::in_turn::<ListTable>(&rt);
 }
 
 #[test]
-fn not_behind_a_goodbye(rt: HostRuntime) {
-    turns::not_behind_a_goodbye::<ListTable>(&rt);
+fn not_after_goodbye(rt: HostRuntime) {
+    turns::not_after_goodbye::<ListTable>(&rt);
 }
 
 #[test]

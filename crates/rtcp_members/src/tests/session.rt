@@ -50,7 +50,7 @@ impl<T: MemberTable> Session<T> {
         self.table.check(t, silent, data, gone)
     }
 
-    /// The block of the source that is next behind this one, at the moment `t`, if any waits.
+    /// The block of the source that is next after this one, at the moment `t`, if any is pending.
     pub(crate) fn block(&mut self, after: Option<u32>, t: u64) -> Option<Block>
         ensures { self.new.facts ≡ self.old.facts }
     {

@@ -24,7 +24,7 @@ fn whose(block: Option<Block>) -> Option<u32> {
     block.map(|block| block.ssrc)
 }
 
-/// Each is reported once, by rising SSRC, behind the last one and from the lowest on again.
+/// Each is reported once, by rising SSRC, after the last one and from the lowest on again.
 pub(crate) fn in_turn<T: MemberTable + Drop>(rt: &impl Abort) {
     let mut session: Session<T> = three_senders();
     assert_eq!(rt; whose(session.block(Some(1), 0)), Some(2));
@@ -37,7 +37,7 @@ pub(crate) fn in_turn<T: MemberTable + Drop>(rt: &impl Abort) {
 }
 
 /// A source that said goodbye is not reported.
-pub(crate) fn not_behind_a_goodbye<T: MemberTable + Drop>(rt: &impl Abort) {
+pub(crate) fn not_after_goodbye<T: MemberTable + Drop>(rt: &impl Abort) {
     let mut session: Session<T> = three_senders();
     let _ = session.apply(Fact::Gone(1), 0);
     assert_eq!(rt; whose(session.block(None, 0)), Some(2));

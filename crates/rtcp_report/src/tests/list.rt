@@ -33,6 +33,11 @@ fn one_at_a_time(rt: HostRuntime) {
 }
 
 #[test]
+fn name_first(rt: HostRuntime) {
+    rows::name_first::<ListTable>(&rt);
+}
+
+#[test]
 fn forty(rt: HostRuntime) {
     rows::forty::<ListTable>(&rt);
 }

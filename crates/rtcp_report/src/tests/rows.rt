@@ -40,7 +40,7 @@ pub(crate) fn no_news<T: MemberTable + Drop>(rt: &impl Abort) {
     assert_eq!(rt; session.cursor, Some(5));
 }
 
-/// 31 blocks in the sender report, and one in a receiver report behind it.
+/// 31 blocks in the sender report, and one in a receiver report after it.
 pub(crate) fn two_reports<T: MemberTable + Drop>(rt: &impl Abort) {
     let mut session: Session<T> = Session::new();
     session.sources(rt, 32);
@@ -79,6 +79,26 @@ pub(crate) fn one_at_a_time<T: MemberTable + Drop>(rt: &impl Abort) {
         assert_eq!(rt; &octets.as_slice()[28..32], [0, 0, 0, expected].as_slice());
         assert_eq!(rt; session.cursor, Some(expected as u32));
     }
+}
+
+/// In the chunk the CNAME stands before the extra item.
+pub(crate) fn name_first<T: MemberTable + Drop>(rt: &impl Abort) {
+    let mut session: Session<T> = Session::new();
+    let mut tool = Item {
+        kind: 6,
+        text: ArrayVec::new(),
+    };
+    tool.text.push(b't');
+    let octets = session.report(&named_a(None), 1_472, Some(&tool));
+    assert_eq!(rt; octets.len(), 24);
+    assert_eq!(rt;
+        &octets.as_slice()[8..],
+        // header and SSRC, CNAME `a`, TOOL `t`, two zeros up to the end of the word
+        [
+            0x81, 0xca, 0, 3, 0, 0, 0, 0xaa, 1, 1, b'a', 6, 1, b't', 0, 0
+        ]
+        .as_slice()
+    );
 }
 
 /// All 40 sources fit.

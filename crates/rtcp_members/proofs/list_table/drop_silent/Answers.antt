@@ -1,4 +1,4 @@
--- The closure answers whether an entry stays, and leaves it without what lapsed.
+-- The closure returns whether an entry stays, and leaves it without what lapsed.
 use Rattle.std.proofs.Common.{rules}
 use Rattle.rtcp_members.specs.Traces.{horizons_at}
 use Rattle.rtcp_members.specs.ListViews.{lapsed, outlasts}

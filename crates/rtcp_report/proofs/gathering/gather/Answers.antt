@@ -2,12 +2,12 @@
 use Rattle.std.proofs.Common.{arith, map, sym, ◌∙◌, subst, List, Some}
 use Rattle.rtcp_wire.specs.Values.{ReportBlock}
 use Rattle.rtcp_wire.specs.Views.{block_value}
-use Rattle.rtcp_members.proofs.NextDue.{next_is_due}
+use Rattle.rtcp_members.proofs.LawLemmas.{first_is_due-answered}
 use Rattle.rtcp_report.proofs.TakenInTurn.{IsTaken, one_more, pushed}
 use Rattle.rtcp_report.proofs.gathering.gather.Goals as goal
 
 pub block_of-requires : goal.block_of-requires
-block_of-requires g c = next_is_due c.sources.cursor (g.T.MemberTable.content c.sources.table) c.in-Some.ssrc (sym c.in-Some.is ∙ c.next_with_news.ensures)
+block_of-requires g c = first_is_due-answered c.sources.cursor (g.T.MemberTable.content c.sources.table) c.in-Some.ssrc (sym c.in-Some.is ∙ c.next_with_news.ensures)
 
 pub sources-preserved : goal.sources-preserved
 sources-preserved g c =

@@ -23,11 +23,11 @@ two_packets : (s : Sender) (blocks : List Block) (first last : RtcpPacket) → l
 two_packets s blocks first last few is =
     whole_of_two s.ssrc (option_map sent_value s.sr) (values blocks) first last (omega (arith, few, length-map blocks block_value)) is
 
-three_packets : (s : Sender) (blocks front others : List Block) (first last : RtcpPacket) → 31 < length blocks → length blocks ≤ 60 → front ≡ take 31 blocks → others ≡ drop 31 blocks → first ≡ first_of s front
+three_packets : (s : Sender) (blocks prefix others : List Block) (first last : RtcpPacket) → 31 < length blocks → length blocks ≤ 60 → prefix ≡ take 31 blocks → others ≡ drop 31 blocks → first ≡ first_of s prefix
     → reports_of s (values blocks) ++ last ∷ [] ≡ first ∷ rr s.ssrc (values others) [] ∷ last ∷ []
-three_packets s blocks front others first last many few is_front is_others is =
+three_packets s blocks prefix others first last many few is_front is_others is =
     let count = length-map blocks block_value in
-    whole_of_three s.ssrc (option_map sent_value s.sr) (values blocks) (values front) (values others) first last
+    whole_of_three s.ssrc (option_map sent_value s.sr) (values blocks) (values prefix) (values others) first last
     (omega (arith, many, count)) (omega (arith, few, count))
     (ap values is_front ∙ sym (take-map block_value 31 blocks)) (ap values is_others ∙ sym (drop-map block_value 31 blocks)) is
 
@@ -35,8 +35,8 @@ first_writable : (s : Sender) (blocks : List Block) (first : RtcpPacket) → len
 first_writable s blocks first few can is =
     subst IsWritable (sym is) (report_writable s.ssrc (option_map sent_value s.sr) (values blocks) (omega (arith, few, length-map blocks block_value)) can)
 
-front_writable : (blocks front : List Block) → front ≡ take 31 blocks → All IsWritableBlock (values blocks) → All IsWritableBlock (values front)
-front_writable blocks front is can =
+front_writable : (blocks prefix : List Block) → prefix ≡ take 31 blocks → All IsWritableBlock (values blocks) → All IsWritableBlock (values prefix)
+front_writable blocks prefix is can =
     subst (λ (b : List ReportBlock). All IsWritableBlock b) (take-map block_value 31 blocks ∙ sym (ap values is)) (All-take IsWritableBlock 31 (values blocks) can)
 
 others_writable : (s : Sender) (blocks others : List Block) → length blocks ≤ 60 → others ≡ drop 31 blocks → All IsWritableBlock (values blocks) → IsWritable (rr s.ssrc (values others) [])
@@ -66,9 +66,9 @@ returns-then-blocks-le-BLOCKS_OF_PACKET-clause-reads_back c =
 
 pub compound_of-requires-2-clause-writable : goal.compound_of-requires-2-clause-writable
 compound_of-requires-2-clause-writable c =
-    let front = c.split_at.ensures.front in
+    let prefix = c.split_at.ensures.front in
     three_writable _ _ _
-    (first_writable c.args.sender.now c.split_at.result.0.now _ (omega (arith, c.split_at.ensures.front_len)) (front_writable c.args.blocks.now _ front c.requires.writable) c.first_report-2.ensures)
+    (first_writable c.args.sender.now c.split_at.result.0.now _ (omega (arith, c.split_at.ensures.front_len)) (front_writable c.args.blocks.now _ prefix c.requires.writable) c.first_report-2.ensures)
     (others_writable c.args.sender.now c.args.blocks.now _ c.requires.few c.split_at.ensures.back c.requires.writable)
     c.requires.described
 

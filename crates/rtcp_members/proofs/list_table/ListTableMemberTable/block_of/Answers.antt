@@ -1,6 +1,6 @@
 -- The list that the call worked on is the table's.
 use Rattle.std.proofs.Common.{◌∙◌, ap}
-use Rattle.rtcp_members.specs.Waiting.{block_at}
+use Rattle.rtcp_members.specs.Pending.{block_at}
 use Rattle.rtcp_members.specs.ListViews.{table_of}
 use Rattle.rtcp_members.proofs.list_table.ListTableMemberTable.block_of.Goals as goal
 

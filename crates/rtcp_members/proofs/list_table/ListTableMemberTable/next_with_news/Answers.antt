@@ -1,4 +1,4 @@
--- What the walks found is the first that waits.
+-- What the walks found is the first pending source.
 use Rattle.std.proofs.Common.{Some, None, rules, refl}
 use Rattle.rtcp_members.specs.ListViews.{rows_of}
 use Rattle.rtcp_members.specs.Least.{least, is_due_above}

@@ -1,4 +1,4 @@
--- What is answered as the next source is due, and its block gives no packet.
+-- The next source is due, and its block gives no packet.
 use Rattle.std.proofs.Common.{rules, subst, sym}
 use Rattle.rtcp_members.specs.Tables.{HasFew}
 use Rattle.rtcp_members.proofs.LawLemmas.{first_is_due-answered}

@@ -11,7 +11,7 @@ use Rattle.rtcp_members.specs.Tables.{TableValue}
 abbrev pub EntryRow : Type 0
 EntryRow = ℕ × EntryValue
 
--- ---- Who waits
+-- ---- Pending sources
 
 -- A block of a source is due where it did not leave, and some packet of it was counted since its last block.
 abbrev pub is_due : EntryValue → Bool
@@ -36,9 +36,9 @@ is_above last row = is_after last row.0
 abbrev pub in_turn : (last : Option ℕ) → List EntryRow → List EntryRow
 in_turn last rows = filter (is_above last) rows ++ filter (λ row. not (is_above last row)) rows
 
--- The sources that a block is due of, in the turn in which they are reported behind the last one that was, if there was one.
-abbrev pub waiting : (last : Option ℕ) → TableValue → List EntryRow
-waiting last table = in_turn last (due_rows table)
+-- The sources that a block is due of, in the turn in which they are reported after the last one that was, if there was one.
+abbrev pub pending : (last : Option ℕ) → TableValue → List EntryRow
+pending last table = in_turn last (due_rows table)
 
 abbrev pub first_ssrc : List EntryRow → Option ℕ
 first_ssrc [] = None
@@ -73,7 +73,7 @@ abbrev pub after_blocks : List EntryRow → TableValue → TableValue
 after_blocks [] table = table
 after_blocks (row ∷ rows) table = after_blocks rows (after_block row.0 table)
 
--- the last SSRC that was reported, behind these rows
+-- the last SSRC that was reported, after these rows
 abbrev pub last_reported : (last : Option ℕ) → List EntryRow → Option ℕ
 last_reported last [] = last
 last_reported last (row ∷ rows) = last_reported (Some row.0) rows

@@ -1,4 +1,4 @@
--- The longest front of the sources that wait that fits.
+-- The longest prefix of the sources that wait that fits.
 use Rattle.std.proofs.Common.{◌≡◌, ℕ, zero, suc, ◌+◌, ◌<◌, ◌≤◌, ◌==◌, Bool, true, false, cond, nat_le, List, length, take, drop, count_by, Option, arith, refl, sym, ap, subst, ◌∙◌}
 use Rattle.std.specs.Prelude.{min}
 use Rattle.std.proofs.lemmas.Bool.{eqb-true, leb-true, leb-false, le-leb}
@@ -7,8 +7,8 @@ use Rattle.std.proofs.Math.Seq.{take-append_seam}
 use Rattle.std.proofs.lemmas.List.{length-append, take_min, length-take-le, take-append-drop}
 use Rattle.std.proofs.lemmas.List.Sums.{sum_by-append}
 use Rattle.rtcp_members.specs.Tables.{TableValue}
-use Rattle.rtcp_members.specs.Waiting.{EntryRow, is_due_at, waiting}
-use Rattle.rtcp_members.proofs.Turns.{waits_once}
+use Rattle.rtcp_members.specs.Pending.{EntryRow, is_due_at, pending}
+use Rattle.rtcp_members.proofs.LawLemmas.{each_is_pending_once}
 use Rattle.rtcp_report.specs.Reports.{Reporter, further_count}
 use Rattle.rtcp_report.specs.Sizes.{report_size, greatest_passing, block_count, fitting, reported_rows, IsLongestFitting}
 
@@ -48,23 +48,23 @@ none_passes test (suc n) k above within =
           ] refl
     ] refl above
 
--- ---- The front that fits
+-- ---- The prefix that fits
 
 module _ (reporter : Reporter) (limit : ℕ) where
   chosen : ℕ → ℕ
-  chosen waiting = block_count reporter limit waiting
+  chosen pending = block_count reporter limit pending
 
-  chosen_within : (waiting : ℕ) → chosen waiting ≤ waiting
+  chosen_within : (pending : ℕ) → chosen pending ≤ pending
   unfolding chosen
-  chosen_within waiting = at_most (λ blocks. nat_le (report_size reporter blocks) limit) waiting
+  chosen_within pending = at_most (λ blocks. nat_le (report_size reporter blocks) limit) pending
 
-  chosen_fits : (waiting : ℕ) → report_size reporter 0 ≤ limit → report_size reporter (chosen waiting) ≤ limit
+  chosen_fits : (pending : ℕ) → report_size reporter 0 ≤ limit → report_size reporter (chosen pending) ≤ limit
   unfolding chosen
-  chosen_fits waiting first = leb-true _ _ (passes (λ blocks. nat_le (report_size reporter blocks) limit) waiting (le-leb _ _ first))
+  chosen_fits pending first = leb-true _ _ (passes (λ blocks. nat_le (report_size reporter blocks) limit) pending (le-leb _ _ first))
 
-  none_longer : (waiting blocks : ℕ) → chosen waiting < blocks → blocks ≤ waiting → limit < report_size reporter blocks
+  none_longer : (pending blocks : ℕ) → chosen pending < blocks → blocks ≤ pending → limit < report_size reporter blocks
   unfolding chosen
-  none_longer waiting blocks above within = leb-false _ _ (none_passes (λ blocks. nat_le (report_size reporter blocks) limit) waiting blocks above within)
+  none_longer pending blocks above within = leb-false _ _ (none_passes (λ blocks. nat_le (report_size reporter blocks) limit) pending blocks above within)
 
   chosen_of_rows : (rows : List EntryRow) → length (fitting reporter limit rows) ≡ chosen (length rows)
   unfolding chosen
@@ -81,57 +81,57 @@ module _ (reporter : Reporter) (limit : ℕ) where
         longest = λ blocks above within. none_longer (length rows) blocks (omega (arith, above, count)) within;
       }
 
-  -- A longest front that fits is as long as the one that is chosen.
-  module _ (rows front : List EntryRow) (is : IsLongestFitting reporter limit rows front) where
-    whole_length : length rows ≡ length front + length is.rest
-    whole_length = ap (λ (r : List EntryRow). length r) is.parts ∙ length-append front is.rest
+  -- A longest prefix that fits is as long as the one that is chosen.
+  module _ (rows prefix : List EntryRow) (is : IsLongestFitting reporter limit rows prefix) where
+    whole_length : length rows ≡ length prefix + length is.rest
+    whole_length = ap (λ (r : List EntryRow). length r) is.parts ∙ length-append prefix is.rest
 
-    not_longer : length front ≤ chosen (length rows)
+    not_longer : length prefix ≤ chosen (length rows)
     not_longer =
-        elim (nat_le (length front) (chosen (length rows))) as (λ b. nat_le (length front) (chosen (length rows)) ≡ b → length front ≤ chosen (length rows)) [
+        elim (nat_le (length prefix) (chosen (length rows))) as (λ b. nat_le (length prefix) (chosen (length rows)) ≡ b → length prefix ≤ chosen (length rows)) [
           | true ↦ λ yes. leb-true _ _ yes
-          | false ↦ λ fewer. absurd (omega (arith, is.fits, none_longer (length rows) (length front) (leb-false _ _ fewer) (omega (arith, whole_length))))
+          | false ↦ λ fewer. absurd (omega (arith, is.fits, none_longer (length rows) (length prefix) (leb-false _ _ fewer) (omega (arith, whole_length))))
         ] refl
 
-    not_shorter : chosen (length rows) ≤ length front
+    not_shorter : chosen (length rows) ≤ length prefix
     not_shorter =
-        let first : report_size reporter 0 ≤ limit = omega (arith, is.fits, size_rises reporter 0 (length front) (omega arith)) in
-        elim (nat_le (chosen (length rows)) (length front)) as (λ b. nat_le (chosen (length rows)) (length front) ≡ b → chosen (length rows) ≤ length front) [
+        let first : report_size reporter 0 ≤ limit = omega (arith, is.fits, size_rises reporter 0 (length prefix) (omega arith)) in
+        elim (nat_le (chosen (length rows)) (length prefix)) as (λ b. nat_le (chosen (length rows)) (length prefix) ≡ b → chosen (length rows) ≤ length prefix) [
           | true ↦ λ yes. leb-true _ _ yes
           | false ↦ λ more. absurd (omega (arith, chosen_fits (length rows) first, is.longest (chosen (length rows)) (leb-false _ _ more) (chosen_within (length rows))))
         ] refl
 
-    pub only_longest : front ≡ fitting reporter limit rows
+    pub only_longest : prefix ≡ fitting reporter limit rows
     unfolding chosen
     only_longest =
-        let count : length front ≡ chosen (length rows) = omega (arith, not_longer, not_shorter) in
-        sym (take-append_seam front is.rest) ∙ (λ i. take (count i) (sym is.parts i))
+        let count : length prefix ≡ chosen (length rows) = omega (arith, not_longer, not_shorter) in
+        sym (take-append_seam prefix is.rest) ∙ (λ i. take (count i) (sym is.parts i))
 
-  -- Where so many blocks fit, and no more, the front has as many rows, or all.
+  -- Where so many blocks fit, and no more, the prefix has as many rows, or all.
   module _ (most : ℕ) (fits : report_size reporter most ≤ limit) (greatest : limit < report_size reporter (most + 1)) where
     first_fits : report_size reporter 0 ≤ limit
     first_fits = omega (arith, fits, size_rises reporter 0 most (omega arith))
 
-    no_more : (waiting : ℕ) → chosen waiting ≤ most
-    no_more waiting =
-        elim (nat_le (chosen waiting) most) as (λ b. nat_le (chosen waiting) most ≡ b → chosen waiting ≤ most) [
+    no_more : (pending : ℕ) → chosen pending ≤ most
+    no_more pending =
+        elim (nat_le (chosen pending) most) as (λ b. nat_le (chosen pending) most ≡ b → chosen pending ≤ most) [
           | true ↦ λ is. leb-true _ _ is
           | false ↦ λ is.
-              let above : most + 1 ≤ chosen waiting = omega (arith, leb-false (chosen waiting) most is) in
-              absurd (omega (arith, greatest, chosen_fits waiting first_fits, size_rises reporter (most + 1) (chosen waiting) above))
+              let above : most + 1 ≤ chosen pending = omega (arith, leb-false (chosen pending) most is) in
+              absurd (omega (arith, greatest, chosen_fits pending first_fits, size_rises reporter (most + 1) (chosen pending) above))
         ] refl
 
-    no_fewer : (waiting : ℕ) → min most waiting ≤ chosen waiting
-    no_fewer waiting =
-        elim (nat_le (min most waiting) (chosen waiting)) as (λ b. nat_le (min most waiting) (chosen waiting) ≡ b → min most waiting ≤ chosen waiting) [
+    no_fewer : (pending : ℕ) → min most pending ≤ chosen pending
+    no_fewer pending =
+        elim (nat_le (min most pending) (chosen pending)) as (λ b. nat_le (min most pending) (chosen pending) ≡ b → min most pending ≤ chosen pending) [
           | true ↦ λ is. leb-true _ _ is
           | false ↦ λ is.
-              let larger : limit < report_size reporter (min most waiting) = none_longer waiting (min most waiting) (leb-false (min most waiting) (chosen waiting) is) (omega arith) in
-              absurd (omega (arith, fits, larger, size_rises reporter (min most waiting) most (omega arith)))
+              let larger : limit < report_size reporter (min most pending) = none_longer pending (min most pending) (leb-false (min most pending) (chosen pending) is) (omega arith) in
+              absurd (omega (arith, fits, larger, size_rises reporter (min most pending) most (omega arith)))
         ] refl
 
-    chosen_is : (waiting : ℕ) → chosen waiting ≡ min most waiting
-    chosen_is waiting = omega (arith, no_more waiting, no_fewer waiting, chosen_within waiting)
+    chosen_is : (pending : ℕ) → chosen pending ≡ min most pending
+    chosen_is pending = omega (arith, no_more pending, no_fewer pending, chosen_within pending)
 
     pub front_is : (rows : List EntryRow) → fitting reporter limit rows ≡ take most rows
     unfolding chosen
@@ -142,9 +142,9 @@ module _ (reporter : Reporter) (limit : ℕ) where
 count_of : ℕ → List EntryRow → ℕ
 count_of ssrc rows = count_by (λ (row : EntryRow). row.0 == ssrc) rows
 
-count_front : (ssrc most : ℕ) (rows : List EntryRow) → count_of ssrc (take most rows) ≤ count_of ssrc rows
+count_prefix : (ssrc most : ℕ) (rows : List EntryRow) → count_of ssrc (take most rows) ≤ count_of ssrc rows
 unfolding count_of
-count_front ssrc most rows =
+count_prefix ssrc most rows =
     let one : EntryRow → ℕ = λ row. cond (row.0 == ssrc) 1 0 in
     let parts : count_of ssrc rows ≡ count_of ssrc (take most rows) + count_of ssrc (drop most rows) =
     ap (count_of ssrc) (sym (take-append-drop most rows)) ∙ sum_by-append one (take most rows) (drop most rows) in
@@ -154,5 +154,5 @@ pub none_twice : (reporter : Reporter) (limit : ℕ) (last : Option ℕ) (table 
 unfolding count_of
 none_twice reporter limit last table ssrc =
     let one : (b : Bool) → cond b 1 0 ≤ 1 = λ b. elim b as (λ b. cond b 1 0 ≤ 1) [ true ↦ omega arith | false ↦ omega arith ] in
-    let waits : count_of ssrc (waiting last table) ≡ cond (is_due_at ssrc table) 1 0 = waits_once last table ssrc in
-    omega (arith, count_front ssrc (block_count reporter limit (length (waiting last table))) (waiting last table), waits, one (is_due_at ssrc table))
+    let waits : count_of ssrc (pending last table) ≡ cond (is_due_at ssrc table) 1 0 = each_is_pending_once last table ssrc in
+    omega (arith, count_prefix ssrc (block_count reporter limit (length (pending last table))) (pending last table), waits, one (is_due_at ssrc table))
