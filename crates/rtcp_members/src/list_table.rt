@@ -75,9 +75,11 @@ impl MemberTable for ListTable {
     ) -> Dropped {
         let (entries, senders) = (self.entries.len(), self.senders());
         drop_silent(&mut self.entries, silent_before, data_before, gone_before);
+        let removed = (entries - self.entries.len()) as u32;
+        let ended = senders - self.senders();
         Dropped {
-            entries: (entries - self.entries.len()) as u32,
-            senders: senders - self.senders(),
+            entries: removed,
+            senders: ended,
         }
     }
 
