@@ -3,7 +3,7 @@ use Rattle.std.proofs.Common.{◌≡◌, ℕ, ◌+◌, ◌-◌, ◌%◌, ◌<◌
 use Rattle.std.proofs.lemmas.Bool.{cases_lt}
 use Rattle.std.proofs.lemmas.Bool.Decides.{nat_tests}
 use Rattle.rtcp_source.specs.declared.taken.Taken.TheVariants.{Probation, Counted, Became, Restarted, Bad}
-use Rattle.rtcp_source.specs.Packets.{Given, packet_at, packet_came, report_came, block_made, CountedPacket, PacketRun, HasCounted, is_near, place_near, follows, newest, taken_as, taken_in, run_with, run_of, transit_of, greatest_place}
+use Rattle.rtcp_source.specs.Packets.{Given, packet_at, with_counted, packet_came, report_came, block_made, CountedPacket, PacketRun, HasCounted, is_near, place_near, follows, newest, taken_as, taken_in, run_with, run_of, transit_of, greatest_place}
 use Rattle.rtcp_source.specs.Integers.{IsIntegerNear, HasIntegerNear, HasPlaceNear, IsPlaceOfInteger, place_of, greatest_integer}
 
 -- ---- Integers near a greatest one that is not negative
@@ -108,11 +108,11 @@ place_at : (seq : ℕ) (integer : ℤ) → seq < 65536 → (greatest : ℕ) → 
 place_at seq integer small greatest near = (has_place greatest seq integer small near).1
 
 pub enters_run : (given : List Given) (seq timestamp arrival : ℕ) (integer : ℤ) → seq < 65536 → HasCounted (run_of given) → IsIntegerNear (greatest_integer (run_of given)) seq integer
-    → (run_of (packet_came seq timestamp arrival ∷ given)).counted ≡ packet_at (place_of integer) (transit_of timestamp arrival) ∷ (run_of given).counted
+    → run_of (packet_came seq timestamp arrival ∷ given) ≡ with_counted (packet_at (place_of integer) (transit_of timestamp arrival)) (run_of given)
 enters_run given seq timestamp arrival integer small some near =
     let run : PacketRun = run_of given in
     let counted : taken_in run seq ≡ Counted = (counted_exactly given seq small some).1 (integer, near) in
     let place : place_near (greatest_place run.counted) seq ≡ place_of integer =
     by_integer (λ place greatest. IsIntegerNear greatest seq integer → place_near place seq ≡ place_of integer) (place_at seq integer small) (greatest_place run.counted) (greatest_high given some) near in
-    ap (λ taken. (run_with taken seq (transit_of timestamp arrival) run).counted) counted
-    ∙ ap (λ (place : ℕ). packet_at place (transit_of timestamp arrival) ∷ run.counted) place
+    ap (λ taken. run_with taken seq (transit_of timestamp arrival) run) counted
+    ∙ ap (λ (place : ℕ). with_counted (packet_at place (transit_of timestamp arrival)) run) place

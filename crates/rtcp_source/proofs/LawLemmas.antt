@@ -2,7 +2,7 @@
 use Rattle.std.proofs.Common.{◌≡◌, ℕ, ◌+◌, ◌-◌, ◌%◌, ◌^◌, ◌<◌, ◌≤◌, ◌↔◌, ℤ, pos, unsigned_abs, true, List, [], ◌∷◌, refl, rules}
 use Rattle.std.specs.Int.{cast_signed, w32}
 use Rattle.rtcp_source.specs.declared.taken.Taken.TheVariants.{Counted}
-use Rattle.rtcp_source.specs.Packets.{Given, packet_at, packet_came, report_came, block_made, HasCounted, greatest_place, is_near, place_near, taken_in, transit_of, run_of, has_news_since, newest, PacketRun}
+use Rattle.rtcp_source.specs.Packets.{Given, packet_at, with_counted, packet_came, report_came, block_made, HasCounted, greatest_place, is_near, place_near, taken_in, transit_of, run_of, has_news_since, newest, PacketRun}
 use Rattle.rtcp_source.specs.Integers.{IsIntegerNear, HasIntegerNear, HasPlaceNear, IsPlaceOfInteger, place_of, greatest_integer}
 use Rattle.rtcp_source.specs.Summary.{summary_of, last_told, transit_distance}
 use Rattle.rtcp_source.specs.Blocks.{block_for, block_over, news_of}
@@ -44,7 +44,7 @@ pub counted_by_integer-counted : (given : List Given) (seq : ℕ) → seq < 6553
 counted_by_integer-counted = counted_exactly
 
 pub counted_by_integer-enters : (given : List Given) (seq timestamp arrival : ℕ) (integer : ℤ) → seq < 65536 → HasCounted (run_of given) → IsIntegerNear (greatest_integer (run_of given)) seq integer
-    → (run_of (packet_came seq timestamp arrival ∷ given)).counted ≡ packet_at (place_of integer) (transit_of timestamp arrival) ∷ (run_of given).counted
+    → run_of (packet_came seq timestamp arrival ∷ given) ≡ with_counted (packet_at (place_of integer) (transit_of timestamp arrival)) (run_of given)
 counted_by_integer-enters = enters_run
 
 pub counted_by_integer-one : (greatest : ℤ) (seq : ℕ) (a b : ℤ) → IsIntegerNear greatest seq a → IsIntegerNear greatest seq b → a ≡ b

@@ -35,8 +35,8 @@ abbrev pub fraction_since : (counted reported : List CountedPacket) → ℕ
 fraction_since counted reported =
     fraction_of (expected_of counted - expected_of reported) (length counted - length reported)
 
--- The block of a source over these packets, with what is known of its last sender report. The greatest place
--- is 65536 above the greatest integer, which is the highest sequence number extended by its cycles.
+-- The block of a source over these packets, with what is known of its last sender report. The extended
+-- highest sequence number is the greatest integer, which is 65536 below the greatest place.
 abbrev pub block_of_packets : (ssrc lsr dlsr : ℕ) (counted reported : List CountedPacket) → ReportBlock
 block_of_packets ssrc lsr dlsr counted reported =
     record {

@@ -68,9 +68,9 @@ follows None seq = false
 follows (Some last) seq = seq == (last + 1) % 65536
 
 -- What a packet is, by the greatest place of the run, or none before the first run, and by the last stray. A
--- packet near the greatest place is counted. Another one starts a run where its number is the successor of
--- the last stray's, and is a stray elsewhere. Before the first run this is probation as in A.1: each packet
--- whose number is no successor begins probation anew.
+-- packet near the greatest place is counted. Any other one starts a run if its number is the successor of the
+-- last stray's, and is a stray if not. Before the first run this is probation as in A.1: each packet whose
+-- number is no successor begins probation anew.
 abbrev pub taken_as : (greatest stray : Option ℕ) (seq : ℕ) → Taken
 taken_as None stray seq = if follows stray seq then Became else Probation
 taken_as (Some greatest) stray seq =
@@ -88,16 +88,20 @@ newest (x ∷ xs) = Some x
 abbrev pub taken_in : PacketRun → (seq : ℕ) → Taken
 taken_in run seq = taken_as (greatest_of run.counted) (newest run.strays) seq
 
--- A run that starts with this packet. It forgets earlier strays, as in A.1, so that the next restart needs
--- two new ones in a row.
+-- A run that starts with this packet. It forgets earlier strays, as in A.1: only strays after it can lead to
+-- another restart.
 abbrev pub run_started : (seq transit : ℕ) → PacketRun
 run_started seq transit =
     record { counted = packet_at (seq + 65536) transit ∷ []; strays = []; reported = [] }
 
+-- A run with one counted packet more.
+abbrev pub with_counted : CountedPacket → PacketRun → PacketRun
+with_counted packet run = record run { counted = packet ∷ run.counted }
+
 -- The run after one packet more.
 abbrev pub run_with : Taken → (seq transit : ℕ) → PacketRun → PacketRun
 run_with Counted seq transit run =
-    record run { counted = packet_at (place_near (greatest_place run.counted) seq) transit ∷ run.counted }
+    with_counted (packet_at (place_near (greatest_place run.counted) seq) transit) run
 run_with Became seq transit run = run_started seq transit
 run_with Restarted seq transit run = run_started seq transit
 run_with Probation seq transit run = record run { strays = seq ∷ run.strays }

@@ -3,7 +3,7 @@
 ghost use Rattle.std.specs.Prelude.{◌≡◌, [], ◌∷◌, ◌+◌, ◌≤◌, ◌<◌, ◌↔◌, ℕ, ℤ, pos, true, List, ◌-◌, ◌%◌, ◌^◌, unsigned_abs};
 ghost use Rattle.std.specs.Int.{cast_signed, w32};
 ghost use Rattle.rtcp_source.specs.declared.taken.Taken.TheVariants.{Counted};
-ghost use Rattle.rtcp_source.specs.Packets.{Given, packet_came, report_came, block_made, HasCounted, packet_at, greatest_place, is_near, place_near, taken_in, transit_of, run_of, has_news_since};
+ghost use Rattle.rtcp_source.specs.Packets.{Given, packet_came, report_came, block_made, HasCounted, packet_at, with_counted, greatest_place, is_near, place_near, taken_in, transit_of, run_of, has_news_since};
 ghost use Rattle.rtcp_source.specs.Integers.{IsIntegerNear, HasIntegerNear, HasPlaceNear, IsPlaceOfInteger, place_of, greatest_integer};
 ghost use Rattle.rtcp_source.specs.Blocks.{block_for, block_over, news_of};
 ghost use Rattle.rtcp_source.specs.Steps.{no_source, taken_by, after_packet, after_told, after_block_made};
@@ -19,7 +19,7 @@ pub fn summary_suffices()
         block_for ssrc t (summary_of given) ≡ block_over ssrc t given }
 {}
 
-/// What is kept of a source after one thing more follows from what was kept before it.
+/// What is kept of a source after one thing more is computed from what was kept before it.
 pub fn summary_moves()
     ensures none { summary_of [] ≡ no_source }
     ensures packet { (seq timestamp arrival : ℕ) (given : List Given) →
@@ -31,9 +31,9 @@ pub fn summary_moves()
         summary_of (block_made ∷ given) ≡ after_block_made (summary_of given) }
 {}
 
-/// Once a run was started, a packet is counted in it exactly where some integer of its number is near the
-/// run's greatest integer, which is never negative. There is at most one such integer, and the packet enters
-/// the run with its place (RFC 3550, A.1).
+/// Once a run was started, a packet is counted in it exactly where its number has an integer near the run's
+/// greatest one, which is never negative. There is at most one such integer, and the packet enters the run
+/// with its place (RFC 3550, A.1).
 pub fn counted_by_integer()
     ensures greatest { (given : List Given) → HasCounted (run_of given) →
         65536 ≤ greatest_place (run_of given).counted }
@@ -41,14 +41,14 @@ pub fn counted_by_integer()
         (taken_in (run_of given) seq ≡ Counted) ↔ HasIntegerNear (greatest_integer (run_of given)) seq }
     ensures enters { (given : List Given) (seq timestamp arrival : ℕ) (integer : ℤ) → seq < 65536 →
         HasCounted (run_of given) → IsIntegerNear (greatest_integer (run_of given)) seq integer →
-        (run_of (packet_came seq timestamp arrival ∷ given)).counted
-        ≡ packet_at (place_of integer) (transit_of timestamp arrival) ∷ (run_of given).counted }
+        run_of (packet_came seq timestamp arrival ∷ given)
+        ≡ with_counted (packet_at (place_of integer) (transit_of timestamp arrival)) (run_of given) }
     ensures one { (greatest : ℤ) (seq : ℕ) (a b : ℤ) →
         IsIntegerNear greatest seq a → IsIntegerNear greatest seq b → a ≡ b }
 {}
 
-/// A number that has an integer near the greatest one is near it, and has that integer's place (RFC 3550,
-/// A.1).
+/// A number that has an integer near the greatest one is near the greatest place, and has that integer's
+/// place (RFC 3550, A.1).
 pub fn integer_is_found()
     ensures { (greatest seq : ℕ) (integer : ℤ) → seq < 65536 → IsIntegerNear (pos greatest) seq integer →
         HasPlaceNear (greatest + 65536) seq (place_of integer) }
@@ -60,8 +60,8 @@ pub fn place_has_integer()
         IsPlaceOfInteger (pos greatest) seq (place_near (greatest + 65536) seq) }
 {}
 
-/// The distance of two transits is the absolute value of their difference as a signed number of 32 bits (RFC
-/// 3550, A.8).
+/// The distance of two transits is the absolute value of their difference, as a signed number of 32 bits
+/// (RFC 3550, A.8).
 pub fn distance_is_signed()
     ensures { (transit before : ℕ) → transit < 2 ^ 32 → before < 2 ^ 32 →
         transit_distance transit before

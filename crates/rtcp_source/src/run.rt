@@ -32,8 +32,8 @@ pub(crate) struct Run {
 }
 
 impl Run {
-    /// The run that starts with this packet. Its jitter is 0: A.1 leaves open what a restart does to the
-    /// jitter.
+    /// The run that starts with this packet. Its jitter is 0, after a restart too: this is the project's
+    /// choice, since A.1 leaves it open.
     pub(crate) fn started(seq: u16, transit: u32) -> Run
         ensures run { run_value result ≡ run_from seq transit }
         ensures bounded { IsRunBounded 1 (run_value result) }
@@ -129,8 +129,8 @@ fn distance(transit: u32, before: u32) -> u32
         .min(before.wrapping_sub(transit))
 }
 
-/// The fraction lost of the packets expected, in 1/256. Where some were expected, some were counted, so that
-/// it is less than 1.
+/// The fraction lost of the packets expected, in 1/256. Where some were expected, some were counted, so the
+/// fraction is below 1.
 fn fraction(expected: u64, received: u64) -> u8
     requires high { expected < 2 ^ 55 }
     requires counted { 1 ≤ expected → 1 ≤ received }

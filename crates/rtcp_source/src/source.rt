@@ -59,7 +59,8 @@ impl Source {
         }
     }
 
-    /// Takes a packet, and returns what it is to the source (appendix A.1).
+    /// Takes a packet, and returns what it is to the source (appendix A.1). `Taken::is_counted` says whether
+    /// it was counted.
     ///
     /// `seq` and `rtp_ts` are the packet's sequence number and timestamp, `arrival` is its arrival in units
     /// of the timestamp's clock, modulo 2^32, as rtcp_clock's `rtp_units` gives it. A source takes at most
@@ -87,7 +88,8 @@ impl Source {
     }
 
     /// Takes a sender report of the source with this NTP timestamp, which came at the moment `t`, in
-    /// microseconds (6.4.1). The next blocks say it, until another one comes. A restart does not forget it.
+    /// microseconds (6.4.1). Until another one comes, blocks hold its LSR and the time since, after a restart
+    /// too.
     pub fn saw_sr(&mut self, ntp: u64, t: u64)
         ensures step { self.new ≡ after_told ntp t self.old }
         ensures stands { StandsWith self.old self.new (report_came ntp t) }

@@ -5,7 +5,7 @@ ghost use Rattle.std.specs.Prelude.{◌≡◌};
 /// What a packet is to its source.
 ///
 /// A number is near the greatest one of a run if it is fewer than 3,000 after it or fewer than 100 before it,
-/// modulo 65536. A packet whose number is not near is a stray, and so is each packet before the first run.
+/// modulo 65536. A stray is a packet that is not counted: its number is not near, or there is no run yet.
 #[derive(Clone, Copy, Debug, PartialEq, Eq)]
 pub enum Taken {
     /// The source is on probation, and the packet's number is not the successor of the one before it. The
@@ -16,12 +16,12 @@ pub enum Taken {
     /// repeated.
     Counted,
     /// The packet's number is the successor of the one before it, which ends probation. It is the first
-    /// counted packet of the first run, which forgets the packets of probation.
+    /// counted packet of the first run.
     Became,
     /// The packet's number is not near the greatest one, and is the successor of the last stray's. It is the
-    /// first counted packet of a new run. A restart forgets earlier strays, as in A.1: the next restart needs
-    /// two new ones. It begins the counts anew. That the jitter returns to 0 is this crate's choice, since
-    /// A.1 leaves it open.
+    /// first counted packet of a new run. A restart begins the counts anew and forgets earlier strays, as in
+    /// A.1: only strays after it can lead to another one. That the jitter returns to 0 is this project's
+    /// choice, since A.1 leaves it open.
     Restarted,
     /// The packet's number is not near the greatest one. The packet is a stray, and is not counted.
     Bad,

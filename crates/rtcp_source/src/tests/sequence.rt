@@ -75,7 +75,8 @@ fn a_counted_packet_keeps_the_stray(rt: HostRuntime) {
     assert_eq!(rt; source.take(5001, 0, 0), Taken::Restarted);
 }
 
-/// A stray before a restart does not restart again: 5001 is once more the successor of 5000, which was forgotten.
+/// A stray before a restart does not restart again: 5001 is once more the successor of 5000, which was
+/// forgotten.
 #[test]
 fn a_restart_forgets_earlier_strays(rt: HostRuntime) {
     let mut source = Source::new();
