@@ -1,4 +1,6 @@
-pub mod Stepping
-pub mod Integers
-pub mod News
-pub mod Rows
+pub mod LawLemmas
+mod Stepping
+mod Summing
+mod Integers
+mod News
+mod Rows

@@ -1,10 +1,10 @@
 -- The numbers that are kept of a source follow what it is given.
-use Rattle.std.proofs.Common.{◌≡◌, ℕ, suc, ◌+◌, true, false, if◌then◌else◌, List, [], ◌∷◌, length, Option, arith, refl}
+use Rattle.std.proofs.Common.{◌≡◌, ℕ, suc, ◌+◌, true, false, if◌then◌else◌, List, [], ◌∷◌, length, Option, arith, refl, ap}
 use Rattle.rtcp_source.specs.declared.taken.Taken.{Taken}
 use Rattle.rtcp_source.specs.declared.taken.Taken.TheVariants.{Probation, Counted, Became, Restarted, Bad}
-use Rattle.rtcp_source.specs.Packets.{Given, packet_came, CountedPacket, PacketRun, is_near, follows, newest, taken_in, run_with, transit_of, run_of, greatest_place}
+use Rattle.rtcp_source.specs.Packets.{Given, packet_came, block_made, CountedPacket, PacketRun, is_near, follows, newest, taken_in, run_with, transit_of, run_of, greatest_place}
 use Rattle.rtcp_source.specs.Summary.{ToldValue, SourceValue, numbers_of, packet_count, last_told, summary_of, StandsAt}
-use Rattle.rtcp_source.specs.Steps.{taken_by, source_with, after_packet}
+use Rattle.rtcp_source.specs.Steps.{taken_by, source_with, after_packet, run_reported, after_block_made}
 
 -- what is kept of a run, beside the count of packets and the last sender report
 abbrev summarised : (packets : ℕ) (last : Option ToldValue) → PacketRun → SourceValue
@@ -35,9 +35,19 @@ moves seq transit packets last (p ∷ earlier) before strays =
     ]
 
 -- One packet more moves the summary as it moves the numbers.
-pub summary_moves : (seq timestamp arrival : ℕ) (given : List Given) → summary_of (packet_came seq timestamp arrival ∷ given) ≡ after_packet seq timestamp arrival (summary_of given)
-summary_moves seq timestamp arrival given =
+pub packet_moves : (seq timestamp arrival : ℕ) (given : List Given) → summary_of (packet_came seq timestamp arrival ∷ given) ≡ after_packet seq timestamp arrival (summary_of given)
+packet_moves seq timestamp arrival given =
     let run : PacketRun = run_of given in moves seq (transit_of timestamp arrival) (packet_count given) (last_told given) run.counted run.reported run.strays
 
+same_numbers : (counted before : List CountedPacket) → numbers_of counted counted ≡ run_reported (numbers_of counted before)
+same_numbers [] before = refl
+same_numbers (p ∷ earlier) before = refl
+
+-- A block moves the summary as it moves the numbers.
+pub block_moves : (given : List Given) → summary_of (block_made ∷ given) ≡ after_block_made (summary_of given)
+block_moves given =
+    let run : PacketRun = run_of given in
+    ap (λ numbers. record { packets = packet_count given; run = numbers; stray = newest run.strays; told = last_told given }) (same_numbers run.counted run.reported)
+
 pub stands_after : (seq timestamp arrival : ℕ) (source next : SourceValue) → next ≡ after_packet seq timestamp arrival source → (given : List Given) → StandsAt source given → StandsAt next (packet_came seq timestamp arrival ∷ given)
-stands_after seq timestamp arrival source next step given stands = rw (step, stands, summary_moves seq timestamp arrival given) refl
+stands_after seq timestamp arrival source next step given stands = rw (step, stands, packet_moves seq timestamp arrival given) refl

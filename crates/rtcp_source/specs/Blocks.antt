@@ -1,18 +1,20 @@
--- The reception report block of a source (RFC 3550, 6.4.1, A.3), and its news.
-use Rattle.std.specs.Prelude.{ℕ, ℤ, pos, negsuc, ◌-ℤ◌, ◌+◌, ◌-◌, ◌*◌, ◌/◌, ◌%◌, ◌^◌, Bool, false, nat_lt, Option, Some, None, option_map}
+-- The reception report block of a source (RFC 3550, 6.4.1, A.3), and whether it has news.
+use Rattle.std.specs.Prelude.{ℕ, ℤ, pos, negsuc, ◌-ℤ◌, ◌+◌, ◌-◌, ◌*◌, ◌/◌, ◌%◌, ◌^◌, Bool, false, nat_lt, List, [], ◌∷◌, length, Option, Some, None, option_map}
 use Rattle.std.specs.Int.{int_min, int_max}
 use Rattle.rtcp_wire.specs.Values.{ReportBlock}
 use Rattle.rtcp_clock.specs.Moments.{short_seconds}
-use Rattle.rtcp_source.specs.Summary.{RunValue, ToldValue, SourceValue}
+use Rattle.rtcp_source.specs.Packets.{Given, CountedPacket, PacketRun, greatest_place, run_of}
+use Rattle.rtcp_source.specs.Summary.{RunValue, ToldValue, SourceValue, expected_of, jitter_of, last_told}
 
-abbrev pub expected_in : RunValue → ℕ
-expected_in run = run.greatest + 1 - run.first
+-- ---- The fields
 
--- The packets lost, which are fewer than none where some came twice, as a number of 24 bits with a sign.
+-- The packets lost, as a signed number of 24 bits. It is negative where more came than were expected:
+-- repeated packets, and late ones from before the first.
 abbrev pub lost_of : (expected received : ℕ) → ℤ
 lost_of expected received = int_max (negsuc 8388607) (int_min (pos 8388607) (pos expected -ℤ pos received))
 
--- The fraction lost, in 1/256. It is 0 where no packet was expected, and where no fewer came than were expected.
+-- The fraction lost, in 1/256. It is 0 where no packet was expected, and where as many came as were expected,
+-- or more.
 abbrev pub fraction_of : (expected received : ℕ) → ℕ
 fraction_of expected received = 256 * (expected - received) / expected
 
@@ -24,6 +26,45 @@ lsr_of (Some told) = told.lsr
 abbrev pub dlsr_of : Option ToldValue → (t : ℕ) → ℕ
 dlsr_of None t = 0
 dlsr_of (Some told) t = short_seconds (t - told.moment)
+
+-- ---- The block, by the packets of the last run
+
+-- The fraction of the packets lost since the last block (A.3): of those expected since then, and those
+-- counted.
+abbrev pub fraction_since : (counted reported : List CountedPacket) → ℕ
+fraction_since counted reported =
+    fraction_of (expected_of counted - expected_of reported) (length counted - length reported)
+
+-- The block of a source over these packets, with what is known of its last sender report. The extended
+-- highest sequence number is the greatest integer, which is 65536 below the greatest place.
+abbrev pub block_of_packets : (ssrc lsr dlsr : ℕ) (counted reported : List CountedPacket) → ReportBlock
+block_of_packets ssrc lsr dlsr counted reported =
+    record {
+      ssrc = ssrc;
+      fraction = fraction_since counted reported;
+      lost = lost_of (expected_of counted) (length counted);
+      highest = (greatest_place counted - 65536) % 2 ^ 32;
+      jitter = jitter_of counted / 16;
+      lsr = lsr;
+      dlsr = dlsr;
+    }
+
+-- There is no block where no packet was counted.
+abbrev pub where_counted : List CountedPacket → ReportBlock → Option ReportBlock
+where_counted [] block = None
+where_counted (p ∷ earlier) block = Some block
+
+-- The block of a source `ssrc` at the moment `t`, by all that it was given.
+abbrev pub block_over : (ssrc t : ℕ) → List Given → Option ReportBlock
+block_over ssrc t given =
+    let run : PacketRun = run_of given in
+    let told : Option ToldValue = last_told given in
+    where_counted run.counted (block_of_packets ssrc (lsr_of told) (dlsr_of told t) run.counted run.reported)
+
+-- ---- The block, by what is kept
+
+abbrev pub expected_in : RunValue → ℕ
+expected_in run = run.greatest + 1 - run.first
 
 -- The block of a source over its last run, with what is known of its last sender report.
 abbrev pub block_of_run : (ssrc lsr dlsr : ℕ) → RunValue → ReportBlock
@@ -45,4 +86,5 @@ news_of (Some run) = nat_lt run.received_before run.received
 
 -- The block of a source `ssrc` at the moment `t`, if some packet of it was counted.
 abbrev pub block_for : (ssrc t : ℕ) → SourceValue → Option ReportBlock
-block_for ssrc t source = option_map (block_of_run ssrc (lsr_of source.told) (dlsr_of source.told t)) source.run
+block_for ssrc t source =
+    option_map (block_of_run ssrc (lsr_of source.told) (dlsr_of source.told t)) source.run

@@ -1,8 +1,9 @@
--- What holds of the numbers that are kept of a source, so that none of them passes the room that it has.
+-- Bounds of the numbers that are kept of a source, so that each fits its type.
 use Rattle.std.specs.Prelude.{ℕ, ◌+◌, ◌*◌, ◌^◌, ◌≤◌, Option, Some, None}
 use Rattle.rtcp_source.specs.Summary.{RunValue}
 
--- A counted packet is at most 2999 places above the greatest one, so no more than 3000 places come to be expected with it.
+-- A counted packet is at most 2999 places above the greatest one, so no more than 3000 places come to be
+-- expected with it.
 pub record IsRunBounded (packets : ℕ) (run : RunValue) : Type 0 where
   pub first_low : 65536 ≤ run.first
   pub first_high : run.first ≤ 131071
@@ -11,7 +12,8 @@ pub record IsRunBounded (packets : ℕ) (run : RunValue) : Type 0 where
   pub counted : 1 ≤ run.received
   pub before : run.received_before ≤ run.received
   pub expected_before : run.first + run.expected_before ≤ run.greatest + 1
-  pub interval : run.greatest + 1 + 3000 * run.received_before ≤ run.first + run.expected_before + 3000 * run.received
+  pub interval : run.greatest + 1 + 3000 * run.received_before
+      ≤ run.first + run.expected_before + 3000 * run.received
   pub reach : run.greatest ≤ 131071 + 3000 * run.received
   pub jitter : run.jitter ≤ 2 ^ 35 + 7
 

@@ -14,11 +14,11 @@ abbrev pub greatest_in : Option RunValue → Option ℕ
 greatest_in None = None
 greatest_in (Some run) = Some run.greatest
 
--- what a packet of this number is to the source
+-- What a packet of this number is to the source.
 abbrev pub taken_by : SourceValue → (seq : ℕ) → Taken
 taken_by source seq = taken_as (greatest_in source.run) source.stray seq
 
--- a run that starts with a packet
+-- A run that starts with a packet. Its jitter is 0.
 abbrev pub run_from : (seq transit : ℕ) → RunValue
 run_from seq transit =
     record {
@@ -31,7 +31,7 @@ run_from seq transit =
       jitter = 0;
     }
 
--- a run with one counted packet more
+-- The run after one counted packet more.
 abbrev pub run_after : (seq transit : ℕ) → RunValue → RunValue
 run_after seq transit run =
     record run {
@@ -45,8 +45,10 @@ abbrev pub counted_in : (seq transit : ℕ) → Option RunValue → Option RunVa
 counted_in seq transit None = None
 counted_in seq transit (Some run) = Some (run_after seq transit run)
 
+-- The source after one packet more. A run that starts forgets the strays before it.
 abbrev pub source_with : Taken → (seq transit : ℕ) → SourceValue → SourceValue
-source_with Counted seq transit source = record source { packets = source.packets + 1; run = counted_in seq transit source.run }
+source_with Counted seq transit source =
+    record source { packets = source.packets + 1; run = counted_in seq transit source.run }
 source_with Became seq transit source =
     record source { packets = source.packets + 1; run = Some (run_from seq transit); stray = None }
 source_with Restarted seq transit source =
@@ -55,14 +57,17 @@ source_with Probation seq transit source = record source { packets = source.pack
 source_with Bad seq transit source = record source { packets = source.packets + 1; stray = Some seq }
 
 abbrev pub after_packet : (seq timestamp arrival : ℕ) → SourceValue → SourceValue
-after_packet seq timestamp arrival source = source_with (taken_by source seq) seq (transit_of timestamp arrival) source
+after_packet seq timestamp arrival source =
+    source_with (taken_by source seq) seq (transit_of timestamp arrival) source
 
 abbrev pub after_told : (ntp moment : ℕ) → SourceValue → SourceValue
-after_told ntp moment source = record source { told = Some (record { lsr = middle_bits ntp; moment = moment }) }
+after_told ntp moment source =
+    record source { told = Some (record { lsr = middle_bits ntp; moment = moment }) }
 
 abbrev pub run_reported : Option RunValue → Option RunValue
 run_reported None = None
-run_reported (Some run) = Some (record run { expected_before = expected_in run; received_before = run.received })
+run_reported (Some run) =
+    Some (record run { expected_before = expected_in run; received_before = run.received })
 
 abbrev pub after_block_made : SourceValue → SourceValue
 after_block_made source = record source { run = run_reported source.run }

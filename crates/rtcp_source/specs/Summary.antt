@@ -4,7 +4,7 @@ use Rattle.rtcp_source.specs.Packets.{Given, packet_came, report_came, block_mad
 
 -- A run in numbers.
 pub record RunValue : Type 0 where
-  -- the place of its first packet, and the greatest one
+  -- the place of its first packet, and the greatest place
   pub first : ℕ
   pub greatest : ℕ
   -- how many packets were counted in it
@@ -14,10 +14,10 @@ pub record RunValue : Type 0 where
   pub received_before : ℕ
   -- the transit of its newest packet
   pub transit : ℕ
-  -- its jitter, in 1/16 unit of the media's clock
+  -- its jitter, in 1/16 of a unit of the media's clock
   pub jitter : ℕ
 
--- The last sender report: the middle 32 bits of its NTP timestamp, and the moment that it came at.
+-- The last sender report: the middle 32 bits of its NTP timestamp, and the moment at which it came.
 pub record ToldValue : Type 0 where
   pub lsr : ℕ
   pub moment : ℕ
@@ -27,26 +27,28 @@ pub record SourceValue : Type 0 where
   pub packets : ℕ
   -- the last run, if one was started
   pub run : Option RunValue
-  -- the number of the last stray in it
+  -- the number of the last stray since it started, if there is one
   pub stray : Option ℕ
   pub told : Option ToldValue
 
 -- ---- Expected packets and jitter of a run
 
--- The packets expected (A.3): the integers from the first one's to the greatest.
+-- How many packets are expected (A.3): as many as there are integers from the first packet's to the greatest.
 abbrev pub expected_of : List CountedPacket → ℕ
 expected_of [] = 0
 expected_of (p ∷ earlier) = greatest_place (p ∷ earlier) + 1 - first_place (p ∷ earlier)
 
--- The distance of two transits, whose difference is a number of 32 bits with a sign.
+-- The distance of two transits, whose difference is a signed number of 32 bits.
 abbrev pub transit_distance : (transit before : ℕ) → ℕ
-transit_distance transit before = min ((transit + 2 ^ 32 - before) % 2 ^ 32) ((before + 2 ^ 32 - transit) % 2 ^ 32)
+transit_distance transit before =
+    min ((transit + 2 ^ 32 - before) % 2 ^ 32) ((before + 2 ^ 32 - transit) % 2 ^ 32)
 
--- The jitter behind one more distance (6.4.1, A.8): j + d - (j + 8) / 16.
+-- The jitter after one more distance (6.4.1, A.8): j + d - (j + 8) / 16.
 abbrev pub jitter_with : (jitter distance : ℕ) → ℕ
 jitter_with jitter distance = jitter + distance - (jitter + 8) / 16
 
--- The jitter of a run: folded from 0 over the distances of successive transits.
+-- The jitter of a run: folded from 0 over the distances of successive transits. That it returns to 0 at a
+-- restart is this project's choice: A.1 leaves it open.
 abbrev pub jitter_of : List CountedPacket → ℕ
 jitter_of [] = 0
 jitter_of (p ∷ []) = 0
@@ -92,6 +94,10 @@ summary_of given =
       told = last_told given;
     }
 
--- A source stands at what it was given.
+-- A source stands at what it was given: it is the state computed from its whole history.
 abbrev pub StandsAt : SourceValue → List Given → Type 0
 StandsAt source given = source ≡ summary_of given
+
+-- Where the source stood at what it was given, it stands at this with one thing more.
+abbrev pub StandsWith : (old new : SourceValue) → Given → Type 0
+StandsWith old new more = (given : List Given) → StandsAt old given → StandsAt new (more ∷ given)

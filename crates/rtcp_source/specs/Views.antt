@@ -1,4 +1,4 @@
--- What the crate's own types say, in the numbers of the definitions.
+-- The crate's private types, as values of the definitions.
 use Rattle.rtcp_source.specs.declared.run.Run.{Run}
 use Rattle.rtcp_source.specs.declared.source.Told.{Told}
 use Rattle.rtcp_source.specs.Summary.{RunValue, ToldValue}

@@ -1,32 +1,69 @@
-//! Laws of the definitions of a source. The functions do nothing, and what they ensure is the law.
+//! Laws of the definitions of a source: each is an empty function whose postcondition is the law.
 
-ghost use Rattle.std.specs.Prelude.{◌≡◌, [], ◌∷◌, ◌+◌, ◌<◌, ℕ, ℤ, pos, true, List, ◌-◌, ◌%◌, ◌^◌, unsigned_abs};
+ghost use Rattle.std.specs.Prelude.{◌≡◌, [], ◌∷◌, ◌+◌, ◌≤◌, ◌<◌, ◌↔◌, ℕ, ℤ, pos, true, List, ◌-◌, ◌%◌, ◌^◌, unsigned_abs};
 ghost use Rattle.std.specs.Int.{cast_signed, w32};
-ghost use Rattle.rtcp_source.specs.Packets.{Given, packet_came, report_came, block_made, is_near, place_near};
-ghost use Rattle.rtcp_source.specs.Integers.{IsIntegerNear, place_of};
-ghost use Rattle.rtcp_source.specs.Steps.{no_source, after_packet, after_told, after_block_made};
+ghost use Rattle.rtcp_source.specs.declared.taken.Taken.TheVariants.{Counted};
+ghost use Rattle.rtcp_source.specs.Packets.{Given, packet_came, report_came, block_made, HasCounted, packet_at, with_counted, greatest_place, is_near, place_near, taken_in, transit_of, run_of, has_news_since};
+ghost use Rattle.rtcp_source.specs.Integers.{IsIntegerNear, HasIntegerNear, HasPlaceNear, IsPlaceOfInteger, place_of, greatest_integer};
+ghost use Rattle.rtcp_source.specs.Blocks.{block_for, block_over, news_of};
+ghost use Rattle.rtcp_source.specs.Steps.{no_source, taken_by, after_packet, after_told, after_block_made};
 ghost use Rattle.rtcp_source.specs.Summary.{summary_of, transit_distance};
 
-/// A number that has an integer near the greatest one is near it, and has that integer's place (RFC 3550, A.1). So there is at most
-/// one such integer.
+/// What is kept of a source gives the same results as the list of all that it was given: what a packet is,
+/// whether there is news, and the report block.
+pub fn summary_suffices()
+    ensures taken { (given : List Given) (seq : ℕ) →
+        taken_by (summary_of given) seq ≡ taken_in (run_of given) seq }
+    ensures news { (given : List Given) → news_of (summary_of given).run ≡ has_news_since given }
+    ensures block { (given : List Given) (ssrc t : ℕ) →
+        block_for ssrc t (summary_of given) ≡ block_over ssrc t given }
+{}
+
+/// What is kept of a source after one thing more is computed from what was kept before it.
+pub fn summary_moves()
+    ensures none { summary_of [] ≡ no_source }
+    ensures packet { (seq timestamp arrival : ℕ) (given : List Given) →
+        summary_of (packet_came seq timestamp arrival ∷ given)
+        ≡ after_packet seq timestamp arrival (summary_of given) }
+    ensures report { (ntp moment : ℕ) (given : List Given) →
+        summary_of (report_came ntp moment ∷ given) ≡ after_told ntp moment (summary_of given) }
+    ensures block { (given : List Given) →
+        summary_of (block_made ∷ given) ≡ after_block_made (summary_of given) }
+{}
+
+/// Once a run was started, a packet is counted in it exactly where its number has an integer near the run's
+/// greatest one, which is never negative. There is at most one such integer, and the packet enters the run
+/// with its place (RFC 3550, A.1).
+pub fn counted_by_integer()
+    ensures greatest { (given : List Given) → HasCounted (run_of given) →
+        65536 ≤ greatest_place (run_of given).counted }
+    ensures counted { (given : List Given) (seq : ℕ) → seq < 65536 → HasCounted (run_of given) →
+        (taken_in (run_of given) seq ≡ Counted) ↔ HasIntegerNear (greatest_integer (run_of given)) seq }
+    ensures enters { (given : List Given) (seq timestamp arrival : ℕ) (integer : ℤ) → seq < 65536 →
+        HasCounted (run_of given) → IsIntegerNear (greatest_integer (run_of given)) seq integer →
+        run_of (packet_came seq timestamp arrival ∷ given)
+        ≡ with_counted (packet_at (place_of integer) (transit_of timestamp arrival)) (run_of given) }
+    ensures one { (greatest : ℤ) (seq : ℕ) (a b : ℤ) →
+        IsIntegerNear greatest seq a → IsIntegerNear greatest seq b → a ≡ b }
+{}
+
+/// A number that has an integer near the greatest one is near the greatest place, and has that integer's
+/// place (RFC 3550, A.1).
 pub fn integer_is_found()
-    ensures { (greatest seq : ℕ) (integer : ℤ) → seq < 65536 → IsIntegerNear (pos greatest) seq integer → (is_near (greatest + 65536) seq ≡ true) × (place_near (greatest + 65536) seq ≡ place_of integer) }
+    ensures { (greatest seq : ℕ) (integer : ℤ) → seq < 65536 → IsIntegerNear (pos greatest) seq integer →
+        HasPlaceNear (greatest + 65536) seq (place_of integer) }
 {}
 
 /// A number that is near the greatest place has an integer near the greatest one, and its place.
 pub fn place_has_integer()
-    ensures { (greatest seq : ℕ) → seq < 65536 → is_near (greatest + 65536) seq ≡ true → (integer : ℤ) × IsIntegerNear (pos greatest) seq integer × (place_near (greatest + 65536) seq ≡ place_of integer) }
+    ensures { (greatest seq : ℕ) → seq < 65536 → is_near (greatest + 65536) seq ≡ true →
+        IsPlaceOfInteger (pos greatest) seq (place_near (greatest + 65536) seq) }
 {}
 
-/// What is kept of a source moves with each thing more that it is given, by what is kept alone.
-pub fn summary_moves()
-    ensures none { summary_of [] ≡ no_source }
-    ensures packet { (seq timestamp arrival : ℕ) (given : List Given) → summary_of (packet_came seq timestamp arrival ∷ given) ≡ after_packet seq timestamp arrival (summary_of given) }
-    ensures report { (ntp moment : ℕ) (given : List Given) → summary_of (report_came ntp moment ∷ given) ≡ after_told ntp moment (summary_of given) }
-    ensures block { (given : List Given) → summary_of (block_made ∷ given) ≡ after_block_made (summary_of given) }
-{}
-
-/// The distance of two transits is the absolute value of their difference as a number of 32 bits with a sign (RFC 3550, A.8).
+/// The distance of two transits is the absolute value of their difference, as a signed number of 32 bits
+/// (RFC 3550, A.8).
 pub fn distance_is_signed()
-    ensures { (transit before : ℕ) → transit < 2 ^ 32 → before < 2 ^ 32 → transit_distance transit before ≡ unsigned_abs (cast_signed w32 ((transit + 2 ^ 32 - before) % 2 ^ 32)) }
+    ensures { (transit before : ℕ) → transit < 2 ^ 32 → before < 2 ^ 32 →
+        transit_distance transit before
+        ≡ unsigned_abs (cast_signed w32 ((transit + 2 ^ 32 - before) % 2 ^ 32)) }
 {}

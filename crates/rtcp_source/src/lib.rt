@@ -1,6 +1,7 @@
-//! One source of an RTP session, as its receiver knows it (RFC 3550, 6.4.1, appendices A.1, A.3 and A.8): which of its packets are
-//! counted, what was lost, how much their arrival jitters, and the report block that says so. It is deterministic, reads no
-//! clock, opens no socket, draws no random number and asks for no memory.
+//! One source of an RTP session, as its receiver knows it (RFC 3550, 6.4.1, appendices A.1, A.3 and A.8):
+//! which of its packets are counted, how many were lost, how much their arrival jitters, and the report block
+//! that says so. It is deterministic, reads no clock, opens no socket, draws no random number and does not
+//! allocate.
 //!
 //! ```
 //! let mut source = Source::new();
@@ -9,8 +10,8 @@
 //! assert_eq!(rt; source.block(9, 0).highest, 11);
 //! ```
 //!
-//! What a source is defined in `specs/`, over the list of all that it was given (`Packets`, `Summary`, `Blocks`); `laws` has what
-//! holds of these definitions.
+//! A source is defined in `specs/`, over the list of all that it was given (`Packets`, `Summary`, `Blocks`);
+//! `laws` states what holds of these definitions.
 #![tactic(auto)]
 
 pub mod laws;

@@ -12,59 +12,28 @@ ghost use Rattle.rtcp_source.specs.Views.{run_value};
 use crate::sequence::{FIRST, nearest_place};
 use rtcp_wire::Block;
 
-/// The packets of a run, in numbers. Places are as in `sequence`.
+/// The counted packets of a run, in numbers. Places are those of `sequence`.
 #[derive(Clone, Copy)]
 pub(crate) struct Run {
     /// The place of the first packet.
     pub(crate) first: u64,
     /// The greatest place.
     pub(crate) greatest: u64,
-    /// How many packets were counted, repeated ones too.
+    /// How many packets were counted, late and repeated ones included.
     pub(crate) received: u64,
     /// How many packets were expected at the last block.
     pub(crate) expected_before: u64,
     /// How many packets were counted at the last block.
     pub(crate) received_before: u64,
-    /// The arrival of the newest packet less its timestamp, modulo 2^32.
+    /// The transit of the newest packet: its arrival less its timestamp, modulo 2^32.
     pub(crate) transit: u32,
-    /// The jitter, in 1/16 unit of the media's clock.
+    /// The jitter, in 1/16 of a unit of the media's clock.
     pub(crate) jitter: u64,
 }
 
-/// The distance of two transits, whose difference is a number of 32 bits with a sign.
-fn distance(transit: u32, before: u32) -> u32
-    ensures exact { result ≡ transit_distance transit before }
-    ensures half { result ≤ 2 ^ 31 }
-{
-    transit
-        .wrapping_sub(before)
-        .min(before.wrapping_sub(transit))
-}
-
-/// The fraction lost of the packets expected, in 1/256, where some were counted if some were expected.
-fn fraction(expected: u64, received: u64) -> u8
-    requires high { expected < 2 ^ 55 }
-    requires counted { 1 ≤ expected → 1 ≤ received }
-    ensures { result ≡ fraction_of expected received }
-{
-    if expected == 0 || expected <= received {
-        0
-    } else {
-        (256 * (expected - received) / expected) as u8
-    }
-}
-
-/// The packets lost, in 24 bits with a sign.
-fn lost(expected: u64, received: u64) -> i32
-    requires expected { expected < 2 ^ 55 }
-    requires received { received < 2 ^ 55 }
-    ensures { result ≡ lost_of expected received }
-{
-    (expected as i64 - received as i64).clamp(-8_388_608, 8_388_607) as i32
-}
-
 impl Run {
-    /// The run that starts with this packet.
+    /// The run that starts with this packet. Its jitter is 0, after a restart too: this is the project's
+    /// choice, since A.1 leaves it open.
     pub(crate) fn started(seq: u16, transit: u32) -> Run
         ensures run { run_value result ≡ run_from seq transit }
         ensures bounded { IsRunBounded 1 (run_value result) }
@@ -97,16 +66,7 @@ impl Run {
         }
     }
 
-    /// The packets expected, from the first one to the greatest.
-    fn expected(self) -> u64
-        requires ordered { self.first ≤ self.greatest }
-        requires high { self.greatest < 2 ^ 55 }
-        ensures { result ≡ expected_in (run_value self) }
-    {
-        self.greatest - self.first + 1
-    }
-
-    /// The run once a block was made of it.
+    /// The run after a block was made of it.
     pub(crate) fn reported(self) -> Run
         requires few { self.received ≤ 2 ^ 40 }
         requires bounded { IsRunBounded self.received (run_value self) }
@@ -148,4 +108,47 @@ impl Run {
     {
         self.received_before < self.received
     }
+
+    /// The packets expected, from the first one to the greatest.
+    fn expected(self) -> u64
+        requires ordered { self.first ≤ self.greatest }
+        requires high { self.greatest < 2 ^ 55 }
+        ensures { result ≡ expected_in (run_value self) }
+    {
+        self.greatest - self.first + 1
+    }
+}
+
+/// The distance of two transits, whose difference is a signed number of 32 bits.
+fn distance(transit: u32, before: u32) -> u32
+    ensures exact { result ≡ transit_distance transit before }
+    ensures half { result ≤ 2 ^ 31 }
+{
+    transit
+        .wrapping_sub(before)
+        .min(before.wrapping_sub(transit))
+}
+
+/// The fraction lost of the packets expected, in 1/256. Where some were expected, some were counted, so the
+/// fraction is below 1.
+fn fraction(expected: u64, received: u64) -> u8
+    requires high { expected < 2 ^ 55 }
+    requires counted { 1 ≤ expected → 1 ≤ received }
+    ensures { result ≡ fraction_of expected received }
+{
+    if expected == 0 || expected <= received {
+        0
+    } else {
+        (256 * (expected - received) / expected) as u8
+    }
+}
+
+/// The packets lost, as a signed number of 24 bits. It is negative where more came than were expected:
+/// repeated packets, and late ones from before the first.
+fn lost(expected: u64, received: u64) -> i32
+    requires expected { expected < 2 ^ 55 }
+    requires received { received < 2 ^ 55 }
+    ensures { result ≡ lost_of expected received }
+{
+    (expected as i64 - received as i64).clamp(-8_388_608, 8_388_607) as i32
 }

@@ -1,51 +1,24 @@
-//! Sequence numbers (RFC 3550, appendix A.1). A place is a number that is congruent to a packet's sequence number modulo 65536, and
-//! that counts the wraps; it is kept 65536 above the number that it stands for, so that it is never negative.
+//! Sequence numbers (RFC 3550, appendix A.1). A place stands for an integer that is congruent to a packet's
+//! sequence number modulo 65536, and that counts the wraps. It is 65536 above that integer, so that it is
+//! never negative.
 
 ghost use Rattle.std.specs.Prelude.{◌≡◌, ◌≤◌, ◌<◌, ◌^◌, option_map};
 ghost use Rattle.rtcp_source.specs.Packets.{ahead, is_near, place_near, follows, taken_as};
 
 use crate::taken::Taken;
 
-/// The place of a run's first packet, above its number.
+/// How far the place of a run's first packet is above its number.
 pub(crate) const FIRST: u64 = 65_536;
 
-/// MAX_DROPOUT: a packet fewer places ahead than this is counted.
+/// A.1's MAX_DROPOUT: a packet that is ahead by fewer places is counted.
 const MAX_DROPOUT: u16 = 3000;
 
-/// 65536 less MAX_MISORDER: a packet more places ahead than this is late by less than MAX_MISORDER.
+/// 65536 less A.1's MAX_MISORDER: a packet that is ahead by more places, modulo 65536, is late by fewer than
+/// MAX_MISORDER.
 const LATE: u16 = 65_436;
 
-/// How far the number is ahead of the place, modulo 65536.
-fn distance_ahead(greatest: u64, seq: u16) -> u16
-    ensures { result ≡ ahead greatest seq }
-{
-    seq.wrapping_sub((greatest % 65_536) as u16)
-}
-
-/// The place of a number that is near the greatest place.
-pub(crate) fn nearest_place(greatest: u64, seq: u16) -> u64
-    requires low { 65536 ≤ greatest }
-    requires high { greatest < 2 ^ 60 }
-    ensures { result ≡ place_near greatest seq }
-{
-    let distance = distance_ahead(greatest, seq);
-    if distance < MAX_DROPOUT {
-        greatest + distance as u64
-    } else {
-        greatest + distance as u64 - 65_536
-    }
-}
-
-fn follows_stray(stray: Option<u16>, seq: u16) -> bool
-    ensures { result ≡ follows stray seq }
-{
-    match stray {
-        Some(last) => seq == last.wrapping_add(1),
-        None => false,
-    }
-}
-
-/// What a packet is, by the greatest place of the run, if there is one, and by the number of the last stray.
+/// What a packet is, by the greatest place of the run, if one was started, and by the number of the last
+/// stray.
 pub(crate) fn judge(greatest: Option<u64>, stray: Option<u16>, seq: u16) -> Taken
     ensures { result ≡ taken_as greatest stray seq }
 {
@@ -68,4 +41,35 @@ pub(crate) fn judge(greatest: Option<u64>, stray: Option<u16>, seq: u16) -> Take
             }
         }
     }
+}
+
+/// Whether the number is the successor of the last stray's, modulo 65536.
+fn follows_stray(stray: Option<u16>, seq: u16) -> bool
+    ensures { result ≡ follows stray seq }
+{
+    match stray {
+        Some(last) => seq == last.wrapping_add(1),
+        None => false,
+    }
+}
+
+/// The place of a number that is near the greatest place: the congruent one that is near it.
+pub(crate) fn nearest_place(greatest: u64, seq: u16) -> u64
+    requires low { 65536 ≤ greatest }
+    requires high { greatest < 2 ^ 60 }
+    ensures { result ≡ place_near greatest seq }
+{
+    let distance = distance_ahead(greatest, seq);
+    if distance < MAX_DROPOUT {
+        greatest + distance as u64
+    } else {
+        greatest + distance as u64 - 65_536
+    }
+}
+
+/// How far the number is ahead of the place, modulo 65536.
+fn distance_ahead(greatest: u64, seq: u16) -> u16
+    ensures { result ≡ ahead greatest seq }
+{
+    seq.wrapping_sub((greatest % 65_536) as u16)
 }

@@ -4,8 +4,8 @@ ghost use Rattle.std.specs.Prelude.{◌≡◌, ◌∷◌, [], ◌<◌, ◌^◌, 
 ghost use Rattle.rtcp_wire.specs.Views.{block_value};
 ghost use Rattle.rtcp_wire.specs.Writing.{IsWritableBlock};
 ghost use Rattle.rtcp_source.specs.Packets.{Given, packet_came, report_came, block_made, taken_in, run_of, has_news_since};
-ghost use Rattle.rtcp_source.specs.Summary.{StandsAt};
-ghost use Rattle.rtcp_source.specs.Blocks.{block_for, news_of};
+ghost use Rattle.rtcp_source.specs.Summary.{StandsAt, StandsWith};
+ghost use Rattle.rtcp_source.specs.Blocks.{block_for, block_over, news_of};
 ghost use Rattle.rtcp_source.specs.Steps.{no_source, taken_by, after_packet, after_told, after_block_made};
 
 use crate::run::Run;
@@ -15,18 +15,10 @@ use rtcp_clock::short_delay;
 use rtcp_wire::Block;
 use std::marker::Model;
 
-/// The last sender report of a source.
-#[derive(Clone, Copy)]
-pub(crate) struct Told {
-    /// The middle 32 bits of its NTP timestamp.
-    pub(crate) lsr: u32,
-    /// The moment that it came at, in microseconds.
-    pub(crate) moment: u64,
-}
-
 /// What a receiver keeps of one source: a few numbers, from which its next report block is made.
 ///
-/// A contract sees a source as the summary of all that it was given, the newest thing first (`StandsAt`).
+/// A contract compares a source with the state computed from its whole history, the list of all that it was
+/// given, newest first. Where the two are the same, the source stands at that list (`StandsAt`).
 #[derive(Drop)]
 pub struct Source {
     packets: u64,
@@ -43,13 +35,18 @@ impl Model for Source {
 
     ghost Value = { SourceValue };
 
-    ghost view = { λ s. record { packets = s.packets; run = option_map run_value s.run; stray = s.stray; told = option_map told_value s.told } };
+    ghost view = { λ s. record {
+      packets = s.packets;
+      run = option_map run_value s.run;
+      stray = s.stray;
+      told = option_map told_value s.told;
+    } };
 
     ghost invariant = { λ s. IsBounded s.packets (option_map run_value s.run) };
 }
 
 impl Source {
-    /// A source that nothing came from yet.
+    /// A source of which nothing came yet.
     pub fn new() -> Source
         ensures nothing { result ≡ no_source }
         ensures stands { StandsAt result [] }
@@ -62,16 +59,19 @@ impl Source {
         }
     }
 
-    /// What the packet is to the source (appendix A.1). It is counted where the answer is `Counted`, `Became` or `Restarted`.
+    /// Takes a packet, and returns what it is to the source (appendix A.1). `Taken::is_counted` says whether
+    /// it was counted.
     ///
-    /// `seq` and `rtp_ts` are the packet's sequence number and timestamp, `arrival` is its arrival in units of the same clock as
-    /// the timestamp, modulo 2^32, as rtcp_clock's `rtp_units` gives it. A source takes fewer than 2^40 packets.
+    /// `seq` and `rtp_ts` are the packet's sequence number and timestamp, `arrival` is its arrival in units
+    /// of the timestamp's clock, modulo 2^32, as rtcp_clock's `rtp_units` gives it. A source takes at most
+    /// 2^40 packets.
     pub fn take(&mut self, seq: u16, rtp_ts: u32, arrival: u32) -> Taken
         requires { self.old.packets < 2 ^ 40 }
         ensures taken { result ≡ taken_by self.old seq }
         ensures step { self.new ≡ after_packet seq rtp_ts arrival self.old }
-        ensures taken_in_run { (given : List Given) → StandsAt self.old given → result ≡ taken_in (run_of given) seq }
-        ensures stands { (given : List Given) → StandsAt self.old given → StandsAt self.new (packet_came seq rtp_ts arrival ∷ given) }
+        ensures taken_in_run { (given : List Given) → StandsAt self.old given →
+            result ≡ taken_in (run_of given) seq }
+        ensures stands { StandsWith self.old self.new (packet_came seq rtp_ts arrival) }
     {
         let transit = arrival.wrapping_sub(rtp_ts);
         let taken = judge(self.run.map(|run| run.greatest), self.stray, seq);
@@ -87,10 +87,12 @@ impl Source {
         taken
     }
 
-    /// The source sent a sender report with this NTP timestamp, which came at the moment `t`, in microseconds (6.4.1).
+    /// Takes a sender report of the source with this NTP timestamp, which came at the moment `t`, in
+    /// microseconds (6.4.1). Until another one comes, blocks hold its LSR and the time since, after a restart
+    /// too.
     pub fn saw_sr(&mut self, ntp: u64, t: u64)
         ensures step { self.new ≡ after_told ntp t self.old }
-        ensures stands { (given : List Given) → StandsAt self.old given → StandsAt self.new (report_came ntp t ∷ given) }
+        ensures stands { StandsWith self.old self.new (report_came ntp t) }
     {
         self.told = Some(Told {
             lsr: (ntp / 65_536 % (1 << 32)) as u32,
@@ -98,13 +100,18 @@ impl Source {
         });
     }
 
-    /// The reception report block of the source, `ssrc`, at the moment `t`, in microseconds (6.4.1, A.3). Some packet of it was
-    /// counted, as it was where it has news. The fraction lost is over what came since the last block, and the news end.
+    /// Makes the reception report block of the source, `ssrc`, at the moment `t`, in microseconds (6.4.1,
+    /// A.3). Some packet of it must have been counted, as is so where it has news.
+    ///
+    /// The fraction lost is that of the packets since the last block in this run. After the call the source
+    /// has no news until another packet is counted.
     pub fn block(&mut self, ssrc: u32, t: u64) -> Block
         requires { IsSome self.old.run }
         ensures block { Some (block_value result) ≡ block_for ssrc t self.old }
+        ensures of_list { (given : List Given) → StandsAt self.old given →
+            Some (block_value result) ≡ block_over ssrc t given }
         ensures step { self.new ≡ after_block_made self.old }
-        ensures stands { (given : List Given) → StandsAt self.old given → StandsAt self.new (block_made ∷ given) }
+        ensures stands { StandsWith self.old self.new block_made }
         ensures writable { IsWritableBlock (block_value result) }
     {
         let run = self.run.unwrap();
@@ -116,11 +123,20 @@ impl Source {
         run.block(ssrc, lsr, dlsr)
     }
 
-    /// Whether some packet was counted since the last block, or at all if there was none.
+    /// Whether some packet was counted since the last block, or at all if no block was made.
     pub fn has_news(&self) -> bool
         ensures news { result ≡ news_of self.now.run }
         ensures since_block { (given : List Given) → StandsAt self.now given → result ≡ has_news_since given }
     {
         self.run.is_some_and(|run| run.has_news())
     }
+}
+
+/// The last sender report of a source.
+#[derive(Clone, Copy)]
+pub(crate) struct Told {
+    /// The middle 32 bits of its NTP timestamp.
+    pub(crate) lsr: u32,
+    /// The moment at which it came, in microseconds.
+    pub(crate) moment: u64,
 }

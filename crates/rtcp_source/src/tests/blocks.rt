@@ -4,7 +4,7 @@ use super::*;
 use rtcp_clock::rtp_units;
 use std::test::*;
 
-/// A block of source 9 with no jitter, of which no sender report came.
+/// A block of source 9 with no jitter and no sender report.
 fn block_of_nine(fraction: u8, lost: i32, highest: u32) -> Block {
     Block {
         ssrc: 9,
@@ -38,7 +38,7 @@ fn repeated_packets_are_received(rt: HostRuntime) {
     assert!(rt; source.block(9, 0) == block_of_nine(0, -2, 2));
 }
 
-/// The fraction is over what came since the last block.
+/// The fraction is that of the packets since the last block.
 #[test]
 fn a_second_block(rt: HostRuntime) {
     let mut source = Source::new();
@@ -76,7 +76,7 @@ fn a_restart_keeps_the_sender_report(rt: HostRuntime) {
     assert_eq!(rt; block.dlsr, 0x0005_4000);
 }
 
-/// Of a clock of 8,000 units a second: packets 20 ms apart, the third 20 ms late.
+/// With a clock of 8,000 units a second: packets are sent 20 ms apart, and the third one is 20 ms late.
 #[test]
 fn jitter(rt: HostRuntime) {
     let mut source = Source::new();
@@ -89,7 +89,7 @@ fn jitter(rt: HostRuntime) {
     assert_eq!(rt; source.block(9, 0).jitter, 9);
 }
 
-/// A transit that wraps by two units is not far from the one before.
+/// A transit just below 2^32 is two units from a transit of 1.
 #[test]
 fn jitter_over_a_wrap(rt: HostRuntime) {
     let mut source = Source::new();

@@ -1,0 +1,62 @@
+-- The laws, as lemmas that the proofs of other crates can cite.
+use Rattle.std.proofs.Common.{◌≡◌, ℕ, ◌+◌, ◌-◌, ◌%◌, ◌^◌, ◌<◌, ◌≤◌, ◌↔◌, ℤ, pos, unsigned_abs, true, List, [], ◌∷◌, refl, rules}
+use Rattle.std.specs.Int.{cast_signed, w32}
+use Rattle.rtcp_source.specs.declared.taken.Taken.TheVariants.{Counted}
+use Rattle.rtcp_source.specs.Packets.{Given, packet_at, with_counted, packet_came, report_came, block_made, HasCounted, greatest_place, is_near, place_near, taken_in, transit_of, run_of, has_news_since, newest, PacketRun}
+use Rattle.rtcp_source.specs.Integers.{IsIntegerNear, HasIntegerNear, HasPlaceNear, IsPlaceOfInteger, place_of, greatest_integer}
+use Rattle.rtcp_source.specs.Summary.{summary_of, last_told, transit_distance}
+use Rattle.rtcp_source.specs.Blocks.{block_for, block_over, news_of}
+use Rattle.rtcp_source.specs.Steps.{no_source, taken_by, after_packet, after_told, after_block_made}
+use Rattle.rtcp_source.proofs.Summing.{same_taken, same_block}
+use Rattle.rtcp_source.proofs.Stepping.{packet_moves, block_moves}
+use Rattle.rtcp_source.proofs.News.{news_of_summary}
+use Rattle.rtcp_source.proofs.Integers.{has_integer, has_place, same_integer, greatest_high, counted_exactly, enters_run}
+
+-- ---- What is kept of a source
+
+pub summary_suffices-taken : (given : List Given) (seq : ℕ) → taken_by (summary_of given) seq ≡ taken_in (run_of given) seq
+summary_suffices-taken given seq = let run : PacketRun = run_of given in same_taken run.counted run.reported (newest run.strays) seq
+
+pub summary_suffices-news : (given : List Given) → news_of (summary_of given).run ≡ has_news_since given
+summary_suffices-news = news_of_summary
+
+pub summary_suffices-block : (given : List Given) (ssrc t : ℕ) → block_for ssrc t (summary_of given) ≡ block_over ssrc t given
+summary_suffices-block given ssrc t = let run : PacketRun = run_of given in same_block run.counted run.reported ssrc t (last_told given)
+
+pub summary_moves-none : summary_of [] ≡ no_source
+summary_moves-none = refl
+
+pub summary_moves-packet : (seq timestamp arrival : ℕ) (given : List Given) → summary_of (packet_came seq timestamp arrival ∷ given) ≡ after_packet seq timestamp arrival (summary_of given)
+summary_moves-packet = packet_moves
+
+pub summary_moves-report : (ntp moment : ℕ) (given : List Given) → summary_of (report_came ntp moment ∷ given) ≡ after_told ntp moment (summary_of given)
+summary_moves-report ntp moment given = refl
+
+pub summary_moves-block : (given : List Given) → summary_of (block_made ∷ given) ≡ after_block_made (summary_of given)
+summary_moves-block = block_moves
+
+-- ---- Integers
+
+pub counted_by_integer-greatest : (given : List Given) → HasCounted (run_of given) → 65536 ≤ greatest_place (run_of given).counted
+counted_by_integer-greatest = greatest_high
+
+pub counted_by_integer-counted : (given : List Given) (seq : ℕ) → seq < 65536 → HasCounted (run_of given) → (taken_in (run_of given) seq ≡ Counted) ↔ HasIntegerNear (greatest_integer (run_of given)) seq
+counted_by_integer-counted = counted_exactly
+
+pub counted_by_integer-enters : (given : List Given) (seq timestamp arrival : ℕ) (integer : ℤ) → seq < 65536 → HasCounted (run_of given) → IsIntegerNear (greatest_integer (run_of given)) seq integer
+    → run_of (packet_came seq timestamp arrival ∷ given) ≡ with_counted (packet_at (place_of integer) (transit_of timestamp arrival)) (run_of given)
+counted_by_integer-enters = enters_run
+
+pub counted_by_integer-one : (greatest : ℤ) (seq : ℕ) (a b : ℤ) → IsIntegerNear greatest seq a → IsIntegerNear greatest seq b → a ≡ b
+counted_by_integer-one = same_integer
+
+pub integer_is_found : (greatest seq : ℕ) (integer : ℤ) → seq < 65536 → IsIntegerNear (pos greatest) seq integer → HasPlaceNear (greatest + 65536) seq (place_of integer)
+integer_is_found = has_place
+
+pub place_has_integer : (greatest seq : ℕ) → seq < 65536 → is_near (greatest + 65536) seq ≡ true → IsPlaceOfInteger (pos greatest) seq (place_near (greatest + 65536) seq)
+place_has_integer = has_integer
+
+-- ---- Transits
+
+pub distance_is_signed : (transit before : ℕ) → transit < 2 ^ 32 → before < 2 ^ 32 → transit_distance transit before ≡ unsigned_abs (cast_signed w32 ((transit + 2 ^ 32 - before) % 2 ^ 32))
+distance_is_signed transit before high low = search rules
