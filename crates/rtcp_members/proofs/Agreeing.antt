@@ -6,11 +6,12 @@ use Rattle.rtcp_wire.specs.declared.fact.Fact.{Fact}
 use Rattle.rtcp_wire.specs.declared.fact.Fact.TheVariants.{Heard, Told, Named, Gone, Media}
 use Rattle.rtcp_source.specs.Packets.{Given, taken_in, run_of, is_counted}
 use Rattle.rtcp_source.specs.Summary.{summary_of}
+use Rattle.rtcp_source.proofs.LawLemmas.{summary_suffices-taken}
 use Rattle.rtcp_members.specs.Traces.{TraceStep}
 use Rattle.rtcp_members.specs.Stays.{mark_of, before_mark, stay_of}
 use Rattle.rtcp_members.specs.Entries.{given_of, is_counted_fact, counted_in_stay, counted_at, entry_of}
 use Rattle.rtcp_members.specs.Tables.{TableValue, StandsAt, counts, counted_of, counted}
-use Rattle.rtcp_members.proofs.Staying.{entry_with, entry_unmarked, taken_by_summary}
+use Rattle.rtcp_members.proofs.Staying.{entry_with, entry_unmarked}
 
 -- To the summary of what a source gave, a fact of it is a counted packet as to its run.
 counts_in_run : (fact : Fact) (given : List Given) → counts fact (summary_of given) ≡ is_counted_fact (subject fact) fact given
@@ -19,7 +20,7 @@ counts_in_run (Told ssrc ntp) given = refl
 counts_in_run (Named ssrc) given = refl
 counts_in_run (Gone ssrc) given = refl
 counts_in_run (Media ssrc seq timestamp) given =
-    ap is_counted (taken_by_summary given seq) ∙ ap (λ b. b && is_counted (taken_in (run_of given) seq)) (sym (eq-eqb ssrc ssrc refl))
+    ap is_counted (summary_suffices-taken given seq) ∙ ap (λ b. b && is_counted (taken_in (run_of given) seq)) (sym (eq-eqb ssrc ssrc refl))
 
 module _ (rate : ℕ) (fact : Fact) where
   counted_by_mark : (stay : List TraceStep) (mark : Option ℕ) → mark_of (subject fact) stay ≡ mark → counted_of fact (Some (entry_of rate (subject fact) stay)) ≡ counted_in_stay rate fact (Some stay)

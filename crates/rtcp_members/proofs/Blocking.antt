@@ -3,10 +3,8 @@ use Rattle.std.proofs.Common.{◌≡◌, ◌≤◌, ◌+◌, ℕ, true, false, c
 use Rattle.std.proofs.lemmas.Bool.{eqb-true, eqb-false, eq-eqb, ne_eqb}
 use Rattle.std.specs.Cmp.{nat_cmp_total, unsigned_tied}
 use Rattle.std.specs.FinMap as map
-use Rattle.rtcp_source.specs.Packets.{Given, CountedPacket, PacketRun, block_made, run_of, newest}
-use Rattle.rtcp_source.specs.Summary.{numbers_of, packet_count, last_told, summary_of}
 use Rattle.rtcp_source.specs.Blocks.{news_of}
-use Rattle.rtcp_source.specs.Steps.{after_block_made, run_reported}
+use Rattle.rtcp_source.proofs.LawLemmas.{summary_moves-block}
 use Rattle.rtcp_members.specs.Traces.{TraceStep, block_taken, names}
 use Rattle.rtcp_members.specs.Stays.{mark_of, stay_with, stay_of}
 use Rattle.rtcp_members.specs.Entries.{EntryValue, given_of, is_such, is_valid, sending_of, entry_of, entry_at}
@@ -20,19 +18,9 @@ use Rattle.rtcp_members.proofs.Staying.{entry_with, moved_entry, entry_unmarked,
 
 -- ---- What is said of a source
 
-same_numbers : (counted before : List CountedPacket) → numbers_of counted counted ≡ run_reported (numbers_of counted before)
-same_numbers [] before = refl
-same_numbers (p ∷ earlier) before = refl
-
--- A block moves the summary as it moves the numbers.
-summary_reported : (given : List Given) → summary_of (block_made ∷ given) ≡ after_block_made (summary_of given)
-summary_reported given =
-    let run : PacketRun = run_of given in
-    ap (λ numbers. record { packets = packet_count given; run = numbers; stray = newest run.strays; told = last_told given }) (same_numbers run.counted run.reported)
-
 own_block : (rate ssrc other : ℕ) (stay : List TraceStep) → (other == ssrc) ≡ true → moved_entry rate ssrc (block_taken other) stay ≡ reported_entry (entry_with rate ssrc stay None)
 own_block rate ssrc other stay own =
-    rw own (ap (λ source. record { valid = is_valid rate ssrc stay; mark = None; sighting = last_naming ssrc stay; sending = sending_of rate ssrc stay; source = source }) (summary_reported (given_of rate ssrc stay)))
+    rw own (ap (λ source. record { valid = is_valid rate ssrc stay; mark = None; sighting = last_naming ssrc stay; sending = sending_of rate ssrc stay; source = source }) (summary_moves-block (given_of rate ssrc stay)))
 
 other_block : (rate ssrc other : ℕ) (stay : List TraceStep) → (other == ssrc) ≡ false → moved_entry rate ssrc (block_taken other) stay ≡ entry_with rate ssrc stay None
 other_block rate ssrc other stay apart = rw apart refl

@@ -9,7 +9,7 @@ use Rattle.std.specs.FinMap.{nat_cmp-IsAntisymmetric}
 use Rattle.std.specs.FinMap.Entries.{below_all}
 use Rattle.rtcp_source.specs.Blocks.{news_of}
 use Rattle.rtcp_source.specs.Packets.{has_news_since}
-use Rattle.rtcp_source.proofs.News.{news_of_summary}
+use Rattle.rtcp_source.proofs.LawLemmas.{summary_suffices-news}
 use Rattle.rtcp_members.specs.Traces.{TraceStep, names}
 use Rattle.rtcp_members.specs.Stays.{mark_of, before_mark, stay_of}
 use Rattle.rtcp_members.specs.Entries.{EntryValue, given_of, entry_of, entry_at, is_such}
@@ -211,7 +211,7 @@ module _ (rate ssrc : ℕ) where
   unmarked_news : (stay : List TraceStep) (mark : Option ℕ) → mark_of ssrc stay ≡ mark → is_due (entry_of rate ssrc stay) ≡ (is_none (mark_of ssrc stay) && has_news_since (given_of rate ssrc stay))
   unmarked_news stay None unmarked =
       ap is_due (entry_unmarked rate ssrc stay unmarked)
-      ∙ news_of_summary (given_of rate ssrc stay)
+      ∙ summary_suffices-news (given_of rate ssrc stay)
       ∙ ap (λ m. is_none m && has_news_since (given_of rate ssrc stay)) (sym unmarked)
   unmarked_news stay (Some mark) marked =
       ap (λ m. is_due (entry_with rate ssrc (before_mark ssrc stay) m)) marked

@@ -3,10 +3,10 @@ use Rattle.std.proofs.Common.{◌≡◌, ℕ, true, false, if◌then◌else◌, 
 use Rattle.rtcp_wire.specs.declared.fact.Fact.{Fact}
 use Rattle.rtcp_wire.specs.declared.fact.Fact.TheVariants.{Heard, Told, Named, Gone, Media}
 use Rattle.rtcp_clock.specs.Moments.{media_units}
-use Rattle.rtcp_source.specs.Packets.{Given, CountedPacket, packet_came, taken_in, PacketRun, greatest_of, taken_as, newest, is_counted, run_of}
-use Rattle.rtcp_source.specs.Summary.{summary_of, numbers_of}
-use Rattle.rtcp_source.specs.Steps.{greatest_in, taken_by, after_packet}
-use Rattle.rtcp_source.proofs.Stepping.{summary_moves}
+use Rattle.rtcp_source.specs.Packets.{packet_came, taken_in, is_counted, run_of}
+use Rattle.rtcp_source.specs.Summary.{summary_of}
+use Rattle.rtcp_source.specs.Steps.{taken_by, after_packet}
+use Rattle.rtcp_source.proofs.LawLemmas.{summary_moves-packet, summary_suffices-taken}
 use Rattle.rtcp_wire.specs.Facts.{subject}
 use Rattle.rtcp_members.specs.Traces.{Horizons, TraceStep, fact_came, check_made}
 use Rattle.rtcp_members.specs.Stays.{mark_at, mark_of, before_mark, last_naming}
@@ -49,14 +49,6 @@ module _ (rate ssrc : ℕ) (step : TraceStep) (stay : List TraceStep) where
 
 -- ---- Facts
 
-same_taken : (counted before : List CountedPacket) (stray : Option ℕ) (seq : ℕ) → taken_as (greatest_in (numbers_of counted before)) stray seq ≡ taken_as (greatest_of counted) stray seq
-same_taken [] before stray seq = refl
-same_taken (p ∷ counted) before stray seq = refl
-
--- A packet is to the summary what it is to the run.
-pub taken_by_summary : (given : List Given) (seq : ℕ) → taken_by (summary_of given) seq ≡ taken_in (run_of given) seq
-taken_by_summary given seq = let run : PacketRun = run_of given in same_taken run.counted run.reported (newest run.strays) seq
-
 -- A fact of the source moves what is said of it as the tables say.
 pub own_fact : (rate ssrc moment : ℕ) (fact : Fact) (stay : List TraceStep) → (subject fact == ssrc) ≡ true
     → moved_entry rate ssrc (fact_came fact moment) stay ≡ entry_after rate fact moment (entry_with rate ssrc stay None)
@@ -66,9 +58,9 @@ own_fact rate ssrc moment (Named other) stay own = rw own refl
 own_fact rate ssrc moment (Gone other) stay own = rw own refl
 own_fact rate ssrc moment (Media other seq timestamp) stay own =
     let given = given_of rate ssrc stay in
-    let taken : taken_in (run_of given) seq ≡ taken_by (summary_of given) seq = sym (taken_by_summary given seq) in
+    let taken : taken_in (run_of given) seq ≡ taken_by (summary_of given) seq = sym (summary_suffices-taken given seq) in
     let arrival = media_units moment rate in
-    let moved : summary_of (packet_came seq timestamp arrival ∷ given) ≡ after_packet seq timestamp arrival (summary_of given) = summary_moves seq timestamp arrival given in
+    let moved : summary_of (packet_came seq timestamp arrival ∷ given) ≡ after_packet seq timestamp arrival (summary_of given) = summary_moves-packet seq timestamp arrival given in
     rw own (λ i. record {
       valid = is_counted (taken i) || is_valid rate ssrc stay;
       mark = None;
