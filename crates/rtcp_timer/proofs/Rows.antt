@@ -4,7 +4,7 @@ use Rattle.rtcp_clock.specs.Intervals.{drawn_interval}
 use Rattle.rtcp_timer.specs.declared.load.Load.{Load}
 use Rattle.rtcp_timer.specs.Averages.{moved_average, average_of}
 use Rattle.rtcp_timer.specs.Loads.{interval_of}
-use Rattle.rtcp_timer.specs.Schedules.{Happening, transmitted, tried, counted, Timing, after, schedule_at}
+use Rattle.rtcp_timer.specs.Schedules.{Happening, transmitted, tried, recounted, Timing, after, schedule_at}
 
 -- ---- The average
 
@@ -72,7 +72,7 @@ reported : schedule_at first_report ≡ timing 1026037 3078111 4
 reported = refl
 
 abbrev departure : Happening
-departure = counted 2026037 3
+departure = recounted 2026037 3
 
 one_departed : schedule_at (departure ∷ first_report) ≡ timing 1276037 2815092 3
 one_departed = refl
@@ -85,11 +85,11 @@ put_off = refl
 
 -- ---- Distances round down, and what is overdue stays.
 
-rounded : after (counted 10000000 3) (timing 8000001 12000003 4) ≡ timing 8500001 11500002 3
+rounded : after (recounted 10000000 3) (timing 8000001 12000003 4) ≡ timing 8500001 11500002 3
 rounded = refl
 
-overdue : after (counted 10000000 3) (timing 8000001 9999999 4) ≡ timing 8500001 9999999 3
+overdue : after (recounted 10000000 3) (timing 8000001 9999999 4) ≡ timing 8500001 9999999 3
 overdue = refl
 
-as_many : after (counted 10000000 4) (timing 8000001 12000003 4) ≡ timing 8000001 12000003 4
+as_many : after (recounted 10000000 4) (timing 8000001 12000003 4) ≡ timing 8000001 12000003 4
 as_many = refl

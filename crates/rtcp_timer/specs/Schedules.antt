@@ -10,7 +10,7 @@ pub data Happening : Type 0 where
   -- the next transmission's moment had come, and an interval was drawn to see whether it is due (6.3.6)
   tried : (moment interval members : ℕ) → Happening
   -- the members were counted, as some may have departed (6.3.4)
-  counted : (moment members : ℕ) → Happening
+  recounted : (moment members : ℕ) → Happening
 
 -- where a schedule stands
 pub record Timing : Type 0 where
@@ -47,7 +47,7 @@ after_departure moment members timing = record {
 abbrev pub after : Happening → Timing → Timing
 after (transmitted moment interval members) timing = record { last = moment; next = moment + interval; known = members }
 after (tried moment interval members) timing = after_try moment interval members timing
-after (counted moment members) timing = if nat_lt members timing.known then after_departure moment members timing else timing
+after (recounted moment members) timing = if nat_lt members timing.known then after_departure moment members timing else timing
 
 -- where a schedule stands to which all this happened
 abbrev pub schedule_at : List Happening → Timing
@@ -56,23 +56,23 @@ schedule_at (newest ∷ before) = after newest (schedule_at before)
 
 -- ---- The moments at which it happened
 
-abbrev pub moment_of : Happening → ℕ
-moment_of (transmitted moment interval members) = moment
-moment_of (tried moment interval members) = moment
-moment_of (counted moment members) = moment
+abbrev pub happening_moment : Happening → ℕ
+happening_moment (transmitted moment interval members) = moment
+happening_moment (tried moment interval members) = moment
+happening_moment (recounted moment members) = moment
 
 abbrev pub newest_moment : List Happening → ℕ
 newest_moment [] = 0
-newest_moment (newest ∷ before) = moment_of newest
+newest_moment (newest ∷ before) = happening_moment newest
 
 -- the moment at which the last report was sent in truth
 abbrev pub newest_transmission : List Happening → ℕ
 newest_transmission [] = 0
 newest_transmission (transmitted moment interval members ∷ before) = moment
 newest_transmission (tried moment interval members ∷ before) = newest_transmission before
-newest_transmission (counted moment members ∷ before) = newest_transmission before
+newest_transmission (recounted moment members ∷ before) = newest_transmission before
 
 -- Moments do not fall.
 abbrev pub IsInOrder : List Happening → Type 0
 IsInOrder [] = Unit {0}
-IsInOrder (newest ∷ before) = (newest_moment before ≤ moment_of newest) × IsInOrder before
+IsInOrder (newest ∷ before) = (newest_moment before ≤ happening_moment newest) × IsInOrder before

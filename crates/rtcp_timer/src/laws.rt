@@ -4,7 +4,7 @@ ghost use Rattle.std.specs.Prelude.{ℕ, ◌+◌, ◌*◌, ◌≤◌, List, All}
 ghost use Rattle.rtcp_timer.specs.Averages.{with_headers, average_of, IsBetween};
 ghost use Rattle.rtcp_timer.specs.declared.load.Load.{Load};
 ghost use Rattle.rtcp_timer.specs.Loads.{minimum_of, interval_of, KeepsToShare};
-ghost use Rattle.rtcp_timer.specs.Schedules.{Happening, counted, Timing, IsDue, IsInOrder, after, schedule_at, newest_moment, newest_transmission};
+ghost use Rattle.rtcp_timer.specs.Schedules.{Happening, recounted, Timing, IsDue, IsInOrder, after, schedule_at, newest_moment, newest_transmission};
 
 /// Where all sizes lie between two numbers, so does the average, in 1/256 octet and with the lower headers (RFC 3550, 6.3.3).
 pub fn average_lies_between()
@@ -44,5 +44,5 @@ pub fn never_due_too_soon()
 
 /// A departure never puts the next transmission later (RFC 3550, 6.3.4).
 pub fn departure_never_puts_later()
-    ensures { (timing : Timing) (moment members : ℕ) → (after (counted moment members) timing).next ≤ timing.next }
+    ensures { (timing : Timing) (moment members : ℕ) → (after (recounted moment members) timing).next ≤ timing.next }
 {}

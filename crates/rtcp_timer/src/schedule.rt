@@ -2,7 +2,7 @@
 
 ghost use Rattle.std.specs.Prelude.{◌≡◌, ◌≤◌, ◌<◌, ◌+◌, ◌^◌, ◌↔◌, List, [], ◌∷◌};
 ghost use Rattle.rtcp_clock.specs.Intervals.{drawn_interval};
-ghost use Rattle.rtcp_timer.specs.Schedules.{Happening, transmitted, tried, counted, IsDue, after, schedule_at};
+ghost use Rattle.rtcp_timer.specs.Schedules.{Happening, transmitted, tried, recounted, IsDue, after, schedule_at};
 
 use rtcp_clock::{draw, scale_down};
 use std::marker::Model;
@@ -99,8 +99,8 @@ impl Schedule {
     pub fn departed(&mut self, tc: u64, members: u32)
         requires moment_fits { tc ≤ 2 ^ 50 }
         requires in_order { self.old.last ≤ tc }
-        ensures steps { self.new ≡ after (counted tc members) self.old }
-        ensures stands { (events : List Happening) → self.old ≡ schedule_at events → self.new ≡ schedule_at (counted tc members ∷ events) }
+        ensures steps { self.new ≡ after (recounted tc members) self.old }
+        ensures stands { (events : List Happening) → self.old ≡ schedule_at events → self.new ≡ schedule_at (recounted tc members ∷ events) }
     {
         if members >= self.known {
             return;
