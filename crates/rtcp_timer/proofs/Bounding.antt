@@ -1,18 +1,10 @@
--- What departures leave of a schedule's moments.
+-- Bounds of a schedule's moments.
 use Rattle.std.proofs.Common.{◌≡◌, ℕ, ◌+◌, ◌-◌, ◌<◌, ◌≤◌, true, false, nat_lt, if◌then◌else◌, List, [], ◌∷◌, refl, arith}
-use Rattle.std.proofs.lemmas.Bool.{ltb-true, ltb-false}
 use Rattle.std.proofs.lemmas.Bool.Decides.{nat_tests}
 use Rattle.rtcp_timer.specs.Averages.{IsBetween}
 use Rattle.rtcp_timer.specs.Schedules.{Happening, transmitted, tried, recounted, Timing, IsDue, IsInOrder, after, after_departure, schedule_at, newest_moment, newest_transmission}
 use Rattle.rtcp_timer.proofs.Quotients.{scaled_down_shorter}
-
--- What holds in both cases of a test holds of what it chooses.
-by_test : {X : Type 0} (P : X → Type 0) (a b : ℕ) (x y : X) → (a < b → P x) → (b ≤ a → P y) → P (if nat_lt a b then x else y)
-by_test P a b x y below above =
-    elim (nat_lt a b) as (λ t. nat_lt a b ≡ t → P (if t then x else y)) [
-      | true ↦ λ is. below (ltb-true a b is)
-      | false ↦ λ is. above (ltb-false a b is)
-    ] refl
+use Rattle.rtcp_timer.proofs.Cases.{by_test}
 
 -- A departure brings the next transmission nearer, where it is still to come.
 next_nearer : (moment members : ℕ) (timing : Timing) → members ≤ timing.known → (after_departure moment members timing).next ≤ timing.next

@@ -1,0 +1,45 @@
+-- The laws of `laws.rt`, as lemmas that crates above can cite: LAW, or LAW-CLAUSE where the law has several clauses.
+use Rattle.std.proofs.Common.{ℕ, ◌+◌, ◌*◌, ◌≤◌, List, All}
+use Rattle.rtcp_timer.specs.declared.load.Load.{Load}
+use Rattle.rtcp_timer.specs.Averages.{with_headers, average_of, IsBetween}
+use Rattle.rtcp_timer.specs.Loads.{minimum_of, interval_of, KeepsToShare}
+use Rattle.rtcp_timer.specs.Schedules.{Happening, recounted, Timing, IsDue, IsInOrder, after, schedule_at, newest_moment, newest_transmission}
+use Rattle.rtcp_timer.proofs.Averaging
+use Rattle.rtcp_timer.proofs.Sharing
+use Rattle.rtcp_timer.proofs.Bounding
+
+-- ---- The average
+
+pub average_lies_between : (low high first : ℕ) (sizes : List ℕ) → IsBetween low high first → All (IsBetween low high) sizes →
+  IsBetween (256 * with_headers low) (256 * with_headers high) (average_of first sizes)
+average_lies_between = Averaging.average_between
+
+-- ---- The interval
+
+pub interval_keeps_to_share : (load : Load) → 1 ≤ load.rtcp_bw → KeepsToShare load (interval_of load)
+interval_keeps_to_share = Sharing.keeps_to_share
+
+pub interval_has_minimum : (load : Load) → minimum_of load.initial ≤ interval_of load
+interval_has_minimum = Sharing.has_minimum
+
+pub interval_is_least : (load : Load) (interval : ℕ) → 1 ≤ load.rtcp_bw → minimum_of load.initial ≤ interval →
+  KeepsToShare load interval → interval_of load ≤ interval
+interval_is_least = Sharing.is_least
+
+-- ---- The schedule
+
+pub last_lies_between-not_before_sent : (events : List Happening) → IsInOrder events →
+  newest_transmission events ≤ (schedule_at events).last
+last_lies_between-not_before_sent events in_order = (Bounding.last_between events in_order).0
+
+pub last_lies_between-not_after_newest : (events : List Happening) → IsInOrder events →
+  (schedule_at events).last ≤ newest_moment events
+last_lies_between-not_after_newest events in_order = (Bounding.last_between events in_order).1
+
+pub never_due_too_soon : (events : List Happening) (moment interval : ℕ) → IsInOrder events →
+  IsDue (schedule_at events) moment interval → newest_transmission events + interval ≤ moment
+never_due_too_soon = Bounding.due_not_too_soon
+
+pub departure_never_puts_later : (timing : Timing) (moment members : ℕ) →
+  (after (recounted moment members) timing).next ≤ timing.next
+departure_never_puts_later = Bounding.next_after
