@@ -1,11 +1,13 @@
 -- The laws of `laws.rt`, as lemmas that crates above can cite: LAW, or LAW-CLAUSE where the law has several clauses.
-use Rattle.std.proofs.Common.{ℕ, ◌+◌, ◌*◌, ◌≤◌, List, All}
+use Rattle.std.proofs.Common.{◌≡◌, ℕ, ◌+◌, ◌*◌, ◌≤◌, List, All}
 use Rattle.rtcp_timer.specs.declared.load.Load.{Load}
 use Rattle.rtcp_timer.specs.Averages.{with_headers, average_of, IsBetween}
 use Rattle.rtcp_timer.specs.Loads.{minimum_of, interval_of, KeepsToShare}
 use Rattle.rtcp_timer.specs.Schedules.{Happening, recounted, Timing, IsDue, IsInOrder, after, schedule_at, newest_moment, newest_transmission}
+use Rattle.rtcp_timer.specs.Departures.{members_known, last_moment, next_moment}
 use Rattle.rtcp_timer.proofs.Averaging
 use Rattle.rtcp_timer.proofs.Sharing
+use Rattle.rtcp_timer.proofs.Following
 use Rattle.rtcp_timer.proofs.Bounding
 
 -- ---- The average
@@ -27,6 +29,15 @@ pub interval_is_least : (load : Load) (interval : ℕ) → 1 ≤ load.rtcp_bw �
 interval_is_least = Sharing.is_least
 
 -- ---- The schedule
+
+pub schedule_follows_departures-last : (events : List Happening) → (schedule_at events).last ≡ last_moment events
+schedule_follows_departures-last = Following.last_follows
+
+pub schedule_follows_departures-next : (events : List Happening) → (schedule_at events).next ≡ next_moment events
+schedule_follows_departures-next = Following.next_follows
+
+pub schedule_follows_departures-known : (events : List Happening) → (schedule_at events).known ≡ members_known events
+schedule_follows_departures-known = Following.known_follows
 
 pub last_lies_between-not_before_sent : (events : List Happening) → IsInOrder events →
   newest_transmission events ≤ (schedule_at events).last

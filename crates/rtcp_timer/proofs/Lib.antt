@@ -4,4 +4,5 @@ mod Averaging
 mod Sharing
 mod Cases
 mod Bounding
+mod Following
 pub mod LawLemmas

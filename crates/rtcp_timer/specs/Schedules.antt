@@ -65,7 +65,7 @@ abbrev pub newest_moment : List Happening → ℕ
 newest_moment [] = 0
 newest_moment (newest ∷ before) = happening_moment newest
 
--- the moment at which the last report was sent in truth
+-- the moment of the newest transmission, a report or the start, wherever departures have moved `last` since
 abbrev pub newest_transmission : List Happening → ℕ
 newest_transmission [] = 0
 newest_transmission (transmitted moment interval members ∷ before) = moment

@@ -1,10 +1,11 @@
 //! Laws of the average, the interval and the schedule. The functions do nothing, and what they ensure is the law.
 
-ghost use Rattle.std.specs.Prelude.{ℕ, ◌+◌, ◌*◌, ◌≤◌, List, All};
+ghost use Rattle.std.specs.Prelude.{ℕ, ◌≡◌, ◌+◌, ◌*◌, ◌≤◌, List, All};
 ghost use Rattle.rtcp_timer.specs.Averages.{with_headers, average_of, IsBetween};
 ghost use Rattle.rtcp_timer.specs.declared.load.Load.{Load};
 ghost use Rattle.rtcp_timer.specs.Loads.{minimum_of, interval_of, KeepsToShare};
 ghost use Rattle.rtcp_timer.specs.Schedules.{Happening, recounted, Timing, IsDue, IsInOrder, after, schedule_at, newest_moment, newest_transmission};
+ghost use Rattle.rtcp_timer.specs.Departures.{members_known, last_moment, next_moment};
 
 /// Where all sizes lie between two numbers, so does the average, in 1/256 octet and with the lower headers (RFC 3550, 6.3.3).
 pub fn average_lies_between()
@@ -29,14 +30,25 @@ pub fn interval_is_least()
         interval_of load ≤ interval }
 {}
 
-/// Where moments do not fall, the last transmission that a schedule goes by is never before the moment of the newest one, and never
-/// after the newest moment, however many departed (RFC 3550, 6.3.4).
-pub fn last_lies_between()
-    ensures not_before_sent { (events : List Happening) → IsInOrder events → newest_transmission events ≤ (schedule_at events).last }
-    ensures not_after_newest { (events : List Happening) → IsInOrder events → (schedule_at events).last ≤ newest_moment events }
+/// The three numbers of a schedule follow from its draws and departures alone (RFC 3550, 6.3.4 and 6.3.6). `last` is the newest
+/// transmission and `next` what the newest draw that set it made of it, both with their distances scaled at each departure since;
+/// `known` is the least of the newest draw's members and of the counts since.
+pub fn schedule_follows_departures()
+    ensures last { (events : List Happening) → (schedule_at events).last ≡ last_moment events }
+    ensures next { (events : List Happening) → (schedule_at events).next ≡ next_moment events }
+    ensures known { (events : List Happening) → (schedule_at events).known ≡ members_known events }
 {}
 
-/// So no report is due before the interval drawn has passed since the newest transmission (RFC 3550, 6.3.6).
+/// Where moments do not fall, `last` is never before the newest transmission and never after the newest moment, however many members
+/// depart (RFC 3550, 6.3.4).
+pub fn last_lies_between()
+    ensures not_before_sent { (events : List Happening) → IsInOrder events →
+        newest_transmission events ≤ (schedule_at events).last }
+    ensures not_after_newest { (events : List Happening) → IsInOrder events →
+        (schedule_at events).last ≤ newest_moment events }
+{}
+
+/// No report is due before the interval drawn has passed since the newest transmission (RFC 3550, 6.3.6).
 pub fn never_due_too_soon()
     ensures { (events : List Happening) (moment interval : ℕ) → IsInOrder events → IsDue (schedule_at events) moment interval →
         newest_transmission events + interval ≤ moment }

@@ -1,0 +1,82 @@
+-- A schedule's moments, from all that happened to it at once: the newest draw set them, and each departure since has scaled their
+-- distances (RFC 3550, 6.3.4 and 6.3.6). Moments and intervals are microseconds, and lists are newest first.
+use Rattle.std.specs.Prelude.{ℕ, ◌+◌, ◌-◌, Bool, List, [], ◌∷◌, nat_lt, nat_le, min, if◌then◌else◌}
+use Rattle.rtcp_clock.specs.Intervals.{scaled_down}
+use Rattle.rtcp_timer.specs.Schedules.{Happening, transmitted, tried, recounted, newest_transmission}
+
+-- ---- Departures
+
+-- The members fell, from those before to so many.
+pub record Departure : Type 0 where
+  pub moment : ℕ
+  pub members : ℕ
+  pub members_before : ℕ
+
+-- the members that a schedule knows: the least of the newest draw's members and of the counts since
+abbrev pub members_known : List Happening → ℕ
+members_known [] = 1
+members_known (transmitted moment interval members ∷ before) = members
+members_known (tried moment interval members ∷ before) = members
+members_known (recounted moment members ∷ before) = min members (members_known before)
+
+-- A count is a departure where it is below the members known before.
+abbrev pub with_count : (moment members members_before : ℕ) → List Departure → List Departure
+with_count moment members members_before earlier =
+    if nat_lt members members_before
+    then record { moment = moment; members = members; members_before = members_before } ∷ earlier
+    else earlier
+
+-- a distance from a departure, scaled by the members then over those before
+abbrev pub scaled_at : Departure → (distance : ℕ) → ℕ
+scaled_at departure distance = scaled_down distance departure.members departure.members_before
+
+-- ---- The last transmission
+
+abbrev pub departures_since_transmission : List Happening → List Departure
+departures_since_transmission [] = []
+departures_since_transmission (transmitted moment interval members ∷ before) = []
+departures_since_transmission (tried moment interval members ∷ before) = departures_since_transmission before
+departures_since_transmission (recounted moment members ∷ before) =
+    with_count moment members (members_known before) (departures_since_transmission before)
+
+-- Each departure brings the last transmission nearer to it.
+abbrev pub last_scaled : List Departure → (last : ℕ) → ℕ
+last_scaled [] last = last
+last_scaled (newest ∷ earlier) last = newest.moment - scaled_at newest (newest.moment - last_scaled earlier last)
+
+-- the newest transmission, as the departures since have moved it
+abbrev pub last_moment : List Happening → ℕ
+last_moment events = last_scaled (departures_since_transmission events) (newest_transmission events)
+
+-- ---- The next transmission
+-- A setting is a draw that sets it: each transmission, and a try whose interval has not passed yet since the last transmission.
+
+abbrev pub is_setting : (moment interval : ℕ) → List Happening → Bool
+is_setting moment interval before = nat_lt moment (last_moment before + interval)
+
+-- what the newest setting set the next transmission to
+abbrev pub newest_setting : List Happening → ℕ
+newest_setting [] = 0
+newest_setting (transmitted moment interval members ∷ before) = moment + interval
+newest_setting (tried moment interval members ∷ before) =
+    if is_setting moment interval before then last_moment before + interval else newest_setting before
+newest_setting (recounted moment members ∷ before) = newest_setting before
+
+abbrev pub departures_since_setting : List Happening → List Departure
+departures_since_setting [] = []
+departures_since_setting (transmitted moment interval members ∷ before) = []
+departures_since_setting (tried moment interval members ∷ before) =
+    if is_setting moment interval before then [] else departures_since_setting before
+departures_since_setting (recounted moment members ∷ before) =
+    with_count moment members (members_known before) (departures_since_setting before)
+
+-- Each departure brings the next transmission nearer to it, unless that is overdue.
+abbrev pub next_scaled : List Departure → (next : ℕ) → ℕ
+next_scaled [] next = next
+next_scaled (newest ∷ earlier) next =
+    let before = next_scaled earlier next in
+    if nat_le newest.moment before then newest.moment + scaled_at newest (before - newest.moment) else before
+
+-- what the newest setting set, as the departures since have moved it
+abbrev pub next_moment : List Happening → ℕ
+next_moment events = next_scaled (departures_since_setting events) (newest_setting events)
