@@ -1,10 +1,10 @@
 -- The laws of `laws.rt`, as lemmas that crates above can cite: LAW, or LAW-CLAUSE where the law has several clauses.
-use Rattle.std.proofs.Common.{◌≡◌, ℕ, ◌+◌, ◌*◌, ◌≤◌, List, All}
+use Rattle.std.proofs.Common.{◌≡◌, ℕ, ◌+◌, ◌*◌, ◌≤◌, max, List, All}
 use Rattle.rtcp_timer.specs.declared.load.Load.{Load}
 use Rattle.rtcp_timer.specs.Averages.{with_headers, average_of, IsBetween}
 use Rattle.rtcp_timer.specs.Loads.{minimum_of, interval_of, KeepsToShare}
-use Rattle.rtcp_timer.specs.Schedules.{Happening, recounted, Timing, IsDue, IsInOrder, after, schedule_at, newest_moment, newest_transmission}
-use Rattle.rtcp_timer.specs.Departures.{members_known, last_moment, next_moment}
+use Rattle.rtcp_timer.specs.Schedules.{Happening, recounted, Timing, IsDue, IsInOrder, after, schedule_at, newest_moment, newest_transmission, greatest_draw}
+use Rattle.rtcp_timer.specs.Departures.{members_known, last_departure, last_moment, next_moment}
 use Rattle.rtcp_timer.proofs.Averaging
 use Rattle.rtcp_timer.proofs.Sharing
 use Rattle.rtcp_timer.proofs.Following
@@ -47,9 +47,22 @@ pub last_lies_between-not_after_newest : (events : List Happening) → IsInOrder
   (schedule_at events).last ≤ newest_moment events
 last_lies_between-not_after_newest events in_order = (Bounding.last_between events in_order).1
 
+pub last_lies_between-not_after_departure : (events : List Happening) →
+  (schedule_at events).last ≤ max (newest_transmission events) (last_departure events)
+last_lies_between-not_after_departure = Bounding.last_bounded
+
+pub next_within_greatest_draw : (events : List Happening) → IsInOrder events →
+  (schedule_at events).next ≤ (schedule_at events).last + greatest_draw events
+next_within_greatest_draw = Bounding.next_near
+
 pub never_due_too_soon : (events : List Happening) (moment interval : ℕ) → IsInOrder events →
   IsDue (schedule_at events) moment interval → newest_transmission events + interval ≤ moment
 never_due_too_soon = Bounding.due_not_too_soon
+
+pub due_in_time : (events : List Happening) (moment interval : ℕ) → IsInOrder events →
+  newest_transmission events + max interval (greatest_draw events) ≤ moment →
+  last_departure events + max interval (greatest_draw events) ≤ moment → IsDue (schedule_at events) moment interval
+due_in_time = Bounding.due_in_time
 
 pub departure_never_puts_later : (timing : Timing) (moment members : ℕ) →
   (after (recounted moment members) timing).next ≤ timing.next

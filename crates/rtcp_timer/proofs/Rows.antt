@@ -4,8 +4,8 @@ use Rattle.rtcp_clock.specs.Intervals.{drawn_interval}
 use Rattle.rtcp_timer.specs.declared.load.Load.{Load}
 use Rattle.rtcp_timer.specs.Averages.{moved_average, average_of}
 use Rattle.rtcp_timer.specs.Loads.{interval_of}
-use Rattle.rtcp_timer.specs.Schedules.{Happening, transmitted, tried, recounted, Timing, after, schedule_at}
-use Rattle.rtcp_timer.specs.Departures.{Departure, members_known, departures_since_transmission, departures_since_setting, last_moment, next_moment}
+use Rattle.rtcp_timer.specs.Schedules.{Happening, transmitted, tried, recounted, Timing, after, schedule_at, greatest_draw}
+use Rattle.rtcp_timer.specs.Departures.{Departure, members_known, last_departure, departures_since_transmission, departures_since_setting, last_moment, next_moment}
 
 -- ---- The average
 
@@ -170,3 +170,15 @@ followed_overdue = refl
 -- A transmission forgets the departures before it.
 followed_sent_again : followed (transmitted 3000000 2052074 3 ∷ departure ∷ first_report) ≡ timing 3000000 5052074 3
 followed_sent_again = refl
+
+-- ---- When a report is due at the latest
+
+greatest_of_two : greatest_draw (tried 2815092 1500000 3 ∷ departure ∷ first_report) ≡ 2052074
+greatest_of_two = refl
+
+newest_is_departure : last_departure (second_try ∷ departure ∷ departure ∷ first_report) ≡ 2026037
+newest_is_departure = refl
+
+-- a count of more is no departure
+none_departed : last_departure (recounted 2026037 5 ∷ first_report) ≡ 0
+none_departed = refl

@@ -30,6 +30,14 @@ with_count moment members members_before earlier =
 abbrev pub scaled_at : Departure → (distance : ℕ) → ℕ
 scaled_at departure distance = scaled_down distance departure.members departure.members_before
 
+-- the moment of the newest departure
+abbrev pub last_departure : List Happening → ℕ
+last_departure [] = 0
+last_departure (transmitted moment interval members ∷ before) = last_departure before
+last_departure (tried moment interval members ∷ before) = last_departure before
+last_departure (recounted moment members ∷ before) =
+    if nat_lt members (members_known before) then moment else last_departure before
+
 -- ---- The last transmission
 
 abbrev pub departures_since_transmission : List Happening → List Departure

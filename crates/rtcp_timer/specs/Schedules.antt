@@ -1,6 +1,6 @@
 -- When the next report is due (RFC 3550, 6.3.2, 6.3.4 and 6.3.6; appendix A.7). Moments and intervals are microseconds, `members`
 -- are numbers of members, and lists of what happened are newest first.
-use Rattle.std.specs.Prelude.{ℕ, ◌+◌, ◌-◌, ◌≤◌, List, [], ◌∷◌, nat_lt, nat_le, if◌then◌else◌}
+use Rattle.std.specs.Prelude.{ℕ, ◌+◌, ◌-◌, ◌≤◌, List, [], ◌∷◌, nat_lt, nat_le, max, if◌then◌else◌}
 use Rattle.rtcp_clock.specs.Intervals.{scaled_down}
 
 -- what happens to a schedule
@@ -71,6 +71,13 @@ newest_transmission [] = 0
 newest_transmission (transmitted moment interval members ∷ before) = moment
 newest_transmission (tried moment interval members ∷ before) = newest_transmission before
 newest_transmission (recounted moment members ∷ before) = newest_transmission before
+
+-- the greatest interval that was drawn by the newest transmission or by a try since
+abbrev pub greatest_draw : List Happening → ℕ
+greatest_draw [] = 0
+greatest_draw (transmitted moment interval members ∷ before) = interval
+greatest_draw (tried moment interval members ∷ before) = max interval (greatest_draw before)
+greatest_draw (recounted moment members ∷ before) = greatest_draw before
 
 -- Moments do not fall.
 abbrev pub IsInOrder : List Happening → Type 0
