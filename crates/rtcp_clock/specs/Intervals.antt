@@ -10,6 +10,10 @@ scaled_down d m pm = d * m / pm
 abbrev pub drawn_interval : (td w : ℕ) → ℕ
 drawn_interval td w = div_ceil (td * (2 ^ 31 + w) * 100000) (2 ^ 32 * 121828)
 
+-- The shortest draw: half of the deterministic interval, over 1.21828.
+abbrev pub shortest_draw : (td : ℕ) → ℕ
+shortest_draw td = div_ceil (100000 * td) (2 * 121828)
+
 -- The longest draw: the deterministic interval times 3/2, over 1.21828.
 abbrev pub longest_draw : (td : ℕ) → ℕ
 longest_draw td = div_ceil (3 * 100000 * td) (2 * 121828)
