@@ -1,5 +1,5 @@
 -- Bounds of a schedule's moments.
-use Rattle.std.proofs.Common.{◌≡◌, ℕ, ◌+◌, ◌-◌, ◌<◌, ◌≤◌, true, false, nat_lt, max, if◌then◌else◌, List, [], ◌∷◌, refl, arith}
+use Rattle.std.proofs.Common.{◌≡◌, ℕ, ◌+◌, ◌-◌, ◌<◌, ◌≤◌, true, false, nat_lt, max, if◌then◌else◌, List, [], ◌∷◌, arith}
 use Rattle.std.proofs.lemmas.Bool.Decides.{nat_tests}
 use Rattle.rtcp_timer.specs.Averages.{IsBetween}
 use Rattle.rtcp_timer.specs.Schedules.{Happening, transmitted, tried, recounted, Timing, IsDue, IsInOrder, after, after_departure, schedule_at, newest_moment, newest_transmission, greatest_draw}
@@ -45,17 +45,17 @@ due_not_too_soon events moment interval in_order due =
 
 -- A departure leaves the next transmission as near to the last one as it was.
 next_near_after : (moment members draw : ℕ) (timing : Timing) → timing.last ≤ moment → timing.next ≤ timing.last + draw →
-  (after (recounted moment members) timing).next ≤ (after (recounted moment members) timing).last + draw
+    (after (recounted moment members) timing).next ≤ (after (recounted moment members) timing).last + draw
 next_near_after moment members draw timing in_order near =
     by_test {X = Timing} (λ new. new.next ≤ new.last + draw) members timing.known _ _
     (λ (fewer : members < timing.known).
-        let last_shorter = scaled_down_shorter (moment - timing.last) members timing.known (omega arith) in
-        let next_shorter = scaled_down_shorter (timing.next - moment) members timing.known (omega arith) in
-        grind (arith, nat_tests, last_shorter, next_shorter))
+    let last_shorter = scaled_down_shorter (moment - timing.last) members timing.known (omega arith) in
+    let next_shorter = scaled_down_shorter (timing.next - moment) members timing.known (omega arith) in
+    grind (arith, nat_tests, last_shorter, next_shorter))
     (λ _. near)
 
 pub next_near : (events : List Happening) → IsInOrder events →
-  (schedule_at events).next ≤ (schedule_at events).last + greatest_draw events
+    (schedule_at events).next ≤ (schedule_at events).last + greatest_draw events
 next_near [] in_order = omega arith
 next_near (transmitted moment interval members ∷ before) in_order = omega arith
 next_near (tried moment interval members ∷ before) in_order =
@@ -66,17 +66,17 @@ next_near (recounted moment members ∷ before) in_order =
 
 -- the last transmission after one count more, where `known` is what the schedule knows
 last_bounded_after : (moment members known sent departed : ℕ) (timing : Timing) → timing.known ≡ known →
-  timing.last ≤ max sent departed →
-  (after (recounted moment members) timing).last ≤ max sent (if nat_lt members known then moment else departed)
+    timing.last ≤ max sent departed →
+    (after (recounted moment members) timing).last ≤ max sent (if nat_lt members known then moment else departed)
 last_bounded_after moment members known sent departed timing same bounded =
     rw (← same) (elim (nat_lt members timing.known) as (λ t.
-        (if t then after_departure moment members timing else timing).last ≤ max sent (if t then moment else departed)) [
+    (if t then after_departure moment members timing else timing).last ≤ max sent (if t then moment else departed)) [
       | true ↦ omega arith
       | false ↦ bounded
     ])
 
 pub last_bounded : (events : List Happening) →
-  (schedule_at events).last ≤ max (newest_transmission events) (last_departure events)
+    (schedule_at events).last ≤ max (newest_transmission events) (last_departure events)
 last_bounded [] = omega arith
 last_bounded (transmitted moment interval members ∷ before) = omega arith
 last_bounded (tried moment interval members ∷ before) = last_bounded before
@@ -84,9 +84,9 @@ last_bounded (recounted moment members ∷ before) =
     last_bounded_after moment members _ _ _ (schedule_at before) (known_follows before) (last_bounded before)
 
 pub due_in_time : (events : List Happening) (moment interval : ℕ) → IsInOrder events →
-  newest_transmission events + max interval (greatest_draw events) ≤ moment →
-  last_departure events + max interval (greatest_draw events) ≤ moment →
-  IsDue (schedule_at events) moment interval
+    newest_transmission events + max interval (greatest_draw events) ≤ moment →
+    last_departure events + max interval (greatest_draw events) ≤ moment →
+    IsDue (schedule_at events) moment interval
 due_in_time events moment interval in_order sent departed =
     let near = next_near events in_order in
     let bounded = last_bounded events in

@@ -1,5 +1,5 @@
 -- A test of two numbers, by cases.
-use Rattle.std.proofs.Common.{◌≡◌, ℕ, ◌<◌, ◌≤◌, true, false, nat_lt, nat_le, if◌then◌else◌, refl}
+use Rattle.std.proofs.Common.{◌≡◌, ℕ, ◌<◌, ◌≤◌, true, false, nat_lt, if◌then◌else◌, refl}
 use Rattle.std.proofs.lemmas.Bool.{ltb-true, ltb-false}
 
 -- What holds in both cases of a test holds of what it chooses.

@@ -127,7 +127,7 @@ followed_second_count : followed (departure ∷ departure ∷ first_report) ≡ 
 followed_second_count = refl
 
 still_one_departure :
-  departures_since_transmission (departure ∷ departure ∷ first_report) ≡ departed 2026037 3 4 ∷ []
+    departures_since_transmission (departure ∷ departure ∷ first_report) ≡ departed 2026037 3 4 ∷ []
 still_one_departure = refl
 
 followed_two_departed : followed (recounted 2526037 2 ∷ departure ∷ first_report) ≡ timing 1692704 2718740 2
@@ -141,16 +141,16 @@ none_since_setting : departures_since_setting (second_try ∷ departure ∷ firs
 none_since_setting = refl
 
 one_since_setting :
-  departures_since_setting (recounted 3000000 2 ∷ second_try ∷ departure ∷ first_report) ≡ departed 3000000 2 3 ∷ []
+    departures_since_setting (recounted 3000000 2 ∷ second_try ∷ departure ∷ first_report) ≡ departed 3000000 2 3 ∷ []
 one_since_setting = refl
 
 both_since_transmission :
-  departures_since_transmission (recounted 3000000 2 ∷ second_try ∷ departure ∷ first_report) ≡
-  departed 3000000 2 3 ∷ departed 2026037 3 4 ∷ []
+    departures_since_transmission (recounted 3000000 2 ∷ second_try ∷ departure ∷ first_report) ≡
+    departed 3000000 2 3 ∷ departed 2026037 3 4 ∷ []
 both_since_transmission = refl
 
 followed_departed_again :
-  followed (recounted 3000000 2 ∷ second_try ∷ departure ∷ first_report) ≡ timing 1850692 3218740 2
+    followed (recounted 3000000 2 ∷ second_try ∷ departure ∷ first_report) ≡ timing 1850692 3218740 2
 followed_departed_again = refl
 
 -- A try that finds the transmission due is no setting, but a draw: its members are known from then on.

@@ -1,36 +1,37 @@
--- A schedule's moments, from all that happened to it at once: the newest draw set them, and each departure since has scaled their
--- distances (RFC 3550, 6.3.4 and 6.3.6). Moments and intervals are microseconds, and lists are newest first.
+-- A schedule's numbers from its history as a whole: a draw sets the last and the next transmission, and each
+-- departure since brings them nearer to itself (RFC 3550, 6.3.4 and 6.3.6). Moments and intervals are in
+-- microseconds, and lists are newest first.
 use Rattle.std.specs.Prelude.{ℕ, ◌+◌, ◌-◌, Bool, List, [], ◌∷◌, nat_lt, nat_le, min, if◌then◌else◌}
 use Rattle.rtcp_clock.specs.Intervals.{scaled_down}
 use Rattle.rtcp_timer.specs.Schedules.{Happening, transmitted, tried, recounted, newest_transmission}
 
 -- ---- Departures
 
--- The members fell, from those before to so many.
+-- a fall in the number of members
 pub record Departure : Type 0 where
   pub moment : ℕ
   pub members : ℕ
   pub members_before : ℕ
 
--- the members that a schedule knows: the least of the newest draw's members and of the counts since
+-- the members that a schedule knows: the least of those at the newest draw and of the counts since
 abbrev pub members_known : List Happening → ℕ
 members_known [] = 1
 members_known (transmitted moment interval members ∷ before) = members
 members_known (tried moment interval members ∷ before) = members
 members_known (recounted moment members ∷ before) = min members (members_known before)
 
--- A count is a departure where it is below the members known before.
+-- A count is a departure if it is below the members known before.
 abbrev pub with_count : (moment members members_before : ℕ) → List Departure → List Departure
 with_count moment members members_before earlier =
     if nat_lt members members_before
     then record { moment = moment; members = members; members_before = members_before } ∷ earlier
     else earlier
 
--- a distance from a departure, scaled by the members then over those before
+-- a distance from a departure, scaled by the members after it over those before
 abbrev pub scaled_at : Departure → (distance : ℕ) → ℕ
 scaled_at departure distance = scaled_down distance departure.members departure.members_before
 
--- the moment of the newest departure
+-- the moment of the newest departure, 0 if there was none
 abbrev pub last_departure : List Happening → ℕ
 last_departure [] = 0
 last_departure (transmitted moment interval members ∷ before) = last_departure before
@@ -47,22 +48,24 @@ departures_since_transmission (tried moment interval members ∷ before) = depar
 departures_since_transmission (recounted moment members ∷ before) =
     with_count moment members (members_known before) (departures_since_transmission before)
 
--- Each departure brings the last transmission nearer to it.
+-- Each departure brings the last transmission nearer to itself.
 abbrev pub last_scaled : List Departure → (last : ℕ) → ℕ
 last_scaled [] last = last
-last_scaled (newest ∷ earlier) last = newest.moment - scaled_at newest (newest.moment - last_scaled earlier last)
+last_scaled (newest ∷ earlier) last =
+    newest.moment - scaled_at newest (newest.moment - last_scaled earlier last)
 
 -- the newest transmission, as the departures since have moved it
 abbrev pub last_moment : List Happening → ℕ
 last_moment events = last_scaled (departures_since_transmission events) (newest_transmission events)
 
 -- ---- The next transmission
--- A setting is a draw that sets it: each transmission, and a try whose interval has not passed yet since the last transmission.
+-- A setting is a draw that sets it: each transmission, and each try whose interval has not passed yet.
 
+-- whether a try is one
 abbrev pub is_setting : (moment interval : ℕ) → List Happening → Bool
 is_setting moment interval before = nat_lt moment (last_moment before + interval)
 
--- what the newest setting set the next transmission to
+-- the moment to which the newest setting set the next transmission
 abbrev pub newest_setting : List Happening → ℕ
 newest_setting [] = 0
 newest_setting (transmitted moment interval members ∷ before) = moment + interval
@@ -78,13 +81,13 @@ departures_since_setting (tried moment interval members ∷ before) =
 departures_since_setting (recounted moment members ∷ before) =
     with_count moment members (members_known before) (departures_since_setting before)
 
--- Each departure brings the next transmission nearer to it, unless that is overdue.
+-- Each departure brings the next transmission nearer to itself, unless that is overdue.
 abbrev pub next_scaled : List Departure → (next : ℕ) → ℕ
 next_scaled [] next = next
 next_scaled (newest ∷ earlier) next =
     let before = next_scaled earlier next in
     if nat_le newest.moment before then newest.moment + scaled_at newest (before - newest.moment) else before
 
--- what the newest setting set, as the departures since have moved it
+-- the moment of the newest setting, as the departures since have moved it
 abbrev pub next_moment : List Happening → ℕ
 next_moment events = next_scaled (departures_since_setting events) (newest_setting events)
