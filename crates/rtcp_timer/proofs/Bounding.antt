@@ -1,4 +1,4 @@
--- Bounds of a schedule's moments.
+-- Bounds on a schedule's moments.
 use Rattle.std.proofs.Common.{◌≡◌, ℕ, ◌+◌, ◌-◌, ◌<◌, ◌≤◌, true, false, nat_lt, max, if◌then◌else◌, List, [], ◌∷◌, arith}
 use Rattle.std.proofs.lemmas.Bool.Decides.{nat_tests}
 use Rattle.rtcp_timer.specs.Averages.{IsBetween}
@@ -8,7 +8,7 @@ use Rattle.rtcp_timer.proofs.Quotients.{scaled_down_shorter}
 use Rattle.rtcp_timer.proofs.Cases.{by_test}
 use Rattle.rtcp_timer.proofs.Following.{known_follows}
 
--- A departure brings the next transmission nearer, where it is still to come.
+-- A departure brings the next transmission nearer if it is still to come.
 next_nearer : (moment members : ℕ) (timing : Timing) → members ≤ timing.known → (after_departure moment members timing).next ≤ timing.next
 next_nearer moment members timing fewer =
     let shorter = scaled_down_shorter (timing.next - moment) members timing.known fewer in
@@ -41,9 +41,9 @@ pub due_not_too_soon : (events : List Happening) (moment interval : ℕ) → IsI
 due_not_too_soon events moment interval in_order due =
     let between = last_between events in_order in omega (arith, between.0, due.passed)
 
--- ---- What is due in time
+-- ---- When a report is due at the latest
 
--- A departure leaves the next transmission as near to the last one as it was.
+-- A departure keeps the next transmission within a draw of the last one.
 next_near_after : (moment members draw : ℕ) (timing : Timing) → timing.last ≤ moment → timing.next ≤ timing.last + draw →
     (after (recounted moment members) timing).next ≤ (after (recounted moment members) timing).last + draw
 next_near_after moment members draw timing in_order near =
@@ -64,7 +64,7 @@ next_near (recounted moment members ∷ before) in_order =
     let last = last_between before in_order.1 in
     next_near_after moment members _ (schedule_at before) (omega (arith, last)) (next_near before in_order.1)
 
--- the last transmission after one count more, where `known` is what the schedule knows
+-- the last transmission after one more count, where `known` are the members that the schedule knows
 last_bounded_after : (moment members known sent departed : ℕ) (timing : Timing) → timing.known ≡ known →
     timing.last ≤ max sent departed →
     (after (recounted moment members) timing).last ≤ max sent (if nat_lt members known then moment else departed)

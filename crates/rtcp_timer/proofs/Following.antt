@@ -1,4 +1,4 @@
--- A schedule's numbers are what the newest draw and the departures since make of them.
+-- A schedule's numbers follow from its draws and departures.
 use Rattle.std.proofs.Common.{◌≡◌, ℕ, ◌+◌, ◌-◌, ◌<◌, ◌≤◌, true, false, nat_lt, nat_le, min, if◌then◌else◌, List, [], ◌∷◌, refl, ap, ◌∙◌, arith}
 use Rattle.std.proofs.lemmas.Bool.{ltb-true, ltb-false}
 use Rattle.std.proofs.lemmas.Bool.Decides.{nat_tests}
@@ -23,7 +23,7 @@ known_follows (recounted moment members ∷ before) =
 
 -- ---- The last transmission
 
--- One count more leaves of the last transmission what one more departure does, where it is one.
+-- A count moves the last transmission as one more departure does, if it is one.
 last_after_count : (moment members last : ℕ) (earlier : List Departure) (timing : Timing) →
     timing.last ≡ last_scaled earlier last →
     (after (recounted moment members) timing).last ≡ last_scaled (with_count moment members timing.known earlier) last
@@ -44,7 +44,7 @@ last_follows (recounted moment members ∷ before) =
 
 -- ---- The next transmission
 
--- the same of the next transmission
+-- the same for the next transmission
 next_after_count : (moment members next : ℕ) (earlier : List Departure) (timing : Timing) →
     timing.next ≡ next_scaled earlier next →
     (after (recounted moment members) timing).next ≡ next_scaled (with_count moment members timing.known earlier) next
@@ -56,7 +56,7 @@ next_after_count moment members next earlier timing same =
       | false ↦ same
     ]
 
--- A try leaves the next transmission, or sets it with no departure since.
+-- A try leaves the next transmission as it is, or sets it, with no departure since.
 next_after_try : (moment interval last next : ℕ) (earlier : List Departure) (before : ℕ) →
     next ≡ next_scaled earlier before →
     (if nat_le (last + interval) moment then next else last + interval) ≡

@@ -1,4 +1,4 @@
--- The laws of `laws.rt`, as lemmas that crates above can cite: LAW, or LAW-CLAUSE where the law has several clauses.
+-- The laws of `laws.rt`, as lemmas that crates above can cite: LAW, or LAW-CLAUSE for a law with several clauses.
 use Rattle.std.proofs.Common.{◌≡◌, ℕ, ◌+◌, ◌*◌, ◌≤◌, max, List, All}
 use Rattle.rtcp_timer.specs.declared.load.Load.{Load}
 use Rattle.rtcp_timer.specs.Averages.{with_headers, average_of, IsBetween}

@@ -87,7 +87,7 @@ none_departed_since = refl
 put_off : schedule_at (second_try ∷ departure ∷ first_report) ≡ timing 1276037 3328111 3
 put_off = refl
 
--- ---- Distances round down, and what is overdue stays.
+-- ---- Distances round down, and an overdue transmission stays.
 
 rounded : after (recounted 10000000 3) (timing 8000001 12000003 4) ≡ timing 8500001 11500002 3
 rounded = refl
@@ -133,7 +133,7 @@ still_one_departure = refl
 followed_two_departed : followed (recounted 2526037 2 ∷ departure ∷ first_report) ≡ timing 1692704 2718740 2
 followed_two_departed = refl
 
--- A try that is put off is a setting: what departed before it has moved the last transmission alone.
+-- A try that is put off is a setting: an earlier departure has moved the last transmission alone.
 followed_put_off : followed (second_try ∷ departure ∷ first_report) ≡ timing 1276037 3328111 3
 followed_put_off = refl
 

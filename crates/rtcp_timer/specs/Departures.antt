@@ -1,5 +1,5 @@
--- A schedule's numbers from its history as a whole: a draw sets the last and the next transmission, and each
--- departure since brings them nearer to itself (RFC 3550, 6.3.4 and 6.3.6). Moments and intervals are in
+-- A schedule's numbers from its history as a whole (RFC 3550, 6.3.4 and 6.3.6): draws set them, and each
+-- departure since brings the last and the next transmission nearer to itself. Moments and intervals are in
 -- microseconds, and lists are newest first.
 use Rattle.std.specs.Prelude.{ℕ, ◌+◌, ◌-◌, Bool, List, [], ◌∷◌, nat_lt, nat_le, min, if◌then◌else◌}
 use Rattle.rtcp_clock.specs.Intervals.{scaled_down}
@@ -48,7 +48,7 @@ departures_since_transmission (tried moment interval members ∷ before) = depar
 departures_since_transmission (recounted moment members ∷ before) =
     with_count moment members (members_known before) (departures_since_transmission before)
 
--- Each departure brings the last transmission nearer to itself.
+-- the last transmission after departures, each of which brings it nearer to itself
 abbrev pub last_scaled : List Departure → (last : ℕ) → ℕ
 last_scaled [] last = last
 last_scaled (newest ∷ earlier) last =
@@ -81,7 +81,7 @@ departures_since_setting (tried moment interval members ∷ before) =
 departures_since_setting (recounted moment members ∷ before) =
     with_count moment members (members_known before) (departures_since_setting before)
 
--- Each departure brings the next transmission nearer to itself, unless that is overdue.
+-- the next transmission after departures, each of which brings it nearer to itself unless it is overdue
 abbrev pub next_scaled : List Departure → (next : ℕ) → ℕ
 next_scaled [] next = next
 next_scaled (newest ∷ earlier) next =

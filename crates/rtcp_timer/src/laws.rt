@@ -34,9 +34,9 @@ pub fn interval_is_least()
 {}
 
 /// The three numbers of a schedule follow from its draws and departures (RFC 3550, 6.3.4 and 6.3.6). `last`
-/// is the moment of the newest transmission, and `next` the moment that the newest draw to set it chose, each
-/// brought nearer by every departure since. `known` is the least of the members at the newest draw and of the
-/// counts since.
+/// is the newest transmission, and `next` what the newest draw to set it chose; each departure since brings
+/// them nearer to itself, except an overdue `next`. `known` is the least of the members at the newest draw
+/// and of the counts since.
 pub fn schedule_follows_departures()
     ensures last { (events : List Happening) → (schedule_at events).last ≡ last_moment events }
     ensures next { (events : List Happening) → (schedule_at events).next ≡ next_moment events }
