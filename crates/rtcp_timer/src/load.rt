@@ -52,7 +52,7 @@ pub fn interval(load: &Load) -> u64
     minimum.max(share_interval(load))
 }
 
-/// The interval that the participant's part of the bandwidth asks for, whatever the minimum.
+/// The interval for the participant's part of the bandwidth, whatever the minimum.
 fn share_interval(load: &Load) -> u64
     requires members_fit { load.now.members ≤ 65535 }
     requires average_fits { load.now.avg ≤ 256 * 65563 }
