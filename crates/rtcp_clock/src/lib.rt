@@ -1,15 +1,17 @@
-//! Moments and the fixed-point formulas of RTCP (RFC 3550): it is deterministic, reads no clock, opens no socket, draws no random
-//! number, asks for no memory, and no call refuses or wraps where its formula does not say so.
+//! Moments and the fixed-point formulas of RTCP (RFC 3550). The crate is deterministic: it reads no clock,
+//! opens no socket, draws no random number and does not allocate. No call fails, and a result wraps around
+//! only where its formula says so.
 //!
-//! A moment is a number of microseconds since the session began; the calls here take any. Division rounds down, but where a
-//! formula says that it rounds up.
+//! A moment is in microseconds since the session began. The calls take any moment; an interval to draw from
+//! is below 2^49. Division rounds down except where a formula says that it rounds up.
 //!
 //! ```
 //! assert_eq!(rt; ntp_of(0, 1_500_000), 0x0000_0001_8000_0000);
 //! assert_eq!(rt; draw(5_000_000, 0), 2_052_074);
 //! ```
 //!
-//! Each call's formula is defined in `specs/` (`Moments`, `Intervals`); `laws` has what holds of them.
+//! `specs/` defines the formula of each call (`Moments`, `Intervals`), and `laws` says what holds of the
+//! formulas.
 #![tactic(auto)]
 
 mod intervals;

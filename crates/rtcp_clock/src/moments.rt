@@ -1,4 +1,4 @@
-//! Moments as RTCP tells them (RFC 3550, section 4 and 6.4.1).
+//! Moments as RTCP carries them (RFC 3550, section 4, 5.1 and 6.4.1).
 
 ghost use Rattle.std.specs.Prelude.{◌≡◌};
 ghost use Rattle.rtcp_clock.specs.Moments.{ntp_moment, media_units, short_seconds, time_of_trip};
@@ -6,8 +6,9 @@ ghost use Rattle.rtcp_clock.specs.Moments.{ntp_moment, media_units, short_second
 /// Microseconds in a second.
 const SECOND: u128 = 1_000_000;
 
-/// The NTP timestamp (64 bits: seconds above, 1/2^32 of a second below) of the moment `t`, in microseconds, of a session that
-/// began at the NTP timestamp `base`. It wraps as NTP's seconds do (RFC 3550, section 4).
+/// The NTP timestamp of the moment `t`, in microseconds, of a session that began at the NTP timestamp `base`:
+/// 64 bits, the upper 32 in seconds and the lower 32 in 1/2^32 of a second. It wraps around as NTP's seconds
+/// do (RFC 3550, section 4).
 pub fn ntp_of(base: u64, t: u64) -> u64
     ensures { result ≡ ntp_moment base t }
 {
@@ -15,15 +16,16 @@ pub fn ntp_of(base: u64, t: u64) -> u64
     ((base as u128 + fraction) % (1 << 64)) as u64
 }
 
-/// The units of a media clock of `rate` units a second that pass in `t` microseconds, modulo 2^32, as RTP timestamps count them
-/// (RFC 3550, 5.1).
+/// The units by which a media clock of `rate` units a second advances in `t` microseconds, modulo 2^32 as in
+/// RTP timestamps (RFC 3550, 5.1).
 pub fn rtp_units(t: u64, rate: u32) -> u32
     ensures { result ≡ media_units t rate }
 {
     ((t as u128) * (rate as u128) / SECOND % (1 << 32)) as u32
 }
 
-/// A time of `us` microseconds in 1/65,536 of a second, at most 2^32 - 1: the form of a report block's DLSR (RFC 3550, 6.4.1).
+/// A time of `us` microseconds in 1/65,536 of a second, capped at 2^32 - 1: the form of DLSR in a report
+/// block (RFC 3550, 6.4.1).
 pub fn short_delay(us: u64) -> u32
     ensures { result ≡ short_seconds us }
 {
@@ -35,8 +37,9 @@ pub fn short_delay(us: u64) -> u32
     }
 }
 
-/// The round-trip time, in 1/65,536 of a second and modulo 2^32, that a report block tells its sender's peer: `a` is the middle 32
-/// bits of the NTP timestamp at which the block arrived, `lsr` and `dlsr` are the block's (RFC 3550, 6.4.1).
+/// The round-trip time by a report block, in 1/65,536 of a second and modulo 2^32: `a` is the middle 32 bits
+/// of the NTP timestamp at which the block arrived, and `lsr` and `dlsr` are the block's fields (RFC 3550,
+/// 6.4.1).
 pub fn round_trip(a: u32, lsr: u32, dlsr: u32) -> u32
     ensures { result ≡ time_of_trip a lsr dlsr }
 {

@@ -11,7 +11,7 @@ fn example(rt: HostRuntime) {
 #[test]
 fn moments(rt: HostRuntime) {
     assert_eq!(rt; rtp_units(60_000, 8000), 480);
-    // 150 hours of a clock of 8,000 units a second pass 2^32 units
+    // in 150 hours a clock of 8,000 units a second passes 2^32 units
     assert_eq!(rt; rtp_units(540_000_000_000, 8000), 25_032_704);
     assert_eq!(rt;
         round_trip(0xb710_8000, 0xb705_2000, 0x0005_4000),

@@ -3,7 +3,7 @@ use Rattle.std.proofs.Common.{ℕ, ◌*◌, List, [], ◌∷◌, All, arith}
 use Rattle.std.proofs.lemmas.List.Elements.{All-head, All-tail}
 use Rattle.rtcp_timer.specs.Averages.{with_headers, moved_average, average_of, IsBetween}
 
--- the same of one more compound
+-- the same after one more compound
 moved_between : (low high average size : ℕ) → IsBetween low high size → IsBetween (256 * with_headers low) (256 * with_headers high) average → IsBetween (256 * with_headers low) (256 * with_headers high) (moved_average average size)
 moved_between low high average size of_size of_average = (omega arith, omega arith)
 

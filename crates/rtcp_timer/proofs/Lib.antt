@@ -1,5 +1,8 @@
-pub mod Rows
-pub mod Quotients
-pub mod Averaging
-pub mod Sharing
-pub mod Departures
+mod Rows
+mod Quotients
+mod Averaging
+mod Sharing
+mod Cases
+mod Bounding
+mod Following
+pub mod LawLemmas

@@ -1,6 +1,6 @@
 -- The deterministic interval is the least that its minimum and the bandwidth allow.
 use Rattle.std.proofs.Common.{ℕ, ◌*◌, ◌<◌, ◌≤◌, arith}
-use Rattle.std.proofs.Math.Nat.{le_trans, le-max_right, max-le, mul-le-mul_right}
+use Rattle.std.proofs.Math.Nat.{le_trans, le-max_left, le-max_right, max-le, mul-le-mul_right}
 use Rattle.rtcp_timer.specs.declared.load.Load.{Load}
 use Rattle.rtcp_timer.specs.Loads.{Sharers, the_senders, the_others, everyone, sharers_of, count_of, quarters_of, interval_at_share, minimum_of, interval_of, KeepsToShare}
 use Rattle.rtcp_timer.proofs.Quotients.{div_ceil_covers, div_ceil_least}
@@ -24,3 +24,6 @@ is_least load interval some long_enough keeps =
     let sharers = sharers_of load in
     let room = quarters_of sharers * 256 * load.rtcp_bw in
     max-le long_enough (div_ceil_least _ room interval (some_share sharers load.rtcp_bw some) keeps)
+
+pub has_minimum : (load : Load) → minimum_of load.initial ≤ interval_of load
+has_minimum load = le-max_left (minimum_of load.initial) (interval_at_share (sharers_of load) load)

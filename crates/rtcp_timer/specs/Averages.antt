@@ -1,15 +1,16 @@
--- The average size of compounds (RFC 3550, 6.3.3), in 1/256 octet. Sizes are octets, lists of them are newest first.
+-- The average size of compounds (RFC 3550, 6.3.3), in 1/256 octet. Sizes are in octets, and lists of them
+-- are newest first.
 use Rattle.std.specs.Prelude.{ℕ, ◌+◌, ◌*◌, ◌/◌, ◌≤◌, List, [], ◌∷◌}
 
--- the octets of a compound with its UDP and IPv4 headers (6.2)
+-- the size of a compound with its UDP and IPv4 headers (6.2)
 abbrev pub with_headers : (size : ℕ) → ℕ
 with_headers size = size + 28
 
--- One more compound counts for 1/16, and what was before it for 15/16.
+-- A new compound weighs 1/16, and the average before it 15/16.
 abbrev pub moved_average : (average size : ℕ) → ℕ
 moved_average average size = (256 * with_headers size + 15 * average) / 16
 
--- the average of a first compound and of those since
+-- the average over a first compound and those since
 abbrev pub average_of : (first : ℕ) (sizes : List ℕ) → ℕ
 average_of first [] = 256 * with_headers first
 average_of first (size ∷ sizes) = moved_average (average_of first sizes) size

@@ -1,3 +1,4 @@
 pub mod Averages
 pub mod Loads
 pub mod Schedules
+pub mod Departures

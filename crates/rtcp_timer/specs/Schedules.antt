@@ -1,18 +1,19 @@
--- When the next report is due (RFC 3550, 6.3.2, 6.3.4 and 6.3.6; appendix A.7). Moments and intervals are microseconds, `members`
--- are numbers of members, and lists of what happened are newest first.
-use Rattle.std.specs.Prelude.{ℕ, ◌+◌, ◌-◌, ◌≤◌, List, [], ◌∷◌, nat_lt, nat_le, if◌then◌else◌}
+-- When the next report is due (RFC 3550, 6.3.2, 6.3.4 and 6.3.6; appendix A.7). Moments and intervals are
+-- in microseconds, `members` is a number of members, and lists of happenings are newest first.
+use Rattle.std.specs.Prelude.{ℕ, ◌+◌, ◌-◌, ◌≤◌, List, [], ◌∷◌, nat_lt, nat_le, max, if◌then◌else◌}
 use Rattle.rtcp_clock.specs.Intervals.{scaled_down}
 
 -- what happens to a schedule
 pub data Happening : Type 0 where
-  -- a report was sent, and an interval drawn (6.3.6); the start is one sent at 0, with one member (6.3.2)
+  -- a report was sent, and an interval drawn (6.3.6); the start of a session is a transmission at 0 with one
+  -- member (6.3.2)
   transmitted : (moment interval members : ℕ) → Happening
-  -- the next transmission's moment had come, and an interval was drawn to see whether it is due (6.3.6)
+  -- the moment of the next transmission had come, and an interval was drawn to see whether it is due (6.3.6)
   tried : (moment interval members : ℕ) → Happening
-  -- the members were counted, as some may have departed (6.3.4)
-  counted : (moment members : ℕ) → Happening
+  -- the members were counted again, as some may have departed (6.3.4)
+  recounted : (moment members : ℕ) → Happening
 
--- where a schedule stands
+-- the three numbers of a schedule
 pub record Timing : Type 0 where
   -- the moment of the last transmission, as departures have moved it
   pub last : ℕ
@@ -21,12 +22,14 @@ pub record Timing : Type 0 where
   -- the members at the last draw or departure
   pub known : ℕ
 
--- A transmission is due where the next one's moment has come, and the interval has passed since the last one (6.3.6).
+-- A transmission is due when the moment of the next one has come and the interval has passed since the last
+-- one (6.3.6).
 pub record IsDue (timing : Timing) (moment interval : ℕ) : Type 0 where
   pub came : timing.next ≤ moment
   pub passed : timing.last + interval ≤ moment
 
--- Reconsideration (6.3.6): where the interval has not passed yet, the next transmission is when it will have.
+-- Reconsideration (6.3.6): if the interval has not passed yet, the next transmission is put off until it will
+-- have.
 abbrev pub after_try : (moment interval members : ℕ) → Timing → Timing
 after_try moment interval members timing = record {
   last = timing.last;
@@ -34,45 +37,57 @@ after_try moment interval members timing = record {
   known = members;
 }
 
--- Reverse reconsideration (6.3.4): the distances to the last and to the next transmission shrink as the members do. A next one
--- that is overdue stays.
+-- Reverse reconsideration (6.3.4): the distances to the last and the next transmission shrink as the members
+-- do. An overdue next transmission stays.
 abbrev pub after_departure : (moment members : ℕ) → Timing → Timing
 after_departure moment members timing = record {
   last = moment - scaled_down (moment - timing.last) members timing.known;
-  next = if nat_le moment timing.next then moment + scaled_down (timing.next - moment) members timing.known else timing.next;
+  next =
+      if nat_le moment timing.next
+      then moment + scaled_down (timing.next - moment) members timing.known
+      else timing.next;
   known = members;
 }
 
--- where a schedule stands after one happening more; members that are no fewer change nothing
+-- a schedule after one more happening; a count of no fewer members changes nothing
 abbrev pub after : Happening → Timing → Timing
-after (transmitted moment interval members) timing = record { last = moment; next = moment + interval; known = members }
+after (transmitted moment interval members) timing =
+    record { last = moment; next = moment + interval; known = members }
 after (tried moment interval members) timing = after_try moment interval members timing
-after (counted moment members) timing = if nat_lt members timing.known then after_departure moment members timing else timing
+after (recounted moment members) timing =
+    if nat_lt members timing.known then after_departure moment members timing else timing
 
--- where a schedule stands to which all this happened
+-- where a schedule *stands* after some happenings: its numbers, computed from its whole history
 abbrev pub schedule_at : List Happening → Timing
 schedule_at [] = record { last = 0; next = 0; known = 1 }
 schedule_at (newest ∷ before) = after newest (schedule_at before)
 
--- ---- The moments at which it happened
+-- ---- Moments and intervals of happenings
 
-abbrev pub moment_of : Happening → ℕ
-moment_of (transmitted moment interval members) = moment
-moment_of (tried moment interval members) = moment
-moment_of (counted moment members) = moment
+abbrev pub happening_moment : Happening → ℕ
+happening_moment (transmitted moment interval members) = moment
+happening_moment (tried moment interval members) = moment
+happening_moment (recounted moment members) = moment
 
 abbrev pub newest_moment : List Happening → ℕ
 newest_moment [] = 0
-newest_moment (newest ∷ before) = moment_of newest
+newest_moment (newest ∷ before) = happening_moment newest
 
--- the moment at which the last report was sent in truth
+-- the moment of the newest transmission, a report or the start, wherever departures have moved `last` since
 abbrev pub newest_transmission : List Happening → ℕ
 newest_transmission [] = 0
 newest_transmission (transmitted moment interval members ∷ before) = moment
 newest_transmission (tried moment interval members ∷ before) = newest_transmission before
-newest_transmission (counted moment members ∷ before) = newest_transmission before
+newest_transmission (recounted moment members ∷ before) = newest_transmission before
+
+-- the greatest interval drawn by the newest transmission and the tries since
+abbrev pub greatest_draw : List Happening → ℕ
+greatest_draw [] = 0
+greatest_draw (transmitted moment interval members ∷ before) = interval
+greatest_draw (tried moment interval members ∷ before) = max interval (greatest_draw before)
+greatest_draw (recounted moment members ∷ before) = greatest_draw before
 
 -- Moments do not fall.
 abbrev pub IsInOrder : List Happening → Type 0
 IsInOrder [] = Unit {0}
-IsInOrder (newest ∷ before) = (newest_moment before ≤ moment_of newest) × IsInOrder before
+IsInOrder (newest ∷ before) = (newest_moment before ≤ happening_moment newest) × IsInOrder before

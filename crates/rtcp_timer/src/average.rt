@@ -5,16 +5,17 @@ ghost use Rattle.rtcp_timer.specs.Averages.{with_headers, average_of, moved_aver
 
 use std::marker::Model;
 
-/// Octets of the UDP and IPv4 headers in front of a compound, which count as part of it (RFC 3550, 6.2).
+/// Octets of the UDP and IPv4 headers before a compound, which count as part of it (RFC 3550, 6.2).
 const LOWER_HEADERS: u32 = 28;
 
 /// The parts of an octet in which the average is kept.
 pub(crate) const PARTS: u32 = 256;
 
-/// The average size of the compounds that were accepted or sent, with their UDP and IPv4 headers, in 1/256 octet (RFC 3550,
-/// 6.3.3). A new compound counts for 1/16; the average is rounded down.
+/// The average size of the compounds that were accepted or sent, in 1/256 octet and with their UDP and IPv4
+/// headers (RFC 3550, 6.3.3). A new compound weighs 1/16; the average is rounded down.
 #[derive(Debug, Drop)]
 pub struct Average {
+    /// in 1/256 octet
     parts: u32,
 }
 
@@ -27,8 +28,8 @@ impl Model for Average {
 }
 
 impl Average {
-    /// The average of a first compound of `size` octets, at most 65,535: at the start of a session, of the one that the participant is
-    /// to send first (RFC 3550, 6.3.2).
+    /// The average over one compound of `size` octets, at most 65,535. A session starts with the compound
+    /// that the participant is to send first (RFC 3550, 6.3.2).
     pub fn start(size: u32) -> Average
         requires { size ≤ 65535 }
         ensures { result ≡ average_of size [] }
@@ -38,16 +39,18 @@ impl Average {
         }
     }
 
-    /// Moves the average by a compound of `size` octets, at most 65,535. Call it once for each compound that is accepted or sent.
+    /// Takes one more compound of `size` octets, at most 65,535, into the average. Call it once for each
+    /// compound that is accepted or sent.
     pub fn add(&mut self, size: u32)
         requires { size ≤ 65535 }
         ensures moves { self.new ≡ moved_average self.old size }
-        ensures stands { (first : ℕ) (sizes : List ℕ) → self.old ≡ average_of first sizes → self.new ≡ average_of first (size ∷ sizes) }
+        ensures stands { (first : ℕ) (sizes : List ℕ) → self.old ≡ average_of first sizes →
+            self.new ≡ average_of first (size ∷ sizes) }
     {
         self.parts = (parts_of(size) + 15 * self.parts) / 16;
     }
 
-    /// The average, in 1/256 octet, headers included. It is never above that of compounds of 65,535 octets.
+    /// The average, in 1/256 octet and with headers. It never exceeds that of compounds of 65,535 octets.
     pub fn value(&self) -> u32
         ensures exact { result ≡ self.now }
         ensures bounded { result ≤ 256 * 65563 }
@@ -56,7 +59,7 @@ impl Average {
     }
 }
 
-/// A compound's octets, headers included, in the parts of the average.
+/// A compound's size with headers, in 1/256 octet.
 fn parts_of(size: u32) -> u32
     requires { size ≤ 65535 }
     ensures { result ≡ 256 * with_headers size }

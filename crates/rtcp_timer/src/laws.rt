@@ -1,19 +1,23 @@
-//! Laws of the average, the interval and the schedule. The functions do nothing, and what they ensure is the law.
+//! Laws of the average, the interval and the schedule. Each is an empty function whose postcondition is the
+//! law.
 
-ghost use Rattle.std.specs.Prelude.{ℕ, ◌+◌, ◌*◌, ◌≤◌, List, All};
+ghost use Rattle.std.specs.Prelude.{ℕ, ◌≡◌, ◌+◌, ◌*◌, ◌≤◌, max, List, All};
 ghost use Rattle.rtcp_timer.specs.Averages.{with_headers, average_of, IsBetween};
 ghost use Rattle.rtcp_timer.specs.declared.load.Load.{Load};
 ghost use Rattle.rtcp_timer.specs.Loads.{minimum_of, interval_of, KeepsToShare};
-ghost use Rattle.rtcp_timer.specs.Schedules.{Happening, counted, Timing, IsDue, IsInOrder, after, schedule_at, newest_moment, newest_transmission};
+ghost use Rattle.rtcp_timer.specs.Schedules.{Happening, recounted, Timing, IsDue, IsInOrder, after, schedule_at, newest_moment, newest_transmission, greatest_draw};
+ghost use Rattle.rtcp_timer.specs.Departures.{members_known, last_departure, last_moment, next_moment};
 
-/// Where all sizes lie between two numbers, so does the average, in 1/256 octet and with the lower headers (RFC 3550, 6.3.3).
+/// Where all sizes lie between two numbers, so does their average, in 1/256 octet and with headers
+/// (RFC 3550, 6.3.3).
 pub fn average_lies_between()
-    ensures { (low high first : ℕ) (sizes : List ℕ) → IsBetween low high first → All (IsBetween low high) sizes →
+    ensures { (low high first : ℕ) (sizes : List ℕ) →
+        IsBetween low high first → All (IsBetween low high) sizes →
         IsBetween (256 * with_headers low) (256 * with_headers high) (average_of first sizes) }
 {}
 
-/// Where each of those who share a part of the bandwidth with the participant sends one compound of average size in each
-/// deterministic interval, they take at most that part (RFC 3550, 6.3.1).
+/// If each of those who share a part of the bandwidth with the participant sends one compound of average size
+/// in each deterministic interval, they use at most that part (RFC 3550, 6.3.1).
 pub fn interval_keeps_to_share()
     ensures { (load : Load) → 1 ≤ load.rtcp_bw → KeepsToShare load (interval_of load) }
 {}
@@ -23,26 +27,62 @@ pub fn interval_has_minimum()
     ensures { (load : Load) → minimum_of load.initial ≤ interval_of load }
 {}
 
-/// No shorter interval keeps to the share and has the minimum.
+/// The deterministic interval is the shortest that keeps to the share and the minimum (RFC 3550, 6.3.1).
 pub fn interval_is_least()
-    ensures { (load : Load) (interval : ℕ) → 1 ≤ load.rtcp_bw → minimum_of load.initial ≤ interval → KeepsToShare load interval →
-        interval_of load ≤ interval }
+    ensures { (load : Load) (interval : ℕ) → 1 ≤ load.rtcp_bw → minimum_of load.initial ≤ interval →
+        KeepsToShare load interval → interval_of load ≤ interval }
 {}
 
-/// Where moments do not fall, the last transmission that a schedule goes by is never before the moment of the newest one, and never
-/// after the newest moment, however many departed (RFC 3550, 6.3.4).
+/// The three numbers of a schedule follow from its draws and departures (RFC 3550, 6.3.4 and 6.3.6). `last`
+/// is the newest transmission, and `next` what the newest draw to set it chose; each departure since brings
+/// them nearer to itself, except an overdue `next`. `known` is the least of the members at the newest draw
+/// and of the counts since.
+pub fn schedule_follows_departures()
+    ensures last { (events : List Happening) → (schedule_at events).last ≡ last_moment events }
+    ensures next { (events : List Happening) → (schedule_at events).next ≡ next_moment events }
+    ensures known { (events : List Happening) → (schedule_at events).known ≡ members_known events }
+{}
+
+/// Where moments do not fall, `last` is never before the newest transmission and never after the newest
+/// moment, however many members depart (RFC 3550, 6.3.4). Nor is it after the later of the newest
+/// transmission and the newest departure.
 pub fn last_lies_between()
-    ensures not_before_sent { (events : List Happening) → IsInOrder events → newest_transmission events ≤ (schedule_at events).last }
-    ensures not_after_newest { (events : List Happening) → IsInOrder events → (schedule_at events).last ≤ newest_moment events }
+    ensures not_before_sent { (events : List Happening) → IsInOrder events →
+        newest_transmission events ≤ (schedule_at events).last }
+    ensures not_after_newest { (events : List Happening) → IsInOrder events →
+        (schedule_at events).last ≤ newest_moment events }
+    ensures not_after_departure { (events : List Happening) →
+        (schedule_at events).last ≤ max (newest_transmission events) (last_departure events) }
 {}
 
-/// So no report is due before the interval drawn has passed since the newest transmission (RFC 3550, 6.3.6).
+/// Where moments do not fall, `next` follows `last` by at most the greatest interval drawn by the newest
+/// transmission and the tries since: a departure scales both distances by the same fraction (RFC 3550,
+/// 6.3.4).
+pub fn next_within_greatest_draw()
+    ensures { (events : List Happening) → IsInOrder events →
+        (schedule_at events).next ≤ (schedule_at events).last + greatest_draw events }
+{}
+
+/// No report is due until the interval drawn for it has passed since the newest transmission (RFC 3550,
+/// 6.3.6).
 pub fn never_due_too_soon()
-    ensures { (events : List Happening) (moment interval : ℕ) → IsInOrder events → IsDue (schedule_at events) moment interval →
-        newest_transmission events + interval ≤ moment }
+    ensures { (events : List Happening) (moment interval : ℕ) → IsInOrder events →
+        IsDue (schedule_at events) moment interval → newest_transmission events + interval ≤ moment }
+{}
+
+/// A report is due at the latest when both the interval drawn for it and the greatest interval drawn by the
+/// newest transmission and the tries since have passed since the newest transmission and since the newest
+/// departure (RFC 3550, 6.3.4 and 6.3.6). Where there was no departure, its moment is 0, and so is that of
+/// the newest transmission in an empty history.
+pub fn due_in_time()
+    ensures { (events : List Happening) (moment interval : ℕ) → IsInOrder events →
+        newest_transmission events + max interval (greatest_draw events) ≤ moment →
+        last_departure events + max interval (greatest_draw events) ≤ moment →
+        IsDue (schedule_at events) moment interval }
 {}
 
 /// A departure never puts the next transmission later (RFC 3550, 6.3.4).
 pub fn departure_never_puts_later()
-    ensures { (timing : Timing) (moment members : ℕ) → (after (counted moment members) timing).next ≤ timing.next }
+    ensures { (timing : Timing) (moment members : ℕ) →
+        (after (recounted moment members) timing).next ≤ timing.next }
 {}

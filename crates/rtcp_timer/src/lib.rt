@@ -1,5 +1,6 @@
-//! When the next RTCP report is due (RFC 3550, 6.2 and 6.3.1 to 6.3.6; appendix A.7): it is deterministic, reads no clock, opens no
-//! socket, draws no random number and asks for no memory. Moments and random words are handed in.
+//! When the next RTCP report is due (RFC 3550, 6.2 and 6.3.1 to 6.3.6; appendix A.7). The crate is
+//! deterministic: it reads no clock, opens no socket, draws no random number and does not allocate. Moments
+//! and random words are passed in.
 //!
 //! ```
 //! let mut schedule = Schedule::begin(2_500_000, 0);
@@ -9,8 +10,9 @@
 //! assert_eq!(rt; schedule.next(), 3_078_111);
 //! ```
 //!
-//! A moment is a number of microseconds since the session began. What each call gives is defined in `specs/` (`Loads`, `Averages`,
-//! `Schedules`); `laws` has what holds of these definitions.
+//! Moments and intervals are in microseconds, and a moment counts from the start of the session. `specs/`
+//! defines what each call returns and changes (`Loads`, `Averages`, `Schedules`), and says a schedule's
+//! numbers in other words (`Departures`); `laws` says what holds of these definitions.
 #![tactic(auto)]
 
 mod average;

@@ -17,25 +17,26 @@ const MINIMUM: u64 = 5_000_000;
 /// What the interval depends on (RFC 3550, 6.3).
 #[derive(Clone, Copy, Debug, PartialEq, Eq)]
 pub struct Load {
-    /// The members of the session, the participant among them.
+    /// The members of the session, the participant included.
     pub members: u32,
-    /// Those of the members that send RTP packets.
+    /// Those members that send RTP packets.
     pub senders: u32,
-    /// The participant is one of the senders.
+    /// Whether the participant is one of the senders.
     pub we_sent: bool,
-    /// The participant has sent no report yet.
+    /// Whether the participant has sent no report yet.
     pub initial: bool,
-    /// The average size of compounds in 1/256 octet, as `Average::value` gives it.
+    /// The average size of compounds in 1/256 octet, as `Average::value` returns it.
     pub avg: u32,
     /// The session's bandwidth for RTCP, in octets a second.
     pub rtcp_bw: u32,
 }
 
-/// The deterministic interval, in microseconds (RFC 3550, 6.3.1): the interval in which all who share a part of the bandwidth with
-/// the participant can send one compound of average size each, rounded up, or the minimum where that is longer.
+/// The deterministic interval, in microseconds (RFC 3550, 6.3.1): the time in which all who share a part of
+/// the bandwidth with the participant can send one compound of average size each, rounded up, or the minimum
+/// where that is longer.
 ///
-/// Members are at most 65,535, the average is at most that of compounds of 65,535 octets, and the bandwidth is at least 16 octets a
-/// second.
+/// There are at most 65,535 members, the average is at most that of compounds of 65,535 octets, and the
+/// bandwidth is at least 16 octets a second.
 pub fn interval(load: &Load) -> u64
     requires members_fit { load.now.members ≤ 65535 }
     requires average_fits { load.now.avg ≤ 256 * 65563 }
@@ -51,7 +52,7 @@ pub fn interval(load: &Load) -> u64
     minimum.max(share_interval(load))
 }
 
-/// The interval that the bandwidth asks for, whatever the minimum.
+/// The interval for the participant's part of the bandwidth, whatever the minimum.
 fn share_interval(load: &Load) -> u64
     requires members_fit { load.now.members ≤ 65535 }
     requires average_fits { load.now.avg ≤ 256 * 65563 }
@@ -67,14 +68,14 @@ fn share_interval(load: &Load) -> u64
 /// A part of the bandwidth.
 #[derive(Clone, Copy)]
 struct Share {
-    /// How many share it.
+    /// How many members share it.
     sharers: u64,
     /// How many quarters of the bandwidth it is.
     quarters: u64,
 }
 
-/// The part of the bandwidth that the participant shares: senders have a quarter and the others the rest, unless the senders are
-/// more than a quarter of the members (RFC 3550, 6.3.1).
+/// The part of the bandwidth that the participant shares: senders share a quarter and the others the rest,
+/// unless more than a quarter of the members are senders; then everyone shares all of it (RFC 3550, 6.3.1).
 fn share_of(load: &Load) -> Share
     ensures sharers { result.sharers ≡ count_of (sharers_of load.now) load.now }
     ensures quarters { result.quarters ≡ quarters_of (sharers_of load.now) }

@@ -2,28 +2,29 @@
 
 ghost use Rattle.std.specs.Prelude.{◌≡◌, ◌≤◌, ◌<◌, ◌+◌, ◌^◌, ◌↔◌, List, [], ◌∷◌};
 ghost use Rattle.rtcp_clock.specs.Intervals.{drawn_interval};
-ghost use Rattle.rtcp_timer.specs.Schedules.{Happening, transmitted, tried, counted, IsDue, after, schedule_at};
+ghost use Rattle.rtcp_timer.specs.Schedules.{Happening, transmitted, tried, recounted, IsDue, after, schedule_at};
 
 use rtcp_clock::{draw, scale_down};
 use std::marker::Model;
 
-/// What a try to transmit found (RFC 3550, 6.3.6).
+/// What `Schedule::expire` finds (RFC 3550, 6.3.6).
 #[derive(Clone, Copy, Debug, PartialEq, Eq)]
 pub enum Verdict {
-    /// The next transmission's moment has not come.
+    /// The moment of the next transmission has not come.
     Early,
-    /// It had come, but the interval drawn now has not passed: the next transmission was put off.
+    /// It has come, but the interval drawn now has not passed yet: the next transmission is put off.
     Later,
     /// A report is due.
     Due,
 }
 
-/// When the participant reports (RFC 3550, 6.3). Moments are microseconds since the session began, at most 2^50.
+/// When the participant is to send its next report (RFC 3550, 6.3). Moments are in microseconds since the
+/// session began, at most 2^50.
 #[derive(Debug, Drop)]
 pub struct Schedule {
-    /// tp, the last transmission's moment
+    /// tp, the moment of the last transmission, as departures have moved it
     last: u64,
-    /// tn, the next transmission's moment
+    /// tn, the moment of the next transmission
     next: u64,
     /// pmembers, the members at the last draw or departure
     known: u32,
@@ -35,14 +36,14 @@ impl Model for Schedule {
 
     ghost Value = { Timing };
 
-    ghost view = { λ schedule. record { last = schedule.last; next = schedule.next; known = schedule.known } };
+    ghost view = { λ s. record { last = s.last; next = s.next; known = s.known } };
 
     ghost invariant = { λ schedule. schedule.last ≤ 2 ^ 50 };
 }
 
 impl Schedule {
-    /// The schedule of a session that begins at 0 with one member (RFC 3550, 6.3.2): `td` is the deterministic interval, below 2^49,
-    /// and `w` a random word. Call `expire` at `next`.
+    /// The schedule of a session that starts at 0 with one member (RFC 3550, 6.3.2). `td` is the
+    /// deterministic interval, below 2^49, and `w` a random word. Call `expire` at `next`.
     pub fn begin(td: u64, w: u32) -> Schedule
         requires { td < 2 ^ 49 }
         ensures { result ≡ schedule_at (transmitted 0 (drawn_interval td w) 1 ∷ []) }
@@ -54,16 +55,20 @@ impl Schedule {
         }
     }
 
-    /// Whether a report is due at `tc` (RFC 3550, 6.3.6): `td` is the deterministic interval of now, below 2^49, `w1` a random word,
-    /// and there are so many `members`. Before `next` it is Early, and nothing changes. Else an interval is drawn: where it has passed
-    /// since `last` it is Due, and `sent` is to follow; where not it is Later, and `next` becomes the moment when it will have.
+    /// Whether a report is due at `tc` (RFC 3550, 6.3.6). `td` is the deterministic interval now, below
+    /// 2^49, `w1` a random word, and `members` the number of members now. Before `next` the call returns
+    /// `Early` and changes nothing. From `next` on it draws an interval and returns `Due` if that has passed
+    /// since `last`: send a report and call `sent`. Otherwise it returns `Later` and moves `next` to when the
+    /// interval will have passed: call `expire` again then.
     pub fn expire(&mut self, tc: u64, td: u64, w1: u32, members: u32) -> Verdict
         requires { td < 2 ^ 49 }
         ensures early { (result ≡ Verdict.Early) ↔ (tc < self.old.next) }
         ensures due { (result ≡ Verdict.Due) ↔ IsDue self.old tc (drawn_interval td w1) }
-        ensures later { (result ≡ Verdict.Later) ↔ ((self.old.next ≤ tc) × (tc < self.old.last + drawn_interval td w1)) }
+        ensures later { (result ≡ Verdict.Later) ↔
+            ((self.old.next ≤ tc) × (tc < self.old.last + drawn_interval td w1)) }
         ensures unchanged { tc < self.old.next → self.new ≡ self.old }
-        ensures steps { self.old.next ≤ tc → self.new ≡ after (tried tc (drawn_interval td w1) members) self.old }
+        ensures steps { self.old.next ≤ tc →
+            self.new ≡ after (tried tc (drawn_interval td w1) members) self.old }
         ensures stands { (events : List Happening) → self.old ≡ schedule_at events → self.old.next ≤ tc →
             self.new ≡ schedule_at (tried tc (drawn_interval td w1) members ∷ events) }
     {
@@ -79,8 +84,9 @@ impl Schedule {
         Verdict::Later
     }
 
-    /// Tells that a report was sent at `tc`, at most 2^50 (RFC 3550, 6.3.6): `next` is drawn anew from `tc`, with the deterministic
-    /// interval `td` from now on, below 2^49, a random word `w2`, and so many `members`.
+    /// Records that a report was sent at `tc`, at most 2^50 (RFC 3550, 6.3.6). `last` becomes `tc`, and
+    /// `next` is drawn from it by the deterministic interval from now on, `td`, below 2^49, and a random word
+    /// `w2`. `members` is the number of members now. Call `expire` at `next`.
     pub fn sent(&mut self, tc: u64, td: u64, w2: u32, members: u32)
         requires moment_fits { tc ≤ 2 ^ 50 }
         requires interval_fits { td < 2 ^ 49 }
@@ -93,14 +99,16 @@ impl Schedule {
         self.known = members;
     }
 
-    /// Tells that there are so many `members` at `tc`, which is at most 2^50 and not before `last` (RFC 3550, 6.3.4). Where they are
-    /// fewer than at the last draw or departure, the distances from `tc` to `last` and to `next` shrink in proportion, but a `next`
-    /// before `tc` stays; else nothing changes. Ask `next` afterwards.
+    /// Takes a new count of `members` at `tc`, which is at most 2^50 and not before `last` (RFC 3550,
+    /// 6.3.4). If they are fewer than at the last draw or departure, the distances from `tc` to `last` and
+    /// `next` shrink in proportion, except that an overdue `next` stays. Otherwise nothing changes, so a
+    /// needless call does no harm. Ask for `next` afterwards.
     pub fn departed(&mut self, tc: u64, members: u32)
         requires moment_fits { tc ≤ 2 ^ 50 }
         requires in_order { self.old.last ≤ tc }
-        ensures steps { self.new ≡ after (counted tc members) self.old }
-        ensures stands { (events : List Happening) → self.old ≡ schedule_at events → self.new ≡ schedule_at (counted tc members ∷ events) }
+        ensures steps { self.new ≡ after (recounted tc members) self.old }
+        ensures stands { (events : List Happening) → self.old ≡ schedule_at events →
+            self.new ≡ schedule_at (recounted tc members ∷ events) }
     {
         if members >= self.known {
             return;
@@ -112,14 +120,15 @@ impl Schedule {
         self.known = members;
     }
 
-    /// The moment of the next transmission, tn (RFC 3550, 6.3): call `expire` then.
+    /// The moment of the next transmission, tn (RFC 3550, 6.3). Call `expire` then.
     pub fn next(&self) -> u64
         ensures { result ≡ self.now.next }
     {
         self.next
     }
 
-    /// The moment of the last transmission, tp (RFC 3550, 6.3), 0 at the start, as departures have moved it.
+    /// The moment of the last transmission, a report or the start, as departures since have moved it: tp
+    /// (RFC 3550, 6.3).
     pub fn last(&self) -> u64
         ensures { result ≡ self.now.last }
     {

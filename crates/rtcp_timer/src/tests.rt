@@ -103,6 +103,31 @@ fn session(rt: HostRuntime) {
     assert_eq!(rt; (schedule.last(), schedule.next()), (1_276_037, 3_328_111));
 }
 
+/// Each departure scales what the one before left.
+#[test]
+fn two_departures(rt: HostRuntime) {
+    let mut schedule = Schedule::begin(2_500_000, 0);
+    schedule.sent(1_026_037, 5_000_000, 0, 4);
+    schedule.departed(2_026_037, 3);
+    schedule.departed(2_526_037, 2);
+    assert_eq!(rt; (schedule.last(), schedule.next()), (1_692_704, 2_718_740));
+}
+
+/// A try and a report make the members at that moment those that a departure is held against.
+#[test]
+fn departures_since_a_draw(rt: HostRuntime) {
+    let mut schedule = Schedule::begin(2_500_000, 0);
+    schedule.sent(1_026_037, 5_000_000, 0, 4);
+    schedule.departed(2_026_037, 3);
+    assert_eq!(rt; schedule.expire(2_815_092, 5_000_000, 0, 5), Verdict::Later);
+    schedule.departed(3_000_000, 4);
+    assert_eq!(rt; (schedule.last(), schedule.next()), (1_620_830, 3_262_488));
+
+    schedule.sent(3_500_000, 5_000_000, 0, 3);
+    schedule.departed(4_000_000, 3);
+    assert_eq!(rt; (schedule.last(), schedule.next()), (3_500_000, 5_552_074));
+}
+
 /// Scaled distances are rounded down.
 #[test]
 fn departure(rt: HostRuntime) {

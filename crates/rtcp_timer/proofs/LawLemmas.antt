@@ -1,0 +1,69 @@
+-- The laws of `laws.rt`, as lemmas that crates above can cite: LAW, or LAW-CLAUSE for a law with several clauses.
+use Rattle.std.proofs.Common.{◌≡◌, ℕ, ◌+◌, ◌*◌, ◌≤◌, max, List, All}
+use Rattle.rtcp_timer.specs.declared.load.Load.{Load}
+use Rattle.rtcp_timer.specs.Averages.{with_headers, average_of, IsBetween}
+use Rattle.rtcp_timer.specs.Loads.{minimum_of, interval_of, KeepsToShare}
+use Rattle.rtcp_timer.specs.Schedules.{Happening, recounted, Timing, IsDue, IsInOrder, after, schedule_at, newest_moment, newest_transmission, greatest_draw}
+use Rattle.rtcp_timer.specs.Departures.{members_known, last_departure, last_moment, next_moment}
+use Rattle.rtcp_timer.proofs.Averaging
+use Rattle.rtcp_timer.proofs.Sharing
+use Rattle.rtcp_timer.proofs.Following
+use Rattle.rtcp_timer.proofs.Bounding
+
+-- ---- The average
+
+pub average_lies_between : (low high first : ℕ) (sizes : List ℕ) → IsBetween low high first → All (IsBetween low high) sizes →
+    IsBetween (256 * with_headers low) (256 * with_headers high) (average_of first sizes)
+average_lies_between = Averaging.average_between
+
+-- ---- The interval
+
+pub interval_keeps_to_share : (load : Load) → 1 ≤ load.rtcp_bw → KeepsToShare load (interval_of load)
+interval_keeps_to_share = Sharing.keeps_to_share
+
+pub interval_has_minimum : (load : Load) → minimum_of load.initial ≤ interval_of load
+interval_has_minimum = Sharing.has_minimum
+
+pub interval_is_least : (load : Load) (interval : ℕ) → 1 ≤ load.rtcp_bw → minimum_of load.initial ≤ interval →
+    KeepsToShare load interval → interval_of load ≤ interval
+interval_is_least = Sharing.is_least
+
+-- ---- The schedule
+
+pub schedule_follows_departures-last : (events : List Happening) → (schedule_at events).last ≡ last_moment events
+schedule_follows_departures-last = Following.last_follows
+
+pub schedule_follows_departures-next : (events : List Happening) → (schedule_at events).next ≡ next_moment events
+schedule_follows_departures-next = Following.next_follows
+
+pub schedule_follows_departures-known : (events : List Happening) → (schedule_at events).known ≡ members_known events
+schedule_follows_departures-known = Following.known_follows
+
+pub last_lies_between-not_before_sent : (events : List Happening) → IsInOrder events →
+    newest_transmission events ≤ (schedule_at events).last
+last_lies_between-not_before_sent events in_order = (Bounding.last_between events in_order).0
+
+pub last_lies_between-not_after_newest : (events : List Happening) → IsInOrder events →
+    (schedule_at events).last ≤ newest_moment events
+last_lies_between-not_after_newest events in_order = (Bounding.last_between events in_order).1
+
+pub last_lies_between-not_after_departure : (events : List Happening) →
+    (schedule_at events).last ≤ max (newest_transmission events) (last_departure events)
+last_lies_between-not_after_departure = Bounding.last_bounded
+
+pub next_within_greatest_draw : (events : List Happening) → IsInOrder events →
+    (schedule_at events).next ≤ (schedule_at events).last + greatest_draw events
+next_within_greatest_draw = Bounding.next_near
+
+pub never_due_too_soon : (events : List Happening) (moment interval : ℕ) → IsInOrder events →
+    IsDue (schedule_at events) moment interval → newest_transmission events + interval ≤ moment
+never_due_too_soon = Bounding.due_not_too_soon
+
+pub due_in_time : (events : List Happening) (moment interval : ℕ) → IsInOrder events →
+    newest_transmission events + max interval (greatest_draw events) ≤ moment →
+    last_departure events + max interval (greatest_draw events) ≤ moment → IsDue (schedule_at events) moment interval
+due_in_time = Bounding.due_in_time
+
+pub departure_never_puts_later : (timing : Timing) (moment members : ℕ) →
+    (after (recounted moment members) timing).next ≤ timing.next
+departure_never_puts_later = Bounding.next_after
