@@ -1,4 +1,5 @@
--- What a session knows of each source that is present, and how many are members and senders (RFC 3550, 6.2.1, 6.3).
+-- What a session knows of each source that is present, and how many are members and senders (RFC 3550, 6.2.1,
+-- 6.3).
 use Rattle.std.specs.Prelude.{ℕ, ◌≡◌, ◌≤◌, ◌||◌, ◌==◌, ◌&&◌, Bool, true, false, List, [], ◌∷◌, ◌++◌, filter, length, if◌then◌else◌, Option, Some, None, is_some, is_none, option_map}
 use Rattle.rtcp_wire.specs.declared.fact.Fact.{Fact}
 use Rattle.rtcp_wire.specs.declared.fact.Fact.TheVariants.{Heard, Told, Named, Gone, Media}
@@ -24,7 +25,8 @@ pub record EntryValue : Type 0 where
 
 abbrev pub given_by : (rate ssrc : ℕ) → Fact → (moment : ℕ) → List Given → List Given
 given_by rate ssrc (Heard other) moment given = given
-given_by rate ssrc (Told other ntp) moment given = if other == ssrc then report_came ntp moment ∷ given else given
+given_by rate ssrc (Told other ntp) moment given =
+    if other == ssrc then report_came ntp moment ∷ given else given
 given_by rate ssrc (Named other) moment given = given
 given_by rate ssrc (Gone other) moment given = given
 given_by rate ssrc (Media other seq timestamp) moment given =
@@ -45,7 +47,8 @@ is_counted_fact ssrc (Heard other) given = false
 is_counted_fact ssrc (Told other ntp) given = false
 is_counted_fact ssrc (Named other) given = false
 is_counted_fact ssrc (Gone other) given = false
-is_counted_fact ssrc (Media other seq timestamp) given = other == ssrc && is_counted (taken_in (run_of given) seq)
+is_counted_fact ssrc (Media other seq timestamp) given =
+    other == ssrc && is_counted (taken_in (run_of given) seq)
 
 -- Whether a step is a counted packet of the source, to which this was given before (A.1).
 abbrev pub is_counted_by : (ssrc : ℕ) → TraceStep → List Given → Bool
@@ -72,23 +75,26 @@ abbrev pub still_sending : Horizons → Option ℕ → Option ℕ
 still_sending horizons sending = if is_before sending horizons.idle then None else sending
 
 abbrev pub sending_with : (rate ssrc : ℕ) → TraceStep → List Given → Option ℕ → Option ℕ
-sending_with rate ssrc (fact_came fact moment) given sending = if is_counted_fact ssrc fact given then Some moment else sending
+sending_with rate ssrc (fact_came fact moment) given sending =
+    if is_counted_fact ssrc fact given then Some moment else sending
 sending_with rate ssrc (check_made horizons) given sending = still_sending horizons sending
 sending_with rate ssrc (block_taken other) given sending = sending
 
 -- The moment of the last counted packet, as long as no check after it had a later horizon for packets.
 abbrev pub sending_of : (rate ssrc : ℕ) → List TraceStep → Option ℕ
 sending_of rate ssrc [] = None
-sending_of rate ssrc (step ∷ earlier) = sending_with rate ssrc step (given_of rate ssrc earlier) (sending_of rate ssrc earlier)
+sending_of rate ssrc (step ∷ earlier) =
+    sending_with rate ssrc step (given_of rate ssrc earlier) (sending_of rate ssrc earlier)
 
 -- ---- Packets that are counted
 
--- Whether a fact is a packet that is counted, by the stay of its source: there is one, without a mark, and the last run of what it
--- gave counts the packet (A.1).
+-- Whether a fact is a packet that is counted, by the stay of its source: there is one, without a mark, and
+-- the last run of what it gave counts the packet (A.1).
 abbrev pub counted_in_stay : (rate : ℕ) → Fact → Option (List TraceStep) → Bool
 counted_in_stay rate fact None = false
 counted_in_stay rate fact (Some stay) =
-    is_none (mark_of (subject fact) stay) && is_counted_fact (subject fact) fact (given_of rate (subject fact) stay)
+    is_none (mark_of (subject fact) stay)
+    && is_counted_fact (subject fact) fact (given_of rate (subject fact) stay)
 
 abbrev pub counted_at : (capacity rate : ℕ) → List TraceStep → Fact → Bool
 counted_at capacity rate trace fact = counted_in_stay rate fact (stay_of capacity trace (subject fact))
@@ -124,7 +130,8 @@ is_such test (Some entry) = test entry
 
 -- how many of the sources of a trace are such
 abbrev pub count_at : (EntryValue → Bool) → (capacity rate : ℕ) → List TraceStep → ℕ
-count_at test capacity rate trace = length (filter (λ ssrc. is_such test (entry_at capacity rate trace ssrc)) (names trace))
+count_at test capacity rate trace =
+    length (filter (λ ssrc. is_such test (entry_at capacity rate trace ssrc)) (names trace))
 
 abbrev pub members_at : (capacity rate : ℕ) → List TraceStep → ℕ
 members_at = count_at is_member
@@ -134,16 +141,19 @@ senders_at = count_at is_sender
 
 -- ---- Senders in other words
 
--- The newest counted packet of a source among these steps came at this moment, and no check since it had a later horizon for packets.
+-- The newest counted packet of a source among these steps came at this moment, and no check since it had a
+-- later horizon for packets.
 pub record IsSendingSince (rate ssrc : ℕ) (own : List TraceStep) (moment : ℕ) : Type 0 where
   pub since : List TraceStep
   pub packet : Fact
   pub before : List TraceStep
   pub parts : own ≡ since ++ fact_came packet moment ∷ before
   pub counted : is_counted_fact ssrc packet (given_of rate ssrc before) ≡ true
-  pub newest : (newer : List TraceStep) (other : Fact) (at : ℕ) (older : List TraceStep) → since ≡ newer ++ fact_came other at ∷ older →
+  pub newest : (newer : List TraceStep) (other : Fact) (at : ℕ) (older : List TraceStep) →
+      since ≡ newer ++ fact_came other at ∷ older →
       is_counted_fact ssrc other (given_of rate ssrc (older ++ fact_came packet moment ∷ before)) ≡ false
-  pub recent : (newer : List TraceStep) (horizons : Horizons) (older : List TraceStep) → since ≡ newer ++ check_made horizons ∷ older →
+  pub recent : (newer : List TraceStep) (horizons : Horizons) (older : List TraceStep) →
+      since ≡ newer ++ check_made horizons ∷ older →
       horizons.idle ≤ moment
 
 -- A source is a sender where it is present without a mark, and sends since some moment of its stay.

@@ -8,7 +8,8 @@ use Rattle.rtcp_members.specs.Stays.{is_before, is_removed}
 use Rattle.rtcp_members.specs.Tables.{EntryMap, IsApart, TableValue}
 
 abbrev pub entry_value : Entry → EntryValue
-entry_value e = record { valid = e.valid; mark = e.mark; sighting = e.sighting; sending = e.sending; source = e.source }
+entry_value e =
+    record { valid = e.valid; mark = e.mark; sighting = e.sighting; sending = e.sending; source = e.source }
 
 abbrev pub row_of : Entry → ℕ × EntryValue
 row_of e = (e.ssrc, entry_value e)
@@ -40,7 +41,8 @@ pub record IsPlaceOf (ssrc : ℕ) (entries : List Entry) (at : ℕ) : Type 0 whe
   pub its_ssrc : entry.ssrc ≡ ssrc
   pub found : finite.get (map_of entries) ssrc ≡ Some (entry_value entry)
 
--- What holds of a table's list: no SSRC stands in it twice, and it is no longer than the capacity, which it has room for.
+-- What holds of a table's list: no SSRC stands in it twice, and it is no longer than the capacity, which it
+-- has room for.
 pub record IsListed (capacity : ℕ) (entries : List Entry) : Type 0 where
   pub apart : IsApart (rows_of entries)
   pub within : length entries ≤ capacity

@@ -7,7 +7,8 @@ use Rattle.rtcp_members.specs.Entries.{given_of}
 use Rattle.rtcp_members.specs.Tables.{row_at}
 use Rattle.rtcp_members.specs.Pending.{EntryRow, is_after}
 
--- Whether a source has news, by its stay: there is one, without a mark, that holds a counted packet after the source's last block.
+-- Whether a source has news, by its stay: there is one, without a mark, that holds a counted packet after the
+-- source's last block.
 abbrev pub has_news_in : (rate ssrc : ℕ) → Option (List TraceStep) → Bool
 has_news_in rate ssrc None = false
 has_news_in rate ssrc (Some stay) = is_none (mark_of ssrc stay) && has_news_since (given_of rate ssrc stay)
@@ -30,10 +31,13 @@ rising (x ∷ xs) = put_rising x (rising xs)
 abbrev pub ssrcs_in_turn : (last : Option ℕ) → List ℕ → List ℕ
 ssrcs_in_turn last ssrcs = filter (is_after last) ssrcs ++ filter (λ ssrc. not (is_after last ssrc)) ssrcs
 
--- The sources with news, in the turn in which they are reported after the last one that was, if there was one.
+-- The sources with news, in the turn in which they are reported after the last one that was, if there was
+-- one.
 abbrev pub pending_at : (last : Option ℕ) (capacity rate : ℕ) → List TraceStep → List ℕ
-pending_at last capacity rate trace = ssrcs_in_turn last (filter (has_news_at capacity rate trace) (rising (names trace)))
+pending_at last capacity rate trace =
+    ssrcs_in_turn last (filter (has_news_at capacity rate trace) (rising (names trace)))
 
 -- The same sources, each with what the trace says of it.
 abbrev pub pending_rows_at : (last : Option ℕ) (capacity rate : ℕ) → List TraceStep → List EntryRow
-pending_rows_at last capacity rate trace = filter_map (row_at capacity rate trace) (pending_at last capacity rate trace)
+pending_rows_at last capacity rate trace =
+    filter_map (row_at capacity rate trace) (pending_at last capacity rate trace)

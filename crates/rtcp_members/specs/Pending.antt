@@ -36,7 +36,8 @@ is_above last row = is_after last row.0
 abbrev pub in_turn : (last : Option ℕ) → List EntryRow → List EntryRow
 in_turn last rows = filter (is_above last) rows ++ filter (λ row. not (is_above last row)) rows
 
--- The sources that a block is due of, in the turn in which they are reported after the last one that was, if there was one.
+-- The sources that a block is due of, in the turn in which they are reported after the last one that was, if
+-- there was one.
 abbrev pub pending : (last : Option ℕ) → TableValue → List EntryRow
 pending last table = in_turn last (due_rows table)
 
@@ -51,14 +52,16 @@ abbrev pub block_of_row : (t : ℕ) → EntryRow → Option ReportBlock
 block_of_row t row = block_for row.0 t row.1.source
 
 abbrev pub block_at : (ssrc t : ℕ) → TableValue → Option ReportBlock
-block_at ssrc t table = option_and_then (λ entry. block_for ssrc t entry.source) (finite.get table.entries ssrc)
+block_at ssrc t table =
+    option_and_then (λ entry. block_for ssrc t entry.source) (finite.get table.entries ssrc)
 
 abbrev pub reported_entry : EntryValue → EntryValue
 reported_entry entry = record entry { source = after_block_made entry.source }
 
 abbrev pub with_reported : (ssrc : ℕ) → TableValue → Option EntryValue → TableValue
 with_reported ssrc table None = table
-with_reported ssrc table (Some entry) = record table { entries = finite.insert table.entries ssrc (reported_entry entry) }
+with_reported ssrc table (Some entry) =
+    record table { entries = finite.insert table.entries ssrc (reported_entry entry) }
 
 -- The table once a block of a source was made.
 abbrev pub after_block : (ssrc : ℕ) → TableValue → TableValue

@@ -20,7 +20,8 @@ mark_of ssrc (step ∷ earlier) = mark_at ssrc step (mark_of ssrc earlier)
 -- what stands before the mark
 abbrev pub before_mark : (ssrc : ℕ) → List TraceStep → List TraceStep
 before_mark ssrc [] = []
-before_mark ssrc (step ∷ earlier) = if is_some (mark_of ssrc (step ∷ earlier)) then before_mark ssrc earlier else step ∷ earlier
+before_mark ssrc (step ∷ earlier) =
+    if is_some (mark_of ssrc (step ∷ earlier)) then before_mark ssrc earlier else step ∷ earlier
 
 abbrev pub step_moment : TraceStep → ℕ
 step_moment (fact_came fact moment) = moment
@@ -54,26 +55,35 @@ ends_stay ssrc (block_taken other) stay = false
 abbrev pub present_among : List ℕ → (stay : ℕ → Option (List TraceStep)) → ℕ
 present_among named stay = length (filter (λ ssrc. is_some (stay ssrc)) named)
 
-abbrev pub stay_with : (capacity : ℕ) → TraceStep → List ℕ → (ℕ → Option (List TraceStep)) → (ssrc : ℕ) → Option (List TraceStep) → Option (List TraceStep)
+abbrev pub stay_with : (capacity : ℕ) → TraceStep → List ℕ → (ℕ → Option (List TraceStep)) → (ssrc : ℕ) →
+    Option (List TraceStep) → Option (List TraceStep)
 stay_with capacity step named others ssrc None =
-    elim (is_naming ssrc step) [ false ↦ None | true ↦ if nat_lt (present_among named others) capacity then Some (step ∷ []) else None ]
-stay_with capacity step named others ssrc (Some stay) = if ends_stay ssrc step stay then None else Some (step ∷ stay)
+    elim (is_naming ssrc step) [
+      | false ↦ None
+      | true ↦ if nat_lt (present_among named others) capacity then Some (step ∷ []) else None
+    ]
+stay_with capacity step named others ssrc (Some stay) =
+    if ends_stay ssrc step stay then None else Some (step ∷ stay)
 
--- The stay of each source, if it is present. A naming admits it where it is not, and fewer than `capacity` sources are.
+-- The stay of each source, if it is present. A naming admits it where it is not, and fewer than `capacity`
+-- sources are.
 abbrev pub stay_of : (capacity : ℕ) → List TraceStep → (ssrc : ℕ) → Option (List TraceStep)
 stay_of capacity [] = λ ssrc. None
-stay_of capacity (step ∷ earlier) = λ ssrc. stay_with capacity step (names earlier) (stay_of capacity earlier) ssrc (stay_of capacity earlier ssrc)
+stay_of capacity (step ∷ earlier) =
+    let others = stay_of capacity earlier in
+    λ ssrc. stay_with capacity step (names earlier) others ssrc (others ssrc)
 
 -- ---- Stays in other words
 
 -- No check among these steps of a stay, of which the newest stand first, removes the source.
 abbrev pub OutlastsChecks : (ssrc : ℕ) → List TraceStep → Type 0
 OutlastsChecks ssrc stay =
-    (newer : List TraceStep) (horizons : Horizons) (older : List TraceStep) → stay ≡ newer ++ check_made horizons ∷ older →
+    (newer : List TraceStep) (horizons : Horizons) (older : List TraceStep) →
+        stay ≡ newer ++ check_made horizons ∷ older →
     is_removed horizons (last_sighting ssrc older) (mark_of ssrc older) ≡ false
 
--- A stay is a prefix of the trace, newest first. Its oldest step names the source at a moment when it was absent and there was room,
--- and no check in it removes the source.
+-- A stay is a prefix of the trace, newest first. Its oldest step names the source at a moment when it was
+-- absent and there was room, and no check in it removes the source.
 pub record IsStay (capacity : ℕ) (trace : List TraceStep) (ssrc : ℕ) (stay : List TraceStep) : Type 0 where
   pub since : List TraceStep
   pub admission : TraceStep

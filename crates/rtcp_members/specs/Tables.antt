@@ -47,7 +47,8 @@ counts (Media ssrc seq timestamp) source = is_counted (taken_by source seq)
 -- an entry without a mark, after a fact of its source
 abbrev pub entry_after : (rate : ℕ) → Fact → (moment : ℕ) → EntryValue → EntryValue
 entry_after rate (Heard ssrc) moment entry = record entry { sighting = moment }
-entry_after rate (Told ssrc ntp) moment entry = record entry { sighting = moment; source = after_told ntp moment entry.source }
+entry_after rate (Told ssrc ntp) moment entry =
+    record entry { sighting = moment; source = after_told ntp moment entry.source }
 entry_after rate (Named ssrc) moment entry = record entry { valid = true; sighting = moment }
 entry_after rate (Gone ssrc) moment entry = record entry { mark = Some moment }
 entry_after rate (Media ssrc seq timestamp) moment entry =
@@ -61,12 +62,15 @@ entry_after rate (Media ssrc seq timestamp) moment entry =
 
 -- an entry after a fact of its source: one with a mark stays as it is
 abbrev pub entry_with_fact : (rate : ℕ) → Fact → (moment : ℕ) → EntryValue → EntryValue
-entry_with_fact rate fact moment entry = if is_some entry.mark then entry else entry_after rate fact moment entry
+entry_with_fact rate fact moment entry =
+    if is_some entry.mark then entry else entry_after rate fact moment entry
 
--- What becomes of a fact, by the entry of its source, if it has one, and by whether there is room for one more.
+-- What becomes of a fact, by the entry of its source, if it has one, and by whether there is room for one
+-- more.
 abbrev pub place_of : Fact → Option EntryValue → (room : Bool) → Place
 place_of fact None room = if is_gone fact then Ignored else (if room then Added else NoRoom)
-place_of fact (Some entry) room = if is_some entry.mark then Ignored else (if is_gone fact then Left else Kept)
+place_of fact (Some entry) room =
+    if is_some entry.mark then Ignored else (if is_gone fact then Left else Kept)
 
 abbrev pub changes : Place → Bool
 changes Kept = true
@@ -85,8 +89,8 @@ placed table fact = place_of fact (map.get table.entries (subject fact)) (has_ro
 abbrev pub entry_for : TableValue → Fact → EntryValue
 entry_for table fact = unwrap_or (map.get table.entries (subject fact)) new_entry
 
--- Whether a fact is a packet that is counted: one that a source counts which is present and has no mark. (The first packet of a
--- source is not.)
+-- Whether a fact is a packet that is counted: one that a source counts which is present and has no mark. (The
+-- first packet of a source is not.)
 abbrev pub counted_of : Fact → Option EntryValue → Bool
 counted_of fact None = false
 counted_of fact (Some entry) = is_none entry.mark && counts fact entry.source
@@ -97,7 +101,9 @@ counted table fact = counted_of fact (map.get table.entries (subject fact))
 abbrev pub after_fact : Fact → (moment : ℕ) → TableValue → TableValue
 after_fact fact moment table =
     if changes (placed table fact)
-    then record table { entries = map.insert table.entries (subject fact) (entry_after table.rate fact moment (entry_for table fact)) }
+    then record table {
+      entries = map.insert table.entries (subject fact) (entry_after table.rate fact moment (entry_for table fact))
+    }
     else table
 
 -- the table once these facts came at one moment, one after the other
@@ -111,7 +117,8 @@ IsFew entry = entry.source.packets < 2 ^ 40
 
 -- No source was given more packets than this.
 abbrev pub HasFew : (packets : ℕ) → TableValue → Type 0
-HasFew packets table = (ssrc : ℕ) (entry : EntryValue) → map.get table.entries ssrc ≡ Some entry → entry.source.packets ≤ packets
+HasFew packets table =
+    (ssrc : ℕ) (entry : EntryValue) → map.get table.entries ssrc ≡ Some entry → entry.source.packets ≤ packets
 
 -- ---- Checks
 
@@ -119,7 +126,8 @@ HasFew packets table = (ssrc : ℕ) (entry : EntryValue) → map.get table.entri
 abbrev pub entry_after_check : Horizons → EntryValue → Option EntryValue
 entry_after_check horizons entry =
     if is_removed horizons entry.sighting entry.mark then None
-    else Some (if is_some entry.mark then entry else record entry { sending = still_sending horizons entry.sending })
+    else Some (if is_some entry.mark then entry
+    else record entry { sending = still_sending horizons entry.sending })
 
 -- No key stands twice in the rows.
 abbrev pub IsApart : List (ℕ × EntryValue) → Type 0
@@ -147,7 +155,8 @@ members_in = count_in is_member
 abbrev pub senders_in : TableValue → ℕ
 senders_in = count_in is_sender
 
--- How many fewer entries and senders there are after a check. It adds none of either (law `counts_are_ordered`).
+-- How many fewer entries and senders there are after a check. It adds none of either (law
+-- `counts_are_ordered`).
 abbrev pub dropped_entries : Horizons → TableValue → ℕ
 dropped_entries horizons table = map.len table.entries - map.len (after_check horizons table).entries
 
@@ -159,7 +168,8 @@ dropped_senders horizons table = senders_in table - senders_in (after_check hori
 abbrev pub no_members : (capacity rate : ℕ) → TableValue
 no_members capacity rate = record { capacity = capacity; rate = rate; entries = map.empty }
 
--- A table equals the one computed from the whole trace, or *stands at* the trace, where it has for each source the entry of the trace.
+-- A table equals the one computed from the whole trace, or *stands at* the trace, where it has for each
+-- source the entry of the trace.
 abbrev pub StandsAt : TableValue → List TraceStep → Type 0
 StandsAt table trace = (ssrc : ℕ) → map.get table.entries ssrc ≡ entry_at table.capacity table.rate trace ssrc
 
@@ -169,4 +179,8 @@ row_at capacity rate trace ssrc = option_map (λ entry. (ssrc, entry)) (entry_at
 
 abbrev pub table_at : (capacity rate : ℕ) → List TraceStep → TableValue
 table_at capacity rate trace =
-    record { capacity = capacity; rate = rate; entries = map.from_entries (filter_map (row_at capacity rate trace) (names trace)) }
+    record {
+      capacity = capacity;
+      rate = rate;
+      entries = map.from_entries (filter_map (row_at capacity rate trace) (names trace));
+    }

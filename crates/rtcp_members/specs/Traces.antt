@@ -1,4 +1,5 @@
--- What happened in a session, as far as its members go (RFC 3550, 6.2.1, 6.3.3 to 6.3.5, 6.3.7). A trace is kept newest first.
+-- What happened in a session, as far as its members go (RFC 3550, 6.2.1, 6.3.3 to 6.3.5, 6.3.7). A trace is
+-- kept newest first.
 use Rattle.std.specs.Prelude.{ℕ, ◌&&◌, ◌||◌, ◌==◌, Bool, true, false, not, List, [], ◌∷◌, if◌then◌else◌}
 use Rattle.std.specs.List.{list_any}
 use Rattle.rtcp_wire.specs.declared.fact.Fact.{Fact}
@@ -31,7 +32,8 @@ is_naming ssrc (check_made horizons) = false
 is_naming ssrc (block_taken other) = false
 
 abbrev pub with_name : Fact → List ℕ → List ℕ
-with_name fact named = if is_gone fact || list_any (λ ssrc. ssrc == subject fact) named then named else subject fact ∷ named
+with_name fact named =
+    if is_gone fact || list_any (λ ssrc. ssrc == subject fact) named then named else subject fact ∷ named
 
 -- the sources that a trace names, each once
 abbrev pub names : List TraceStep → List ℕ

@@ -66,8 +66,8 @@ impl Entry {
         self.is_member() && self.sending.is_some()
     }
 
-    /// Takes a fact of the source at the moment `t`, where the entry has no mark. Returns whether the fact was a packet that was
-    /// counted.
+    /// Takes a fact of the source at the moment `t`, where the entry has no mark. Returns whether the fact
+    /// was a packet that was counted.
     pub(crate) fn take(&mut self, fact: Fact, t: u64, rate: u32) -> bool
         requires { IsTrue (is_media fact) → self.old.source.packets < 2 ^ 40 }
         ensures counted { result ≡ counts fact self.old.source }
@@ -137,10 +137,11 @@ impl Entry {
         self.source.block(self.ssrc, t)
     }
 
-    /// Takes a check with these horizons: ends the sending of a source whose last counted packet lies before `idle`, and returns whether
-    /// the entry stays.
+    /// Takes a check with these horizons: ends the sending of a source whose last counted packet lies before
+    /// `idle`, and returns whether the entry stays.
     pub(crate) fn check(&mut self, silent: u64, idle: u64, gone: u64) -> bool
-        ensures stays { result ≡ not (is_removed (horizons_at silent idle gone) self.old.sighting self.old.mark) }
+        ensures stays { result
+            ≡ not (is_removed (horizons_at silent idle gone) self.old.sighting self.old.mark) }
         ensures entry { self.new ≡ lapsed idle self.old }
     {
         if self.mark.is_none() && self.sending.is_some_and(|sent| sent < idle) {

@@ -1,5 +1,5 @@
-//! Laws of tables and traces, whatever the table. Each is an empty function whose postcondition is the law; `proofs/LawLemmas` has a lemma
-//! of its name, or one for each clause.
+//! Laws of tables and traces, whatever the table. Each is an empty function whose postcondition is the law;
+//! `proofs/LawLemmas` has a lemma of its name, or one for each clause.
 
 ghost use Rattle.std.specs.Prelude.{◌≡◌, ◌<◌, ◌≤◌, ◌+◌, ◌^◌, if◌then◌else◌, false, All, IfSome, IsTrue, ℕ, List, [], ◌∷◌};
 ghost use Rattle.std.specs.FinMap as map;
@@ -14,25 +14,31 @@ ghost use Rattle.rtcp_members.specs.Tables.{TableValue, StandsAt, KeepsBounds, t
 /// A table that stands at a trace goes with each step to one that stands at the trace with that step.
 pub fn tables_follow_traces()
     ensures none { (capacity rate : ℕ) → StandsAt (no_members capacity rate) [] }
-    ensures fact { (table : TableValue) (trace : List TraceStep) (fact : Fact) (moment : ℕ) → StandsAt table trace →
+    ensures fact { (table : TableValue) (trace : List TraceStep) (fact : Fact) (moment : ℕ) →
+        StandsAt table trace →
         StandsAt (after_fact fact moment table) (fact_came fact moment ∷ trace) }
-    ensures facts { (table : TableValue) (trace : List TraceStep) (facts : List Fact) (moment : ℕ) → StandsAt table trace →
+    ensures facts { (table : TableValue) (trace : List TraceStep) (facts : List Fact) (moment : ℕ) →
+        StandsAt table trace →
         StandsAt (after_facts facts moment table) (with_facts facts moment trace) }
-    ensures check { (table : TableValue) (trace : List TraceStep) (horizons : Horizons) → StandsAt table trace →
+    ensures check { (table : TableValue) (trace : List TraceStep) (horizons : Horizons) →
+        StandsAt table trace →
         StandsAt (after_check horizons table) (check_made horizons ∷ trace) }
-    ensures block { (table : TableValue) (trace : List TraceStep) (ssrc : ℕ) → IsTrue (is_due_at ssrc table) → StandsAt table trace →
+    ensures block { (table : TableValue) (trace : List TraceStep) (ssrc : ℕ) → IsTrue (is_due_at ssrc table) →
+        StandsAt table trace →
         StandsAt (after_block ssrc table) (block_taken ssrc ∷ trace) }
 {}
 
-/// A trace has, for a capacity and a rate, one table that stands at it: so whatever is said of a table is said of its trace.
+/// A trace has, for a capacity and a rate, one table that stands at it: so whatever is said of a table is
+/// said of its trace.
 pub fn trace_has_one_table()
-    ensures stands { (capacity rate : ℕ) (trace : List TraceStep) → StandsAt (table_at capacity rate trace) trace }
+    ensures stands { (capacity rate : ℕ) (trace : List TraceStep) →
+        StandsAt (table_at capacity rate trace) trace }
     ensures only { (table : TableValue) (trace : List TraceStep) → StandsAt table trace →
         table ≡ table_at table.capacity table.rate trace }
 {}
 
-/// A table that stands at a trace has as many entries as sources are present, and as many members and senders as the trace; and a packet
-/// is counted by the one as by the other.
+/// A table that stands at a trace has as many entries as sources are present, and as many members and senders
+/// as the trace; and a packet is counted by the one as by the other.
 pub fn counts_agree()
     ensures entries { (table : TableValue) (trace : List TraceStep) → StandsAt table trace →
         map.len table.entries ≡ present_among (names trace) (stay_of table.capacity trace) }
@@ -46,11 +52,15 @@ pub fn counts_agree()
 
 /// No step changes how many entries a table may hold, or its rate.
 pub fn bounds_are_kept()
-    ensures fact { (table : TableValue) (fact : Fact) (moment : ℕ) → KeepsBounds table (after_fact fact moment table) }
-    ensures facts { (table : TableValue) (facts : List Fact) (moment : ℕ) → KeepsBounds table (after_facts facts moment table) }
-    ensures check { (table : TableValue) (horizons : Horizons) → KeepsBounds table (after_check horizons table) }
+    ensures fact { (table : TableValue) (fact : Fact) (moment : ℕ) →
+        KeepsBounds table (after_fact fact moment table) }
+    ensures facts { (table : TableValue) (facts : List Fact) (moment : ℕ) →
+        KeepsBounds table (after_facts facts moment table) }
+    ensures check { (table : TableValue) (horizons : Horizons) →
+        KeepsBounds table (after_check horizons table) }
     ensures block { (table : TableValue) (ssrc : ℕ) → KeepsBounds table (after_block ssrc table) }
-    ensures blocks { (table : TableValue) (rows : List EntryRow) → KeepsBounds table (after_blocks rows table) }
+    ensures blocks { (table : TableValue) (rows : List EntryRow) →
+        KeepsBounds table (after_blocks rows table) }
 {}
 
 /// No step takes a table past its capacity.
@@ -58,7 +68,8 @@ pub fn capacity_is_kept()
     ensures none { (capacity rate : ℕ) → map.len (no_members capacity rate).entries ≤ capacity }
     ensures fact { (table : TableValue) (fact : Fact) (moment : ℕ) → map.len table.entries ≤ table.capacity →
         map.len (after_fact fact moment table).entries ≤ table.capacity }
-    ensures facts { (table : TableValue) (facts : List Fact) (moment : ℕ) → map.len table.entries ≤ table.capacity →
+    ensures facts { (table : TableValue) (facts : List Fact) (moment : ℕ) →
+        map.len table.entries ≤ table.capacity →
         map.len (after_facts facts moment table).entries ≤ table.capacity }
     ensures check { (table : TableValue) (horizons : Horizons) → map.len table.entries ≤ table.capacity →
         map.len (after_check horizons table).entries ≤ table.capacity }
@@ -68,14 +79,15 @@ pub fn capacity_is_kept()
         map.len (after_blocks rows table).entries ≤ table.capacity }
 {}
 
-/// In any table the senders are at most the members, and these at most the entries. A check adds no entry and no sender, so that `Dropped`
-/// says how many there are fewer.
+/// In any table the senders are at most the members, and these at most the entries. A check adds no entry and
+/// no sender, so that `Dropped` says how many there are fewer.
 pub fn counts_are_ordered()
     ensures senders { (table : TableValue) → senders_in table ≤ members_in table }
     ensures members { (table : TableValue) → members_in table ≤ map.len table.entries }
     ensures check_entries { (table : TableValue) (horizons : Horizons) →
         map.len (after_check horizons table).entries ≤ map.len table.entries }
-    ensures check_senders { (table : TableValue) (horizons : Horizons) → senders_in (after_check horizons table) ≤ senders_in table }
+    ensures check_senders { (table : TableValue) (horizons : Horizons) →
+        senders_in (after_check horizons table) ≤ senders_in table }
 {}
 
 /// A fact that is no goodbye never lowers the members of a trace.
@@ -84,18 +96,22 @@ pub fn facts_keep_members()
         members_at capacity rate trace ≤ members_at capacity rate (fact_came fact moment ∷ trace) }
 {}
 
-/// An RTP packet gives its source one packet more; no other fact gives any, and no check and no block does. So `apply` may be called as
-/// long as fewer than 2^40 RTP packets came.
+/// An RTP packet gives its source one packet more; no other fact gives any, and no check and no block does.
+/// So `apply` may be called as long as fewer than 2^40 RTP packets came.
 pub fn packets_are_few()
     ensures none { (capacity rate : ℕ) → HasFew 0 (no_members capacity rate) }
     ensures fact { (packets : ℕ) (table : TableValue) (fact : Fact) (moment : ℕ) → HasFew packets table →
         HasFew (if is_media fact then packets + 1 else packets) (after_fact fact moment table) }
-    ensures facts { (packets : ℕ) (table : TableValue) (facts : List Fact) (moment : ℕ) → All (λ fact. is_media fact ≡ false) facts →
+    ensures facts { (packets : ℕ) (table : TableValue) (facts : List Fact) (moment : ℕ) →
+        All (λ fact. is_media fact ≡ false) facts →
         HasFew packets table → HasFew packets (after_facts facts moment table) }
     ensures check { (packets : ℕ) (table : TableValue) (horizons : Horizons) → HasFew packets table →
         HasFew packets (after_check horizons table) }
-    ensures block { (packets : ℕ) (table : TableValue) (ssrc : ℕ) → HasFew packets table → HasFew packets (after_block ssrc table) }
-    ensures more { (packets more : ℕ) (table : TableValue) → packets ≤ more → HasFew packets table → HasFew more table }
-    ensures apply { (packets : ℕ) (table : TableValue) (fact : Fact) → packets < 2 ^ 40 → HasFew packets table →
+    ensures block { (packets : ℕ) (table : TableValue) (ssrc : ℕ) → HasFew packets table →
+        HasFew packets (after_block ssrc table) }
+    ensures more { (packets more : ℕ) (table : TableValue) → packets ≤ more → HasFew packets table →
+        HasFew more table }
+    ensures apply { (packets : ℕ) (table : TableValue) (fact : Fact) → packets < 2 ^ 40 →
+        HasFew packets table →
         IfSome (map.get table.entries (subject fact)) IsFew }
 {}

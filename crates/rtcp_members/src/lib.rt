@@ -1,6 +1,6 @@
-//! Who is in an RTP session, who sends, and who has gone (RFC 3550, 6.2.1, 6.3.3 to 6.3.5, 6.3.7): the trait `MemberTable`, and a
-//! table that keeps its entries in a list. It is deterministic, reads no clock, opens no socket, draws no random number and does not
-//! allocate.
+//! Who is in an RTP session, who sends, and who has gone (RFC 3550, 6.2.1, 6.3.3 to 6.3.5, 6.3.7): the trait
+//! `MemberTable`, and a table that keeps its entries in a list. It is deterministic, reads no clock, opens no
+//! socket, draws no random number and does not allocate.
 //!
 //! ```
 //! let mut table = ListTable::empty(1_024, 8_000);
@@ -12,9 +12,10 @@
 //! assert_eq!(rt; (dropped.entries, table.members()), (1, 0));
 //! ```
 //!
-//! Who is present, a member or a sender is defined in `specs/` over the whole trace of a session (`Traces`, `Stays`, `Entries`), and said
-//! in other words by `trace_laws`. A table is seen as a finite map (`Tables`), and `laws` ties the two. Which source is reported next is
-//! defined over that map (`Pending`) and over the trace (`News`); `turn_laws` has what holds of these.
+//! Who is present, a member or a sender is defined in `specs/` over the whole trace of a session (`Traces`,
+//! `Stays`, `Entries`), and said in other words by `trace_laws`. A table is seen as a finite map (`Tables`),
+//! and `laws` ties the two. Which source is reported next is defined over that map (`Pending`) and over the
+//! trace (`News`); `turn_laws` has what holds of these.
 #![tactic(auto)]
 
 mod entry;

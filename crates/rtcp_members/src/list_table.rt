@@ -113,7 +113,8 @@ fn apply_at(entries: &mut [Entry], at: usize, fact: Fact, t: u64, rate: u32) -> 
     ensures apart { IsApart (rows_of entries.new) }
     ensures place { (capacity : ℕ) → result.place ≡ placed (table_of capacity rate entries.old) fact }
     ensures counted { (capacity : ℕ) → result.counted ≡ counted (table_of capacity rate entries.old) fact }
-    ensures table { (capacity : ℕ) → table_of capacity rate entries.new ≡ after_fact fact t (table_of capacity rate entries.old) }
+    ensures table { (capacity : ℕ) →
+        table_of capacity rate entries.new ≡ after_fact fact t (table_of capacity rate entries.old) }
 {
     entries[at].apply(fact, t, rate)
 }
@@ -130,7 +131,8 @@ fn admit(
     requires absent { finite.get (map_of entries.old.items) (subject fact) ≡ None }
     ensures listed { IsListed capacity entries.new.items }
     ensures place { result ≡ placed (table_of capacity rate entries.old.items) fact }
-    ensures table { table_of capacity rate entries.new.items ≡ after_fact fact t (table_of capacity rate entries.old.items) }
+    ensures table { table_of capacity rate entries.new.items
+        ≡ after_fact fact t (table_of capacity rate entries.old.items) }
 {
     if fact.is_goodbye() {
         return Place::Ignored;
@@ -146,7 +148,8 @@ fn admit(
 
 /// Drops the entries that do not outlast a check, and ends the sending of the idle ones.
 fn drop_silent(entries: &mut ArrayVec<Entry, MAX_CAPACITY>, silent: u64, idle: u64, gone: u64)
-    ensures { entries.new.items ≡ retain_mut (outlasts (horizons_at silent idle gone)) (lapsed idle) entries.old.items }
+    ensures { entries.new.items
+        ≡ retain_mut (outlasts (horizons_at silent idle gone)) (lapsed idle) entries.old.items }
 {
     entries.retain(|entry| entry.check(silent, idle, gone));
 }
@@ -205,8 +208,10 @@ fn report_at(entries: &mut [Entry], at: usize, ssrc: u32, t: u64) -> Block
     requires place { IsPlaceOf ssrc entries.old at }
     requires due { IsTrue (is_such is_due (finite.get (map_of entries.old) ssrc)) }
     ensures apart { IsApart (rows_of entries.new) }
-    ensures block { (capacity rate : ℕ) → Some (block_value result) ≡ block_at ssrc t (table_of capacity rate entries.old) }
-    ensures table { (capacity rate : ℕ) → table_of capacity rate entries.new ≡ after_block ssrc (table_of capacity rate entries.old) }
+    ensures block { (capacity rate : ℕ) →
+        Some (block_value result) ≡ block_at ssrc t (table_of capacity rate entries.old) }
+    ensures table { (capacity rate : ℕ) →
+        table_of capacity rate entries.new ≡ after_block ssrc (table_of capacity rate entries.old) }
     ensures writable { IsWritableBlock (block_value result) }
 {
     entries[at].report(t)
@@ -214,7 +219,8 @@ fn report_at(entries: &mut [Entry], at: usize, ssrc: u32, t: u64) -> Block
 
 /// Where the entry of a source stands, if it has one.
 fn place_in(entries: &[Entry], ssrc: u32) -> Option<usize>
-    ensures { MatchOption result (finite.get (map_of entries.now) ssrc ≡ None) (λ (at : ℕ). IsPlaceOf ssrc entries.now at) }
+    ensures { MatchOption result (finite.get (map_of entries.now) ssrc
+        ≡ None) (λ (at : ℕ). IsPlaceOf ssrc entries.now at) }
 {
     'entries: for at in 0..entries.len() {
         if entries[at].ssrc == ssrc {

@@ -22,7 +22,8 @@ pub enum Place {
     NoRoom,
     /// The source said goodbye before, or says so without being present: nothing changed.
     Ignored,
-    /// The source says goodbye. Its entry is held, so that late packets do not bring it back, until a check drops it.
+    /// The source says goodbye. Its entry is held, so that late packets do not bring it back, until a check
+    /// drops it.
     Left,
 }
 
@@ -46,36 +47,41 @@ pub struct Dropped {
 
 /// A table of the other participants of a session, at most `capacity` of them.
 ///
-/// A contract sees a table as a finite map from SSRC to entry, with its capacity and the rate of the media's clock. A table *stands at*
-/// the trace of a session (`StandsAt`) where that map is the one computed from the whole trace; after each call it stands at the trace
-/// with one step more (`laws`).
+/// A contract sees a table as a finite map from SSRC to entry, with its capacity and the rate of the media's
+/// clock. A table *stands at* the trace of a session (`StandsAt`) where that map is the one computed from the
+/// whole trace; after each call it stands at the trace with one step more (`laws`).
 pub trait MemberTable {
     ghost content: { Self → TableValue };
 
-    /// A table without entries, for at most `capacity` of them, from 1 to 1,024, of a session whose media's clock has `rate` units
-    /// a second.
+    /// A table without entries, for at most `capacity` of them, from 1 to 1,024, of a session whose media's
+    /// clock has `rate` units a second.
     fn empty(capacity: u32, rate: u32) -> Self
         requires some { 1 ≤ capacity }
         requires few { capacity ≤ 1024 }
         ensures { content result ≡ no_members capacity rate };
 
-    /// A fact came at the moment `t`, in microseconds (RFC 3550, 6.2.1, 6.3.3, 6.3.7). A source takes fewer than 2^40 packets, so it was
-    /// given fewer where the fact is `Media`; any other fact may always come.
+    /// A fact came at the moment `t`, in microseconds (RFC 3550, 6.2.1, 6.3.3, 6.3.7). A source takes fewer
+    /// than 2^40 packets, so it was given fewer where the fact is `Media`; any other fact may always come.
     fn apply(&mut self, fact: Fact, t: u64) -> Applied
         requires { IsTrue (is_media fact) → IfSome (map.get (content self.old).entries (subject fact)) IsFew }
         ensures place { result.place ≡ placed (content self.old) fact }
         ensures counted { result.counted ≡ counted (content self.old) fact }
         ensures content { content self.new ≡ after_fact fact t (content self.old) };
 
-    /// Drops those who are silent for too long, at the moment `t`, in microseconds (RFC 3550, 6.3.5): entries last seen before
-    /// `silent_before`, and those that left before `gone_before`. A sender whose last counted packet lies before `data_before` is
-    /// no sender from then on, until another packet of it is counted.
+    /// Drops those who are silent for too long, at the moment `t`, in microseconds (RFC 3550, 6.3.5): entries
+    /// last seen before `silent_before`, and those that left before `gone_before`. A sender whose last
+    /// counted packet lies before `data_before` is no sender from then on, until another packet of it is
+    /// counted.
     fn check(&mut self, t: u64, silent_before: u64, data_before: u64, gone_before: u64) -> Dropped
-        ensures entries { result.entries ≡ dropped_entries (horizons_at silent_before data_before gone_before) (content self.old) }
-        ensures senders { result.senders ≡ dropped_senders (horizons_at silent_before data_before gone_before) (content self.old) }
-        ensures content { content self.new ≡ after_check (horizons_at silent_before data_before gone_before) (content self.old) };
+        ensures entries { result.entries
+            ≡ dropped_entries (horizons_at silent_before data_before gone_before) (content self.old) }
+        ensures senders { result.senders
+            ≡ dropped_senders (horizons_at silent_before data_before gone_before) (content self.old) }
+        ensures content { content self.new
+            ≡ after_check (horizons_at silent_before data_before gone_before) (content self.old) };
 
-    /// How many members are in the table: entries that are valid and did not leave. The participant itself is not counted.
+    /// How many members are in the table: entries that are valid and did not leave. The participant itself is
+    /// not counted.
     fn members(&self) -> u32
         ensures { result ≡ members_in (content self.now) };
 
@@ -83,13 +89,15 @@ pub trait MemberTable {
     fn senders(&self) -> u32
         ensures { result ≡ senders_in (content self.now) };
 
-    /// The source that the next report block is for, if any has news: the least SSRC above `after` of a source that did not leave and
-    /// of which some packet was counted since its last block, else the least SSRC of all such sources (RFC 3550, 6.4).
+    /// The source that the next report block is for, if any has news: the least SSRC above `after` of a
+    /// source that did not leave and of which some packet was counted since its last block, else the least
+    /// SSRC of all such sources (RFC 3550, 6.4).
     fn next_with_news(&self, after: Option<u32>) -> Option<u32>
         ensures { result ≡ first_ssrc (pending after (content self.now)) };
 
-    /// The reception report block of the source `ssrc`, which has news and did not leave, as that of `next_with_news` does, at the moment
-    /// `t`, in microseconds (RFC 3550, 6.4.1). With it the source's loss interval begins anew, and its news end.
+    /// The reception report block of the source `ssrc`, which has news and did not leave, as that of
+    /// `next_with_news` does, at the moment `t`, in microseconds (RFC 3550, 6.4.1). With it the source's loss
+    /// interval begins anew, and its news end.
     fn block_of(&mut self, ssrc: u32, t: u64) -> Block
         requires { IsTrue (is_due_at ssrc (content self.old)) }
         ensures block { Some (block_value result) ≡ block_at ssrc t (content self.old) }

@@ -1,19 +1,20 @@
-//! Laws of the trace of a session: stays and senders in other words. Each is an empty function whose postcondition is the law.
+//! Laws of the trace of a session: stays and senders in other words. Each is an empty function whose
+//! postcondition is the law.
 
 ghost use Rattle.std.specs.Prelude.{◌≡◌, ◌↔◌, true, ℕ, List, Some};
 ghost use Rattle.rtcp_members.specs.Traces.{TraceStep};
 ghost use Rattle.rtcp_members.specs.Stays.{stay_of, IsStay};
 ghost use Rattle.rtcp_members.specs.Entries.{sending_of, is_such, is_sender, entry_at, IsSendingSince, IsSenderAt};
 
-/// A stay is exactly a prefix of the trace, newest first, whose oldest step names the source at a moment when it was absent and there was
-/// room, and in which no check removes the source (RFC 3550, 6.3.3 to 6.3.5).
+/// A stay is exactly a prefix of the trace, newest first, whose oldest step names the source at a moment when
+/// it was absent and there was room, and in which no check removes the source (RFC 3550, 6.3.3 to 6.3.5).
 pub fn stays_are_prefixes()
     ensures { (capacity : ℕ) (trace : List TraceStep) (ssrc : ℕ) (stay : List TraceStep) →
         (stay_of capacity trace ssrc ≡ Some stay) ↔ IsStay capacity trace ssrc stay }
 {}
 
-/// A source is a sender exactly where it is present without a mark, a counted packet stands in its stay, and no check since the newest one
-/// has a later horizon for packets (RFC 3550, 6.3.3, 6.3.5).
+/// A source is a sender exactly where it is present without a mark, a counted packet stands in its stay, and
+/// no check since the newest one has a later horizon for packets (RFC 3550, 6.3.3, 6.3.5).
 pub fn senders_sent_lately()
     ensures sending { (rate ssrc : ℕ) (own : List TraceStep) (moment : ℕ) →
         (sending_of rate ssrc own ≡ Some moment) ↔ IsSendingSince rate ssrc own moment }

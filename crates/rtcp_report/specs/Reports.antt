@@ -23,7 +23,8 @@ cname_item text = record { kind = 1; text = text }
 abbrev pub report_with : (ssrc : ℕ) → Option SentValue → List ReportBlock → RtcpPacket
 report_with ssrc None blocks = rr ssrc blocks []
 report_with ssrc (Some sent) blocks =
-    sr (record { ssrc = ssrc; ntp = sent.ntp; rtp = sent.rtp; packets = sent.packets; octets = sent.octets }) blocks []
+    sr (record { ssrc = ssrc; ntp = sent.ntp; rtp = sent.rtp; packets = sent.packets; octets = sent.octets })
+    blocks []
 
 -- How many reports stand behind the first one: each report has at most 31 blocks.
 abbrev pub further_count : (blocks : ℕ) → ℕ
@@ -32,10 +33,13 @@ further_count blocks = (blocks - 1) / 31
 -- as many receiver's reports, each with the next 31 blocks, or with those that are left
 abbrev pub further_reports : (ssrc count : ℕ) → List ReportBlock → List RtcpPacket
 further_reports ssrc zero blocks = []
-further_reports ssrc (suc count) blocks = rr ssrc (take 31 blocks) [] ∷ further_reports ssrc count (drop 31 blocks)
+further_reports ssrc (suc count) blocks =
+    rr ssrc (take 31 blocks) [] ∷ further_reports ssrc count (drop 31 blocks)
 
 abbrev pub reports_with : (ssrc : ℕ) → Option SentValue → List ReportBlock → List RtcpPacket
-reports_with ssrc sent blocks = report_with ssrc sent (take 31 blocks) ∷ further_reports ssrc (further_count (length blocks)) (drop 31 blocks)
+reports_with ssrc sent blocks =
+    report_with ssrc sent (take 31 blocks)
+    ∷ further_reports ssrc (further_count (length blocks)) (drop 31 blocks)
 
 -- the source description, of one chunk
 abbrev pub description_of : Reporter → RtcpPacket

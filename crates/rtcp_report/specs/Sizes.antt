@@ -21,7 +21,8 @@ description_size items = 8 + 4 * (sum_by item_size items / 4 + 1)
 
 -- A report with so many blocks, in octets.
 abbrev pub report_size : Reporter → (blocks : ℕ) → ℕ
-report_size reporter blocks = first_report_size reporter.sent + 24 * blocks + 8 * further_count blocks + description_size reporter.items
+report_size reporter blocks =
+    first_report_size reporter.sent + 24 * blocks + 8 * further_count blocks + description_size reporter.items
 
 -- ---- As many as fit
 
@@ -32,7 +33,8 @@ greatest_passing test (suc n) = if test (suc n) then suc n else greatest_passing
 
 -- how many blocks a report has where so many sources wait
 abbrev pub block_count : Reporter → (limit pending : ℕ) → ℕ
-block_count reporter limit pending = greatest_passing (λ blocks. nat_le (report_size reporter blocks) limit) pending
+block_count reporter limit pending =
+    greatest_passing (λ blocks. nat_le (report_size reporter blocks) limit) pending
 
 -- The sources that a report is of: the longest prefix of those that wait that fits the limit.
 abbrev pub fitting : Reporter → (limit : ℕ) → List EntryRow → List EntryRow
@@ -43,11 +45,13 @@ reported_rows reporter limit last table = fitting reporter limit (pending last t
 
 -- The packets of the report at the moment `t`.
 abbrev pub report_of : Reporter → (limit t : ℕ) → (last : Option ℕ) → TableValue → List RtcpPacket
-report_of reporter limit t last table = packets_with reporter (blocks_of t (reported_rows reporter limit last table))
+report_of reporter limit t last table =
+    packets_with reporter (blocks_of t (reported_rows reporter limit last table))
 
 -- A prefix of the rows whose report fits, while that of no longer one does.
 pub record IsLongestFitting (reporter : Reporter) (limit : ℕ) (rows prefix : List EntryRow) : Type 0 where
   pub rest : List EntryRow
   pub parts : rows ≡ prefix ++ rest
   pub fits : report_size reporter (length prefix) ≤ limit
-  pub longest : (blocks : ℕ) → length prefix < blocks → blocks ≤ length rows → limit < report_size reporter blocks
+  pub longest : (blocks : ℕ) → length prefix < blocks → blocks ≤ length rows →
+      limit < report_size reporter blocks

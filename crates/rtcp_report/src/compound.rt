@@ -7,8 +7,8 @@ ghost use Rattle.rtcp_wire.specs.Writing.{written_all, IsWritableItem};
 ghost use Rattle.rtcp_wire.specs.WriterViews.{item_ref_of};
 ghost use Rattle.rtcp_members.specs.Pending.{after_blocks, last_reported};
 ghost use Rattle.rtcp_report.specs.Reports.{Reporter, packets_with};
-ghost use Rattle.rtcp_report.specs.Sizes.{report_size, reported_rows, report_of};
-ghost use Rattle.rtcp_report.specs.Views.{items_of, extra_of, reporter_with, reporter_of};
+ghost use Rattle.rtcp_report.specs.Sizes.{report_size};
+ghost use Rattle.rtcp_report.specs.Views.{items_of, extra_of, reporter_with, reporter_of, reported_by, compound_by};
 
 use crate::description::{Description, description_size};
 use crate::gathering::gather;
@@ -27,38 +27,18 @@ const SENDER_SIZE: usize = 28;
 /// The octets of a block.
 const BLOCK_SIZE: usize = 24;
 
-/// How many blocks fit the limit: each packet after the first one has a header and an SSRC of its own.
-fn most_blocks(sender: &Sender<'_>, items: &[ItemRef<'_>], limit: u32) -> usize
-    requires writable { All IsWritableItem (map item_ref_of items.now) }
-    requires least { report_size (reporter_with sender.now (map item_ref_of items.now)) 0 ≤ limit }
-    requires most { limit ≤ 1472 }
-    ensures few { result ≤ 60 }
-    ensures fits { report_size (reporter_with sender.now (map item_ref_of items.now)) result ≤ limit }
-    ensures greatest { limit < report_size (reporter_with sender.now (map item_ref_of items.now)) (result + 1) }
-{
-    let first = if sender.sr.is_some() {
-        SENDER_SIZE
-    } else {
-        RECEIVER_SIZE
-    };
-    let room = limit as usize - first - description_size(items);
-    if room / BLOCK_SIZE <= BLOCKS_OF_PACKET {
-        room / BLOCK_SIZE
-    } else {
-        (room - RECEIVER_SIZE) / BLOCK_SIZE
-    }
-}
-
-/// The compound report of a participant at the moment `t`, in microseconds: at most `limit` octets, which is from 576 to 1,472.
+/// The compound report of a participant at the moment `t`, in microseconds: at most `limit` octets, which is
+/// from 576 to 1,472.
 ///
-/// It begins with a sender report where `sender.sr` says what was sent, else with a receiver report (RFC 3550, 6.4). It has a
-/// block of each source that has news, or of as many as fit: in cyclic turn by rising SSRC, beginning above the cursor, none
-/// twice. At most 31 blocks stand in a packet, and the others in receiver reports after it. The last packet describes the
-/// participant by its CNAME, of at most 255 octets, and by the extra item, if there is one (6.5).
+/// It begins with a sender report where `sender.sr` says what was sent, else with a receiver report (RFC
+/// 3550, 6.4). It has a block of each source that has news, or of as many as fit: in cyclic turn by rising
+/// SSRC, beginning above the cursor, none twice. At most 31 blocks stand in a packet, and the others in
+/// receiver reports after it. The last packet describes the participant by its CNAME, of at most 255 octets,
+/// and by the extra item, if there is one (6.5).
 ///
-/// The sources that it has blocks of have no news any more, and the cursor is left at the SSRC of the last block, or as it was where
-/// there is none. Call it when a report is due, with the cursor of the call before, which is `None` at first. A needless call
-/// takes the news out of the next report.
+/// The sources that it has blocks of have no news any more, and the cursor is left at the SSRC of the last
+/// block, or as it was where there is none. Call it when a report is due, with the cursor of the call before,
+/// which is `None` at first. A needless call takes the news out of the next report.
 pub fn report<T: MemberTable>(
     sender: &Sender<'_>,
     table: &mut T,
@@ -71,12 +51,18 @@ pub fn report<T: MemberTable>(
     requires most { limit ≤ 1472 }
     requires cname { length sender.now.cname.now ≤ 255 }
     requires extra { ForSome (extra_of extra) IsWritableItem }
-    ensures octets { result.items ≡ written_all (report_of (reporter_of sender.now extra.entry) limit t cursor.old (T.content table.old)) }
+    ensures octets { result.items
+        ≡ written_all (compound_by sender.now extra.entry limit t cursor.old (T.content table.old)) }
     ensures within { length result.items ≤ limit }
-    ensures size { length result.items ≡ report_size (reporter_of sender.now extra.entry) (length (reported_rows (reporter_of sender.now extra.entry) limit cursor.old (T.content table.old))) }
-    ensures reads_back { IsAccepted result.items (report_of (reporter_of sender.now extra.entry) limit t cursor.old (T.content table.old)) }
-    ensures content { T.content table.new ≡ after_blocks (reported_rows (reporter_of sender.now extra.entry) limit cursor.old (T.content table.old)) (T.content table.old) }
-    ensures cursor { cursor.new ≡ last_reported cursor.old (reported_rows (reporter_of sender.now extra.entry) limit cursor.old (T.content table.old)) }
+    ensures size { length result.items ≡ report_size (reporter_of sender.now extra.entry)
+        (length (reported_by sender.now extra.entry limit cursor.old (T.content table.old))) }
+    ensures reads_back { IsAccepted result.items
+        (compound_by sender.now extra.entry limit t cursor.old (T.content table.old)) }
+    ensures content { T.content table.new
+        ≡ after_blocks (reported_by sender.now extra.entry limit cursor.old (T.content table.old))
+        (T.content table.old) }
+    ensures cursor { cursor.new ≡ last_reported cursor.old
+        (reported_by sender.now extra.entry limit cursor.old (T.content table.old)) }
 {
     let description = Description::new(sender.cname, extra);
     let items = description.items();
@@ -85,14 +71,38 @@ pub fn report<T: MemberTable>(
     write(sender, items, blocks.as_slice())
 }
 
-/// The octets of the first compound that a participant with this CNAME, of at most 255 octets, expects to send (RFC 3550, 6.3.2): a
-/// receiver report without blocks, and the description by the CNAME alone.
+/// The octets of the first compound that a participant with this CNAME, of at most 255 octets, expects to
+/// send (RFC 3550, 6.3.2): a receiver report without blocks, and the description by the CNAME alone.
 pub fn first_size(cname: &[u8]) -> u32
     requires { length cname.now ≤ 255 }
-    ensures exact { (ssrc : ℕ) →
-        result ≡ length (written_all (packets_with (record { ssrc = ssrc; sent = None; items = items_of cname.now None }) [])) }
+    ensures exact { (ssrc : ℕ) → let reporter : Reporter = record
+        { ssrc = ssrc; sent = None; items = items_of cname.now None } in
+        result ≡ length (written_all (packets_with reporter [])) }
     ensures small { result ≤ 276 }
 {
     let description = Description::new(cname, None);
     (RECEIVER_SIZE + description_size(description.items())) as u32
+}
+
+/// How many blocks fit the limit: each packet after the first one has a header and an SSRC of its own.
+fn most_blocks(sender: &Sender<'_>, items: &[ItemRef<'_>], limit: u32) -> usize
+    requires writable { All IsWritableItem (map item_ref_of items.now) }
+    requires least { report_size (reporter_with sender.now (map item_ref_of items.now)) 0 ≤ limit }
+    requires most { limit ≤ 1472 }
+    ensures few { result ≤ 60 }
+    ensures fits { report_size (reporter_with sender.now (map item_ref_of items.now)) result ≤ limit }
+    ensures greatest { limit
+        < report_size (reporter_with sender.now (map item_ref_of items.now)) (result + 1) }
+{
+    let first = if sender.sr.is_some() {
+        SENDER_SIZE
+    } else {
+        RECEIVER_SIZE
+    };
+    let room = limit as usize - first - description_size(items);
+    if room / BLOCK_SIZE <= BLOCKS_OF_PACKET {
+        room / BLOCK_SIZE
+    } else {
+        (room - RECEIVER_SIZE) / BLOCK_SIZE
+    }
 }

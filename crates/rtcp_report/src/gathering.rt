@@ -12,8 +12,8 @@ use rtcp_wire::Block;
 /// The most blocks of a compound: 61 of them have 1,464 octets, and what stands around them has at least 28.
 pub(crate) const MOST_BLOCKS: usize = 60;
 
-/// The blocks of the first `most` pending sources after the cursor, or of all of them, at the moment `t`. The cursor goes to the last
-/// one.
+/// The blocks of the first `most` pending sources after the cursor, or of all of them, at the moment `t`. The
+/// cursor goes to the last one.
 pub(crate) fn gather<T: MemberTable>(
     table: &mut T,
     t: u64,
@@ -21,11 +21,14 @@ pub(crate) fn gather<T: MemberTable>(
     most: usize,
 ) -> ArrayVec<Block, MOST_BLOCKS>
     requires { most ≤ 60 }
-    ensures blocks { map block_value result.items ≡ blocks_of t (take most (pending cursor.old (T.content table.old))) }
+    ensures blocks { map block_value result.items
+        ≡ blocks_of t (take most (pending cursor.old (T.content table.old))) }
     ensures count { length result.items ≡ length (take most (pending cursor.old (T.content table.old))) }
     ensures writable { All IsWritableBlock (map block_value result.items) }
-    ensures content { T.content table.new ≡ after_blocks (take most (pending cursor.old (T.content table.old))) (T.content table.old) }
-    ensures cursor { cursor.new ≡ last_reported cursor.old (take most (pending cursor.old (T.content table.old))) }
+    ensures content { T.content table.new
+        ≡ after_blocks (take most (pending cursor.old (T.content table.old))) (T.content table.old) }
+    ensures cursor { cursor.new
+        ≡ last_reported cursor.old (take most (pending cursor.old (T.content table.old))) }
 {
     let mut blocks = ArrayVec::new();
     'sources: for _ in 0..most {

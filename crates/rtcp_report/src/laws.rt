@@ -1,4 +1,4 @@
-//! Laws of the definitions of reports. The functions do nothing, and what they ensure is the law.
+//! Laws of the definitions of reports. Each is an empty function whose postcondition is the law.
 
 ghost use Rattle.std.specs.Prelude.{◌≡◌, ◌==◌, ◌≤◌, ℕ, List, Option, count_by, length};
 ghost use Rattle.rtcp_wire.specs.Values.{ReportBlock};
@@ -10,26 +10,33 @@ ghost use Rattle.rtcp_report.specs.Reports.{Reporter, packets_with};
 ghost use Rattle.rtcp_report.specs.Sizes.{report_size, fitting, reported_rows, IsLongestFitting};
 ghost use Rattle.rtcp_report.specs.Traced.{with_blocks};
 
-/// The sources of a report are the longest prefix of those that wait that fits, where a report without blocks fits: none is left out
-/// that fits. There is one such prefix.
+/// The sources of a report are the longest prefix of the pending ones that fits, where a report without
+/// blocks fits: none is left out that fits. There is one such prefix.
 pub fn longest_prefix_is_reported()
-    ensures longest { (reporter : Reporter) (limit : ℕ) (rows : List EntryRow) → report_size reporter 0 ≤ limit → IsLongestFitting reporter limit rows (fitting reporter limit rows) }
-    ensures only { (reporter : Reporter) (limit : ℕ) (rows prefix : List EntryRow) → IsLongestFitting reporter limit rows prefix → prefix ≡ fitting reporter limit rows }
+    ensures longest { (reporter : Reporter) (limit : ℕ) (rows : List EntryRow) →
+        report_size reporter 0 ≤ limit → IsLongestFitting reporter limit rows (fitting reporter limit rows) }
+    ensures only { (reporter : Reporter) (limit : ℕ) (rows prefix : List EntryRow) →
+        IsLongestFitting reporter limit rows prefix → prefix ≡ fitting reporter limit rows }
 {}
 
 /// No source is reported twice in a report.
 pub fn none_is_reported_twice()
-    ensures { (reporter : Reporter) (limit : ℕ) (last : Option ℕ) (table : TableValue) (ssrc : ℕ) → count_by (λ (row : EntryRow). row.0 == ssrc) (reported_rows reporter limit last table) ≤ 1 }
+    ensures { (reporter : Reporter) (limit : ℕ) (last : Option ℕ) (table : TableValue) (ssrc : ℕ) →
+        count_by (λ (row : EntryRow). row.0 == ssrc) (reported_rows reporter limit last table) ≤ 1 }
 {}
 
 /// A report has as many octets as its size says.
 pub fn size_is_that_of_the_octets()
-    ensures { (reporter : Reporter) (blocks : List ReportBlock) → length (written_all (packets_with reporter blocks)) ≡ report_size reporter (length blocks) }
+    ensures { (reporter : Reporter) (blocks : List ReportBlock) →
+        length (written_all (packets_with reporter blocks)) ≡ report_size reporter (length blocks) }
 {}
 
-/// A table that stands at a trace stands, once a report was made, at the trace with a block of each source of the report. A report gives
-/// no source a packet.
+/// A table that stands at a trace stands, once a report was made, at the trace with a block of each source of
+/// the report. A report gives no source a packet.
 pub fn tables_follow_reports()
-    ensures stands { (reporter : Reporter) (limit : ℕ) (last : Option ℕ) (table : TableValue) (trace : List TraceStep) → StandsAt table trace → StandsAt (after_blocks (reported_rows reporter limit last table) table) (with_blocks (reported_rows reporter limit last table) trace) }
-    ensures packets { (packets : ℕ) (rows : List EntryRow) (table : TableValue) → HasFew packets table → HasFew packets (after_blocks rows table) }
+    ensures stands { (reporter : Reporter) (limit : ℕ) (last : Option ℕ) (table : TableValue)
+        (trace : List TraceStep) → StandsAt table trace → let rows = reported_rows reporter limit last table in
+        StandsAt (after_blocks rows table) (with_blocks rows trace) }
+    ensures packets { (packets : ℕ) (rows : List EntryRow) (table : TableValue) → HasFew packets table →
+        HasFew packets (after_blocks rows table) }
 {}

@@ -16,7 +16,8 @@ pub struct Sender<'a> {
 /// What a sender report says of its sender (RFC 3550, 6.4.1).
 #[derive(Clone, Copy, Debug, PartialEq, Eq)]
 pub struct SrPart {
-    /// When the report is sent, as an NTP timestamp: seconds since 1900 in the upper 32 bits, their fraction in the lower.
+    /// When the report is sent, as an NTP timestamp: seconds since 1900 in the upper 32 bits, their fraction
+    /// in the lower.
     pub ntp: u64,
     /// The same moment in the units of the sender's RTP timestamps.
     pub rtp: u32,

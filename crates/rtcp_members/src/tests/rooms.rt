@@ -30,7 +30,8 @@ pub(crate) fn room_for_two<T: MemberTable + Drop>(rt: &impl Abort) {
     );
 }
 
-/// A source is dropped where its last sighting lies before the horizon, and not at it. A goodbye is no sighting.
+/// A source is dropped where its last sighting lies before the horizon, and not at it. A goodbye is no
+/// sighting.
 pub(crate) fn silence<T: MemberTable + Drop>(rt: &impl Abort) {
     let mut session: Session<T> = Session::new(2);
     assert_eq!(rt; session.place(Fact::Heard(7), 0), Some(Place::Added));

@@ -11,7 +11,8 @@ fn counted(place: Place) -> Applied {
     }
 }
 
-/// A source sends from its second packet on, stops at a data horizon after its last one, and sends again only with another.
+/// A source sends from its second packet on, stops at a data horizon after its last one, and sends again only
+/// with another.
 pub(crate) fn one_sender<T: MemberTable + Drop>(rt: &impl Abort) {
     let mut session: Session<T> = Session::new(2);
     assert_eq!(rt; session.place(Fact::Media(4, 10, 0), 0), Some(Place::Added));
@@ -36,7 +37,8 @@ pub(crate) fn one_sender<T: MemberTable + Drop>(rt: &impl Abort) {
     assert_eq!(rt; session.senders(), 1);
 }
 
-/// A sender that says goodbye is none from then on, so no check drops it as one; a sender that is dropped for its silence is.
+/// A sender that says goodbye is none from then on, so no check drops it as one; a sender that is dropped for
+/// its silence is.
 pub(crate) fn senders_leave<T: MemberTable + Drop>(rt: &impl Abort) {
     let mut session: Session<T> = Session::new(2);
     let _ = session.apply(Fact::Media(4, 10, 0), 0);

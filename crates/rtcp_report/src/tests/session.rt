@@ -10,7 +10,8 @@ use super::*;
 use rtcp_wire::{Fact, MAX_COMPOUND};
 use std::process::Abort;
 
-/// A table, how many facts came to it, few, so that no source was given too many packets, and the last SSRC reported.
+/// A table, how many facts came to it, few, so that no source was given too many packets, and the last SSRC
+/// reported.
 #[derive(Drop)]
 pub(crate) struct Session<T: MemberTable> {
     table: T,
