@@ -1,4 +1,4 @@
--- Blocks taken of the sources that wait, one after the other.
+-- Blocks taken of the pending sources, one after the other.
 use Rattle.std.proofs.Common.{◌≡◌, ℕ, List, [], ◌∷◌, ◌++◌, All, length, map, Option, Some, arith, refl, sym, ap, subst, ◌∙◌, append_assoc}
 use Rattle.std.proofs.lemmas.List.{length-append, map_push}
 use Rattle.std.proofs.lemmas.List.Elements.{All-push, filter_map-append}
@@ -11,7 +11,7 @@ use Rattle.rtcp_members.specs.Tables.{TableValue}
 use Rattle.rtcp_members.specs.Pending.{EntryRow, pending, first_ssrc, block_of_row, block_at, after_block, blocks_of, after_blocks, last_reported}
 use Rattle.rtcp_members.proofs.LawLemmas.{first_is_due-block, others_stay_pending}
 
--- A prefix of the rows that waited was reported, and the rest waits.
+-- A prefix of the pending rows was reported, and the rest is pending.
 pub record IsTaken (t : ℕ) (first : Option ℕ) (start : TableValue) (last : Option ℕ) (table : TableValue) (blocks : List ReportBlock) : Type 0 where
   pub prefix : List EntryRow
   pub rest : List EntryRow

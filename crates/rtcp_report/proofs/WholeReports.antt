@@ -30,7 +30,7 @@ least_fits s cname extra items limit is short can least =
 
 -- ---- The whole
 
--- What a call ensures of its octets, and of the table and the cursor behind it.
+-- What a call ensures of its octets, and of the table and the cursor after it.
 pub record IsReport (reporter : Reporter) (limit t : ℕ) (last : Option ℕ) (table : TableValue) (octets : List ℕ) (after : TableValue) (cursor : Option ℕ) : Type 0 where
   pub octets_are : octets ≡ written_all (report_of reporter limit t last table)
   pub within : length octets ≤ limit

@@ -26,7 +26,7 @@ report_with ssrc (Some sent) blocks =
     sr (record { ssrc = ssrc; ntp = sent.ntp; rtp = sent.rtp; packets = sent.packets; octets = sent.octets })
     blocks []
 
--- How many reports stand behind the first one: each report has at most 31 blocks.
+-- How many reports follow the first one: each report has at most 31 blocks.
 abbrev pub further_count : (blocks : ℕ) → ℕ
 further_count blocks = (blocks - 1) / 31
 

@@ -1,4 +1,4 @@
--- The size of a compound report, and how many of the sources that wait it holds (RFC 3550, 6.1, 6.4).
+-- The size of a compound report, and how many of the pending sources it holds (RFC 3550, 6.1, 6.4).
 use Rattle.std.specs.Prelude.{ℕ, zero, suc, ◌+◌, ◌*◌, ◌/◌, ◌≡◌, ◌<◌, ◌≤◌, Bool, nat_le, if◌then◌else◌, List, ◌++◌, length, sum_by, take, Option, Some, None}
 use Rattle.rtcp_wire.specs.Values.{ItemValue, RtcpPacket}
 use Rattle.rtcp_members.specs.Tables.{TableValue}
@@ -31,12 +31,12 @@ abbrev pub greatest_passing : (ℕ → Bool) → (most : ℕ) → ℕ
 greatest_passing test zero = 0
 greatest_passing test (suc n) = if test (suc n) then suc n else greatest_passing test n
 
--- how many blocks a report has where so many sources wait
+-- how many blocks a report has where so many sources are pending
 abbrev pub block_count : Reporter → (limit pending : ℕ) → ℕ
 block_count reporter limit pending =
     greatest_passing (λ blocks. nat_le (report_size reporter blocks) limit) pending
 
--- The sources that a report is of: the longest prefix of those that wait that fits the limit.
+-- The sources that a report is of: the longest prefix of the pending ones that fits the limit.
 abbrev pub fitting : Reporter → (limit : ℕ) → List EntryRow → List EntryRow
 fitting reporter limit rows = take (block_count reporter limit (length rows)) rows
 

@@ -1,4 +1,4 @@
--- The trace of a session behind a report.
+-- The trace of a session after a report.
 use Rattle.std.specs.Prelude.{List, [], ◌∷◌}
 use Rattle.rtcp_members.specs.Traces.{TraceStep, block_taken}
 use Rattle.rtcp_members.specs.Pending.{EntryRow}

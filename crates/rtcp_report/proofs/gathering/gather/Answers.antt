@@ -1,4 +1,4 @@
--- The next source that waits is due, and its block is one more.
+-- The next pending source is due, and its block is one more.
 use Rattle.std.proofs.Common.{arith, map, sym, ◌∙◌, subst, List, Some}
 use Rattle.rtcp_wire.specs.Values.{ReportBlock}
 use Rattle.rtcp_wire.specs.Views.{block_value}
