@@ -1,5 +1,5 @@
 -- A packet is counted by a table that stands at a trace where the trace counts it.
-use Rattle.std.proofs.Common.{◌≡◌, ℕ, true, false, ◌==◌, ◌&&◌, List, Option, Some, None, is_none, option_map, refl, sym, ap, ◌∙◌}
+use Rattle.std.proofs.Common.{◌≡◌, ℕ, ◌&&◌, List, Option, Some, None, is_none, option_map, refl, sym, ap, ◌∙◌}
 use Rattle.std.proofs.lemmas.Bool.{eq-eqb}
 use Rattle.rtcp_wire.specs.Facts.{subject}
 use Rattle.rtcp_wire.specs.declared.fact.Fact.{Fact}

@@ -1,7 +1,6 @@
 -- What a fact that is no goodbye leaves of the members, and how the counts of a table lie to each other.
-use Rattle.std.proofs.Common.{◌≡◌, ◌≤◌, ◌+◌, ℕ, suc, Bool, true, false, true≢false, cond, if◌then◌else◌, ◌||◌, ◌==◌, ◌&&◌, List, [], ◌∷◌, length, filter, map, Option, Some, None, is_some, is_none, option_and_then, unwrap_or, nat_cmp, arith, refl, sym, ap, subst, ◌∙◌, le_refl}
+use Rattle.std.proofs.Common.{◌≡◌, ◌≤◌, ℕ, suc, Bool, true, false, true≢false, cond, if◌then◌else◌, ◌||◌, ◌==◌, ◌&&◌, List, [], ◌∷◌, length, filter, map, Option, Some, None, is_some, is_none, option_and_then, nat_cmp, arith, refl, sym, ap, subst, ◌∙◌, le_refl}
 use Rattle.std.proofs.lemmas.Bool.{and_parts, or_right}
-use Rattle.std.specs.Ordering.{eq_by_cmp}
 use Rattle.std.specs.FinMap as finite
 use Rattle.rtcp_wire.specs.Facts.{subject, is_gone}
 use Rattle.rtcp_wire.specs.declared.fact.Fact.{Fact}
@@ -9,11 +8,11 @@ use Rattle.rtcp_wire.specs.declared.fact.Fact.TheVariants.{Heard, Told, Named, G
 use Rattle.rtcp_source.specs.Packets.{is_counted}
 use Rattle.rtcp_source.specs.Steps.{taken_by}
 use Rattle.rtcp_members.specs.declared.table.Place.TheVariants.{Kept, Ignored, Left}
-use Rattle.rtcp_members.specs.Traces.{Horizons, TraceStep, fact_came, with_name, names}
-use Rattle.rtcp_members.specs.Stays.{is_before, is_removed}
+use Rattle.rtcp_members.specs.Traces.{Horizons, TraceStep, fact_came, names}
+use Rattle.rtcp_members.specs.Stays.{is_removed}
 use Rattle.rtcp_members.specs.Entries.{EntryValue, still_sending, is_member, is_sender, is_such, entry_at, members_at}
-use Rattle.rtcp_members.specs.Tables.{EntryMap, TableValue, IsApart, changes, entry_after, entry_after_check, after_check, count_in, members_in, senders_in, updated}
-use Rattle.rtcp_members.proofs.Counting.{has, IsOnce, passing, one_or_none, first_and_rest, passing_entries}
+use Rattle.rtcp_members.specs.Tables.{TableValue, IsApart, changes, entry_after, entry_after_check, after_check, members_in, senders_in, updated}
+use Rattle.rtcp_members.proofs.Counting.{has, IsOnce, passing, passing_entries}
 use Rattle.rtcp_members.proofs.Updated.{get_updated, entries_are_apart}
 use Rattle.rtcp_members.proofs.Naming.{room_at}
 use Rattle.rtcp_members.proofs.Moving.{kept_by, own_entry_at, other_entry_at}

@@ -2,12 +2,11 @@
 use Rattle.std.proofs.Common.{◌≡◌, ℕ, ◌<◌, Bool, true, false, T, cond, if◌then◌else◌, not, ◌||◌, ◌==◌, ◌&&◌, nat_lt, nat_cmp, is_lt, List, [], ◌∷◌, ◌++◌, filter, filter_map, map, Option, Some, None, is_some, is_none, option_map, arith, refl, sym, ap, subst, ◌∙◌}
 use Rattle.std.proofs.lemmas.Bool.{or_parts}
 use Rattle.std.proofs.lemmas.Bool.Decides.{nat_tests}
-use Rattle.std.specs.List.{list_any, cons_option}
+use Rattle.std.specs.List.{cons_option}
 use Rattle.std.specs.Cmp.{nat_cmp_total}
 use Rattle.std.specs.FinMap as finite
 use Rattle.std.specs.FinMap.{nat_cmp-IsAntisymmetric}
 use Rattle.std.specs.FinMap.Entries.{below_all}
-use Rattle.rtcp_source.specs.Blocks.{news_of}
 use Rattle.rtcp_source.specs.Packets.{has_news_since}
 use Rattle.rtcp_source.proofs.LawLemmas.{summary_suffices-news}
 use Rattle.rtcp_members.specs.Traces.{TraceStep, names}
@@ -15,7 +14,7 @@ use Rattle.rtcp_members.specs.Stays.{mark_of, before_mark, stay_of}
 use Rattle.rtcp_members.specs.Entries.{EntryValue, given_of, entry_of, entry_at, is_such}
 use Rattle.rtcp_members.specs.Tables.{EntryMap, TableValue, StandsAt}
 use Rattle.rtcp_members.specs.Pending.{EntryRow, is_due, due_rows, is_after, pending}
-use Rattle.rtcp_members.specs.News.{has_news_in, has_news_at, put_rising, rising, ssrcs_in_turn, pending_at, pending_rows_at}
+use Rattle.rtcp_members.specs.News.{has_news_in, has_news_at, put_rising, rising, pending_at, pending_rows_at}
 use Rattle.rtcp_members.proofs.Counting.{has, IsOnce}
 use Rattle.rtcp_members.proofs.Naming.{names_are_once, present_is_named}
 use Rattle.rtcp_members.proofs.Following.{is_some_mapped}

@@ -1,11 +1,11 @@
 -- Senders in other words: the newest counted packet of a stay, and the checks since.
-use Rattle.std.proofs.Common.{◌≡◌, ℕ, ◌<◌, ◌≤◌, Bool, true, false, true≢false, if◌then◌else◌, ◌||◌, ◌&&◌, nat_lt, is_some, is_none, List, [], ◌∷◌, ◌++◌, Option, Some, None, option_map, refl, sym, ap, subst, ◌∙◌, arith}
-use Rattle.std.proofs.lemmas.Bool.{ltb-true, ltb-false, and_parts, or_left, or_right}
+use Rattle.std.proofs.Common.{◌≡◌, ℕ, ◌≤◌, Bool, true, false, true≢false, if◌then◌else◌, ◌&&◌, nat_lt, is_some, List, [], ◌∷◌, ◌++◌, Option, Some, None, option_map, refl, sym, ap, subst, ◌∙◌, arith}
+use Rattle.std.proofs.lemmas.Bool.{ltb-false, and_parts, or_left, or_right}
 use Rattle.std.proofs.lemmas.Bool.Decides.{nat_tests}
 use Rattle.rtcp_wire.specs.declared.fact.Fact.{Fact}
 use Rattle.rtcp_members.specs.Traces.{Horizons, TraceStep, fact_came, check_made, block_taken}
-use Rattle.rtcp_members.specs.Stays.{mark_of, before_mark, stay_of, is_before}
-use Rattle.rtcp_members.specs.Entries.{EntryValue, given_of, is_counted_fact, is_counted_by, names_it, is_valid, still_sending, sending_with, sending_of, entry_of, entry_at, is_member, is_sender, is_such, IsSendingSince, IsSenderAt}
+use Rattle.rtcp_members.specs.Stays.{mark_of, before_mark, stay_of}
+use Rattle.rtcp_members.specs.Entries.{given_of, is_counted_fact, is_counted_by, names_it, is_valid, still_sending, sending_of, entry_of, entry_at, is_sender, is_such, IsSendingSince, IsSenderAt}
 use Rattle.rtcp_members.proofs.Staying.{entry_with, entry_unmarked}
 
 none_is_no_moment : {X : Type 0} (x : X) → None ≡ Some x → ⊥

@@ -1,11 +1,9 @@
 -- Stays and senders in other words: prefixes of the trace, and the newest counted packets in them.
-use Rattle.std.proofs.Common.{◌≡◌, ℕ, ◌<◌, ◌≤◌, Bool, true, false, true≢false, if◌then◌else◌, nat_lt, is_some, List, [], ◌∷◌, ◌++◌, Option, Some, None, refl, sym, ap, subst, ◌∙◌, arith}
-use Rattle.std.proofs.lemmas.Bool.{ltb-true, ltb-false}
+use Rattle.std.proofs.Common.{◌≡◌, ℕ, ◌<◌, true, false, true≢false, if◌then◌else◌, nat_lt, List, [], ◌∷◌, ◌++◌, Option, Some, None, refl, sym, ap, subst, ◌∙◌, arith}
+use Rattle.std.proofs.lemmas.Bool.{ltb-true}
 use Rattle.std.proofs.lemmas.Bool.Decides.{nat_tests}
-use Rattle.rtcp_wire.specs.declared.fact.Fact.{Fact}
-use Rattle.rtcp_members.specs.Traces.{Horizons, TraceStep, fact_came, check_made, block_taken, is_naming, names}
-use Rattle.rtcp_members.specs.Stays.{mark_of, last_sighting, is_before, is_removed, ends_stay, present_among, stay_with, stay_of, OutlastsChecks, IsStay}
-use Rattle.rtcp_members.specs.Entries.{given_of, is_counted_fact, still_sending, sending_with, sending_of, IsSendingSince}
+use Rattle.rtcp_members.specs.Traces.{TraceStep, fact_came, check_made, block_taken, is_naming, names}
+use Rattle.rtcp_members.specs.Stays.{ends_stay, present_among, stay_with, stay_of, OutlastsChecks, IsStay}
 
 none_is_no_stay : {X : Type 0} (stay : X) → None ≡ Some stay → ⊥
 none_is_no_stay stay e = absurd cc

@@ -79,7 +79,7 @@ stay_of capacity (step ∷ earlier) =
 abbrev pub OutlastsChecks : (ssrc : ℕ) → List TraceStep → Type 0
 OutlastsChecks ssrc stay =
     (newer : List TraceStep) (horizons : Horizons) (older : List TraceStep) →
-        stay ≡ newer ++ check_made horizons ∷ older →
+    stay ≡ newer ++ check_made horizons ∷ older →
     is_removed horizons (last_sighting ssrc older) (mark_of ssrc older) ≡ false
 
 -- A stay is a prefix of the trace, newest first. Its oldest step names the source at a moment when it was

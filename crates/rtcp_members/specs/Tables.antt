@@ -102,7 +102,7 @@ abbrev pub after_fact : Fact → (moment : ℕ) → TableValue → TableValue
 after_fact fact moment table =
     if changes (placed table fact)
     then record table {
-      entries = map.insert table.entries (subject fact) (entry_after table.rate fact moment (entry_for table fact))
+      entries = map.insert table.entries (subject fact) (entry_after table.rate fact moment (entry_for table fact));
     }
     else table
 
