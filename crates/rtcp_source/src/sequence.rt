@@ -13,9 +13,12 @@ pub(crate) const FIRST: u64 = 65_536;
 /// A.1's MAX_DROPOUT: a packet that is ahead by fewer places is counted.
 const MAX_DROPOUT: u16 = 3000;
 
-/// 65536 less A.1's MAX_MISORDER: a packet that is ahead by more places, modulo 65536, is late by fewer than
+/// MAX_MISORDER: a packet fewer places behind than this is late, and counted (A.1).
+const MAX_MISORDER: u16 = 100;
+
+/// 65536 less MAX_MISORDER: a packet that is ahead by more places, modulo 65536, is behind by fewer than
 /// MAX_MISORDER.
-const LATE: u16 = 65_436;
+const LATE: u16 = u16::MAX - MAX_MISORDER + 1;
 
 /// What a packet is, by the greatest place of the run, if one was started, and by the number of the last
 /// stray.
