@@ -1,6 +1,6 @@
 //! A check of a text: a line of answer for each line of hex.
 
-ghost use Rattle.std.specs.Prelude.{◌≡◌, ◌≢◌, ◌↔◌, ℕ, Some, None, OnOk};
+ghost use Rattle.std.specs.Prelude.{◌≡◌, ◌≢◌, ◌≤◌, ◌↔◌, ℕ, Some, None, OnOk};
 ghost use Rattle.rtcp_run.specs.Check.{Writes, IsTextOf, IsFrontOfText, AnswersWhatCame, AnswersLinesBefore};
 ghost use Rattle.rtcp_run.specs.Counted.{failures_of, inner_of};
 ghost use Rattle.rtcp_run.specs.Progress.{CheckLeaves};
@@ -28,6 +28,8 @@ fn answer_blocks<R: Read, W: Write>(
         (W.contents (inner_of writer.new)) (CheckLeaves result (R.remaining (inner_of reader.new))) }
     ensures read_failed { (result ≡ Err TextFault.Read) ↔ (failures_of reader.new ≢ 0) }
     ensures write_failed { (result ≡ Err TextFault.Write) ↔ (failures_of writer.new ≢ 0) }
+    ensures read_once { failures_of reader.new ≤ 1 }
+    ensures write_once { failures_of writer.new ≤ 1 }
 {
     let mut checker = LineChecker::new(alloc);
     let mut block = [0; BLOCK];
@@ -82,6 +84,8 @@ pub fn check<R: Read, W: Write>(
     // A call failed exactly where the fault says so.
     ensures read_failed { (result ≡ Err TextFault.Read) ↔ (failures_of reader.new ≢ 0) }
     ensures write_failed { (result ≡ Err TextFault.Write) ↔ (failures_of writer.new ≢ 0) }
+    ensures read_once { failures_of reader.new ≤ 1 }
+    ensures write_once { failures_of writer.new ≤ 1 }
 {
     // So every input has a text, of which what is written is a front.
     accepted_or_faulty();

@@ -93,6 +93,7 @@ impl LineChecker {
         ensures answered { OnOk result (self.new.answered ≡ self.old.answered + 1) }
         ensures pending { OnOk result (self.new.pending.items ≡ []) }
         ensures failed { (result ≡ Err TextFault.Write) ↔ (failures_of writer.new ≢ 0) }
+        ensures once { failures_of writer.new ≤ 1 }
     {
         let number = self.answered + 1;
         compose(
@@ -120,6 +121,7 @@ impl LineChecker {
             (PartLeaves result self.old.answered (self.old.pending.items ++ block.now) self.new.answered self.new.pending.items) }
         ensures between { OnOk result (IsBetween self.new.answered self.new.pending.items) }
         ensures failed { (result ≡ Err TextFault.Write) ↔ (failures_of writer.new ≢ 0) }
+        ensures once { failures_of writer.new ≤ 1 }
     {
         let mut rest = block;
         while !rest.is_empty() {
@@ -141,6 +143,7 @@ impl LineChecker {
         ensures written { Grows (W.contents (inner_of writer.old)) (W.contents (inner_of writer.new))
             (EndLeaves result self.old.answered self.old.pending.items) }
         ensures failed { (result ≡ Err TextFault.Write) ↔ (failures_of writer.new ≢ 0) }
+        ensures once { failures_of writer.new ≤ 1 }
     {
         if self.pending.is_empty() {
             return Ok(());

@@ -1,6 +1,6 @@
 //! Handing a text to a writer.
 
-ghost use Rattle.std.specs.Prelude.{◌≡◌, ◌≢◌, ◌++◌, ◌↔◌, ℕ, List, [], OnOk, IsOkUnless};
+ghost use Rattle.std.specs.Prelude.{◌≡◌, ◌≢◌, ◌≤◌, ◌++◌, ◌↔◌, ℕ, List, [], OnOk, IsOkUnless};
 ghost use Rattle.std.specs.Io.KnownBytes.{Appends};
 ghost use Rattle.rtcp_run.specs.Counted.{failures_of, inner_of};
 
@@ -15,6 +15,7 @@ pub(crate) fn hand_over<W: Write>(writer: &mut Counted<W>, text: &[u8]) -> Resul
     ensures written { (front : List ℕ) × (more : List ℕ) × (text.now ≡ front ++ more) × OnOk result (more ≡ [])
         × Appends (W.contents (inner_of writer.old)) (W.contents (inner_of writer.new)) front }
     ensures failed { (result ≡ Err TextFault.Write) ↔ (failures_of writer.new ≢ 0) }
+    ensures once { failures_of writer.new ≤ 1 }
 {
     let mut rest = text;
     while !rest.is_empty() {
