@@ -12,10 +12,16 @@ use Rattle.rtcp_run.specs.declared.fault.LineFault.{LineFault}
 use Rattle.rtcp_run.specs.declared.fault.LineFault.TheVariants.{LineTooLong, TooManyLines, Hex}
 use Rattle.rtcp_run.specs.declared.fault.TextFault.{TextFault}
 use Rattle.rtcp_run.specs.declared.fault.TextFault.TheVariants.{Text, Read, Write, Memory}
-use Rattle.rtcp_run.specs.Check.{lines_of, IsAnswer, IsCheckText, IsFrontOfText, IsTextOf, Writes}
+use Rattle.rtcp_run.specs.Check.{lines_of, IsAnswer, IsCheckText, IsFrontOfText, IsTextOf, AnswersUpToBlock, AnswersLinesBefore, Writes}
 use Rattle.rtcp_run.specs.Text.{accepted_text, fault_text}
 use Rattle.rtcp_run.specs.Progress.{IsFrontOfAnswers, CheckLeaves}
 use Rattle.rtcp_run.proofs.LinesLemmas.{lines_of-begins, IsCheckText-append}
+use Rattle.rtcp_run.proofs.ProgressLemmas.{ne-append}
+
+-- Where lines are answered up to a block, they stand before some line.
+pub AnswersLinesBefore-block : (left : Option (List ℕ)) (input text : List ℕ) → AnswersUpToBlock left input text → AnswersLinesBefore input text
+AnswersLinesBefore-block left input text (lines, part, block, rest, is_left, each, short, some, begins, texts) =
+    (lines, (part ++ block) ++ rest, ne-append (part ++ block) rest some, begins, texts)
 
 -- Every datagram is accepted or has a first fault.
 abbrev pub AlwaysOne : Type 0
@@ -67,7 +73,8 @@ module _ (law : AlwaysOne) where
   IsFrontOfText-leaves (Ok x) left input text leaves = (None, [], subst (λ t. IsCheckText 1 (lines_of input) t None) (sym (append-nil text)) leaves)
   IsFrontOfText-leaves (Err (Text number fault)) left input text leaves =
       (Some (number, fault), [], subst (λ t. IsCheckText 1 (lines_of input) t (Some (number, fault))) (sym (append-nil text)) leaves)
-  IsFrontOfText-leaves (Err Memory) left input text (lines, rest, some, begins, texts) =
+  IsFrontOfText-leaves (Err Memory) left input text leaves =
+      let (lines, rest, some, begins, texts) = AnswersLinesBefore-block left input text leaves in
       IsFrontOfText-answers input text (lines, lines_of rest, [], lines_of-begins input lines rest begins, subst (λ t. IsCheckText 1 lines t None) (sym (append-nil text)) texts)
   IsFrontOfText-leaves (Err Read) left input text (lines, part, rest, is_left, each, begins, texts) =
       IsFrontOfText-answers input text (

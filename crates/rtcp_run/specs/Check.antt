@@ -79,6 +79,14 @@ AnswersWhatCame left input text =
     (lines : List (List ℕ)) × (part : List ℕ) × (rest : List ℕ) × (left ≡ Some rest) × HasNoLineFeed part
     × BeginsWithLines input lines (part ++ rest) × IsCheckText 1 lines text None
 
+-- The reader gave lines, then a part of a line, then at most 8,192 octets, and has this left: the text is the answers to those
+-- lines. So each line that ended before the last 8,192 octets that were read has its answer.
+abbrev pub AnswersUpToBlock : Option (List ℕ) → List ℕ → List ℕ → Type 0
+AnswersUpToBlock left input text =
+    (lines : List (List ℕ)) × (part : List ℕ) × (block : List ℕ) × (rest : List ℕ) × (left ≡ Some rest)
+    × HasNoLineFeed part × (length block ≤ 8192) × (part ++ block ≢ [])
+    × BeginsWithLines input lines ((part ++ block) ++ rest) × IsCheckText 1 lines text None
+
 -- The text is the answers to the lines before some line of the input.
 abbrev pub AnswersLinesBefore : List ℕ → List ℕ → Type 0
 AnswersLinesBefore input text =

@@ -4,7 +4,7 @@ use Rattle.std.specs.Io.KnownBytes.{Appends}
 use Rattle.rtcp_run.specs.declared.fault.LineFault.TheVariants.{LineTooLong, TooManyLines, Hex}
 use Rattle.rtcp_run.specs.declared.fault.TextFault.{TextFault}
 use Rattle.rtcp_run.specs.declared.fault.TextFault.TheVariants.{Text, Read, Write, Memory}
-use Rattle.rtcp_run.specs.Check.{lines_of, HasNoLineFeed, BeginsWithLines, IsLineFault, IsCheckText, IsTextOf, AnswersWhatCame, AnswersLinesBefore}
+use Rattle.rtcp_run.specs.Check.{lines_of, HasNoLineFeed, BeginsWithLines, IsLineFault, IsCheckText, IsTextOf, AnswersWhatCame, AnswersUpToBlock}
 
 -- The writer's known octets grow by a text, of which P holds.
 abbrev pub Grows : Option (List ℕ) → Option (List ℕ) → (List ℕ → Type 0) → Type 0
@@ -73,7 +73,7 @@ IsFrontOfAnswers input text =
 abbrev pub CheckLeaves : {A : Type 0} → Result A TextFault → Option (List ℕ) → List ℕ → List ℕ → Type 0
 CheckLeaves (Ok x) left input text = IsTextOf None input text
 CheckLeaves (Err (Text number fault)) left input text = IsTextOf (Some (number, fault)) input text
-CheckLeaves (Err Memory) left input text = AnswersLinesBefore input text
+CheckLeaves (Err Memory) left input text = AnswersUpToBlock left input text
 CheckLeaves (Err Read) left input text = AnswersWhatCame left input text
 CheckLeaves (Err Write) left input text = IsFrontOfAnswers input text
 

@@ -1,7 +1,7 @@
 //! A check of a text: a line of answer for each line of hex.
 
 ghost use Rattle.std.specs.Prelude.{◌≡◌, ◌≢◌, ◌≤◌, ◌↔◌, ℕ, Some, None, OnOk};
-ghost use Rattle.rtcp_run.specs.Check.{Writes, IsTextOf, IsFrontOfText, AnswersWhatCame, AnswersLinesBefore};
+ghost use Rattle.rtcp_run.specs.Check.{Writes, IsTextOf, IsFrontOfText, AnswersWhatCame, AnswersLinesBefore, AnswersUpToBlock};
 ghost use Rattle.rtcp_run.specs.Counted.{failures_of, inner_of};
 ghost use Rattle.rtcp_run.specs.Progress.{CheckLeaves};
 ghost use Rattle.rtcp_run.specs.declared.fault.LineFault.{LineFault as Fault};
@@ -80,6 +80,9 @@ pub fn check<R: Read, W: Write>(
     ensures memory { result ≡ Err TextFault.Memory
         → Writes (R.remaining (inner_of reader.old)) (W.contents (inner_of writer.old))
         (W.contents (inner_of writer.new)) AnswersLinesBefore }
+    ensures memory_block { result ≡ Err TextFault.Memory
+        → Writes (R.remaining (inner_of reader.old)) (W.contents (inner_of writer.old))
+        (W.contents (inner_of writer.new)) (AnswersUpToBlock (R.remaining (inner_of reader.new))) }
 
     // A call failed exactly where the fault says so.
     ensures read_failed { (result ≡ Err TextFault.Read) ↔ (failures_of reader.new ≢ 0) }
