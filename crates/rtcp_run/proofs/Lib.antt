@@ -4,5 +4,7 @@ pub mod DigitTable
 pub mod FrontLemmas
 pub mod HexSteps
 pub mod Joined
+pub mod LawLemmas
 pub mod LinesLemmas
+pub mod OneText
 pub mod ProgressLemmas

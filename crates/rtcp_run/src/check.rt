@@ -8,6 +8,7 @@ ghost use Rattle.rtcp_run.specs.declared.fault.LineFault.{LineFault as Fault};
 
 use crate::counted::Counted;
 use crate::fault::TextFault;
+use crate::laws::one_text;
 use crate::lines::LineChecker;
 use rtcp_wire::laws::accepted_or_faulty;
 use std::alloc::Global;
@@ -90,7 +91,8 @@ pub fn check<R: Read, W: Write>(
     ensures read_once { failures_of reader.new ≤ 1 }
     ensures write_once { failures_of writer.new ≤ 1 }
 {
-    // So every input has a text, of which what is written is a front.
+    // So every input has a text, of which what is written is a prefix, and only one.
     accepted_or_faulty();
+    one_text();
     answer_blocks(alloc, reader, writer)
 }

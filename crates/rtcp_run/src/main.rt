@@ -7,6 +7,7 @@ mod command;
 mod counted;
 mod digit_pairs;
 mod fault;
+mod laws;
 mod lines;
 mod order;
 mod orders;
