@@ -4,10 +4,9 @@ ghost use Rattle.std.specs.Prelude.{◌≡◌, ◌++◌, ◌≤◌, ℕ, List, l
 ghost use Rattle.rtcp_run.specs.Check.{IsAnswer};
 ghost use Rattle.rtcp_run.specs.Progress.{AnswersLine};
 
-use crate::digit_pairs::decode;
+use crate::digit_pairs::{DecodeFault, decode};
 use crate::fault::{LineFault, TextFault};
 use crate::text::{push_accepted, push_fault};
-use hex::FromHexError;
 use rtcp_wire::ReadError;
 use std::alloc::{AllocError, Global};
 
@@ -38,8 +37,8 @@ pub(crate) fn compose(
     text.clear();
     match decode(line, datagram) {
         Ok(()) => (),
-        Err(FromHexError::OutOfMemory) => return Err(TextFault::Memory),
-        Err(_) => {
+        Err(DecodeFault::Memory) => return Err(TextFault::Memory),
+        Err(DecodeFault::NotHex) => {
             return Err(TextFault::Text {
                 line: number,
                 fault: LineFault::Hex,
