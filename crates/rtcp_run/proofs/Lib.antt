@@ -2,7 +2,6 @@ pub mod CheckLemmas
 pub mod CountedLemmas
 pub mod DigitTable
 pub mod FrontLemmas
-pub mod HexSteps
 pub mod Joined
 pub mod LawLemmas
 pub mod LinesLemmas

@@ -1,8 +1,5 @@
 -- The text of a check is one text, since each line has one fault or one answer.
-use Rattle.std.proofs.Common.{◌≡◌, ℕ, ◌+◌, inl, inr, List, [], ◌∷◌, ◌++◌, Option, Some, None, Result, Ok, Err, refl, sym, ◌∙◌, ap, subst, arith}
-use Rattle.hex.specs.Hex.{decode_of}
-use Rattle.rtcp_wire.specs.Values.{RtcpPacket}
-use Rattle.rtcp_wire.specs.declared.fault.WireFault.{WireFault}
+use Rattle.std.proofs.Common.{◌≡◌, ℕ, ◌+◌, inl, inr, List, [], ◌∷◌, ◌++◌, Option, Some, refl, sym, ◌∙◌, ap, subst, arith}
 use Rattle.rtcp_wire.proofs.Refusals.{never_both, one_fault}
 use Rattle.rtcp_wire.proofs.Spellings.{one_reading}
 use Rattle.rtcp_run.specs.declared.fault.LineFault.{LineFault}
