@@ -19,7 +19,7 @@ mod writing;
 use order::refuse;
 use orders::{Order, OrderFault, TextOrder};
 use std::alloc::{AllocError, Global};
-use std::io::{BufReader, BufWriter, ErrorKind};
+use std::io::{BufWriter, ErrorKind};
 use std::process::ExitCode;
 use std::{env, io};
 
@@ -58,11 +58,8 @@ fn asked(rt: &HostRuntime) -> Result<Order, OrderFault> {
 fn run_text(rt: &HostRuntime, order: TextOrder) -> u8 {
     let alloc = rt.alloc();
     let mut faults = rt.stderr();
-    let Ok(reader) = BufReader::new(alloc, rt.stdin()) else {
-        return refuse(&OrderFault::Memory, &mut faults);
-    };
     let Ok(writer) = BufWriter::new(alloc, rt.stdout()) else {
         return refuse(&OrderFault::Memory, &mut faults);
     };
-    command::command(alloc, order, reader, writer, &mut faults)
+    command::command(alloc, order, rt.stdin(), writer, &mut faults)
 }
