@@ -102,7 +102,7 @@ after_feed (octet ∷ pending) block (first ∷ line) more each e = after_feed p
 
 -- What is left of a part of a line and a block, after whole lines, is a part of a line and no more than the block.
 left_of_block : (pending block : List ℕ) (lines : List (List ℕ)) (rest : List ℕ) → HasNoLineFeed pending → BeginsWithLines (pending ++ block) lines rest
-    → (part : List ℕ) × (behind : List ℕ) × (rest ≡ part ++ behind) × HasNoLineFeed part × (length behind ≤ length block)
+    → (part : List ℕ) × (after : List ℕ) × (rest ≡ part ++ after) × HasNoLineFeed part × (length after ≤ length block)
 left_of_block pending block [] rest each begins = (pending, block, sym begins.parts, each, omega arith)
 left_of_block pending block (line ∷ lines) rest each begins =
     let others = flat_map (λ line. line ++ 10 ∷ []) lines in
@@ -112,12 +112,12 @@ left_of_block pending block (line ∷ lines) rest each begins =
     let long = length-append others rest in
     ([], rest, refl, All-nil (λ octet. octet ≢ 10), omega arith)
 
-module _ (left : Option (List ℕ)) (taken pending block behind text text' rest : List ℕ) (answered answered' : ℕ) where
-  fails : (fault : TextFault) → left ≡ Some behind → HasNoLineFeed pending → length block ≤ 8192 → Answers 0 taken answered pending text
+module _ (left : Option (List ℕ)) (taken pending block after text text' rest : List ℕ) (answered answered' : ℕ) where
+  fails : (fault : TextFault) → left ≡ Some after → HasNoLineFeed pending → length block ≤ 8192 → Answers 0 taken answered pending text
       → PartLeaves {A = Unit {0}} (Err fault) answered (pending ++ block) answered' rest text'
-      → CheckLeaves {A = Unit {0}} (Err fault) left ((taken ++ block) ++ behind) (text ++ text')
+      → CheckLeaves {A = Unit {0}} (Err fault) left ((taken ++ block) ++ after) (text ++ text')
   fails (Text number fault) is_left each short first leaves =
-      PartLeaves-after 0 answered taken pending text block first {A = Unit {0}} (Err (Text number fault)) answered' rest text' leaves behind
+      PartLeaves-after 0 answered taken pending text block first {A = Unit {0}} (Err (Text number fault)) answered' rest text' leaves after
   fails Memory is_left each short first leaves =
       let lines = first.lines ++ leaves.lines in
       let texts : IsCheckText 1 lines (text ++ text') None =
@@ -129,20 +129,20 @@ module _ (left : Option (List ℕ)) (taken pending block behind text text' rest 
         lines,
         cut.0,
         cut.1,
-        behind,
+        after,
         is_left,
         cut.3,
         omega (arith, cut.4),
         subst (λ l. l ≢ []) cut.2 leaves.some,
-        BeginsWithLines-longer (taken ++ block) behind lines (cut.0 ++ cut.1) begins,
+        BeginsWithLines-longer (taken ++ block) after lines (cut.0 ++ cut.1) begins,
         texts,
       )
   fails Write is_left each short first leaves =
       let all = PartLeaves-after 0 answered taken pending text block first {A = Unit {0}} (Err Write) answered' rest text' leaves in (
         all.lines,
-        lines_of (all.rest ++ behind),
+        lines_of (all.rest ++ after),
         all.more,
-        lines_of-begins ((taken ++ block) ++ behind) all.lines (all.rest ++ behind) (BeginsWithLines-longer (taken ++ block) behind all.lines all.rest all.begins),
+        lines_of-begins ((taken ++ block) ++ after) all.lines (all.rest ++ after) (BeginsWithLines-longer (taken ++ block) after all.lines all.rest all.begins),
         all.texts,
       )
   fails Read is_left each short first leaves = absurd leaves

@@ -3,7 +3,7 @@ use Rattle.std.proofs.Common.{◌≡◌, ℕ, List, Option}
 use Rattle.rtcp_wire.proofs.Walking.{always_one}
 use Rattle.rtcp_run.specs.Check.{lines_of, IsTextOf}
 use Rattle.rtcp_run.specs.declared.fault.LineFault.{LineFault}
-use Rattle.rtcp_run.proofs.FrontLemmas.{text_exists}
+use Rattle.rtcp_run.proofs.PrefixLemmas.{text_exists}
 use Rattle.rtcp_run.proofs.OneText.{one_check_text}
 
 pub one_text-always : (input : List ℕ) → (text : List ℕ) × (end : Option (ℕ × LineFault)) × IsTextOf end input text

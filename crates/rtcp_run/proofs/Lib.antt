@@ -1,7 +1,7 @@
 pub mod CheckLemmas
 pub mod CountedLemmas
 pub mod DigitTable
-pub mod FrontLemmas
+pub mod PrefixLemmas
 pub mod Joined
 pub mod LawLemmas
 pub mod LinesLemmas

@@ -12,12 +12,12 @@ use Rattle.rtcp_run.specs.Text.{accepted_text, fault_text}
 
 -- ---- Lines
 
--- an octet in front of the first line
+-- an octet in prefix of the first line
 abbrev pub with_octet : ℕ → List (List ℕ) → List (List ℕ)
 with_octet octet [] = (octet ∷ []) ∷ []
 with_octet octet (line ∷ lines) = (octet ∷ line) ∷ lines
 
--- The lines of an input: a line feed (10) ends each, and the last may lack it. Nothing behind the last line feed is no line.
+-- The lines of an input: a line feed (10) ends each, and the last may lack it. Nothing after the last line feed is no line.
 abbrev pub lines_of : List ℕ → List (List ℕ)
 lines_of [] = []
 lines_of (octet ∷ input) = if octet == 10 then [] ∷ lines_of input else with_octet octet (lines_of input)
@@ -69,9 +69,9 @@ Writes remaining held holds P =
 abbrev pub IsTextOf : Option (ℕ × LineFault) → List ℕ → List ℕ → Type 0
 IsTextOf end input text = IsCheckText 1 (lines_of input) text end
 
--- a front of the text of the whole input, however it ends
-abbrev pub IsFrontOfText : List ℕ → List ℕ → Type 0
-IsFrontOfText input text = (end : Option (ℕ × LineFault)) × (more : List ℕ) × IsTextOf end input (text ++ more)
+-- a prefix of the text of the whole input, however it ends
+abbrev pub IsPrefixOfText : List ℕ → List ℕ → Type 0
+IsPrefixOfText input text = (end : Option (ℕ × LineFault)) × (more : List ℕ) × IsTextOf end input (text ++ more)
 
 -- The reader gave lines and then a part of a line, and has this left: the text is the answers to those lines.
 abbrev pub AnswersWhatCame : Option (List ℕ) → List ℕ → List ℕ → Type 0

@@ -10,7 +10,7 @@ failures_of c = c.failures
 abbrev pub inner_of : {T : Type 0} → Counted T → T
 inner_of c = c.inner
 
--- the count behind a call, by whether the call failed
+-- the count after a call, by whether the call failed
 abbrev pub count_after : Bool → ℕ → ℕ
 count_after failed count = if failed then min (count + 1) (2 ^ 64 - 1) else count
 

@@ -10,19 +10,15 @@ use crate::text::{push_accepted, push_fault};
 use rtcp_wire::ReadError;
 use std::alloc::{AllocError, Global};
 
-/// Puts the line of text for a datagram behind `text`.
-fn push_reading(alloc: Global, datagram: &[u8], text: &mut Vec<u8>) -> Result<(), AllocError>
-    ensures { OnOk result ((answer : List ℕ) × IsAnswer datagram.now answer × (text.new.items ≡ text.old.items ++ answer)) }
-{
-    match rtcp_wire::read_owned(alloc, datagram) {
-        Ok(packets) => push_accepted(text, &packets),
-        Err(ReadError::Wire(fault)) => push_fault(text, &fault),
-        Err(ReadError::Memory) => Err(AllocError),
-    }
-}
-
-/// Makes `text` the answer to a line, which is no more than 131,200 octets long and no later than line 65,536. The
-/// octets that the line spells go into `datagram`.
+/// Makes `text` the answer to a line, which has at most 131,200 octets and is no later than line 65,536. The octets
+/// that the line spells go into `datagram`.
+///
+/// # Errors
+///
+/// - [`TextFault::Text`] with [`LineFault::Hex`] where the line is not hex.
+/// - [`TextFault::Memory`] where memory is refused.
+///
+/// After an error it is left open what the two buffers hold.
 pub(crate) fn compose(
     alloc: Global,
     number: u64,
@@ -48,5 +44,17 @@ pub(crate) fn compose(
     match push_reading(alloc, datagram, text) {
         Ok(()) => Ok(()),
         Err(AllocError) => Err(TextFault::Memory),
+    }
+}
+
+/// Appends the line of text for a datagram.
+fn push_reading(alloc: Global, datagram: &[u8], text: &mut Vec<u8>) -> Result<(), AllocError>
+    ensures { OnOk result
+        ((answer : List ℕ) × IsAnswer datagram.now answer × (text.new.items ≡ text.old.items ++ answer)) }
+{
+    match rtcp_wire::read_owned(alloc, datagram) {
+        Ok(packets) => push_accepted(text, &packets),
+        Err(ReadError::Wire(fault)) => push_fault(text, &fault),
+        Err(ReadError::Memory) => Err(AllocError),
     }
 }

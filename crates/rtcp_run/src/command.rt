@@ -13,11 +13,11 @@ use crate::orders::TextOrder;
 use std::alloc::Global;
 use std::io::{Read, Write};
 
-/// Runs an order over text, tells a fault as a line on `faults`, and gives the status to end with: 0 where all went
-/// well, 2 where the text is refused, and 1 where reading, writing or memory failed.
+/// Runs an order over text, writes a line to `faults` where it fails, and returns the status to end with: 0 where all
+/// went well, 2 where the text is refused, and 1 where reading, writing or memory failed.
 ///
-/// What is written is flushed in any case, and a failed flush is the fault `write`. A failed write of the fault
-/// changes nothing.
+/// What was written is flushed in any case, and a failed flush is the fault `write`. A failed write of the fault line
+/// is ignored.
 pub fn command<R: Read + Drop, W: Write + Drop, F: Write>(
     alloc: Global,
     order: TextOrder,
@@ -36,7 +36,11 @@ pub fn command<R: Read + Drop, W: Write + Drop, F: Write>(
     status(&outcome)
 }
 
-/// Runs an order over text and flushes what is written.
+/// Runs an order over text and flushes what was written.
+///
+/// # Errors
+///
+/// Those of [`check`], and [`TextFault::Write`] where the flush fails, whatever failed before.
 fn run<R: Read, W: Write>(
     alloc: Global,
     order: TextOrder,
@@ -52,7 +56,7 @@ fn run<R: Read, W: Write>(
         → Writes (R.remaining (inner_of reader.old)) (W.contents (inner_of writer.old))
         (W.contents (inner_of writer.new)) (IsTextOf (Some (line, fault))) }
 
-    // A failed flush is told before what else failed.
+    // A failed flush comes before what else failed.
     ensures read_failed { result ≡ Err TextFault.Read → failures_of reader.new ≢ 0 }
     ensures write_failed { (result ≡ Err TextFault.Write) ↔ (failures_of writer.new ≢ 0) }
     ensures whole_read { OnOk result (failures_of reader.new ≡ 0) }

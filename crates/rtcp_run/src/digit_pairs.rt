@@ -9,7 +9,7 @@ use std::alloc::AllocError;
 /// Why a line gives no octets.
 #[derive(Clone, Copy, Debug, PartialEq, Eq)]
 pub(crate) enum DecodeFault {
-    /// It is no even number of hex digits.
+    /// It is not an even number of hex digits.
     NotHex,
     /// Memory was asked for and refused.
     Memory,
@@ -19,7 +19,7 @@ pub(crate) enum DecodeFault {
 ///
 /// # Errors
 ///
-/// - [`DecodeFault::NotHex`] where the line is no even number of hex digits of either case.
+/// - [`DecodeFault::NotHex`] where the line is not an even number of hex digits of either case.
 /// - [`DecodeFault::Memory`] where memory is refused.
 ///
 /// After an error it is left open what the buffer holds.
@@ -55,7 +55,7 @@ fn decode_pairs(line: &[u8], octets: &mut [u8]) -> Result<(), DecodeFault>
     Ok(())
 }
 
-/// The value of each octet as a hex digit of either case, and 255 where it is none. A line has 16 octets: the fourth
+/// The value of each octet as a hex digit of either case, and 255 where it is not a digit. A line has 16 octets: the fourth
 /// begins with `0`, the fifth and the seventh hold the letters.
 static DIGIT_VALUES: [u8; 256] = *b"\
     \xff\xff\xff\xff\xff\xff\xff\xff\xff\xff\xff\xff\xff\xff\xff\xff\

@@ -19,7 +19,7 @@ mod writing;
 use order::refuse;
 use orders::{Order, OrderFault, TextOrder};
 use std::alloc::{AllocError, Global};
-use std::io::{BufWriter, ErrorKind};
+use std::io::BufWriter;
 use std::process::ExitCode;
 use std::{env, io};
 
@@ -31,13 +31,12 @@ fn main(rt: HostRuntime) -> ExitCode {
     ExitCode::from(status)
 }
 
-/// What the process's command line asks for.
+/// What the command line of the process asks for.
 fn asked(rt: &HostRuntime) -> Result<Order, OrderFault> {
     let alloc = rt.alloc();
     let arguments = match env::args(rt) {
         Ok(arguments) => arguments,
-        Err(error) if error.kind() == ErrorKind::OutOfMemory => return Err(OrderFault::Memory),
-        Err(_) => return Err(order::no_text(alloc)),
+        Err(error) => return Err(order::unreadable(alloc, error.kind())),
     };
     let mut texts = Vec::new(alloc);
     for argument in arguments {
@@ -54,7 +53,7 @@ fn asked(rt: &HostRuntime) -> Result<Order, OrderFault> {
     order::order(alloc, &words)
 }
 
-/// Runs an order between the standard streams, and gives the status to end with.
+/// Runs an order from standard input to standard output, and returns the status to end with.
 fn run_text(rt: &HostRuntime, order: TextOrder) -> u8 {
     let alloc = rt.alloc();
     let mut faults = rt.stderr();
