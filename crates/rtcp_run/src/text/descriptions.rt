@@ -11,7 +11,10 @@ use rtcp_wire::{Chunk, SdesItem, SourceDescription};
 use std::alloc::AllocError;
 
 /// Appends the text of a source description.
-pub(super) fn push_description(out: &mut Vec<u8>, description: &SourceDescription) -> Result<(), AllocError>
+pub(super) fn push_description(
+    out: &mut Vec<u8>,
+    description: &SourceDescription,
+) -> Result<(), AllocError>
     ensures { OnOk result (out.new.items ≡ out.old.items
         ++ packet_text (sdes (map chunk_of description.now.chunks.items))) }
 {

@@ -29,7 +29,9 @@ pub(super) fn push_octets(out: &mut Vec<u8>, octets: &[u8]) -> Result<(), AllocE
     ensures { OnOk result (out.new.items ≡ out.old.items ++ encode_lower octets.now) }
 {
     let start = out.len();
-    let end = start.saturating_add(octets.len()).saturating_add(octets.len());
+    let end = start
+        .saturating_add(octets.len())
+        .saturating_add(octets.len());
     out.resize(end, 0)?;
     hex::encode_to_slice(octets, &mut out[start..]).unwrap();
     Ok(())

@@ -6,7 +6,11 @@ ghost use Rattle.std.specs.List.{join_with_byte};
 use std::alloc::AllocError;
 
 /// Appends the texts of values, with the separator between each two of them.
-pub(super) fn push_joined<T: Shown>(out: &mut Vec<u8>, separator: u8, values: &[T]) -> Result<(), AllocError>
+pub(super) fn push_joined<T: Shown>(
+    out: &mut Vec<u8>,
+    separator: u8,
+    values: &[T],
+) -> Result<(), AllocError>
     ensures { OnOk result
         (out.new.items ≡ out.old.items ++ join_with_byte separator (map T.text values.now)) }
 {

@@ -39,7 +39,10 @@ fn push_sender(out: &mut Vec<u8>, report: &SenderReport) -> Result<(), AllocErro
 }
 
 /// Appends the text of a receiver report.
-pub(super) fn push_receiver_report(out: &mut Vec<u8>, report: &ReceiverReport) -> Result<(), AllocError>
+pub(super) fn push_receiver_report(
+    out: &mut Vec<u8>,
+    report: &ReceiverReport,
+) -> Result<(), AllocError>
     ensures { OnOk result (out.new.items ≡ out.old.items ++ packet_text
         (rr report.now.ssrc (map block_value report.now.blocks.items) report.now.extension.items)) }
 {
