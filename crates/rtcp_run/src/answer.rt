@@ -10,8 +10,8 @@ use crate::text::{push_accepted, push_fault};
 use rtcp_wire::ReadError;
 use std::alloc::{AllocError, Global};
 
-/// Makes `text` the answer to a line, which has at most 131,200 octets and is no later than line 65,536. The octets
-/// that the line spells go into `datagram`.
+/// Makes `text` the answer to a line, which has at most 131,200 octets and is no later than line 65,536. The
+/// octets that the line spells go into `datagram`.
 ///
 /// # Errors
 ///

@@ -48,7 +48,8 @@ impl<R: Read> Read for Counted<R> {
 
     fn read(&mut self, buf: &mut [u8]) -> io::Result<usize>
         ensures bound { ReadsAtMost result buf.new }
-        ensures bytes { ReadConsumes (R.remaining (inner_of self.old)) (R.remaining (inner_of self.new)) result buf.new }
+        ensures bytes { ReadConsumes (R.remaining (inner_of self.old)) (R.remaining (inner_of self.new))
+            result buf.new }
         // A call failed where it returned an error.
         ensures counted { failures_of self.new ≡ count_after (is_err result) (failures_of self.old) }
     {
@@ -67,9 +68,11 @@ impl<W: Write> Write for Counted<W> {
 
     fn write(&mut self, buf: &[u8]) -> io::Result<usize>
         ensures bound { WritesAtMost result buf.now }
-        ensures bytes { WriteAppends (W.contents (inner_of self.old)) (W.contents (inner_of self.new)) result buf.now }
+        ensures bytes { WriteAppends (W.contents (inner_of self.old)) (W.contents (inner_of self.new))
+            result buf.now }
         // A call failed where it returned an error, or took nothing of a buffer that is not empty.
-        ensures counted { failures_of self.new ≡ count_after (took_nothing result buf.now) (failures_of self.old) }
+        ensures counted { failures_of self.new
+            ≡ count_after (took_nothing result buf.now) (failures_of self.old) }
     {
         let result = self.inner.write(buf);
         let failed = match &result {

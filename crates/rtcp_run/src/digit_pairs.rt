@@ -55,8 +55,8 @@ fn decode_pairs(line: &[u8], octets: &mut [u8]) -> Result<(), DecodeFault>
     Ok(())
 }
 
-/// The value of each octet as a hex digit of either case, and 255 where it is not a digit. A line has 16 octets: the fourth
-/// begins with `0`, the fifth and the seventh hold the letters.
+/// The value of each octet as a hex digit of either case, and 255 where it is not a digit. A line has 16
+/// octets: the fourth begins with `0`, the fifth and the seventh hold the letters.
 static DIGIT_VALUES: [u8; 256] = *b"\
     \xff\xff\xff\xff\xff\xff\xff\xff\xff\xff\xff\xff\xff\xff\xff\xff\
     \xff\xff\xff\xff\xff\xff\xff\xff\xff\xff\xff\xff\xff\xff\xff\xff\

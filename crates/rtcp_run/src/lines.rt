@@ -44,8 +44,8 @@ impl LineChecker {
         }
     }
 
-    /// Takes the next octets of the input, and answers each line that ends in them. What follows the last line feed is
-    /// kept.
+    /// Takes the next octets of the input, and answers each line that ends in them. What follows the last
+    /// line feed is kept.
     ///
     /// # Errors
     ///

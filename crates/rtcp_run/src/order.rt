@@ -59,8 +59,8 @@ pub fn order<'a>(alloc: Global, words: &'a [&'a str]) -> Result<Order, OrderFaul
     }
 }
 
-/// The fault of arguments that could not be read, by the kind of the error: they are non-UTF-8 arguments, unless
-/// memory was refused.
+/// The fault of arguments that could not be read, by the kind of the error: they are non-UTF-8 arguments,
+/// unless memory was refused.
 pub(crate) fn unreadable(alloc: Global, kind: ErrorKind) -> OrderFault {
     match kind {
         ErrorKind::OutOfMemory => OrderFault::Memory,

@@ -2,8 +2,8 @@
 //!
 //! # Errors
 //!
-//! Each function here and in the modules below returns `AllocError` where memory is refused. It is then left open how
-//! much of the text was appended.
+//! Each function here and in the modules below returns `AllocError` where memory is refused. It is then left
+//! open how much of the text was appended.
 
 ghost use Rattle.std.specs.Prelude.{◌≡◌, ◌++◌, map, OnOk};
 ghost use Rattle.rtcp_wire.specs.Views.{packet_of, packets_of};

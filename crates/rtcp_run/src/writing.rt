@@ -12,12 +12,13 @@ use std::io::Write;
 ///
 /// # Errors
 ///
-/// [`TextFault::Write`] at the first call of the writer that fails or takes nothing: a prefix of the text is then
-/// written.
+/// [`TextFault::Write`] at the first call of the writer that fails or takes nothing: a prefix of the text is
+/// then written.
 pub(crate) fn hand_over<W: Write>(writer: &mut Counted<W>, text: &[u8]) -> Result<(), TextFault>
     requires { failures_of writer.old ≡ 0 }
     ensures only { IsOkUnless result TextFault.Write }
-    ensures written { (prefix : List ℕ) × (more : List ℕ) × (text.now ≡ prefix ++ more) × OnOk result (more ≡ [])
+    ensures written { (prefix : List ℕ) × (more : List ℕ) × (text.now ≡ prefix ++ more)
+        × OnOk result (more ≡ [])
         × Appends (W.contents (inner_of writer.old)) (W.contents (inner_of writer.new)) prefix }
     ensures failed { (result ≡ Err TextFault.Write) ↔ (failures_of writer.new ≢ 0) }
     ensures once { failures_of writer.new ≤ 1 }
