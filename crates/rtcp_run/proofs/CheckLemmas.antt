@@ -24,7 +24,7 @@ written_of None b text before appended e = absurd (cc e)
 written_of (Some x) None text before appended e = absurd appended
 written_of (Some x) (Some y) text before appended e = cc (appended, e)
 
--- A read that answered an error gave nothing.
+-- A read that returned an error gave nothing.
 pub Consumes-failed : (a b c : Option (List ℕ)) (taken : List ℕ) → Consumes a b taken → Keeps b c → Consumes a c taken
 Consumes-failed None b c taken p q = tt
 Consumes-failed (Some x) None c taken p q = absurd p
@@ -91,7 +91,7 @@ Writes-at_end r start now left held holds last taken pending text gone text' ans
 
 -- ---- A fault before the reader's end
 
--- Where lines stand at the head of a part of a line and a block, what is after the first line feed is shorter than the block.
+-- What comes after the first line feed of a part of a line and a block is no longer than the block.
 after_feed : (pending block line more : List ℕ) → HasNoLineFeed pending → pending ++ block ≡ line ++ 10 ∷ more → length more ≤ length block
 after_feed [] block line more each e =
     let long = length-append line (10 ∷ more) in
@@ -100,7 +100,7 @@ after_feed [] block line more each e =
 after_feed (octet ∷ pending) block [] more each e = absurd (All-head (λ octet. octet ≢ 10) octet pending each (cc e))
 after_feed (octet ∷ pending) block (first ∷ line) more each e = after_feed pending block line more (All-tail (λ octet. octet ≢ 10) octet pending each) (cc e)
 
--- What is left of a part of a line and a block, after whole lines, is a part of a line and no more than the block.
+-- What is left of a part of a line and a block after whole lines is a part of a line, and then no more than the block.
 left_of_block : (pending block : List ℕ) (lines : List (List ℕ)) (rest : List ℕ) → HasNoLineFeed pending → BeginsWithLines (pending ++ block) lines rest
     → (part : List ℕ) × (after : List ℕ) × (rest ≡ part ++ after) × HasNoLineFeed part × (length after ≤ length block)
 left_of_block pending block [] rest each begins = (pending, block, sym begins.parts, each, omega arith)

@@ -1,9 +1,10 @@
 pub mod CheckLemmas
 pub mod CountedLemmas
 pub mod DigitTable
-pub mod PrefixLemmas
 pub mod Joined
 pub mod LawLemmas
 pub mod LinesLemmas
 pub mod OneText
+pub mod PrefixLemmas
 pub mod ProgressLemmas
+pub mod StatusLemmas

@@ -18,7 +18,7 @@ use Rattle.rtcp_run.specs.Progress.{IsPrefixOfAnswers, CheckLeaves}
 use Rattle.rtcp_run.proofs.LinesLemmas.{lines_of-begins, IsCheckText-append}
 use Rattle.rtcp_run.proofs.ProgressLemmas.{ne-append}
 
--- Where lines are answered up to a block, they stand before some line.
+-- Lines that are answered up to a block are lines before some line.
 pub AnswersLinesBefore-block : (left : Option (List ℕ)) (input text : List ℕ) → AnswersUpToBlock left input text → AnswersLinesBefore input text
 AnswersLinesBefore-block left input text (lines, part, block, rest, is_left, each, short, some, begins, texts) =
     (lines, (part ++ block) ++ rest, ne-append (part ++ block) rest some, begins, texts)

@@ -29,7 +29,7 @@ BeginsWithLines-append octets more lines others rest last first second = record 
   each = All-append HasNoLineFeed lines others first.each second.each;
 }
 
--- What stands after goes into the rest.
+-- What comes after becomes part of the rest.
 pub BeginsWithLines-longer : (octets more : List ℕ) (lines : List (List ℕ)) (rest : List ℕ)
     → BeginsWithLines octets lines rest → BeginsWithLines (octets ++ more) lines (rest ++ more)
 BeginsWithLines-longer octets more lines rest begins = record {
@@ -93,7 +93,7 @@ module _ (n answered : ℕ) (octets rest text more : List ℕ) (first : Answers 
   }
   PartLeaves-after (Err Read) answered' rest' text' second = absurd second
 
--- A fault stays, whatever stands after the octets.
+-- A fault stays, whatever comes after the octets.
 pub PartLeaves-longer : (fault : TextFault) (n answered answered' : ℕ) (octets more rest rest' text : List ℕ)
     → PartLeaves {A = Unit {0}} (Err fault) n octets answered rest text → PartLeaves {A = Unit {0}} (Err fault) n (octets ++ more) answered' rest' text
 PartLeaves-longer (Text number fault) n answered answered' octets more rest rest' text first = λ after.
@@ -151,7 +151,7 @@ some_after : (prefix rest : List ℕ) → rest ≢ [] → prefix ++ rest ≢ []
 some_after [] rest some = some
 some_after (octet ∷ prefix) rest some = λ e. cc
 
--- A line too many stands after n lines.
+-- A line too many comes after n lines.
 too_many : (n number : ℕ) (octets : List ℕ) → octets ≢ [] → number ≡ n + 1 → 65536 ≤ n → IsCheckText (n + 1) (lines_of octets) [] (Some (number, TooManyLines))
 too_many n number octets some e h =
     let first = first_of_some octets some in
@@ -160,7 +160,7 @@ too_many n number octets some e h =
     subst (λ lines. IsCheckText (n + 1) lines [] (Some (number, TooManyLines))) (sym (ap lines_of first.2 ∙ found.2))
     (inl (TooManyLines, late, refl, ap (λ m. Some (m, TooManyLines)) e))
 
--- A line that is too long stands after n lines.
+-- A line that is too long comes after n lines.
 too_long : (n number : ℕ) (part more : List ℕ) → HasNoLineFeed part → 131200 < length part → number ≡ n + 1 → n < 65536
     → IsCheckText (n + 1) (lines_of (part ++ more)) [] (Some (number, LineTooLong))
 too_long n number [] more each long e few = absurd (omega arith)
@@ -193,7 +193,7 @@ PartLeaves-lengthens Memory n answered' pending piece after longer rest' part ea
 PartLeaves-lengthens Write n answered' pending piece after longer rest' part each some h = absurd h
 PartLeaves-lengthens Read n answered' pending piece after longer rest' part each some h = absurd h
 
--- ---- a block, of which the prefix is answered and the rest is left
+-- ---- a block, of which a prefix is answered and the rest is left
 
 module _ (n answered : ℕ) (old prefix rest block pending text : List ℕ) (first : Answers n (old ++ prefix) answered pending text) (parts : block ≡ prefix ++ rest) where
   in_block : (old ++ prefix) ++ rest ≡ old ++ block

@@ -49,12 +49,12 @@ pub fn check<R: Read, W: Write>(
     ensures refused { (line : ℕ) (fault : Fault) → result ≡ Err (TextFault.Text line fault)
         → Wrote R.remaining W.contents reader.old writer.old writer.new (IsTextOf (Some (line, fault))) }
     ensures read { result ≡ Err TextFault.Read
-        → Wrote R.remaining W.contents reader.old writer.old writer.new 
+        → Wrote R.remaining W.contents reader.old writer.old writer.new
         (AnswersWhatCame (R.remaining (inner_of reader.new))) }
     ensures memory { result ≡ Err TextFault.Memory
         → Wrote R.remaining W.contents reader.old writer.old writer.new AnswersLinesBefore }
     ensures memory_block { result ≡ Err TextFault.Memory
-        → Wrote R.remaining W.contents reader.old writer.old writer.new 
+        → Wrote R.remaining W.contents reader.old writer.old writer.new
         (AnswersUpToBlock (R.remaining (inner_of reader.new))) }
 
     // A call failed exactly where the fault says so, and only one.
@@ -77,7 +77,7 @@ fn answer_blocks<R: Read, W: Write>(
 ) -> Result<(), TextFault>
     requires reader_unfailed { failures_of reader.old ≡ 0 }
     requires writer_unfailed { failures_of writer.old ≡ 0 }
-    ensures leaves { Wrote R.remaining W.contents reader.old writer.old writer.new 
+    ensures leaves { Wrote R.remaining W.contents reader.old writer.old writer.new
         (CheckLeaves result (R.remaining (inner_of reader.new))) }
     ensures read_failed { (result ≡ Err TextFault.Read) ↔ (failures_of reader.new ≢ 0) }
     ensures write_failed { (result ≡ Err TextFault.Write) ↔ (failures_of writer.new ≢ 0) }

@@ -1,7 +1,7 @@
 //! A run over text, from its order to its status.
 
 ghost use Rattle.std.specs.Prelude.{◌≡◌, ◌≢◌, ◌⊎◌, ◌↔◌, ℕ, Some, None, OnOk};
-ghost use Rattle.rtcp_run.specs.Check.{Wrote, IsTextOf};
+ghost use Rattle.rtcp_run.specs.Check.{Writes, Wrote, IsTextOf};
 ghost use Rattle.rtcp_run.specs.Counted.{failures_of, inner_of};
 ghost use Rattle.rtcp_run.specs.declared.fault.LineFault.{LineFault as Fault};
 ghost use Rattle.rtcp_run.specs.Status.{text_status};
@@ -25,7 +25,12 @@ pub fn command<R: Read + Drop, W: Write + Drop, F: Write>(
     writer: W,
     faults: &mut F,
 ) -> u8
-    ensures { (result ≡ 0) ⊎ (result ≡ 1) ⊎ (result ≡ 2) }
+    ensures status { (result ≡ 0) ⊎ (result ≡ 1) ⊎ (result ≡ 2) }
+    // The writer is left with the text that the status speaks of.
+    ensures whole { result ≡ 0 → (writer_after : W)
+        × Writes (R.remaining reader) (W.contents writer) (W.contents writer_after) (IsTextOf None) }
+    ensures refused { result ≡ 2 → (writer_after : W) × (line : ℕ) × (fault : Fault)
+        × Writes (R.remaining reader) (W.contents writer) (W.contents writer_after) (IsTextOf (Some (line, fault))) }
 {
     let mut reader = Counted::new(reader);
     let mut writer = Counted::new(writer);

@@ -38,6 +38,10 @@ pub(crate) fn decode(line: &[u8], octets: &mut Vec<u8>) -> Result<(), DecodeFaul
 
 /// Makes `octets` what the line spells. Each digit is looked up: whether it is a number or a letter cannot be
 /// predicted, and a branch on that takes more than half of a long line's time.
+///
+/// # Errors
+///
+/// [`DecodeFault::NotHex`] where a digit is wrong.
 fn decode_pairs(line: &[u8], octets: &mut [u8]) -> Result<(), DecodeFault>
     requires { length line.now ≡ 2 * length octets.old }
     ensures { MatchResult (decode_of line.now)

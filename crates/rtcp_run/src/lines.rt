@@ -49,7 +49,7 @@ impl LineChecker {
     ///
     /// # Errors
     ///
-    /// Those of [`check`](crate::check::check), but for `Read`. The checker is not to be used again.
+    /// Those of [`check`](crate::check::check) but for `Read`. The checker is not to be used after one.
     pub(crate) fn take<W: Write>(
         &mut self,
         block: &[u8],
@@ -81,7 +81,7 @@ impl LineChecker {
     ///
     /// # Errors
     ///
-    /// Those of [`check`](crate::check::check), but for `Read`. The checker is not to be used again.
+    /// Those of [`check`](crate::check::check) but for `Read`. The checker is not to be used after one.
     pub(crate) fn finish<W: Write>(&mut self, writer: &mut Counted<W>) -> Result<(), TextFault>
         requires between { IsBetween self.old.answered self.old.pending.items }
         requires unfailed { failures_of writer.old ≡ 0 }
@@ -97,6 +97,11 @@ impl LineChecker {
     }
 
     /// Appends a piece to the pending part of a line, where some of the input is in that line or after it.
+    ///
+    /// # Errors
+    ///
+    /// - [`TextFault::Text`] where that is a line too many, or too long.
+    /// - [`TextFault::Memory`] where memory is refused.
     fn append(&mut self, piece: &[u8]) -> Result<(), TextFault>
         requires { IsBetween self.old.answered self.old.pending.items }
         ensures longer { Lengthens result self.old.answered self.old.pending.items piece.now
@@ -127,6 +132,13 @@ impl LineChecker {
     }
 
     /// Answers the pending line.
+    ///
+    /// # Errors
+    ///
+    /// - [`TextFault::Text`] where the line is not hex, and [`TextFault::Memory`] where memory is refused:
+    ///   nothing is written.
+    /// - [`TextFault::Write`] where a call of the writer fails or takes nothing: a prefix of the answer is
+    ///   written.
     fn answer<W: Write>(&mut self, writer: &mut Counted<W>) -> Result<(), TextFault>
         requires few { self.old.answered < 65536 }
         requires short { vec_len self.old.pending ≤ 131200 }

@@ -32,6 +32,10 @@ fn main(rt: HostRuntime) -> ExitCode {
 }
 
 /// What the command line of the process asks for.
+///
+/// # Errors
+///
+/// Those of [`order::order`], and those of [`order::unreadable`] where the arguments cannot be read.
 fn asked(rt: &HostRuntime) -> Result<Order, OrderFault> {
     let alloc = rt.alloc();
     let arguments = match env::args(rt) {

@@ -21,8 +21,8 @@ that tshark prints of a capture.
 
     tshark -r call.pcap -Y rtcp -T fields -e udp.payload | rtcp check
 
-One line comes out for each line that goes in. It begins with ok, and the packets follow, or it
-is the first fault and the octet where the packet with it begins.
+One line comes out for each line that goes in: ok and the packets, or the first fault and the
+offset of the packet that has it.
 
     ok RR(11223344,[],0) SDES([11223344{1=616263}])
     F2 Version at 8
