@@ -30,7 +30,8 @@ pub fn command<R: Read + Drop, W: Write + Drop, F: Write>(
     ensures whole { result ≡ 0 → (writer_after : W)
         × Writes (R.remaining reader) (W.contents writer) (W.contents writer_after) (IsTextOf None) }
     ensures refused { result ≡ 2 → (writer_after : W) × (line : ℕ) × (fault : Fault)
-        × Writes (R.remaining reader) (W.contents writer) (W.contents writer_after) (IsTextOf (Some (line, fault))) }
+        × Writes (R.remaining reader) (W.contents writer) (W.contents writer_after)
+        (IsTextOf (Some (line, fault))) }
 {
     let mut reader = Counted::new(reader);
     let mut writer = Counted::new(writer);
