@@ -1,10 +1,10 @@
-pub mod CheckLemmas
-pub mod CountedLemmas
-pub mod DigitTable
-pub mod Joined
+mod CheckLemmas
+mod CountedLemmas
+mod DigitTable
+mod Joined
 pub mod LawLemmas
-pub mod LinesLemmas
-pub mod OneText
-pub mod PrefixLemmas
-pub mod ProgressLemmas
-pub mod StatusLemmas
+mod LinesLemmas
+mod OneText
+mod PrefixLemmas
+mod ProgressLemmas
+mod StatusLemmas
