@@ -1,4 +1,8 @@
-//! The program `rtcp`.
+//! The program `rtcp`: it shows RTCP datagrams that are given in hex, or says what is wrong with them and
+//! where.
+//!
+//! Only this file touches the process: its command line and its standard streams. All else works over any
+//! reader and writer.
 #![tactic(auto)]
 
 mod answer;
@@ -18,10 +22,9 @@ mod writing;
 
 use order::refuse;
 use orders::{Order, OrderFault, TextOrder};
-use std::alloc::{AllocError, Global};
+use std::env;
 use std::io::BufWriter;
 use std::process::ExitCode;
-use std::{env, io};
 
 fn main(rt: HostRuntime) -> ExitCode {
     let status = match asked(&rt) {
