@@ -1,5 +1,6 @@
 #!/usr/bin/env python3
-"""Prints the processor time a line, the least of three runs, and the peak memory of `PROGRAM check` over a file of lines."""
+"""Prints the processor time a line, the least of three runs, and the peak memory of `PROGRAM check` over a file of
+lines."""
 import os
 import resource
 import subprocess
@@ -18,7 +19,7 @@ def processor_seconds(program, path):
 
 
 def peak_megabytes(program, path):
-    """The most memory that was resident, asked of the system once all lines are read and before the input ends."""
+    """The most memory that was resident, read from the system after all lines were sent and before the input ends."""
     with open(path, "rb") as lines, open(os.devnull, "w") as nothing:
         running = subprocess.Popen([program, "check"], stdin=subprocess.PIPE, stdout=nothing)
         while piece := lines.read(1 << 20):

@@ -1,4 +1,4 @@
-"""A plain decoder of the lines of `rtcp check`, written from docs/PROTOCOL.md and docs/FORMATS.md alone, to compare with."""
+"""A plain decoder to compare `rtcp check` with, written from docs/PROTOCOL.md and docs/FORMATS.md alone."""
 
 
 class Fault(Exception):
@@ -71,7 +71,7 @@ def description_text(body, count):
 
 
 def packet_text(octets, is_first):
-    """The text of the packet at the front, and its size."""
+    """The text of the first packet, and its size."""
     if len(octets) < 4:
         raise Fault("F1 Short")
     version, padded, count, kind = octets[0] >> 6, octets[0] & 0x20, octets[0] & 0x1f, octets[1]

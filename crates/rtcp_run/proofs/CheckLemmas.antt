@@ -1,13 +1,15 @@
 -- Lemmas on what a whole check leaves.
-use Rattle.std.proofs.Common.{◌≡◌, ℕ, ◌+◌, List, [], ◌++◌, Option, Some, None, Result, Ok, Err, refl, sym, ◌∙◌, ap, subst, append_assoc, append-nil, arith}
+use Rattle.std.proofs.Common.{◌≡◌, ◌≢◌, ℕ, ◌+◌, ◌≤◌, List, [], ◌∷◌, ◌++◌, length, length-append, Option, Some, None, Result, Ok, Err, refl, sym, ◌∙◌, ap, subst, append_assoc, append-nil, arith}
+use Rattle.std.specs.List.{flat_map}
+use Rattle.std.proofs.lemmas.List.Elements.{All-nil, All-head, All-tail}
 use Rattle.std.specs.Io.KnownBytes.{Keeps, Appends, Consumes, IsAtEnd}
 use Rattle.rtcp_run.specs.declared.fault.LineFault.{LineFault}
 use Rattle.rtcp_run.specs.declared.fault.TextFault.{TextFault}
 use Rattle.rtcp_run.specs.declared.fault.TextFault.TheVariants.{Text, Read, Write, Memory}
-use Rattle.rtcp_run.specs.Check.{lines_of, IsCheckText, Writes}
+use Rattle.rtcp_run.specs.Check.{lines_of, HasNoLineFeed, BeginsWithLines, IsCheckText, Writes}
 use Rattle.rtcp_run.specs.Progress.{Answers, PartLeaves, EndLeaves, CheckLeaves}
 use Rattle.rtcp_run.proofs.LinesLemmas.{lines_of-begins, IsCheckText-append}
-use Rattle.rtcp_run.proofs.ProgressLemmas.{ne-append, BeginsWithLines-longer, PartLeaves-after}
+use Rattle.rtcp_run.proofs.ProgressLemmas.{BeginsWithLines-append, BeginsWithLines-longer, PartLeaves-after}
 use Rattle.std.proofs.KnownBytes.{Consumes-trans, Appends-trans}
 
 -- The input is what was taken, and what the reader has left.
@@ -22,7 +24,7 @@ written_of None b text before appended e = absurd (cc e)
 written_of (Some x) None text before appended e = absurd appended
 written_of (Some x) (Some y) text before appended e = cc (appended, e)
 
--- A read that answered an error gave nothing.
+-- A read that returned an error gave nothing.
 pub Consumes-failed : (a b c : Option (List ℕ)) (taken : List ℕ) → Consumes a b taken → Keeps b c → Consumes a c taken
 Consumes-failed None b c taken p q = tt
 Consumes-failed (Some x) None c taken p q = absurd p
@@ -36,10 +38,10 @@ nothing_left (Some x) rest e end = cc (e, end)
 
 -- ---- The reader's end
 
--- The last line's outcome, behind the answers to the lines before it.
-ends : {A : Type 0} (r : Result A TextFault) (left : Option (List ℕ)) (taken pending text text' : List ℕ) (answered : ℕ) → Answers 0 taken answered pending text
-    → EndLeaves r answered pending text' → CheckLeaves r left taken (text ++ text')
-ends r left taken pending text text' answered first last =
+-- The last line's outcome, after the answers to the lines before it.
+ends : {A : Type 0} (r : Result A TextFault) (left : Option (List ℕ)) (taken pending text text' : List ℕ) (answered : ℕ) → left ≡ Some [] → HasNoLineFeed pending
+    → Answers 0 taken answered pending text → EndLeaves r answered pending text' → CheckLeaves r left taken (text ++ text')
+ends r left taken pending text text' answered nothing each first last =
     let all = lines_of-begins taken first.lines pending first.begins in
     let joined : (end : Option (ℕ × LineFault)) (more : List ℕ) → IsCheckText (answered + 1) (lines_of pending) more end → IsCheckText 1 (lines_of taken) (text ++ more) end =
     λ end more h. subst (λ lines. IsCheckText 1 lines (text ++ more) end) (sym all)
@@ -54,8 +56,13 @@ ends r left taken pending text text' answered first last =
     by_cases (Err Memory) joined last = (
       first.lines,
       pending,
-      last.0,
-      first.begins,
+      [],
+      [],
+      nothing,
+      each,
+      omega arith,
+      subst (λ l. l ≢ []) (sym (append-nil pending)) last.0,
+      subst (λ l. BeginsWithLines taken first.lines l) (sym (append-nil (pending ++ []) ∙ append-nil pending)) first.begins,
       subst (λ t. IsCheckText 1 first.lines t None) (sym (ap (λ t. text ++ t) last.1 ∙ append-nil text)) first.texts,
     )
     by_cases (Err Write) joined last = (
@@ -70,8 +77,8 @@ ends r left taken pending text text' answered first last =
 -- The reader is at its end, and the last line is answered.
 pub Writes-at_end : {A : Type 0} (r : Result A TextFault) (start now left held holds last : Option (List ℕ)) (taken pending text gone text' : List ℕ) (answered : ℕ)
     → Consumes start now taken → Appends held holds text → Answers 0 taken answered pending text → Consumes now left gone → gone ≡ [] → IsAtEnd left
-    → Appends holds last text' → EndLeaves r answered pending text' → Writes start held last (CheckLeaves r left)
-Writes-at_end r start now left held holds last taken pending text gone text' answered consumed appended first none is_none end appended' leaves =
+    → HasNoLineFeed pending → Appends holds last text' → EndLeaves r answered pending text' → Writes start held last (CheckLeaves r left)
+Writes-at_end r start now left held holds last taken pending text gone text' answered consumed appended first none is_none end each appended' leaves =
     λ input before known written.
     let found = taken_of start left (taken ++ gone) input (Consumes-trans _ _ _ taken gone consumed none) known in
     let whole : taken ≡ input =
@@ -79,35 +86,78 @@ Writes-at_end r start now left held holds last taken pending text gone text' ans
     ∙ append-nil (taken ++ []) ∙ append-nil taken) in (
       text ++ text',
       written_of held last (text ++ text') before (Appends-trans _ _ _ text text' appended appended') written,
-      subst (λ i. CheckLeaves r left i (text ++ text')) whole (ends r left taken pending text text' answered first leaves),
+      subst (λ i. CheckLeaves r left i (text ++ text')) whole (ends r left taken pending text text' answered (found.1 ∙ ap Some (nothing_left left found.0 found.1 end)) each first leaves),
     )
 
 -- ---- A fault before the reader's end
 
-fails : (fault : TextFault) (left : Option (List ℕ)) (octets behind text rest : List ℕ) (answered : ℕ)
-    → PartLeaves {A = Unit {0}} (Err fault) 0 octets answered rest text → CheckLeaves {A = Unit {0}} (Err fault) left (octets ++ behind) text
-fails (Text number fault) left octets behind text rest answered leaves = leaves behind
-fails Memory left octets behind text rest answered leaves =
-    (leaves.lines, leaves.rest ++ behind, ne-append leaves.rest behind leaves.some, BeginsWithLines-longer octets behind leaves.lines leaves.rest leaves.begins, leaves.texts)
-fails Write left octets behind text rest answered leaves = (
-  leaves.lines,
-  lines_of (leaves.rest ++ behind),
-  leaves.more,
-  lines_of-begins (octets ++ behind) leaves.lines (leaves.rest ++ behind) (BeginsWithLines-longer octets behind leaves.lines leaves.rest leaves.begins),
-  leaves.texts,
-)
-fails Read left octets behind text rest answered leaves = absurd leaves
+-- What comes after the first line feed of a part of a line and a block is no longer than the block.
+after_feed : (pending block line more : List ℕ) → HasNoLineFeed pending → pending ++ block ≡ line ++ 10 ∷ more → length more ≤ length block
+after_feed [] block line more each e =
+    let long = length-append line (10 ∷ more) in
+    let same : length block ≡ length (line ++ 10 ∷ more) = ap length e in
+    omega arith
+after_feed (octet ∷ pending) block [] more each e = absurd (All-head (λ octet. octet ≢ 10) octet pending each (cc e))
+after_feed (octet ∷ pending) block (first ∷ line) more each e = after_feed pending block line more (All-tail (λ octet. octet ≢ 10) octet pending each) (cc e)
+
+-- What is left of a part of a line and a block after whole lines is a part of a line, and then no more than the block.
+left_of_block : (pending block : List ℕ) (lines : List (List ℕ)) (rest : List ℕ) → HasNoLineFeed pending → BeginsWithLines (pending ++ block) lines rest
+    → (part : List ℕ) × (after : List ℕ) × (rest ≡ part ++ after) × HasNoLineFeed part × (length after ≤ length block)
+left_of_block pending block [] rest each begins = (pending, block, sym begins.parts, each, omega arith)
+left_of_block pending block (line ∷ lines) rest each begins =
+    let others = flat_map (λ line. line ++ 10 ∷ []) lines in
+    let parts : pending ++ block ≡ line ++ 10 ∷ (others ++ rest) =
+    begins.parts ∙ append_assoc (line ++ 10 ∷ []) others rest ∙ append_assoc line (10 ∷ []) (others ++ rest) in
+    let within = after_feed pending block line (others ++ rest) each parts in
+    let long = length-append others rest in
+    ([], rest, refl, All-nil (λ octet. octet ≢ 10), omega arith)
+
+module _ (left : Option (List ℕ)) (taken pending block after text text' rest : List ℕ) (answered answered' : ℕ) where
+  fails : (fault : TextFault) → left ≡ Some after → HasNoLineFeed pending → length block ≤ 8192 → Answers 0 taken answered pending text
+      → PartLeaves {A = Unit {0}} (Err fault) answered (pending ++ block) answered' rest text'
+      → CheckLeaves {A = Unit {0}} (Err fault) left ((taken ++ block) ++ after) (text ++ text')
+  fails (Text number fault) is_left each short first leaves =
+      PartLeaves-after 0 answered taken pending text block first {A = Unit {0}} (Err (Text number fault)) answered' rest text' leaves after
+  fails Memory is_left each short first leaves =
+      let lines = first.lines ++ leaves.lines in
+      let texts : IsCheckText 1 lines (text ++ text') None =
+      IsCheckText-append 1 first.lines leaves.lines text text' None first.texts
+      (subst (λ m. IsCheckText m leaves.lines text' None) (let number = first.number in omega arith) leaves.texts) in
+      let all = BeginsWithLines-append taken block first.lines leaves.lines pending leaves.rest first.begins leaves.begins in
+      let cut = left_of_block pending block leaves.lines leaves.rest each leaves.begins in
+      let begins : BeginsWithLines (taken ++ block) lines (cut.0 ++ cut.1) = subst (λ l. BeginsWithLines (taken ++ block) lines l) cut.2 all in (
+        lines,
+        cut.0,
+        cut.1,
+        after,
+        is_left,
+        cut.3,
+        omega (arith, cut.4),
+        subst (λ l. l ≢ []) cut.2 leaves.some,
+        BeginsWithLines-longer (taken ++ block) after lines (cut.0 ++ cut.1) begins,
+        texts,
+      )
+  fails Write is_left each short first leaves =
+      let all = PartLeaves-after 0 answered taken pending text block first {A = Unit {0}} (Err Write) answered' rest text' leaves in (
+        all.lines,
+        lines_of (all.rest ++ after),
+        all.more,
+        lines_of-begins ((taken ++ block) ++ after) all.lines (all.rest ++ after) (BeginsWithLines-longer (taken ++ block) after all.lines all.rest all.begins),
+        all.texts,
+      )
+  fails Read is_left each short first leaves = absurd leaves
 
 -- A fault in a block.
 pub Writes-at_fault : (fault : TextFault) (start now left held holds last : Option (List ℕ)) (taken pending text block text' rest : List ℕ) (answered answered' : ℕ)
     → Consumes start now taken → Appends held holds text → Answers 0 taken answered pending text → Consumes now left block
+    → HasNoLineFeed pending → length block ≤ 8192
     → Appends holds last text' → PartLeaves {A = Unit {0}} (Err fault) answered (pending ++ block) answered' rest text'
     → Writes start held last (CheckLeaves {A = Unit {0}} (Err fault) left)
-Writes-at_fault fault start now left held holds last taken pending text block text' rest answered answered' consumed appended first consumed' appended' leaves =
+Writes-at_fault fault start now left held holds last taken pending text block text' rest answered answered' consumed appended first consumed' each short appended' leaves =
     λ input before known written.
-    let found = taken_of start left (taken ++ block) input (Consumes-trans _ _ _ taken block consumed consumed') known in
-    let all = PartLeaves-after 0 answered taken pending text block first {A = Unit {0}} (Err fault) answered' rest text' leaves in (
+    let found = taken_of start left (taken ++ block) input (Consumes-trans _ _ _ taken block consumed consumed') known in (
       text ++ text',
       written_of held last (text ++ text') before (Appends-trans _ _ _ text text' appended appended') written,
-      subst (λ i. CheckLeaves {A = Unit {0}} (Err fault) left i (text ++ text')) (sym found.2) (fails fault left (taken ++ block) found.0 (text ++ text') rest answered' all),
+      subst (λ i. CheckLeaves {A = Unit {0}} (Err fault) left i (text ++ text')) (sym found.2)
+          (fails left taken pending block found.0 text text' rest answered answered' fault found.1 each short first leaves),
     )

@@ -1,8 +1,10 @@
-pub mod CheckLemmas
-pub mod CountedLemmas
-pub mod DigitTable
-pub mod FrontLemmas
-pub mod HexSteps
-pub mod Joined
-pub mod LinesLemmas
-pub mod ProgressLemmas
+mod CheckLemmas
+mod CountedLemmas
+mod DigitTable
+mod Joined
+pub mod LawLemmas
+mod LinesLemmas
+mod OneText
+mod PrefixLemmas
+mod ProgressLemmas
+mod StatusLemmas

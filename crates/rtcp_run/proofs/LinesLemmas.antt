@@ -49,9 +49,9 @@ pub lines_of-whole : (lines : List (List ℕ)) (rest : List ℕ) → All HasNoLi
     → lines_of (flat_map (λ line. line ++ 10 ∷ []) lines ++ rest) ≡ lines ++ lines_of rest
 lines_of-whole [] rest each = refl
 lines_of-whole (line ∷ lines) rest each =
-    let behind = flat_map (λ line. line ++ 10 ∷ []) lines in
-    ap lines_of (append_assoc (line ++ 10 ∷ []) behind rest ∙ append_assoc line (10 ∷ []) (behind ++ rest))
-    ∙ lines_of-line line (behind ++ rest) (All-head HasNoLineFeed line lines each)
+    let after = flat_map (λ line. line ++ 10 ∷ []) lines in
+    ap lines_of (append_assoc (line ++ 10 ∷ []) after rest ∙ append_assoc line (10 ∷ []) (after ++ rest))
+    ∙ lines_of-line line (after ++ rest) (All-head HasNoLineFeed line lines each)
     ∙ ap (λ others. line ∷ others) (lines_of-whole lines rest (All-tail HasNoLineFeed line lines each))
 
 pub lines_of-begins : (input : List ℕ) (lines : List (List ℕ)) (rest : List ℕ) → BeginsWithLines input lines rest → lines_of input ≡ lines ++ lines_of rest

@@ -11,7 +11,7 @@ use Rattle.rtcp_run.specs.declared.fault.LineFault.TheVariants.{LineTooLong, Too
 use Rattle.rtcp_run.specs.declared.fault.TextFault.{TextFault}
 use Rattle.rtcp_run.specs.declared.fault.TextFault.TheVariants.{Text, Read, Write, Memory}
 use Rattle.rtcp_run.specs.Check.{lines_of, HasNoLineFeed, BeginsWithLines, IsCheckText}
-use Rattle.rtcp_run.specs.Progress.{IsBetween, LineLeaves, Answers, PartLeaves, EndLeaves, Lengthens, IsBehindLine}
+use Rattle.rtcp_run.specs.Progress.{IsBetween, LineLeaves, Answers, PartLeaves, EndLeaves, Lengthens, IsAfterLine}
 use Rattle.rtcp_run.proofs.LinesLemmas.{lines_of-line, lines_of-part, lines_of-some, lines_of-last, lines_of-begins, IsCheckText-append}
 
 -- the lines with their line feeds
@@ -29,7 +29,7 @@ BeginsWithLines-append octets more lines others rest last first second = record 
   each = All-append HasNoLineFeed lines others first.each second.each;
 }
 
--- What stands behind goes into the rest.
+-- What comes after becomes part of the rest.
 pub BeginsWithLines-longer : (octets more : List ℕ) (lines : List (List ℕ)) (rest : List ℕ)
     → BeginsWithLines octets lines rest → BeginsWithLines (octets ++ more) lines (rest ++ more)
 BeginsWithLines-longer octets more lines rest begins = record {
@@ -51,7 +51,7 @@ Answers-none n rest = record {
   texts = (refl, refl);
 }
 
--- The next part's number is that of the line behind those that are answered.
+-- The next part's number is that of the line after those that are answered.
 next_number : (n answered count : ℕ) → answered ≡ n + count → answered + 1 ≡ (n + 1) + count
 next_number n answered count number = omega arith
 
@@ -71,11 +71,11 @@ module _ (n answered : ℕ) (octets rest text more : List ℕ) (first : Answers 
     number = let l = length-append first.lines second.lines in omega arith;
     texts = moved second.lines text' None second.texts;
   }
-  PartLeaves-after (Err (Text number fault)) answered' rest' text' second = λ behind.
+  PartLeaves-after (Err (Text number fault)) answered' rest' text' second = λ after.
       subst (λ lines. IsCheckText (n + 1) lines (text ++ text') (Some (number, fault)))
-      (sym (ap lines_of (append_assoc octets more behind) ∙ lines_of-begins _ first.lines _ (BeginsWithLines-longer octets (more ++ behind) first.lines rest first.begins)
-      ∙ ap (λ l. first.lines ++ lines_of l) (sym (append_assoc rest more behind))))
-      (moved (lines_of ((rest ++ more) ++ behind)) text' (Some (number, fault)) (second behind))
+      (sym (ap lines_of (append_assoc octets more after) ∙ lines_of-begins _ first.lines _ (BeginsWithLines-longer octets (more ++ after) first.lines rest first.begins)
+      ∙ ap (λ l. first.lines ++ lines_of l) (sym (append_assoc rest more after))))
+      (moved (lines_of ((rest ++ more) ++ after)) text' (Some (number, fault)) (second after))
   PartLeaves-after (Err Memory) answered' rest' text' second = record {
     lines = first.lines ++ second.lines;
     rest = second.rest;
@@ -93,11 +93,11 @@ module _ (n answered : ℕ) (octets rest text more : List ℕ) (first : Answers 
   }
   PartLeaves-after (Err Read) answered' rest' text' second = absurd second
 
--- A fault stays, whatever stands behind the octets.
+-- A fault stays, whatever comes after the octets.
 pub PartLeaves-longer : (fault : TextFault) (n answered answered' : ℕ) (octets more rest rest' text : List ℕ)
     → PartLeaves {A = Unit {0}} (Err fault) n octets answered rest text → PartLeaves {A = Unit {0}} (Err fault) n (octets ++ more) answered' rest' text
-PartLeaves-longer (Text number fault) n answered answered' octets more rest rest' text first = λ behind.
-    subst (λ l. IsCheckText (n + 1) (lines_of l) text (Some (number, fault))) (sym (append_assoc octets more behind)) (first (more ++ behind))
+PartLeaves-longer (Text number fault) n answered answered' octets more rest rest' text first = λ after.
+    subst (λ l. IsCheckText (n + 1) (lines_of l) text (Some (number, fault))) (sym (append_assoc octets more after)) (first (more ++ after))
 PartLeaves-longer Memory n answered answered' octets more rest rest' text first = record {
   lines = first.lines;
   rest = first.rest ++ more;
@@ -121,21 +121,21 @@ one_line line part = record {
   each = All-cons HasNoLineFeed line [] part (All-nil HasNoLineFeed);
 }
 
-feed_behind : (line : List ℕ) → line ++ 10 ∷ [] ≢ []
-feed_behind [] = λ e. cc
-feed_behind (octet ∷ line) = λ e. cc
+feed_after : (line : List ℕ) → line ++ 10 ∷ [] ≢ []
+feed_after [] = λ e. cc
+feed_after (octet ∷ line) = λ e. cc
 
 -- An answered line is a part.
 pub PartLeaves-line : {A : Type 0} (r : Result A TextFault) (n : ℕ) (line text : List ℕ) → HasNoLineFeed line → LineLeaves r (n + 1) line text
     → PartLeaves r n (line ++ 10 ∷ []) (n + 1) [] text
 PartLeaves-line (Ok x) n line text part leaves = record { lines = line ∷ []; begins = one_line line part; number = refl; texts = leaves }
-PartLeaves-line (Err (Text number fault)) n line text part leaves = λ behind.
+PartLeaves-line (Err (Text number fault)) n line text part leaves = λ after.
     subst (λ lines. IsCheckText (n + 1) lines text (Some (number, fault)))
-    (sym (ap lines_of (append_assoc line (10 ∷ []) behind) ∙ lines_of-line line behind part)) (leaves (lines_of behind))
+    (sym (ap lines_of (append_assoc line (10 ∷ []) after) ∙ lines_of-line line after part)) (leaves (lines_of after))
 PartLeaves-line (Err Memory) n line text part leaves = record {
   lines = [];
   rest = line ++ 10 ∷ [];
-  some = feed_behind line;
+  some = feed_after line;
   begins = record { parts = refl; each = All-nil HasNoLineFeed };
   texts = (leaves, refl);
 }
@@ -147,11 +147,11 @@ first_of_some : (octets : List ℕ) → octets ≢ [] → (octet : ℕ) × (rest
 first_of_some [] some = absurd (some refl)
 first_of_some (octet ∷ rest) some = (octet, rest, refl)
 
-some_behind : (front rest : List ℕ) → rest ≢ [] → front ++ rest ≢ []
-some_behind [] rest some = some
-some_behind (octet ∷ front) rest some = λ e. cc
+some_after : (prefix rest : List ℕ) → rest ≢ [] → prefix ++ rest ≢ []
+some_after [] rest some = some
+some_after (octet ∷ prefix) rest some = λ e. cc
 
--- A line too many stands behind n lines.
+-- A line too many comes after n lines.
 too_many : (n number : ℕ) (octets : List ℕ) → octets ≢ [] → number ≡ n + 1 → 65536 ≤ n → IsCheckText (n + 1) (lines_of octets) [] (Some (number, TooManyLines))
 too_many n number octets some e h =
     let first = first_of_some octets some in
@@ -160,7 +160,7 @@ too_many n number octets some e h =
     subst (λ lines. IsCheckText (n + 1) lines [] (Some (number, TooManyLines))) (sym (ap lines_of first.2 ∙ found.2))
     (inl (TooManyLines, late, refl, ap (λ m. Some (m, TooManyLines)) e))
 
--- A line that is too long stands behind n lines.
+-- A line that is too long comes after n lines.
 too_long : (n number : ℕ) (part more : List ℕ) → HasNoLineFeed part → 131200 < length part → number ≡ n + 1 → n < 65536
     → IsCheckText (n + 1) (lines_of (part ++ more)) [] (Some (number, LineTooLong))
 too_long n number [] more each long e few = absurd (omega arith)
@@ -173,40 +173,40 @@ too_long n number (octet ∷ part) more each long e few =
     (inl (LineTooLong, (early, longer), refl, ap (λ m. Some (m, LineTooLong)) e))
 
 -- The pending part could not be made longer.
-PartLeaves-lengthens : (fault : TextFault) (n answered' : ℕ) (pending piece behind longer rest' : List ℕ) → HasNoLineFeed pending → HasNoLineFeed piece
-    → piece ++ behind ≢ [] → Lengthens {A = Unit {0}} (Err fault) n pending piece longer
-    → PartLeaves {A = Unit {0}} (Err fault) n (pending ++ (piece ++ behind)) answered' rest' []
-PartLeaves-lengthens (Text number TooManyLines) n answered' pending piece behind longer rest' part each some h = λ more.
-    too_many n number _ (ne-append _ more (some_behind pending _ some)) h.0 h.1
-PartLeaves-lengthens (Text number LineTooLong) n answered' pending piece behind longer rest' part each some h = λ more.
+PartLeaves-lengthens : (fault : TextFault) (n answered' : ℕ) (pending piece after longer rest' : List ℕ) → HasNoLineFeed pending → HasNoLineFeed piece
+    → piece ++ after ≢ [] → Lengthens {A = Unit {0}} (Err fault) n pending piece longer
+    → PartLeaves {A = Unit {0}} (Err fault) n (pending ++ (piece ++ after)) answered' rest' []
+PartLeaves-lengthens (Text number TooManyLines) n answered' pending piece after longer rest' part each some h = λ more.
+    too_many n number _ (ne-append _ more (some_after pending _ some)) h.0 h.1
+PartLeaves-lengthens (Text number LineTooLong) n answered' pending piece after longer rest' part each some h = λ more.
     subst (λ l. IsCheckText (n + 1) (lines_of l) [] (Some (number, LineTooLong)))
-    (append_assoc pending piece (behind ++ more) ∙ ap (λ l. pending ++ l) (sym (append_assoc piece behind more)) ∙ sym (append_assoc pending (piece ++ behind) more))
-    (too_long n number (pending ++ piece) (behind ++ more) (All-append (λ octet. octet ≢ 10) pending piece part each) h.2 h.0 h.1)
-PartLeaves-lengthens (Text number Hex) n answered' pending piece behind longer rest' part each some h = absurd h
-PartLeaves-lengthens Memory n answered' pending piece behind longer rest' part each some h = record {
+    (append_assoc pending piece (after ++ more) ∙ ap (λ l. pending ++ l) (sym (append_assoc piece after more)) ∙ sym (append_assoc pending (piece ++ after) more))
+    (too_long n number (pending ++ piece) (after ++ more) (All-append (λ octet. octet ≢ 10) pending piece part each) h.2 h.0 h.1)
+PartLeaves-lengthens (Text number Hex) n answered' pending piece after longer rest' part each some h = absurd h
+PartLeaves-lengthens Memory n answered' pending piece after longer rest' part each some h = record {
   lines = [];
-  rest = pending ++ (piece ++ behind);
-  some = some_behind pending _ some;
+  rest = pending ++ (piece ++ after);
+  some = some_after pending _ some;
   begins = record { parts = refl; each = All-nil HasNoLineFeed };
   texts = (refl, refl);
 }
-PartLeaves-lengthens Write n answered' pending piece behind longer rest' part each some h = absurd h
-PartLeaves-lengthens Read n answered' pending piece behind longer rest' part each some h = absurd h
+PartLeaves-lengthens Write n answered' pending piece after longer rest' part each some h = absurd h
+PartLeaves-lengthens Read n answered' pending piece after longer rest' part each some h = absurd h
 
--- ---- a block, of which the front is answered and the rest is left
+-- ---- a block, of which a prefix is answered and the rest is left
 
-module _ (n answered : ℕ) (old front rest block pending text : List ℕ) (first : Answers n (old ++ front) answered pending text) (parts : block ≡ front ++ rest) where
-  in_block : (old ++ front) ++ rest ≡ old ++ block
-  in_block = append_assoc old front rest ∙ ap (λ l. old ++ l) (sym parts)
+module _ (n answered : ℕ) (old prefix rest block pending text : List ℕ) (first : Answers n (old ++ prefix) answered pending text) (parts : block ≡ prefix ++ rest) where
+  in_block : (old ++ prefix) ++ rest ≡ old ++ block
+  in_block = append_assoc old prefix rest ∙ ap (λ l. old ++ l) (sym parts)
 
   -- The next line could not be taken.
-  pub block_refused : (fault : TextFault) (answered' : ℕ) (piece behind longer rest' : List ℕ) → HasNoLineFeed pending → HasNoLineFeed piece
-      → rest ≡ piece ++ behind → rest ≢ [] → Lengthens {A = Unit {0}} (Err fault) answered pending piece longer
+  pub block_refused : (fault : TextFault) (answered' : ℕ) (piece after longer rest' : List ℕ) → HasNoLineFeed pending → HasNoLineFeed piece
+      → rest ≡ piece ++ after → rest ≢ [] → Lengthens {A = Unit {0}} (Err fault) answered pending piece longer
       → PartLeaves {A = Unit {0}} (Err fault) n (old ++ block) answered' rest' text
-  block_refused fault answered' piece behind longer rest' part each cut some h =
-      let here = PartLeaves-lengthens fault answered answered' pending piece behind longer rest' part each (λ e. some (cut ∙ e)) h in
+  block_refused fault answered' piece after longer rest' part each cut some h =
+      let here = PartLeaves-lengthens fault answered answered' pending piece after longer rest' part each (λ e. some (cut ∙ e)) h in
       let here' = subst (λ l. PartLeaves {A = Unit {0}} (Err fault) answered (pending ++ l) answered' rest' []) (sym cut) here in
-      let all = PartLeaves-after n answered (old ++ front) pending text rest first {A = Unit {0}} (Err fault) answered' rest' [] here' in
+      let all = PartLeaves-after n answered (old ++ prefix) pending text rest first {A = Unit {0}} (Err fault) answered' rest' [] here' in
       subst (λ t. PartLeaves {A = Unit {0}} (Err fault) n (old ++ block) answered' rest' t) (append-nil text)
       (subst (λ l. PartLeaves {A = Unit {0}} (Err fault) n l answered' rest' (text ++ [])) in_block all)
 
@@ -221,27 +221,27 @@ module _ (n answered : ℕ) (old front rest block pending text : List ℕ) (firs
       let same : (line ++ 10 ∷ []) ++ others ≡ pending ++ rest =
       append_assoc line (10 ∷ []) others ∙ append_assoc pending piece (10 ∷ others) ∙ ap (λ l. pending ++ l) (sym cut) in
       let here' = subst (λ l. PartLeaves {A = Unit {0}} (Err fault) answered l answered' rest' text') same longer in
-      let all = PartLeaves-after n answered (old ++ front) pending text rest first {A = Unit {0}} (Err fault) answered' rest' text' here' in
+      let all = PartLeaves-after n answered (old ++ prefix) pending text rest first {A = Unit {0}} (Err fault) answered' rest' text' here' in
       subst (λ l. PartLeaves {A = Unit {0}} (Err fault) n l answered' rest' (text ++ text')) in_block all
 
   -- The next line is answered.
   pub block_answered : (x : Unit {0}) (piece others text' : List ℕ) → HasNoLineFeed pending → HasNoLineFeed piece
       → rest ≡ piece ++ 10 ∷ others → LineLeaves {A = Unit {0}} (Ok x) (answered + 1) (pending ++ piece) text'
-      → (block ≡ (front ++ (piece ++ 10 ∷ [])) ++ others) × Answers n (old ++ (front ++ (piece ++ 10 ∷ []))) (answered + 1) [] (text ++ text')
+      → (block ≡ (prefix ++ (piece ++ 10 ∷ [])) ++ others) × Answers n (old ++ (prefix ++ (piece ++ 10 ∷ []))) (answered + 1) [] (text ++ text')
   block_answered x piece others text' part each cut leaves =
       let line = pending ++ piece in
       let here = PartLeaves-line {A = Unit {0}} (Ok x) answered line text' (All-append (λ octet. octet ≢ 10) pending piece part each) leaves in
       let here' = subst (λ l. Answers answered l (answered + 1) [] text') (append_assoc pending piece (10 ∷ [])) here in
-      let all = PartLeaves-after n answered (old ++ front) pending text (piece ++ 10 ∷ []) first {A = Unit {0}} (Ok x) (answered + 1) [] text' here' in (
-        parts ∙ ap (λ l. front ++ l) (cut ∙ sym (append_assoc piece (10 ∷ []) others)) ∙ sym (append_assoc front (piece ++ 10 ∷ []) others),
-        subst (λ l. Answers n l (answered + 1) [] (text ++ text')) (append_assoc old front (piece ++ 10 ∷ [])) all,
+      let all = PartLeaves-after n answered (old ++ prefix) pending text (piece ++ 10 ∷ []) first {A = Unit {0}} (Ok x) (answered + 1) [] text' here' in (
+        parts ∙ ap (λ l. prefix ++ l) (cut ∙ sym (append_assoc piece (10 ∷ []) others)) ∙ sym (append_assoc prefix (piece ++ 10 ∷ []) others),
+        subst (λ l. Answers n l (answered + 1) [] (text ++ text')) (append_assoc old prefix (piece ++ 10 ∷ [])) all,
       )
 
   -- What is left of the block is part of a line.
   pub block_kept : Answers n (old ++ block) answered (pending ++ rest) text
   block_kept = record {
     lines = first.lines;
-    begins = subst (λ l. BeginsWithLines l first.lines (pending ++ rest)) in_block (BeginsWithLines-longer (old ++ front) rest first.lines pending first.begins);
+    begins = subst (λ l. BeginsWithLines l first.lines (pending ++ rest)) in_block (BeginsWithLines-longer (old ++ prefix) rest first.lines pending first.begins);
     number = first.number;
     texts = first.texts;
   }
@@ -285,34 +285,34 @@ some_from_test b octets is_false test e =
     false≢true (sym is_false ∙ test ∙ ap (λ m. eqb m 0) zero_long)
 
 -- A line ends at its line feed.
-cut_at_feed : (rest piece behind others : List ℕ) (octet : ℕ) → rest ≡ piece ++ behind → behind ≡ octet ∷ others → IsBehindLine behind
+cut_at_feed : (rest piece after others : List ℕ) (octet : ℕ) → rest ≡ piece ++ after → after ≡ octet ∷ others → IsAfterLine after
     → rest ≡ piece ++ 10 ∷ others
-cut_at_feed rest piece behind others octet cut e feed =
-    let is_feed : octet ≡ 10 = subst IsBehindLine e feed in
+cut_at_feed rest piece after others octet cut e feed =
+    let is_feed : octet ≡ 10 = subst IsAfterLine e feed in
     cut ∙ ap (λ l. piece ++ l) (e ∙ ap (λ o. o ∷ others) is_feed)
 
-module _ (n answered : ℕ) (old front rest block pending text : List ℕ) (first : Answers n (old ++ front) answered pending text) (parts : block ≡ front ++ rest) where
+module _ (n answered : ℕ) (old prefix rest block pending text : List ℕ) (first : Answers n (old ++ prefix) answered pending text) (parts : block ≡ prefix ++ rest) where
   -- The line that was cut could not be answered.
-  pub turn_failed : (fault : TextFault) (octet answered' answered'' : ℕ) (piece behind others longer rest' text' : List ℕ) → HasNoLineFeed pending → HasNoLineFeed piece
-      → rest ≡ piece ++ behind → behind ≡ octet ∷ others → IsBehindLine behind → longer ≡ pending ++ piece → answered'' ≡ answered
+  pub turn_failed : (fault : TextFault) (octet answered' answered'' : ℕ) (piece after others longer rest' text' : List ℕ) → HasNoLineFeed pending → HasNoLineFeed piece
+      → rest ≡ piece ++ after → after ≡ octet ∷ others → IsAfterLine after → longer ≡ pending ++ piece → answered'' ≡ answered
       → LineLeaves {A = Unit {0}} (Err fault) (answered'' + 1) longer text'
       → PartLeaves {A = Unit {0}} (Err fault) n (old ++ block) answered' rest' (text ++ text')
-  turn_failed fault octet answered' answered'' piece behind others longer rest' text' part each cut e feed made same leaves =
-      block_failed n answered old front rest block pending text first parts fault answered' piece others rest' text' part each (cut_at_feed rest piece behind others octet cut e feed)
+  turn_failed fault octet answered' answered'' piece after others longer rest' text' part each cut e feed made same leaves =
+      block_failed n answered old prefix rest block pending text first parts fault answered' piece others rest' text' part each (cut_at_feed rest piece after others octet cut e feed)
       (subst (λ m. LineLeaves {A = Unit {0}} (Err fault) (m + 1) (pending ++ piece) text') same (subst (λ l. LineLeaves {A = Unit {0}} (Err fault) (answered'' + 1) l text') made leaves))
 
   -- The line that was cut is answered.
-  pub turn_answered : (x : Unit {0}) (octet answered' answered'' : ℕ) (piece behind others longer rest' text' : List ℕ) → HasNoLineFeed pending → HasNoLineFeed piece
-      → rest ≡ piece ++ behind → behind ≡ octet ∷ others → IsBehindLine behind → longer ≡ pending ++ piece → answered'' ≡ answered
+  pub turn_answered : (x : Unit {0}) (octet answered' answered'' : ℕ) (piece after others longer rest' text' : List ℕ) → HasNoLineFeed pending → HasNoLineFeed piece
+      → rest ≡ piece ++ after → after ≡ octet ∷ others → IsAfterLine after → longer ≡ pending ++ piece → answered'' ≡ answered
       → answered' ≡ answered'' + 1 → rest' ≡ []
       → LineLeaves {A = Unit {0}} (Ok x) (answered'' + 1) longer text'
-      → (block ≡ (front ++ (piece ++ 10 ∷ [])) ++ others) × Answers n (old ++ (front ++ (piece ++ 10 ∷ []))) answered' rest' (text ++ text')
-  turn_answered x octet answered' answered'' piece behind others longer rest' text' part each cut e feed made same next none leaves =
-      let found = block_answered n answered old front rest block pending text first parts x piece others text' part each (cut_at_feed rest piece behind others octet cut e feed)
+      → (block ≡ (prefix ++ (piece ++ 10 ∷ [])) ++ others) × Answers n (old ++ (prefix ++ (piece ++ 10 ∷ []))) answered' rest' (text ++ text')
+  turn_answered x octet answered' answered'' piece after others longer rest' text' part each cut e feed made same next none leaves =
+      let found = block_answered n answered old prefix rest block pending text first parts x piece others text' part each (cut_at_feed rest piece after others octet cut e feed)
       (subst (λ m. LineLeaves {A = Unit {0}} (Ok x) (m + 1) (pending ++ piece) text') same (subst (λ l. LineLeaves {A = Unit {0}} (Ok x) (answered'' + 1) l text') made leaves)) in (
         found.0,
-        subst (λ m. Answers n (old ++ (front ++ (piece ++ 10 ∷ []))) m rest' (text ++ text')) (sym (next ∙ ap (λ m. m + 1) same))
-            (subst (λ l. Answers n (old ++ (front ++ (piece ++ 10 ∷ []))) (answered + 1) l (text ++ text')) (sym none) found.1),
+        subst (λ m. Answers n (old ++ (prefix ++ (piece ++ 10 ∷ []))) m rest' (text ++ text')) (sym (next ∙ ap (λ m. m + 1) same))
+            (subst (λ l. Answers n (old ++ (prefix ++ (piece ++ 10 ∷ []))) (answered + 1) l (text ++ text')) (sym none) found.1),
       )
 
 -- The answer leaves nothing pending.

@@ -10,11 +10,11 @@ failures_of c = c.failures
 abbrev pub inner_of : {T : Type 0} → Counted T → T
 inner_of c = c.inner
 
--- the count behind a call, by whether the call failed
+-- the count after a call, by whether the call failed
 abbrev pub count_after : Bool → ℕ → ℕ
 count_after failed count = if failed then min (count + 1) (2 ^ 64 - 1) else count
 
--- A write failed: it answered an error, or took no octet of some.
+-- A write failed: it returned an error, or took none of some octets.
 abbrev pub took_nothing : {E : Type 0} → Result ℕ E → List ℕ → Bool
 took_nothing (Ok count) octets = (count == 0) && nat_lt 0 (length octets)
 took_nothing (Err e) octets = true

@@ -17,7 +17,7 @@ hex_word n = encode_lower (to_be_bytes w32 n)
 abbrev pub hex_long : ℕ → List ℕ
 hex_long n = encode_lower (to_be_bytes w64 n)
 
--- pieces with a separator between two of them: 44 is a comma, 59 a semicolon
+-- pieces with a separator between each two of them: 44 is a comma, 59 a semicolon
 abbrev pub commas : List (List ℕ) → List ℕ
 commas pieces = join_with_byte 44 pieces
 
@@ -27,16 +27,20 @@ semicolons pieces = join_with_byte 59 pieces
 -- SSRC/fraction/lost/highest/jitter/LSR/DLSR
 abbrev pub block_text : ReportBlock → List ℕ
 block_text b =
-    hex_word b.ssrc ++ codes "/" ++ decimal b.fraction ++ codes "/" ++ signed_decimal b.lost ++ codes "/" ++ decimal b.highest
-    ++ codes "/" ++ decimal b.jitter ++ codes "/" ++ hex_word b.lsr ++ codes "/" ++ hex_word b.dlsr
+    hex_word b.ssrc ++ codes "/" ++ decimal b.fraction ++ codes "/" ++ signed_decimal b.lost
+    ++ codes "/" ++ decimal b.highest ++ codes "/" ++ decimal b.jitter
+    ++ codes "/" ++ hex_word b.lsr ++ codes "/" ++ hex_word b.dlsr
 
 -- [blocks],octets of the extension
 abbrev pub report_end_text : List ReportBlock → List ℕ → List ℕ
-report_end_text blocks extension = codes "[" ++ semicolons (map block_text blocks) ++ codes "]," ++ decimal (length extension)
+report_end_text blocks extension =
+    codes "[" ++ semicolons (map block_text blocks) ++ codes "]," ++ decimal (length extension)
 
 -- SSRC,NTP,RTP,packets,octets
 abbrev pub sender_text : SenderValue → List ℕ
-sender_text s = hex_word s.ssrc ++ codes "," ++ hex_long s.ntp ++ codes "," ++ hex_word s.rtp ++ codes "," ++ decimal s.packets ++ codes "," ++ decimal s.octets
+sender_text s =
+    hex_word s.ssrc ++ codes "," ++ hex_long s.ntp ++ codes "," ++ hex_word s.rtp ++ codes ","
+    ++ decimal s.packets ++ codes "," ++ decimal s.octets
 
 -- a text as =hex, where there is one
 abbrev pub goodbye_reason_text : Option (List ℕ) → List ℕ
@@ -52,14 +56,19 @@ abbrev pub chunk_text : ChunkValue → List ℕ
 chunk_text c = hex_word c.id ++ codes "{" ++ commas (map item_text c.items) ++ codes "}"
 
 abbrev pub packet_text : RtcpPacket → List ℕ
-packet_text (sr sender blocks extension) = codes "SR(" ++ sender_text sender ++ codes "," ++ report_end_text blocks extension ++ codes ")"
-packet_text (rr ssrc blocks extension) = codes "RR(" ++ hex_word ssrc ++ codes "," ++ report_end_text blocks extension ++ codes ")"
+packet_text (sr sender blocks extension) =
+    codes "SR(" ++ sender_text sender ++ codes "," ++ report_end_text blocks extension ++ codes ")"
+packet_text (rr ssrc blocks extension) =
+    codes "RR(" ++ hex_word ssrc ++ codes "," ++ report_end_text blocks extension ++ codes ")"
 packet_text (sdes chunks) = codes "SDES([" ++ semicolons (map chunk_text chunks) ++ codes "])"
-packet_text (bye ids reason) = codes "BYE([" ++ semicolons (map hex_word ids) ++ codes "]," ++ goodbye_reason_text reason ++ codes ")"
+packet_text (bye ids reason) =
+    codes "BYE([" ++ semicolons (map hex_word ids) ++ codes "]," ++ goodbye_reason_text reason ++ codes ")"
 packet_text (app subtype ssrc name content) =
-    codes "APP(" ++ decimal subtype ++ codes "," ++ hex_word ssrc ++ codes "," ++ encode_lower name ++ codes "," ++ decimal (length content) ++ codes ")"
+    codes "APP(" ++ decimal subtype ++ codes "," ++ hex_word ssrc ++ codes ","
+    ++ encode_lower name ++ codes "," ++ decimal (length content) ++ codes ")"
 packet_text (other kind count body) =
-    codes "OTHER(" ++ decimal kind ++ codes "," ++ decimal count ++ codes "," ++ decimal (length body) ++ codes ")"
+    codes "OTHER(" ++ decimal kind ++ codes "," ++ decimal count ++ codes ","
+    ++ decimal (length body) ++ codes ")"
 
 -- the line for an accepted datagram
 abbrev pub accepted_text : List RtcpPacket → List ℕ

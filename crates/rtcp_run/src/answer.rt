@@ -4,26 +4,21 @@ ghost use Rattle.std.specs.Prelude.{◌≡◌, ◌++◌, ◌≤◌, ℕ, List, l
 ghost use Rattle.rtcp_run.specs.Check.{IsAnswer};
 ghost use Rattle.rtcp_run.specs.Progress.{AnswersLine};
 
-use crate::digit_pairs::decode;
+use crate::digit_pairs::{DecodeFault, decode};
 use crate::fault::{LineFault, TextFault};
 use crate::text::{push_accepted, push_fault};
-use hex::FromHexError;
 use rtcp_wire::ReadError;
 use std::alloc::{AllocError, Global};
 
-/// Puts the line of text for a datagram behind `text`.
-fn push_reading(alloc: Global, datagram: &[u8], text: &mut Vec<u8>) -> Result<(), AllocError>
-    ensures { OnOk result ((answer : List ℕ) × IsAnswer datagram.now answer × (text.new.items ≡ text.old.items ++ answer)) }
-{
-    match rtcp_wire::read_owned(alloc, datagram) {
-        Ok(packets) => push_accepted(text, &packets),
-        Err(ReadError::Wire(fault)) => push_fault(text, &fault),
-        Err(ReadError::Memory) => Err(AllocError),
-    }
-}
-
-/// Makes `text` the answer to a line, which is no more than 131,200 octets long and no later than line 65,536. The
+/// Makes `text` the answer to a line, which has at most 131,200 octets and is no later than line 65,536. The
 /// octets that the line spells go into `datagram`.
+///
+/// # Errors
+///
+/// - [`TextFault::Text`] with [`LineFault::Hex`] where the line is not hex.
+/// - [`TextFault::Memory`] where memory is refused.
+///
+/// After an error it is left open what the two buffers hold.
 pub(crate) fn compose(
     alloc: Global,
     number: u64,
@@ -38,8 +33,8 @@ pub(crate) fn compose(
     text.clear();
     match decode(line, datagram) {
         Ok(()) => (),
-        Err(FromHexError::OutOfMemory) => return Err(TextFault::Memory),
-        Err(_) => {
+        Err(DecodeFault::Memory) => return Err(TextFault::Memory),
+        Err(DecodeFault::NotHex) => {
             return Err(TextFault::Text {
                 line: number,
                 fault: LineFault::Hex,
@@ -49,5 +44,17 @@ pub(crate) fn compose(
     match push_reading(alloc, datagram, text) {
         Ok(()) => Ok(()),
         Err(AllocError) => Err(TextFault::Memory),
+    }
+}
+
+/// Appends the line of text for a datagram.
+fn push_reading(alloc: Global, datagram: &[u8], text: &mut Vec<u8>) -> Result<(), AllocError>
+    ensures { OnOk result
+        ((answer : List ℕ) × IsAnswer datagram.now answer × (text.new.items ≡ text.old.items ++ answer)) }
+{
+    match rtcp_wire::read_owned(alloc, datagram) {
+        Ok(packets) => push_accepted(text, &packets),
+        Err(ReadError::Wire(fault)) => push_fault(text, &fault),
+        Err(ReadError::Memory) => Err(AllocError),
     }
 }

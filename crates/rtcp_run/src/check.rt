@@ -1,20 +1,73 @@
-//! A check of a text: a line of answer for each line of hex.
+//! A check of a text: an answer for each line of hex.
 
-ghost use Rattle.std.specs.Prelude.{◌≡◌, ◌≢◌, ◌↔◌, ℕ, Some, None, OnOk};
-ghost use Rattle.rtcp_run.specs.Check.{Writes, IsTextOf, IsFrontOfText, AnswersWhatCame, AnswersLinesBefore};
+ghost use Rattle.std.specs.Prelude.{◌≡◌, ◌≢◌, ◌≤◌, ◌↔◌, ℕ, Some, None, OnOk};
+ghost use Rattle.rtcp_run.specs.Check.{Wrote, IsTextOf, IsPrefixOfText, AnswersWhatCame, AnswersLinesBefore, AnswersUpToBlock};
 ghost use Rattle.rtcp_run.specs.Counted.{failures_of, inner_of};
 ghost use Rattle.rtcp_run.specs.Progress.{CheckLeaves};
 ghost use Rattle.rtcp_run.specs.declared.fault.LineFault.{LineFault as Fault};
 
 use crate::counted::Counted;
 use crate::fault::TextFault;
+use crate::laws::one_text;
 use crate::lines::LineChecker;
 use rtcp_wire::laws::accepted_or_faulty;
 use std::alloc::Global;
 use std::io::{Read, Write};
 
-/// How many octets a read is asked for.
+/// The most octets that one read asks for.
 const BLOCK: usize = 8_192;
+
+/// Reads a text, a datagram in hex on each line, and writes a line for each: the datagram's packets, or its
+/// first fault.
+///
+/// A line has at most 131,200 octets before its line feed, which the last line may lack, and the text has at
+/// most 65,536 lines. The answer to a line is written before the next line is looked at. The first call of
+/// the reader or the writer that fails ends the run.
+///
+/// # Errors
+///
+/// - [`TextFault::Text`] at the first line that is too long, one too many, or not hex. The answers to the
+///   lines before it are written.
+/// - [`TextFault::Read`] where a call of the reader fails, for whatever reason. The answers to the whole
+///   lines that were read are written.
+/// - [`TextFault::Write`] where a call of the writer fails or takes nothing. A prefix of the answers is
+///   written.
+/// - [`TextFault::Memory`] where memory is refused. The answers to the first lines are written, at least to
+///   those that ended before the last block that was read.
+pub fn check<R: Read, W: Write>(
+    alloc: Global,
+    reader: &mut Counted<R>,
+    writer: &mut Counted<W>,
+) -> Result<(), TextFault>
+    requires reader_unfailed { failures_of reader.old ≡ 0 }
+    requires writer_unfailed { failures_of writer.old ≡ 0 }
+
+    // What is written is always a prefix of the text of the whole input.
+    ensures prefix { Wrote R.remaining W.contents reader.old writer.old writer.new IsPrefixOfText }
+    ensures whole { OnOk result
+        (Wrote R.remaining W.contents reader.old writer.old writer.new (IsTextOf None)) }
+    ensures refused { (line : ℕ) (fault : Fault) → result ≡ Err (TextFault.Text line fault)
+        → Wrote R.remaining W.contents reader.old writer.old writer.new (IsTextOf (Some (line, fault))) }
+    ensures read { result ≡ Err TextFault.Read
+        → Wrote R.remaining W.contents reader.old writer.old writer.new
+        (AnswersWhatCame (R.remaining (inner_of reader.new))) }
+    ensures memory { result ≡ Err TextFault.Memory
+        → Wrote R.remaining W.contents reader.old writer.old writer.new AnswersLinesBefore }
+    ensures memory_block { result ≡ Err TextFault.Memory
+        → Wrote R.remaining W.contents reader.old writer.old writer.new
+        (AnswersUpToBlock (R.remaining (inner_of reader.new))) }
+
+    // A call failed exactly where the fault says so, and only one.
+    ensures read_failed { (result ≡ Err TextFault.Read) ↔ (failures_of reader.new ≢ 0) }
+    ensures write_failed { (result ≡ Err TextFault.Write) ↔ (failures_of writer.new ≢ 0) }
+    ensures read_once { failures_of reader.new ≤ 1 }
+    ensures write_once { failures_of writer.new ≤ 1 }
+{
+    // So every input has a text, of which what is written is a prefix, and only one.
+    accepted_or_faulty();
+    one_text();
+    answer_blocks(alloc, reader, writer)
+}
 
 /// Answers the lines of the reader's input, block by block, up to its end or the first fault.
 fn answer_blocks<R: Read, W: Write>(
@@ -24,10 +77,12 @@ fn answer_blocks<R: Read, W: Write>(
 ) -> Result<(), TextFault>
     requires reader_unfailed { failures_of reader.old ≡ 0 }
     requires writer_unfailed { failures_of writer.old ≡ 0 }
-    ensures leaves { Writes (R.remaining (inner_of reader.old)) (W.contents (inner_of writer.old))
-        (W.contents (inner_of writer.new)) (CheckLeaves result (R.remaining (inner_of reader.new))) }
+    ensures leaves { Wrote R.remaining W.contents reader.old writer.old writer.new
+        (CheckLeaves result (R.remaining (inner_of reader.new))) }
     ensures read_failed { (result ≡ Err TextFault.Read) ↔ (failures_of reader.new ≢ 0) }
     ensures write_failed { (result ≡ Err TextFault.Write) ↔ (failures_of writer.new ≢ 0) }
+    ensures read_once { failures_of reader.new ≤ 1 }
+    ensures write_once { failures_of writer.new ≤ 1 }
 {
     let mut checker = LineChecker::new(alloc);
     let mut block = [0; BLOCK];
@@ -41,49 +96,4 @@ fn answer_blocks<R: Read, W: Write>(
         }
         checker.take(&block[..count], writer)?;
     }
-}
-
-/// Reads a text, a datagram in hex on each line, and writes a line for each: the datagram's packets, or its first fault.
-///
-/// A line has at most 131,200 octets before its line feed, the last line may lack the line feed, and at most
-/// 65,536 lines are looked at. The answer to a line is written before the next line is cut.
-///
-/// # Errors
-///
-/// - [`TextFault::Text`] at the first line that is too long, one too many, or no hex. The answers to the lines
-///   before it are written.
-/// - [`TextFault::Read`] where a call of the reader fails, whatever its error: none is made again. The answers to
-///   the whole lines that came are written.
-/// - [`TextFault::Write`] where a call of the writer fails or takes nothing. A front of the answers is written.
-/// - [`TextFault::Memory`] where memory is refused. The answers to the lines before are written.
-pub fn check<R: Read, W: Write>(
-    alloc: Global,
-    reader: &mut Counted<R>,
-    writer: &mut Counted<W>,
-) -> Result<(), TextFault>
-    requires reader_unfailed { failures_of reader.old ≡ 0 }
-    requires writer_unfailed { failures_of writer.old ≡ 0 }
-
-    // What is written is always a front of the text of the whole input.
-    ensures front { Writes (R.remaining (inner_of reader.old)) (W.contents (inner_of writer.old))
-        (W.contents (inner_of writer.new)) IsFrontOfText }
-    ensures whole { OnOk result (Writes (R.remaining (inner_of reader.old)) (W.contents (inner_of writer.old))
-        (W.contents (inner_of writer.new)) (IsTextOf None)) }
-    ensures refused { (line : ℕ) (fault : Fault) → result ≡ Err (TextFault.Text line fault)
-        → Writes (R.remaining (inner_of reader.old)) (W.contents (inner_of writer.old))
-        (W.contents (inner_of writer.new)) (IsTextOf (Some (line, fault))) }
-    ensures read { result ≡ Err TextFault.Read
-        → Writes (R.remaining (inner_of reader.old)) (W.contents (inner_of writer.old))
-        (W.contents (inner_of writer.new)) (AnswersWhatCame (R.remaining (inner_of reader.new))) }
-    ensures memory { result ≡ Err TextFault.Memory
-        → Writes (R.remaining (inner_of reader.old)) (W.contents (inner_of writer.old))
-        (W.contents (inner_of writer.new)) AnswersLinesBefore }
-
-    // A call failed exactly where the fault says so.
-    ensures read_failed { (result ≡ Err TextFault.Read) ↔ (failures_of reader.new ≢ 0) }
-    ensures write_failed { (result ≡ Err TextFault.Write) ↔ (failures_of writer.new ≢ 0) }
-{
-    // So every input has a text, of which what is written is a front.
-    accepted_or_faulty();
-    answer_blocks(alloc, reader, writer)
 }

@@ -1,7 +1,7 @@
 //! A run over text, from its order to its status.
 
 ghost use Rattle.std.specs.Prelude.{◌≡◌, ◌≢◌, ◌⊎◌, ◌↔◌, ℕ, Some, None, OnOk};
-ghost use Rattle.rtcp_run.specs.Check.{Writes, IsTextOf};
+ghost use Rattle.rtcp_run.specs.Check.{Writes, Wrote, IsTextOf};
 ghost use Rattle.rtcp_run.specs.Counted.{failures_of, inner_of};
 ghost use Rattle.rtcp_run.specs.declared.fault.LineFault.{LineFault as Fault};
 ghost use Rattle.rtcp_run.specs.Status.{text_status};
@@ -13,11 +13,11 @@ use crate::orders::TextOrder;
 use std::alloc::Global;
 use std::io::{Read, Write};
 
-/// Runs an order over text, tells a fault as a line on `faults`, and gives the status to end with: 0 where all went
-/// well, 2 where the text is refused, and 1 where reading, writing or memory failed.
+/// Runs an order over text, writes a line to `faults` where it fails, and returns the status to end with: 0
+/// where all went well, 2 where the text is refused, and 1 where reading, writing or memory failed.
 ///
-/// What is written is flushed in any case, and a failed flush is the fault `write`. A failed write of the fault
-/// changes nothing.
+/// What was written is flushed in any case, and a failed flush is the fault `write`. A failed write of the
+/// fault line is ignored.
 pub fn command<R: Read + Drop, W: Write + Drop, F: Write>(
     alloc: Global,
     order: TextOrder,
@@ -25,7 +25,13 @@ pub fn command<R: Read + Drop, W: Write + Drop, F: Write>(
     writer: W,
     faults: &mut F,
 ) -> u8
-    ensures { (result ≡ 0) ⊎ (result ≡ 1) ⊎ (result ≡ 2) }
+    ensures status { (result ≡ 0) ⊎ (result ≡ 1) ⊎ (result ≡ 2) }
+    // The writer is left with the text that the status speaks of.
+    ensures whole { result ≡ 0 → (writer_after : W)
+        × Writes (R.remaining reader) (W.contents writer) (W.contents writer_after) (IsTextOf None) }
+    ensures refused { result ≡ 2 → (writer_after : W) × (line : ℕ) × (fault : Fault)
+        × Writes (R.remaining reader) (W.contents writer) (W.contents writer_after)
+        (IsTextOf (Some (line, fault))) }
 {
     let mut reader = Counted::new(reader);
     let mut writer = Counted::new(writer);
@@ -36,7 +42,11 @@ pub fn command<R: Read + Drop, W: Write + Drop, F: Write>(
     status(&outcome)
 }
 
-/// Runs an order over text and flushes what is written.
+/// Runs an order over text and flushes what was written.
+///
+/// # Errors
+///
+/// Those of [`check`], and [`TextFault::Write`] where the flush fails, whatever failed before.
 fn run<R: Read, W: Write>(
     alloc: Global,
     order: TextOrder,
@@ -46,13 +56,12 @@ fn run<R: Read, W: Write>(
     requires reader_unfailed { failures_of reader.old ≡ 0 }
     requires writer_unfailed { failures_of writer.old ≡ 0 }
 
-    ensures whole { OnOk result (Writes (R.remaining (inner_of reader.old)) (W.contents (inner_of writer.old))
-        (W.contents (inner_of writer.new)) (IsTextOf None)) }
+    ensures whole { OnOk result
+        (Wrote R.remaining W.contents reader.old writer.old writer.new (IsTextOf None)) }
     ensures refused { (line : ℕ) (fault : Fault) → result ≡ Err (TextFault.Text line fault)
-        → Writes (R.remaining (inner_of reader.old)) (W.contents (inner_of writer.old))
-        (W.contents (inner_of writer.new)) (IsTextOf (Some (line, fault))) }
+        → Wrote R.remaining W.contents reader.old writer.old writer.new (IsTextOf (Some (line, fault))) }
 
-    // A failed flush is told before what else failed.
+    // A failed flush comes before what else failed.
     ensures read_failed { result ≡ Err TextFault.Read → failures_of reader.new ≢ 0 }
     ensures write_failed { (result ≡ Err TextFault.Write) ↔ (failures_of writer.new ≢ 0) }
     ensures whole_read { OnOk result (failures_of reader.new ≡ 0) }

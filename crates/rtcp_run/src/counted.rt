@@ -25,14 +25,14 @@ impl<T> Counted<T> {
         Counted { inner, failures: 0 }
     }
 
-    /// How many calls failed. The count rises no more once it is `u64::MAX`.
+    /// How many calls failed, but at most `u64::MAX`.
     pub fn failures(&self) -> u64
         ensures { result ≡ failures_of self.now }
     {
         self.failures
     }
 
-    /// The reader or the writer that was counted.
+    /// The reader or the writer whose calls were counted.
     pub fn into_inner(self) -> T
         ensures { result ≡ inner_of self }
     {
@@ -48,8 +48,9 @@ impl<R: Read> Read for Counted<R> {
 
     fn read(&mut self, buf: &mut [u8]) -> io::Result<usize>
         ensures bound { ReadsAtMost result buf.new }
-        ensures bytes { ReadConsumes (R.remaining (inner_of self.old)) (R.remaining (inner_of self.new)) result buf.new }
-        // A call failed where it answered an error.
+        ensures bytes { ReadConsumes (R.remaining (inner_of self.old)) (R.remaining (inner_of self.new))
+            result buf.new }
+        // A call failed where it returned an error.
         ensures counted { failures_of self.new ≡ count_after (is_err result) (failures_of self.old) }
     {
         let result = self.inner.read(buf);
@@ -67,9 +68,11 @@ impl<W: Write> Write for Counted<W> {
 
     fn write(&mut self, buf: &[u8]) -> io::Result<usize>
         ensures bound { WritesAtMost result buf.now }
-        ensures bytes { WriteAppends (W.contents (inner_of self.old)) (W.contents (inner_of self.new)) result buf.now }
-        // A call failed where it answered an error, or took nothing of a buffer that has something.
-        ensures counted { failures_of self.new ≡ count_after (took_nothing result buf.now) (failures_of self.old) }
+        ensures bytes { WriteAppends (W.contents (inner_of self.old)) (W.contents (inner_of self.new))
+            result buf.now }
+        // A call failed where it returned an error, or took nothing of a buffer that is not empty.
+        ensures counted { failures_of self.new
+            ≡ count_after (took_nothing result buf.now) (failures_of self.old) }
     {
         let result = self.inner.write(buf);
         let failed = match &result {
@@ -84,7 +87,7 @@ impl<W: Write> Write for Counted<W> {
 
     fn flush(&mut self) -> io::Result<()>
         ensures bytes { Keeps (W.contents (inner_of self.old)) (W.contents (inner_of self.new)) }
-        // A call failed where it answered an error.
+        // A call failed where it returned an error.
         ensures counted { failures_of self.new ≡ count_after (is_err result) (failures_of self.old) }
     {
         let result = self.inner.flush();

@@ -2,16 +2,16 @@
 
 use thiserror::Error;
 
-/// What is wrong with a line of the input, in the order in which it is tested but for the second, which comes first.
+/// What is wrong with a line of the input. `TooManyLines` is tested first, then the others in their order.
 #[derive(Clone, Copy, Debug, PartialEq, Eq, Error)]
 pub enum LineFault {
-    /// More than 131,200 bytes stand before the line feed or the end.
+    /// It has more than 131,200 octets before its line feed or the end.
     #[error("X1 LineTooLong")]
     LineTooLong,
     /// It is line 65,537, which is not looked at.
     #[error("X2 TooManyLines")]
     TooManyLines,
-    /// It is no even number of hex digits.
+    /// It is not an even number of hex digits.
     #[error("X4 Hex")]
     Hex,
 }

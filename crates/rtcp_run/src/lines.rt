@@ -1,9 +1,9 @@
-//! The lines of a text that comes in blocks, and their answers.
+//! The lines of a text that is read in blocks, and their answers.
 
 ghost use Rattle.std.specs.Prelude.{◌≡◌, ◌≢◌, ◌+◌, ◌<◌, ◌≤◌, ◌++◌, ◌↔◌, [], length, OnOk, vec_len};
 ghost use Rattle.rtcp_run.specs.Check.{HasNoLineFeed};
 ghost use Rattle.rtcp_run.specs.Counted.{failures_of, inner_of};
-ghost use Rattle.rtcp_run.specs.Progress.{Grows, IsBetween, IsBehindLine, Lengthens, LineLeaves, PartLeaves, EndLeaves};
+ghost use Rattle.rtcp_run.specs.Progress.{Grows, IsBetween, IsAfterLine, Lengthens, LineLeaves, PartLeaves, EndLeaves};
 
 use crate::answer::compose;
 use crate::counted::Counted;
@@ -19,16 +19,6 @@ const MAX_LINES: u64 = 65_536;
 /// The most octets of a line, its line feed not counted.
 const MAX_LINE: usize = 131_200;
 
-/// What stands before the first line feed, and the rest from that line feed on.
-fn split_line(octets: &[u8]) -> (&[u8], &[u8])
-    ensures parts { octets.now ≡ result.0.now ++ result.1.now }
-    ensures part { HasNoLineFeed result.0.now }
-    ensures feed { IsBehindLine result.1.now }
-{
-    let end = memchr(b'\n', octets).unwrap_or(octets.len());
-    octets.split_at(end)
-}
-
 /// Answers lines as they come. The buffers are kept from line to line.
 #[derive(Drop)]
 pub(crate) struct LineChecker {
@@ -40,7 +30,7 @@ pub(crate) struct LineChecker {
 }
 
 impl LineChecker {
-    /// No line is answered yet.
+    /// A checker that has answered no line.
     pub(crate) fn new(alloc: Global) -> Self
         ensures answered { result.answered ≡ 0 }
         ensures pending { result.pending.items ≡ [] }
@@ -54,10 +44,68 @@ impl LineChecker {
         }
     }
 
-    /// Puts a piece to the pending part of a line. Something of the input stands in the line or behind it.
+    /// Takes the next octets of the input, and answers each line that ends in them. What follows the last
+    /// line feed is kept.
+    ///
+    /// # Errors
+    ///
+    /// Those of [`check`](crate::check::check) but for `Read`. The checker is not to be used after one.
+    pub(crate) fn take<W: Write>(
+        &mut self,
+        block: &[u8],
+        writer: &mut Counted<W>,
+    ) -> Result<(), TextFault>
+        requires between { IsBetween self.old.answered self.old.pending.items }
+        requires unfailed { failures_of writer.old ≡ 0 }
+        ensures written { Grows (W.contents (inner_of writer.old)) (W.contents (inner_of writer.new))
+            (PartLeaves result self.old.answered (self.old.pending.items ++ block.now)
+            self.new.answered self.new.pending.items) }
+        ensures between { OnOk result (IsBetween self.new.answered self.new.pending.items) }
+        ensures failed { (result ≡ Err TextFault.Write) ↔ (failures_of writer.new ≢ 0) }
+        ensures once { failures_of writer.new ≤ 1 }
+    {
+        let mut rest = block;
+        while !rest.is_empty() {
+            let (piece, after) = split_line(rest);
+            self.append(piece)?;
+            let Some((_, others)) = after.split_first() else {
+                return Ok(());
+            };
+            self.answer(writer)?;
+            rest = others;
+        }
+        Ok(())
+    }
+
+    /// Answers the last line, where the input ends without a line feed.
+    ///
+    /// # Errors
+    ///
+    /// Those of [`check`](crate::check::check) but for `Read`. The checker is not to be used after one.
+    pub(crate) fn finish<W: Write>(&mut self, writer: &mut Counted<W>) -> Result<(), TextFault>
+        requires between { IsBetween self.old.answered self.old.pending.items }
+        requires unfailed { failures_of writer.old ≡ 0 }
+        ensures written { Grows (W.contents (inner_of writer.old)) (W.contents (inner_of writer.new))
+            (EndLeaves result self.old.answered self.old.pending.items) }
+        ensures failed { (result ≡ Err TextFault.Write) ↔ (failures_of writer.new ≢ 0) }
+        ensures once { failures_of writer.new ≤ 1 }
+    {
+        if self.pending.is_empty() {
+            return Ok(());
+        }
+        self.answer(writer)
+    }
+
+    /// Appends a piece to the pending part of a line, where some of the input is in that line or after it.
+    ///
+    /// # Errors
+    ///
+    /// - [`TextFault::Text`] where that is a line too many, or too long.
+    /// - [`TextFault::Memory`] where memory is refused.
     fn append(&mut self, piece: &[u8]) -> Result<(), TextFault>
         requires { IsBetween self.old.answered self.old.pending.items }
-        ensures longer { Lengthens result self.old.answered self.old.pending.items piece.now self.new.pending.items }
+        ensures longer { Lengthens result self.old.answered self.old.pending.items piece.now
+            self.new.pending.items }
         ensures answered { self.new.answered ≡ self.old.answered }
     {
         if self.answered >= MAX_LINES {
@@ -72,7 +120,7 @@ impl LineChecker {
         }
     }
 
-    /// The fault at the line behind those that are answered.
+    /// A fault at the first line that is not answered.
     fn refused(&self, fault: LineFault) -> TextFault
         requires { self.now.answered ≤ 65536 }
         ensures { result ≡ TextFault.Text (self.now.answered + 1) fault }
@@ -84,6 +132,13 @@ impl LineChecker {
     }
 
     /// Answers the pending line.
+    ///
+    /// # Errors
+    ///
+    /// - [`TextFault::Text`] where the line is not hex, and [`TextFault::Memory`] where memory is refused:
+    ///   nothing is written.
+    /// - [`TextFault::Write`] where a call of the writer fails or takes nothing: a prefix of the answer is
+    ///   written.
     fn answer<W: Write>(&mut self, writer: &mut Counted<W>) -> Result<(), TextFault>
         requires few { self.old.answered < 65536 }
         requires short { vec_len self.old.pending ≤ 131200 }
@@ -93,6 +148,7 @@ impl LineChecker {
         ensures answered { OnOk result (self.new.answered ≡ self.old.answered + 1) }
         ensures pending { OnOk result (self.new.pending.items ≡ []) }
         ensures failed { (result ≡ Err TextFault.Write) ↔ (failures_of writer.new ≢ 0) }
+        ensures once { failures_of writer.new ≤ 1 }
     {
         let number = self.answered + 1;
         compose(
@@ -107,44 +163,14 @@ impl LineChecker {
         self.pending.clear();
         Ok(())
     }
+}
 
-    /// Takes the next octets of the input, and answers each line that a line feed ends there.
-    pub(crate) fn take<W: Write>(
-        &mut self,
-        block: &[u8],
-        writer: &mut Counted<W>,
-    ) -> Result<(), TextFault>
-        requires between { IsBetween self.old.answered self.old.pending.items }
-        requires unfailed { failures_of writer.old ≡ 0 }
-        ensures written { Grows (W.contents (inner_of writer.old)) (W.contents (inner_of writer.new))
-            (PartLeaves result self.old.answered (self.old.pending.items ++ block.now) self.new.answered self.new.pending.items) }
-        ensures between { OnOk result (IsBetween self.new.answered self.new.pending.items) }
-        ensures failed { (result ≡ Err TextFault.Write) ↔ (failures_of writer.new ≢ 0) }
-    {
-        let mut rest = block;
-        while !rest.is_empty() {
-            let (piece, behind) = split_line(rest);
-            self.append(piece)?;
-            let Some((_, others)) = behind.split_first() else {
-                return Ok(());
-            };
-            self.answer(writer)?;
-            rest = others;
-        }
-        Ok(())
-    }
-
-    /// Answers the last line, where the input ends without a line feed.
-    pub(crate) fn finish<W: Write>(&mut self, writer: &mut Counted<W>) -> Result<(), TextFault>
-        requires between { IsBetween self.old.answered self.old.pending.items }
-        requires unfailed { failures_of writer.old ≡ 0 }
-        ensures written { Grows (W.contents (inner_of writer.old)) (W.contents (inner_of writer.new))
-            (EndLeaves result self.old.answered self.old.pending.items) }
-        ensures failed { (result ≡ Err TextFault.Write) ↔ (failures_of writer.new ≢ 0) }
-    {
-        if self.pending.is_empty() {
-            return Ok(());
-        }
-        self.answer(writer)
-    }
+/// What comes before the first line feed, and the rest from that line feed on.
+fn split_line(octets: &[u8]) -> (&[u8], &[u8])
+    ensures parts { octets.now ≡ result.0.now ++ result.1.now }
+    ensures part { HasNoLineFeed result.0.now }
+    ensures feed { IsAfterLine result.1.now }
+{
+    let end = memchr(b'\n', octets).unwrap_or(octets.len());
+    octets.split_at(end)
 }

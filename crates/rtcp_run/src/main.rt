@@ -1,4 +1,8 @@
-//! The program `rtcp`.
+//! The program `rtcp`: it shows RTCP datagrams that are given in hex, or says what is wrong with them and
+//! where.
+//!
+//! Only this file touches the process: its command line and its standard streams. All else works over any
+//! reader and writer.
 #![tactic(auto)]
 
 mod answer;
@@ -7,6 +11,7 @@ mod command;
 mod counted;
 mod digit_pairs;
 mod fault;
+mod laws;
 mod lines;
 mod order;
 mod orders;
@@ -17,10 +22,9 @@ mod writing;
 
 use order::refuse;
 use orders::{Order, OrderFault, TextOrder};
-use std::alloc::{AllocError, Global};
-use std::io::{BufReader, BufWriter, ErrorKind};
+use std::env;
+use std::io::BufWriter;
 use std::process::ExitCode;
-use std::{env, io};
 
 fn main(rt: HostRuntime) -> ExitCode {
     let status = match asked(&rt) {
@@ -30,13 +34,16 @@ fn main(rt: HostRuntime) -> ExitCode {
     ExitCode::from(status)
 }
 
-/// What the process's command line asks for.
+/// What the command line of the process asks for.
+///
+/// # Errors
+///
+/// Those of [`order::order`], and those of [`order::unreadable`] where the arguments cannot be read.
 fn asked(rt: &HostRuntime) -> Result<Order, OrderFault> {
     let alloc = rt.alloc();
     let arguments = match env::args(rt) {
         Ok(arguments) => arguments,
-        Err(error) if error.kind() == ErrorKind::OutOfMemory => return Err(OrderFault::Memory),
-        Err(_) => return Err(order::no_text(alloc)),
+        Err(error) => return Err(order::unreadable(alloc, error.kind())),
     };
     let mut texts = Vec::new(alloc);
     for argument in arguments {
@@ -53,15 +60,12 @@ fn asked(rt: &HostRuntime) -> Result<Order, OrderFault> {
     order::order(alloc, &words)
 }
 
-/// Runs an order between the standard streams, and gives the status to end with.
+/// Runs an order from standard input to standard output, and returns the status to end with.
 fn run_text(rt: &HostRuntime, order: TextOrder) -> u8 {
     let alloc = rt.alloc();
     let mut faults = rt.stderr();
-    let Ok(reader) = BufReader::new(alloc, rt.stdin()) else {
-        return refuse(&OrderFault::Memory, &mut faults);
-    };
     let Ok(writer) = BufWriter::new(alloc, rt.stdout()) else {
         return refuse(&OrderFault::Memory, &mut faults);
     };
-    command::command(alloc, order, reader, writer, &mut faults)
+    command::command(alloc, order, rt.stdin(), writer, &mut faults)
 }

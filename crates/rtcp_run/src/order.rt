@@ -5,9 +5,9 @@ ghost use Rattle.rtcp_run.specs.Status.{order_status};
 
 use crate::orders::{Order, OrderFault, TextOrder};
 use clap::Command;
-use clap::error::ErrorKind;
+use clap::error::ErrorKind as ClapErrorKind;
 use std::alloc::{AllocError, Global};
-use std::io::Write;
+use std::io::{ErrorKind, Write};
 
 const ABOUT: &str = "The control half of an RTP participant (RFC 3550)";
 
@@ -21,25 +21,25 @@ that tshark prints of a capture.
 
     tshark -r call.pcap -Y rtcp -T fields -e udp.payload | rtcp check
 
-One line comes out for each line that goes in. It begins with ok, and the packets follow, or it
-is the first fault and the octet where the packet with it begins.
+One line comes out for each line that goes in: ok and the packets, or the first fault and the
+offset of the packet that has it.
 
     ok RR(11223344,[],0) SDES([11223344{1=616263}])
     F2 Version at 8
 
-A line of more than 131200 characters, a line beyond the first 65536 and a line that is no hex
-end the run: the line's number and its fault are told on standard error.
+A line of more than 131200 characters, a line after the first 65536 and a line that is not hex
+end the run: the number of the line and its fault are written to standard error.
 
-The status is 0 where every line was answered, 2 where the command line or a line of the text is
-refused, and 1 where reading, writing or memory failed.";
+The status is 0 if every line was answered, 2 if the command line or a line of the text was
+refused, and 1 if reading, writing or memory failed.";
 
-const NO_TEXT: &str = "\
+const NON_UTF8: &str = "\
 error: invalid UTF-8 was detected in one or more arguments
 
 For more information, try '--help'.
 ";
 
-/// What the words of a command line ask for. The first word is the program's name.
+/// What the words of a command line ask for. The first word is the name of the program.
 ///
 /// # Errors
 ///
@@ -52,19 +52,39 @@ pub fn order<'a>(alloc: Global, words: &'a [&'a str]) -> Result<Order, OrderFaul
     match program.try_get_matches_from_mut(words) {
         Ok(matches) => match matches.subcommand_name() {
             Some("check") => Ok(Order::Text(TextOrder::Check)),
-            _ => Err(told(program.render_help())),
+            _ => Err(shown(program.render_help())),
         },
-        Err(error) if error.kind() == ErrorKind::OutOfMemory => Err(OrderFault::Memory),
-        Err(error) => Err(told(format!(in alloc; "{error}"))),
+        Err(error) if error.kind() == ClapErrorKind::OutOfMemory => Err(OrderFault::Memory),
+        Err(error) => Err(shown(format!(in alloc; "{error}"))),
     }
 }
 
-/// The fault of a command line that is no text.
-pub(crate) fn no_text(alloc: Global) -> OrderFault {
-    told(String::from_str(alloc, NO_TEXT))
+/// The fault of arguments that could not be read, by the kind of the error: they are non-UTF-8 arguments,
+/// unless memory was refused.
+pub(crate) fn unreadable(alloc: Global, kind: ErrorKind) -> OrderFault {
+    match kind {
+        ErrorKind::OutOfMemory => OrderFault::Memory,
+        _ => shown(String::from_str(alloc, NON_UTF8)),
+    }
 }
 
-/// The program's command line, as `clap` reads it.
+/// Writes why there is no order, and returns the status to end with. A failed write is ignored.
+pub fn refuse<W: Write>(fault: &OrderFault, faults: &mut W) -> u8
+    ensures { result ≡ order_status fault.now }
+{
+    match fault {
+        OrderFault::Clap(text) => {
+            let _ = faults.write_all(text.as_bytes());
+            2
+        }
+        OrderFault::Memory => {
+            let _ = faults.write_all(b"memory\n");
+            1
+        }
+    }
+}
+
+/// The command line, as `clap` reads it.
 fn program<'a>(alloc: Global) -> Result<Command<'a>, AllocError> {
     let check = Command::new(alloc, "check")
         .about(CHECK_ABOUT)
@@ -78,26 +98,10 @@ fn program<'a>(alloc: Global) -> Result<Command<'a>, AllocError> {
         .subcommand(check)
 }
 
-/// A text to show, unless there was no memory for it.
-fn told(text: Result<String, AllocError>) -> OrderFault {
+/// The fault that shows a text, unless there was no memory for the text.
+fn shown(text: Result<String, AllocError>) -> OrderFault {
     match text {
         Ok(text) => OrderFault::Clap(text),
         Err(AllocError) => OrderFault::Memory,
-    }
-}
-
-/// Tells why there is no order, and gives the status to end with. A failed write changes nothing.
-pub fn refuse<W: Write>(fault: &OrderFault, faults: &mut W) -> u8
-    ensures { result ≡ order_status fault.now }
-{
-    match fault {
-        OrderFault::Clap(text) => {
-            let _ = faults.write_all(text.as_bytes());
-            2
-        }
-        OrderFault::Memory => {
-            let _ = faults.write_all(b"memory\n");
-            1
-        }
     }
 }

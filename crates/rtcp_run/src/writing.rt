@@ -1,6 +1,6 @@
-//! Handing a text to a writer.
+//! Writing the whole of a text.
 
-ghost use Rattle.std.specs.Prelude.{◌≡◌, ◌≢◌, ◌++◌, ◌↔◌, ℕ, List, [], OnOk, IsOkUnless};
+ghost use Rattle.std.specs.Prelude.{◌≡◌, ◌≢◌, ◌≤◌, ◌++◌, ◌↔◌, ℕ, List, [], OnOk, IsOkUnless};
 ghost use Rattle.std.specs.Io.KnownBytes.{Appends};
 ghost use Rattle.rtcp_run.specs.Counted.{failures_of, inner_of};
 
@@ -8,13 +8,20 @@ use crate::counted::Counted;
 use crate::fault::TextFault;
 use std::io::Write;
 
-/// Writes all of the text, or a front of it up to the first call that fails or takes nothing: the fault is then `Write`.
+/// Writes all of the text.
+///
+/// # Errors
+///
+/// [`TextFault::Write`] at the first call of the writer that fails or takes nothing: a prefix of the text is
+/// then written.
 pub(crate) fn hand_over<W: Write>(writer: &mut Counted<W>, text: &[u8]) -> Result<(), TextFault>
     requires { failures_of writer.old ≡ 0 }
     ensures only { IsOkUnless result TextFault.Write }
-    ensures written { (front : List ℕ) × (more : List ℕ) × (text.now ≡ front ++ more) × OnOk result (more ≡ [])
-        × Appends (W.contents (inner_of writer.old)) (W.contents (inner_of writer.new)) front }
+    ensures written { (prefix : List ℕ) × (more : List ℕ) × (text.now ≡ prefix ++ more)
+        × OnOk result (more ≡ [])
+        × Appends (W.contents (inner_of writer.old)) (W.contents (inner_of writer.new)) prefix }
     ensures failed { (result ≡ Err TextFault.Write) ↔ (failures_of writer.new ≢ 0) }
+    ensures once { failures_of writer.new ≤ 1 }
 {
     let mut rest = text;
     while !rest.is_empty() {

@@ -2,7 +2,7 @@
 
 use super::ends::{Narrow, Pieces};
 use crate::command::command;
-use crate::order::{order, refuse};
+use crate::order::{order, refuse, unreadable};
 use crate::orders::{Order, OrderFault, TextOrder};
 use std::alloc::{AllocError, Global};
 use std::io;
@@ -65,6 +65,32 @@ fn ends(rt: HostRuntime) {
     assert_eq!(rt; fault.as_slice(), b"write\n".as_slice());
 }
 
+/// A refused text: the status, the fault line, and the answers that are written.
+#[test]
+fn refused_texts(rt: HostRuntime) {
+    let alloc = rt.alloc();
+    let rows = [
+        (
+            "80c9000100000007\n\n80c9000100000007\r\n\n",
+            "line 3: X4 Hex\n",
+            "ok RR(00000007,[],0)\nF1 Short at 0\n",
+        ),
+        ("\r\n", "line 1: X4 Hex\n", ""),
+        (
+            "80c9000100000007\nq",
+            "line 2: X4 Hex\n",
+            "ok RR(00000007,[],0)\n",
+        ),
+    ];
+    for (lines, fault, answers) in rows {
+        let mut written = Vec::new(alloc);
+        let (status, line) = ended(alloc, lines.as_bytes(), &mut written);
+        assert_eq!(rt; status, 2, "{lines}");
+        assert_eq!(rt; line.as_slice(), fault.as_bytes(), "{lines}");
+        assert_eq!(rt; written.as_slice(), answers.as_bytes(), "{lines}");
+    }
+}
+
 #[test]
 fn limits(rt: HostRuntime) -> Result<(), Fail> {
     let alloc = rt.alloc();
@@ -82,9 +108,9 @@ fn limits(rt: HostRuntime) -> Result<(), Fail> {
     Ok(())
 }
 
-/// A fault that can't be told changes no status.
+/// A fault line that cannot be written does not change the status.
 #[test]
-fn untold(rt: HostRuntime) {
+fn unwritten_fault(rt: HostRuntime) {
     let alloc = rt.alloc();
     let mut faults = full(alloc);
     let reader = b"0".as_slice();
@@ -99,8 +125,8 @@ fn untold(rt: HostRuntime) {
     assert_eq!(rt; refuse(&OrderFault::Memory, &mut faults), 1);
 }
 
-/// The status of a refused command line, and what is told.
-fn told(alloc: Global, words: &[&str]) -> Result<(u8, Vec<u8>), Fail> {
+/// The status of a refused command line, and what is written.
+fn refused(alloc: Global, words: &[&str]) -> Result<(u8, Vec<u8>), Fail> {
     let fault = order(alloc, words).err().ok_or("it was understood")?;
     let mut faults = Vec::new(alloc);
     let status = refuse(&fault, &mut faults);
@@ -133,11 +159,23 @@ fn orders(rt: HostRuntime) -> Result<(), Fail> {
         (&["rtcp", "check", "--help"], "Show what RTCP datagrams are"),
     ];
     for (words, beginning) in rows {
-        let (status, text) = told(alloc, words)?;
+        let (status, text) = refused(alloc, words)?;
         assert_eq!(rt; status, 2, "{beginning}");
         assert!(rt; text.starts_with(beginning.as_bytes()), "{beginning}");
     }
     Ok(())
+}
+
+/// Arguments that are not UTF-8 are refused as wrong ones are, and want of memory is told apart from them.
+#[test]
+fn unreadable_arguments(rt: HostRuntime) {
+    let mut faults = Vec::new(rt.alloc());
+    let fault = unreadable(rt.alloc(), ErrorKind::InvalidData);
+    assert_eq!(rt; refuse(&fault, &mut faults), 2);
+    let beginning = b"error: invalid UTF-8 was detected in one or more arguments\n";
+    assert!(rt; faults.starts_with(beginning));
+    let fault = unreadable(rt.alloc(), ErrorKind::OutOfMemory);
+    assert!(rt; matches!(fault, OrderFault::Memory));
 }
 
 #[test]

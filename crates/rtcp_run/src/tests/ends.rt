@@ -7,7 +7,7 @@ use std::io;
 use std::io::{ErrorKind, Read, Write};
 use std::test::Fail;
 
-/// Gives at most `piece` octets a call, and fails at the call behind `calls` others.
+/// Gives at most `piece` octets a call, and fails at the call after `calls` others.
 #[derive(Drop)]
 pub(super) struct Pieces<'a> {
     pub(super) rest: &'a [u8],
@@ -22,13 +22,13 @@ impl Read for Pieces<'_> {
         }
         self.calls -= 1;
         let size = self.piece.min(self.rest.len()).min(buf.len());
-        let (mut front, rest) = self.rest.split_at(size);
+        let (mut prefix, rest) = self.rest.split_at(size);
         self.rest = rest;
-        front.read(buf)
+        prefix.read(buf)
     }
 }
 
-/// Takes at most `piece` octets a call, and at the call behind `calls` others fails, or takes nothing.
+/// Takes at most `piece` octets a call, and at the call after `calls` others fails, or takes nothing.
 #[derive(Drop)]
 pub(super) struct Narrow {
     pub(super) taken: Vec<u8>,

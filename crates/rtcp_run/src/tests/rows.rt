@@ -58,7 +58,7 @@ fn answers(rt: HostRuntime) {
             "80c9000100000007a1cb0002000000070000000c",
             "F6 Padding at 8\n",
         ),
-        // an extension, and octets that fill the word behind a chunk's zero
+        // an extension, and octets that fill the word after a chunk's zero
         ("80c900020000000701020304", "ok RR(00000007,[],4)\n"),
         (
             "80c900010000000781ca0003000000070102616200ffffff",
@@ -190,7 +190,7 @@ fn longest_line(rt: HostRuntime) -> Result<(), Fail> {
     Ok(())
 }
 
-/// At most 65,536 lines are looked at: any octet behind them begins a line too many, a line feed included.
+/// At most 65,536 lines are looked at: any octet after them begins a line too many, a line feed included.
 #[test]
 fn most_lines(rt: HostRuntime) -> Result<(), Fail> {
     let answers = repeated(rt.alloc(), b"F1 Short at 0\n", 65_536)?;

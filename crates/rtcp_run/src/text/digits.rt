@@ -8,9 +8,6 @@ ghost use Rattle.rtcp_run.specs.Text.{hex_word, hex_long};
 use itoa::Buffer;
 use std::alloc::AllocError;
 
-/// The digits of base 16.
-const HEX_DIGITS: &[u8; 16] = b"0123456789abcdef";
-
 /// Appends a number in decimal, with no leading zero.
 pub(super) fn push_decimal(out: &mut Vec<u8>, number: u64) -> Result<(), AllocError>
     ensures { OnOk result (out.new.items ≡ out.old.items ++ decimal number) }
@@ -31,11 +28,12 @@ pub(super) fn push_signed(out: &mut Vec<u8>, number: i32) -> Result<(), AllocErr
 pub(super) fn push_octets(out: &mut Vec<u8>, octets: &[u8]) -> Result<(), AllocError>
     ensures { OnOk result (out.new.items ≡ out.old.items ++ encode_lower octets.now) }
 {
-    for octet in octets {
-        let high = HEX_DIGITS[(*octet / 16) as usize];
-        let low = HEX_DIGITS[(*octet % 16) as usize];
-        out.extend_from_slice(&[high, low])?;
-    }
+    let start = out.len();
+    let end = start
+        .saturating_add(octets.len())
+        .saturating_add(octets.len());
+    out.resize(end, 0)?;
+    hex::encode_to_slice(octets, &mut out[start..]).unwrap();
     Ok(())
 }
 

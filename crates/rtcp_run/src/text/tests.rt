@@ -1,6 +1,11 @@
 use super::digits::{push_decimal, push_octets, push_signed};
-use super::*;
-use std::alloc::Global;
+use super::joined::Shown;
+use super::{push_accepted, push_fault, push_packet};
+use rtcp_wire::{
+    Application, Block, Chunk, FaultReason, Goodbye, OtherPacket, Packet, ReceiverReport, SdesItem,
+    SenderReport, SourceDescription, WireFault,
+};
+use std::alloc::{AllocError, Global};
 use std::test::Fail;
 
 /// A report on a source of which one packet too many came.
@@ -105,7 +110,7 @@ fn octets(rt: HostRuntime) -> Result<(), Fail> {
 #[test]
 fn block_with_a_repeated_packet(rt: HostRuntime) -> Result<(), Fail> {
     let mut out = Vec::new(rt.alloc());
-    push_block(&mut out, &REPEATED)?;
+    REPEATED.push_text(&mut out)?;
     assert_eq!(rt;
         out.as_slice(),
         b"0000000a/25/-1/11/0/b7052000/00054000".as_slice()

@@ -1,5 +1,5 @@
 -- Each turn's outcome follows from what the reader gave and what the lines' answers wrote.
-use Rattle.std.proofs.Common.{◌++◌, ◌<◌, take, length, Ok, ap, arith}
+use Rattle.std.proofs.Common.{◌++◌, ◌<◌, ◌≤◌, take, length, length-take, Ok, ap, arith}
 use Rattle.std.proofs.KnownBytes.{Consumes-trans, Appends-trans}
 use Rattle.rtcp_run.specs.Counted.{inner_of}
 use Rattle.rtcp_run.proofs.CountedLemmas.{zero_unless}
@@ -17,7 +17,8 @@ returns-then-count-eq0-clause-leaves g c =
     let room : 0 < length c.read.new.buf = omega arith in
     Writes-at_end c.finish.result _ (g.R.Read.remaining (inner_of c.turns.reader)) _ _ (g.W.Write.contents (inner_of c.turns.writer)) _
     so_far.0 c.turns.checker.pending.items so_far.1 (take c.in-Ok.count c.read.new.buf) written.0 c.turns.checker.answered
-    so_far.2 so_far.3 so_far.4 given.0 (ap (λ n. take n c.read.new.buf) c.if-count-eq0.true) (given.1 c.if-count-eq0.true room) written.1 written.2
+    so_far.2 so_far.3 so_far.4 given.0 (ap (λ n. take n c.read.new.buf) c.if-count-eq0.true) (given.1 c.if-count-eq0.true room)
+    c.turns.invariant.between.part written.1 written.2
 
 pub turns-preserved : goal.turns-preserved
 turns-preserved g c =
@@ -46,6 +47,7 @@ returns-in_err-take-clause-leaves g c =
     let given = c.in-Ok.ensures.bytes in
     let written = c.in_err-take.ensures.written in
     let fault = c.in_err-take.field-0.0 in
+    let short : length (take c.in-Ok.count c.read.new.buf) ≤ 8192 = rw length-take (omega arith) in
     let start = g.R.Read.remaining (inner_of c.args.reader.now) in
     let left = g.R.Read.remaining (inner_of c.read.new.self) in
     let held = g.W.Write.contents (inner_of c.args.writer.now) in
@@ -53,4 +55,4 @@ returns-in_err-take-clause-leaves g c =
     at_exit (λ r. Writes start held last (CheckLeaves r left)) c.from_residual.result fault c.from_residual.ensures.1
     (Writes-at_fault fault start (g.R.Read.remaining (inner_of c.turns.reader)) left held (g.W.Write.contents (inner_of c.turns.writer)) last
     so_far.0 c.turns.checker.pending.items so_far.1 (take c.in-Ok.count c.read.new.buf) written.0 c.take.new.self.pending.items c.turns.checker.answered c.take.new.self.answered
-    so_far.2 so_far.3 so_far.4 given.0 written.1 written.2)
+    so_far.2 so_far.3 so_far.4 given.0 c.turns.invariant.between.part short written.1 written.2)

@@ -1,4 +1,4 @@
--- What is written is the front so far, and what the call took.
+-- What is written is the prefix so far, and what the call took.
 use Rattle.std.proofs.Common.{◌≡◌, ◌++◌, append_assoc, take, take-append-drop, ap, sym, ◌∙◌}
 use Rattle.std.proofs.KnownBytes.{Appends-trans}
 use Rattle.rtcp_run.proofs.CountedLemmas.{count_after-took}

@@ -3,12 +3,12 @@ use Rattle.std.specs.Io.KnownBytes.{Appends}
 use Rattle.rtcp_run.specs.Counted.{failures_of, inner_of}
 use Rattle.rtcp_run.proofs.writing.hand_over.Given as goal
 
--- a front of the text is written, and the rest is left
+-- a prefix of the text is written, and the rest is left
 abbrev pub invariant-loop-rest : goal.invariant-loop-rest
 invariant-loop-rest g l = record {
   unfailed : failures_of l.writer ≡ 0;
-  written : (front : List ℕ) × (l.text ≡ front ++ l.rest)
-      × Appends (g.W.Write.contents (inner_of l.initial.writer)) (g.W.Write.contents (inner_of l.writer)) front;
+  written : (prefix : List ℕ) × (l.text ≡ prefix ++ l.rest)
+      × Appends (g.W.Write.contents (inner_of l.initial.writer)) (g.W.Write.contents (inner_of l.writer)) prefix;
 }
 
 abbrev pub decreases-loop-rest : goal.decreases-loop-rest

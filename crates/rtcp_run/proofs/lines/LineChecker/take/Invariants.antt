@@ -4,14 +4,14 @@ use Rattle.rtcp_run.specs.Counted.{failures_of, inner_of}
 use Rattle.rtcp_run.specs.Progress.{IsBetween, Answers}
 use Rattle.rtcp_run.proofs.lines.LineChecker.take.Given as goal
 
--- a front of the block is taken, and its lines are answered
+-- a prefix of the block is taken, and its lines are answered
 abbrev pub invariant-loop-rest : goal.invariant-loop-rest
 invariant-loop-rest g l = record {
   between : IsBetween l.self.answered l.self.pending.items;
   unfailed : failures_of l.writer ≡ 0;
-  written : (front : List ℕ) × (text : List ℕ) × (l.block ≡ front ++ l.rest)
+  written : (prefix : List ℕ) × (text : List ℕ) × (l.block ≡ prefix ++ l.rest)
       × Appends (g.W.Write.contents (inner_of l.initial.writer)) (g.W.Write.contents (inner_of l.writer)) text
-      × Answers l.initial.self.answered (l.initial.self.pending.items ++ front) l.self.answered l.self.pending.items text;
+      × Answers l.initial.self.answered (l.initial.self.pending.items ++ prefix) l.self.answered l.self.pending.items text;
 }
 
 abbrev pub decreases-loop-rest : goal.decreases-loop-rest

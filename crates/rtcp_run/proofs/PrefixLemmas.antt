@@ -1,4 +1,4 @@
--- Every input has a text, so that the answers to its first lines are a front of one.
+-- Every input has a text, so that the answers to its first lines are a prefix of one.
 use Rattle.std.proofs.Common.{◌≡◌, ℕ, ◌+◌, ◌≤◌, ◌⊎◌, inl, inr, List, [], ◌∷◌, ◌++◌, length, Option, Some, None, Result, Ok, Err, IsErr, OnOk, refl, sym, subst, append_assoc, append-nil}
 use Rattle.std.proofs.lemmas.Bool.{cases_lt}
 use Rattle.std.specs.Io.KnownBytes.{Keeps}
@@ -12,10 +12,16 @@ use Rattle.rtcp_run.specs.declared.fault.LineFault.{LineFault}
 use Rattle.rtcp_run.specs.declared.fault.LineFault.TheVariants.{LineTooLong, TooManyLines, Hex}
 use Rattle.rtcp_run.specs.declared.fault.TextFault.{TextFault}
 use Rattle.rtcp_run.specs.declared.fault.TextFault.TheVariants.{Text, Read, Write, Memory}
-use Rattle.rtcp_run.specs.Check.{lines_of, IsAnswer, IsCheckText, IsFrontOfText, IsTextOf, Writes}
+use Rattle.rtcp_run.specs.Check.{lines_of, IsAnswer, IsCheckText, IsPrefixOfText, IsTextOf, AnswersUpToBlock, AnswersLinesBefore, Writes}
 use Rattle.rtcp_run.specs.Text.{accepted_text, fault_text}
-use Rattle.rtcp_run.specs.Progress.{IsFrontOfAnswers, CheckLeaves}
+use Rattle.rtcp_run.specs.Progress.{IsPrefixOfAnswers, CheckLeaves}
 use Rattle.rtcp_run.proofs.LinesLemmas.{lines_of-begins, IsCheckText-append}
+use Rattle.rtcp_run.proofs.ProgressLemmas.{ne-append}
+
+-- Lines that are answered up to a block are lines before some line.
+pub AnswersLinesBefore-block : (left : Option (List ℕ)) (input text : List ℕ) → AnswersUpToBlock left input text → AnswersLinesBefore input text
+AnswersLinesBefore-block left input text (lines, part, block, rest, is_left, each, short, some, begins, texts) =
+    (lines, (part ++ block) ++ rest, ne-append (part ++ block) rest some, begins, texts)
 
 -- Every datagram is accepted or has a first fault.
 abbrev pub AlwaysOne : Type 0
@@ -29,7 +35,7 @@ module _ (law : AlwaysOne) where
         | inr refused ↦ (fault_text refused.0, inr (refused.0, refused.1, refl))
       ]
 
-  -- a text of these lines, if the others behind the first have one
+  -- a text of these lines, if the others after the first have one
   first_exists : (n : ℕ) (line : List ℕ) (lines : List (List ℕ)) (r : Result (List ℕ) FromHexError) → n ≤ 65536 → length line ≤ 131200 → decode_of line ≡ r
       → ((text : List ℕ) × (end : Option (ℕ × LineFault)) × IsCheckText (n + 1) lines text end)
       → (text : List ℕ) × (end : Option (ℕ × LineFault)) × IsCheckText n (line ∷ lines) text end
@@ -53,8 +59,8 @@ module _ (law : AlwaysOne) where
             ]
       ]
 
-  pub IsFrontOfText-answers : (input text : List ℕ) → IsFrontOfAnswers input text → IsFrontOfText input text
-  IsFrontOfText-answers input text (lines, others, more, parts, texts) =
+  pub IsPrefixOfText-answers : (input text : List ℕ) → IsPrefixOfAnswers input text → IsPrefixOfText input text
+  IsPrefixOfText-answers input text (lines, others, more, parts, texts) =
       let rest = text_exists (1 + length lines) others in (
         rest.1,
         more ++ rest.0,
@@ -63,21 +69,22 @@ module _ (law : AlwaysOne) where
             (IsCheckText-append 1 lines others (text ++ more) rest.0 rest.1 texts rest.2)),
       )
 
-  pub IsFrontOfText-leaves : {A : Type 0} (r : Result A TextFault) (left : Option (List ℕ)) (input text : List ℕ) → CheckLeaves r left input text → IsFrontOfText input text
-  IsFrontOfText-leaves (Ok x) left input text leaves = (None, [], subst (λ t. IsCheckText 1 (lines_of input) t None) (sym (append-nil text)) leaves)
-  IsFrontOfText-leaves (Err (Text number fault)) left input text leaves =
+  pub IsPrefixOfText-leaves : {A : Type 0} (r : Result A TextFault) (left : Option (List ℕ)) (input text : List ℕ) → CheckLeaves r left input text → IsPrefixOfText input text
+  IsPrefixOfText-leaves (Ok x) left input text leaves = (None, [], subst (λ t. IsCheckText 1 (lines_of input) t None) (sym (append-nil text)) leaves)
+  IsPrefixOfText-leaves (Err (Text number fault)) left input text leaves =
       (Some (number, fault), [], subst (λ t. IsCheckText 1 (lines_of input) t (Some (number, fault))) (sym (append-nil text)) leaves)
-  IsFrontOfText-leaves (Err Memory) left input text (lines, rest, some, begins, texts) =
-      IsFrontOfText-answers input text (lines, lines_of rest, [], lines_of-begins input lines rest begins, subst (λ t. IsCheckText 1 lines t None) (sym (append-nil text)) texts)
-  IsFrontOfText-leaves (Err Read) left input text (lines, part, rest, is_left, each, begins, texts) =
-      IsFrontOfText-answers input text (
+  IsPrefixOfText-leaves (Err Memory) left input text leaves =
+      let (lines, rest, some, begins, texts) = AnswersLinesBefore-block left input text leaves in
+      IsPrefixOfText-answers input text (lines, lines_of rest, [], lines_of-begins input lines rest begins, subst (λ t. IsCheckText 1 lines t None) (sym (append-nil text)) texts)
+  IsPrefixOfText-leaves (Err Read) left input text (lines, part, rest, is_left, each, begins, texts) =
+      IsPrefixOfText-answers input text (
         lines,
         lines_of (part ++ rest),
         [],
         lines_of-begins input lines (part ++ rest) begins,
         subst (λ t. IsCheckText 1 lines t None) (sym (append-nil text)) texts,
       )
-  IsFrontOfText-leaves (Err Write) left input text leaves = IsFrontOfText-answers input text leaves
+  IsPrefixOfText-leaves (Err Write) left input text leaves = IsPrefixOfText-answers input text leaves
 
 -- ---- the clauses of a check
 
