@@ -1,5 +1,5 @@
 mod Joining
-mod Fronts
+mod Prefixes
 mod Fixed
 mod Chunks
 mod Bodies

@@ -1,4 +1,4 @@
--- Why a datagram is refused, and where: the first fault from its front (RFC 3550, appendix A.2, and this profile's own tests).
+-- Why a datagram is refused, and where: the first fault from its start (RFC 3550, appendix A.2, and this profile's own tests).
 use Rattle.std.specs.Prelude.{◌≡◌, ◌≢◌, ℕ, ◌+◌, ◌*◌, ◌<◌, ◌≤◌, ◌⊎◌, ◌==◌, if◌then◌else◌, Bool, true, List, [], ◌∷◌, ◌++◌, length, drop}
 use Rattle.rtcp_wire.specs.declared.fault.FaultReason.{FaultReason}
 use Rattle.rtcp_wire.specs.declared.fault.FaultReason.TheVariants.{Short, Version, FirstType, FirstPadding, Length, Padding, Body, Item, Reason, TooLong}
@@ -11,13 +11,13 @@ abbrev pub least_size : ℕ → ℕ → ℕ
 least_size kind count =
     if kind == 200 then 24 + 24 * count else if kind == 201 then 4 + 24 * count else if kind == 203 then 4 * count else if kind == 204 then 8 else 0
 
--- Chunks were expected, and then no identifier could follow, or octets were left behind the last of them.
+-- Chunks were expected, and then no identifier could follow, or octets were left after the last of them.
 pub record EndsBesideChunks (count : ℕ) (body : List ℕ) : Type 0 where
   pub chunks : List ChunkValue
-  pub front : List ℕ
+  pub prefix : List ℕ
   pub rest : List ℕ
-  pub parts : body ≡ front ++ rest
-  pub each : Joins IsChunk chunks front
+  pub parts : body ≡ prefix ++ rest
+  pub each : Joins IsChunk chunks prefix
   pub stop : ((length chunks < count) × (length rest < 4)) ⊎ ((length chunks ≡ count) × (rest ≢ []))
 
 -- an item of which the length octet or a part of the text is missing, or nothing where an item or the zero octet is expected
@@ -26,22 +26,22 @@ IsCut [] = Unit {0}
 IsCut (kind ∷ []) = kind ≢ 0
 IsCut (kind ∷ size ∷ text) = (kind ≢ 0) × (length text < size)
 
--- Inside a chunk, behind whole items, the body ends too early.
+-- Inside a chunk, after whole items, the body ends too early.
 pub record EndsInsideChunk (count : ℕ) (body : List ℕ) : Type 0 where
   pub chunks : List ChunkValue
   pub items : List ItemValue
-  pub front : List ℕ
+  pub prefix : List ℕ
   pub id : List ℕ
   pub middle : List ℕ
   pub cut : List ℕ
-  pub parts : body ≡ front ++ (id ++ (middle ++ cut))
-  pub each : Joins IsChunk chunks front
+  pub parts : body ≡ prefix ++ (id ++ (middle ++ cut))
+  pub each : Joins IsChunk chunks prefix
   pub expected : length chunks < count
   pub id_size : length id ≡ 4
   pub each_item : Joins IsItem items middle
   pub ends : IsCut cut
 
--- Octets that are no reason: the text passes their end, or a word or more is left behind it.
+-- Octets that are no reason: the text passes their end, or a word or more is left after it.
 abbrev pub IsNoReason : List ℕ → Type 0
 IsNoReason [] = ⊥
 IsNoReason (size ∷ text) = (length text < size) ⊎ (size + 4 ≤ length text)
@@ -89,17 +89,17 @@ pub record IsFirstRow (reason : FaultReason) (is_first : Bool) (octets : List �
 abbrev pub MayStand : Bool → List ℕ → Type 0
 MayStand is_first octets = is_first ≡ true → MayBegin octets
 
--- Behind a front that is empty or accepted, no spelling may follow.
+-- After a prefix that is empty or accepted, no spelling may follow.
 pub record StopsAt (octets : List ℕ) (fault : WireFault) : Type 0 where
   pub short : length octets ≤ 65535
-  pub front : List ℕ
+  pub prefix : List ℕ
   pub rest : List ℕ
-  pub parts : octets ≡ front ++ rest
-  pub place : fault.place ≡ length front
-  pub before : (front ≡ []) ⊎ ((packets : List RtcpPacket) × IsAccepted front packets)
+  pub parts : octets ≡ prefix ++ rest
+  pub place : fault.place ≡ length prefix
+  pub before : (prefix ≡ []) ⊎ ((packets : List RtcpPacket) × IsAccepted prefix packets)
   pub more : (rest ≢ []) ⊎ (octets ≡ [])
-  pub unreadable : (packet : RtcpPacket) (spelling after : List ℕ) → rest ≡ spelling ++ after → IsSpelling packet spelling → MayStand (length front == 0) spelling → ⊥
-  pub row : IsFirstRow fault.reason (length front == 0) rest
+  pub unreadable : (packet : RtcpPacket) (spelling after : List ℕ) → rest ≡ spelling ++ after → IsSpelling packet spelling → MayStand (length prefix == 0) spelling → ⊥
+  pub row : IsFirstRow fault.reason (length prefix == 0) rest
 
 -- the datagram's first fault
 abbrev pub IsFirstFault : List ℕ → WireFault → Type 0

@@ -7,7 +7,7 @@ use Rattle.rtcp_wire.specs.Values.{SenderValue, ReportBlock, ItemValue, ChunkVal
 -- The octets are spellings of these values, one after the other.
 abbrev pub Joins : {A : Type 0} → (A → List ℕ → Type 0) → List A → List ℕ → Type 0
 Joins Spells [] octets = octets ≡ []
-Joins Spells (x ∷ xs) octets = (front : List ℕ) × (rest : List ℕ) × (octets ≡ front ++ rest) × Spells x front × Joins Spells xs rest
+Joins Spells (x ∷ xs) octets = (prefix : List ℕ) × (rest : List ℕ) × (octets ≡ prefix ++ rest) × Spells x prefix × Joins Spells xs rest
 
 -- ---- The header's word (6.4.1): version 2, padding bit, count; type; length in words less one.
 
@@ -75,11 +75,11 @@ sender_in octets = record {
 
 -- A sender report (6.4.1): its sender, and then blocks and an extension.
 pub record IsSenderReport (sender : SenderValue) (blocks : List ReportBlock) (extension : List ℕ) (count : ℕ) (body : List ℕ) : Type 0 where
-  pub front : List ℕ
+  pub prefix : List ℕ
   pub rest : List ℕ
-  pub parts : body ≡ front ++ rest
-  pub front_size : length front ≡ 24
-  pub says : sender ≡ sender_in front
+  pub parts : body ≡ prefix ++ rest
+  pub prefix_size : length prefix ≡ 24
+  pub says : sender ≡ sender_in prefix
   pub ends : IsReportEnd blocks extension count rest
 
 -- the identifier that four octets say
@@ -117,18 +117,18 @@ pub record IsReason (text octets : List ℕ) : Type 0 where
   pub fill : length free < 4
   pub aligned : length octets % 4 ≡ 0
 
--- what stands behind the identifiers of a goodbye (6.6): a reason, or nothing
+-- what follows the identifiers of a goodbye (6.6): a reason, or nothing
 abbrev pub IsReasonPart : Option (List ℕ) → List ℕ → Type 0
 IsReasonPart None octets = octets ≡ []
 IsReasonPart (Some text) octets = IsReason text octets
 
 -- A goodbye (6.6): as many identifiers as the count says, and perhaps a reason.
 pub record IsGoodbye (ids : List ℕ) (reason : Option (List ℕ)) (count : ℕ) (body : List ℕ) : Type 0 where
-  pub front : List ℕ
+  pub prefix : List ℕ
   pub rest : List ℕ
-  pub parts : body ≡ front ++ rest
+  pub parts : body ≡ prefix ++ rest
   pub counted : length ids ≡ count
-  pub each : Joins IsId ids front
+  pub each : Joins IsId ids prefix
   pub ends : IsReasonPart reason rest
 
 -- An application's own packet (6.7): an identifier, a name of four octets, and what the application says.
@@ -153,7 +153,7 @@ IsBody (other its_kind its_count its_body) kind count body = IsOtherType kind ×
 
 -- ---- Packets and compounds
 
--- The octets are one spelling of the packet. Those of padding but the last, and those that fill a word behind a chunk's zero or a reason's text, are free.
+-- The octets are one spelling of the packet. Those of padding but the last, and those that fill a word after a chunk's zero or a reason's text, are free.
 pub record IsSpelling (packet : RtcpPacket) (octets : List ℕ) : Type 0 where
   pub version : version_of octets ≡ 2
   pub size : length octets ≡ size_of octets

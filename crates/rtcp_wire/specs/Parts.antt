@@ -12,9 +12,9 @@ use Rattle.rtcp_wire.specs.Grammar.{Joins, IsItem, version_of, is_padded, size_o
 use Rattle.rtcp_wire.specs.Faults.{least_size, IsCut, IsNoReason, FindsInBody, Finds, EndsBesideChunks, EndsInsideChunk, IsFirstRow, MayStand}
 use Rattle.rtcp_wire.specs.Views.{item_of}
 
--- A part was taken from the front of the octets, and the rest is left.
+-- A part was taken from the start of the octets, and the rest is left.
 abbrev pub Takes : List ℕ → List ℕ → (List ℕ → Type 0) → Type 0
-Takes old new P = (front : List ℕ) × (old ≡ front ++ new) × P front
+Takes old new P = (prefix : List ℕ) × (old ≡ prefix ++ new) × P prefix
 
 -- The error is this reason where it holds, or memory.
 abbrev pub Fails : PartError → FaultReason → Type 0 → Type 0
@@ -30,7 +30,7 @@ IsTooShort Memory least body = least ≤ length body
 
 -- ---- Source descriptions
 
--- an item, or the zero octet behind the last one
+-- an item, or the zero octet after the last one
 abbrev pub TakesItem : List ℕ → List ℕ → Option SdesItem → Type 0
 TakesItem old new None = old ≡ 0 ∷ new
 TakesItem old new (Some item) = Takes old new (IsItem (item_of item))

@@ -90,7 +90,7 @@ pub record IsRtpHead (octets : List ℕ) (head : RtpValue) : Type 0 where
 abbrev pub lists_size : List ℕ → ℕ
 lists_size octets = 12 + 4 * csrc_count_of octets
 
--- what stands behind the CSRC list
+-- what follows the CSRC list
 abbrev pub behind_csrcs : List ℕ → List ℕ
 behind_csrcs octets = drop (lists_size octets) octets
 
@@ -99,7 +99,7 @@ abbrev pub without_extension : Bool → List ℕ → List ℕ
 without_extension true octets = drop (extension_size octets) octets
 without_extension false octets = octets
 
--- what stands behind the extension: the payload and the padding
+-- what follows the extension: the payload and the padding
 abbrev pub behind_extension : List ℕ → List ℕ
 behind_extension octets = without_extension (has_extension octets) (behind_csrcs octets)
 

@@ -30,9 +30,9 @@ pub record ChunkValue : Type 0 where
   pub items : List ItemValue
 
 pub data RtcpPacket : Type 0 where
-  -- a sender report (6.4.1): its sender, its blocks, and the extension behind them
+  -- a sender report (6.4.1): its sender, its blocks, and the extension after them
   sr : (sender : SenderValue) (blocks : List ReportBlock) (extension : List ℕ) → RtcpPacket
-  -- a receiver report (6.4.2): its sender, its blocks, and the extension behind them
+  -- a receiver report (6.4.2): its sender, its blocks, and the extension after them
   rr : (ssrc : ℕ) (blocks : List ReportBlock) (extension : List ℕ) → RtcpPacket
   -- a source description (6.5)
   sdes : (chunks : List ChunkValue) → RtcpPacket

@@ -9,7 +9,7 @@ use Rattle.rtcp_wire.specs.Grammar.{IsOtherType, IsAccepted}
 
 -- ---- Parts
 
--- zeros behind so many octets, up to the end of their last word
+-- zeros after so many octets, up to the end of their last word
 abbrev pub fill_behind : ℕ → List ℕ
 fill_behind size = replicate ((4 - size % 4) % 4) 0
 
@@ -24,7 +24,7 @@ written_block block =
     ++ (block.fraction ∷ big_bytes 3 (low_bytes w64 3 block.lost)
     ++ (written_word block.highest ++ (written_word block.jitter ++ (written_word block.lsr ++ written_word block.dlsr))))
 
--- the front of a sender report (6.4.1)
+-- the prefix of a sender report (6.4.1)
 abbrev pub written_sender : SenderValue → List ℕ
 written_sender sender =
     written_word sender.ssrc
@@ -47,7 +47,7 @@ written_reason (Some text) = length text ∷ (text ++ fill_behind (length text +
 
 -- ---- Packets
 
--- what stands behind the header
+-- what follows the header
 abbrev pub written_body : RtcpPacket → List ℕ
 written_body (sr sender blocks extension) = written_sender sender ++ (flat_map written_block blocks ++ extension)
 written_body (rr ssrc blocks extension) = written_word ssrc ++ (flat_map written_block blocks ++ extension)

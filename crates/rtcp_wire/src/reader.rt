@@ -47,9 +47,9 @@ impl<'a> Reader<'a> {
         ensures taken { result.now ≡ take count self.old }
         ensures rest { self.new ≡ drop count self.old }
     {
-        let (front, rest) = self.rest.split_at(count);
+        let (prefix, rest) = self.rest.split_at(count);
         self.rest = rest;
-        front
+        prefix
     }
 
     /// The next octet.

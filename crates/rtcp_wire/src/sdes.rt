@@ -63,7 +63,7 @@ fn read_item(alloc: Global, reader: &mut Reader<'_>) -> Result<Option<SdesItem>,
 /// The items up to the zero octet behind them.
 fn read_items(alloc: Global, reader: &mut Reader<'_>) -> Result<Vec<SdesItem>, PartError>
     ensures { MatchResult result
-        (λ items. (front : List ℕ) × (reader.old ≡ front ++ 0 ∷ reader.new) × Joins IsItem (map item_of items.items) front)
+        (λ items. (prefix : List ℕ) × (reader.old ≡ prefix ++ 0 ∷ reader.new) × Joins IsItem (map item_of items.items) prefix)
         (λ error. Fails error FaultReason.Item (EndsInItems reader.old)) }
 {
     let mut items = Vec::new(alloc);

@@ -85,8 +85,8 @@ pub(crate) fn read_sender_report(
     if reader.left() < SENDER_SIZE + BLOCK_SIZE * count as usize {
         return Err(PartError::Fault(FaultReason::Body));
     }
-    let front = reader.take(SENDER_SIZE);
+    let prefix = reader.take(SENDER_SIZE);
     let blocks = read_blocks(alloc, count, &mut reader)?;
     let extension = Vec::from_slice(alloc, reader.rest())?;
-    Ok(report_from(front, blocks, extension))
+    Ok(report_from(prefix, blocks, extension))
 }
