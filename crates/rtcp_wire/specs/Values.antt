@@ -24,7 +24,7 @@ pub record ItemValue : Type 0 where
   pub kind : ℕ
   pub text : List ℕ
 
--- an SDES chunk: a source, and what it says of itself (6.5)
+-- an SDES chunk: a source, and the items that describe it (6.5)
 pub record ChunkValue : Type 0 where
   pub id : ℕ
   pub items : List ItemValue
@@ -38,7 +38,7 @@ pub data RtcpPacket : Type 0 where
   sdes : (chunks : List ChunkValue) → RtcpPacket
   -- a goodbye (6.6): the sources that leave, and the octets of the text that says why
   bye : (ids : List ℕ) (reason : Option (List ℕ)) → RtcpPacket
-  -- an application's own packet (6.7): its subtype, its source, its name of four octets, and what the application says
+  -- a packet that an application defines (6.7): its subtype, its source, its name of four octets, its data
   app : (subtype ssrc : ℕ) (name content : List ℕ) → RtcpPacket
   -- a packet of another type, whose body is kept as it is
   other : (kind count : ℕ) (body : List ℕ) → RtcpPacket
