@@ -2,11 +2,13 @@
 
 ghost use Rattle.std.specs.Prelude.{◌≡◌, ◌≤◌, length, drop};
 ghost use Rattle.byteorder.specs.Endian.{big_number};
-ghost use Rattle.rtcp_wire.specs.RtpHeads.{rtp_version_of, has_padding, has_extension, csrc_count_of, marker_of, payload_type_of};
+ghost use Rattle.rtcp_wire.specs.RtpHeads.{
+    rtp_version_of, has_padding, has_extension, csrc_count_of, marker_of, payload_type_of,
+};
 
 use crate::reader::Reader;
 
-/// The octets of the fixed part.
+/// The octets of the fixed part (RFC 3550, 5.1).
 pub(crate) const FIXED_SIZE: usize = 12;
 
 /// The fixed part of an RTP header (RFC 3550, 5.1).
@@ -35,7 +37,7 @@ pub(crate) struct FixedPart {
     pub(crate) ssrc: u32,
 }
 
-/// The fixed part that the next twelve octets are.
+/// Takes the fixed part, the next twelve octets.
 pub(crate) fn take_fixed(reader: &mut Reader<'_>) -> FixedPart
     requires { 12 ≤ length reader.old }
     ensures version { result.version ≡ rtp_version_of reader.old }
