@@ -119,7 +119,7 @@ FindsRtp Extension octets =
 FindsRtp Padding octets =
     (has_padding octets ≡ true)
     × ((behind_extension octets ≡ []) ⊎ (last_of (behind_extension octets) ≡ 0)
-      ⊎ (length (behind_extension octets) < last_of (behind_extension octets)))
+    ⊎ (length (behind_extension octets) < last_of (behind_extension octets)))
 
 -- the order of the tests
 abbrev pub rtp_row_of : RtpFault → ℕ

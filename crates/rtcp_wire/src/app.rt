@@ -43,7 +43,7 @@ pub(crate) fn read_application(
 ) -> Result<Application, PartError>
     ensures { MatchResult result
         (λ packet. (packet.subtype ≡ subtype)
-            × IsApplication packet.ssrc packet.name packet.data.items body.now)
+        × IsApplication packet.ssrc packet.name packet.data.items body.now)
         (λ error. IsTooShort error 8 body.now) }
 {
     let mut reader = Reader::new(body);

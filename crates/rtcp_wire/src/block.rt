@@ -32,10 +32,11 @@ pub struct Block {
     pub ssrc: u32,
     /// The fraction of its packets lost since the last report, in units of 1/256.
     pub fraction: u8,
-    /// How many packets were lost since the beginning, from -8,388,608 to 8,388,607. A packet that comes twice counts as
-    /// received twice, so the number may be negative.
+    /// How many packets were lost since the beginning, from -8,388,608 to 8,388,607. A packet that comes
+    /// twice counts as received twice, so the number may be negative.
     pub lost: i32,
-    /// The highest sequence number received in the low 16 bits, and above them how often sequence numbers wrapped.
+    /// The highest sequence number received in the low 16 bits, and above them how often sequence numbers
+    /// wrapped.
     pub highest: u32,
     /// The jitter of the packets' arrival, in units of their RTP timestamps.
     pub jitter: u32,

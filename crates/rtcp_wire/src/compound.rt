@@ -16,22 +16,27 @@ use std::alloc::Global;
 /// The most octets of a datagram: UDP's own limit.
 pub const MAX_DATAGRAM: usize = 65_535;
 
-/// Reads the packets of a datagram (RFC 3550, 6.1): one or more, the first a report without padding, up to its last octet.
+/// Reads the packets of a datagram (RFC 3550, 6.1): one or more, the first a report without padding, up to
+/// its last octet.
 ///
 /// What the packets hold is allocated from `alloc`.
 ///
 /// # Errors
 ///
-/// - [`ReadError::Wire`] where the datagram is not a compound: its first fault, and the offset of the packet that has it.
-/// - [`ReadError::Memory`] where an allocation failed. The datagram may then be good or bad, but its first packet is good:
-///   a fault there is found before anything is allocated.
+/// - [`ReadError::Wire`] where the datagram is not a compound: its first fault, and the offset of the packet
+///   that has it.
+/// - [`ReadError::Memory`] where an allocation failed. The datagram may then be good or bad, but its first
+///   packet is good: a fault there is found before anything is allocated.
 pub fn read_owned(alloc: Global, datagram: &[u8]) -> Result<Vec<Packet>, ReadError>
     // What is read is what the octets encode, and a fault is their first one.
     ensures accepted { IfOk result (λ packets. IsAccepted datagram.now (packets_of packets.items)) }
-    ensures refused { (fault : Fault) → result ≡ Err (ReadError.Wire fault) → IsFirstFault datagram.now fault }
+    ensures refused { (fault : Fault) → result ≡ Err (ReadError.Wire fault) →
+        IsFirstFault datagram.now fault }
 
-    // What is so encoded is read, and a first fault is found, unless memory runs out: it never does at the first packet.
-    ensures reads { (packets : List RtcpPacket) → IsAccepted datagram.now packets → GivesPackets result packets }
+    // What is so encoded is read, and a first fault is found, unless memory runs out: it never does at the
+    // first packet.
+    ensures reads { (packets : List RtcpPacket) → IsAccepted datagram.now packets →
+        GivesPackets result packets }
     ensures finds { (fault : Fault) → IsFirstFault datagram.now fault → GivesFault result fault }
     ensures prompt { (fault : Fault) → IsFirstFault datagram.now fault → fault.place ≡ 0 →
         result ≡ Err (ReadError.Wire fault) }
@@ -49,7 +54,8 @@ pub fn read_owned(alloc: Global, datagram: &[u8]) -> Result<Vec<Packet>, ReadErr
 fn read_packets(alloc: Global, datagram: &[u8]) -> Result<Vec<Packet>, ReadError>
     requires { length datagram.now ≤ 65535 }
     ensures accepted { IfOk result (λ packets. IsAccepted datagram.now (packets_of packets.items)) }
-    ensures refused { (fault : Fault) → result ≡ Err (ReadError.Wire fault) → IsFirstFault datagram.now fault }
+    ensures refused { (fault : Fault) → result ≡ Err (ReadError.Wire fault) →
+        IsFirstFault datagram.now fault }
     ensures prompt { result ≡ Err ReadError.Memory → (fault : Fault) → IsFirstFault datagram.now fault →
         fault.place ≡ 0 → ⊥ }
 {

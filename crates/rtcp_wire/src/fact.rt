@@ -14,7 +14,8 @@ pub use remaining::Facts;
 ///
 /// - A sender report: its sender was heard, and sent this NTP timestamp.
 /// - A receiver report, and a packet that an application defines: their source was heard.
-/// - A source description, for each chunk: its source was heard, and gave its CNAME if the chunk has one or more.
+/// - A source description, for each chunk: its source was heard, and gave its CNAME if the chunk has one or
+///   more.
 /// - A goodbye, for each identifier: the source left.
 ///
 /// Report blocks and packets of other types give no facts.
@@ -35,8 +36,8 @@ pub enum Fact {
     Named(u32),
     /// The source left (RFC 3550, 6.6).
     Gone(u32),
-    /// An RTP packet of the source came, with this sequence number and this timestamp (RFC 3550, 5.1). No RTCP packet says
-    /// so: the law `compounds_give_no_media`.
+    /// An RTP packet of the source came, with this sequence number and this timestamp (RFC 3550, 5.1). No
+    /// RTCP packet says so: the law `compounds_give_no_media`.
     Media(u32, u16, u32),
 }
 

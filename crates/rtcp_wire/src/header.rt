@@ -34,7 +34,8 @@ pub(crate) fn read_header(octets: &[u8], is_first: bool) -> Result<Header, PartE
     ensures whole { MatchResult result
         (λ _. IsWhole is_first octets.now)
         (λ error. IsRow error is_first octets.now) }
-    ensures fields { IfOk result (λ header. (header.count ≡ count_of octets.now) × (header.kind ≡ type_of octets.now)
+    ensures fields { IfOk result (λ header.
+        (header.count ≡ count_of octets.now) × (header.kind ≡ type_of octets.now)
         × (header.size ≡ size_of octets.now) × (header.is_padded ≡ is_padded octets.now)) }
 {
     if octets.len() < HEADER_SIZE {
@@ -78,14 +79,15 @@ fn header_at(octets: &[u8]) -> Header
     }
 }
 
-/// What stands between the header and the padding of a whole packet (RFC 3550, 6.4.1). Of the padding only the last octet is
-/// looked at, which counts it.
+/// What stands between the header and the padding of a whole packet (RFC 3550, 6.4.1). Of the padding only
+/// the last octet is looked at, which counts it.
 pub(crate) fn unpadded(octets: &[u8], has_padding: bool) -> Result<&[u8], PartError>
     requires size { length octets.now ≡ size_of octets.now }
     requires padding { has_padding ≡ is_padded octets.now }
     ensures { MatchResult result
         (λ body. IsUnpadded octets.now body.now)
-        (λ error. (error ≡ PartError.Fault FaultReason.Padding) × Finds FaultReason.Padding false octets.now) }
+        (λ error. (error ≡ PartError.Fault FaultReason.Padding)
+        × Finds FaultReason.Padding false octets.now) }
 {
     let mut reader = Reader::new(octets);
     reader.take(HEADER_SIZE);

@@ -1,5 +1,6 @@
-//! Laws of the RTCP grammar (`specs/Grammar`, `specs/Faults`, `specs/Facts`), whatever reads the octets. Each is an empty
-//! function whose postcondition is the law; `proofs/LawLemmas` has a lemma of its name, or one for each clause.
+//! Laws of the RTCP grammar (`specs/Grammar`, `specs/Faults`, `specs/Facts`), whatever reads the octets. Each
+//! is an empty function whose postcondition is the law; `proofs/LawLemmas` has a lemma of its name, or one
+//! for each clause.
 
 ghost use Rattle.std.specs.Prelude.{◌≡◌, ℕ, ◌++◌, ◌⊎◌, false, List, All};
 ghost use Rattle.rtcp_wire.specs.Grammar.{IsSpelling, IsAccepted};
@@ -8,7 +9,8 @@ ghost use Rattle.rtcp_wire.specs.Facts.{is_media, facts_of};
 ghost use Rattle.rtcp_wire.specs.Values.{RtcpPacket};
 ghost use Rattle.rtcp_wire.specs.declared.fault.WireFault.{WireFault};
 
-/// The encoding of a packet is never a proper prefix of another's, whatever follows either, and it encodes one packet.
+/// The encoding of a packet is never a proper prefix of another's, whatever follows either, and it encodes
+/// one packet.
 pub fn one_spelling()
     ensures { (p q : RtcpPacket) (s t x y : List ℕ) → IsSpelling p s → IsSpelling q t → s ++ x ≡ t ++ y →
         (s ≡ t) × (p ≡ q) }
@@ -16,7 +18,8 @@ pub fn one_spelling()
 
 /// A datagram that is accepted is one list of packets.
 pub fn one_reading()
-    ensures { (octets : List ℕ) (ps qs : List RtcpPacket) → IsAccepted octets ps → IsAccepted octets qs → ps ≡ qs }
+    ensures { (octets : List ℕ) (ps qs : List RtcpPacket) → IsAccepted octets ps → IsAccepted octets qs →
+        ps ≡ qs }
 {}
 
 /// A datagram has at most one first fault: one reason, at one offset.

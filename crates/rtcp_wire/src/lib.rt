@@ -1,6 +1,6 @@
-//! Reads and writes RTCP packets (RFC 3550, 6.1 to 6.7), and reads RTP packets (5.1). It is deterministic: it reads no
-//! clock, opens no socket and draws no random number. Only `read_owned` allocates, from the allocator that it is given,
-//! what the packets hold.
+//! Reads and writes RTCP packets (RFC 3550, 6.1 to 6.7), and reads RTP packets (5.1). It is deterministic: it
+//! reads no clock, opens no socket and draws no random number. Only `read_owned` allocates, from the
+//! allocator that it is given, what the packets hold.
 //!
 //! ```
 //! let datagram = [0x80, 0xc9, 0, 1, 0, 0, 0, 7, 0x81, 0xca, 0, 2, 0, 0, 0, 7, 1, 1, 0x61, 0];
@@ -11,9 +11,9 @@
 //! }
 //! ```
 //!
-//! `specs/` defines what octets mean (`Grammar`, `RtpHeads`), which fault they have (`Faults`), what packets say of sources
-//! (`Facts`) and what is written (`Writing`). The modules `laws`, `rtp_laws` and `write_laws` state laws of these
-//! definitions.
+//! `specs/` defines what octets mean (`Grammar`, `RtpHeads`), which fault they have (`Faults`), what packets
+//! say of sources (`Facts`) and what is written (`Writing`). The modules `laws`, `rtp_laws` and `write_laws`
+//! state laws of these definitions.
 #![tactic(auto)]
 
 mod app;

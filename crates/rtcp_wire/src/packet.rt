@@ -35,8 +35,8 @@ pub enum Packet {
     Other(OtherPacket),
 }
 
-/// Reads the next packet. The tests come in the order of `FaultReason`, and at the datagram's first packet all of them come
-/// before the first allocation.
+/// Reads the next packet. The tests come in the order of `FaultReason`, and at the datagram's first packet
+/// all of them come before the first allocation.
 pub(crate) fn read_packet(
     alloc: Global,
     reader: &mut Reader<'_>,
@@ -44,7 +44,7 @@ pub(crate) fn read_packet(
 ) -> Result<Packet, PartError>
     ensures { MatchResult result
         (λ packet. Takes reader.old reader.new
-            (λ octets. IsSpelling (packet_of packet) octets × MayStand is_first octets))
+        (λ octets. IsSpelling (packet_of packet) octets × MayStand is_first octets))
         (λ error. IsPacketFault error is_first reader.old) }
 {
     let header = read_header(reader.rest(), is_first)?;

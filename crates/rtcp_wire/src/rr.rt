@@ -40,7 +40,7 @@ pub(crate) fn read_report(
 ) -> Result<ReceiverReport, PartError>
     ensures { MatchResult result
         (λ report. IsReport
-            report.ssrc (map block_value report.blocks.items) report.extension.items count body.now)
+        report.ssrc (map block_value report.blocks.items) report.extension.items count body.now)
         (λ error. IsTooShort error (4 + 24 * count) body.now) }
 {
     let mut reader = Reader::new(body);

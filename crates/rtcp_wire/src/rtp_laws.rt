@@ -1,5 +1,5 @@
-//! Laws of RTP packets (`specs/RtpHeads`), whatever reads the octets. Each is an empty function whose postcondition is the
-//! law; `proofs/LawLemmas` has a lemma of its name, or one for each clause.
+//! Laws of RTP packets (`specs/RtpHeads`), whatever reads the octets. Each is an empty function whose
+//! postcondition is the law; `proofs/LawLemmas` has a lemma of its name, or one for each clause.
 
 ghost use Rattle.std.specs.Prelude.{◌≡◌, ℕ, ◌⊎◌, List};
 ghost use Rattle.rtcp_wire.specs.RtpHeads.{RtpValue, IsRtpHead, IsRtpFault};

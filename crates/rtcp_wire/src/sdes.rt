@@ -49,7 +49,7 @@ pub(crate) fn read_description(
     requires { length body.now % 4 ≡ 0 }
     ensures { MatchResult result
         (λ description. (length description.chunks.items ≡ count)
-            × Joins IsChunk (map chunk_of description.chunks.items) body.now)
+        × Joins IsChunk (map chunk_of description.chunks.items) body.now)
         (λ error. IsChunksFault error count body.now) }
 {
     let mut reader = Reader::new(body);
@@ -66,8 +66,8 @@ pub(crate) fn read_description(
     Ok(SourceDescription { chunks })
 }
 
-/// The next chunk. Whole words are left before it and after it, so the fill after its zero octet is what is left of that
-/// octet's word. Nothing asks what the fill is.
+/// The next chunk. Whole words are left before it and after it, so the fill after its zero octet is what is
+/// left of that octet's word. Nothing asks what the fill is.
 fn read_chunk(alloc: Global, reader: &mut Reader<'_>) -> Result<Chunk, PartError>
     requires room { 4 ≤ length reader.old }
     requires words { length reader.old % 4 ≡ 0 }
@@ -86,7 +86,7 @@ fn read_chunk(alloc: Global, reader: &mut Reader<'_>) -> Result<Chunk, PartError
 fn read_items(alloc: Global, reader: &mut Reader<'_>) -> Result<Vec<SdesItem>, PartError>
     ensures { MatchResult result
         (λ items. (prefix : List ℕ) × (reader.old ≡ prefix ++ 0 ∷ reader.new)
-            × Joins IsItem (map item_of items.items) prefix)
+        × Joins IsItem (map item_of items.items) prefix)
         (λ error. Fails error FaultReason.Item (EndsInItems reader.old)) }
 {
     let mut items = Vec::new(alloc);

@@ -33,8 +33,8 @@ pub(crate) const SENDER_SIZE: usize = 24;
 pub struct SenderReport {
     /// The SSRC of the source that reports.
     pub ssrc: u32,
-    /// When the report was sent, as an NTP timestamp: seconds since 1900 in the upper 32 bits, and 1/2^32 of a second in the
-    /// lower ones.
+    /// When the report was sent, as an NTP timestamp: seconds since 1900 in the upper 32 bits, and 1/2^32 of
+    /// a second in the lower ones.
     pub ntp: u64,
     /// The same moment in units of the sender's RTP timestamps.
     pub rtp: u32,
@@ -56,7 +56,7 @@ pub(crate) fn read_sender_report(
 ) -> Result<SenderReport, PartError>
     ensures { MatchResult result
         (λ report. IsSenderReport
-            (sender_of report) (map block_value report.blocks.items) report.extension.items count body.now)
+        (sender_of report) (map block_value report.blocks.items) report.extension.items count body.now)
         (λ error. IsTooShort error (24 + 24 * count) body.now) }
 {
     let mut reader = Reader::new(body);

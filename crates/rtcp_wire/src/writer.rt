@@ -21,25 +21,28 @@ mod writable;
 
 pub use refs::{ChunkRef, ItemRef, PacketRef};
 
-/// The octets of a buffer that compounds are written into: what an Ethernet frame carries after the headers of IPv4 and
-/// UDP.
+/// The octets of a buffer that compounds are written into: what an Ethernet frame carries after the headers
+/// of IPv4 and UDP.
 pub const MAX_COMPOUND: usize = 1_472;
 
-/// Appends the packets to what stands in the buffer, one after the other (RFC 3550, 6.1): without padding, and with zeros
-/// in each octet that may be anything.
+/// Appends the packets to what stands in the buffer, one after the other (RFC 3550, 6.1): without padding,
+/// and with zeros in each octet that may be anything.
 ///
-/// The caller has tested each packet with `is_writable`. With no packets the call appends nothing and returns `Ok`. That the
-/// first packet is a report is not tested: where it is, what is appended is read back as the same packets.
+/// The caller has tested each packet with `is_writable`. With no packets the call appends nothing and returns
+/// `Ok`. That the first packet is a report is not tested: where it is, what is appended is read back as the
+/// same packets.
 ///
 /// # Errors
 ///
-/// [`Full`] where the packets do not all fit into what is left of the 1,472 octets. The buffer is then unchanged.
+/// [`Full`] where the packets do not all fit into what is left of the 1,472 octets. The buffer is then
+/// unchanged.
 pub fn write_compound(
     packets: &[PacketRef<'_>],
     buffer: &mut ArrayVec<u8, MAX_COMPOUND>,
 ) -> Result<(), Full>
     requires { All IsWritable (packet_refs_of packets.now) }
-    ensures ok { OnOk result (buffer.new.items ≡ buffer.old.items ++ written_all (packet_refs_of packets.now)) }
+    ensures ok { OnOk result
+        (buffer.new.items ≡ buffer.old.items ++ written_all (packet_refs_of packets.now)) }
     ensures full { IsErr result ↔
         (1472 < array_vec_len buffer.old + length (written_all (packet_refs_of packets.now))) }
     ensures unchanged { OnErr result (buffer.new ≡ buffer.old) }

@@ -8,8 +8,8 @@ use crate::layout::ID_SIZE;
 use byteorder::{BigEndian, ByteOrder};
 use std::marker::Model;
 
-/// The contributing sources of an RTP packet, in their order (RFC 3550, 5.1): an iterator over their identifiers, which it
-/// reads from the packet's octets. `RtpHead::csrcs` makes it.
+/// The contributing sources of an RTP packet, in their order (RFC 3550, 5.1): an iterator over their
+/// identifiers, which it reads from the packet's octets. `RtpHead::csrcs` makes it.
 #[derive(Debug, Drop)]
 pub struct Csrcs<'a> {
     words: &'a [u8],

@@ -2,9 +2,7 @@
 
 ghost use Rattle.std.specs.Prelude.{◌≡◌, ◌≤◌, length, drop};
 ghost use Rattle.byteorder.specs.Endian.{big_number};
-ghost use Rattle.rtcp_wire.specs.RtpHeads.{
-    rtp_version_of, has_padding, has_extension, csrc_count_of, marker_of, payload_type_of,
-};
+ghost use Rattle.rtcp_wire.specs.RtpHeads.{rtp_version_of, has_padding, has_extension, csrc_count_of, marker_of, payload_type_of};
 
 use crate::reader::Reader;
 

@@ -1,9 +1,7 @@
 //! RTP packets, from their octets.
 
 ghost use Rattle.std.specs.Prelude.{◌≡◌, ◌<◌, ◌≤◌, length, IfOk, IsOkAnd, Err, MatchResult, true};
-ghost use Rattle.rtcp_wire.specs.RtpHeads.{
-    RtpValue, IsRtpHead, IsRtpFault, extension_size, without_extension, IsPadded, without_padding,
-};
+ghost use Rattle.rtcp_wire.specs.RtpHeads.{RtpValue, IsRtpHead, IsRtpFault, extension_size, without_extension, IsPadded, without_padding};
 ghost use Rattle.rtcp_wire.specs.declared.rtp.fault.RtpFault.{RtpFault as Fault};
 
 use crate::layout::{ID_SIZE, VERSION, WORD_SIZE};
@@ -22,7 +20,8 @@ const LAST_RESERVED: u8 = 76;
 /// The octets of an extension before the words that it counts (RFC 3550, 5.3.1).
 const EXTENSION_SIZE: usize = 4;
 
-/// An RTP packet (RFC 3550, 5.1): what its header says, and its payload. It borrows from the octets that were read.
+/// An RTP packet (RFC 3550, 5.1): what its header says, and its payload. It borrows from the octets that were
+/// read.
 #[derive(Debug, Drop)]
 pub struct RtpHead<'a> {
     marker: bool,
@@ -54,25 +53,28 @@ impl<'a> Model for RtpHead<'a> {
 }
 
 impl<'a> RtpHead<'a> {
-    /// Reads an RTP packet from all octets of a datagram (RFC 3550, 5.1 and 5.3.1). Any length is read, and nothing is
-    /// allocated.
+    /// Reads an RTP packet from all octets of a datagram (RFC 3550, 5.1 and 5.3.1). Any length is read, and
+    /// nothing is allocated.
     ///
     /// # Errors
     ///
     /// The first rule that the octets break, in this order:
     ///
-    /// - [`RtpFault::Short`] where there are fewer octets than the fixed part, or than it and the CSRCs that it counts.
+    /// - [`RtpFault::Short`] where there are fewer octets than the fixed part, or than it and the CSRCs that
+    ///   it counts.
     /// - [`RtpFault::Version`] where the version is not 2.
     /// - [`RtpFault::PayloadType`] where the payload type is from 72 to 76.
     /// - [`RtpFault::Extension`] where the header extension runs past the last octet.
-    /// - [`RtpFault::Padding`] where the number of padding octets is missing, 0, or more than follow the header.
+    /// - [`RtpFault::Padding`] where the number of padding octets is missing, 0, or more than follow the
+    ///   header.
     pub fn read(octets: &'a [u8]) -> Result<RtpHead<'a>, RtpFault>
         // What is read is what the octets say, and an error is their first fault.
         ensures accepted { IfOk result (λ head. IsRtpHead octets.now head) }
         ensures refused { (fault : Fault) → result ≡ Err fault → IsRtpFault octets.now fault }
 
         // What the octets say is read, and a first fault is found.
-        ensures reads { (head : RtpValue) → IsRtpHead octets.now head → IsOkAnd result (λ found. found ≡ head) }
+        ensures reads { (head : RtpValue) → IsRtpHead octets.now head →
+            IsOkAnd result (λ found. found ≡ head) }
         ensures finds { (fault : Fault) → IsRtpFault octets.now fault → result ≡ Err fault }
     {
         if octets.len() < FIXED_SIZE {
@@ -159,9 +161,9 @@ impl<'a> RtpHead<'a> {
 fn unextended(octets: &[u8], has_extension: bool) -> Result<&[u8], RtpFault>
     ensures { MatchResult result
         (λ rest. (rest.now ≡ without_extension has_extension octets.now)
-            × (has_extension ≡ true → extension_size octets.now ≤ length octets.now))
+        × (has_extension ≡ true → extension_size octets.now ≤ length octets.now))
         (λ fault. (fault ≡ RtpFault.Extension) × (has_extension ≡ true)
-            × (length octets.now < extension_size octets.now)) }
+        × (length octets.now < extension_size octets.now)) }
 {
     let mut reader = Reader::new(octets);
     if !has_extension {
@@ -183,7 +185,7 @@ fn unextended(octets: &[u8], has_extension: bool) -> Result<&[u8], RtpFault>
 fn unpadded(octets: &[u8], has_padding: bool) -> Result<&[u8], RtpFault>
     ensures { MatchResult result
         (λ payload. (payload.now ≡ without_padding has_padding octets.now)
-            × (has_padding ≡ true → IsPadded octets.now))
+        × (has_padding ≡ true → IsPadded octets.now))
         (λ fault. (fault ≡ RtpFault.Padding) × (has_padding ≡ true) × (IsPadded octets.now → ⊥)) }
 {
     if !has_padding {

@@ -4,9 +4,7 @@ ghost use Rattle.std.specs.Prelude.{◌≡◌, ◌+◌, ◌≤◌, ◌++◌, ◌
 ghost use Rattle.std.specs.List.{flat_map};
 ghost use Rattle.arrayvec.specs.ArrayVec.{array_vec_len};
 ghost use Rattle.rtcp_wire.specs.WriterViews.{item_ref_of, chunk_ref_of};
-ghost use Rattle.rtcp_wire.specs.Writing.{
-    written_item, written_chunk, IsWritableItem, IsWritableChunk, IsChunkInRange,
-};
+ghost use Rattle.rtcp_wire.specs.Writing.{written_item, written_chunk, IsWritableItem, IsWritableChunk, IsChunkInRange};
 
 use crate::writer::MAX_COMPOUND;
 use crate::writer::append::{append, append_fill, append_u32};

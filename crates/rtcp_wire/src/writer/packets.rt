@@ -3,9 +3,7 @@
 ghost use Rattle.std.specs.Prelude.{◌≡◌, ◌+◌, ◌≤◌, ◌++◌, ◌∷◌, [], All, length};
 ghost use Rattle.arrayvec.specs.ArrayVec.{array_vec_len};
 ghost use Rattle.rtcp_wire.specs.WriterViews.{packet_ref_of, packet_refs_of};
-ghost use Rattle.rtcp_wire.specs.Writing.{
-    written_count, written_type, written_body, written, written_all, HasWritableParts, IsWritable, IsInRange,
-};
+ghost use Rattle.rtcp_wire.specs.Writing.{written_count, written_type, written_body, written, written_all, HasWritableParts, IsWritable, IsInRange};
 
 use crate::layout::{
     APPLICATION, GOODBYE, RECEIVER_REPORT, SENDER_REPORT, SOURCE_DESCRIPTION, VERSION, WORD_SIZE,

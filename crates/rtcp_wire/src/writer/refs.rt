@@ -9,8 +9,8 @@ pub enum PacketRef<'a> {
     Sr {
         /// The SSRC of the source that reports.
         ssrc: u32,
-        /// When the report is sent, as an NTP timestamp: seconds since 1900 in the upper 32 bits, and 1/2^32 of a second in
-        /// the lower ones.
+        /// When the report is sent, as an NTP timestamp: seconds since 1900 in the upper 32 bits, and 1/2^32
+        /// of a second in the lower ones.
         ntp: u64,
         /// The same moment in units of the sender's RTP timestamps.
         rtp: u32,

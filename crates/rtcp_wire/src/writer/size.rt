@@ -1,13 +1,10 @@
-//! How many octets packets will have, before any is written. Counting stops above the most octets of a packet, so that no
-//! sum overflows.
+//! How many octets packets will have, before any is written. Counting stops above the most octets of a
+//! packet, so that no sum overflows.
 
 ghost use Rattle.std.specs.Prelude.{◌≡◌, ◌+◌, ◌≤◌, ◌<◌, ◌%◌, ◌∷◌, [], All, map, min, length, option_copied};
 ghost use Rattle.std.specs.List.{flat_map};
 ghost use Rattle.rtcp_wire.specs.WriterViews.{item_ref_of, chunk_ref_of, packet_ref_of, packet_refs_of};
-ghost use Rattle.rtcp_wire.specs.Writing.{
-    fill_behind, written_item, written_chunk, written_reason, written_body, written, written_all, IsWritableReason,
-    HasWritableParts, IsWritable,
-};
+ghost use Rattle.rtcp_wire.specs.Writing.{fill_behind, written_item, written_chunk, written_reason, written_body, written, written_all, IsWritableReason, HasWritableParts, IsWritable};
 
 use crate::block::BLOCK_SIZE;
 use crate::layout::{HEADER_SIZE, ID_SIZE, MAX_PACKET};
@@ -18,8 +15,8 @@ use crate::writer::refs::{ChunkRef, ItemRef, PacketRef};
 const SIZE_LIMIT: usize = MAX_PACKET + 1;
 
 impl PacketRef<'_> {
-    /// How many octets `write_compound` appends of the packet, with its header: at most 262,144. The caller has tested the
-    /// packet with `is_writable`.
+    /// How many octets `write_compound` appends of the packet, with its header: at most 262,144. The caller
+    /// has tested the packet with `is_writable`.
     pub fn size(&self) -> usize
         requires { IsWritable (packet_ref_of self.now) }
         ensures { result ≡ length (written (packet_ref_of self.now)) }
@@ -58,7 +55,10 @@ pub(super) fn body_size(packet: &PacketRef<'_>) -> usize
         } => capped_sum(ID_SIZE + BLOCK_SIZE * blocks.len(), extension.len()),
         PacketRef::Sdes { chunks } => chunks_size(chunks),
         PacketRef::Bye { ids, reason } => ID_SIZE * ids.len() + reason_size(reason),
-        PacketRef::App { name, data, .. } => capped_sum(ID_SIZE + name.as_slice().len(), data.len()),
+        PacketRef::App { name, data, .. } => capped_sum(
+            ID_SIZE + name.as_slice().len(),
+            data.len(),
+        ),
         PacketRef::Other { body, .. } => capped_sum(0, body.len()),
     }
 }

@@ -3,10 +3,7 @@
 ghost use Rattle.std.specs.Prelude.{◌≡◌, ◌≤◌, ◌↔◌, All, IsTrue, map, option_copied};
 ghost use Rattle.rtcp_wire.specs.Views.{block_value};
 ghost use Rattle.rtcp_wire.specs.WriterViews.{item_ref_of, chunk_ref_of, packet_ref_of};
-ghost use Rattle.rtcp_wire.specs.Writing.{
-    IsWords, IsWritableBlock, IsWritableItem, IsWritableChunk, IsWritableReason, IsWritableEnd, HasWritableParts,
-    IsWritable,
-};
+ghost use Rattle.rtcp_wire.specs.Writing.{IsWords, IsWritableBlock, IsWritableItem, IsWritableChunk, IsWritableReason, IsWritableEnd, HasWritableParts, IsWritable};
 
 use crate::block::Block;
 use crate::layout::{APPLICATION, HEADER_SIZE, MAX_PACKET, SENDER_REPORT, WORD_SIZE};
