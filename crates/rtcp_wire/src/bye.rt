@@ -60,8 +60,8 @@ fn read_ids(alloc: Global, count: u8, reader: &mut Reader<'_>) -> Result<Vec<u32
     Ok(ids)
 }
 
-/// The reason in these octets, which are whole words: `None` where there are none. Nothing asks what its fill
-/// is.
+/// The reason in these octets, which are whole words: `None` where there are none. The octets after the text,
+/// up to the end of its last word, are not checked (RFC 3550, 6.6).
 fn read_reason(alloc: Global, octets: &[u8]) -> Result<Option<Vec<u8>>, PartError>
     requires { length octets.now % 4 ≡ 0 }
     ensures { MatchResult result

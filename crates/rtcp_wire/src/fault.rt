@@ -11,10 +11,10 @@ use thiserror::Error;
 /// Why a datagram was not read.
 #[derive(Clone, Copy, Debug, PartialEq, Eq, Error)]
 pub enum ReadError {
-    /// The datagram is not a compound (RFC 3550, 6.1).
+    /// The datagram is not a compound (RFC 3550, 6.1): this is its first fault.
     #[error("{0}")]
     Wire(WireFault),
-    /// An allocation failed: the datagram may be good or bad.
+    /// An allocation failed before the datagram was read to its end or to a fault.
     #[error("out of memory")]
     Memory,
 }

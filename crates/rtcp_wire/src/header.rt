@@ -79,8 +79,8 @@ fn header_at(octets: &[u8]) -> Header
     }
 }
 
-/// What stands between the header and the padding of a whole packet (RFC 3550, 6.4.1). Of the padding only
-/// the last octet is looked at, which counts it.
+/// What stands between the header and the padding of a whole packet (RFC 3550, 6.4.1). The last octet of the
+/// padding counts all of it; the others are not checked.
 pub(crate) fn unpadded(octets: &[u8], has_padding: bool) -> Result<&[u8], PartError>
     requires size { length octets.now ≡ size_of octets.now }
     requires padding { has_padding ≡ is_padded octets.now }

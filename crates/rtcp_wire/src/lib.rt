@@ -1,6 +1,6 @@
 //! Reads and writes RTCP packets (RFC 3550, 6.1 to 6.7), and reads RTP packets (5.1). It is deterministic: it
-//! reads no clock, opens no socket and draws no random number. Only `read_owned` allocates, from the
-//! allocator that it is given, what the packets hold.
+//! reads no clock, opens no socket and draws no random number. Only `read_owned` allocates: it is given an
+//! allocator, and the packets that it returns own what they hold.
 //!
 //! ```
 //! let datagram = [0x80, 0xc9, 0, 1, 0, 0, 0, 7, 0x81, 0xca, 0, 2, 0, 0, 0, 7, 1, 1, 0x61, 0];

@@ -66,8 +66,8 @@ pub(crate) fn read_description(
     Ok(SourceDescription { chunks })
 }
 
-/// The next chunk. Whole words are left before it and after it, so the fill after its zero octet is what is
-/// left of that octet's word. Nothing asks what the fill is.
+/// The next chunk. Whole words are left before it and after it, so its fill is what is left of the word of its
+/// zero octet. The octets of the fill are not checked (RFC 3550, 6.5).
 fn read_chunk(alloc: Global, reader: &mut Reader<'_>) -> Result<Chunk, PartError>
     requires room { 4 ≤ length reader.old }
     requires words { length reader.old % 4 ≡ 0 }

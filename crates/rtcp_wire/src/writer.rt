@@ -57,7 +57,7 @@ pub fn write_compound(
     Ok(())
 }
 
-/// The packets have more octets than are left of the buffer.
+/// The packets do not fit: the buffer has fewer octets left than they have.
 #[derive(Clone, Copy, Debug, PartialEq, Eq, Error)]
 #[error("packets do not fit in the buffer")]
 pub struct Full;

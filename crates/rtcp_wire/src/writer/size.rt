@@ -11,7 +11,7 @@ use crate::layout::{HEADER_SIZE, ID_SIZE, MAX_PACKET};
 use crate::sr::SENDER_SIZE;
 use crate::writer::refs::{ChunkRef, ItemRef, PacketRef};
 
-/// What a size is counted as that is above the most octets of a packet.
+/// A size above the most octets of a packet counts as this.
 const SIZE_LIMIT: usize = MAX_PACKET + 1;
 
 impl PacketRef<'_> {
