@@ -10,24 +10,24 @@ use Rattle.rtcp_wire.specs.declared.block.Block.{Block}
 use Rattle.rtcp_wire.specs.Views.{block_value}
 use Rattle.rtcp_wire.specs.Writing.{written_word, written_block}
 
--- ---- One more behind a front
+-- ---- One more after a prefix
 
 -- some octets, and then more
 pub then_more : (a b c x y : List ℕ) → b ≡ a ++ x → c ≡ b ++ y → c ≡ a ++ (x ++ y)
 then_more a b c x y e g = g ∙ ap (λ (t : List ℕ). t ++ y) e ∙ append_assoc a x y
 
 -- one value more is written
-more_values : {B : Type 0} (f : B → List ℕ) (front next : List B) (x : B) (old mid new : List ℕ) → next ≡ front ++ x ∷ [] → mid ≡ old ++ flat_map f front → new ≡ mid ++ f x → new ≡ old ++ flat_map f next
-more_values {B = B} f front next x old mid new is before now =
-    let both : flat_map f front ++ f x ≡ flat_map f next =
-    ap (λ (t : List ℕ). flat_map f front ++ t) (sym (append-nil (f x))) ∙ sym (flat_map-append f front (x ∷ [])) ∙ ap (λ (t : List B). flat_map f t) (sym is) in
-    then_more old mid new (flat_map f front) (f x) before now ∙ ap (λ (t : List ℕ). old ++ t) both
+more_values : {B : Type 0} (f : B → List ℕ) (prefix next : List B) (x : B) (old mid new : List ℕ) → next ≡ prefix ++ x ∷ [] → mid ≡ old ++ flat_map f prefix → new ≡ mid ++ f x → new ≡ old ++ flat_map f next
+more_values {B = B} f prefix next x old mid new is before now =
+    let both : flat_map f prefix ++ f x ≡ flat_map f next =
+    ap (λ (t : List ℕ). flat_map f prefix ++ t) (sym (append-nil (f x))) ∙ sym (flat_map-append f prefix (x ∷ [])) ∙ ap (λ (t : List B). flat_map f t) (sym is) in
+    then_more old mid new (flat_map f prefix) (f x) before now ∙ ap (λ (t : List ℕ). old ++ t) both
 
 -- Where all values have room, so has the next.
-room_in : {B : Type 0} (f : B → List ℕ) (front rest whole : List B) (x : B) (old mid : List ℕ) (n : ℕ) → whole ≡ front ++ x ∷ rest → mid ≡ old ++ flat_map f front → length old + length (flat_map f whole) ≤ n → length mid + length (f x) ≤ n
-room_in {B = B} f front rest whole x old mid n is before room =
-    let parts = ap (λ (t : List B). length (flat_map f t)) is ∙ ap length (flat_map-append f front (x ∷ rest)) ∙ length-append (flat_map f front) (f x ++ flat_map f rest) in
-    let sofar = ap length before ∙ length-append old (flat_map f front) in
+room_in : {B : Type 0} (f : B → List ℕ) (prefix rest whole : List B) (x : B) (old mid : List ℕ) (n : ℕ) → whole ≡ prefix ++ x ∷ rest → mid ≡ old ++ flat_map f prefix → length old + length (flat_map f whole) ≤ n → length mid + length (f x) ≤ n
+room_in {B = B} f prefix rest whole x old mid n is before room =
+    let parts = ap (λ (t : List B). length (flat_map f t)) is ∙ ap length (flat_map-append f prefix (x ∷ rest)) ∙ length-append (flat_map f prefix) (f x ++ flat_map f rest) in
+    let sofar = ap length before ∙ length-append old (flat_map f prefix) in
     omega (arith, parts, length-append (f x) (flat_map f rest), sofar, room)
 
 -- a list, by the item at i

@@ -7,7 +7,7 @@ use Rattle.rtcp_wire.specs.declared.fault.FaultReason.TheVariants.{Body, Item, R
 use Rattle.rtcp_wire.specs.Values.{RtcpPacket, sdes, bye}
 use Rattle.rtcp_wire.specs.Grammar.{IsReasonPart, IsGoodbye, IsBody}
 use Rattle.rtcp_wire.specs.Faults.{least_size, IsNoReason, FindsInBody}
-use Rattle.rtcp_wire.proofs.Fronts.{cons_parts, cons_not_nil, length_parts}
+use Rattle.rtcp_wire.proofs.Prefixes.{cons_parts, cons_not_nil, length_parts}
 use Rattle.rtcp_wire.proofs.Fixed.{fixed_length}
 use Rattle.rtcp_wire.proofs.Chunks.{not_inside, not_beside, not_both}
 use Rattle.rtcp_wire.proofs.Bodies.{body_room}
@@ -23,14 +23,14 @@ reason_or_not (Some said) (size ∷ text) h bad =
     let sum : length text ≡ length said + length h.free = length_parts text said h.free parts.1 in
     elim bad [ inl few ↦ omega (arith, few, sum, parts.0) | inr more ↦ omega (arith, more, sum, parts.0, h.fill) ]
 
--- what stands behind the identifiers of a goodbye
-behind_ids : (ids : List ℕ) (reason : Option (List ℕ)) (count : ℕ) (body : List ℕ) (h : IsGoodbye ids reason count body) → drop (4 * count) body ≡ h.rest
-behind_ids ids reason count body h =
-    ap (drop (4 * count)) h.parts ∙ drop_at h.front h.rest (4 * count) (fixed_length 4 (big_number 4) ids h.front h.each ∙ ap (λ (n : ℕ). 4 * n) h.counted)
+-- what follows the identifiers of a goodbye
+after_ids : (ids : List ℕ) (reason : Option (List ℕ)) (count : ℕ) (body : List ℕ) (h : IsGoodbye ids reason count body) → drop (4 * count) body ≡ h.rest
+after_ids ids reason count body h =
+    ap (drop (4 * count)) h.parts ∙ drop_at h.prefix h.rest (4 * count) (fixed_length 4 (big_number 4) ids h.prefix h.each ∙ ap (λ (n : ℕ). 4 * n) h.counted)
 
--- What is no reason is some octets behind the identifiers.
-behind_some : (n : ℕ) (body : List ℕ) → IsNoReason (drop n body) → n < length body
-behind_some n body bad = some (drop n body) bad (length-drop n body)
+-- What is no reason is some octets after the identifiers.
+after_some : (n : ℕ) (body : List ℕ) → IsNoReason (drop n body) → n < length body
+after_some n body bad = some (drop n body) bad (length-drop n body)
   where
     some : (octets : List ℕ) → IsNoReason octets → length octets ≡ length body - n → n < length body
     some [] h e = absurd h
@@ -45,7 +45,7 @@ no_body_fault Body (sdes chunks) kind count body h (inr beside) = not_beside cou
 no_body_fault Body p kind count body h (inr beside) = omega (arith, h.0, beside.0)
 no_body_fault Item (sdes chunks) kind count body h found = not_inside count body chunks h.1 h.2 found.1
 no_body_fault Item p kind count body h found = omega (arith, h.0, found.0)
-no_body_fault Reason (bye ids reason) kind count body h found = reason_or_not reason h.1.rest h.1.ends (subst IsNoReason (behind_ids ids reason count body h.1) found.1)
+no_body_fault Reason (bye ids reason) kind count body h found = reason_or_not reason h.1.rest h.1.ends (subst IsNoReason (after_ids ids reason count body h.1) found.1)
 no_body_fault Reason p kind count body h found = omega (arith, h.0, found.0)
 no_body_fault r p kind count body h found = found
 
@@ -60,9 +60,9 @@ pub body_or_item : (kind count : ℕ) (body : List ℕ) → FindsInBody Body kin
 body_or_item kind count body (inl few) item = (let none : length body < 0 = at_type 202 kind count body item.0 few in omega arith)
 body_or_item kind count body (inr beside) item = not_both count body beside.1 item.1
 
--- A body with octets behind its identifiers is not too short.
+-- A body with octets after its identifiers is not too short.
 pub body_or_reason : (kind count : ℕ) (body : List ℕ) → FindsInBody Body kind count body → FindsInBody Reason kind count body → ⊥
-body_or_reason kind count body (inl few) bad = omega (arith, at_type 203 kind count body bad.0 few, behind_some (4 * count) body bad.1)
+body_or_reason kind count body (inl few) bad = omega (arith, at_type 203 kind count body bad.0 few, after_some (4 * count) body bad.1)
 body_or_reason kind count body (inr beside) bad = omega (arith, beside.0, bad.0)
 
 -- One type has items, another a reason.

@@ -7,11 +7,11 @@ use Rattle.rtcp_wire.specs.Values.{ItemValue, ChunkValue}
 use Rattle.rtcp_wire.specs.Grammar.{Joins, IsItem, IsChunk}
 use Rattle.rtcp_wire.specs.Faults.{IsCut, EndsBesideChunks, EndsInsideChunk}
 use Rattle.rtcp_wire.proofs.Joining.{Joins-cons}
-use Rattle.rtcp_wire.proofs.Fronts.{cons_not_nil, length_parts}
+use Rattle.rtcp_wire.proofs.Prefixes.{cons_not_nil, length_parts}
 
 -- ---- Items up to where no item begins
 
--- Items stand in front, and behind them the octets are cut, or a zero octet ends them.
+-- Items stand first, and after them the octets are cut, or a zero octet ends them.
 pub record ItemsEnd (octets : List ℕ) : Type 0 where
   pub items : List ItemValue
   pub middle : List ℕ
@@ -24,7 +24,7 @@ pub record ItemsEnd (octets : List ℕ) : Type 0 where
 items_stop : (octets : List ℕ) → IsCut octets ⊎ ((free : List ℕ) × (octets ≡ 0 ∷ free)) → ItemsEnd octets
 items_stop octets ends = record { items = []; middle = []; rest = octets; parts = refl; each = refl; ends = ends }
 
--- one item more in front
+-- one item more at the start
 pub items_more : (kind size : ℕ) (text : List ℕ) → kind ≢ 0 → size ≤ length text → ItemsEnd (drop size text) → ItemsEnd (kind ∷ size ∷ text)
 items_more kind size text some enough e =
     let item : ItemValue = record { kind = kind; text = take size text } in
@@ -55,17 +55,17 @@ items_from (suc n) (kind ∷ size ∷ text) h =
 
 -- ---- A chunk
 
--- A chunk stands in front.
+-- A chunk stands first.
 pub record ChunkAt (octets : List ℕ) : Type 0 where
   pub chunk : ChunkValue
-  pub front : List ℕ
+  pub prefix : List ℕ
   pub rest : List ℕ
-  pub parts : octets ≡ front ++ rest
-  pub spelled : IsChunk chunk front
+  pub parts : octets ≡ prefix ++ rest
+  pub spelled : IsChunk chunk prefix
 
--- what stands behind an identifier
-behind_id : (octets middle rest : List ℕ) → drop 4 octets ≡ middle ++ rest → octets ≡ take 4 octets ++ (middle ++ rest)
-behind_id octets middle rest e = sym (take-append-drop 4 octets) ∙ ap (λ (t : List ℕ). take 4 octets ++ t) e
+-- what follows an identifier
+after_id : (octets middle rest : List ℕ) → drop 4 octets ≡ middle ++ rest → octets ≡ take 4 octets ++ (middle ++ rest)
+after_id octets middle rest e = sym (take-append-drop 4 octets) ∙ ap (λ (t : List ℕ). take 4 octets ++ t) e
 
 -- In whole words the fill has room.
 fill_fits : (n middle free : ℕ) → n ≡ 4 + (middle + suc free) → n % 4 ≡ 0 → 3 - middle % 4 ≤ free
@@ -80,15 +80,15 @@ pub chunk_made : (octets : List ℕ) → length octets % 4 ≡ 0 → 4 ≤ lengt
 chunk_made octets whole enough items middle free e each =
     let fill : ℕ = 3 - length middle % 4 in
     let id_size : length (take 4 octets) ≡ 4 = length-take-le 4 octets enough in
-    let parts : octets ≡ take 4 octets ++ (middle ++ 0 ∷ free) = behind_id octets middle (0 ∷ free) e in
+    let parts : octets ≡ take 4 octets ++ (middle ++ 0 ∷ free) = after_id octets middle (0 ∷ free) e in
     let sizes : length octets ≡ 4 + (length middle + suc (length free)) = omega (arith, length_parts octets (take 4 octets) (middle ++ 0 ∷ free) parts, length-append middle (0 ∷ free)) in
     let fits : fill ≤ length free = fill_fits (length octets) (length middle) (length free) sizes whole in
     let filled : length (take fill free) ≡ fill = length-take-le fill free fits in
-    let front : List ℕ = take 4 octets ++ (middle ++ 0 ∷ take fill free) in
-    let front_size : length front ≡ 4 + (length middle + suc (length (take fill free))) = omega (arith, length-append (take 4 octets) (middle ++ 0 ∷ take fill free), length-append middle (0 ∷ take fill free)) in
+    let prefix : List ℕ = take 4 octets ++ (middle ++ 0 ∷ take fill free) in
+    let prefix_size : length prefix ≡ 4 + (length middle + suc (length (take fill free))) = omega (arith, length-append (take 4 octets) (middle ++ 0 ∷ take fill free), length-append middle (0 ∷ take fill free)) in
     record {
       chunk = record { id = big_number 4 (take 4 octets); items = items };
-      front = front;
+      prefix = prefix;
       rest = drop fill free;
       parts = parts ∙ ap (λ (t : List ℕ). take 4 octets ++ (middle ++ 0 ∷ t)) (sym (take-append-drop fill free))
           ∙ ap (λ (t : List ℕ). take 4 octets ++ t) (sym (append_assoc middle (0 ∷ take fill free) (drop fill free))) ∙ sym (append_assoc (take 4 octets) (middle ++ 0 ∷ take fill free) (drop fill free));
@@ -101,7 +101,7 @@ chunk_made octets whole enough items middle free e each =
         source = refl;
         each = each;
         fill = omega arith;
-        aligned = ap (λ (n : ℕ). n % 4) front_size ∙ fill_is_whole (length middle) (length (take fill free)) filled;
+        aligned = ap (λ (n : ℕ). n % 4) prefix_size ∙ fill_is_whole (length middle) (length (take fill free)) filled;
       };
     }
 
@@ -116,11 +116,11 @@ chunk_or_cut count octets expected whole enough e =
       | inl cut ↦ inr (inr (record {
         chunks = [];
         items = e.items;
-        front = [];
+        prefix = [];
         id = take 4 octets;
         middle = e.middle;
         cut = e.rest;
-        parts = behind_id octets e.middle e.rest e.parts;
+        parts = after_id octets e.middle e.rest e.parts;
         each = refl;
         expected = expected;
         id_size = length-take-le 4 octets enough;
@@ -134,7 +134,7 @@ chunk_or_cut count octets expected whole enough e =
 chunk_from : (count : ℕ) (octets : List ℕ) → 0 < count → length octets % 4 ≡ 0 → ChunkAt octets ⊎ EndsBadly count octets
 chunk_from count octets expected whole =
     elim (cases_lt (length octets) 4) [
-      | inl few ↦ inr (inl (record { chunks = []; front = []; rest = octets; parts = refl; each = refl; stop = inl (expected, few) }))
+      | inl few ↦ inr (inl (record { chunks = []; prefix = []; rest = octets; parts = refl; each = refl; stop = inl (expected, few) }))
       | inr enough ↦ chunk_or_cut count octets expected whole enough (items_from (suc (length (drop 4 octets))) (drop 4 octets) (omega arith))
     ]
 
@@ -144,18 +144,18 @@ chunk_from count octets expected whole =
 abbrev pub ChunksEnd : ℕ → List ℕ → Type 0
 ChunksEnd count body = ((chunks : List ChunkValue) × (length chunks ≡ count) × Joins IsChunk chunks body) ⊎ EndsBadly count body
 
--- a front before a front
-put_front : (body front rest a b : List ℕ) → body ≡ front ++ rest → rest ≡ a ++ b → body ≡ (front ++ a) ++ b
-put_front body front rest a b e k = e ∙ ap (λ (t : List ℕ). front ++ t) k ∙ sym (append_assoc front a b)
+-- two prefixes, one after the other
+put_first : (body prefix rest a b : List ℕ) → body ≡ prefix ++ rest → rest ≡ a ++ b → body ≡ (prefix ++ a) ++ b
+put_first body prefix rest a b e k = e ∙ ap (λ (t : List ℕ). prefix ++ t) k ∙ sym (append_assoc prefix a b)
 
--- An end beside chunks is one behind a chunk more.
+-- An end beside chunks is one after a chunk more.
 beside_more : (n : ℕ) (body : List ℕ) (one : ChunkAt body) → EndsBesideChunks n one.rest → EndsBesideChunks (suc n) body
 beside_more n body one e = record {
   chunks = one.chunk ∷ e.chunks;
-  front = one.front ++ e.front;
+  prefix = one.prefix ++ e.prefix;
   rest = e.rest;
-  parts = put_front body one.front one.rest e.front e.rest one.parts e.parts;
-  each = Joins-cons IsChunk one.chunk e.chunks one.front e.front one.spelled e.each;
+  parts = put_first body one.prefix one.rest e.prefix e.rest one.parts e.parts;
+  each = Joins-cons IsChunk one.chunk e.chunks one.prefix e.prefix one.spelled e.each;
   stop = elim e.stop [ inl few ↦ inl (omega (arith, few.0), few.1) | inr left ↦ inr (ap suc left.0, left.1) ];
 }
 
@@ -164,34 +164,34 @@ inside_more : (n : ℕ) (body : List ℕ) (one : ChunkAt body) → EndsInsideChu
 inside_more n body one e = record {
   chunks = one.chunk ∷ e.chunks;
   items = e.items;
-  front = one.front ++ e.front;
+  prefix = one.prefix ++ e.prefix;
   id = e.id;
   middle = e.middle;
   cut = e.cut;
-  parts = put_front body one.front one.rest e.front (e.id ++ (e.middle ++ e.cut)) one.parts e.parts;
-  each = Joins-cons IsChunk one.chunk e.chunks one.front e.front one.spelled e.each;
+  parts = put_first body one.prefix one.rest e.prefix (e.id ++ (e.middle ++ e.cut)) one.parts e.parts;
+  each = Joins-cons IsChunk one.chunk e.chunks one.prefix e.prefix one.spelled e.each;
   expected = omega (arith, e.expected);
   id_size = e.id_size;
   each_item = e.each_item;
   ends = e.ends;
 }
 
--- one chunk more in front
+-- one chunk more at the start
 chunks_more : (n : ℕ) (body : List ℕ) (one : ChunkAt body) → ChunksEnd n one.rest → ChunksEnd (suc n) body
-chunks_more n body one (inl more) = inl (one.chunk ∷ more.0, ap suc more.1, (one.front, one.rest, one.parts, one.spelled, more.2))
+chunks_more n body one (inl more) = inl (one.chunk ∷ more.0, ap suc more.1, (one.prefix, one.rest, one.parts, one.spelled, more.2))
 chunks_more n body one (inr (inl beside)) = inr (inl (beside_more n body one beside))
 chunks_more n body one (inr (inr inside)) = inr (inr (inside_more n body one inside))
 
 -- What whole words leave of whole words is whole words.
-rest_is_whole : (n front rest : ℕ) → n ≡ front + rest → n % 4 ≡ 0 → front % 4 ≡ 0 → rest % 4 ≡ 0
-rest_is_whole n front rest e whole front_whole = omega arith
+rest_is_whole : (n prefix rest : ℕ) → n ≡ prefix + rest → n % 4 ≡ 0 → prefix % 4 ≡ 0 → rest % 4 ≡ 0
+rest_is_whole n prefix rest e whole prefix_whole = omega arith
 
 -- A body of whole words has the chunks that are counted, or ends badly.
 pub chunks_from : (count : ℕ) (body : List ℕ) → length body % 4 ≡ 0 → ChunksEnd count body
 chunks_from zero [] whole = inl ([], refl, refl)
-chunks_from zero (o ∷ body) whole = inr (inl (record { chunks = []; front = []; rest = o ∷ body; parts = refl; each = refl; stop = inr (refl, cons_not_nil o body) }))
+chunks_from zero (o ∷ body) whole = inr (inl (record { chunks = []; prefix = []; rest = o ∷ body; parts = refl; each = refl; stop = inr (refl, cons_not_nil o body) }))
 chunks_from (suc n) body whole =
     elim (chunk_from (suc n) body (omega arith) whole) [
-      | inl one ↦ chunks_more n body one (chunks_from n one.rest (rest_is_whole (length body) (length one.front) (length one.rest) (length_parts body one.front one.rest one.parts) whole one.spelled.aligned))
+      | inl one ↦ chunks_more n body one (chunks_from n one.rest (rest_is_whole (length body) (length one.prefix) (length one.rest) (length_parts body one.prefix one.rest one.parts) whole one.spelled.aligned))
       | inr ends ↦ inr ends
     ]

@@ -35,7 +35,7 @@ sender_from count body room =
       sr (sender_in (take 24 body)) ends.0 ends.1,
       (
         refl,
-        record { front = take 24 body; rest = drop 24 body; parts = sym (take-append-drop 24 body); front_size = length-take-le 24 body (omega arith); says = refl; ends = ends.2 },
+        record { prefix = take 24 body; rest = drop 24 body; parts = sym (take-append-drop 24 body); prefix_size = length-take-le 24 body (omega arith); says = refl; ends = ends.2 },
       ),
     )
 
@@ -57,7 +57,7 @@ chunks_end count body (inr (inr inside)) = inr (Item, (refl, inside))
 
 -- ---- Goodbyes
 
--- less than a word behind the text
+-- less than a word after the text
 fill_is_whole : (n size free : ℕ) → n % 4 ≡ 0 → n ≡ suc (size + free) → (suc (size + free)) % 4 ≡ 0
 fill_is_whole n size free whole e = omega arith
 
@@ -86,7 +86,7 @@ reason_from (size ∷ text) whole =
 rest_is_whole : (n count rest : ℕ) → n % 4 ≡ 0 → rest ≡ n - 4 * count → 4 * count ≤ n → rest % 4 ≡ 0
 rest_is_whole n count rest whole e room = omega arith
 
--- With room for its identifiers a body is a goodbye, or what stands behind them is no reason.
+-- With room for its identifiers a body is a goodbye, or what follows them is no reason.
 goodbye_from : (count : ℕ) (body : List ℕ) → length body % 4 ≡ 0 → 4 * count ≤ length body → BodyEnd 203 count body
 goodbye_from count body whole room =
     let size : ℕ = 4 * count in
@@ -95,7 +95,7 @@ goodbye_from count body whole room =
       | inr bad ↦ inr (Reason, (refl, bad))
       | inl said ↦ inl (
         bye ids.0 said.0,
-        (refl, record { front = take size body; rest = drop size body; parts = sym (take-append-drop size body); counted = ids.1; each = ids.2; ends = said.1 }),
+        (refl, record { prefix = take size body; rest = drop size body; parts = sym (take-append-drop size body); counted = ids.1; each = ids.2; ends = said.1 }),
       )
     ]
 

@@ -47,7 +47,7 @@ goodbye = refl
 two_names : facts_of_packet (sdes (chunk (cname ∷ tool ∷ cname ∷ []) ∷ [])) ≡ Heard 7 ∷ Named 7 ∷ []
 two_names = refl
 
--- also by an empty text behind other items,
+-- also by an empty text after other items,
 empty_name : facts_of_packet (sdes (chunk (tool ∷ empty_cname ∷ []) ∷ [])) ≡ Heard 7 ∷ Named 7 ∷ []
 empty_name = refl
 

@@ -5,15 +5,15 @@ use Rattle.std.proofs.lemmas.List.{take-append-drop, length-drop, length-take-le
 use Rattle.byteorder.specs.Endian.{big_number}
 use Rattle.rtcp_wire.specs.Grammar.{Joins, block_in, IsBlock, IsId}
 use Rattle.rtcp_wire.proofs.Joining.{IsPrefixFree}
-use Rattle.rtcp_wire.proofs.Fronts.{same_fronts, length_parts}
+use Rattle.rtcp_wire.proofs.Prefixes.{same_prefixes, length_parts}
 
 -- So many octets say x. A block is said so by 24, an identifier by four.
 abbrev pub Says : {A : Type 0} → ℕ → (List ℕ → A) → A → List ℕ → Type 0
 Says size value x octets = (length octets ≡ size) × (x ≡ value octets)
 
--- No such octets are a proper front of others.
+-- No such octets are a proper prefix of others.
 pub one_fixed : {A : Type 0} (size : ℕ) (value : List ℕ → A) → IsPrefixFree (Says size value)
-one_fixed size value x y a c r s h k e = let both = same_fronts a c r s (h.0 ∙ sym k.0) e in (both.0, h.1 ∙ ap value both.0 ∙ sym k.1)
+one_fixed size value x y a c r s h k e = let both = same_prefixes a c r s (h.0 ∙ sym k.0) e in (both.0, h.1 ∙ ap value both.0 ∙ sym k.1)
 
 pub one_block : IsPrefixFree IsBlock
 one_block = one_fixed 24 block_in

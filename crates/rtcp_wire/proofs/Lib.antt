@@ -1,31 +1,33 @@
-pub mod Joining
-pub mod Fronts
-pub mod Fixed
-pub mod Chunks
-pub mod Bodies
-pub mod BodyFaults
-pub mod Spellings
-pub mod Stops
-pub mod Refusals
-pub mod Deciding
-pub mod DecidingBodies
-pub mod Standing
-pub mod Walking
-pub mod Rows
-pub mod RowsOfTypes
-pub mod RtpLists
-pub mod RtpHeading
-pub mod RtpFaults
-pub mod ReadingRtp
-pub mod RtpRows
-pub mod ReadingReports
-pub mod ReadingDescriptions
-pub mod ReadingGoodbyes
-pub mod ReadingPackets
-pub mod ReadingCompounds
-pub mod FactLists
-pub mod FactRows
-pub mod Appending
-pub mod Written
-pub mod WrittenPackets
-pub mod WritableReports
+mod Joining
+mod Prefixes
+mod Fixed
+mod Chunks
+mod Bodies
+mod BodyFaults
+mod Spellings
+mod Stops
+mod Refusals
+mod Deciding
+mod DecidingBodies
+mod Standing
+mod Walking
+mod Rows
+mod RowsOfTypes
+mod RtpLists
+mod RtpHeading
+mod RtpFaults
+mod ReadingRtp
+mod RtpRows
+mod ReadingReports
+mod ReadingDescriptions
+mod ReadingGoodbyes
+mod ReadingPackets
+mod ReadingCompounds
+mod FactLists
+mod FactRows
+mod Appending
+mod Written
+mod WrittenPackets
+mod Reports
+mod NoMedia
+pub mod LawLemmas

@@ -1,4 +1,4 @@
--- A packet that is read at the front of octets, and the first row of the table where none is.
+-- A packet that is read at the start of octets, or else the first row of the table of faults.
 use Rattle.std.proofs.Common.{◌≡◌, ℕ, ◌≤◌, ◌<◌, Bool, true, false, List, length, drop, Result, Ok, Err, MatchResult, sym, ◌∙◌, arith, inl, inr}
 use Rattle.std.proofs.lemmas.List.{take-append-drop}
 use Rattle.rtcp_wire.specs.declared.fault.FaultReason.{FaultReason}
@@ -64,7 +64,7 @@ is_sound is_first octets body kind count h =
 same_body : (is_first : Bool) (octets body : List ℕ) (kind count : ℕ) → HasBody is_first octets body kind count → body ≡ body_of octets
 same_body is_first octets body kind count h = h.unpadded.0 ∙ sym (is_own octets h.good.size).parts.body
 
--- ---- Want of memory
+-- ---- Out of memory
 
 -- A datagram begins with a report.
 not_first : (octets : List ℕ) (kind : ℕ) → MayBegin octets → 201 < kind → type_of octets ≡ kind → ⊥

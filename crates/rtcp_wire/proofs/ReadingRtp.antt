@@ -1,4 +1,4 @@
--- How far the reader of an RTP packet has come, and what it answers from there.
+-- How far the reader of an RTP packet has come, and what it returns from there.
 use Rattle.std.proofs.Common.{◌≡◌, ℕ, ◌*◌, ◌<◌, ◌≤◌, ◌⊎◌, Bool, true, List, length, take, drop, sym, ap, subst, ◌∙◌, arith, inl, inr}
 use Rattle.std.proofs.lemmas.List.{drop-drop, length-drop, length-take-le}
 use Rattle.byteorder.specs.Endian.{big_number}
@@ -17,9 +17,9 @@ pub record HasRoom (octets reader : List ℕ) (csrcs_size : ℕ) : Type 0 where
 pub has_room : (octets reader : List ℕ) (csrcs_size : ℕ) → 12 ≤ length octets → reader ≡ drop 12 octets → csrcs_size ≡ 4 * csrc_count_of octets → csrcs_size ≤ length reader → HasRoom octets reader csrcs_size
 has_room octets reader csrcs_size fixed rest size enough = record { room = omega (arith, ap length rest, length-drop 12 octets); size = size; rest = rest }
 
--- what is left behind the CSRC list
-pub behind_list : (octets reader : List ℕ) (csrcs_size : ℕ) → HasRoom octets reader csrcs_size → drop csrcs_size reader ≡ behind_csrcs octets
-behind_list octets reader csrcs_size h =
+-- what is left after the CSRC list
+pub after_list : (octets reader : List ℕ) (csrcs_size : ℕ) → HasRoom octets reader csrcs_size → drop csrcs_size reader ≡ behind_csrcs octets
+after_list octets reader csrcs_size h =
     ap (λ (t : List ℕ). drop csrcs_size t) h.rest ∙ drop-drop csrcs_size 12 octets ∙ ap (λ (n : ℕ). drop n octets) (omega (arith, h.size))
 
 -- the octets of the CSRC list
@@ -45,12 +45,12 @@ pub record IsBeforeExtension (octets rest : List ℕ) (extended : Bool) : Type 0
   pub version : rtp_version_of octets ≡ 2
   pub not_reserved : IsReserved (payload_type_of octets) → ⊥
   pub bit : extended ≡ has_extension octets
-  pub behind : rest ≡ behind_csrcs octets
+  pub following : rest ≡ behind_csrcs octets
 
 -- no room for the extension
 pub extension_exit : (octets rest : List ℕ) (extended : Bool) → IsBeforeExtension octets rest extended → extended ≡ true → length rest < extension_size rest → IsRtpFault octets Extension
 extension_exit octets rest extended h set few =
-    is_extension octets h.room h.version h.not_reserved (sym h.bit ∙ set, subst (λ (t : List ℕ). length t < extension_size t) h.behind few)
+    is_extension octets h.room h.version h.not_reserved (sym h.bit ∙ set, subst (λ (t : List ℕ). length t < extension_size t) h.following few)
 
 -- The extension was passed too, and this is left.
 pub record IsBeforePadding (octets rest : List ℕ) (padded : Bool) : Type 0 where
@@ -59,7 +59,7 @@ pub record IsBeforePadding (octets rest : List ℕ) (padded : Bool) : Type 0 whe
   pub not_reserved : IsReserved (payload_type_of octets) → ⊥
   pub extension : has_extension octets ≡ true → extension_size (behind_csrcs octets) ≤ length (behind_csrcs octets)
   pub bit : padded ≡ has_padding octets
-  pub behind : rest ≡ behind_extension octets
+  pub following : rest ≡ behind_extension octets
 
 pub extension_passed : (octets rest left : List ℕ) (extended padded : Bool) → IsBeforeExtension octets rest extended → padded ≡ has_padding octets → left ≡ without_extension extended rest → (extended ≡ true → extension_size rest ≤ length rest)
     → IsBeforePadding octets left padded
@@ -67,16 +67,16 @@ extension_passed octets rest left extended padded h bit is room = record {
   room = h.room;
   version = h.version;
   not_reserved = h.not_reserved;
-  extension = λ set. subst (λ (t : List ℕ). extension_size t ≤ length t) h.behind (room (h.bit ∙ set));
+  extension = λ set. subst (λ (t : List ℕ). extension_size t ≤ length t) h.following (room (h.bit ∙ set));
   bit = bit;
-  behind = is ∙ ap (λ (x : Bool). without_extension x rest) h.bit ∙ ap (λ (t : List ℕ). without_extension (has_extension octets) t) h.behind;
+  following = is ∙ ap (λ (x : Bool). without_extension x rest) h.bit ∙ ap (λ (t : List ℕ). without_extension (has_extension octets) t) h.following;
 }
 
 -- no padding that is counted right
 pub padding_exit : (octets rest : List ℕ) (padded : Bool) → IsBeforePadding octets rest padded → padded ≡ true → (IsPadded rest → ⊥) → IsRtpFault octets Padding
 padding_exit octets rest padded h set bad =
     is_padding octets h.room h.version h.not_reserved h.extension
-    (sym h.bit ∙ set, not_padded (behind_extension octets) (subst (λ (t : List ℕ). IsPadded t → ⊥) h.behind bad))
+    (sym h.bit ∙ set, not_padded (behind_extension octets) (subst (λ (t : List ℕ). IsPadded t → ⊥) h.following bad))
 
 -- the packet, where its padding was passed
 pub head_read : (octets rest : List ℕ) (padded : Bool) (head : RtpValue) → IsBeforePadding octets rest padded → (padded ≡ true → IsPadded rest)
@@ -88,7 +88,7 @@ head_read octets rest padded head h counted kind marker sequence timestamp ssrc 
       version = h.version;
       not_reserved = h.not_reserved;
       extension = h.extension;
-      padding = λ set. subst IsPadded h.behind (counted (h.bit ∙ set));
+      padding = λ set. subst IsPadded h.following (counted (h.bit ∙ set));
       says = values_equal head (head_in octets) kind marker sequence timestamp ssrc sources
-          (is ∙ ap (λ (x : Bool). without_padding x rest) h.bit ∙ ap (λ (t : List ℕ). without_padding (has_padding octets) t) h.behind);
+          (is ∙ ap (λ (x : Bool). without_padding x rest) h.bit ∙ ap (λ (t : List ℕ). without_padding (has_padding octets) t) h.following);
     })

@@ -4,7 +4,7 @@ use Rattle.rtcp_wire.specs.declared.fault.FaultReason.TheVariants.{Short, Versio
 use Rattle.rtcp_wire.specs.Values.{ItemValue, ChunkValue, rr, sdes, bye}
 use Rattle.rtcp_wire.specs.Grammar.{version_of, is_padded, type_of, size_of, IsSpelling, IsAccepted}
 use Rattle.rtcp_wire.specs.Faults.{EndsInsideChunk, IsFirstFault}
-use Rattle.rtcp_wire.proofs.Fronts.{cons_not_nil}
+use Rattle.rtcp_wire.proofs.Prefixes.{cons_not_nil}
 use Rattle.rtcp_wire.proofs.BodyFaults.{body_or_item}
 use Rattle.rtcp_wire.proofs.Standing.{NoneBefore, none_at_first, next_row}
 use Rattle.rtcp_wire.proofs.Walking.{IsReadTo, stops_at}
@@ -91,7 +91,7 @@ padded_spelled = record {
   body = (
     refl,
     record {
-      front = 0 ∷ 0 ∷ 0 ∷ 7 ∷ [];
+      prefix = 0 ∷ 0 ∷ 0 ∷ 7 ∷ [];
       rest = [];
       parts = refl;
       counted = refl;
@@ -130,8 +130,8 @@ pub not_both_bits : (p : Bool) → p ≡ true → p ≡ false → ⊥
 not_both_bits p set clear = cc
 
 -- The report is read.
-pub behind_report : (octets : List ℕ) → length (report ++ octets) ≤ 65535 → IsReadTo (report ++ octets) report octets
-behind_report octets short = record { short = short; parts = refl; before = inr (rr 7 [] [] ∷ [], report_accepted) }
+pub after_report : (octets : List ℕ) → length (report ++ octets) ≤ 65535 → IsReadTo (report ++ octets) report octets
+after_report octets short = record { short = short; parts = refl; before = inr (rr 7 [] [] ∷ [], report_accepted) }
 
 -- Nothing is read yet.
 from_start : (octets : List ℕ) → length octets ≤ 65535 → IsReadTo octets [] octets
@@ -199,7 +199,7 @@ ends_inside : EndsInsideChunk 1 (0 ∷ 0 ∷ 0 ∷ 7 ∷ 1 ∷ 5 ∷ 97 ∷ 0 �
 ends_inside = record {
   chunks = [];
   items = [];
-  front = [];
+  prefix = [];
   id = 0 ∷ 0 ∷ 0 ∷ 7 ∷ [];
   middle = [];
   cut = 1 ∷ 5 ∷ 97 ∷ 0 ∷ [];
@@ -229,4 +229,4 @@ before_item =
 
 -- 80c9000100000007 81ca0002 00000007 01056100
 pub long_item_refused : IsFirstFault (report ++ long_item) (record { reason = Item; place = 8 })
-long_item_refused = stops_at (report ++ long_item) report long_item Item (behind_report long_item (omega arith)) (inl (cons_not_nil 129 (drop 1 long_item))) (record { found = (refl, ends_inside); no_earlier = before_item })
+long_item_refused = stops_at (report ++ long_item) report long_item Item (after_report long_item (omega arith)) (inl (cons_not_nil 129 (drop 1 long_item))) (record { found = (refl, ends_inside); no_earlier = before_item })

@@ -6,10 +6,10 @@ use Rattle.rtcp_wire.specs.Values.{SenderValue, RtcpPacket, sr, rr, bye, app}
 use Rattle.rtcp_wire.specs.Grammar.{version_of, is_padded, count_of, type_of, size_of, body_of, IsSpelling, IsAccepted}
 use Rattle.rtcp_wire.specs.Faults.{FindsInBody, IsFirstRow, IsFirstFault}
 use Rattle.rtcp_wire.proofs.Joining.{Joins-one}
-use Rattle.rtcp_wire.proofs.Fronts.{cons_not_nil}
+use Rattle.rtcp_wire.proofs.Prefixes.{cons_not_nil}
 use Rattle.rtcp_wire.proofs.Standing.{body_row}
 use Rattle.rtcp_wire.proofs.Walking.{stops_at}
-use Rattle.rtcp_wire.proofs.Rows.{differs, not_both_bits, report, report_spelled, behind_report, before_body}
+use Rattle.rtcp_wire.proofs.Rows.{differs, not_both_bits, report, report_spelled, after_report, before_body}
 
 -- ---- Sender reports
 
@@ -29,10 +29,10 @@ sending_spelled = record {
   body = (
     refl,
     record {
-      front = drop 4 sending;
+      prefix = drop 4 sending;
       rest = [];
       parts = refl;
-      front_size = refl;
+      prefix_size = refl;
       says = refl;
       ends = record { reports = []; parts = refl; counted = refl; each = refl };
     },
@@ -58,7 +58,7 @@ leaving_spelled = record {
   body = (
     refl,
     record {
-      front = 0 ∷ 0 ∷ 0 ∷ 7 ∷ [];
+      prefix = 0 ∷ 0 ∷ 0 ∷ 7 ∷ [];
       rest = 2 ∷ 97 ∷ 98 ∷ 0 ∷ [];
       parts = refl;
       counted = refl;
@@ -81,7 +81,7 @@ silent_spelled = record {
   body = (
     refl,
     record {
-      front = 0 ∷ 0 ∷ 0 ∷ 7 ∷ [];
+      prefix = 0 ∷ 0 ∷ 0 ∷ 7 ∷ [];
       rest = 0 ∷ 0 ∷ 0 ∷ 0 ∷ [];
       parts = refl;
       counted = refl;
@@ -101,7 +101,7 @@ nobody_spelled = record {
   version = refl;
   size = refl;
   padding = λ set. absurd (differs set);
-  body = (refl, record { front = []; rest = []; parts = refl; counted = refl; each = refl; ends = refl });
+  body = (refl, record { prefix = []; rest = []; parts = refl; counted = refl; each = refl; ends = refl });
 }
 
 -- ---- Applications
@@ -119,27 +119,27 @@ applied_spelled = record {
   body = (refl, refl, record { id = 0 ∷ 0 ∷ 0 ∷ 7 ∷ []; parts = refl; source = (refl, refl); name_size = refl });
 }
 
--- ---- Behind a report
+-- ---- After a report
 
--- A packet behind 80c9000100000007 is accepted.
-pub behind_accepted : (p : RtcpPacket) (octets : List ℕ) → IsSpelling p octets → length (report ++ octets) ≤ 65535 → IsAccepted (report ++ octets) (rr 7 [] [] ∷ p ∷ [])
-behind_accepted p octets spelled short = record {
+-- A packet after 80c9000100000007 is accepted.
+pub after_accepted : (p : RtcpPacket) (octets : List ℕ) → IsSpelling p octets → length (report ++ octets) ≤ 65535 → IsAccepted (report ++ octets) (rr 7 [] [] ∷ p ∷ [])
+after_accepted p octets spelled short = record {
   short = short;
   begins = (inr refl, refl);
   joined = (report, octets, refl, report_spelled, Joins-one IsSpelling p octets spelled);
 }
 
 pub leaving_accepted : IsAccepted (report ++ leaving) (rr 7 [] [] ∷ bye (7 ∷ []) (Some (97 ∷ 98 ∷ [])) ∷ [])
-leaving_accepted = behind_accepted (bye (7 ∷ []) (Some (97 ∷ 98 ∷ []))) leaving leaving_spelled (omega arith)
+leaving_accepted = after_accepted (bye (7 ∷ []) (Some (97 ∷ 98 ∷ []))) leaving leaving_spelled (omega arith)
 
 pub silent_accepted : IsAccepted (report ++ silent) (rr 7 [] [] ∷ bye (7 ∷ []) (Some []) ∷ [])
-silent_accepted = behind_accepted (bye (7 ∷ []) (Some [])) silent silent_spelled (omega arith)
+silent_accepted = after_accepted (bye (7 ∷ []) (Some [])) silent silent_spelled (omega arith)
 
 pub nobody_accepted : IsAccepted (report ++ nobody) (rr 7 [] [] ∷ bye [] None ∷ [])
-nobody_accepted = behind_accepted (bye [] None) nobody nobody_spelled (omega arith)
+nobody_accepted = after_accepted (bye [] None) nobody nobody_spelled (omega arith)
 
 pub applied_accepted : IsAccepted (report ++ applied) (rr 7 [] [] ∷ app 5 7 (65 ∷ 66 ∷ 67 ∷ 68 ∷ []) (1 ∷ 2 ∷ 3 ∷ 4 ∷ []) ∷ [])
-applied_accepted = behind_accepted (app 5 7 (65 ∷ 66 ∷ 67 ∷ 68 ∷ []) (1 ∷ 2 ∷ 3 ∷ 4 ∷ [])) applied applied_spelled (omega arith)
+applied_accepted = after_accepted (app 5 7 (65 ∷ 66 ∷ 67 ∷ 68 ∷ []) (1 ∷ 2 ∷ 3 ∷ 4 ∷ [])) applied applied_spelled (omega arith)
 
 -- ---- Refused
 
@@ -166,17 +166,17 @@ long_reason = 129 ∷ 203 ∷ 0 ∷ 2 ∷ 0 ∷ 0 ∷ 0 ∷ 7 ∷ 5 ∷ 97 ∷ 9
 -- A text of five octets is no three.
 pub long_reason_refused : IsFirstFault (report ++ long_reason) (record { reason = Reason; place = 8 })
 long_reason_refused =
-    stops_at (report ++ long_reason) report long_reason Reason (behind_report long_reason (omega arith)) (inl (cons_not_nil 129 (drop 1 long_reason)))
+    stops_at (report ++ long_reason) report long_reason Reason (after_report long_reason (omega arith)) (inl (cons_not_nil 129 (drop 1 long_reason)))
     (first_row Reason long_reason (omega arith) refl refl (omega arith) (refl, inl (omega arith)))
 
 -- 81cb0003 00000007 02616200 00000000
 abbrev word_more : List ℕ
 word_more = 129 ∷ 203 ∷ 0 ∷ 3 ∷ 0 ∷ 0 ∷ 0 ∷ 7 ∷ 2 ∷ 97 ∷ 98 ∷ 0 ∷ 0 ∷ 0 ∷ 0 ∷ 0 ∷ []
 
--- Behind a reason no word is left.
+-- After a reason no word is left.
 pub word_more_refused : IsFirstFault (report ++ word_more) (record { reason = Reason; place = 8 })
 word_more_refused =
-    stops_at (report ++ word_more) report word_more Reason (behind_report word_more (omega arith)) (inl (cons_not_nil 129 (drop 1 word_more)))
+    stops_at (report ++ word_more) report word_more Reason (after_report word_more (omega arith)) (inl (cons_not_nil 129 (drop 1 word_more)))
     (first_row Reason word_more (omega arith) refl refl (omega arith) (refl, inr (omega arith)))
 
 -- 82cb0001 00000007
@@ -186,7 +186,7 @@ one_id_short = 130 ∷ 203 ∷ 0 ∷ 1 ∷ 0 ∷ 0 ∷ 0 ∷ 7 ∷ []
 -- A goodbye that counts two identifiers has them.
 pub one_id_short_refused : IsFirstFault (report ++ one_id_short) (record { reason = Body; place = 8 })
 one_id_short_refused =
-    stops_at (report ++ one_id_short) report one_id_short Body (behind_report one_id_short (omega arith)) (inl (cons_not_nil 130 (drop 1 one_id_short)))
+    stops_at (report ++ one_id_short) report one_id_short Body (after_report one_id_short (omega arith)) (inl (cons_not_nil 130 (drop 1 one_id_short)))
     (first_row Body one_id_short (omega arith) refl refl (omega arith) (inl (omega arith)))
 
 -- 80cc0001 00000007
@@ -196,5 +196,5 @@ no_name = 128 ∷ 204 ∷ 0 ∷ 1 ∷ 0 ∷ 0 ∷ 0 ∷ 7 ∷ []
 -- An application's packet has a name.
 pub no_name_refused : IsFirstFault (report ++ no_name) (record { reason = Body; place = 8 })
 no_name_refused =
-    stops_at (report ++ no_name) report no_name Body (behind_report no_name (omega arith)) (inl (cons_not_nil 128 (drop 1 no_name)))
+    stops_at (report ++ no_name) report no_name Body (after_report no_name (omega arith)) (inl (cons_not_nil 128 (drop 1 no_name)))
     (first_row Body no_name (omega arith) refl refl (omega arith) (inl (omega arith)))

@@ -69,7 +69,7 @@ one_fault octets f g is_f is_g =
       | inr (inr higher) ↦ absurd (is_f.no_earlier g higher is_g.found)
     ]
 
--- The fault that is answered is the first one.
+-- The fault that is returned is the first one.
 pub same_fault : (octets : List ℕ) (f g : RtpFault) → IsRtpFault octets f → ◌≡◌ {A = Result RtpValue RtpFault} (Err f) (Err g) → IsRtpFault octets g
 same_fault octets f g is_f e = let same : f ≡ g = cc in subst (IsRtpFault octets) same is_f
 

@@ -1,9 +1,9 @@
--- What the octets of an RTP packet say from the front: an account of `IsRtpHead` that computes.
+-- What the octets of an RTP packet say from the start: an account of `IsRtpHead` that computes.
 use Rattle.std.proofs.Common.{◌≡◌, ℕ, ◌*◌, ◌/◌, ◌%◌, ◌≤◌, ◌==◌, Bool, true, List, ◌++◌, length, take, drop, slice_index, sym, ap, subst, ◌∙◌, append_assoc, arith}
 use Rattle.std.proofs.lemmas.List.{take-append-drop, drop-drop, length-append, length-drop, length-take-le, get_or_append_left}
 use Rattle.byteorder.specs.Endian.{big_number}
 use Rattle.rtcp_wire.specs.RtpHeads.{RtpValue, rtp_version_of, has_padding, has_extension, csrc_count_of, marker_of, payload_type_of, IsReserved, extension_size, IsExtensionPart, IsPaddingPart, IsRtpHead, lists_size, behind_csrcs, without_extension, behind_extension, csrcs_in, IsPadded, without_padding}
-use Rattle.rtcp_wire.proofs.RtpLists.{cut_at, big_number-front, joined_csrcs, words_joined, extension_off, extension_on, padding_off, padding_on}
+use Rattle.rtcp_wire.proofs.RtpLists.{cut_at, big_number-prefix, joined_csrcs, words_joined, extension_off, extension_on, padding_off, padding_on}
 
 -- what octets say, whether they are a packet or not
 abbrev pub head_in : List ℕ → RtpValue
@@ -28,7 +28,7 @@ pub record IsSoundRtp (octets : List ℕ) (head : RtpValue) : Type 0 where
 
 -- ---- The fixed part
 
--- Octets and a front of twelve of them have the same fixed part.
+-- Octets and a prefix of twelve of them have the same fixed part.
 record SameFixed (octets fixed : List ℕ) : Type 0 where
   first : slice_index octets 0 ≡ slice_index fixed 0
   second : slice_index octets 1 ≡ slice_index fixed 1
@@ -40,9 +40,9 @@ same_fixed : (fixed rest : List ℕ) → length fixed ≡ 12 → SameFixed (fixe
 same_fixed fixed rest size = record {
   first = get_or_append_left fixed rest 0 0 (omega arith);
   second = get_or_append_left fixed rest 0 1 (omega arith);
-  sequence = big_number-front 2 2 fixed rest (omega arith);
-  timestamp = big_number-front 4 4 fixed rest (omega arith);
-  ssrc = big_number-front 4 8 fixed rest (omega arith);
+  sequence = big_number-prefix 2 2 fixed rest (omega arith);
+  timestamp = big_number-prefix 4 4 fixed rest (omega arith);
+  ssrc = big_number-prefix 4 8 fixed rest (omega arith);
 }
 
 -- a value by its fields
@@ -76,18 +76,18 @@ sound_head octets head h =
     let cut = cut_at (drop 12 octets) h.sources extension_to (4 * csrc_count_of octets) after_fixed sources_size in
     let lists : length (h.fixed ++ h.sources) ≡ lists_size octets = omega (arith, length-append h.fixed h.sources, h.is_fixed.size, sources_size) in
     let regrouped : octets ≡ (h.fixed ++ h.sources) ++ extension_to = h.parts ∙ sym (append_assoc h.fixed h.sources extension_to) in
-    let behind : behind_csrcs octets ≡ extension_to = (cut_at octets (h.fixed ++ h.sources) extension_to (lists_size octets) regrouped lists).1 in
+    let following : behind_csrcs octets ≡ extension_to = (cut_at octets (h.fixed ++ h.sources) extension_to (lists_size octets) regrouped lists).1 in
     let extended : has_extension octets ≡ has_extension h.fixed = ap (λ (n : ℕ). n / 16 % 2 == 1) same.first in
     let padded : has_padding octets ≡ has_padding h.fixed = ap (λ (n : ℕ). n / 32 % 2 == 1) same.first in
     let off = extension_off (has_extension octets) h.extension payload_on (subst (λ (x : Bool). IsExtensionPart x h.extension) (sym extended) h.is_extension) in
-    let last : behind_extension octets ≡ payload_on = ap (λ (t : List ℕ). without_extension (has_extension octets) t) behind ∙ off.0 in
+    let last : behind_extension octets ≡ payload_on = ap (λ (t : List ℕ). without_extension (has_extension octets) t) following ∙ off.0 in
     let unpadded = padding_off (has_padding octets) head.payload h.padding (subst (λ (x : Bool). IsPaddingPart x h.padding) (sym padded) h.is_padding) in
     let kind : head.payload_type ≡ payload_type_of octets = h.is_fixed.payload_type ∙ ap (λ (n : ℕ). n % 128) (sym same.second) in
     record {
       room = omega (arith, ap length regrouped, length-append (h.fixed ++ h.sources) extension_to, lists);
       version = ap (λ (n : ℕ). n / 64) same.first ∙ h.is_fixed.version;
       not_reserved = λ reserved. h.is_fixed.not_reserved (subst IsReserved (sym kind) reserved);
-      extension = λ set. subst (λ (t : List ℕ). extension_size t ≤ length t) (sym behind) (off.1 set);
+      extension = λ set. subst (λ (t : List ℕ). extension_size t ≤ length t) (sym following) (off.1 set);
       padding = λ set. subst IsPadded (sym last) (unpadded.1 set);
       says = values_equal head (head_in octets) kind (h.is_fixed.marker ∙ ap (λ (n : ℕ). n / 128 % 2 == 1) (sym same.second)) (h.is_fixed.sequence ∙ sym same.sequence)
           (h.is_fixed.timestamp ∙ sym same.timestamp) (h.is_fixed.ssrc ∙ sym same.ssrc) (each.1 ∙ ap csrcs_in (sym cut.0))
@@ -103,7 +103,7 @@ parts_made octets head h =
     let n : ℕ = 4 * csrc_count_of octets in
     let after : List ℕ = drop 12 octets in
     let sources : List ℕ = take n after in
-    let behind : drop n after ≡ behind_csrcs octets = drop-drop n 12 octets ∙ ap (λ (k : ℕ). drop k octets) (omega arith) in
+    let following : drop n after ≡ behind_csrcs octets = drop-drop n 12 octets ∙ ap (λ (k : ℕ). drop k octets) (omega arith) in
     let on = extension_on (has_extension octets) (behind_csrcs octets) h.extension in
     let ends = padding_on (has_padding octets) (behind_extension octets) h.padding in
     let whole : fixed ++ after ≡ octets = take-append-drop 12 octets in
@@ -117,7 +117,7 @@ parts_made octets head h =
       sources = sources;
       extension = on.0;
       padding = ends.0;
-      parts = sym whole ∙ ap (λ (t : List ℕ). fixed ++ t) (sym (take-append-drop n after) ∙ ap (λ (t : List ℕ). sources ++ t) (behind ∙ on.1 ∙ ap (λ (t : List ℕ). on.0 ++ t) ends.1));
+      parts = sym whole ∙ ap (λ (t : List ℕ). fixed ++ t) (sym (take-append-drop n after) ∙ ap (λ (t : List ℕ). sources ++ t) (following ∙ on.1 ∙ ap (λ (t : List ℕ). on.0 ++ t) ends.1));
       is_fixed = record {
         size = size;
         version = ap (λ (k : ℕ). k / 64) (sym same.first) ∙ h.version;

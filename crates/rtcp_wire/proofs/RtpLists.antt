@@ -6,26 +6,26 @@ use Rattle.byteorder.specs.Endian.{big_from, big_number}
 use Rattle.rtcp_wire.specs.Grammar.{Joins}
 use Rattle.rtcp_wire.specs.RtpHeads.{IsCsrc, csrcs_in, extension_size, IsExtensionPart, without_extension, last_of, IsPaddingPart, IsPadded, without_padding}
 
--- ---- Fronts
+-- ---- Prefixes
 
--- A list is cut behind a front.
+-- A list is cut after a prefix.
 pub cut_at : (b x y : List ℕ) (n : ℕ) → b ≡ x ++ y → length x ≡ n → (take n b ≡ x) × (drop n b ≡ y)
 cut_at b x y n e size = (
   ap (take n) e ∙ ap (λ (k : ℕ). take k (x ++ y)) (sym size) ∙ take-append_seam x y,
   ap (drop n) e ∙ ap (λ (k : ℕ). drop k (x ++ y)) (sym size) ∙ drop-append_seam x y,
 )
 
--- A number's octets may stand in a front.
+-- A number's octets may stand in a prefix.
 big_from-append : (n i : ℕ) (x y : List ℕ) → i + n ≤ length x → big_from i n (x ++ y) ≡ big_from i n x
 big_from-append zero i x y h = refl
 big_from-append (suc n) i x y h =
     let here : slice_index (x ++ y) i ≡ slice_index x i = get_or_append_left x y 0 i (omega arith) in
-    let behind : big_from (suc i) n (x ++ y) ≡ big_from (suc i) n x = big_from-append n (suc i) x y (omega arith) in
+    let following : big_from (suc i) n (x ++ y) ≡ big_from (suc i) n x = big_from-append n (suc i) x y (omega arith) in
     cc
 
 -- So may those of one that begins at a place in it.
-pub big_number-front : (n i : ℕ) (x y : List ℕ) → i + n ≤ length x → big_number n (drop i (x ++ y)) ≡ big_number n (drop i x)
-big_number-front n i x y h =
+pub big_number-prefix : (n i : ℕ) (x y : List ℕ) → i + n ≤ length x → big_number n (drop i (x ++ y)) ≡ big_number n (drop i x)
+big_number-prefix n i x y h =
     ap (λ (t : List ℕ). big_number n t) (drop-append-le i x y (omega arith)) ∙ big_from-append n 0 (drop i x) y (omega (arith, length-drop i x))
 
 -- ---- Contributing sources
@@ -61,7 +61,7 @@ words_joined (suc n) (a ∷ []) h = absurd (omega arith)
 words_joined (suc n) (a ∷ b ∷ []) h = absurd (omega arith)
 words_joined (suc n) (a ∷ b ∷ c ∷ []) h = absurd (omega arith)
 
--- Where a word stands in front, one source more does.
+-- Where a word stands first, one source more does.
 pub csrcs_in-word : (octets : List ℕ) → 4 ≤ length octets → csrcs_in octets ≡ big_number 4 octets ∷ csrcs_in (drop 4 octets)
 csrcs_in-word (a ∷ b ∷ c ∷ d ∷ rest) h = refl
 csrcs_in-word [] h = absurd (omega arith)
@@ -71,11 +71,11 @@ csrcs_in-word (a ∷ b ∷ c ∷ []) h = absurd (omega arith)
 
 -- ---- Extensions
 
--- An extension tells its size whatever stands behind it.
+-- An extension says its size, whatever follows it.
 extension_size-append : (x y : List ℕ) → 4 ≤ length x → extension_size (x ++ y) ≡ extension_size x
-extension_size-append x y h = ap (λ (n : ℕ). 4 + 4 * n) (big_number-front 2 2 x y h)
+extension_size-append x y h = ap (λ (n : ℕ). 4 + 4 * n) (big_number-prefix 2 2 x y h)
 
--- What stands behind an extension is what is left without it.
+-- What follows an extension is what is left without it.
 pub extension_off : (extended : Bool) (x y : List ℕ) → IsExtensionPart extended x → (without_extension extended (x ++ y) ≡ y) × (extended ≡ true → extension_size (x ++ y) ≤ length (x ++ y))
 extension_off true x y h =
     let size : extension_size (x ++ y) ≡ extension_size x = extension_size-append x y (omega arith) in (
@@ -84,7 +84,7 @@ extension_off true x y h =
     )
 extension_off false x y h = (ap (λ (t : List ℕ). t ++ y) h, λ e. absurd cc)
 
--- Where there is room for it, an extension stands in front.
+-- Where there is room for it, an extension stands first.
 pub extension_on : (extended : Bool) (b : List ℕ) → (extended ≡ true → extension_size b ≤ length b) → (x : List ℕ) × (b ≡ x ++ without_extension extended b) × IsExtensionPart extended x
 extension_on true b room =
     let x : List ℕ = take (extension_size b) b in

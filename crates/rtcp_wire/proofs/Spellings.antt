@@ -1,4 +1,4 @@
--- A packet's octets say its length in their first four, so they begin no other packet's octets, and they say one packet.
+-- A packet's first four octets say how long it is, so its octets are no proper prefix of another packet's, and they say one packet.
 use Rattle.std.proofs.Common.{◌≡◌, ℕ, ◌+◌, ◌-◌, ◌*◌, ◌<◌, ◌≤◌, Bool, cond, List, [], ◌∷◌, ◌++◌, length, get_or, take, drop, refl, sym, ap, subst, ◌∙◌, arith}
 use Rattle.std.proofs.lemmas.List.{get_or_append_left, take-append-le, drop-append-le, length-drop}
 use Rattle.std.proofs.lemmas.List.{take-append-drop, length-take-le}
@@ -6,7 +6,7 @@ use Rattle.byteorder.specs.Endian.{big_number}
 use Rattle.rtcp_wire.specs.Values.{RtcpPacket}
 use Rattle.rtcp_wire.specs.Grammar.{version_of, is_padded, count_of, type_of, size_of, padding_of, body_of, IsBody, IsSpelling, IsAccepted}
 use Rattle.rtcp_wire.proofs.Joining.{IsNeverEmpty, same_whole}
-use Rattle.rtcp_wire.proofs.Fronts.{same_fronts}
+use Rattle.rtcp_wire.proofs.Prefixes.{same_prefixes}
 use Rattle.rtcp_wire.proofs.Bodies.{same_body}
 
 -- ---- The header's word
@@ -33,17 +33,17 @@ pub record SameParts (s b : List ℕ) : Type 0 where
   pub padding : padding_of b ≡ padding_of s
   pub body : body_of b ≡ body_of s
 
--- an octet of the front
-at_front : (s after : List ℕ) (i j : ℕ) → i ≡ j → j < length s → get_or (s ++ after) i 0 ≡ get_or s j 0
-at_front s after i j same h = ap (λ (n : ℕ). get_or (s ++ after) n 0) same ∙ get_or_append_left s after 0 j h
+-- an octet of the prefix
+at_start : (s after : List ℕ) (i j : ℕ) → i ≡ j → j < length s → get_or (s ++ after) i 0 ≡ get_or s j 0
+at_start s after i j same h = ap (λ (n : ℕ). get_or (s ++ after) n 0) same ∙ get_or_append_left s after 0 j h
 
 -- the padding, which is 0 where its bit is clear
 same_choice : (p q : Bool) (x y : ℕ) → p ≡ q → x ≡ y → cond p x 0 ≡ cond q y 0
 same_choice p q x y same e = cc
 
--- a part of the front, behind the header
-take_front : (s after : List ℕ) (n m : ℕ) → n ≡ m → 4 ≤ length s → m ≤ length s - 4 → take n (drop 4 (s ++ after)) ≡ take m (drop 4 s)
-take_front s after n m same h le =
+-- a part of the prefix, after the header
+take_prefix : (s after : List ℕ) (n m : ℕ) → n ≡ m → 4 ≤ length s → m ≤ length s - 4 → take n (drop 4 (s ++ after)) ≡ take m (drop 4 s)
+take_prefix s after n m same h le =
     ap (λ (k : ℕ). take k (drop 4 (s ++ after))) same ∙ ap (take m) (drop-append-le 4 s after h) ∙ take-append-le m (drop 4 s) after (omega (arith, length-drop 4 s))
 
 -- the size of a body
@@ -56,11 +56,11 @@ same_parts s after h whole =
     let header : SameHeader s (s ++ after) = same_header s after h in
     let padding : padding_of (s ++ after) ≡ padding_of s =
     same_choice (is_padded (s ++ after)) (is_padded s) (get_or (s ++ after) (size_of (s ++ after) - 1) 0) (get_or s (size_of s - 1) 0) header.padded
-    (at_front s after (size_of (s ++ after) - 1) (size_of s - 1) (ap (λ (n : ℕ). n - 1) header.size) (below_one (length s) (size_of s) whole h)) in
+    (at_start s after (size_of (s ++ after) - 1) (size_of s - 1) (ap (λ (n : ℕ). n - 1) header.size) (below_one (length s) (size_of s) whole h)) in
     record {
       header = header;
       padding = padding;
-      body = take_front s after (size_of (s ++ after) - 4 - padding_of (s ++ after)) (size_of s - 4 - padding_of s) (less (size_of (s ++ after)) (size_of s) (padding_of (s ++ after)) (padding_of s) header.size padding) h (at_most (length s) (size_of s) (padding_of s) whole);
+      body = take_prefix s after (size_of (s ++ after) - 4 - padding_of (s ++ after)) (size_of s - 4 - padding_of s) (less (size_of (s ++ after)) (size_of s) (padding_of (s ++ after)) (padding_of s) header.size padding) h (at_most (length s) (size_of s) (padding_of s) whole);
     }
   where
     below_one : (n m : ℕ) → n ≡ m → 4 ≤ n → m - 1 < n
@@ -107,11 +107,11 @@ spelling_has_octets p h = absurd (omega (arith, spelling_length p [] h))
 
 -- ---- One packet for each spelling
 
--- No spelling is a proper front of another, and a spelling says one packet.
+-- No spelling is a proper prefix of another, and a spelling says one packet.
 pub one_spelling : (p q : RtcpPacket) (s t x y : List ℕ) → IsSpelling p s → IsSpelling q t → s ++ x ≡ t ++ y → (s ≡ t) × (p ≡ q)
 one_spelling p q s t x y h k e =
     let sizes : length s ≡ length t = h.size ∙ sym (spelling_parts p s x h).header.size ∙ ap size_of e ∙ (spelling_parts q t y k).header.size ∙ sym k.size in
-    let same : s ≡ t = (same_fronts s t x y sizes e).0 in
+    let same : s ≡ t = (same_prefixes s t x y sizes e).0 in
     let other_body : IsBody q (type_of s) (count_of s) (body_of s) = (subst (λ (z : List ℕ). IsSpelling q z) (sym same) k).body in
     (same, same_body p q (type_of s) (count_of s) (body_of s) h.body other_body)
 

@@ -171,7 +171,7 @@ body_is_words first b h =
 
 -- ---- The packet
 
--- A packet's octets stand in front, and may stand there.
+-- A packet's octets stand first, and may stand there.
 pub record Stands (first : Bool) (b : List ℕ) : Type 0 where
   pub packet : RtcpPacket
   pub spelling : List ℕ

@@ -21,7 +21,7 @@ body_at p k l c d x y kinds counts bodies h =
 pub padding_at : (m n p q : ℕ) → m ≡ n → p ≡ q → IsPadding m p → IsPadding n q
 padding_at m n p q sizes paddings h = subst (λ (z : ℕ). IsPadding z q) sizes (subst (λ (z : ℕ). IsPadding m z) paddings h)
 
--- What may begin a datagram is told by the header: at a front,
+-- What may begin a datagram is told by the header: at a prefix,
 pub begins_at : (s b : List ℕ) → SameHeader s b → MayBegin b → MayBegin s
 begins_at s b header h =
     let kinds : (type_of s ≡ 200) ⊎ (type_of s ≡ 201) = elim h.0 [ inl e ↦ inl (sym header.kind ∙ e) | inr e ↦ inr (sym header.kind ∙ e) ] in
@@ -70,7 +70,7 @@ at_spelling Item first p s after h may found = at_body Item p s after h found
 at_spelling Reason first p s after h may found = at_body Reason p s after h found
 at_spelling TooLong first p s after h may found = found
 
--- Where a reason's test finds a fault, no spelling that may stand there is a front.
+-- Where a reason's test finds a fault, no spelling that may stand there is a prefix.
 pub finds_no_spelling : (r : FaultReason) (first : Bool) (b : List ℕ) → Finds r first b → (p : RtcpPacket) (s after : List ℕ) → b ≡ s ++ after → IsSpelling p s → MayStand first s → ⊥
 finds_no_spelling r first b found p s after e h may = at_spelling r first p s after h may (subst (λ (z : List ℕ). Finds r first z) e found)
 

@@ -80,7 +80,7 @@ sender_written sender fits =
     (word_back sender.packets (drop 20 octets) fits.packets)
     (word_back sender.octets [] fits.octets)
 
--- The packets lost stand behind the fraction.
+-- The packets lost follow the fraction.
 lost_written : (block : ReportBlock) → IsWritableBlock block → block.lost ≡ twos_complement 3 (big_number 3 (drop 5 (written_block block)))
 lost_written block is =
     sym (ap (twos_complement 3) (big_number-reads_back 3 (low_bytes w64 3 block.lost) (drop 8 (written_block block)) (low_fits block.lost)) ∙ lost_back block.lost is.0 is.1)

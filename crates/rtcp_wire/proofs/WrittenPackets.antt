@@ -20,12 +20,12 @@ end_written blocks extension can fits = record {
   each = joins_written IsBlock written_block (λ b. IsWritableBlock b × IsBlockInRange b) block_written blocks (both_all IsWritableBlock IsBlockInRange blocks can fits);
 }
 
--- Behind the header stands a body of the packet.
+-- After the header stands a body of the packet.
 pub body_written : (p : RtcpPacket) → HasWritableParts p → IsInRange p → IsBody p (written_type p) (written_count p) (written_body p)
-body_written (sr sender blocks extension) can fits = (refl, record { front = written_sender sender; rest = flat_map written_block blocks ++ extension; parts = refl; front_size = refl; says = sender_written sender fits.0; ends = end_written blocks extension can.1 fits.1 })
+body_written (sr sender blocks extension) can fits = (refl, record { prefix = written_sender sender; rest = flat_map written_block blocks ++ extension; parts = refl; prefix_size = refl; says = sender_written sender fits.0; ends = end_written blocks extension can.1 fits.1 })
 body_written (rr ssrc blocks extension) can fits = (refl, record { id = written_word ssrc; rest = flat_map written_block blocks ++ extension; parts = refl; sender = id_written ssrc fits.0; ends = end_written blocks extension can.1 fits.1 })
 body_written (sdes chunks) can fits = (refl, refl, joins_written IsChunk written_chunk (λ c. IsWritableChunk c × IsChunkInRange c) chunk_written chunks (both_all IsWritableChunk IsChunkInRange chunks can.1 fits))
-body_written (bye ids reason) can fits = (refl, record { front = flat_map written_word ids; rest = written_reason reason; parts = refl; counted = refl; each = joins_written IsId written_word (λ id. id < 2 ^ 32) id_written ids fits; ends = reason_written reason })
+body_written (bye ids reason) can fits = (refl, record { prefix = flat_map written_word ids; rest = written_reason reason; parts = refl; counted = refl; each = joins_written IsId written_word (λ id. id < 2 ^ 32) id_written ids fits; ends = reason_written reason })
 body_written (app subtype ssrc name content) can fits = (refl, refl, record { id = written_word ssrc; parts = refl; source = id_written ssrc fits.0; name_size = fits.1 })
 body_written (other kind count body) can fits = (can.0, refl, refl, refl)
 
@@ -108,7 +108,7 @@ written_is_spelling p can fits =
 
 -- ---- Compounds
 
--- A report at the front may begin a datagram.
+-- A report at the start may begin a datagram.
 begins_written : (ps : List RtcpPacket) → All IsWritable ps → All IsInRange ps → BeginsWithReport ps → MayBegin (written_all ps)
 begins_written [] can fits begins = absurd begins
 begins_written (sr sender blocks extension ∷ ps) can fits begins = (inl refl, (packet_header (sr sender blocks extension) (All-head IsWritable _ ps can) (All-head IsInRange _ ps fits)).clear)

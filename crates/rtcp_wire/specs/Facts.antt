@@ -1,4 +1,4 @@
--- What the packets of a compound say of sources (RFC 3550, 6.4 to 6.7). The blocks inside reports say nothing here.
+-- What the packets of a compound say of sources (RFC 3550, 6.4 to 6.7). Report blocks give no facts.
 use Rattle.std.specs.Prelude.{ℕ, ◌==◌, Bool, true, false, List, [], ◌∷◌, map, flat_map, if◌then◌else◌}
 use Rattle.std.specs.List.{list_any}
 use Rattle.rtcp_wire.specs.declared.fact.Fact.{Fact}
@@ -37,7 +37,8 @@ is_media (Media ssrc seq timestamp) = true
 abbrev pub is_cname : ItemValue → Bool
 is_cname item = item.kind == 1
 
--- A chunk's source was heard, and gave its name if any of the chunk's items is a CNAME: one fact, however many there are.
+-- A chunk's source was heard, and gave its name if one of the chunk's items is a CNAME: one fact, however
+-- many CNAMEs there are.
 abbrev pub facts_of_chunk : ChunkValue → List Fact
 facts_of_chunk chunk = Heard chunk.id ∷ (if list_any is_cname chunk.items then Named chunk.id ∷ [] else [])
 

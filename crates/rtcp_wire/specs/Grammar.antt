@@ -1,13 +1,16 @@
--- The octets that spell a packet, and the datagrams that are read: RFC 3550, 6.1, 6.4 to 6.7 and appendix A.2.
--- Octets are a list of numbers, the first octet first. No definition here says how to read them.
+-- The encodings of a packet, and the datagrams that are accepted: RFC 3550, 6.1, 6.4 to 6.7 and appendix A.2.
+-- Octets are a list of numbers, the first octet first. An encoding is called a spelling here: a packet has
+-- several, since some octets are free. Fields of fixed size are computed; what has parts is said by how they
+-- are joined.
 use Rattle.std.specs.Prelude.{◌≡◌, ◌≢◌, ℕ, ◌+◌, ◌-◌, ◌*◌, ◌/◌, ◌%◌, ◌<◌, ◌≤◌, ◌⊎◌, ◌==◌, Bool, true, false, if◌then◌else◌, List, [], ◌∷◌, ◌++◌, Option, Some, None, length, take, drop, slice_index}
 use Rattle.byteorder.specs.Endian.{big_number, twos_complement}
 use Rattle.rtcp_wire.specs.Values.{SenderValue, ReportBlock, ItemValue, ChunkValue, RtcpPacket, sr, rr, sdes, bye, app, other}
 
--- The octets are spellings of these values, one after the other.
+-- The octets are encodings of these values, one after the other.
 abbrev pub Joins : {A : Type 0} → (A → List ℕ → Type 0) → List A → List ℕ → Type 0
 Joins Spells [] octets = octets ≡ []
-Joins Spells (x ∷ xs) octets = (front : List ℕ) × (rest : List ℕ) × (octets ≡ front ++ rest) × Spells x front × Joins Spells xs rest
+Joins Spells (x ∷ xs) octets = (prefix : List ℕ) × (rest : List ℕ) × (octets ≡ prefix ++ rest)
+    × Spells x prefix × Joins Spells xs rest
 
 -- ---- The header's word (6.4.1): version 2, padding bit, count; type; length in words less one.
 
@@ -23,7 +26,7 @@ count_of octets = slice_index octets 0 % 32
 abbrev pub type_of : List ℕ → ℕ
 type_of octets = slice_index octets 1
 
--- how many octets the packet has that begins here, its header and its padding included
+-- the size of the packet that begins here, in octets, with its header and its padding
 abbrev pub size_of : List ℕ → ℕ
 size_of octets = 4 * (big_number 2 (drop 2 octets) + 1)
 
@@ -57,7 +60,8 @@ abbrev pub IsBlock : ReportBlock → List ℕ → Type 0
 IsBlock block octets = (length octets ≡ 24) × (block ≡ block_in octets)
 
 -- What both reports end with (6.4.1, 6.4.2): as many blocks as the count says, and an extension.
-pub record IsReportEnd (blocks : List ReportBlock) (extension : List ℕ) (count : ℕ) (octets : List ℕ) : Type 0 where
+pub record IsReportEnd
+    (blocks : List ReportBlock) (extension : List ℕ) (count : ℕ) (octets : List ℕ) : Type 0 where
   pub reports : List ℕ
   pub parts : octets ≡ reports ++ extension
   pub counted : length blocks ≡ count
@@ -74,12 +78,14 @@ sender_in octets = record {
 }
 
 -- A sender report (6.4.1): its sender, and then blocks and an extension.
-pub record IsSenderReport (sender : SenderValue) (blocks : List ReportBlock) (extension : List ℕ) (count : ℕ) (body : List ℕ) : Type 0 where
-  pub front : List ℕ
+pub record IsSenderReport
+    (sender : SenderValue) (blocks : List ReportBlock) (extension : List ℕ) (count : ℕ) (body : List ℕ)
+    : Type 0 where
+  pub prefix : List ℕ
   pub rest : List ℕ
-  pub parts : body ≡ front ++ rest
-  pub front_size : length front ≡ 24
-  pub says : sender ≡ sender_in front
+  pub parts : body ≡ prefix ++ rest
+  pub prefix_size : length prefix ≡ 24
+  pub says : sender ≡ sender_in prefix
   pub ends : IsReportEnd blocks extension count rest
 
 -- the identifier that four octets say
@@ -87,7 +93,8 @@ abbrev pub IsId : ℕ → List ℕ → Type 0
 IsId id octets = (length octets ≡ 4) × (id ≡ big_number 4 octets)
 
 -- A receiver report (6.4.2): an identifier, and then blocks and an extension.
-pub record IsReport (ssrc : ℕ) (blocks : List ReportBlock) (extension : List ℕ) (count : ℕ) (body : List ℕ) : Type 0 where
+pub record IsReport
+    (ssrc : ℕ) (blocks : List ReportBlock) (extension : List ℕ) (count : ℕ) (body : List ℕ) : Type 0 where
   pub id : List ℕ
   pub rest : List ℕ
   pub parts : body ≡ id ++ rest
@@ -117,18 +124,18 @@ pub record IsReason (text octets : List ℕ) : Type 0 where
   pub fill : length free < 4
   pub aligned : length octets % 4 ≡ 0
 
--- what stands behind the identifiers of a goodbye (6.6): a reason, or nothing
+-- what follows the identifiers of a goodbye (6.6): a reason, or nothing
 abbrev pub IsReasonPart : Option (List ℕ) → List ℕ → Type 0
 IsReasonPart None octets = octets ≡ []
 IsReasonPart (Some text) octets = IsReason text octets
 
 -- A goodbye (6.6): as many identifiers as the count says, and perhaps a reason.
 pub record IsGoodbye (ids : List ℕ) (reason : Option (List ℕ)) (count : ℕ) (body : List ℕ) : Type 0 where
-  pub front : List ℕ
+  pub prefix : List ℕ
   pub rest : List ℕ
-  pub parts : body ≡ front ++ rest
+  pub parts : body ≡ prefix ++ rest
   pub counted : length ids ≡ count
-  pub each : Joins IsId ids front
+  pub each : Joins IsId ids prefix
   pub ends : IsReasonPart reason rest
 
 -- An application's own packet (6.7): an identifier, a name of four octets, and what the application says.
@@ -138,22 +145,26 @@ pub record IsApplication (ssrc : ℕ) (name content body : List ℕ) : Type 0 wh
   pub source : IsId ssrc id
   pub name_size : length name ≡ 4
 
--- a type whose body is not looked into
+-- a type whose body is kept as it is
 abbrev pub IsOtherType : ℕ → Type 0
 IsOtherType kind = (kind < 200) ⊎ (204 < kind)
 
 -- a packet's body, under its type and count
 abbrev pub IsBody : RtcpPacket → ℕ → ℕ → List ℕ → Type 0
-IsBody (sr sender blocks extension) kind count body = (kind ≡ 200) × IsSenderReport sender blocks extension count body
+IsBody (sr sender blocks extension) kind count body =
+    (kind ≡ 200) × IsSenderReport sender blocks extension count body
 IsBody (rr ssrc blocks extension) kind count body = (kind ≡ 201) × IsReport ssrc blocks extension count body
 IsBody (sdes chunks) kind count body = (kind ≡ 202) × (length chunks ≡ count) × Joins IsChunk chunks body
 IsBody (bye ids reason) kind count body = (kind ≡ 203) × IsGoodbye ids reason count body
-IsBody (app subtype ssrc name content) kind count body = (kind ≡ 204) × (subtype ≡ count) × IsApplication ssrc name content body
-IsBody (other its_kind its_count its_body) kind count body = IsOtherType kind × (its_kind ≡ kind) × (its_count ≡ count) × (its_body ≡ body)
+IsBody (app subtype ssrc name content) kind count body =
+    (kind ≡ 204) × (subtype ≡ count) × IsApplication ssrc name content body
+IsBody (other its_kind its_count its_body) kind count body =
+    IsOtherType kind × (its_kind ≡ kind) × (its_count ≡ count) × (its_body ≡ body)
 
 -- ---- Packets and compounds
 
--- The octets are one spelling of the packet. Those of padding but the last, and those that fill a word behind a chunk's zero or a reason's text, are free.
+-- The octets are an encoding of the packet. All octets of padding but the last are free, and so are those
+-- that fill a word after a chunk's zero octet or a reason's text.
 pub record IsSpelling (packet : RtcpPacket) (octets : List ℕ) : Type 0 where
   pub version : version_of octets ≡ 2
   pub size : length octets ≡ size_of octets
@@ -164,7 +175,7 @@ pub record IsSpelling (packet : RtcpPacket) (octets : List ℕ) : Type 0 where
 abbrev pub MayBegin : List ℕ → Type 0
 MayBegin octets = ((type_of octets ≡ 200) ⊎ (type_of octets ≡ 201)) × (is_padded octets ≡ false)
 
--- The datagram is these packets. As nothing begins with no octets, there is at least one.
+-- The datagram is these packets. There is at least one, since an empty datagram begins with no report.
 pub record IsAccepted (octets : List ℕ) (packets : List RtcpPacket) : Type 0 where
   pub short : length octets ≤ 65535
   pub begins : MayBegin octets

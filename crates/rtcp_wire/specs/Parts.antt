@@ -1,4 +1,4 @@
--- What the readers of the parts of a packet answer, for the contracts between them.
+-- What the readers of the parts of a packet return, for the contracts between them.
 use Rattle.std.specs.Prelude.{◌≡◌, ℕ, ◌*◌, ◌<◌, ◌≤◌, Bool, true, List, ◌∷◌, ◌++◌, length, drop, Option, Some, None}
 use Rattle.rtcp_wire.specs.declared.fault.FaultReason.{FaultReason}
 use Rattle.rtcp_wire.specs.declared.fault.FaultReason.TheVariants.{Body, Item, Reason}
@@ -12,25 +12,25 @@ use Rattle.rtcp_wire.specs.Grammar.{Joins, IsItem, version_of, is_padded, size_o
 use Rattle.rtcp_wire.specs.Faults.{least_size, IsCut, IsNoReason, FindsInBody, Finds, EndsBesideChunks, EndsInsideChunk, IsFirstRow, MayStand}
 use Rattle.rtcp_wire.specs.Views.{item_of}
 
--- A part was taken from the front of the octets, and the rest is left.
+-- A part was taken from the start of the octets, and the rest is left.
 abbrev pub Takes : List ℕ → List ℕ → (List ℕ → Type 0) → Type 0
-Takes old new P = (front : List ℕ) × (old ≡ front ++ new) × P front
+Takes old new P = (prefix : List ℕ) × (old ≡ prefix ++ new) × P prefix
 
--- The error is this reason where it holds, or memory.
+-- The error is this reason, and then this holds, or it is memory.
 abbrev pub Fails : PartError → FaultReason → Type 0 → Type 0
 Fails (Fault found) expected holds = (found ≡ expected) × holds
 Fails Memory expected holds = Unit {0}
 
 -- ---- Reports and applications
 
--- A body has fewer octets than it must have; only one that has them takes memory.
+-- A body has fewer octets than it must have. Memory is the error only where it has enough.
 abbrev pub IsTooShort : PartError → ℕ → List ℕ → Type 0
 IsTooShort (Fault found) least body = (found ≡ Body) × (length body < least)
 IsTooShort Memory least body = least ≤ length body
 
 -- ---- Source descriptions
 
--- an item, or the zero octet behind the last one
+-- an item, or the zero octet after the last one
 abbrev pub TakesItem : List ℕ → List ℕ → Option SdesItem → Type 0
 TakesItem old new None = old ≡ 0 ∷ new
 TakesItem old new (Some item) = Takes old new (IsItem (item_of item))
@@ -61,7 +61,7 @@ IsChunksFault Memory count body = Unit {0}
 
 -- ---- Goodbyes
 
--- the fault of the identifiers or of the reason; a body with room for its identifiers, and nothing else, is known where memory is short
+-- The fault of the identifiers or of the reason. Out of memory says only that the identifiers have room.
 abbrev pub IsGoodbyeFault : PartError → ℕ → List ℕ → Type 0
 IsGoodbyeFault (Fault Body) count body = length body < 4 * count
 IsGoodbyeFault (Fault Reason) count body = IsNoReason (drop (4 * count) body)
@@ -70,7 +70,7 @@ IsGoodbyeFault Memory count body = 4 * count ≤ length body
 
 -- ---- Packets
 
--- the fault of a body under its type and count; that it is not too short, and nothing else, is known where memory is short
+-- The fault of a body under its type and count. Out of memory says only that the body is not too short.
 abbrev pub IsBodyFault : PartError → ℕ → ℕ → List ℕ → Type 0
 IsBodyFault (Fault found) kind count body = FindsInBody found kind count body
 IsBodyFault Memory kind count body = least_size kind count ≤ length body
@@ -84,19 +84,20 @@ pub record IsWhole (is_first : Bool) (octets : List ℕ) : Type 0 where
 
 -- the padding of a packet is good, and this is its body
 abbrev pub IsUnpadded : List ℕ → List ℕ → Type 0
-IsUnpadded octets body = (body ≡ body_of octets) × (is_padded octets ≡ true → IsPadding (size_of octets) (padding_of octets))
+IsUnpadded octets body =
+    (body ≡ body_of octets) × (is_padded octets ≡ true → IsPadding (size_of octets) (padding_of octets))
 
 -- the error is the first row of the table that finds a fault here
 abbrev pub IsRow : PartError → Bool → List ℕ → Type 0
 IsRow (Fault found) is_first octets = IsFirstRow found is_first octets
 IsRow Memory is_first octets = ⊥
 
--- the same, and where memory is short at the datagram's first packet no row finds a fault
+-- The same. Out of memory at the datagram's first packet says that no row finds a fault there.
 abbrev pub IsPacketFault : PartError → Bool → List ℕ → Type 0
 IsPacketFault (Fault found) is_first octets = IsFirstRow found is_first octets
 IsPacketFault Memory is_first octets = is_first ≡ true → (row : FaultReason) → Finds row is_first octets → ⊥
 
--- the same error of the datagram
+-- the error of a part as that of the datagram, where its packet begins at this offset
 abbrev pub placed : PartError → ℕ → ReadError
 placed (Fault found) place = errors.Wire (record { reason = found; place = place })
 placed Memory place = errors.Memory

@@ -1,4 +1,4 @@
--- What a packet still has to say when some of its facts were given.
+-- The facts of a packet that are left after some were given.
 use Rattle.std.specs.Prelude.{List, [], ◌∷◌, map, flat_map}
 use Rattle.rtcp_wire.specs.declared.fact.Fact.{Fact}
 use Rattle.rtcp_wire.specs.declared.fact.Fact.TheVariants.{Named, Gone}

@@ -1,4 +1,4 @@
--- How the answer of a call compares with what the octets are.
+-- The result of a call, beside what it should be.
 use Rattle.std.specs.Prelude.{◌≡◌, List, Result, Ok, Err}
 use Rattle.std.specs.Global.{Vec}
 use Rattle.rtcp_wire.specs.declared.fault.WireFault.{WireFault}

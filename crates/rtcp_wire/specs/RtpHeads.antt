@@ -1,5 +1,5 @@
--- The octets that are an RTP packet, what they say, and why other octets are refused: RFC 3550, 5.1 and 5.3.1, and RFC 3551, 6.
--- Octets are a list of numbers, the first octet first. No definition here says how to read them.
+-- The octets that are an RTP packet, what they say, and why other octets are refused: RFC 3550, 5.1 and
+-- 5.3.1, and RFC 3551, 6. Octets are a list of numbers, the first octet first.
 use Rattle.std.specs.Prelude.{◌≡◌, ◌≢◌, ℕ, ◌+◌, ◌-◌, ◌*◌, ◌/◌, ◌%◌, ◌<◌, ◌≤◌, ◌⊎◌, ◌==◌, Bool, true, false, List, [], ◌∷◌, ◌++◌, length, take, drop, slice_index}
 use Rattle.byteorder.specs.Endian.{big_number}
 use Rattle.rtcp_wire.specs.declared.rtp.fault.RtpFault.{RtpFault}
@@ -16,7 +16,7 @@ pub record RtpValue : Type 0 where
   pub csrcs : List ℕ
   pub payload : List ℕ
 
--- ---- The first two octets (5.1): version 2, padding bit, extension bit, count of CSRCs; marker, payload type.
+-- ---- The first two octets (5.1): version 2, padding bit, extension bit, CSRC count; marker, payload type.
 
 abbrev pub rtp_version_of : List ℕ → ℕ
 rtp_version_of octets = slice_index octets 0 / 64
@@ -57,7 +57,8 @@ pub record IsFixedPart (head : RtpValue) (octets : List ℕ) : Type 0 where
 abbrev pub IsCsrc : ℕ → List ℕ → Type 0
 IsCsrc csrc octets = (length octets ≡ 4) × (csrc ≡ big_number 4 octets)
 
--- how many octets a header extension has that begins here (5.3.1): 16 bits that are free, 16 bits that count its words, and those
+-- the size of the header extension that begins here, in octets (5.3.1): 16 free bits, 16 bits that count its
+-- words, and these words
 abbrev pub extension_size : List ℕ → ℕ
 extension_size octets = 4 + 4 * big_number 2 (drop 2 octets)
 
@@ -66,7 +67,7 @@ abbrev pub IsExtensionPart : Bool → List ℕ → Type 0
 IsExtensionPart true octets = length octets ≡ extension_size octets
 IsExtensionPart false octets = octets ≡ []
 
--- Where its bit is set the padding is some free octets, and then one that counts all of them, itself included (5.1).
+-- Where its bit is set the padding is free octets, and then one that counts all of them and itself (5.1).
 abbrev pub IsPaddingPart : Bool → List ℕ → Type 0
 IsPaddingPart true octets = (free : List ℕ) × (octets ≡ free ++ (length free + 1) ∷ [])
 IsPaddingPart false octets = octets ≡ []
@@ -86,11 +87,11 @@ pub record IsRtpHead (octets : List ℕ) (head : RtpValue) : Type 0 where
 
 -- ---- Faults
 
--- how many octets the fixed part and the CSRC list have
+-- the size of the fixed part and the CSRC list, in octets
 abbrev pub lists_size : List ℕ → ℕ
 lists_size octets = 12 + 4 * csrc_count_of octets
 
--- what stands behind the CSRC list
+-- what follows the CSRC list
 abbrev pub behind_csrcs : List ℕ → List ℕ
 behind_csrcs octets = drop (lists_size octets) octets
 
@@ -99,7 +100,7 @@ abbrev pub without_extension : Bool → List ℕ → List ℕ
 without_extension true octets = drop (extension_size octets) octets
 without_extension false octets = octets
 
--- what stands behind the extension: the payload and the padding
+-- what follows the extension: the payload and the padding
 abbrev pub behind_extension : List ℕ → List ℕ
 behind_extension octets = without_extension (has_extension octets) (behind_csrcs octets)
 
@@ -107,15 +108,18 @@ behind_extension octets = without_extension (has_extension octets) (behind_csrcs
 abbrev pub last_of : List ℕ → ℕ
 last_of octets = slice_index octets (length octets - 1)
 
--- The test of a fault. Fewer than 12 octets are fewer than 12 and the CSRC list, and fewer than 4 are no extension, whatever they count.
+-- The test of a fault. Fewer than 12 octets are too few whatever CSRC count they say, and so are fewer than 4
+-- for an extension.
 abbrev pub FindsRtp : RtpFault → List ℕ → Type 0
 FindsRtp Short octets = length octets < lists_size octets
 FindsRtp Version octets = rtp_version_of octets ≢ 2
 FindsRtp PayloadType octets = IsReserved (payload_type_of octets)
-FindsRtp Extension octets = (has_extension octets ≡ true) × (length (behind_csrcs octets) < extension_size (behind_csrcs octets))
+FindsRtp Extension octets =
+    (has_extension octets ≡ true) × (length (behind_csrcs octets) < extension_size (behind_csrcs octets))
 FindsRtp Padding octets =
     (has_padding octets ≡ true)
-    × ((behind_extension octets ≡ []) ⊎ (last_of (behind_extension octets) ≡ 0) ⊎ (length (behind_extension octets) < last_of (behind_extension octets)))
+    × ((behind_extension octets ≡ []) ⊎ (last_of (behind_extension octets) ≡ 0)
+    ⊎ (length (behind_extension octets) < last_of (behind_extension octets)))
 
 -- the order of the tests
 abbrev pub rtp_row_of : RtpFault → ℕ
@@ -130,9 +134,9 @@ pub record IsRtpFault (octets : List ℕ) (fault : RtpFault) : Type 0 where
   pub found : FindsRtp fault octets
   pub no_earlier : (earlier : RtpFault) → rtp_row_of earlier < rtp_row_of fault → FindsRtp earlier octets → ⊥
 
--- ---- What the readers of the parts answer, for the contracts between them.
+-- ---- What the readers of the parts return, for the contracts between them.
 
--- the CSRCs of whole words
+-- the CSRCs that these octets say, a word each
 abbrev pub csrcs_in : List ℕ → List ℕ
 csrcs_in (a ∷ b ∷ c ∷ d ∷ rest) = big_number 4 (a ∷ b ∷ c ∷ d ∷ []) ∷ csrcs_in rest
 csrcs_in _ = []

@@ -24,21 +24,21 @@ pub record ItemValue : Type 0 where
   pub kind : ℕ
   pub text : List ℕ
 
--- an SDES chunk: a source, and what it says of itself (6.5)
+-- an SDES chunk: a source, and the items that describe it (6.5)
 pub record ChunkValue : Type 0 where
   pub id : ℕ
   pub items : List ItemValue
 
 pub data RtcpPacket : Type 0 where
-  -- a sender report (6.4.1): its sender, its blocks, and the extension behind them
+  -- a sender report (6.4.1): its sender, its blocks, and the extension after them
   sr : (sender : SenderValue) (blocks : List ReportBlock) (extension : List ℕ) → RtcpPacket
-  -- a receiver report (6.4.2): its sender, its blocks, and the extension behind them
+  -- a receiver report (6.4.2): its sender, its blocks, and the extension after them
   rr : (ssrc : ℕ) (blocks : List ReportBlock) (extension : List ℕ) → RtcpPacket
   -- a source description (6.5)
   sdes : (chunks : List ChunkValue) → RtcpPacket
   -- a goodbye (6.6): the sources that leave, and the octets of the text that says why
   bye : (ids : List ℕ) (reason : Option (List ℕ)) → RtcpPacket
-  -- an application's own packet (6.7): its subtype, its source, its name of four octets, and what the application says
+  -- a packet that an application defines (6.7): its subtype, its source, its name of four octets, its data
   app : (subtype ssrc : ℕ) (name content : List ℕ) → RtcpPacket
   -- a packet of another type, whose body is kept as it is
   other : (kind count : ℕ) (body : List ℕ) → RtcpPacket

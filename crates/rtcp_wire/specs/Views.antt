@@ -1,4 +1,4 @@
--- What the crate's types say, as values of the grammar.
+-- The crate's owned types as values of the grammar.
 use Rattle.std.specs.Prelude.{ℕ, List, map, Option, Some, None}
 use Rattle.std.specs.Global.{Vec}
 use Rattle.rtcp_wire.specs.declared.block.Block.{Block}
@@ -10,7 +10,15 @@ use Rattle.rtcp_wire.specs.declared.packet.Packet.TheVariants.{Sr, Rr, Sdes, Bye
 use Rattle.rtcp_wire.specs.Values.{SenderValue, ReportBlock, ItemValue, ChunkValue, RtcpPacket, sr, rr, sdes, bye, app, other}
 
 abbrev pub block_value : Block → ReportBlock
-block_value b = record { ssrc = b.ssrc; fraction = b.fraction; lost = b.lost; highest = b.highest; jitter = b.jitter; lsr = b.lsr; dlsr = b.dlsr }
+block_value b = record {
+  ssrc = b.ssrc;
+  fraction = b.fraction;
+  lost = b.lost;
+  highest = b.highest;
+  jitter = b.jitter;
+  lsr = b.lsr;
+  dlsr = b.dlsr;
+}
 
 abbrev pub sender_of : SenderReport → SenderValue
 sender_of s = record { ssrc = s.ssrc; ntp = s.ntp; rtp = s.rtp; packets = s.packets; octets = s.octets }

@@ -1,4 +1,4 @@
--- What the types that lend say, as values of the grammar.
+-- The crate's borrowed types as values of the grammar.
 use Rattle.std.specs.Prelude.{List, map, option_copied}
 use Rattle.rtcp_wire.specs.declared.writer.refs.ItemRef.{ItemRef}
 use Rattle.rtcp_wire.specs.declared.writer.refs.ChunkRef.{ChunkRef}
@@ -14,7 +14,9 @@ abbrev pub chunk_ref_of : ChunkRef → ChunkValue
 chunk_ref_of c = record { id = c.id; items = map item_ref_of c.items.now }
 
 abbrev pub packet_ref_of : PacketRef → RtcpPacket
-packet_ref_of (Sr ssrc ntp rtp packets octets blocks extension) = sr (record { ssrc = ssrc; ntp = ntp; rtp = rtp; packets = packets; octets = octets }) (map block_value blocks.now) extension.now
+packet_ref_of (Sr ssrc ntp rtp packets octets blocks extension) =
+    sr (record { ssrc = ssrc; ntp = ntp; rtp = rtp; packets = packets; octets = octets })
+    (map block_value blocks.now) extension.now
 packet_ref_of (Rr ssrc blocks extension) = rr ssrc (map block_value blocks.now) extension.now
 packet_ref_of (Sdes chunks) = sdes (map chunk_ref_of chunks.now)
 packet_ref_of (Bye ids reason) = bye ids.now (option_copied reason)

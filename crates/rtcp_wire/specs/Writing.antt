@@ -1,5 +1,5 @@
--- The one spelling that the writer gives a packet (RFC 3550, 6.4 to 6.7), and the packets that it writes.
--- It has no padding, and each octet that may be anything is zero.
+-- The one encoding that the writer gives a packet (RFC 3550, 6.4 to 6.7), and the packets that it writes.
+-- It has no padding, and each free octet is zero.
 use Rattle.std.specs.Prelude.{◌≡◌, ℕ, pos, negsuc, ◌+◌, ◌-◌, ◌/◌, ◌%◌, ◌^◌, ◌<◌, ◌≤◌, ◌≤ℤ◌, List, [], ◌∷◌, ◌++◌, Option, Some, None, All, length, replicate}
 use Rattle.std.specs.Int.{w64}
 use Rattle.std.specs.List.{flat_map}
@@ -9,7 +9,7 @@ use Rattle.rtcp_wire.specs.Grammar.{IsOtherType, IsAccepted}
 
 -- ---- Parts
 
--- zeros behind so many octets, up to the end of their last word
+-- the zeros that fill the last word after so many octets
 abbrev pub fill_behind : ℕ → List ℕ
 fill_behind size = replicate ((4 - size % 4) % 4) 0
 
@@ -22,19 +22,21 @@ abbrev pub written_block : ReportBlock → List ℕ
 written_block block =
     written_word block.ssrc
     ++ (block.fraction ∷ big_bytes 3 (low_bytes w64 3 block.lost)
-    ++ (written_word block.highest ++ (written_word block.jitter ++ (written_word block.lsr ++ written_word block.dlsr))))
+    ++ (written_word block.highest
+    ++ (written_word block.jitter ++ (written_word block.lsr ++ written_word block.dlsr))))
 
--- the front of a sender report (6.4.1)
+-- what a sender report says of its sender (6.4.1)
 abbrev pub written_sender : SenderValue → List ℕ
 written_sender sender =
     written_word sender.ssrc
-    ++ (big_bytes 8 sender.ntp ++ (written_word sender.rtp ++ (written_word sender.packets ++ written_word sender.octets)))
+    ++ (big_bytes 8 sender.ntp
+    ++ (written_word sender.rtp ++ (written_word sender.packets ++ written_word sender.octets)))
 
 -- An item (6.5): its type, the length of its text, and the text.
 abbrev pub written_item : ItemValue → List ℕ
 written_item item = item.kind ∷ length item.text ∷ item.text
 
--- A chunk (6.5): an identifier, the items, and zeros: one that ends the items, and as many as fill the word.
+-- A chunk (6.5): an identifier, the items, and zeros: one that ends the items, and those that fill the word.
 abbrev pub written_chunk : ChunkValue → List ℕ
 written_chunk chunk =
     let items = flat_map written_item chunk.items in
@@ -47,9 +49,10 @@ written_reason (Some text) = length text ∷ (text ++ fill_behind (length text +
 
 -- ---- Packets
 
--- what stands behind the header
+-- what follows the header's word
 abbrev pub written_body : RtcpPacket → List ℕ
-written_body (sr sender blocks extension) = written_sender sender ++ (flat_map written_block blocks ++ extension)
+written_body (sr sender blocks extension) =
+    written_sender sender ++ (flat_map written_block blocks ++ extension)
 written_body (rr ssrc blocks extension) = written_word ssrc ++ (flat_map written_block blocks ++ extension)
 written_body (sdes chunks) = flat_map written_chunk chunks
 written_body (bye ids reason) = flat_map written_word ids ++ written_reason reason
@@ -73,13 +76,16 @@ written_type (bye ids reason) = 203
 written_type (app subtype ssrc name content) = 204
 written_type (other kind count body) = kind
 
--- The header's word (6.4.1): version 2, no padding, the count; the type; the length in words less one, which is the body's.
+-- The header's word (6.4.1): version 2, no padding, the count; the type; the length in words less one, which
+-- is that of the body.
 abbrev pub written_header : ℕ → ℕ → ℕ → List ℕ
 written_header count kind size = (128 + count) ∷ kind ∷ big_bytes 2 (size / 4)
 
 -- the packet's octets
 abbrev pub written : RtcpPacket → List ℕ
-written packet = written_header (written_count packet) (written_type packet) (length (written_body packet)) ++ written_body packet
+written packet =
+    written_header (written_count packet) (written_type packet) (length (written_body packet))
+    ++ written_body packet
 
 -- the octets of one packet after the other
 abbrev pub written_all : List RtcpPacket → List ℕ
@@ -87,7 +93,7 @@ written_all packets = flat_map written packets
 
 -- ---- What can be written
 
--- So many octets are whole words.
+-- The octets are whole words.
 abbrev pub IsWords : List ℕ → Type 0
 IsWords octets = length octets % 4 ≡ 0
 

@@ -5,12 +5,13 @@ ghost use Rattle.rtcp_wire.specs.Grammar.{IsApplication};
 ghost use Rattle.rtcp_wire.specs.Parts.{IsTooShort};
 
 use crate::fault::FaultReason;
+use crate::layout::ID_SIZE;
 use crate::part_error::PartError;
 use crate::reader::Reader;
 use std::alloc::Global;
 
-/// The octets in front of what the application says.
-const FRONT_SIZE: usize = 8;
+/// The octets of the body before the data: an identifier and the name.
+const PREFIX_SIZE: usize = ID_SIZE + 4;
 
 /// A packet that an application defines (RFC 3550, 6.7).
 ///
@@ -26,26 +27,27 @@ const FRONT_SIZE: usize = 8;
 pub struct Application {
     /// Five bits that the application defines.
     pub subtype: u8,
-    /// Who sends the packet.
+    /// The SSRC of the source that sends the packet.
     pub ssrc: u32,
-    /// The name of the set of packets that this one is of. Nothing checks that it is ASCII.
+    /// The name of the set of packets that this one belongs to. It need not be ASCII.
     pub name: [u8; 4],
-    /// What the application says, whole words.
+    /// What the application says: whole words.
     pub data: Vec<u8>,
 }
 
-/// Reads the body of an application's packet, whose header has the subtype in the place of a count.
+/// Reads the body of an application's packet, whose header has the subtype where others have a count.
 pub(crate) fn read_application(
     alloc: Global,
     subtype: u8,
     body: &[u8],
 ) -> Result<Application, PartError>
     ensures { MatchResult result
-        (λ packet. (packet.subtype ≡ subtype) × IsApplication packet.ssrc packet.name packet.data.items body.now)
+        (λ packet. (packet.subtype ≡ subtype)
+        × IsApplication packet.ssrc packet.name packet.data.items body.now)
         (λ error. IsTooShort error 8 body.now) }
 {
     let mut reader = Reader::new(body);
-    if reader.left() < FRONT_SIZE {
+    if reader.left() < PREFIX_SIZE {
         return Err(PartError::Fault(FaultReason::Body));
     }
     let ssrc = reader.u32();

@@ -28,22 +28,44 @@ pub(crate) const BLOCK_SIZE: usize = 24;
 /// ```
 #[derive(Clone, Copy, Debug, Default, PartialEq, Eq)]
 pub struct Block {
-    /// The source that the block speaks of.
+    /// The SSRC of the source that the block speaks of.
     pub ssrc: u32,
-    /// The fraction of packets lost since the last report, in 1/256.
+    /// The fraction of its packets lost since the last report, in units of 1/256.
     pub fraction: u8,
-    /// The packets lost since the beginning, from -8,388,608 to 8,388,607: a repeated packet counts as received.
+    /// How many packets were lost since the beginning, from -8,388,608 to 8,388,607. A packet that comes
+    /// twice counts as received twice, so the number may be negative.
     pub lost: i32,
-    /// The highest sequence number received, with the count of its cycles above the low 16 bits.
+    /// The highest sequence number received in the low 16 bits, and above them how often sequence numbers
+    /// wrapped.
     pub highest: u32,
-    /// The jitter of the packets' arrival, in units of the media's clock.
+    /// The jitter of the packets' arrival, in units of their RTP timestamps.
     pub jitter: u32,
-    /// The middle 32 bits of the NTP timestamp of the source's last sender report, or 0.
+    /// The middle 32 bits of the NTP timestamp of the source's last sender report, or 0 where none came.
     pub lsr: u32,
-    /// The time since that report, in 1/65,536 of a second, or 0.
+    /// The time since that report, in units of 1/65,536 of a second, or 0 where none came.
     pub dlsr: u32,
 }
 
+/// The next `count` blocks.
+pub(crate) fn read_blocks(
+    alloc: Global,
+    count: u8,
+    reader: &mut Reader<'_>,
+) -> Result<Vec<Block>, AllocError>
+    requires { 24 * count ≤ length reader.old }
+    ensures blocks { IfOk result (λ blocks.
+        Joins IsBlock (map block_value blocks.items) (take (24 * count) reader.old)) }
+    ensures counted { IfOk result (λ blocks. length blocks.items ≡ count) }
+    ensures rest { IfOk result (λ _. reader.new ≡ drop (24 * count) reader.old) }
+{
+    let mut blocks = Vec::with_capacity(alloc, count as usize)?;
+    for _ in 0..count {
+        blocks.push(block_from(reader.take(BLOCK_SIZE)))?;
+    }
+    Ok(blocks)
+}
+
+/// The block that these octets are.
 fn block_from(octets: &[u8]) -> Block
     requires { length octets.now ≡ 24 }
     ensures { block_value result ≡ block_in octets.now }
@@ -65,22 +87,4 @@ fn block_from(octets: &[u8]) -> Block
         lsr,
         dlsr,
     }
-}
-
-/// The next `count` blocks.
-pub(crate) fn read_blocks(
-    alloc: Global,
-    count: u8,
-    reader: &mut Reader<'_>,
-) -> Result<Vec<Block>, AllocError>
-    requires { 24 * count ≤ length reader.old }
-    ensures blocks { IfOk result (λ blocks. Joins IsBlock (map block_value blocks.items) (take (24 * count) reader.old)) }
-    ensures counted { IfOk result (λ blocks. length blocks.items ≡ count) }
-    ensures rest { IfOk result (λ _. reader.new ≡ drop (24 * count) reader.old) }
-{
-    let mut blocks = Vec::with_capacity(alloc, count as usize)?;
-    for _ in 0..count {
-        blocks.push(block_from(reader.take(BLOCK_SIZE)))?;
-    }
-    Ok(blocks)
 }

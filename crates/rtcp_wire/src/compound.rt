@@ -13,22 +13,33 @@ use crate::packet::{Packet, read_packet};
 use crate::reader::Reader;
 use std::alloc::Global;
 
-/// The most octets that a datagram may have: what UDP can carry.
+/// The most octets of a datagram: UDP's own limit.
 pub const MAX_DATAGRAM: usize = 65_535;
 
-/// Reads the packets of a datagram (RFC 3550, 6.1): one or more, the first a report without padding, and all of its octets.
+/// Reads the packets of a datagram (RFC 3550, 6.1): one or more, the first a report without padding, up to
+/// its last octet.
 ///
-/// Memory is asked for from `alloc` for what the packets hold. The errors are `Wire`, with the first fault from the
-/// datagram's front, and `Memory`, where a request was refused; a fault of the first packet is found before any request.
+/// What the packets hold is allocated from `alloc`.
+///
+/// # Errors
+///
+/// - [`ReadError::Wire`] where the datagram is not a compound: its first fault, and the offset of the packet
+///   that has it.
+/// - [`ReadError::Memory`] where an allocation failed. The datagram may then be good or bad, but its first
+///   packet is good: a fault there is found before anything is allocated.
 pub fn read_owned(alloc: Global, datagram: &[u8]) -> Result<Vec<Packet>, ReadError>
-    // What is read is what the octets spell, and a fault is their first one.
+    // What is read is what the octets encode, and a fault is their first one.
     ensures accepted { IfOk result (λ packets. IsAccepted datagram.now (packets_of packets.items)) }
-    ensures refused { (fault : Fault) → result ≡ Err (ReadError.Wire fault) → IsFirstFault datagram.now fault }
+    ensures refused { (fault : Fault) → result ≡ Err (ReadError.Wire fault) →
+        IsFirstFault datagram.now fault }
 
-    // What is spelled so is read, and a first fault is found, unless memory is refused: at the first packet it never is.
-    ensures reads { (packets : List RtcpPacket) → IsAccepted datagram.now packets → GivesPackets result packets }
+    // What is so encoded is read, and a first fault is found, unless memory runs out: it never does at the
+    // first packet.
+    ensures reads { (packets : List RtcpPacket) → IsAccepted datagram.now packets →
+        GivesPackets result packets }
     ensures finds { (fault : Fault) → IsFirstFault datagram.now fault → GivesFault result fault }
-    ensures prompt { (fault : Fault) → IsFirstFault datagram.now fault → fault.place ≡ 0 → result ≡ Err (ReadError.Wire fault) }
+    ensures prompt { (fault : Fault) → IsFirstFault datagram.now fault → fault.place ≡ 0 →
+        result ≡ Err (ReadError.Wire fault) }
 {
     if datagram.len() > MAX_DATAGRAM {
         return Err(ReadError::Wire(WireFault {
@@ -39,12 +50,14 @@ pub fn read_owned(alloc: Global, datagram: &[u8]) -> Result<Vec<Packet>, ReadErr
     read_packets(alloc, datagram)
 }
 
-/// Reads packet after packet, each to its end or to the datagram's first fault.
+/// Reads packet after packet, to the end of the datagram or to its first fault.
 fn read_packets(alloc: Global, datagram: &[u8]) -> Result<Vec<Packet>, ReadError>
     requires { length datagram.now ≤ 65535 }
     ensures accepted { IfOk result (λ packets. IsAccepted datagram.now (packets_of packets.items)) }
-    ensures refused { (fault : Fault) → result ≡ Err (ReadError.Wire fault) → IsFirstFault datagram.now fault }
-    ensures prompt { result ≡ Err ReadError.Memory → (fault : Fault) → IsFirstFault datagram.now fault → fault.place ≡ 0 → ⊥ }
+    ensures refused { (fault : Fault) → result ≡ Err (ReadError.Wire fault) →
+        IsFirstFault datagram.now fault }
+    ensures prompt { result ≡ Err ReadError.Memory → (fault : Fault) → IsFirstFault datagram.now fault →
+        fault.place ≡ 0 → ⊥ }
 {
     let mut packets = Vec::new(alloc);
     let mut reader = Reader::new(datagram);

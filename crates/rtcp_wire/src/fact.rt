@@ -10,6 +10,21 @@ mod remaining;
 use crate::packet::Packet;
 pub use remaining::Facts;
 
+/// What these packets say of sources, packet by packet. Neither the call nor the iterator allocates.
+///
+/// - A sender report: its sender was heard, and sent this NTP timestamp.
+/// - A receiver report, and a packet that an application defines: their source was heard.
+/// - A source description, for each chunk: its source was heard, and gave its CNAME if the chunk has one or
+///   more.
+/// - A goodbye, for each identifier: the source left.
+///
+/// Report blocks and packets of other types give no facts.
+pub fn facts(packets: &[Packet]) -> Facts<'_>
+    ensures { result ≡ facts_of (packets_of packets.now) }
+{
+    Facts::new(packets)
+}
+
 /// What a packet says of a source.
 #[derive(Clone, Copy, Debug, PartialEq, Eq)]
 pub enum Fact {
@@ -21,7 +36,8 @@ pub enum Fact {
     Named(u32),
     /// The source left (RFC 3550, 6.6).
     Gone(u32),
-    /// An RTP packet of the source came, with its sequence number and its timestamp (RFC 3550, 5.1). No RTCP packet says this.
+    /// An RTP packet of the source came, with this sequence number and this timestamp (RFC 3550, 5.1). No
+    /// RTCP packet says so: the law `compounds_give_no_media`.
     Media(u32, u16, u32),
 }
 
@@ -47,16 +63,4 @@ impl Fact {
     {
         matches!(self, Fact::Gone(_))
     }
-}
-
-/// What these packets say of sources, packet by packet, with no memory asked for.
-///
-/// A sender report says that its sender was heard, and its NTP timestamp; a receiver report and an application's own
-/// packet say that their source was heard; a source description says of each chunk that its source was heard, and then,
-/// if it has a CNAME, that it gave its name, once; a goodbye says of each identifier that the source left. Report blocks
-/// and packets of other types say nothing.
-pub fn facts(packets: &[Packet]) -> Facts<'_>
-    ensures { result ≡ facts_of (packets_of packets.now) }
-{
-    Facts::new(packets)
 }

@@ -4,64 +4,83 @@ ghost use Rattle.std.specs.Prelude.{◌≡◌};
 ghost use Rattle.rtcp_wire.specs.declared.fault.ReadError.TheVariants.{Memory};
 
 use std::alloc::{AllocError, AllocFailed};
+use std::error::Error as StdError;
+use std::fmt;
 use thiserror::Error;
-
-/// The rule that a datagram breaks, in the order in which the rules are tested at each packet, but for the last, which is
-/// tested before all others.
-#[derive(Clone, Copy, Debug, PartialEq, Eq, Error)]
-pub enum FaultReason {
-    /// Fewer than four octets are left for a header.
-    #[error("F1 Short")]
-    Short,
-    /// The version is not 2 (RFC 3550, 6.4.1).
-    #[error("F2 Version")]
-    Version,
-    /// The first packet is no report: its type is neither 200 nor 201 (RFC 3550, 6.1).
-    #[error("F3 FirstType")]
-    FirstType,
-    /// The first packet has its padding bit set (RFC 3550, A.2).
-    #[error("F4 FirstPadding")]
-    FirstPadding,
-    /// The header's length passes the end of the datagram.
-    #[error("F5 Length")]
-    Length,
-    /// The number of padding octets is 0, no multiple of four, or more than what follows the header.
-    #[error("F6 Padding")]
-    Padding,
-    /// The body has no room for what its type and the header's count ask for, or chunks that are counted end before it does.
-    #[error("F7 Body")]
-    Body,
-    /// An SDES item or its chunk's zero octet passes the end of the body (RFC 3550, 6.5).
-    #[error("F8 Item")]
-    Item,
-    /// The reason of a BYE passes the end of the body, or words are left behind it (RFC 3550, 6.6).
-    #[error("F9 Reason")]
-    Reason,
-    /// The datagram has more than 65,535 octets.
-    #[error("F10 TooLong")]
-    TooLong,
-}
-
-/// The first fault of a datagram, from its front.
-#[derive(Clone, Copy, Debug, PartialEq, Eq, Error)]
-#[error("{reason} at {place}")]
-pub struct WireFault {
-    /// The rule that is broken.
-    pub reason: FaultReason,
-    /// The offset of the first octet of the packet at fault, in octets.
-    pub place: usize,
-}
 
 /// Why a datagram was not read.
 #[derive(Clone, Copy, Debug, PartialEq, Eq, Error)]
 pub enum ReadError {
-    /// The datagram is at fault.
+    /// The datagram is not a compound (RFC 3550, 6.1): this is its first fault.
     #[error("{0}")]
     Wire(WireFault),
-    /// Memory was asked for and refused: the datagram may be good or bad.
+    /// An allocation failed before the datagram was read to its end or to a fault.
     #[error("out of memory")]
     Memory,
 }
+
+/// The first fault of a datagram.
+#[derive(Clone, Copy, Debug, PartialEq, Eq)]
+pub struct WireFault {
+    /// The rule that is broken.
+    pub reason: FaultReason,
+    /// Where the packet at fault begins: its offset in the datagram, in octets. It is 0 for `TooLong`.
+    pub place: usize,
+}
+
+/// The rule that a datagram breaks. `TooLong` is tested before all others, which are tested at each packet in
+/// this order.
+#[derive(Clone, Copy, Debug, PartialEq, Eq, Error)]
+pub enum FaultReason {
+    /// F1. A packet begins with a header of four octets (RFC 3550, 6.4.1), and fewer are left.
+    #[error("fewer than 4 octets for a packet's header (RFC 3550, 6.4.1)")]
+    Short,
+    /// F2. The version is 2 (RFC 3550, 6.4.1), and this packet has another.
+    #[error("version is not 2 (RFC 3550, 6.4.1)")]
+    Version,
+    /// F3. A compound begins with a report (RFC 3550, 6.1), and the first packet's type is neither 200 nor
+    /// 201.
+    #[error("first packet is not a report (RFC 3550, 6.1)")]
+    FirstType,
+    /// F4. Padding may stand only at the end of a compound, so the first packet has none (RFC 3550, A.2), and
+    /// this one has its padding bit set.
+    #[error("first packet has its padding bit set (RFC 3550, A.2)")]
+    FirstPadding,
+    /// F5. The lengths of the packets add up to that of the datagram (RFC 3550, A.2), and this packet runs
+    /// past its end.
+    #[error("packet runs past the end of the datagram (RFC 3550, A.2)")]
+    Length,
+    /// F6. Where the padding bit is set the last octet counts the octets of padding, a multiple of four (RFC
+    /// 3550, 6.4.1), and it is 0, no multiple of four, or more than the octets after the header.
+    #[error("number of padding octets is 0, not a multiple of 4, or too large (RFC 3550, 6.4.1)")]
+    Padding,
+    /// F7. A body holds what its type asks for and the header's count says (RFC 3550, 6.4 to 6.7), and this
+    /// one is too short for that, or is a source description with octets after its last chunk.
+    #[error("body does not have the size that its type and count ask for (RFC 3550, 6.4 to 6.7)")]
+    Body,
+    /// F8. The items of an SDES chunk end with a zero octet (RFC 3550, 6.5), and here an item or the zero
+    /// octet runs past the end of the body.
+    #[error("SDES item runs past its body (RFC 3550, 6.5)")]
+    Item,
+    /// F9. The reason of a BYE fills the words after its identifiers (RFC 3550, 6.6), and this one runs past
+    /// the end of the body, or a word or more is left after it.
+    #[error("BYE reason does not end in the last word of its body (RFC 3550, 6.6)")]
+    Reason,
+    /// F10. A datagram has at most 65,535 octets, UDP's own limit, and this one has more.
+    #[error("datagram has more than 65,535 octets")]
+    TooLong,
+}
+
+impl fmt::Display for WireFault {
+    fn fmt<W: fmt::Write>(&self, f: &mut fmt::Formatter<W>) -> fmt::Result {
+        match self.reason {
+            FaultReason::TooLong => write!(f, "{}", self.reason),
+            reason => write!(f, "{}, in the packet at octet {}", reason, self.place),
+        }
+    }
+}
+
+impl StdError for WireFault {}
 
 impl From<AllocError> for ReadError {
     ghost from_gives = { λ _ e. e ≡ Memory };

@@ -1,34 +1,14 @@
 //! The word that begins each packet (RFC 3550, 6.4.1).
 
-ghost use Rattle.std.specs.Prelude.{◌≡◌, ◌≤◌, length, MatchResult, false};
+ghost use Rattle.std.specs.Prelude.{◌≡◌, ◌≤◌, length, MatchResult, IfOk, false};
 ghost use Rattle.rtcp_wire.specs.Grammar.{version_of, is_padded, count_of, type_of, size_of};
 ghost use Rattle.rtcp_wire.specs.Parts.{IsWhole, IsRow, IsUnpadded, Fails};
 ghost use Rattle.rtcp_wire.specs.Faults.{Finds};
 
 use crate::fault::FaultReason;
+use crate::layout::{HEADER_SIZE, RECEIVER_REPORT, SENDER_REPORT, VERSION, WORD_SIZE};
 use crate::part_error::PartError;
 use crate::reader::Reader;
-
-/// The octets of a header.
-pub(crate) const HEADER_SIZE: usize = 4;
-
-/// Versions before 2 are not read (RFC 3550, 5.1).
-const VERSION: u8 = 2;
-
-/// A sender report (RFC 3550, 6.4.1).
-pub(crate) const SENDER_REPORT: u8 = 200;
-
-/// A receiver report (RFC 3550, 6.4.2).
-pub(crate) const RECEIVER_REPORT: u8 = 201;
-
-/// A source description (RFC 3550, 6.5).
-pub(crate) const SOURCE_DESCRIPTION: u8 = 202;
-
-/// A goodbye (RFC 3550, 6.6).
-pub(crate) const GOODBYE: u8 = 203;
-
-/// An application's own packet (RFC 3550, 6.7).
-pub(crate) const APPLICATION: u8 = 204;
 
 /// A packet's first word (RFC 3550, 6.4.1).
 ///
@@ -36,7 +16,7 @@ pub(crate) const APPLICATION: u8 = 204;
 ///  0                   1                   2                   3
 ///  0 1 2 3 4 5 6 7 8 9 0 1 2 3 4 5 6 7 8 9 0 1 2 3 4 5 6 7 8 9 0 1
 /// +-+-+-+-+-+-+-+-+-+-+-+-+-+-+-+-+-+-+-+-+-+-+-+-+-+-+-+-+-+-+-+-+
-/// |V=2|P|  count  |     kind      |     words behind this one     |
+/// |V=2|P|  count  |     kind      |      words that follow        |
 /// +-+-+-+-+-+-+-+-+-+-+-+-+-+-+-+-+-+-+-+-+-+-+-+-+-+-+-+-+-+-+-+-+
 /// ```
 #[derive(Clone, Copy)]
@@ -45,37 +25,18 @@ pub(crate) struct Header {
     pub(crate) is_padded: bool,
     pub(crate) count: u8,
     pub(crate) kind: u8,
-    /// The octets of the whole packet.
+    /// The size of the whole packet, in octets.
     pub(crate) size: usize,
 }
 
-/// The header that the first four octets are.
-fn header_at(octets: &[u8]) -> Header
-    requires { 4 ≤ length octets.now }
-    ensures version { result.version ≡ version_of octets.now }
-    ensures padded { result.is_padded ≡ is_padded octets.now }
-    ensures count { result.count ≡ count_of octets.now }
-    ensures kind { result.kind ≡ type_of octets.now }
-    ensures size { result.size ≡ size_of octets.now }
-{
-    let mut reader = Reader::new(octets);
-    let first = reader.octet();
-    let kind = reader.octet();
-    let words = reader.u16() as usize;
-    Header {
-        version: first >> 6,
-        is_padded: first >> 5 & 1 == 1,
-        count: first & 0x1f,
-        kind,
-        size: HEADER_SIZE * (words + 1),
-    }
-}
-
-/// The header at the front of the octets, where a whole packet may stand there.
+/// The header of the packet at the start of the octets, which has all of its octets and may stand there.
 pub(crate) fn read_header(octets: &[u8], is_first: bool) -> Result<Header, PartError>
-    ensures whole { MatchResult result (λ _. IsWhole is_first octets.now) (λ error. IsRow error is_first octets.now) }
-    ensures fields { MatchResult result (λ header. (header.count ≡ count_of octets.now) × (header.kind ≡ type_of octets.now)
-        × (header.size ≡ size_of octets.now) × (header.is_padded ≡ is_padded octets.now)) (λ _. Unit {0}) }
+    ensures whole { MatchResult result
+        (λ _. IsWhole is_first octets.now)
+        (λ error. IsRow error is_first octets.now) }
+    ensures fields { IfOk result (λ header.
+        (header.count ≡ count_of octets.now) × (header.kind ≡ type_of octets.now)
+        × (header.size ≡ size_of octets.now) × (header.is_padded ≡ is_padded octets.now)) }
 {
     if octets.len() < HEADER_SIZE {
         return Err(PartError::Fault(FaultReason::Short));
@@ -96,13 +57,37 @@ pub(crate) fn read_header(octets: &[u8], is_first: bool) -> Result<Header, PartE
     Ok(header)
 }
 
-/// What stands between the header and the padding of a whole packet (RFC 3550, 6.4.1).
+/// The header in the first four octets.
+fn header_at(octets: &[u8]) -> Header
+    requires { 4 ≤ length octets.now }
+    ensures version { result.version ≡ version_of octets.now }
+    ensures padded { result.is_padded ≡ is_padded octets.now }
+    ensures count { result.count ≡ count_of octets.now }
+    ensures kind { result.kind ≡ type_of octets.now }
+    ensures size { result.size ≡ size_of octets.now }
+{
+    let mut reader = Reader::new(octets);
+    let first = reader.octet();
+    let kind = reader.octet();
+    let words = reader.u16() as usize;
+    Header {
+        version: first >> 6,
+        is_padded: first >> 5 & 1 == 1,
+        count: first & 0x1f,
+        kind,
+        size: WORD_SIZE * (words + 1),
+    }
+}
+
+/// What stands between the header and the padding of a whole packet (RFC 3550, 6.4.1). The last octet of the
+/// padding counts all of it; the others are not checked.
 pub(crate) fn unpadded(octets: &[u8], has_padding: bool) -> Result<&[u8], PartError>
     requires size { length octets.now ≡ size_of octets.now }
     requires padding { has_padding ≡ is_padded octets.now }
     ensures { MatchResult result
         (λ body. IsUnpadded octets.now body.now)
-        (λ error. (error ≡ PartError.Fault FaultReason.Padding) × Finds FaultReason.Padding false octets.now) }
+        (λ error. (error ≡ PartError.Fault FaultReason.Padding)
+        × Finds FaultReason.Padding false octets.now) }
 {
     let mut reader = Reader::new(octets);
     reader.take(HEADER_SIZE);

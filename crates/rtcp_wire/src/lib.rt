@@ -1,6 +1,6 @@
-//! RTCP packets (RFC 3550, sections 6.1 to 6.7) and RTP heads (5.1), from octets to values and from values to octets: it is
-//! deterministic, reads no clock, opens no socket and draws no random number. Only `read_owned` asks for memory, for what the
-//! packets hold, through the allocator that it is given.
+//! Reads and writes RTCP packets (RFC 3550, 6.1 to 6.7), and reads RTP packets (5.1). It is deterministic: it
+//! reads no clock, opens no socket and draws no random number. Only `read_owned` allocates: it is given an
+//! allocator, and the packets that it returns own what they hold.
 //!
 //! ```
 //! let datagram = [0x80, 0xc9, 0, 1, 0, 0, 0, 7, 0x81, 0xca, 0, 2, 0, 0, 0, 7, 1, 1, 0x61, 0];
@@ -11,8 +11,9 @@
 //! }
 //! ```
 //!
-//! What octets are is defined in `specs/` (`Grammar`, `Faults`, `RtpHeads`, `Writing`); `laws`, `rtp_laws` and `write_laws` have what
-//! holds of these definitions.
+//! `specs/` defines what octets mean (`Grammar`, `RtpHeads`), which fault they have (`Faults`), what packets
+//! say of sources (`Facts`) and what is written (`Writing`). The modules `laws`, `rtp_laws` and `write_laws`
+//! state laws of these definitions.
 #![tactic(auto)]
 
 mod app;
@@ -23,6 +24,7 @@ mod fact;
 mod fault;
 mod header;
 pub mod laws;
+mod layout;
 mod other;
 mod packet;
 mod part_error;

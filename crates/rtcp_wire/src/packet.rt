@@ -8,9 +8,8 @@ ghost use Rattle.rtcp_wire.specs.Views.{packet_of};
 
 use crate::app::{Application, read_application};
 use crate::bye::{Goodbye, read_goodbye};
-use crate::header::{
-    APPLICATION, GOODBYE, RECEIVER_REPORT, SENDER_REPORT, SOURCE_DESCRIPTION, read_header, unpadded,
-};
+use crate::header::{read_header, unpadded};
+use crate::layout::{APPLICATION, GOODBYE, RECEIVER_REPORT, SENDER_REPORT, SOURCE_DESCRIPTION};
 use crate::other::OtherPacket;
 use crate::part_error::PartError;
 use crate::reader::Reader;
@@ -19,7 +18,7 @@ use crate::sdes::{SourceDescription, read_description};
 use crate::sr::{SenderReport, read_sender_report};
 use std::alloc::Global;
 
-/// An RTCP packet, with memory of its own.
+/// An RTCP packet that owns what it holds.
 #[derive(Debug, Drop)]
 pub enum Packet {
     /// A sender report, type 200 (RFC 3550, 6.4.1).
@@ -30,10 +29,28 @@ pub enum Packet {
     Sdes(SourceDescription),
     /// A goodbye, type 203 (RFC 3550, 6.6).
     Bye(Goodbye),
-    /// An application's own packet, type 204 (RFC 3550, 6.7).
+    /// A packet that an application defines, type 204 (RFC 3550, 6.7).
     App(Application),
-    /// A packet of any other type, kept as it is.
+    /// A packet of any other type, whose body is kept as it is.
     Other(OtherPacket),
+}
+
+/// Reads the next packet. The tests come in the order of `FaultReason`, and at the datagram's first packet
+/// all of them come before the first allocation.
+pub(crate) fn read_packet(
+    alloc: Global,
+    reader: &mut Reader<'_>,
+    is_first: bool,
+) -> Result<Packet, PartError>
+    ensures { MatchResult result
+        (λ packet. Takes reader.old reader.new
+        (λ octets. IsSpelling (packet_of packet) octets × MayStand is_first octets))
+        (λ error. IsPacketFault error is_first reader.old) }
+{
+    let header = read_header(reader.rest(), is_first)?;
+    let octets = reader.take(header.size);
+    let body = unpadded(octets, header.is_padded)?;
+    read_body(alloc, header.kind, header.count, body)
 }
 
 /// Reads a body under its packet's type and count.
@@ -69,21 +86,4 @@ fn read_body(alloc: Global, kind: u8, count: u8, body: &[u8]) -> Result<Packet, 
             Ok(Packet::Other(OtherPacket { kind, count, body }))
         }
     }
-}
-
-/// Reads the packet at the front of what is left. The tests come in the order of the table of faults, and at the
-/// datagram's first packet all of them come before memory is asked for.
-pub(crate) fn read_packet(
-    alloc: Global,
-    reader: &mut Reader<'_>,
-    is_first: bool,
-) -> Result<Packet, PartError>
-    ensures { MatchResult result
-        (λ packet. Takes reader.old reader.new (λ octets. IsSpelling (packet_of packet) octets × MayStand is_first octets))
-        (λ error. IsPacketFault error is_first reader.old) }
-{
-    let header = read_header(reader.rest(), is_first)?;
-    let octets = reader.take(header.size);
-    let body = unpadded(octets, header.is_padded)?;
-    read_body(alloc, header.kind, header.count, body)
 }

@@ -1,4 +1,4 @@
-//! A cursor over octets.
+//! A cursor over octets, which all offsets go through.
 
 ghost use Rattle.std.specs.Prelude.{◌≡◌, ◌≤◌, ◌<◌, length, take, drop, slice_index};
 ghost use Rattle.byteorder.specs.Endian.{big_number, twos_complement};
@@ -6,7 +6,7 @@ ghost use Rattle.byteorder.specs.Endian.{big_number, twos_complement};
 use byteorder::{BigEndian, ByteOrder};
 use std::marker::Model;
 
-/// Octets that are still to be read. It gives only what is there: each call but `left` asks that enough is left.
+/// The octets that are still to be read. A call that takes some requires that so many are left.
 #[derive(Drop)]
 pub(crate) struct Reader<'a> {
     rest: &'a [u8],
@@ -21,6 +21,7 @@ impl<'a> Model for Reader<'a> {
 }
 
 impl<'a> Reader<'a> {
+    /// A cursor at the first of the octets.
     pub(crate) fn new(octets: &'a [u8]) -> Reader<'a>
         ensures { result ≡ octets.now }
     {
@@ -34,7 +35,7 @@ impl<'a> Reader<'a> {
         self.rest.len()
     }
 
-    /// What is left, which stays.
+    /// What is left. It stays so.
     pub(crate) fn rest(&self) -> &'a [u8]
         ensures { result.now ≡ self.now }
     {
@@ -47,9 +48,9 @@ impl<'a> Reader<'a> {
         ensures taken { result.now ≡ take count self.old }
         ensures rest { self.new ≡ drop count self.old }
     {
-        let (front, rest) = self.rest.split_at(count);
+        let (prefix, rest) = self.rest.split_at(count);
         self.rest = rest;
-        front
+        prefix
     }
 
     /// The next octet.
@@ -74,7 +75,7 @@ impl<'a> Reader<'a> {
         number
     }
 
-    /// The next 24 bits as a signed number.
+    /// The next 24 bits as a signed number, in two's complement.
     pub(crate) fn i24(&mut self) -> i32
         requires { 3 ≤ length self.old }
         ensures value { result ≡ twos_complement 3 (big_number 3 self.old) }

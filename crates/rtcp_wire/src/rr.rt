@@ -7,6 +7,7 @@ ghost use Rattle.rtcp_wire.specs.Views.{block_value};
 
 use crate::block::{BLOCK_SIZE, Block, read_blocks};
 use crate::fault::FaultReason;
+use crate::layout::ID_SIZE;
 use crate::part_error::PartError;
 use crate::reader::Reader;
 use std::alloc::Global;
@@ -23,11 +24,11 @@ use std::alloc::Global;
 /// ```
 #[derive(Debug, Drop)]
 pub struct ReceiverReport {
-    /// Who reports.
+    /// The SSRC of the source that reports.
     pub ssrc: u32,
     /// What it reports of the sources that it hears: at most 31 blocks.
     pub blocks: Vec<Block>,
-    /// The octets behind the blocks, whole words that a profile may define.
+    /// The octets after the blocks: whole words that a profile may define.
     pub extension: Vec<u8>,
 }
 
@@ -38,11 +39,12 @@ pub(crate) fn read_report(
     body: &[u8],
 ) -> Result<ReceiverReport, PartError>
     ensures { MatchResult result
-        (λ report. IsReport report.ssrc (map block_value report.blocks.items) report.extension.items count body.now)
+        (λ report. IsReport
+        report.ssrc (map block_value report.blocks.items) report.extension.items count body.now)
         (λ error. IsTooShort error (4 + 24 * count) body.now) }
 {
     let mut reader = Reader::new(body);
-    if reader.left() < 4 + BLOCK_SIZE * count as usize {
+    if reader.left() < ID_SIZE + BLOCK_SIZE * count as usize {
         return Err(PartError::Fault(FaultReason::Body));
     }
     let ssrc = reader.u32();

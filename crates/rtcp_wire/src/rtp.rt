@@ -1,5 +1,5 @@
-//! RTP packets (RFC 3550, 5.1 and 5.3.1): what their header says, and where their payload stands. Nothing is copied, and no
-//! memory is asked for.
+//! RTP packets (RFC 3550, 5.1 and 5.3.1): what their header says, and where their payload stands. Nothing is
+//! copied or allocated.
 
 mod csrcs;
 mod fault;

@@ -1,10 +1,11 @@
-//! Laws of RTP packets: what holds of octets before anything is read. The functions do nothing, and what they ensure is the law.
+//! Laws of RTP packets (`specs/RtpHeads`), whatever reads the octets. Each is an empty function whose
+//! postcondition is the law; `proofs/LawLemmas` has a lemma of its name, or one for each clause.
 
 ghost use Rattle.std.specs.Prelude.{◌≡◌, ℕ, ◌⊎◌, List};
 ghost use Rattle.rtcp_wire.specs.RtpHeads.{RtpValue, IsRtpHead, IsRtpFault};
 ghost use Rattle.rtcp_wire.specs.declared.rtp.fault.RtpFault.{RtpFault};
 
-/// Octets are at most one RTP packet: they say one thing.
+/// Octets are at most one RTP packet.
 pub fn one_head()
     ensures { (octets : List ℕ) (h k : RtpValue) → IsRtpHead octets h → IsRtpHead octets k → h ≡ k }
 {}
@@ -16,6 +17,8 @@ pub fn one_rtp_fault()
 
 /// Each list of octets is an RTP packet or has a first fault, and never both.
 pub fn packet_or_fault()
-    ensures never_both { (octets : List ℕ) (head : RtpValue) (fault : RtpFault) → IsRtpHead octets head → IsRtpFault octets fault → ⊥ }
-    ensures always_one { (octets : List ℕ) → ((head : RtpValue) × IsRtpHead octets head) ⊎ ((fault : RtpFault) × IsRtpFault octets fault) }
+    ensures never_both { (octets : List ℕ) (head : RtpValue) (fault : RtpFault) →
+        IsRtpHead octets head → IsRtpFault octets fault → ⊥ }
+    ensures always_one { (octets : List ℕ) →
+        ((head : RtpValue) × IsRtpHead octets head) ⊎ ((fault : RtpFault) × IsRtpFault octets fault) }
 {}

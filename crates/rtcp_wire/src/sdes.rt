@@ -7,27 +7,13 @@ ghost use Rattle.rtcp_wire.specs.Parts.{Takes, Fails, TakesItem, EndsInItems, En
 ghost use Rattle.rtcp_wire.specs.Views.{item_of, chunk_of};
 
 use crate::fault::FaultReason;
+use crate::layout::{ID_SIZE, WORD_SIZE};
 use crate::part_error::PartError;
 use crate::reader::Reader;
 use std::alloc::Global;
 
-/// Something that a source says of itself (RFC 3550, 6.5.1 to 6.5.8).
-#[derive(Debug, Drop)]
-pub struct SdesItem {
-    /// The item's type, from 1 to 255: CNAME is 1, NAME 2, EMAIL 3, PHONE 4, LOC 5, TOOL 6, NOTE 7, PRIV 8.
-    pub kind: u8,
-    /// The text, at most 255 octets. Nothing checks that it is UTF-8.
-    pub text: Vec<u8>,
-}
-
-/// A source, and what it says of itself (RFC 3550, 6.5).
-#[derive(Debug, Drop)]
-pub struct Chunk {
-    /// The SSRC or CSRC that the chunk describes.
-    pub id: u32,
-    /// The items, in their order.
-    pub items: Vec<SdesItem>,
-}
+/// The type of a CNAME (RFC 3550, 6.5.1).
+pub(crate) const CNAME: u8 = 1;
 
 /// A source description (RFC 3550, 6.5).
 #[derive(Debug, Drop)]
@@ -36,7 +22,81 @@ pub struct SourceDescription {
     pub chunks: Vec<Chunk>,
 }
 
-/// The next item, or None for the zero octet behind the last one.
+/// A chunk: a source, and what it says of itself (RFC 3550, 6.5).
+#[derive(Debug, Drop)]
+pub struct Chunk {
+    /// The SSRC or CSRC that the chunk describes.
+    pub id: u32,
+    /// The items, in their order.
+    pub items: Vec<SdesItem>,
+}
+
+/// An item: something that a source says of itself (RFC 3550, 6.5.1 to 6.5.8).
+#[derive(Debug, Drop)]
+pub struct SdesItem {
+    /// The item's type, from 1 to 255: CNAME is 1, NAME 2, EMAIL 3, PHONE 4, LOC 5, TOOL 6, NOTE 7, PRIV 8.
+    pub kind: u8,
+    /// The text, at most 255 octets. It need not be UTF-8.
+    pub text: Vec<u8>,
+}
+
+/// Reads the body of a source description whose header counts `count` chunks.
+pub(crate) fn read_description(
+    alloc: Global,
+    count: u8,
+    body: &[u8],
+) -> Result<SourceDescription, PartError>
+    requires { length body.now % 4 ≡ 0 }
+    ensures { MatchResult result
+        (λ description. (length description.chunks.items ≡ count)
+        × Joins IsChunk (map chunk_of description.chunks.items) body.now)
+        (λ error. IsChunksFault error count body.now) }
+{
+    let mut reader = Reader::new(body);
+    let mut chunks = Vec::new(alloc);
+    for _ in 0..count {
+        if reader.left() < ID_SIZE {
+            return Err(PartError::Fault(FaultReason::Body));
+        }
+        chunks.push(read_chunk(alloc, &mut reader)?)?;
+    }
+    if reader.left() > 0 {
+        return Err(PartError::Fault(FaultReason::Body));
+    }
+    Ok(SourceDescription { chunks })
+}
+
+/// The next chunk. Whole words are left before it and after it, so its fill is what is left of the word of its
+/// zero octet. The octets of the fill are not checked (RFC 3550, 6.5).
+fn read_chunk(alloc: Global, reader: &mut Reader<'_>) -> Result<Chunk, PartError>
+    requires room { 4 ≤ length reader.old }
+    requires words { length reader.old % 4 ≡ 0 }
+    ensures { MatchResult result
+        (λ chunk. Takes reader.old reader.new (IsChunk (chunk_of chunk)) × (length reader.new % 4 ≡ 0))
+        (λ error. Fails error FaultReason.Item (EndsInChunk reader.old)) }
+{
+    let id = reader.u32();
+    let items = read_items(alloc, reader)?;
+    let fill = reader.left() % WORD_SIZE;
+    reader.take(fill);
+    Ok(Chunk { id, items })
+}
+
+/// The items up to the zero octet after them.
+fn read_items(alloc: Global, reader: &mut Reader<'_>) -> Result<Vec<SdesItem>, PartError>
+    ensures { MatchResult result
+        (λ items. (prefix : List ℕ) × (reader.old ≡ prefix ++ 0 ∷ reader.new)
+        × Joins IsItem (map item_of items.items) prefix)
+        (λ error. Fails error FaultReason.Item (EndsInItems reader.old)) }
+{
+    let mut items = Vec::new(alloc);
+    while let Some(item) = read_item(alloc, reader)? {
+        items.push(item)?;
+    }
+    Ok(items)
+}
+
+/// The next item, or `None` for the zero octet after the last one.
 fn read_item(alloc: Global, reader: &mut Reader<'_>) -> Result<Option<SdesItem>, PartError>
     ensures { MatchResult result
         (λ item. TakesItem reader.old reader.new item)
@@ -58,57 +118,4 @@ fn read_item(alloc: Global, reader: &mut Reader<'_>) -> Result<Option<SdesItem>,
     }
     let text = Vec::from_slice(alloc, reader.take(size))?;
     Ok(Some(SdesItem { kind, text }))
-}
-
-/// The items up to the zero octet behind them.
-fn read_items(alloc: Global, reader: &mut Reader<'_>) -> Result<Vec<SdesItem>, PartError>
-    ensures { MatchResult result
-        (λ items. (front : List ℕ) × (reader.old ≡ front ++ 0 ∷ reader.new) × Joins IsItem (map item_of items.items) front)
-        (λ error. Fails error FaultReason.Item (EndsInItems reader.old)) }
-{
-    let mut items = Vec::new(alloc);
-    while let Some(item) = read_item(alloc, reader)? {
-        items.push(item)?;
-    }
-    Ok(items)
-}
-
-/// The next chunk. As what is left is whole words, the fill behind the zero octet is what is left over of a word.
-fn read_chunk(alloc: Global, reader: &mut Reader<'_>) -> Result<Chunk, PartError>
-    requires room { 4 ≤ length reader.old }
-    requires words { length reader.old % 4 ≡ 0 }
-    ensures { MatchResult result
-        (λ chunk. Takes reader.old reader.new (IsChunk (chunk_of chunk)) × (length reader.new % 4 ≡ 0))
-        (λ error. Fails error FaultReason.Item (EndsInChunk reader.old)) }
-{
-    let id = reader.u32();
-    let items = read_items(alloc, reader)?;
-    let fill = reader.left() % 4;
-    reader.take(fill);
-    Ok(Chunk { id, items })
-}
-
-/// Reads the body of a source description whose header counts `count` chunks.
-pub(crate) fn read_description(
-    alloc: Global,
-    count: u8,
-    body: &[u8],
-) -> Result<SourceDescription, PartError>
-    requires { length body.now % 4 ≡ 0 }
-    ensures { MatchResult result
-        (λ description. (length description.chunks.items ≡ count) × Joins IsChunk (map chunk_of description.chunks.items) body.now)
-        (λ error. IsChunksFault error count body.now) }
-{
-    let mut reader = Reader::new(body);
-    let mut chunks = Vec::new(alloc);
-    for _ in 0..count {
-        if reader.left() < 4 {
-            return Err(PartError::Fault(FaultReason::Body));
-        }
-        chunks.push(read_chunk(alloc, &mut reader)?)?;
-    }
-    if reader.left() > 0 {
-        return Err(PartError::Fault(FaultReason::Body));
-    }
-    Ok(SourceDescription { chunks })
 }

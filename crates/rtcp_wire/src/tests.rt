@@ -9,7 +9,11 @@ mod writing;
 
 /// A receiver report of source 7 with no blocks, and its CNAME, `a`.
 const NAMED: [u8; 20] = [
-    0x80, 0xc9, 0, 1, 0, 0, 0, 7, 0x81, 0xca, 0, 2, 0, 0, 0, 7, 1, 1, 0x61, 0,
+    0x80, 0xc9, 0, 1, // a receiver report of two words, with no blocks
+    0, 0, 0, 7, // its SSRC
+    0x81, 0xca, 0, 2, // a source description of three words, with one chunk
+    0, 0, 0, 7, // the chunk's SSRC
+    1, 1, 0x61, 0, // a CNAME of one octet, and the zero octet
 ];
 
 fn fault(reason: FaultReason, place: usize) -> Option<ReadError> {
@@ -57,12 +61,20 @@ fn named_report(rt: HostRuntime) -> Result<(), Fail> {
     Ok(())
 }
 
-/// A block of 24 octets, each of its fields: 25/256 lost since the last report, two packets more received than expected.
+/// A block of 24 octets, each of its fields: 25/256 lost since the last report, two packets more received
+/// than expected.
 #[test]
 fn block_and_extension(rt: HostRuntime) -> Result<(), Fail> {
     let octets = [
-        0x81, 0xc9, 0, 8, 0, 0, 0, 7, 0, 0, 0, 9, 25, 0xff, 0xff, 0xfe, 0, 1, 0, 2, 0, 0, 0, 10,
-        0xb7, 5, 0x20, 0, 0, 5, 0x40, 0, 1, 2, 3, 4,
+        0x81, 0xc9, 0, 8, // a receiver report of nine words, with one block
+        0, 0, 0, 7, // its SSRC
+        0, 0, 0, 9, // the block's SSRC
+        25, 0xff, 0xff, 0xfe, // fraction lost 25, packets lost -2
+        0, 1, 0, 2, // highest sequence number: cycle 1, number 2
+        0, 0, 0, 10, // jitter
+        0xb7, 5, 0x20, 0, // LSR
+        0, 5, 0x40, 0, // DLSR
+        1, 2, 3, 4, // extension
     ];
     let packets = read_owned(rt.alloc(), &octets)?;
     for packet in &packets {
@@ -115,7 +127,12 @@ fn first_faults(rt: HostRuntime) {
     assert_eq!(rt;
         read_owned(
             rt.alloc(),
-            &[0x80, 0xc9, 0, 1, 0, 0, 0, 7, 0xa0, 0xcc, 0, 1, 0, 0, 0, 8]
+            &[
+                0x80, 0xc9, 0, 1, // a receiver report of two words
+                0, 0, 0, 7, // its SSRC
+                0xa0, 0xcc, 0, 1, // an application's packet of two words, with padding
+                0, 0, 0, 8, // eight octets of padding, the header's among them
+            ]
         )
         .err(),
         fault(FaultReason::Padding, 8)
@@ -124,7 +141,11 @@ fn first_faults(rt: HostRuntime) {
         read_owned(
             rt.alloc(),
             &[
-                0x80, 0xc9, 0, 1, 0, 0, 0, 7, 0x81, 0xca, 0, 2, 0, 0, 0, 7, 1, 5, 0x61, 0
+                0x80, 0xc9, 0, 1, // a receiver report of two words
+                0, 0, 0, 7, // its SSRC
+                0x81, 0xca, 0, 2, // a source description of three words, with one chunk
+                0, 0, 0, 7, // the chunk's SSRC
+                1, 5, 0x61, 0, // a CNAME of five octets, of which two stand there
             ]
         )
         .err(),
@@ -142,11 +163,11 @@ fn too_long(rt: HostRuntime) -> Result<(), Fail> {
     Ok(())
 }
 
-/// Each front of the named report: whole packets are read, and else the fault tells where and why.
+/// Each prefix of the named report: whole packets are read, and any other prefix has a fault at the packet that is cut.
 #[test]
-fn fronts(rt: HostRuntime) {
+fn prefixes(rt: HostRuntime) {
     for size in 0..NAMED.len() {
-        let (front, _) = NAMED.split_at(size);
+        let (prefix, _) = NAMED.split_at(size);
         let expected = match size {
             0..4 => fault(FaultReason::Short, 0),
             4..8 => fault(FaultReason::Length, 0),
@@ -155,25 +176,66 @@ fn fronts(rt: HostRuntime) {
             _ => fault(FaultReason::Length, 8),
         };
         assert_eq!(rt;
-            read_owned(rt.alloc(), front).err(),
+            read_owned(rt.alloc(), prefix).err(),
             expected,
             "{size} octets"
         );
     }
 }
 
-/// The messages of the derived errors.
+/// What the errors say, with the packet's offset unless the whole datagram is at fault.
 #[test]
 fn messages(rt: HostRuntime) -> Result<(), Fail> {
-    let wire = WireFault {
-        reason: FaultReason::TooLong,
-        place: 0,
-    };
-    assert_eq!(rt; wire.to_string(rt.alloc())?.as_str(), "F10 TooLong at 0");
-    assert_eq!(rt;
-        ReadError::Wire(wire).to_string(rt.alloc())?.as_str(),
-        "F10 TooLong at 0"
-    );
+    for (reason, message) in [
+        (
+            FaultReason::Short,
+            "fewer than 4 octets for a packet's header (RFC 3550, 6.4.1), in the packet at octet 8",
+        ),
+        (
+            FaultReason::Version,
+            "version is not 2 (RFC 3550, 6.4.1), in the packet at octet 8",
+        ),
+        (
+            FaultReason::FirstType,
+            "first packet is not a report (RFC 3550, 6.1), in the packet at octet 8",
+        ),
+        (
+            FaultReason::FirstPadding,
+            "first packet has its padding bit set (RFC 3550, A.2), in the packet at octet 8",
+        ),
+        (
+            FaultReason::Length,
+            "packet runs past the end of the datagram (RFC 3550, A.2), in the packet at octet 8",
+        ),
+        (
+            FaultReason::Item,
+            "SDES item runs past its body (RFC 3550, 6.5), in the packet at octet 8",
+        ),
+        (FaultReason::TooLong, "datagram has more than 65,535 octets"),
+    ] {
+        let wire = WireFault { reason, place: 8 };
+        assert_eq!(rt; wire.to_string(rt.alloc())?.as_str(), message);
+        assert_eq!(rt;
+            ReadError::Wire(wire).to_string(rt.alloc())?.as_str(),
+            message
+        );
+    }
+    for (reason, message) in [
+        (
+            FaultReason::Padding,
+            "number of padding octets is 0, not a multiple of 4, or too large (RFC 3550, 6.4.1)",
+        ),
+        (
+            FaultReason::Body,
+            "body does not have the size that its type and count ask for (RFC 3550, 6.4 to 6.7)",
+        ),
+        (
+            FaultReason::Reason,
+            "BYE reason does not end in the last word of its body (RFC 3550, 6.6)",
+        ),
+    ] {
+        assert_eq!(rt; reason.to_string(rt.alloc())?.as_str(), message);
+    }
     assert_eq!(rt;
         ReadError::Memory.to_string(rt.alloc())?.as_str(),
         "out of memory"

@@ -1,4 +1,4 @@
-//! Packets to octets (RFC 3550, 6.1 and 6.4 to 6.7). Nothing here asks for memory.
+//! Packets to octets (RFC 3550, 6.1 and 6.4 to 6.7). Nothing here allocates.
 
 ghost use Rattle.std.specs.Prelude.{◌≡◌, ◌+◌, ◌<◌, ◌↔◌, ◌++◌, All, length, OnOk, OnErr, IsErr};
 ghost use Rattle.arrayvec.specs.ArrayVec.{array_vec_len};
@@ -21,30 +21,34 @@ mod writable;
 
 pub use refs::{ChunkRef, ItemRef, PacketRef};
 
-/// The most octets of a buffer that compounds are written into: what an Ethernet frame carries behind the headers of IPv4 and UDP.
+/// The octets of a buffer that compounds are written into: what an Ethernet frame carries after the headers
+/// of IPv4 and UDP.
 pub const MAX_COMPOUND: usize = 1_472;
 
-/// The packets have more octets than the buffer has room for.
-#[derive(Clone, Copy, Debug, PartialEq, Eq, Error)]
-#[error("the compound does not fit")]
-pub struct Full;
-
-/// Appends the packets to what stands in the buffer, one after the other, as RFC 3550, 6.1 asks of a compound: without
-/// padding, and with zeros in each octet that may be anything.
+/// Appends the packets to what stands in the buffer, one after the other (RFC 3550, 6.1): without padding,
+/// and with zeros in each octet that may be anything.
 ///
-/// The caller has seen of each packet that `is_writable`. A needless call, with no packets, appends nothing and answers `Ok`.
-/// The error `Full` says that the packets do not all fit, and such a refusal leaves the buffer as it was. That a compound
-/// begins with a report is not tested: where it does, what is appended is read back as the same packets.
+/// The caller has tested each packet with `is_writable`. With no packets the call appends nothing and returns
+/// `Ok`. That the first packet is a report is not tested: where it is, what is appended is read back as the
+/// same packets.
+///
+/// # Errors
+///
+/// [`Full`] where the packets do not all fit into what is left of the 1,472 octets. The buffer is then
+/// unchanged.
 pub fn write_compound(
     packets: &[PacketRef<'_>],
     buffer: &mut ArrayVec<u8, MAX_COMPOUND>,
 ) -> Result<(), Full>
     requires { All IsWritable (packet_refs_of packets.now) }
-    ensures ok { OnOk result (buffer.new.items ≡ buffer.old.items ++ written_all (packet_refs_of packets.now)) }
-    ensures full { IsErr result ↔ (1472 < array_vec_len buffer.old + length (written_all (packet_refs_of packets.now))) }
+    ensures ok { OnOk result
+        (buffer.new.items ≡ buffer.old.items ++ written_all (packet_refs_of packets.now)) }
+    ensures full { IsErr result ↔
+        (1472 < array_vec_len buffer.old + length (written_all (packet_refs_of packets.now))) }
     ensures unchanged { OnErr result (buffer.new ≡ buffer.old) }
-    // Appended to an empty buffer, or taken alone, the octets are a datagram of these packets.
-    ensures reads_back { OnOk result (ReadsBack (written_all (packet_refs_of packets.now)) (packet_refs_of packets.now)) }
+    // The octets that are appended are a datagram of these packets, if the first is a report.
+    ensures reads_back { OnOk result
+        (ReadsBack (written_all (packet_refs_of packets.now)) (packet_refs_of packets.now)) }
 {
     if buffer.remaining_capacity() < compound_size(packets) {
         return Err(Full);
@@ -52,3 +56,8 @@ pub fn write_compound(
     append_packets(buffer, packets);
     Ok(())
 }
+
+/// The packets do not fit: the buffer has fewer octets left than they have.
+#[derive(Clone, Copy, Debug, PartialEq, Eq, Error)]
+#[error("packets do not fit in the buffer")]
+pub struct Full;

@@ -1,4 +1,4 @@
-//! What one packet still has to say.
+//! The facts of one packet that are left.
 
 ghost use Rattle.std.specs.Prelude.{◌≡◌, [], ◌∷◌, map, MatchOption};
 ghost use Rattle.std.specs.List.{list_any};
@@ -8,10 +8,7 @@ ghost use Rattle.rtcp_wire.specs.Pending.{facts_pending};
 
 use super::Fact;
 use crate::packet::Packet;
-use crate::sdes::Chunk;
-
-/// The type of a CNAME (RFC 3550, 6.5.1).
-const CNAME: u8 = 1;
+use crate::sdes::{CNAME, Chunk};
 
 /// The facts of a packet that are left, in their order.
 #[derive(Clone, Copy, Debug)]
@@ -19,23 +16,16 @@ pub(super) enum Pending<'a> {
     Empty,
     One(Fact),
     Two(Fact, Fact),
-    /// What these chunks say.
+    /// The facts of these chunks.
     Chunks(&'a [Chunk]),
-    /// That this source gave its name, and then what these chunks say.
+    /// That this source gave its CNAME, and then the facts of these chunks.
     Name(u32, &'a [Chunk]),
     /// That these sources left.
     Ids(&'a [u32]),
 }
 
-/// Whether a chunk names its source.
-fn has_cname(chunk: &Chunk) -> bool
-    ensures { result ≡ list_any (λ item. is_cname (item_of item)) chunk.now.items.items }
-{
-    chunk.items.iter().any(|item| item.kind == CNAME)
-}
-
 impl<'a> Pending<'a> {
-    /// All that a packet says.
+    /// All facts of a packet.
     pub(super) fn of(packet: &'a Packet) -> Pending<'a>
         ensures { facts_pending result ≡ facts_of_packet (packet_of packet.now) }
     {
@@ -81,4 +71,11 @@ impl<'a> Pending<'a> {
             }
         }
     }
+}
+
+/// Whether an item of the chunk is a CNAME.
+fn has_cname(chunk: &Chunk) -> bool
+    ensures { result ≡ list_any (λ item. is_cname (item_of item)) chunk.now.items.items }
+{
+    chunk.items.iter().any(|item| item.kind == CNAME)
 }

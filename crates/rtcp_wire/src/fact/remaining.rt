@@ -10,7 +10,7 @@ use super::pending::Pending;
 use crate::packet::Packet;
 use std::marker::Model;
 
-/// What the packets of a compound say of sources, in order: an iterator that asks for no memory. `facts` makes it.
+/// The facts of packets that are left, in order: an iterator that does not allocate. `facts` makes it.
 #[derive(Debug, Drop)]
 pub struct Facts<'a> {
     pending: Pending<'a>,
@@ -30,6 +30,7 @@ impl<'a> Model for Facts<'a> {
 }
 
 impl<'a> Facts<'a> {
+    /// All facts of these packets.
     pub(super) fn new(packets: &'a [Packet]) -> Facts<'a>
         ensures { result ≡ facts_of (packets_of packets.now) }
     {

@@ -4,14 +4,12 @@ ghost use Rattle.std.specs.Prelude.{◌≡◌};
 ghost use Rattle.std.specs.Iterator.{YieldsFirst, item_count};
 ghost use Rattle.rtcp_wire.specs.RtpHeads.{csrcs_in};
 
+use crate::layout::ID_SIZE;
 use byteorder::{BigEndian, ByteOrder};
 use std::marker::Model;
 
-/// The octets of a CSRC.
-pub(crate) const CSRC_SIZE: usize = 4;
-
-/// The contributing sources of an RTP packet, in their order (RFC 3550, 5.1): an iterator over their identifiers, which are
-/// read from the packet's octets as they come. `RtpHead::csrcs` makes it.
+/// The contributing sources of an RTP packet, in their order (RFC 3550, 5.1): an iterator over their
+/// identifiers, which it reads from the packet's octets. `RtpHead::csrcs` makes it.
 #[derive(Debug, Drop)]
 pub struct Csrcs<'a> {
     words: &'a [u8],
@@ -27,6 +25,7 @@ impl<'a> Model for Csrcs<'a> {
 }
 
 impl<'a> Csrcs<'a> {
+    /// The sources whose identifiers these words are.
     pub(crate) fn new(words: &'a [u8]) -> Csrcs<'a>
         ensures { result ≡ csrcs_in words.now }
     {
@@ -42,7 +41,7 @@ impl<'a> Iterator for Csrcs<'a> {
     ghost remaining = { item_count (λ csrcs. csrcs) };
 
     fn next(&mut self) -> Option<u32> {
-        let (word, others) = self.words.split_at_checked(CSRC_SIZE)?;
+        let (word, others) = self.words.split_at_checked(ID_SIZE)?;
         self.words = others;
         Some(BigEndian::read_u32(word))
     }

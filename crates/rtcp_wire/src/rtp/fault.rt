@@ -5,21 +5,23 @@ use thiserror::Error;
 /// The rule that an RTP packet breaks, in the order in which the rules are tested.
 #[derive(Clone, Copy, Debug, PartialEq, Eq, Error)]
 pub enum RtpFault {
-    /// Fewer than 12 octets stand there, or fewer than these and the CSRCs that are counted (RFC 3550, 5.1).
-    #[error("G1 Short")]
+    /// G1. A packet has a fixed part of 12 octets and the CSRCs that it counts, 4 octets each (RFC 3550,
+    /// 5.1), and fewer octets stand there.
+    #[error("fewer octets than the fixed part and its CSRC list (RFC 3550, 5.1)")]
     Short,
-    /// The version is not 2 (RFC 3550, 5.1).
-    #[error("G2 Version")]
+    /// G2. The version is 2 (RFC 3550, 5.1), and this packet has another.
+    #[error("version is not 2 (RFC 3550, 5.1)")]
     Version,
-    /// The payload type is one of 72 to 76, which are kept for RTCP (RFC 3551, 6).
-    #[error("G3 PayloadType")]
+    /// G3. The payload types from 72 to 76 are reserved, since with the marker they look like RTCP (RFC 3551,
+    /// 6), and this packet has one of them.
+    #[error("payload type is reserved, from 72 to 76 (RFC 3551, 6)")]
     PayloadType,
-    /// The extension bit is set, and behind the CSRC list fewer octets stand than an extension's first word, or than the
-    /// words that it counts (RFC 3550, 5.3.1).
-    #[error("G4 Extension")]
+    /// G4. Where the extension bit is set a word and the words that it counts follow the CSRC list (RFC 3550,
+    /// 5.3.1), and fewer octets do.
+    #[error("header extension runs past the packet (RFC 3550, 5.3.1)")]
     Extension,
-    /// The padding bit is set, and behind the header no octet stands, or the last one is 0 or more than stand there
-    /// (RFC 3550, 5.1).
-    #[error("G5 Padding")]
+    /// G5. Where the padding bit is set the last octet counts the octets of padding, itself included (RFC
+    /// 3550, 5.1), and no octet follows the header, or the last one is 0 or more than follow it.
+    #[error("number of padding octets is missing, 0, or too large (RFC 3550, 5.1)")]
     Padding,
 }

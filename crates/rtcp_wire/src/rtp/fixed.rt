@@ -6,7 +6,7 @@ ghost use Rattle.rtcp_wire.specs.RtpHeads.{rtp_version_of, has_padding, has_exte
 
 use crate::reader::Reader;
 
-/// The octets of the fixed part.
+/// The octets of the fixed part (RFC 3550, 5.1).
 pub(crate) const FIXED_SIZE: usize = 12;
 
 /// The fixed part of an RTP header (RFC 3550, 5.1).
@@ -35,7 +35,7 @@ pub(crate) struct FixedPart {
     pub(crate) ssrc: u32,
 }
 
-/// The fixed part that the next twelve octets are.
+/// Takes the fixed part, the next twelve octets.
 pub(crate) fn take_fixed(reader: &mut Reader<'_>) -> FixedPart
     requires { 12 ≤ length reader.old }
     ensures version { result.version ≡ rtp_version_of reader.old }

@@ -4,25 +4,24 @@ ghost use Rattle.std.specs.Prelude.{◌≡◌, ◌<◌, ◌≤◌, length, IfOk,
 ghost use Rattle.rtcp_wire.specs.RtpHeads.{RtpValue, IsRtpHead, IsRtpFault, extension_size, without_extension, IsPadded, without_padding};
 ghost use Rattle.rtcp_wire.specs.declared.rtp.fault.RtpFault.{RtpFault as Fault};
 
+use crate::layout::{ID_SIZE, VERSION, WORD_SIZE};
 use crate::reader::Reader;
-use crate::rtp::csrcs::{CSRC_SIZE, Csrcs};
+use crate::rtp::csrcs::Csrcs;
 use crate::rtp::fault::RtpFault;
 use crate::rtp::fixed::{FIXED_SIZE, take_fixed};
 use std::marker::Model;
 
-/// Versions before 2 are not read (RFC 3550, 5.1).
-const VERSION: u8 = 2;
-
-/// The first of the payload types that are kept for RTCP (RFC 3551, 6).
+/// The first payload type that is reserved, since with the marker it looks like a type of RTCP (RFC 3551, 6).
 const FIRST_RESERVED: u8 = 72;
 
-/// The last of them.
+/// The last payload type that is reserved so.
 const LAST_RESERVED: u8 = 76;
 
 /// The octets of an extension before the words that it counts (RFC 3550, 5.3.1).
 const EXTENSION_SIZE: usize = 4;
 
-/// An RTP packet (RFC 3550, 5.1): what its header says, and its payload, which is lent from the octets that were read.
+/// An RTP packet (RFC 3550, 5.1): what its header says, and its payload. It borrows from the octets that were
+/// read.
 #[derive(Debug, Drop)]
 pub struct RtpHead<'a> {
     marker: bool,
@@ -54,16 +53,28 @@ impl<'a> Model for RtpHead<'a> {
 }
 
 impl<'a> RtpHead<'a> {
-    /// Reads an RTP packet from all the octets of a datagram (RFC 3550, 5.1 and 5.3.1). Its length is not limited.
+    /// Reads an RTP packet from all octets of a datagram (RFC 3550, 5.1 and 5.3.1). Any length is read, and
+    /// nothing is allocated.
     ///
-    /// The error is the first rule that is broken, in the order of `RtpFault`.
+    /// # Errors
+    ///
+    /// The first rule that the octets break, in this order:
+    ///
+    /// - [`RtpFault::Short`] where there are fewer octets than the fixed part, or than it and the CSRCs that
+    ///   it counts.
+    /// - [`RtpFault::Version`] where the version is not 2.
+    /// - [`RtpFault::PayloadType`] where the payload type is from 72 to 76.
+    /// - [`RtpFault::Extension`] where the header extension runs past the last octet.
+    /// - [`RtpFault::Padding`] where the number of padding octets is missing, 0, or more than follow the
+    ///   header.
     pub fn read(octets: &'a [u8]) -> Result<RtpHead<'a>, RtpFault>
-        // What is read is what the octets say, and a fault is their first one.
+        // What is read is what the octets say, and an error is their first fault.
         ensures accepted { IfOk result (λ head. IsRtpHead octets.now head) }
         ensures refused { (fault : Fault) → result ≡ Err fault → IsRtpFault octets.now fault }
 
         // What the octets say is read, and a first fault is found.
-        ensures reads { (head : RtpValue) → IsRtpHead octets.now head → IsOkAnd result (λ found. found ≡ head) }
+        ensures reads { (head : RtpValue) → IsRtpHead octets.now head →
+            IsOkAnd result (λ found. found ≡ head) }
         ensures finds { (fault : Fault) → IsRtpFault octets.now fault → result ≡ Err fault }
     {
         if octets.len() < FIXED_SIZE {
@@ -71,7 +82,7 @@ impl<'a> RtpHead<'a> {
         }
         let mut reader = Reader::new(octets);
         let fixed = take_fixed(&mut reader);
-        let csrcs_size = CSRC_SIZE * usize::from(fixed.csrc_count);
+        let csrcs_size = ID_SIZE * usize::from(fixed.csrc_count);
         if reader.left() < csrcs_size {
             return Err(RtpFault::Short);
         }
@@ -95,21 +106,21 @@ impl<'a> RtpHead<'a> {
         })
     }
 
-    /// The payload type (RFC 3550, 5.1): what the payload is, below 128 and none of 72 to 76.
+    /// The payload type (RFC 3550, 5.1), which says what the payload is: below 128, and none of 72 to 76.
     pub fn payload_type(&self) -> u8
         ensures { result ≡ self.now.payload_type }
     {
         self.payload_type
     }
 
-    /// Whether the marker is set (RFC 3550, 5.1), which means what the payload type's profile says.
+    /// Whether the marker is set (RFC 3550, 5.1). Its meaning is the profile's.
     pub fn marker(&self) -> bool
         ensures { result ≡ self.now.marker }
     {
         self.marker
     }
 
-    /// The sequence number (RFC 3550, 5.1), which grows by one from packet to packet and wraps.
+    /// The sequence number (RFC 3550, 5.1), which grows by one with each packet sent, and wraps.
     pub fn sequence(&self) -> u16
         ensures { result ≡ self.now.sequence }
     {
@@ -123,14 +134,14 @@ impl<'a> RtpHead<'a> {
         self.timestamp
     }
 
-    /// The synchronization source (RFC 3550, 5.1): who sends the packet.
+    /// The SSRC of the source that sends the packet (RFC 3550, 5.1).
     pub fn ssrc(&self) -> u32
         ensures { result ≡ self.now.ssrc }
     {
         self.ssrc
     }
 
-    /// The contributing sources (RFC 3550, 5.1) in their order: at most 15.
+    /// The contributing sources (RFC 3550, 5.1), in their order: at most 15.
     pub fn csrcs(&self) -> Csrcs<'a>
         ensures items { result ≡ self.now.csrcs }
         ensures few { length result ≤ 15 }
@@ -138,7 +149,7 @@ impl<'a> RtpHead<'a> {
         Csrcs::new(self.csrcs)
     }
 
-    /// The payload (RFC 3550, 5.1), without the padding behind it.
+    /// The payload (RFC 3550, 5.1), without the padding after it.
     pub fn payload(&self) -> &'a [u8]
         ensures { result.now ≡ self.now.payload }
     {
@@ -146,11 +157,13 @@ impl<'a> RtpHead<'a> {
     }
 }
 
-/// What stands behind the header's extension (RFC 3550, 5.3.1), where it has one.
+/// What follows the header extension (RFC 3550, 5.3.1), where there is one.
 fn unextended(octets: &[u8], has_extension: bool) -> Result<&[u8], RtpFault>
     ensures { MatchResult result
-        (λ rest. (rest.now ≡ without_extension has_extension octets.now) × (has_extension ≡ true → extension_size octets.now ≤ length octets.now))
-        (λ fault. (fault ≡ RtpFault.Extension) × (has_extension ≡ true) × (length octets.now < extension_size octets.now)) }
+        (λ rest. (rest.now ≡ without_extension has_extension octets.now)
+        × (has_extension ≡ true → extension_size octets.now ≤ length octets.now))
+        (λ fault. (fault ≡ RtpFault.Extension) × (has_extension ≡ true)
+        × (length octets.now < extension_size octets.now)) }
 {
     let mut reader = Reader::new(octets);
     if !has_extension {
@@ -160,7 +173,7 @@ fn unextended(octets: &[u8], has_extension: bool) -> Result<&[u8], RtpFault>
         return Err(RtpFault::Extension);
     }
     reader.take(2);
-    let words_size = 4 * usize::from(reader.u16());
+    let words_size = WORD_SIZE * usize::from(reader.u16());
     if reader.left() < words_size {
         return Err(RtpFault::Extension);
     }
@@ -171,7 +184,8 @@ fn unextended(octets: &[u8], has_extension: bool) -> Result<&[u8], RtpFault>
 /// What stands before the padding (RFC 3550, 5.1), where there is some.
 fn unpadded(octets: &[u8], has_padding: bool) -> Result<&[u8], RtpFault>
     ensures { MatchResult result
-        (λ payload. (payload.now ≡ without_padding has_padding octets.now) × (has_padding ≡ true → IsPadded octets.now))
+        (λ payload. (payload.now ≡ without_padding has_padding octets.now)
+        × (has_padding ≡ true → IsPadded octets.now))
         (λ fault. (fault ≡ RtpFault.Padding) × (has_padding ≡ true) × (IsPadded octets.now → ⊥)) }
 {
     if !has_padding {

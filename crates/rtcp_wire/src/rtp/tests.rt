@@ -1,16 +1,22 @@
 use super::*;
 use std::test::*;
 
-/// A packet of no payload, with sequence number 1, timestamp 2 and source 3, whose payload type and marker are this octet.
+/// A packet of no payload, with sequence number 1, timestamp 2 and source 3, whose payload type and marker
+/// are this octet.
 fn typed(second: u8) -> [u8; 12] {
     [0x80, second, 0, 1, 0, 0, 0, 2, 0, 0, 0, 3]
 }
 
-/// The words of an extension are passed over.
+/// The words of an extension are skipped.
 #[test]
 fn extension(rt: HostRuntime) -> Result<(), Fail> {
     let octets = [
-        0x90, 0, 0, 1, 0, 0, 0, 2, 0, 0, 0, 3, 0, 5, 0, 1, 0xaa, 0xbb, 0xcc, 0xdd, 1, 2,
+        0x90, 0, 0, 1, // extension bit, payload type 0, sequence number 1
+        0, 0, 0, 2, // timestamp
+        0, 0, 0, 3, // SSRC
+        0, 5, 0, 1, // an extension of one word
+        0xaa, 0xbb, 0xcc, 0xdd, // that word
+        1, 2, // payload
     ];
     let head = RtpHead::read(&octets)?;
     assert_eq!(rt; head.payload_type(), 0);
@@ -23,21 +29,41 @@ fn extension(rt: HostRuntime) -> Result<(), Fail> {
     Ok(())
 }
 
-/// Padding is no part of the payload, and has to be counted right.
+/// Padding is no part of the payload, and its count must fit the packet.
 #[test]
 fn padding(rt: HostRuntime) -> Result<(), Fail> {
-    let octets = [0xa0, 0, 0, 1, 0, 0, 0, 2, 0, 0, 0, 3, 1, 2];
+    let octets = [
+        0xa0, 0, 0, 1, // padding bit, payload type 0, sequence number 1
+        0, 0, 0, 2, // timestamp
+        0, 0, 0, 3, // SSRC
+        1, 2, // two octets of padding
+    ];
     assert_eq!(rt; RtpHead::read(&octets)?.payload().len(), 0);
-    let octets = [0xa0, 0, 0, 1, 0, 0, 0, 2, 0, 0, 0, 3, 1, 3];
+    let octets = [
+        0xa0, 0, 0, 1, // padding bit, payload type 0, sequence number 1
+        0, 0, 0, 2, // timestamp
+        0, 0, 0, 3, // SSRC
+        1, 3, // three octets of padding, of which two stand there
+    ];
     assert_eq!(rt; RtpHead::read(&octets).err(), Some(RtpFault::Padding));
-    let octets = [0xa0, 0, 0, 1, 0, 0, 0, 2, 0, 0, 0, 3, 9, 1];
+    let octets = [
+        0xa0, 0, 0, 1, // padding bit, payload type 0, sequence number 1
+        0, 0, 0, 2, // timestamp
+        0, 0, 0, 3, // SSRC
+        9, 1, // an octet of payload, and one of padding
+    ];
     assert_eq!(rt; RtpHead::read(&octets)?.payload(), [9].as_slice());
     Ok(())
 }
 
 #[test]
 fn contributing_sources(rt: HostRuntime) -> Result<(), Fail> {
-    let octets = [0x81, 0, 0, 1, 0, 0, 0, 2, 0, 0, 0, 3, 0, 0, 0, 4];
+    let octets = [
+        0x81, 0, 0, 1, // one CSRC, payload type 0, sequence number 1
+        0, 0, 0, 2, // timestamp
+        0, 0, 0, 3, // SSRC
+        0, 0, 0, 4, // CSRC
+    ];
     let head = RtpHead::read(&octets)?;
     assert_eq!(rt;
         head.csrcs().collect::<Vec<u32>>(rt.alloc())?.as_slice(),
@@ -46,7 +72,12 @@ fn contributing_sources(rt: HostRuntime) -> Result<(), Fail> {
     assert_eq!(rt; head.payload().len(), 0);
 
     let octets = [
-        0x82, 0, 0, 1, 0, 0, 0, 2, 0, 0, 0, 3, 0, 0, 0, 4, 0xff, 0, 0, 5, 9,
+        0x82, 0, 0, 1, // two CSRCs, payload type 0, sequence number 1
+        0, 0, 0, 2, // timestamp
+        0, 0, 0, 3, // SSRC
+        0, 0, 0, 4, // the first CSRC
+        0xff, 0, 0, 5, // the second CSRC
+        9, // payload
     ];
     let head = RtpHead::read(&octets)?;
     let mut found = Vec::new(rt.alloc());
@@ -56,12 +87,18 @@ fn contributing_sources(rt: HostRuntime) -> Result<(), Fail> {
     assert_eq!(rt; found.as_slice(), [4, 0xff00_0005].as_slice());
     assert_eq!(rt; head.payload(), [9].as_slice());
 
-    let octets = [0x82, 0, 0, 1, 0, 0, 0, 2, 0, 0, 0, 3, 0, 0, 0, 4];
+    let octets = [
+        0x82, 0, 0, 1, // two CSRCs, payload type 0, sequence number 1
+        0, 0, 0, 2, // timestamp
+        0, 0, 0, 3, // SSRC
+        0, 0, 0, 4, // the first CSRC
+    ];
     assert_eq!(rt; RtpHead::read(&octets).err(), Some(RtpFault::Short));
     Ok(())
 }
 
-/// The payload types beside those that are kept for RTCP, and their ends, with the marker too.
+/// The payload types beside the reserved ones are read, and the first and the last reserved one are not, with and
+/// without the marker.
 #[test]
 fn payload_types(rt: HostRuntime) -> Result<(), Fail> {
     for (second, payload_type, marker) in [
@@ -94,7 +131,11 @@ fn other_faults(rt: HostRuntime) {
     );
     assert_eq!(rt;
         RtpHead::read(&[
-            0x90, 0, 0, 1, 0, 0, 0, 2, 0, 0, 0, 3, 0, 5, 0, 1, 0xaa, 0xbb, 0xcc
+            0x90, 0, 0, 1, // extension bit, payload type 0, sequence number 1
+            0, 0, 0, 2, // timestamp
+            0, 0, 0, 3, // SSRC
+            0, 5, 0, 1, // an extension of one word
+            0xaa, 0xbb, 0xcc, // three octets of that word
         ])
         .err(),
         Some(RtpFault::Extension)
@@ -105,15 +146,27 @@ fn other_faults(rt: HostRuntime) {
     );
 }
 
-/// The messages of the derived error.
+/// What the errors say.
 #[test]
 fn messages(rt: HostRuntime) -> Result<(), Fail> {
     for (fault, message) in [
-        (RtpFault::Short, "G1 Short"),
-        (RtpFault::Version, "G2 Version"),
-        (RtpFault::PayloadType, "G3 PayloadType"),
-        (RtpFault::Extension, "G4 Extension"),
-        (RtpFault::Padding, "G5 Padding"),
+        (
+            RtpFault::Short,
+            "fewer octets than the fixed part and its CSRC list (RFC 3550, 5.1)",
+        ),
+        (RtpFault::Version, "version is not 2 (RFC 3550, 5.1)"),
+        (
+            RtpFault::PayloadType,
+            "payload type is reserved, from 72 to 76 (RFC 3551, 6)",
+        ),
+        (
+            RtpFault::Extension,
+            "header extension runs past the packet (RFC 3550, 5.3.1)",
+        ),
+        (
+            RtpFault::Padding,
+            "number of padding octets is missing, 0, or too large (RFC 3550, 5.1)",
+        ),
     ] {
         assert_eq!(rt; fault.to_string(rt.alloc())?.as_str(), message);
     }

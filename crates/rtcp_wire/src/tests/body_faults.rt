@@ -3,10 +3,10 @@
 use super::*;
 use std::alloc::Global;
 
-/// The error of a receiver report of source 7 with no blocks, and `behind`.
-fn error_behind_report(alloc: Global, behind: &[u8]) -> Result<Option<ReadError>, Fail> {
+/// The error of a receiver report of source 7 with no blocks, and these octets.
+fn error_after_report(alloc: Global, octets: &[u8]) -> Result<Option<ReadError>, Fail> {
     let mut datagram = Vec::from_slice(alloc, &[0x80, 0xc9, 0, 1, 0, 0, 0, 7])?;
-    datagram.extend_from_slice(behind)?;
+    datagram.extend_from_slice(octets)?;
     Ok(read_owned(alloc, &datagram).err())
 }
 
@@ -14,14 +14,25 @@ fn error_behind_report(alloc: Global, behind: &[u8]) -> Result<Option<ReadError>
 #[test]
 fn short_sender_reports(rt: HostRuntime) {
     let no_octet_count = [
-        0x80, 0xc8, 0, 5, 0, 0, 0, 9, 0, 0, 0, 0, 0, 0, 0, 0, 0, 0, 0, 0, 0, 0, 0, 0,
+        0x80, 0xc8, 0, 5, // a sender report of six words, with no blocks
+        0, 0, 0, 9, // its SSRC
+        0, 0, 0, 0, // NTP timestamp, the upper word
+        0, 0, 0, 0, // NTP timestamp, the lower word
+        0, 0, 0, 0, // RTP timestamp
+        0, 0, 0, 0, // packets sent
     ];
     assert_eq!(rt;
         read_owned(rt.alloc(), &no_octet_count).err(),
         fault(FaultReason::Body, 0)
     );
     let no_block = [
-        0x81, 0xc8, 0, 6, 0, 0, 0, 9, 0, 0, 0, 0, 0, 0, 0, 0, 0, 0, 0, 0, 0, 0, 0, 0, 0, 0, 0, 0,
+        0x81, 0xc8, 0, 6, // a sender report of seven words, with one block
+        0, 0, 0, 9, // its SSRC
+        0, 0, 0, 0, // NTP timestamp, the upper word
+        0, 0, 0, 0, // NTP timestamp, the lower word
+        0, 0, 0, 0, // RTP timestamp
+        0, 0, 0, 0, // packets sent
+        0, 0, 0, 0, // octets sent
     ];
     assert_eq!(rt;
         read_owned(rt.alloc(), &no_block).err(),
@@ -33,7 +44,7 @@ fn short_sender_reports(rt: HostRuntime) {
 #[test]
 fn short_goodbye(rt: HostRuntime) -> Result<(), Fail> {
     assert_eq!(rt;
-        error_behind_report(rt.alloc(), &[0x82, 0xcb, 0, 1, 0, 0, 0, 7])?,
+        error_after_report(rt.alloc(), &[0x82, 0xcb, 0, 1, 0, 0, 0, 7])?,
         fault(FaultReason::Body, 8)
     );
     Ok(())
@@ -43,11 +54,11 @@ fn short_goodbye(rt: HostRuntime) -> Result<(), Fail> {
 #[test]
 fn short_applications(rt: HostRuntime) -> Result<(), Fail> {
     assert_eq!(rt;
-        error_behind_report(rt.alloc(), &[0x80, 0xcc, 0, 1, 0, 0, 0, 7])?,
+        error_after_report(rt.alloc(), &[0x80, 0xcc, 0, 1, 0, 0, 0, 7])?,
         fault(FaultReason::Body, 8)
     );
     assert_eq!(rt;
-        error_behind_report(rt.alloc(), &[0x80, 0xcc, 0, 0])?,
+        error_after_report(rt.alloc(), &[0x80, 0xcc, 0, 0])?,
         fault(FaultReason::Body, 8)
     );
     Ok(())
@@ -57,33 +68,45 @@ fn short_applications(rt: HostRuntime) -> Result<(), Fail> {
 #[test]
 fn reason_past_the_end(rt: HostRuntime) -> Result<(), Fail> {
     assert_eq!(rt;
-        error_behind_report(
+        error_after_report(
             rt.alloc(),
-            &[0x81, 0xcb, 0, 2, 0, 0, 0, 7, 5, 0x61, 0x62, 0x63]
+            &[
+                0x81, 0xcb, 0, 2, // a goodbye of three words, of one source
+                0, 0, 0, 7, // its SSRC
+                5, 0x61, 0x62, 0x63, // a reason of five octets, of which three stand there
+            ]
         )?,
         fault(FaultReason::Reason, 8)
     );
     assert_eq!(rt;
-        error_behind_report(rt.alloc(), &[0x80, 0xcb, 0, 1, 4, 0x61, 0x62, 0x63])?,
+        error_after_report(rt.alloc(), &[0x80, 0xcb, 0, 1, 4, 0x61, 0x62, 0x63])?,
         fault(FaultReason::Reason, 8)
     );
     Ok(())
 }
 
-/// No word is left behind a reason.
+/// No word is left after a reason.
 #[test]
-fn words_behind_reason(rt: HostRuntime) -> Result<(), Fail> {
+fn words_after_reason(rt: HostRuntime) -> Result<(), Fail> {
     assert_eq!(rt;
-        error_behind_report(
+        error_after_report(
             rt.alloc(),
-            &[0x80, 0xcb, 0, 2, 2, 0x61, 0x62, 0, 0, 0, 0, 0]
+            &[
+                0x80, 0xcb, 0, 2, // a goodbye of three words, of no source
+                2, 0x61, 0x62, 0, // a reason of two octets, and its fill
+                0, 0, 0, 0, // a word more
+            ]
         )?,
         fault(FaultReason::Reason, 8)
     );
     assert_eq!(rt;
-        error_behind_report(
+        error_after_report(
             rt.alloc(),
-            &[0x80, 0xcb, 0, 2, 3, 0x61, 0x62, 0x63, 0, 0, 0, 0]
+            &[
+                0x80, 0xcb, 0, 2, // a goodbye of three words, of no source
+                3, 0x61, 0x62, 0x63, // a reason of three octets
+                0, 0, 0, 0, // a word more
+            ]
         )?,
         fault(FaultReason::Reason, 8)
     );

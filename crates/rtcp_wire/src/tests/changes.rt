@@ -1,8 +1,8 @@
-//! Each change of one octet of a named report: the answers were worked out by hand.
+//! Each change of one octet of a named report. The expected results were worked out by hand.
 
 use super::*;
 
-/// How many of the 256 values of an octet give which answer: the fault, or none.
+/// How many of the 256 values of an octet give this result, a fault or none.
 fn counted(rt: &HostRuntime, place: usize, expected: Option<ReadError>) -> u32 {
     let mut count: u32 = 0;
     for value in 0..=255u8 {
@@ -49,7 +49,8 @@ fn free_octets(rt: HostRuntime) {
     }
 }
 
-/// The item's type and length, and the zero behind it: a type of 0 ends the items at once, and three octets are left for the fill.
+/// The item's type and length, and the zero octet after it: a type of 0 ends the items at once, and three octets
+/// are left for the fill.
 #[test]
 fn item(rt: HostRuntime) {
     assert_eq!(rt; counted(&rt, 16, None), 256);

@@ -5,13 +5,37 @@ ghost use Rattle.rtcp_wire.specs.Facts.{facts_of};
 use super::*;
 use std::alloc::{AllocError, Global};
 
-/// A sender report of source 9 with a block about source 13; a source description of 9, with two CNAMEs, and of 7, with
-/// a NAME alone; a goodbye of both; an application's packet of source 11; and a packet of type 205.
+/// A sender report of source 9 with a block about source 13; a source description of 9, with two CNAMEs, and
+/// of 7, with a NAME alone; a goodbye of both; an application's packet of source 11; and a packet of type
+/// 205.
 const CALL: [u8; 108] = [
-    0x81, 0xc8, 0, 12, 0, 0, 0, 9, 0, 0, 0, 1, 0, 0, 0, 5, 0, 0, 0, 2, 0, 0, 0, 3, 0, 0, 0, 4, 0,
-    0, 0, 13, 0, 0, 0, 0, 0, 0, 0, 0, 0, 0, 0, 0, 0, 0, 0, 0, 0, 0, 0, 0, 0x82, 0xca, 0, 5, 0, 0,
-    0, 9, 1, 1, 0x61, 1, 0, 0, 0, 0, 0, 0, 0, 7, 2, 1, 0x62, 0, 0x82, 0xcb, 0, 2, 0, 0, 0, 9, 0, 0,
-    0, 7, 0x80, 0xcc, 0, 2, 0, 0, 0, 11, 0x61, 0x62, 0x63, 0x64, 0x80, 0xcd, 0, 1, 0, 0, 0, 15,
+    0x81, 0xc8, 0, 12, // a sender report of 13 words, with one block
+    0, 0, 0, 9, // its SSRC
+    0, 0, 0, 1, // NTP timestamp, the upper word
+    0, 0, 0, 5, // NTP timestamp, the lower word
+    0, 0, 0, 2, // RTP timestamp
+    0, 0, 0, 3, // packets sent
+    0, 0, 0, 4, // octets sent
+    0, 0, 0, 13, // the block's SSRC
+    0, 0, 0, 0, // fraction lost and packets lost
+    0, 0, 0, 0, // highest sequence number
+    0, 0, 0, 0, // jitter
+    0, 0, 0, 0, // LSR
+    0, 0, 0, 0, // DLSR
+    0x82, 0xca, 0, 5, // a source description of six words, with two chunks
+    0, 0, 0, 9, // the first chunk's SSRC
+    1, 1, 0x61, 1, // a CNAME, and the type of another
+    0, 0, 0, 0, // its length 0, the zero octet, and the fill
+    0, 0, 0, 7, // the second chunk's SSRC
+    2, 1, 0x62, 0, // a NAME, and the zero octet
+    0x82, 0xcb, 0, 2, // a goodbye of three words, of two sources
+    0, 0, 0, 9, // the first
+    0, 0, 0, 7, // the second
+    0x80, 0xcc, 0, 2, // an application's packet of three words
+    0, 0, 0, 11, // its SSRC
+    0x61, 0x62, 0x63, 0x64, // its name
+    0x80, 0xcd, 0, 1, // a packet of type 205, of two words
+    0, 0, 0, 15, // its body
 ];
 
 /// The facts that these packets give, collected.
@@ -21,7 +45,7 @@ fn collected(alloc: Global, packets: &[Packet]) -> Result<Vec<Fact>, AllocError>
     crate::facts(packets).collect(alloc)
 }
 
-/// The facts that these packets give, one after the other.
+/// The facts that these packets give, one by one.
 fn visited(alloc: Global, packets: &[Packet]) -> Result<Vec<Fact>, AllocError>
     ensures { IfOk result (λ found. found.items ≡ facts_of (packets_of packets.now)) }
 {
@@ -77,12 +101,20 @@ fn report_alone(rt: HostRuntime) -> Result<(), Fail> {
     Ok(())
 }
 
-/// A source description of no chunks and a goodbye of no identifiers give nothing, between other packets and at the end.
+/// A source description of no chunks and a goodbye of no identifiers give nothing, between other packets and
+/// at the end.
 #[test]
 fn empty_packets(rt: HostRuntime) -> Result<(), Fail> {
     let octets = [
-        0x80, 0xc9, 0, 1, 0, 0, 0, 7, 0x80, 0xca, 0, 0, 0x80, 0xcb, 0, 0, 0x80, 0xcc, 0, 2, 0, 0,
-        0, 8, 0x61, 0x62, 0x63, 0x64, 0x80, 0xcb, 0, 0, 0x80, 0xca, 0, 0,
+        0x80, 0xc9, 0, 1, // a receiver report of two words
+        0, 0, 0, 7, // its SSRC
+        0x80, 0xca, 0, 0, // a source description of no chunks
+        0x80, 0xcb, 0, 0, // a goodbye of no sources
+        0x80, 0xcc, 0, 2, // an application's packet of three words
+        0, 0, 0, 8, // its SSRC
+        0x61, 0x62, 0x63, 0x64, // its name
+        0x80, 0xcb, 0, 0, // a goodbye of no sources
+        0x80, 0xca, 0, 0, // a source description of no chunks
     ];
     let packets = read_owned(rt.alloc(), &octets)?;
     let mut left = crate::facts(packets.as_slice());

@@ -1,19 +1,19 @@
-//! A packet of each type that is looked into, with all of its fields.
+//! A packet of each type, with all of its fields.
 
 use super::*;
 use std::alloc::Global;
 use std::process::Abort;
 
-/// The packets of a receiver report of source 7 with no blocks, and of `behind`.
-fn read_behind_report(alloc: Global, behind: &[u8]) -> Result<Vec<Packet>, ReadError> {
+/// The packets of a receiver report of source 7 with no blocks, and of these octets.
+fn read_after_report(alloc: Global, octets: &[u8]) -> Result<Vec<Packet>, ReadError> {
     let mut datagram = Vec::from_slice(alloc, &[0x80, 0xc9, 0, 1, 0, 0, 0, 7])?;
-    datagram.extend_from_slice(behind)?;
+    datagram.extend_from_slice(octets)?;
     read_owned(alloc, &datagram)
 }
 
-/// The reason of the goodbye behind the report, and its identifiers.
+/// The goodbye that follows the report.
 fn read_goodbye(rt: &impl Abort, alloc: Global, goodbye: &[u8]) -> Result<Goodbye, ReadError> {
-    let mut packets = read_behind_report(alloc, goodbye)?;
+    let mut packets = read_after_report(alloc, goodbye)?;
     assert_eq!(rt; packets.len(), 2);
     match packets.pop() {
         Some(Packet::Bye(goodbye)) => Ok(goodbye),
@@ -25,8 +25,13 @@ fn read_goodbye(rt: &impl Abort, alloc: Global, goodbye: &[u8]) -> Result<Goodby
 #[test]
 fn sender_report(rt: HostRuntime) -> Result<(), Fail> {
     let octets = [
-        0x80, 0xc8, 0, 6, 0, 0, 0, 9, 0, 0, 0xb7, 5, 0x20, 0, 0, 0, 0, 0, 0, 10, 0, 0, 0, 3, 0, 0,
-        1, 0xe0,
+        0x80, 0xc8, 0, 6, // a sender report of seven words, with no blocks
+        0, 0, 0, 9, // its SSRC
+        0, 0, 0xb7, 5, // NTP timestamp, the upper word
+        0x20, 0, 0, 0, // NTP timestamp, the lower word
+        0, 0, 0, 10, // RTP timestamp
+        0, 0, 0, 3, // packets sent
+        0, 0, 1, 0xe0, // octets sent
     ];
     let mut packets = read_owned(rt.alloc(), &octets)?;
     assert_eq!(rt; packets.len(), 1);
@@ -49,9 +54,20 @@ fn sender_report(rt: HostRuntime) -> Result<(), Fail> {
 #[test]
 fn sender_report_with_block(rt: HostRuntime) -> Result<(), Fail> {
     let octets = [
-        0x81, 0xc8, 0, 13, 0xde, 0xad, 0xbe, 0xef, 1, 2, 3, 4, 5, 6, 7, 8, 9, 10, 11, 12, 0, 0, 0,
-        1, 0, 0, 0, 2, 0, 0, 0, 9, 25, 0, 0, 1, 0, 1, 0, 2, 0, 0, 0, 10, 0xb7, 5, 0x20, 0, 0, 5,
-        0x40, 0, 1, 2, 3, 4,
+        0x81, 0xc8, 0, 13, // a sender report of 14 words, with one block
+        0xde, 0xad, 0xbe, 0xef, // its SSRC
+        1, 2, 3, 4, // NTP timestamp, the upper word
+        5, 6, 7, 8, // NTP timestamp, the lower word
+        9, 10, 11, 12, // RTP timestamp
+        0, 0, 0, 1, // packets sent
+        0, 0, 0, 2, // octets sent
+        0, 0, 0, 9, // the block's SSRC
+        25, 0, 0, 1, // fraction lost 25, packets lost 1
+        0, 1, 0, 2, // highest sequence number: cycle 1, number 2
+        0, 0, 0, 10, // jitter
+        0xb7, 5, 0x20, 0, // LSR
+        0, 5, 0x40, 0, // DLSR
+        1, 2, 3, 4, // extension
     ];
     let mut packets = read_owned(rt.alloc(), &octets)?;
     match packets.pop() {
@@ -81,7 +97,12 @@ fn sender_report_with_block(rt: HostRuntime) -> Result<(), Fail> {
 /// Two sources leave, and say why.
 #[test]
 fn goodbye_with_reason(rt: HostRuntime) -> Result<(), Fail> {
-    let octets = [0x82, 0xcb, 0, 3, 0, 0, 0, 7, 0, 0, 1, 0, 2, 0x61, 0x62, 0];
+    let octets = [
+        0x82, 0xcb, 0, 3, // a goodbye of four words, of two sources
+        0, 0, 0, 7, // the first
+        0, 0, 1, 0, // the second
+        2, 0x61, 0x62, 0, // a reason of two octets, and its fill
+    ];
     let goodbye = read_goodbye(&rt, rt.alloc(), &octets)?;
     assert_eq!(rt; goodbye.ids.as_slice(), [7, 256].as_slice());
     let reason = goodbye.reason.ok_or("no reason")?;
@@ -89,7 +110,7 @@ fn goodbye_with_reason(rt: HostRuntime) -> Result<(), Fail> {
     Ok(())
 }
 
-/// A reason that ends with its word, and one with three octets behind it.
+/// A reason that ends with its word, and one with three octets after it.
 #[test]
 fn filled_reasons(rt: HostRuntime) -> Result<(), Fail> {
     let full = [0x80, 0xcb, 0, 1, 3, 0x61, 0x62, 0x63];
@@ -97,7 +118,11 @@ fn filled_reasons(rt: HostRuntime) -> Result<(), Fail> {
         .reason
         .ok_or("no reason")?;
     assert_eq!(rt; reason.as_slice(), b"abc".as_slice());
-    let filled = [0x80, 0xcb, 0, 2, 4, 0x61, 0x62, 0x63, 0x64, 9, 9, 9];
+    let filled = [
+        0x80, 0xcb, 0, 2, // a goodbye of three words, of no source
+        4, 0x61, 0x62, 0x63, // a reason of four octets
+        0x64, 9, 9, 9, // its last octet, and the fill
+    ];
     let reason = read_goodbye(&rt, rt.alloc(), &filled)?
         .reason
         .ok_or("no reason")?;
@@ -108,7 +133,11 @@ fn filled_reasons(rt: HostRuntime) -> Result<(), Fail> {
 /// A word of zeros is a reason without text.
 #[test]
 fn goodbye_with_empty_reason(rt: HostRuntime) -> Result<(), Fail> {
-    let octets = [0x81, 0xcb, 0, 2, 0, 0, 0, 7, 0, 0, 0, 0];
+    let octets = [
+        0x81, 0xcb, 0, 2, // a goodbye of three words, of one source
+        0, 0, 0, 7, // its SSRC
+        0, 0, 0, 0, // a reason of no octets, and its fill
+    ];
     let goodbye = read_goodbye(&rt, rt.alloc(), &octets)?;
     assert_eq!(rt; goodbye.ids.as_slice(), [7].as_slice());
     let reason = goodbye.reason.ok_or("no reason")?;
@@ -118,7 +147,11 @@ fn goodbye_with_empty_reason(rt: HostRuntime) -> Result<(), Fail> {
 
 #[test]
 fn goodbye_without_reason(rt: HostRuntime) -> Result<(), Fail> {
-    let octets = [0xa1, 0xcb, 0, 2, 0, 0, 0, 7, 0, 0, 0, 4];
+    let octets = [
+        0xa1, 0xcb, 0, 2, // a goodbye of three words, with padding, of one source
+        0, 0, 0, 7, // its SSRC
+        0, 0, 0, 4, // four octets of padding
+    ];
     let goodbye = read_goodbye(&rt, rt.alloc(), &octets)?;
     assert_eq!(rt; goodbye.ids.as_slice(), [7].as_slice());
     assert!(rt; goodbye.reason.is_none());
@@ -136,9 +169,12 @@ fn goodbye_of_nobody(rt: HostRuntime) -> Result<(), Fail> {
 #[test]
 fn application(rt: HostRuntime) -> Result<(), Fail> {
     let octets = [
-        0x85, 0xcc, 0, 3, 0, 0, 0, 7, 0x41, 0x42, 0x43, 0x44, 1, 2, 3, 4,
+        0x85, 0xcc, 0, 3, // an application's packet of four words, with subtype 5
+        0, 0, 0, 7, // its SSRC
+        0x41, 0x42, 0x43, 0x44, // its name
+        1, 2, 3, 4, // its data
     ];
-    let mut packets = read_behind_report(rt.alloc(), &octets)?;
+    let mut packets = read_after_report(rt.alloc(), &octets)?;
     assert_eq!(rt; packets.len(), 2);
     match packets.pop() {
         Some(Packet::App(packet)) => {
@@ -152,17 +188,17 @@ fn application(rt: HostRuntime) -> Result<(), Fail> {
     Ok(())
 }
 
-/// A type behind those that are looked into is kept as it is.
+/// The body of a type above the known ones is kept as it is.
 #[test]
 fn other_type(rt: HostRuntime) -> Result<(), Fail> {
-    let mut packets = read_behind_report(rt.alloc(), &[0x83, 0xcd, 0, 1, 1, 2, 3, 4])?;
+    let mut packets = read_after_report(rt.alloc(), &[0x83, 0xcd, 0, 1, 1, 2, 3, 4])?;
     match packets.pop() {
         Some(Packet::Other(packet)) => {
             assert_eq!(rt; packet.kind, 205);
             assert_eq!(rt; packet.count, 3);
             assert_eq!(rt; packet.body.as_slice(), [1, 2, 3, 4].as_slice());
         }
-        _ => panic!(rt; "its type is not looked into"),
+        _ => panic!(rt; "it is a packet of another type"),
     }
     Ok(())
 }

@@ -6,6 +6,7 @@ use std::process::Abort;
 
 type Buffer = ArrayVec<u8, MAX_COMPOUND>;
 
+/// A block about source 9, with two packets more received than expected.
 const BLOCK: Block = Block {
     ssrc: 9,
     fraction: 25,
@@ -19,6 +20,17 @@ const BLOCK: Block = Block {
 /// A receiver report of source 7 with no blocks.
 const EMPTY_REPORT: PacketRef<'static> = PacketRef::Rr {
     ssrc: 7,
+    blocks: &[],
+    extension: &[],
+};
+
+/// A sender report of source 9 with no blocks.
+const REPORT: PacketRef<'static> = PacketRef::Sr {
+    ssrc: 9,
+    ntp: 0x0000_b705_2000_0000,
+    rtp: 10,
+    packets: 3,
+    octets: 480,
     blocks: &[],
     extension: &[],
 };
@@ -48,16 +60,6 @@ fn octets_of(rt: &impl Abort, packet: PacketRef<'_>) -> Buffer {
     buffer
 }
 
-const REPORT: PacketRef<'static> = PacketRef::Sr {
-    ssrc: 9,
-    ntp: 0x0000_b705_2000_0000,
-    rtp: 10,
-    packets: 3,
-    octets: 480,
-    blocks: &[],
-    extension: &[],
-};
-
 /// The size of a packet is that of its octets, and the header counts.
 #[test]
 fn sizes(rt: HostRuntime) {
@@ -67,7 +69,7 @@ fn sizes(rt: HostRuntime) {
     assert_eq!(rt; REPORT.size(), 28);
 }
 
-/// The last 28 octets of a buffer take a sender report, and 24 take none of it.
+/// The last 28 octets of a buffer hold a sender report, and of one that has 24 left nothing is written.
 #[test]
 fn full(rt: HostRuntime) -> Result<(), Fail> {
     let mut buffer = Buffer::new();
@@ -77,8 +79,13 @@ fn full(rt: HostRuntime) -> Result<(), Fail> {
     assert_eq!(rt;
         &buffer.as_slice()[1_444..],
         [
-            0x80, 0xc8, 0, 6, 0, 0, 0, 9, 0, 0, 0xb7, 5, 0x20, 0, 0, 0, 0, 0, 0, 10, 0, 0, 0, 3, 0,
-            0, 1, 0xe0
+            0x80, 0xc8, 0, 6, // a sender report of seven words, with no blocks
+            0, 0, 0, 9, // its SSRC
+            0, 0, 0xb7, 5, // NTP timestamp, the upper word
+            0x20, 0, 0, 0, // NTP timestamp, the lower word
+            0, 0, 0, 10, // RTP timestamp
+            0, 0, 0, 3, // packets sent
+            0, 0, 1, 0xe0, // octets sent
         ]
         .as_slice()
     );
@@ -88,12 +95,12 @@ fn full(rt: HostRuntime) -> Result<(), Fail> {
     assert_eq!(rt; buffer.as_slice(), [7; 1_448].as_slice());
     assert_eq!(rt;
         Full.to_string(rt.alloc())?.as_str(),
-        "the compound does not fit"
+        "packets do not fit in the buffer"
     );
     Ok(())
 }
 
-/// A report and the CNAME `a` are the example at the head of the crate, and are read back.
+/// A report and the CNAME `a` are written as the example at the head of the crate, and are read back.
 #[test]
 fn named(rt: HostRuntime) -> Result<(), Fail> {
     let items = [ItemRef {
@@ -127,7 +134,7 @@ fn named(rt: HostRuntime) -> Result<(), Fail> {
     Ok(())
 }
 
-/// No packets are no octets.
+/// Of no packets nothing is written.
 #[test]
 fn nothing(rt: HostRuntime) {
     let mut buffer = Buffer::new();
@@ -147,8 +154,15 @@ fn block_and_extension(rt: HostRuntime) -> Result<(), Fail> {
     assert_eq!(rt;
         buffer.as_slice(),
         [
-            0x81, 0xc9, 0, 8, 0, 0, 0, 7, 0, 0, 0, 9, 25, 0xff, 0xff, 0xfe, 0, 1, 0, 2, 0, 0, 0,
-            10, 0xb7, 5, 0x20, 0, 0, 5, 0x40, 0, 1, 2, 3, 4,
+            0x81, 0xc9, 0, 8, // a receiver report of nine words, with one block
+            0, 0, 0, 7, // its SSRC
+            0, 0, 0, 9, // the block's SSRC
+            25, 0xff, 0xff, 0xfe, // fraction lost 25, packets lost -2
+            0, 1, 0, 2, // highest sequence number: cycle 1, number 2
+            0, 0, 0, 10, // jitter
+            0xb7, 5, 0x20, 0, // LSR
+            0, 5, 0x40, 0, // DLSR
+            1, 2, 3, 4, // extension
         ]
         .as_slice()
     );
@@ -169,11 +183,21 @@ fn goodbyes(rt: HostRuntime) {
     let with = |reason| PacketRef::Bye { ids: &[9], reason };
     assert_eq!(rt;
         octets_of(&rt, with(Some(b"bye"))).as_slice(),
-        [0x81, 0xcb, 0, 2, 0, 0, 0, 9, 3, b'b', b'y', b'e'].as_slice()
+        [
+            0x81, 0xcb, 0, 2, // a goodbye of three words, of one source
+            0, 0, 0, 9, // its SSRC
+            3, b'b', b'y', b'e', // a reason of three octets
+        ]
+        .as_slice()
     );
     assert_eq!(rt;
         octets_of(&rt, with(Some(b""))).as_slice(),
-        [0x81, 0xcb, 0, 2, 0, 0, 0, 9, 0, 0, 0, 0].as_slice()
+        [
+            0x81, 0xcb, 0, 2, // a goodbye of three words, of one source
+            0, 0, 0, 9, // its SSRC
+            0, 0, 0, 0, // a reason of no octets, and its fill
+        ]
+        .as_slice()
     );
     assert_eq!(rt;
         octets_of(&rt, with(None)).as_slice(),
@@ -192,7 +216,10 @@ fn application_and_other(rt: HostRuntime) {
     assert_eq!(rt;
         octets_of(&rt, packet).as_slice(),
         [
-            0x9f, 0xcc, 0, 3, 0, 0, 0, 9, b't', b'e', b's', b't', 1, 2, 3, 4
+            0x9f, 0xcc, 0, 3, // an application's packet of four words, with subtype 31
+            0, 0, 0, 9, // its SSRC
+            b't', b'e', b's', b't', // its name
+            1, 2, 3, 4, // its data
         ]
         .as_slice()
     );

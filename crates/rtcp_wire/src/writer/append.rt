@@ -1,4 +1,4 @@
-//! Octets behind those that stand in a buffer.
+//! Octets and numbers, appended to a buffer that has room for them.
 
 ghost use Rattle.std.specs.Prelude.{◌≡◌, ◌+◌, ◌≤◌, ◌<◌, ◌^◌, ◌++◌, ◌∷◌, [], length};
 ghost use Rattle.std.specs.Int.{w64};
@@ -11,15 +11,6 @@ use crate::writer::size::fill_size;
 use arrayvec::ArrayVec;
 use byteorder::{BigEndian, ByteOrder};
 
-/// Appends the octets, for which there is room.
-pub(super) fn append(buffer: &mut ArrayVec<u8, MAX_COMPOUND>, octets: &[u8])
-    requires { array_vec_len buffer.old + length octets.now ≤ 1472 }
-    ensures { buffer.new.items ≡ buffer.old.items ++ octets.now }
-{
-    let fits = buffer.try_extend_from_slice(octets).is_ok();
-    prove!(fits);
-}
-
 /// Appends a number of 16 bits.
 pub(super) fn append_u16(buffer: &mut ArrayVec<u8, MAX_COMPOUND>, number: u16)
     requires { array_vec_len buffer.old + 2 ≤ 1472 }
@@ -30,7 +21,7 @@ pub(super) fn append_u16(buffer: &mut ArrayVec<u8, MAX_COMPOUND>, number: u16)
     append(buffer, &octets);
 }
 
-/// Appends the low 24 bits of a signed number.
+/// Appends the low 24 bits of a signed number, in two's complement.
 pub(super) fn append_i24(buffer: &mut ArrayVec<u8, MAX_COMPOUND>, number: i32)
     requires { array_vec_len buffer.old + 3 ≤ 1472 }
     ensures { buffer.new.items ≡ buffer.old.items ++ big_bytes 3 (low_bytes w64 3 number) }
@@ -62,11 +53,20 @@ pub(super) fn append_u64(buffer: &mut ArrayVec<u8, MAX_COMPOUND>, number: u64)
     append(buffer, &octets);
 }
 
-/// Appends zeros up to the end of a word, behind `size` octets.
+/// Appends the zeros that fill the last word after `size` octets.
 pub(super) fn append_fill(buffer: &mut ArrayVec<u8, MAX_COMPOUND>, size: usize)
     requires { array_vec_len buffer.old + length (fill_behind size) ≤ 1472 }
     ensures { buffer.new.items ≡ buffer.old.items ++ fill_behind size }
 {
     let zeros = [0; 3];
     append(buffer, &zeros[..fill_size(size)]);
+}
+
+/// Appends octets.
+pub(super) fn append(buffer: &mut ArrayVec<u8, MAX_COMPOUND>, octets: &[u8])
+    requires { array_vec_len buffer.old + length octets.now ≤ 1472 }
+    ensures { buffer.new.items ≡ buffer.old.items ++ octets.now }
+{
+    let fits = buffer.try_extend_from_slice(octets).is_ok();
+    prove!(fits);
 }

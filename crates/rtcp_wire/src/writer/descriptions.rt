@@ -12,22 +12,17 @@ use crate::writer::refs::{ChunkRef, ItemRef};
 use crate::writer::size::items_size;
 use arrayvec::ArrayVec;
 
-fn append_item(buffer: &mut ArrayVec<u8, MAX_COMPOUND>, item: &ItemRef<'_>)
-    requires writable { IsWritableItem (item_ref_of item.now) }
-    requires room { array_vec_len buffer.old + length (written_item (item_ref_of item.now)) ≤ 1472 }
-    ensures { buffer.new.items ≡ buffer.old.items ++ written_item (item_ref_of item.now) }
+/// Appends the chunks of a source description.
+pub(super) fn append_chunks(buffer: &mut ArrayVec<u8, MAX_COMPOUND>, chunks: &[ChunkRef<'_>])
+    requires writable { All IsWritableChunk (map chunk_ref_of chunks.now) }
+    requires room { array_vec_len buffer.old
+        + length (flat_map written_chunk (map chunk_ref_of chunks.now)) ≤ 1472 }
+    ensures octets { buffer.new.items ≡
+        buffer.old.items ++ flat_map written_chunk (map chunk_ref_of chunks.now) }
+    ensures in_range { All IsChunkInRange (map chunk_ref_of chunks.now) }
 {
-    append(buffer, &[item.kind, item.text.len() as u8]);
-    append(buffer, item.text);
-}
-
-fn append_items(buffer: &mut ArrayVec<u8, MAX_COMPOUND>, items: &[ItemRef<'_>])
-    requires writable { All IsWritableItem (map item_ref_of items.now) }
-    requires room { array_vec_len buffer.old + length (flat_map written_item (map item_ref_of items.now)) ≤ 1472 }
-    ensures { buffer.new.items ≡ buffer.old.items ++ flat_map written_item (map item_ref_of items.now) }
-{
-    for item in items {
-        append_item(buffer, item);
+    for chunk in chunks {
+        append_chunk(buffer, chunk);
     }
 }
 
@@ -43,14 +38,22 @@ fn append_chunk(buffer: &mut ArrayVec<u8, MAX_COMPOUND>, chunk: &ChunkRef<'_>)
     append_fill(buffer, items_size(chunk.items) + 1);
 }
 
-/// Appends the chunks of a source description.
-pub(super) fn append_chunks(buffer: &mut ArrayVec<u8, MAX_COMPOUND>, chunks: &[ChunkRef<'_>])
-    requires writable { All IsWritableChunk (map chunk_ref_of chunks.now) }
-    requires room { array_vec_len buffer.old + length (flat_map written_chunk (map chunk_ref_of chunks.now)) ≤ 1472 }
-    ensures octets { buffer.new.items ≡ buffer.old.items ++ flat_map written_chunk (map chunk_ref_of chunks.now) }
-    ensures in_range { All IsChunkInRange (map chunk_ref_of chunks.now) }
+fn append_items(buffer: &mut ArrayVec<u8, MAX_COMPOUND>, items: &[ItemRef<'_>])
+    requires writable { All IsWritableItem (map item_ref_of items.now) }
+    requires room { array_vec_len buffer.old
+        + length (flat_map written_item (map item_ref_of items.now)) ≤ 1472 }
+    ensures { buffer.new.items ≡ buffer.old.items ++ flat_map written_item (map item_ref_of items.now) }
 {
-    for chunk in chunks {
-        append_chunk(buffer, chunk);
+    for item in items {
+        append_item(buffer, item);
     }
+}
+
+fn append_item(buffer: &mut ArrayVec<u8, MAX_COMPOUND>, item: &ItemRef<'_>)
+    requires writable { IsWritableItem (item_ref_of item.now) }
+    requires room { array_vec_len buffer.old + length (written_item (item_ref_of item.now)) ≤ 1472 }
+    ensures { buffer.new.items ≡ buffer.old.items ++ written_item (item_ref_of item.now) }
+{
+    append(buffer, &[item.kind, item.text.len() as u8]);
+    append(buffer, item.text);
 }

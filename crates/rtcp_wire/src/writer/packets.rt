@@ -5,7 +5,9 @@ ghost use Rattle.arrayvec.specs.ArrayVec.{array_vec_len};
 ghost use Rattle.rtcp_wire.specs.WriterViews.{packet_ref_of, packet_refs_of};
 ghost use Rattle.rtcp_wire.specs.Writing.{written_count, written_type, written_body, written, written_all, HasWritableParts, IsWritable, IsInRange};
 
-use crate::header::{APPLICATION, GOODBYE, RECEIVER_REPORT, SENDER_REPORT, SOURCE_DESCRIPTION};
+use crate::layout::{
+    APPLICATION, GOODBYE, RECEIVER_REPORT, SENDER_REPORT, SOURCE_DESCRIPTION, VERSION, WORD_SIZE,
+};
 use crate::writer::MAX_COMPOUND;
 use crate::writer::append::{append, append_u16, append_u32, append_u64};
 use crate::writer::descriptions::append_chunks;
@@ -15,10 +17,33 @@ use crate::writer::reports::append_blocks;
 use crate::writer::size::body_size;
 use arrayvec::ArrayVec;
 
-/// The version 2, in its place in a header's first octet.
-const VERSION: u8 = 128;
+/// The version in its place, the upper two bits of a header's first octet (RFC 3550, 6.4.1).
+const VERSION_BITS: u8 = VERSION << 6;
 
-/// What the header's five bits say.
+/// Appends packets, one after the other.
+pub(super) fn append_packets(buffer: &mut ArrayVec<u8, MAX_COMPOUND>, packets: &[PacketRef<'_>])
+    requires writable { All IsWritable (packet_refs_of packets.now) }
+    requires room { array_vec_len buffer.old + length (written_all (packet_refs_of packets.now)) ≤ 1472 }
+    ensures octets { buffer.new.items ≡ buffer.old.items ++ written_all (packet_refs_of packets.now) }
+    ensures in_range { All IsInRange (packet_refs_of packets.now) }
+{
+    for packet in packets {
+        append_packet(buffer, packet);
+    }
+}
+
+fn append_packet(buffer: &mut ArrayVec<u8, MAX_COMPOUND>, packet: &PacketRef<'_>)
+    requires writable { IsWritable (packet_ref_of packet.now) }
+    requires room { array_vec_len buffer.old + length (written (packet_ref_of packet.now)) ≤ 1472 }
+    ensures octets { buffer.new.items ≡ buffer.old.items ++ written (packet_ref_of packet.now) }
+    ensures in_range { IsInRange (packet_ref_of packet.now) }
+{
+    append(buffer, &[VERSION_BITS + count_of(packet), kind_of(packet)]);
+    append_u16(buffer, (body_size(packet) / WORD_SIZE) as u16);
+    append_body(buffer, packet);
+}
+
+/// What the five bits of the header say: a count, or a subtype.
 fn count_of(packet: &PacketRef<'_>) -> u8
     requires { HasWritableParts (packet_ref_of packet.now) }
     ensures value { result ≡ written_count (packet_ref_of packet.now) }
@@ -45,14 +70,6 @@ fn kind_of(packet: &PacketRef<'_>) -> u8
         PacketRef::App { .. } => APPLICATION,
         PacketRef::Other { kind, .. } => kind,
     }
-}
-
-fn append_name(buffer: &mut ArrayVec<u8, MAX_COMPOUND>, name: [u8; 4])
-    requires { array_vec_len buffer.old + length name ≤ 1472 }
-    ensures octets { buffer.new.items ≡ buffer.old.items ++ name }
-    ensures in_range { length name ≡ 4 }
-{
-    append(buffer, &name);
 }
 
 fn append_body(buffer: &mut ArrayVec<u8, MAX_COMPOUND>, packet: &PacketRef<'_>)
@@ -107,25 +124,10 @@ fn append_body(buffer: &mut ArrayVec<u8, MAX_COMPOUND>, packet: &PacketRef<'_>)
     }
 }
 
-fn append_packet(buffer: &mut ArrayVec<u8, MAX_COMPOUND>, packet: &PacketRef<'_>)
-    requires writable { IsWritable (packet_ref_of packet.now) }
-    requires room { array_vec_len buffer.old + length (written (packet_ref_of packet.now)) ≤ 1472 }
-    ensures octets { buffer.new.items ≡ buffer.old.items ++ written (packet_ref_of packet.now) }
-    ensures in_range { IsInRange (packet_ref_of packet.now) }
+fn append_name(buffer: &mut ArrayVec<u8, MAX_COMPOUND>, name: [u8; 4])
+    requires { array_vec_len buffer.old + length name ≤ 1472 }
+    ensures octets { buffer.new.items ≡ buffer.old.items ++ name }
+    ensures in_range { length name ≡ 4 }
 {
-    append(buffer, &[VERSION + count_of(packet), kind_of(packet)]);
-    append_u16(buffer, (body_size(packet) / 4) as u16);
-    append_body(buffer, packet);
-}
-
-/// Appends packets, one after the other.
-pub(super) fn append_packets(buffer: &mut ArrayVec<u8, MAX_COMPOUND>, packets: &[PacketRef<'_>])
-    requires writable { All IsWritable (packet_refs_of packets.now) }
-    requires room { array_vec_len buffer.old + length (written_all (packet_refs_of packets.now)) ≤ 1472 }
-    ensures octets { buffer.new.items ≡ buffer.old.items ++ written_all (packet_refs_of packets.now) }
-    ensures in_range { All IsInRange (packet_refs_of packets.now) }
-{
-    for packet in packets {
-        append_packet(buffer, packet);
-    }
+    append(buffer, &name);
 }

@@ -11,6 +11,19 @@ use crate::writer::MAX_COMPOUND;
 use crate::writer::append::{append, append_i24, append_u32};
 use arrayvec::ArrayVec;
 
+/// Appends the blocks of a report.
+pub(super) fn append_blocks(buffer: &mut ArrayVec<u8, MAX_COMPOUND>, blocks: &[Block])
+    requires { array_vec_len buffer.old
+        + length (flat_map written_block (map block_value blocks.now)) ≤ 1472 }
+    ensures octets { buffer.new.items ≡
+        buffer.old.items ++ flat_map written_block (map block_value blocks.now) }
+    ensures in_range { All IsBlockInRange (map block_value blocks.now) }
+{
+    for block in blocks {
+        append_block(buffer, block);
+    }
+}
+
 fn append_block(buffer: &mut ArrayVec<u8, MAX_COMPOUND>, block: &Block)
     requires { array_vec_len buffer.old + length (written_block (block_value block.now)) ≤ 1472 }
     ensures octets { buffer.new.items ≡ buffer.old.items ++ written_block (block_value block.now) }
@@ -23,15 +36,4 @@ fn append_block(buffer: &mut ArrayVec<u8, MAX_COMPOUND>, block: &Block)
     append_u32(buffer, block.jitter);
     append_u32(buffer, block.lsr);
     append_u32(buffer, block.dlsr);
-}
-
-/// Appends the blocks of a report.
-pub(super) fn append_blocks(buffer: &mut ArrayVec<u8, MAX_COMPOUND>, blocks: &[Block])
-    requires { array_vec_len buffer.old + length (flat_map written_block (map block_value blocks.now)) ≤ 1472 }
-    ensures octets { buffer.new.items ≡ buffer.old.items ++ flat_map written_block (map block_value blocks.now) }
-    ensures in_range { All IsBlockInRange (map block_value blocks.now) }
-{
-    for block in blocks {
-        append_block(buffer, block);
-    }
 }

@@ -6,29 +6,34 @@ ghost use Rattle.rtcp_wire.specs.WriterViews.{item_ref_of, chunk_ref_of, packet_
 ghost use Rattle.rtcp_wire.specs.Writing.{IsWords, IsWritableBlock, IsWritableItem, IsWritableChunk, IsWritableReason, IsWritableEnd, HasWritableParts, IsWritable};
 
 use crate::block::Block;
-use crate::header::{APPLICATION, SENDER_REPORT};
+use crate::layout::{APPLICATION, HEADER_SIZE, MAX_PACKET, SENDER_REPORT, WORD_SIZE};
 use crate::writer::refs::{ChunkRef, ItemRef, PacketRef};
 use crate::writer::size::body_size;
 
-/// The greatest count that a header's five bits say.
+/// The greatest count or subtype: five bits of the header say it (RFC 3550, 6.4.1).
 const MAX_COUNT: usize = 31;
 
-/// The most octets of a text.
+/// The most octets of the text of an item or a reason: one octet says its length (RFC 3550, 6.5 and 6.6).
 const MAX_TEXT: usize = 255;
 
-/// The least and the greatest number of packets lost that a block says, in 24 bits.
+/// The least number of packets lost that the 24 bits of a block say (RFC 3550, 6.4.1).
 const MIN_LOST: i32 = -8_388_608;
 
+/// The greatest such number.
 const MAX_LOST: i32 = 8_388_607;
 
-/// The most octets of a packet behind its header's word.
-const MAX_BODY: usize = 262_140;
+/// The most octets of a packet's body.
+const MAX_BODY: usize = MAX_PACKET - HEADER_SIZE;
 
 impl PacketRef<'_> {
-    /// Whether the packet can be written: it has at most 31 blocks, chunks or identifiers, a subtype or count of at most 31,
-    /// texts and reasons of at most 255 octets, item types from 1 on, numbers of lost packets from -8,388,608 to 8,388,607,
-    /// extensions, application data and other bodies of whole words, no type from 200 to 204 in `Other`, and at most
-    /// 262,144 octets, which is what the header's length can say (RFC 3550, 6.4 to 6.7).
+    /// Whether the packet can be written (RFC 3550, 6.4 to 6.7). It can if all of these hold:
+    ///
+    /// - It has at most 31 blocks, chunks or identifiers, and its subtype or count is at most 31.
+    /// - Each text and reason has at most 255 octets, and no item has the type 0.
+    /// - Each number of packets lost is from -8,388,608 to 8,388,607.
+    /// - An extension, the data of an application and the body of an `Other` are whole words.
+    /// - The type of an `Other` is below 200 or above 204.
+    /// - The whole packet has at most 262,144 octets, so that its header can say its length.
     pub fn is_writable(&self) -> bool
         ensures { IsTrue result ↔ IsWritable (packet_ref_of self.now) }
     {
@@ -61,22 +66,10 @@ fn has_writable_parts(packet: &PacketRef<'_>) -> bool
     }
 }
 
-fn is_words(octets: &[u8]) -> bool
-    ensures { IsTrue result ↔ IsWords octets.now }
-{
-    octets.len() % 4 == 0
-}
-
 fn is_writable_end(blocks: &[Block], extension: &[u8]) -> bool
     ensures { IsTrue result ↔ IsWritableEnd (map block_value blocks.now) extension.now }
 {
     blocks.len() <= MAX_COUNT && are_writable_blocks(blocks) && is_words(extension)
-}
-
-fn is_writable_block(block: &Block) -> bool
-    ensures { IsTrue result ↔ IsWritableBlock (block_value block.now) }
-{
-    MIN_LOST <= block.lost && block.lost <= MAX_LOST
 }
 
 fn are_writable_blocks(blocks: &[Block]) -> bool
@@ -90,21 +83,10 @@ fn are_writable_blocks(blocks: &[Block]) -> bool
     true
 }
 
-fn is_writable_item(item: &ItemRef<'_>) -> bool
-    ensures { IsTrue result ↔ IsWritableItem (item_ref_of item.now) }
+fn is_writable_block(block: &Block) -> bool
+    ensures { IsTrue result ↔ IsWritableBlock (block_value block.now) }
 {
-    item.kind != 0 && item.text.len() <= MAX_TEXT
-}
-
-fn are_writable_items(items: &[ItemRef<'_>]) -> bool
-    ensures { IsTrue result ↔ All IsWritableItem (map item_ref_of items.now) }
-{
-    for item in items {
-        if !is_writable_item(item) {
-            return false;
-        }
-    }
-    true
+    MIN_LOST <= block.lost && block.lost <= MAX_LOST
 }
 
 fn are_writable_chunks(chunks: &[ChunkRef<'_>]) -> bool
@@ -118,6 +100,23 @@ fn are_writable_chunks(chunks: &[ChunkRef<'_>]) -> bool
     true
 }
 
+fn are_writable_items(items: &[ItemRef<'_>]) -> bool
+    ensures { IsTrue result ↔ All IsWritableItem (map item_ref_of items.now) }
+{
+    for item in items {
+        if !is_writable_item(item) {
+            return false;
+        }
+    }
+    true
+}
+
+fn is_writable_item(item: &ItemRef<'_>) -> bool
+    ensures { IsTrue result ↔ IsWritableItem (item_ref_of item.now) }
+{
+    item.kind != 0 && item.text.len() <= MAX_TEXT
+}
+
 fn is_writable_reason(reason: Option<&[u8]>) -> bool
     ensures { IsTrue result ↔ IsWritableReason (option_copied reason.entry) }
 {
@@ -125,4 +124,10 @@ fn is_writable_reason(reason: Option<&[u8]>) -> bool
         Some(text) => text.len() <= MAX_TEXT,
         None => true,
     }
+}
+
+fn is_words(octets: &[u8]) -> bool
+    ensures { IsTrue result ↔ IsWords octets.now }
+{
+    octets.len() % WORD_SIZE == 0
 }

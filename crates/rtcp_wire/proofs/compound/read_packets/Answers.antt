@@ -8,8 +8,8 @@ use Rattle.rtcp_wire.specs.declared.packet.Packet.{Packet}
 use Rattle.rtcp_wire.proofs.ReadingCompounds.{HasRead, TakesNext, place_is, read_more, read_whole, error_refused, error_prompt, kept_prompt}
 use Rattle.rtcp_wire.proofs.compound.read_packets.Goals as goal
 
--- the place that the code computes is where the packet begins
-place_here : (datagram left : List ℕ) (packets : List RtcpPacket) (h : HasRead datagram left packets) (n : ℕ) → n ≡ length left → length datagram - n ≡ length h.front
+-- the offset that the code computes is where the packet begins
+place_here : (datagram left : List ℕ) (packets : List RtcpPacket) (h : HasRead datagram left packets) (n : ℕ) → n ≡ length left → length datagram - n ≡ length h.prefix
 place_here datagram left packets h n is = ap (λ (k : ℕ). length datagram - k) is ∙ place_is datagram left packets h
 
 -- the packet was read as the first one exactly where nothing stands before it

@@ -1,5 +1,4 @@
--- What sound octets say is computed from them.
-use Rattle.rtcp_wire.proofs.RtpFaults.{one_head}
+use Rattle.rtcp_wire.proofs.LawLemmas.{one_head}
 use Rattle.rtcp_wire.proofs.rtp_laws.one_head.Goals as goal
 
 pub returns : goal.returns

@@ -1,6 +1,5 @@
--- The first row that finds a fault is one.
-use Rattle.rtcp_wire.proofs.RtpFaults.{one_fault}
+use Rattle.rtcp_wire.proofs.LawLemmas.{one_rtp_fault}
 use Rattle.rtcp_wire.proofs.rtp_laws.one_rtp_fault.Goals as goal
 
 pub returns : goal.returns
-returns c = one_fault
+returns c = one_rtp_fault

@@ -1,5 +1,4 @@
--- The header says what stands behind it, and that is a body of the packet.
-use Rattle.rtcp_wire.proofs.WrittenPackets.{written_is_spelling}
+use Rattle.rtcp_wire.proofs.LawLemmas.{written_is_spelling}
 use Rattle.rtcp_wire.proofs.write_laws.written_is_spelling.Goals as goal
 
 pub returns : goal.returns

@@ -26,6 +26,3 @@ returns-in-Bye c =
     let reason = option_copied c.in-Bye.reason in
     let few = rw c.in-Bye.is at c.requires in
     rw c.in-Bye.is (omega (arith, c.reason_size.ensures.value, c.reason_size.ensures.few, length-append (flat_map written_word ids) (written_reason reason), ids_size ids, few.0))
-
-pub returns-in-App : goal.returns-in-App
-returns-in-App c = rw c.in-App.is (omega (arith, c.capped_sum-in-App.ensures, c.name_size.ensures.value, c.name_size.ensures.word, length-append c.in-App.name c.in-App.data.now))

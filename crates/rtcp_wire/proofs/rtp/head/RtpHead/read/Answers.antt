@@ -5,7 +5,7 @@ use Rattle.byteorder.specs.Endian.{big_number}
 use Rattle.rtcp_wire.specs.declared.rtp.fault.RtpFault.TheVariants.{Short, Version, PayloadType, Extension, Padding}
 use Rattle.rtcp_wire.specs.RtpHeads.{RtpValue, rtp_version_of, has_padding, has_extension, csrc_count_of, marker_of, payload_type_of, IsReserved, IsRtpHead, IsRtpFault, csrcs_in, lists_size}
 use Rattle.rtcp_wire.proofs.RtpFaults.{same_fault, one_head, one_fault, never_both, is_short, is_version, is_payload_type}
-use Rattle.rtcp_wire.proofs.ReadingRtp.{HasRoom, has_room, behind_list, list_taken, few_csrcs, free_type, IsBeforeExtension, extension_exit, IsBeforePadding, extension_passed, padding_exit, head_read}
+use Rattle.rtcp_wire.proofs.ReadingRtp.{HasRoom, has_room, after_list, list_taken, few_csrcs, free_type, IsBeforeExtension, extension_exit, IsBeforePadding, extension_passed, padding_exit, head_read}
 use Rattle.rtcp_wire.proofs.rtp.head.RtpHead.read.Goals as goal
 use Rattle.rtcp_wire.proofs.rtp.head.RtpHead.read.Goals.{After-left, After-rest, In_ok-rest}
 
@@ -31,7 +31,7 @@ before_extension c room =
       version = sym (fixed.version ∙ ap rtp_version_of made) ∙ c.if-fixed-ne-VERSION.false;
       not_reserved = free_type octets c.take_fixed-fixed.result.payload_type (fixed.payload_type ∙ ap payload_type_of made) c.else-fixed-ge-FIRST_RESERVED.either;
       bit = fixed.has_extension ∙ ap has_extension made;
-      behind = c.rest.ensures ∙ c.take-csrcs.ensures.rest ∙ behind_list octets c.take_fixed-fixed.new.reader (4 * c.from-csrcs_size.result) room;
+      following = c.rest.ensures ∙ c.take-csrcs.ensures.rest ∙ after_list octets c.take_fixed-fixed.new.reader (4 * c.from-csrcs_size.result) room;
     }
 
 -- And so was the extension.
