@@ -5,7 +5,7 @@ use Rattle.std.proofs.lemmas.List.Elements.{All-cons}
 use Rattle.rtcp_wire.specs.Values.{ReportBlock, RtcpPacket, rr}
 use Rattle.rtcp_wire.specs.Grammar.{IsAccepted}
 use Rattle.rtcp_wire.specs.Writing.{written_all, IsWritable, IsWritableBlock, IsWritableItem, IsWritableChunk}
-use Rattle.rtcp_wire.proofs.WritableReports.{receiver_writable, sender_writable}
+use Rattle.rtcp_wire.proofs.LawLemmas.{reports_are_writable-receiver, reports_are_writable-sender}
 use Rattle.rtcp_report.specs.Reports.{SentValue, Reporter, report_with, further_count, further_reports, reports_with, description_of}
 use Rattle.rtcp_report.specs.Sizes.{description_size}
 use Rattle.rtcp_report.proofs.ReportSizes.{description_length}
@@ -55,8 +55,8 @@ accepted_of octets packets others same is = subst (IsAccepted octets) (sym same)
 -- ---- Packets that can be written
 
 pub report_writable : (ssrc : ℕ) (sent : Option SentValue) (blocks : List ReportBlock) → length blocks ≤ 31 → All IsWritableBlock blocks → IsWritable (report_with ssrc sent blocks)
-report_writable ssrc None blocks few can = receiver_writable ssrc blocks few can
-report_writable ssrc (Some sent) blocks few can = sender_writable _ blocks few can
+report_writable ssrc None blocks few can = reports_are_writable-receiver ssrc blocks few can
+report_writable ssrc (Some sent) blocks few can = reports_are_writable-sender _ blocks few can
 
 none_left : All IsWritable []
 none_left i d less = absurd (omega (arith, less))

@@ -4,9 +4,9 @@ use Rattle.std.proofs.lemmas.List.{length-append, length-replicate, length-take,
 use Rattle.std.proofs.lemmas.List.Sums.{sum_by-cons}
 use Rattle.std.proofs.lemmas.List.Concat.{flat_map-append}
 use Rattle.std.specs.List.{flat_map}
-use Rattle.rtcp_wire.specs.Values.{ReportBlock, ItemValue, RtcpPacket, ChunkValue, rr}
-use Rattle.rtcp_wire.specs.Writing.{fill_behind, written_block, written_item, written_chunk, written, written_all}
-use Rattle.rtcp_wire.proofs.Appending.{same_size}
+use Rattle.rtcp_wire.specs.Values.{ReportBlock, SenderValue, ItemValue, RtcpPacket, ChunkValue, rr}
+use Rattle.rtcp_wire.specs.Writing.{fill_behind, written_item, written_chunk, written, written_all}
+use Rattle.rtcp_wire.proofs.LawLemmas.{sizes_add_up-receiver, sizes_add_up-sender}
 use Rattle.rtcp_report.specs.Reports.{SentValue, Reporter, report_with, further_count, further_reports, reports_with, description_of, packets_with}
 use Rattle.rtcp_report.specs.Sizes.{first_report_size, item_size, description_size, report_size}
 
@@ -36,21 +36,17 @@ description_length reporter =
 
 -- ---- Reports
 
-blocks_length : (blocks : List ReportBlock) → length (flat_map written_block blocks ++ []) ≡ 24 * length blocks
-blocks_length blocks = omega (arith, length-append (flat_map written_block blocks) [], same_size written_block 24 (λ x. refl) blocks)
-
-receiver_length : (ssrc : ℕ) (blocks : List ReportBlock) → length (written (rr ssrc blocks [])) ≡ 8 + 24 * length blocks
-receiver_length ssrc blocks = omega (arith, blocks_length blocks)
-
 report_length : (ssrc : ℕ) (sent : Option SentValue) (blocks : List ReportBlock) → length (written (report_with ssrc sent blocks)) ≡ first_report_size sent + 24 * length blocks
-report_length ssrc None blocks = receiver_length ssrc blocks
-report_length ssrc (Some sent) blocks = omega (arith, blocks_length blocks)
+report_length ssrc None blocks = sizes_add_up-receiver ssrc blocks
+report_length ssrc (Some sent) blocks =
+    let sender : SenderValue = record { ssrc = ssrc; ntp = sent.ntp; rtp = sent.rtp; packets = sent.packets; octets = sent.octets } in
+    sizes_add_up-sender sender blocks
 
 further_length : (ssrc count : ℕ) (blocks : List ReportBlock) → length blocks ≤ 31 * count → length (written_all (further_reports ssrc count blocks)) ≡ 8 * count + 24 * length blocks
 further_length ssrc zero blocks few = omega (arith, few)
 further_length ssrc (suc count) blocks few =
     let rest = further_length ssrc count (drop 31 blocks) (omega (arith, few, length-drop 31 blocks)) in
-    omega (arith, length-append (written (rr ssrc (take 31 blocks) [])) (written_all (further_reports ssrc count (drop 31 blocks))), receiver_length ssrc (take 31 blocks), rest, length-take 31 blocks, length-drop 31 blocks)
+    omega (arith, length-append (written (rr ssrc (take 31 blocks) [])) (written_all (further_reports ssrc count (drop 31 blocks))), sizes_add_up-receiver ssrc (take 31 blocks), rest, length-take 31 blocks, length-drop 31 blocks)
 
 enough : (blocks : ℕ) → blocks - 31 ≤ 31 * further_count blocks
 enough blocks = omega arith

@@ -1,7 +1,6 @@
 -- The text of a check is one text, since each line has one fault or one answer.
 use Rattle.std.proofs.Common.{◌≡◌, ℕ, ◌+◌, inl, inr, List, [], ◌∷◌, ◌++◌, Option, Some, refl, sym, ◌∙◌, ap, subst, arith}
-use Rattle.rtcp_wire.proofs.Refusals.{never_both, one_fault}
-use Rattle.rtcp_wire.proofs.Spellings.{one_reading}
+use Rattle.rtcp_wire.proofs.LawLemmas.{accepted_or_faulty-never_both, one_fault, one_reading}
 use Rattle.rtcp_run.specs.declared.fault.LineFault.{LineFault}
 use Rattle.rtcp_run.specs.declared.fault.LineFault.TheVariants.{LineTooLong, TooManyLines, Hex}
 use Rattle.rtcp_run.specs.Check.{IsAnswer, IsLine, IsLineFault, IsCheckText}
@@ -26,8 +25,8 @@ no_line n line octets Hex h k = let failed = rw k.2 at h.2 in cc
 
 one_answer : (octets text text' : List ℕ) → IsAnswer octets text → IsAnswer octets text' → text ≡ text'
 one_answer octets text text' (inl h) (inl k) = h.2 ∙ ap accepted_text (one_reading octets h.0 k.0 h.1 k.1) ∙ sym k.2
-one_answer octets text text' (inl h) (inr k) = absurd (never_both octets h.0 k.0 h.1 k.1)
-one_answer octets text text' (inr h) (inl k) = absurd (never_both octets k.0 h.0 k.1 h.1)
+one_answer octets text text' (inl h) (inr k) = absurd (accepted_or_faulty-never_both octets h.0 k.0 h.1 k.1)
+one_answer octets text text' (inr h) (inl k) = absurd (accepted_or_faulty-never_both octets k.0 h.0 k.1 h.1)
 one_answer octets text text' (inr h) (inr k) = h.2 ∙ ap fault_text (one_fault octets h.0 k.0 h.1 k.1) ∙ sym k.2
 
 pub one_check_text : (n : ℕ) (lines : List (List ℕ)) (text text' : List ℕ) (end end' : Option (ℕ × LineFault))

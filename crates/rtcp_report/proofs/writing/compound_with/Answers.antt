@@ -6,7 +6,7 @@ use Rattle.rtcp_wire.specs.Values.{ReportBlock, RtcpPacket, rr}
 use Rattle.rtcp_wire.specs.declared.block.Block.{Block}
 use Rattle.rtcp_wire.specs.Views.{block_value}
 use Rattle.rtcp_wire.specs.Writing.{IsWritable, IsWritableBlock}
-use Rattle.rtcp_wire.proofs.WritableReports.{receiver_writable}
+use Rattle.rtcp_wire.proofs.LawLemmas.{reports_are_writable-receiver}
 use Rattle.rtcp_report.specs.declared.sender.Sender.{Sender}
 use Rattle.rtcp_report.specs.Reports.{report_with}
 use Rattle.rtcp_report.specs.Views.{sent_value, reports_of}
@@ -41,7 +41,7 @@ front_writable blocks prefix is can =
 
 others_writable : (s : Sender) (blocks others : List Block) → length blocks ≤ 60 → others ≡ drop 31 blocks → All IsWritableBlock (values blocks) → IsWritable (rr s.ssrc (values others) [])
 others_writable s blocks others few is can =
-    receiver_writable s.ssrc (values others) (omega (arith, few, length-map others block_value, ap length is, length-drop 31 blocks))
+    reports_are_writable-receiver s.ssrc (values others) (omega (arith, few, length-map others block_value, ap length is, length-drop 31 blocks))
     (subst (λ (b : List ReportBlock). All IsWritableBlock b) (drop-map block_value 31 blocks ∙ sym (ap values is)) (All-drop IsWritableBlock 31 (values blocks) can))
 
 -- ---- At most 31 blocks
