@@ -9,6 +9,7 @@ use Rattle.rtcp_wire.specs.Grammar.{is_padded, IsSpelling, IsAccepted}
 use Rattle.rtcp_wire.specs.Faults.{IsFirstFault}
 use Rattle.rtcp_wire.specs.Facts.{is_media, facts_of}
 use Rattle.rtcp_wire.specs.RtpHeads.{RtpValue, IsRtpHead, IsRtpFault}
+use Rattle.rtcp_wire.specs.Walks.{packets_in}
 use Rattle.rtcp_wire.specs.Writing.{written, written_all, IsWritable, IsInRange, BeginsWithReport, IsWritableBlock}
 use Rattle.rtcp_wire.proofs.NoMedia.{packets_give_none}
 use Rattle.rtcp_wire.proofs.Refusals as refusals
@@ -16,6 +17,7 @@ use Rattle.rtcp_wire.proofs.Reports.{receiver_length, sender_length, receiver_wr
 use Rattle.rtcp_wire.proofs.RtpFaults as rtp
 use Rattle.rtcp_wire.proofs.Spellings as spellings
 use Rattle.rtcp_wire.proofs.Walking.{always_one}
+use Rattle.rtcp_wire.proofs.ReadingWalks.{walk_reads}
 use Rattle.rtcp_wire.proofs.WrittenPackets as writing
 
 -- ---- RTCP (src/laws.rt)
@@ -40,6 +42,10 @@ accepted_or_faulty-always_one = always_one
 
 pub compounds_give_no_media : (packets : List RtcpPacket) → All (λ fact. is_media fact ≡ false) (facts_of packets)
 compounds_give_no_media = packets_give_none
+
+pub walks_read_encodings : (octets : List ℕ) (packets : List RtcpPacket) → IsAccepted octets packets →
+    packets_in octets ≡ packets
+walks_read_encodings octets packets accepted = walk_reads packets octets accepted.joined
 
 -- ---- RTP (src/rtp_laws.rt)
 

@@ -30,4 +30,6 @@ mod Written
 mod WrittenPackets
 mod Reports
 mod NoMedia
+mod ReadingWalks
+mod WalkRows
 pub mod LawLemmas

@@ -9,3 +9,4 @@ pub mod Facts
 pub mod Pending
 pub mod Writing
 pub mod WriterViews
+pub mod Walks

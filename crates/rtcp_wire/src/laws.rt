@@ -6,6 +6,7 @@ ghost use Rattle.std.specs.Prelude.{◌≡◌, ℕ, ◌++◌, ◌⊎◌, false, 
 ghost use Rattle.rtcp_wire.specs.Grammar.{IsSpelling, IsAccepted};
 ghost use Rattle.rtcp_wire.specs.Faults.{IsFirstFault};
 ghost use Rattle.rtcp_wire.specs.Facts.{is_media, facts_of};
+ghost use Rattle.rtcp_wire.specs.Walks.{packets_in};
 ghost use Rattle.rtcp_wire.specs.Values.{RtcpPacket};
 ghost use Rattle.rtcp_wire.specs.declared.fault.WireFault.{WireFault};
 
@@ -38,4 +39,11 @@ pub fn accepted_or_faulty()
 /// RTCP packets say nothing of RTP packets that came: no fact of a compound is `Media`.
 pub fn compounds_give_no_media()
     ensures { (packets : List RtcpPacket) → All (λ fact. is_media fact ≡ false) (facts_of packets) }
+{}
+
+/// Where a datagram is accepted as packets, a walk over its octets reads these (`packets_in`): what it holds can be
+/// computed from the octets alone, packet by packet.
+pub fn walks_read_encodings()
+    ensures { (octets : List ℕ) (packets : List RtcpPacket) → IsAccepted octets packets →
+        packets_in octets ≡ packets }
 {}
