@@ -23,9 +23,9 @@ same_report_end count bs cs x y octets h k =
 -- Under a count a body says one sender report,
 same_sender_report : (v w : SenderValue) (count : ℕ) (bs cs : List ReportBlock) (x y body : List ℕ) → IsSenderReport v bs x count body → IsSenderReport w cs y count body → sr v bs x ≡ sr w cs y
 same_sender_report v w count bs cs x y body h k =
-    let fronts = same_prefixes h.prefix k.prefix h.rest k.rest (h.prefix_size ∙ sym k.prefix_size) (sym h.parts ∙ k.parts) in
-    let ends = same_report_end count bs cs x y h.rest h.ends (subst (λ (t : List ℕ). IsReportEnd cs y count t) (sym fronts.1) k.ends) in
-    let sender : v ≡ w = h.says ∙ ap sender_in fronts.0 ∙ sym k.says in
+    let prefixes = same_prefixes h.prefix k.prefix h.rest k.rest (h.prefix_size ∙ sym k.prefix_size) (sym h.parts ∙ k.parts) in
+    let ends = same_report_end count bs cs x y h.rest h.ends (subst (λ (t : List ℕ). IsReportEnd cs y count t) (sym prefixes.1) k.ends) in
+    let sender : v ≡ w = h.says ∙ ap sender_in prefixes.0 ∙ sym k.says in
     let blocks : bs ≡ cs = ends.0 in
     let extension : x ≡ y = ends.1 in
     cc

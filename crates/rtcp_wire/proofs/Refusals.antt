@@ -72,14 +72,14 @@ same_stop_prefix octets f g h k =
 
 -- a first row at equal offsets
 row_at : (r : FaultReason) (a c x y : List ℕ) → a ≡ c → x ≡ y → IsFirstRow r (length a == 0) x → IsFirstRow r (length c == 0) y
-row_at r a c x y fronts rests h = subst (λ (t : List ℕ). IsFirstRow r (length t == 0) y) fronts (subst (λ (t : List ℕ). IsFirstRow r (length a == 0) t) rests h)
+row_at r a c x y prefixes rests h = subst (λ (t : List ℕ). IsFirstRow r (length t == 0) y) prefixes (subst (λ (t : List ℕ). IsFirstRow r (length a == 0) t) rests h)
 
 -- A datagram stops at one offset for one reason.
 one_stop : (octets : List ℕ) (f g : WireFault) → StopsAt octets f → StopsAt octets g → f ≡ g
 one_stop octets f g h k =
-    let fronts : h.prefix ≡ k.prefix = same_stop_prefix octets f g h k in
-    let rests : h.rest ≡ k.rest = cut_prefix h.prefix k.prefix h.rest k.rest fronts (sym h.parts ∙ k.parts) in
-    same_fault f g (one_row f.reason g.reason (length k.prefix == 0) k.rest (row_at f.reason h.prefix k.prefix h.rest k.rest fronts rests h.row) k.row) (h.place ∙ ap length fronts ∙ sym k.place)
+    let prefixes : h.prefix ≡ k.prefix = same_stop_prefix octets f g h k in
+    let rests : h.rest ≡ k.rest = cut_prefix h.prefix k.prefix h.rest k.rest prefixes (sym h.parts ∙ k.parts) in
+    same_fault f g (one_row f.reason g.reason (length k.prefix == 0) k.rest (row_at f.reason h.prefix k.prefix h.rest k.rest prefixes rests h.row) k.row) (h.place ∙ ap length prefixes ∙ sym k.place)
 
 -- A datagram has one first fault.
 pub one_fault : (octets : List ℕ) (f g : WireFault) → IsFirstFault octets f → IsFirstFault octets g → f ≡ g

@@ -4,8 +4,6 @@ ghost use Rattle.std.specs.Prelude.{◌≡◌};
 ghost use Rattle.rtcp_wire.specs.declared.fault.ReadError.TheVariants.{Memory};
 
 use std::alloc::{AllocError, AllocFailed};
-use std::error::Error as StdError;
-use std::fmt;
 use thiserror::Error;
 
 /// Why a datagram was not read.
@@ -20,7 +18,8 @@ pub enum ReadError {
 }
 
 /// The first fault of a datagram.
-#[derive(Clone, Copy, Debug, PartialEq, Eq)]
+#[derive(Clone, Copy, Debug, PartialEq, Eq, Error)]
+#[error("{reason}, in the packet at octet {place}")]
 pub struct WireFault {
     /// The rule that is broken.
     pub reason: FaultReason,
@@ -70,17 +69,6 @@ pub enum FaultReason {
     #[error("datagram has more than 65,535 octets")]
     TooLong,
 }
-
-impl fmt::Display for WireFault {
-    fn fmt<W: fmt::Write>(&self, f: &mut fmt::Formatter<W>) -> fmt::Result {
-        match self.reason {
-            FaultReason::TooLong => write!(f, "{}", self.reason),
-            reason => write!(f, "{}, in the packet at octet {}", reason, self.place),
-        }
-    }
-}
-
-impl StdError for WireFault {}
 
 impl From<AllocError> for ReadError {
     ghost from_gives = { λ _ e. e ≡ Memory };

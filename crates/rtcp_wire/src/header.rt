@@ -29,7 +29,8 @@ pub(crate) struct Header {
     pub(crate) size: usize,
 }
 
-/// The header of the packet at the start of the octets, which has all of its octets and may stand there.
+/// The header of the packet that begins here, if all of the packet is there and it may be in this position:
+/// a datagram's first packet is a report without padding.
 pub(crate) fn read_header(octets: &[u8], is_first: bool) -> Result<Header, PartError>
     ensures whole { MatchResult result
         (λ _. IsWhole is_first octets.now)

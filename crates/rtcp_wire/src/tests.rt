@@ -55,7 +55,7 @@ fn named_report(rt: HostRuntime) -> Result<(), Fail> {
                     }
                 }
             }
-            _ => panic!(rt; "no other packet stands there"),
+            _ => panic!(rt; "there is no other packet"),
         }
     }
     Ok(())
@@ -145,7 +145,7 @@ fn first_faults(rt: HostRuntime) {
                 0, 0, 0, 7, // its SSRC
                 0x81, 0xca, 0, 2, // a source description of three words, with one chunk
                 0, 0, 0, 7, // the chunk's SSRC
-                1, 5, 0x61, 0, // a CNAME of five octets, of which two stand there
+                1, 5, 0x61, 0, // a CNAME of five octets, but only two follow
             ]
         )
         .err(),
@@ -183,7 +183,7 @@ fn prefixes(rt: HostRuntime) {
     }
 }
 
-/// What the errors say, with the packet's offset unless the whole datagram is at fault.
+/// What the errors say.
 #[test]
 fn messages(rt: HostRuntime) -> Result<(), Fail> {
     for (reason, message) in [
@@ -211,7 +211,6 @@ fn messages(rt: HostRuntime) -> Result<(), Fail> {
             FaultReason::Item,
             "SDES item runs past its body (RFC 3550, 6.5), in the packet at octet 8",
         ),
-        (FaultReason::TooLong, "datagram has more than 65,535 octets"),
     ] {
         let wire = WireFault { reason, place: 8 };
         assert_eq!(rt; wire.to_string(rt.alloc())?.as_str(), message);
@@ -233,6 +232,7 @@ fn messages(rt: HostRuntime) -> Result<(), Fail> {
             FaultReason::Reason,
             "BYE reason does not end in the last word of its body (RFC 3550, 6.6)",
         ),
+        (FaultReason::TooLong, "datagram has more than 65,535 octets"),
     ] {
         assert_eq!(rt; reason.to_string(rt.alloc())?.as_str(), message);
     }

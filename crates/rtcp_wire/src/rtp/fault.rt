@@ -6,7 +6,7 @@ use thiserror::Error;
 #[derive(Clone, Copy, Debug, PartialEq, Eq, Error)]
 pub enum RtpFault {
     /// G1. A packet has a fixed part of 12 octets and the CSRCs that it counts, 4 octets each (RFC 3550,
-    /// 5.1), and fewer octets stand there.
+    /// 5.1), and there are fewer octets.
     #[error("fewer octets than the fixed part and its CSRC list (RFC 3550, 5.1)")]
     Short,
     /// G2. The version is 2 (RFC 3550, 5.1), and this packet has another.

@@ -43,7 +43,7 @@ fn padding(rt: HostRuntime) -> Result<(), Fail> {
         0xa0, 0, 0, 1, // padding bit, payload type 0, sequence number 1
         0, 0, 0, 2, // timestamp
         0, 0, 0, 3, // SSRC
-        1, 3, // three octets of padding, of which two stand there
+        1, 3, // three octets of padding, but there are only two
     ];
     assert_eq!(rt; RtpHead::read(&octets).err(), Some(RtpFault::Padding));
     let octets = [

@@ -73,7 +73,7 @@ fn reason_past_the_end(rt: HostRuntime) -> Result<(), Fail> {
             &[
                 0x81, 0xcb, 0, 2, // a goodbye of three words, of one source
                 0, 0, 0, 7, // its SSRC
-                5, 0x61, 0x62, 0x63, // a reason of five octets, of which three stand there
+                5, 0x61, 0x62, 0x63, // a reason of five octets, but only three follow
             ]
         )?,
         fault(FaultReason::Reason, 8)
