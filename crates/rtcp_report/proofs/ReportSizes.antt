@@ -5,7 +5,7 @@ use Rattle.std.proofs.lemmas.List.Sums.{sum_by-cons}
 use Rattle.std.proofs.lemmas.List.Concat.{flat_map-append}
 use Rattle.std.specs.List.{flat_map}
 use Rattle.rtcp_wire.specs.Values.{ReportBlock, SenderValue, ItemValue, RtcpPacket, ChunkValue, rr}
-use Rattle.rtcp_wire.specs.Writing.{fill_behind, written_item, written_chunk, written, written_all}
+use Rattle.rtcp_wire.specs.Writing.{fill_after, written_item, written_chunk, written, written_all}
 use Rattle.rtcp_wire.proofs.LawLemmas.{sizes_add_up-receiver, sizes_add_up-sender}
 use Rattle.rtcp_report.specs.Reports.{SentValue, Reporter, report_with, further_count, further_reports, reports_with, description_of, packets_with}
 use Rattle.rtcp_report.specs.Sizes.{first_report_size, item_size, description_size, report_size}
@@ -17,7 +17,7 @@ items_length [] = refl
 items_length (item ∷ items) =
     omega (arith, length-append (written_item item) (flat_map written_item items), items_length items, sum_by-cons item_size item items)
 
-fill_length : (size : ℕ) → length (fill_behind size) ≡ (4 - size % 4) % 4
+fill_length : (size : ℕ) → length (fill_after size) ≡ (4 - size % 4) % 4
 fill_length size = length-replicate ((4 - size % 4) % 4) 0
 
 whole_words : (size : ℕ) → size + 1 + (4 - (size + 1) % 4) % 4 ≡ 4 * (size / 4 + 1)
@@ -27,7 +27,7 @@ chunk_length : (chunk : ChunkValue) → length (written_chunk chunk) ≡ 4 + 4 *
 chunk_length chunk =
     let octets : List ℕ = flat_map written_item chunk.items in
     let words : length octets + 1 + (4 - (length octets + 1) % 4) % 4 ≡ 4 * (sum_by item_size chunk.items / 4 + 1) = whole_words (length octets) ∙ ap (λ (n : ℕ). 4 * (n / 4 + 1)) (items_length chunk.items) in
-    omega (arith, words, length-append octets (0 ∷ fill_behind (length octets + 1)), fill_length (length octets + 1))
+    omega (arith, words, length-append octets (0 ∷ fill_after (length octets + 1)), fill_length (length octets + 1))
 
 pub description_length : (reporter : Reporter) → length (written (description_of reporter)) ≡ description_size reporter.items
 description_length reporter =

@@ -3,7 +3,7 @@ use Rattle.std.proofs.Common.{◌≡◌, ℕ, ◌*◌, ◌<◌, ◌≤◌, ◌�
 use Rattle.std.proofs.lemmas.List.{drop-drop, length-drop, length-take-le}
 use Rattle.byteorder.specs.Endian.{big_number}
 use Rattle.rtcp_wire.specs.declared.rtp.fault.RtpFault.TheVariants.{Extension, Padding}
-use Rattle.rtcp_wire.specs.RtpHeads.{RtpValue, rtp_version_of, has_padding, has_extension, csrc_count_of, marker_of, payload_type_of, IsReserved, extension_size, IsRtpHead, lists_size, behind_csrcs, without_extension, behind_extension, csrcs_in, IsRtpFault, IsPadded, without_padding}
+use Rattle.rtcp_wire.specs.RtpHeads.{RtpValue, rtp_version_of, has_padding, has_extension, csrc_count_of, marker_of, payload_type_of, IsReserved, extension_size, IsRtpHead, lists_size, after_csrcs, without_extension, after_extension, csrcs_in, IsRtpFault, IsPadded, without_padding}
 use Rattle.rtcp_wire.proofs.RtpLists.{words_joined}
 use Rattle.rtcp_wire.proofs.RtpHeading.{values_equal, head_in, head_made}
 use Rattle.rtcp_wire.proofs.RtpFaults.{is_extension, is_padding, not_padded}
@@ -18,7 +18,7 @@ pub has_room : (octets reader : List ℕ) (csrcs_size : ℕ) → 12 ≤ length o
 has_room octets reader csrcs_size fixed rest size enough = record { room = omega (arith, ap length rest, length-drop 12 octets); size = size; rest = rest }
 
 -- what is left after the CSRC list
-pub after_list : (octets reader : List ℕ) (csrcs_size : ℕ) → HasRoom octets reader csrcs_size → drop csrcs_size reader ≡ behind_csrcs octets
+pub after_list : (octets reader : List ℕ) (csrcs_size : ℕ) → HasRoom octets reader csrcs_size → drop csrcs_size reader ≡ after_csrcs octets
 after_list octets reader csrcs_size h =
     ap (λ (t : List ℕ). drop csrcs_size t) h.rest ∙ drop-drop csrcs_size 12 octets ∙ ap (λ (n : ℕ). drop n octets) (omega (arith, h.size))
 
@@ -45,7 +45,7 @@ pub record IsBeforeExtension (octets rest : List ℕ) (extended : Bool) : Type 0
   pub version : rtp_version_of octets ≡ 2
   pub not_reserved : IsReserved (payload_type_of octets) → ⊥
   pub bit : extended ≡ has_extension octets
-  pub following : rest ≡ behind_csrcs octets
+  pub following : rest ≡ after_csrcs octets
 
 -- no room for the extension
 pub extension_exit : (octets rest : List ℕ) (extended : Bool) → IsBeforeExtension octets rest extended → extended ≡ true → length rest < extension_size rest → IsRtpFault octets Extension
@@ -57,9 +57,9 @@ pub record IsBeforePadding (octets rest : List ℕ) (padded : Bool) : Type 0 whe
   pub room : lists_size octets ≤ length octets
   pub version : rtp_version_of octets ≡ 2
   pub not_reserved : IsReserved (payload_type_of octets) → ⊥
-  pub extension : has_extension octets ≡ true → extension_size (behind_csrcs octets) ≤ length (behind_csrcs octets)
+  pub extension : has_extension octets ≡ true → extension_size (after_csrcs octets) ≤ length (after_csrcs octets)
   pub bit : padded ≡ has_padding octets
-  pub following : rest ≡ behind_extension octets
+  pub following : rest ≡ after_extension octets
 
 pub extension_passed : (octets rest left : List ℕ) (extended padded : Bool) → IsBeforeExtension octets rest extended → padded ≡ has_padding octets → left ≡ without_extension extended rest → (extended ≡ true → extension_size rest ≤ length rest)
     → IsBeforePadding octets left padded
@@ -76,7 +76,7 @@ extension_passed octets rest left extended padded h bit is room = record {
 pub padding_exit : (octets rest : List ℕ) (padded : Bool) → IsBeforePadding octets rest padded → padded ≡ true → (IsPadded rest → ⊥) → IsRtpFault octets Padding
 padding_exit octets rest padded h set bad =
     is_padding octets h.room h.version h.not_reserved h.extension
-    (sym h.bit ∙ set, not_padded (behind_extension octets) (subst (λ (t : List ℕ). IsPadded t → ⊥) h.following bad))
+    (sym h.bit ∙ set, not_padded (after_extension octets) (subst (λ (t : List ℕ). IsPadded t → ⊥) h.following bad))
 
 -- the packet, where its padding was passed
 pub head_read : (octets rest : List ℕ) (padded : Bool) (head : RtpValue) → IsBeforePadding octets rest padded → (padded ≡ true → IsPadded rest)

@@ -58,8 +58,8 @@ items_read : (items : List ItemValue) (a r : List ℕ) → Joins IsItem items a 
 items_read [] a r h = ap (λ (t : List ℕ). items_after 0 (t ++ 0 ∷ r)) h
 items_read (item ∷ items) a r h =
     let whole : a ++ 0 ∷ r ≡ item.kind ∷ length item.text ∷ (item.text ++ (h.1 ++ 0 ∷ r)) =
-      ap (λ (t : List ℕ). t ++ 0 ∷ r) (h.2 ∙ ap (λ (t : List ℕ). t ++ h.1) h.3.1)
-      ∙ ap (λ (t : List ℕ). item.kind ∷ length item.text ∷ t) (append_assoc item.text h.1 (0 ∷ r)) in
+    ap (λ (t : List ℕ). t ++ 0 ∷ r) (h.2 ∙ ap (λ (t : List ℕ). t ++ h.1) h.3.1)
+    ∙ ap (λ (t : List ℕ). item.kind ∷ length item.text ∷ t) (append_assoc item.text h.1 (0 ∷ r)) in
     ap (items_after 0) whole
     ∙ first_item item (h.1 ++ 0 ∷ r) h.3.0
     ∙ ap (λ (t : List ItemValue). item ∷ t) (items_read items h.1 r h.4)

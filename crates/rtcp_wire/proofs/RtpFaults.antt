@@ -3,7 +3,7 @@ use Rattle.std.proofs.Common.{◌≡◌, ◌≢◌, ℕ, suc, ◌<◌, ◌≤◌
 use Rattle.std.proofs.lemmas.Bool.{cases_lt, cases_eq, cases_order}
 use Rattle.rtcp_wire.specs.declared.rtp.fault.RtpFault.{RtpFault}
 use Rattle.rtcp_wire.specs.declared.rtp.fault.RtpFault.TheVariants.{Short, Version, PayloadType, Extension, Padding}
-use Rattle.rtcp_wire.specs.RtpHeads.{RtpValue, rtp_version_of, has_padding, has_extension, payload_type_of, IsReserved, extension_size, IsRtpHead, lists_size, behind_csrcs, behind_extension, last_of, FindsRtp, rtp_row_of, IsRtpFault, IsPadded}
+use Rattle.rtcp_wire.specs.RtpHeads.{RtpValue, rtp_version_of, has_padding, has_extension, payload_type_of, IsReserved, extension_size, IsRtpHead, lists_size, after_csrcs, after_extension, last_of, FindsRtp, rtp_row_of, IsRtpFault, IsPadded}
 use Rattle.rtcp_wire.proofs.RtpHeading.{head_in, IsSoundRtp, sound_head, head_made}
 
 -- ---- Packets
@@ -19,7 +19,7 @@ sound_faultless octets head h Version found = found h.version
 sound_faultless octets head h PayloadType found = h.not_reserved found
 sound_faultless octets head h Extension found = omega (arith, h.extension found.0, found.1)
 sound_faultless octets head h Padding found =
-    let good : IsPadded (behind_extension octets) = h.padding found.0 in
+    let good : IsPadded (after_extension octets) = h.padding found.0 in
     elim found.1 [
       | inl none ↦ omega (arith, ap length none, good.0, good.1)
       | inr (inl zero) ↦ good.0 zero
@@ -126,7 +126,7 @@ is_extension octets room version free found = record { found = found; no_earlier
 
 -- and before the padding the extension.
 pub is_padding : (octets : List ℕ) → lists_size octets ≤ length octets → rtp_version_of octets ≡ 2 → (IsReserved (payload_type_of octets) → ⊥)
-    → (has_extension octets ≡ true → extension_size (behind_csrcs octets) ≤ length (behind_csrcs octets)) → FindsRtp Padding octets → IsRtpFault octets Padding
+    → (has_extension octets ≡ true → extension_size (after_csrcs octets) ≤ length (after_csrcs octets)) → FindsRtp Padding octets → IsRtpFault octets Padding
 is_padding octets room version free extended found = record {
   found = found;
   no_earlier = next_row Extension octets (before_extension octets room version free) (λ wrong. omega (arith, extended wrong.0, wrong.1));
@@ -175,10 +175,10 @@ IsDecided octets = ((head : RtpValue) × IsRtpHead octets head) ⊎ ((fault : Rt
 -- the tests of the extension and the padding
 from_extension : (octets : List ℕ) → lists_size octets ≤ length octets → rtp_version_of octets ≡ 2 → (IsReserved (payload_type_of octets) → ⊥) → IsDecided octets
 from_extension octets room version free =
-    elim (extension_or_not (has_extension octets) (length (behind_csrcs octets)) (extension_size (behind_csrcs octets))) [
+    elim (extension_or_not (has_extension octets) (length (after_csrcs octets)) (extension_size (after_csrcs octets))) [
       | inl few ↦ inr (Extension, is_extension octets room version free few)
-      | inr extended ↦ elim (padding_is_good (has_padding octets) (behind_extension octets)) [
-        | inl bad ↦ inr (Padding, is_padding octets room version free extended (bad.0, not_padded (behind_extension octets) bad.1))
+      | inr extended ↦ elim (padding_is_good (has_padding octets) (after_extension octets)) [
+        | inl bad ↦ inr (Padding, is_padding octets room version free extended (bad.0, not_padded (after_extension octets) bad.1))
         | inr padded ↦ inl (
           head_in octets,
           head_made octets (head_in octets) (record { room = room; version = version; not_reserved = free; extension = extended; padding = padded; says = refl }),

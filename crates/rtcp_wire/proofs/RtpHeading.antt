@@ -2,7 +2,7 @@
 use Rattle.std.proofs.Common.{◌≡◌, ℕ, ◌*◌, ◌/◌, ◌%◌, ◌≤◌, ◌==◌, Bool, true, List, ◌++◌, length, take, drop, slice_index, sym, ap, subst, ◌∙◌, append_assoc, arith}
 use Rattle.std.proofs.lemmas.List.{take-append-drop, drop-drop, length-append, length-drop, length-take-le, get_or_append_left}
 use Rattle.byteorder.specs.Endian.{big_number}
-use Rattle.rtcp_wire.specs.RtpHeads.{RtpValue, rtp_version_of, has_padding, has_extension, csrc_count_of, marker_of, payload_type_of, IsReserved, extension_size, IsExtensionPart, IsPaddingPart, IsRtpHead, lists_size, behind_csrcs, without_extension, behind_extension, csrcs_in, IsPadded, without_padding}
+use Rattle.rtcp_wire.specs.RtpHeads.{RtpValue, rtp_version_of, has_padding, has_extension, csrc_count_of, marker_of, payload_type_of, IsReserved, extension_size, IsExtensionPart, IsPaddingPart, IsRtpHead, lists_size, after_csrcs, without_extension, after_extension, csrcs_in, IsPadded, without_padding}
 use Rattle.rtcp_wire.proofs.RtpLists.{cut_at, big_number-prefix, joined_csrcs, words_joined, extension_off, extension_on, padding_off, padding_on}
 
 -- what octets say, whether they are a packet or not
@@ -14,7 +14,7 @@ head_in octets = record {
   timestamp = big_number 4 (drop 4 octets);
   ssrc = big_number 4 (drop 8 octets);
   csrcs = csrcs_in (take (4 * csrc_count_of octets) (drop 12 octets));
-  payload = without_padding (has_padding octets) (behind_extension octets);
+  payload = without_padding (has_padding octets) (after_extension octets);
 }
 
 -- The octets stand each test, and this is what they say.
@@ -22,8 +22,8 @@ pub record IsSoundRtp (octets : List ℕ) (head : RtpValue) : Type 0 where
   pub room : lists_size octets ≤ length octets
   pub version : rtp_version_of octets ≡ 2
   pub not_reserved : IsReserved (payload_type_of octets) → ⊥
-  pub extension : has_extension octets ≡ true → extension_size (behind_csrcs octets) ≤ length (behind_csrcs octets)
-  pub padding : has_padding octets ≡ true → IsPadded (behind_extension octets)
+  pub extension : has_extension octets ≡ true → extension_size (after_csrcs octets) ≤ length (after_csrcs octets)
+  pub padding : has_padding octets ≡ true → IsPadded (after_extension octets)
   pub says : head ≡ head_in octets
 
 -- ---- The fixed part
@@ -76,11 +76,11 @@ sound_head octets head h =
     let cut = cut_at (drop 12 octets) h.sources extension_to (4 * csrc_count_of octets) after_fixed sources_size in
     let lists : length (h.fixed ++ h.sources) ≡ lists_size octets = omega (arith, length-append h.fixed h.sources, h.is_fixed.size, sources_size) in
     let regrouped : octets ≡ (h.fixed ++ h.sources) ++ extension_to = h.parts ∙ sym (append_assoc h.fixed h.sources extension_to) in
-    let following : behind_csrcs octets ≡ extension_to = (cut_at octets (h.fixed ++ h.sources) extension_to (lists_size octets) regrouped lists).1 in
+    let following : after_csrcs octets ≡ extension_to = (cut_at octets (h.fixed ++ h.sources) extension_to (lists_size octets) regrouped lists).1 in
     let extended : has_extension octets ≡ has_extension h.fixed = ap (λ (n : ℕ). n / 16 % 2 == 1) same.first in
     let padded : has_padding octets ≡ has_padding h.fixed = ap (λ (n : ℕ). n / 32 % 2 == 1) same.first in
     let off = extension_off (has_extension octets) h.extension payload_on (subst (λ (x : Bool). IsExtensionPart x h.extension) (sym extended) h.is_extension) in
-    let last : behind_extension octets ≡ payload_on = ap (λ (t : List ℕ). without_extension (has_extension octets) t) following ∙ off.0 in
+    let last : after_extension octets ≡ payload_on = ap (λ (t : List ℕ). without_extension (has_extension octets) t) following ∙ off.0 in
     let unpadded = padding_off (has_padding octets) head.payload h.padding (subst (λ (x : Bool). IsPaddingPart x h.padding) (sym padded) h.is_padding) in
     let kind : head.payload_type ≡ payload_type_of octets = h.is_fixed.payload_type ∙ ap (λ (n : ℕ). n % 128) (sym same.second) in
     record {
@@ -103,9 +103,9 @@ parts_made octets head h =
     let n : ℕ = 4 * csrc_count_of octets in
     let after : List ℕ = drop 12 octets in
     let sources : List ℕ = take n after in
-    let following : drop n after ≡ behind_csrcs octets = drop-drop n 12 octets ∙ ap (λ (k : ℕ). drop k octets) (omega arith) in
-    let on = extension_on (has_extension octets) (behind_csrcs octets) h.extension in
-    let ends = padding_on (has_padding octets) (behind_extension octets) h.padding in
+    let following : drop n after ≡ after_csrcs octets = drop-drop n 12 octets ∙ ap (λ (k : ℕ). drop k octets) (omega arith) in
+    let on = extension_on (has_extension octets) (after_csrcs octets) h.extension in
+    let ends = padding_on (has_padding octets) (after_extension octets) h.padding in
     let whole : fixed ++ after ≡ octets = take-append-drop 12 octets in
     let size : length fixed ≡ 12 = length-take-le 12 octets (omega (arith, h.room)) in
     let same : SameFixed octets fixed = subst (λ (t : List ℕ). SameFixed t fixed) whole (same_fixed fixed after size) in

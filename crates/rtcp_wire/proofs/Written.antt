@@ -10,7 +10,7 @@ use Rattle.byteorder.specs.Endian.{big_number, low_bytes, twos_complement}
 use Rattle.byteorder.specs.Numbers.{big_number-reads_back}
 use Rattle.rtcp_wire.specs.Values.{SenderValue, ReportBlock, ItemValue, ChunkValue}
 use Rattle.rtcp_wire.specs.Grammar.{Joins, sender_in, IsBlock, IsId, IsItem, IsChunk, IsReasonPart}
-use Rattle.rtcp_wire.specs.Writing.{fill_behind, written_word, written_block, written_sender, written_item, written_chunk, written_reason, IsWritableBlock, IsWritableItem, IsWritableChunk, IsBlockInRange, IsSenderInRange, IsChunkInRange}
+use Rattle.rtcp_wire.specs.Writing.{fill_after, written_word, written_block, written_sender, written_item, written_chunk, written_reason, IsWritableBlock, IsWritableItem, IsWritableChunk, IsBlockInRange, IsSenderInRange, IsChunkInRange}
 use Rattle.rtcp_wire.proofs.Joining.{Joins-cons}
 
 -- ---- Lists
@@ -103,11 +103,11 @@ block_written block is =
 -- ---- Fill
 
 -- The fill is less than a word,
-pub fill_few : (n : ℕ) → length (fill_behind n) < 4
+pub fill_few : (n : ℕ) → length (fill_after n) < 4
 fill_few n = omega (arith, length-replicate {A = ℕ} ((4 - n % 4) % 4) 0)
 
 -- and ends one.
-pub fill_words : (n : ℕ) → (n + length (fill_behind n)) % 4 ≡ 0
+pub fill_words : (n : ℕ) → (n + length (fill_after n)) % 4 ≡ 0
 fill_words n = omega (arith, length-replicate {A = ℕ} ((4 - n % 4) % 4) 0)
 
 -- ---- Descriptions
@@ -119,7 +119,7 @@ item_written item is = ((λ none. absurd (omega (arith, none, is.0))), refl)
 pub chunk_words : (chunk : ChunkValue) → length (written_chunk chunk) % 4 ≡ 0
 chunk_words chunk =
     let items : List ℕ = flat_map written_item chunk.items in
-    omega (arith, length-append items (0 ∷ fill_behind (length items + 1)), fill_words (length items + 1))
+    omega (arith, length-append items (0 ∷ fill_after (length items + 1)), fill_words (length items + 1))
 
 pub chunk_written : (chunk : ChunkValue) → IsWritableChunk chunk × IsChunkInRange chunk → IsChunk chunk (written_chunk chunk)
 chunk_written chunk is =
@@ -127,7 +127,7 @@ chunk_written chunk is =
     record {
       id = written_word chunk.id;
       items = items;
-      free = fill_behind (length items + 1);
+      free = fill_after (length items + 1);
       parts = refl;
       id_size = refl;
       source = word_back chunk.id [] is.1;
@@ -141,8 +141,8 @@ chunk_written chunk is =
 -- A reason is whole words.
 pub reason_words : (reason : Option (List ℕ)) → length (written_reason reason) % 4 ≡ 0
 reason_words None = refl
-reason_words (Some text) = omega (arith, length-append text (fill_behind (length text + 1)), fill_words (length text + 1))
+reason_words (Some text) = omega (arith, length-append text (fill_after (length text + 1)), fill_words (length text + 1))
 
 pub reason_written : (reason : Option (List ℕ)) → IsReasonPart reason (written_reason reason)
 reason_written None = refl
-reason_written (Some text) = record { free = fill_behind (length text + 1); parts = refl; fill = fill_few (length text + 1); aligned = reason_words (Some text) }
+reason_written (Some text) = record { free = fill_after (length text + 1); parts = refl; fill = fill_few (length text + 1); aligned = reason_words (Some text) }

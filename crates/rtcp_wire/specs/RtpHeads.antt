@@ -92,8 +92,8 @@ abbrev pub lists_size : List ℕ → ℕ
 lists_size octets = 12 + 4 * csrc_count_of octets
 
 -- what follows the CSRC list
-abbrev pub behind_csrcs : List ℕ → List ℕ
-behind_csrcs octets = drop (lists_size octets) octets
+abbrev pub after_csrcs : List ℕ → List ℕ
+after_csrcs octets = drop (lists_size octets) octets
 
 -- the same octets without the extension that begins them, where there is one
 abbrev pub without_extension : Bool → List ℕ → List ℕ
@@ -101,8 +101,8 @@ without_extension true octets = drop (extension_size octets) octets
 without_extension false octets = octets
 
 -- what follows the extension: the payload and the padding
-abbrev pub behind_extension : List ℕ → List ℕ
-behind_extension octets = without_extension (has_extension octets) (behind_csrcs octets)
+abbrev pub after_extension : List ℕ → List ℕ
+after_extension octets = without_extension (has_extension octets) (after_csrcs octets)
 
 -- the last octet, and 0 where there is none
 abbrev pub last_of : List ℕ → ℕ
@@ -115,11 +115,11 @@ FindsRtp Short octets = length octets < lists_size octets
 FindsRtp Version octets = rtp_version_of octets ≢ 2
 FindsRtp PayloadType octets = IsReserved (payload_type_of octets)
 FindsRtp Extension octets =
-    (has_extension octets ≡ true) × (length (behind_csrcs octets) < extension_size (behind_csrcs octets))
+    (has_extension octets ≡ true) × (length (after_csrcs octets) < extension_size (after_csrcs octets))
 FindsRtp Padding octets =
     (has_padding octets ≡ true)
-    × ((behind_extension octets ≡ []) ⊎ (last_of (behind_extension octets) ≡ 0)
-    ⊎ (length (behind_extension octets) < last_of (behind_extension octets)))
+    × ((after_extension octets ≡ []) ⊎ (last_of (after_extension octets) ≡ 0)
+    ⊎ (length (after_extension octets) < last_of (after_extension octets)))
 
 -- the order of the tests
 abbrev pub rtp_row_of : RtpFault → ℕ

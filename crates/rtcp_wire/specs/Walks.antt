@@ -55,9 +55,9 @@ reason_in (size ∷ rest) = Some (take size rest)
 abbrev pub body_says : (kind count : ℕ) → List ℕ → RtcpPacket
 body_says kind count body =
     if kind == 200 then
-      sr (sender_in (take 24 body)) (blocks_in count (drop 24 body)) (drop (24 * count) (drop 24 body))
+    sr (sender_in (take 24 body)) (blocks_in count (drop 24 body)) (drop (24 * count) (drop 24 body))
     else (if kind == 201 then
-      rr (big_number 4 (take 4 body)) (blocks_in count (drop 4 body)) (drop (24 * count) (drop 4 body))
+    rr (big_number 4 (take 4 body)) (blocks_in count (drop 4 body)) (drop (24 * count) (drop 4 body))
     else (if kind == 202 then sdes (chunks_in count body)
     else (if kind == 203 then bye (ids_in count body) (reason_in (drop (4 * count) body))
     else (if kind == 204 then app count (big_number 4 (take 4 body)) (take 4 (drop 4 body)) (drop 4 (drop 4 body))

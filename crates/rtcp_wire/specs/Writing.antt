@@ -10,8 +10,8 @@ use Rattle.rtcp_wire.specs.Grammar.{IsOtherType, IsAccepted}
 -- ---- Parts
 
 -- the zeros that fill the last word after so many octets
-abbrev pub fill_behind : ℕ → List ℕ
-fill_behind size = replicate ((4 - size % 4) % 4) 0
+abbrev pub fill_after : ℕ → List ℕ
+fill_after size = replicate ((4 - size % 4) % 4) 0
 
 -- an identifier, or another number of a word
 abbrev pub written_word : ℕ → List ℕ
@@ -40,12 +40,12 @@ written_item item = item.kind ∷ length item.text ∷ item.text
 abbrev pub written_chunk : ChunkValue → List ℕ
 written_chunk chunk =
     let items = flat_map written_item chunk.items in
-    written_word chunk.id ++ (items ++ 0 ∷ fill_behind (length items + 1))
+    written_word chunk.id ++ (items ++ 0 ∷ fill_after (length items + 1))
 
 -- A reason (6.6): the length of its text, the text, and zeros that fill the word.
 abbrev pub written_reason : Option (List ℕ) → List ℕ
 written_reason None = []
-written_reason (Some text) = length text ∷ (text ++ fill_behind (length text + 1))
+written_reason (Some text) = length text ∷ (text ++ fill_after (length text + 1))
 
 -- ---- Packets
 

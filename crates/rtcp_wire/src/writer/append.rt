@@ -4,7 +4,7 @@ ghost use Rattle.std.specs.Prelude.{◌≡◌, ◌+◌, ◌≤◌, ◌<◌, ◌^
 ghost use Rattle.std.specs.Int.{w64};
 ghost use Rattle.arrayvec.specs.ArrayVec.{array_vec_len};
 ghost use Rattle.byteorder.specs.Endian.{big_bytes, low_bytes};
-ghost use Rattle.rtcp_wire.specs.Writing.{written_word, fill_behind};
+ghost use Rattle.rtcp_wire.specs.Writing.{written_word, fill_after};
 
 use crate::writer::MAX_COMPOUND;
 use crate::writer::size::fill_size;
@@ -55,8 +55,8 @@ pub(super) fn append_u64(buffer: &mut ArrayVec<u8, MAX_COMPOUND>, number: u64)
 
 /// Appends the zeros that fill the last word after `size` octets.
 pub(super) fn append_fill(buffer: &mut ArrayVec<u8, MAX_COMPOUND>, size: usize)
-    requires { array_vec_len buffer.old + length (fill_behind size) ≤ 1472 }
-    ensures { buffer.new.items ≡ buffer.old.items ++ fill_behind size }
+    requires { array_vec_len buffer.old + length (fill_after size) ≤ 1472 }
+    ensures { buffer.new.items ≡ buffer.old.items ++ fill_after size }
 {
     let zeros = [0; 3];
     append(buffer, &zeros[..fill_size(size)]);

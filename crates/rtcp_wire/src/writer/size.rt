@@ -4,7 +4,7 @@
 ghost use Rattle.std.specs.Prelude.{◌≡◌, ◌+◌, ◌≤◌, ◌<◌, ◌%◌, ◌∷◌, [], All, map, min, length, option_copied};
 ghost use Rattle.std.specs.List.{flat_map};
 ghost use Rattle.rtcp_wire.specs.WriterViews.{item_ref_of, chunk_ref_of, packet_ref_of, packet_refs_of};
-ghost use Rattle.rtcp_wire.specs.Writing.{fill_behind, written_item, written_chunk, written_reason, written_body, written, written_all, IsWritableReason, HasWritableParts, IsWritable};
+ghost use Rattle.rtcp_wire.specs.Writing.{fill_after, written_item, written_chunk, written_reason, written_body, written, written_all, IsWritableReason, HasWritableParts, IsWritable};
 
 use crate::block::BLOCK_SIZE;
 use crate::layout::{HEADER_SIZE, ID_SIZE, MAX_PACKET};
@@ -108,7 +108,7 @@ fn reason_size(reason: Option<&[u8]>) -> usize
 
 /// How many zeros fill the last word after `size` octets.
 pub(super) fn fill_size(size: usize) -> usize
-    ensures value { result ≡ length (fill_behind size) }
+    ensures value { result ≡ length (fill_after size) }
     ensures few { result < 4 }
     ensures words { (size + result) % 4 ≡ 0 }
 {
