@@ -8,7 +8,7 @@ use Rattle.rtcp_members.specs.Traces.{Horizons, TraceStep, fact_came, check_made
 use Rattle.rtcp_members.specs.Stays.{present_among, stay_of, IsStay}
 use Rattle.rtcp_members.specs.Entries.{counted_at, members_at, senders_at, sending_of, is_such, is_member, is_sender, entry_at, IsSendingSince, IsSenderAt}
 use Rattle.rtcp_members.specs.Pending.{EntryRow, first_ssrc, is_due, is_due_at, pending, block_at, block_of_row, after_block, after_blocks}
-use Rattle.rtcp_members.specs.News.{has_news_at, pending_at, pending_rows_at}
+use Rattle.rtcp_members.specs.News.{is_due_by, pending_at, pending_rows_at}
 use Rattle.rtcp_members.specs.Tables.{TableValue, StandsAt, KeepsBounds, table_at, HasFew, IsFew, no_members, counted, after_fact, after_facts, entry_after_check, after_check, members_in, senders_in}
 use Rattle.rtcp_members.proofs.Agreeing.{counted_agrees}
 use Rattle.rtcp_members.proofs.Blocking.{block_follows, block_keeps_capacity, blocks_keep_capacity, few_block}
@@ -196,5 +196,5 @@ pub turns_follow_traces-rows : (last : Option ℕ) (table : TableValue) (trace :
 turns_follow_traces-rows = pending_is_traced
 
 pub turns_follow_traces-due : (capacity rate : ℕ) (trace : List TraceStep) (ssrc : ℕ) →
-    is_such is_due (entry_at capacity rate trace ssrc) ≡ has_news_at capacity rate trace ssrc
+    is_such is_due (entry_at capacity rate trace ssrc) ≡ is_due_by capacity rate trace ssrc
 turns_follow_traces-due = due_at_trace

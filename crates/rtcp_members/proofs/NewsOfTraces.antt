@@ -14,7 +14,7 @@ use Rattle.rtcp_members.specs.Stays.{mark_of, before_mark, stay_of}
 use Rattle.rtcp_members.specs.Entries.{EntryValue, given_of, entry_of, entry_at, is_such}
 use Rattle.rtcp_members.specs.Tables.{EntryMap, TableValue, StandsAt}
 use Rattle.rtcp_members.specs.Pending.{EntryRow, is_due, due_rows, is_after, pending}
-use Rattle.rtcp_members.specs.News.{has_news_in, has_news_at, put_rising, rising, pending_at, pending_rows_at}
+use Rattle.rtcp_members.specs.News.{is_due_in, is_due_by, put_rising, rising, pending_at, pending_rows_at}
 use Rattle.rtcp_members.proofs.Counting.{has, IsOnce}
 use Rattle.rtcp_members.proofs.Naming.{names_are_once, present_is_named}
 use Rattle.rtcp_members.proofs.Following.{is_some_mapped}
@@ -216,11 +216,11 @@ module _ (rate ssrc : ℕ) where
       ap (λ m. is_due (entry_with rate ssrc (before_mark ssrc stay) m)) marked
       ∙ ap (λ m. is_none m && has_news_since (given_of rate ssrc stay)) (sym marked)
 
-  due_in : (stay : Option (List TraceStep)) → is_such is_due (option_map (entry_of rate ssrc) stay) ≡ has_news_in rate ssrc stay
+  due_in : (stay : Option (List TraceStep)) → is_such is_due (option_map (entry_of rate ssrc) stay) ≡ is_due_in rate ssrc stay
   due_in None = refl
   due_in (Some stay) = unmarked_news stay (mark_of ssrc stay) refl
 
-pub due_at_trace : (capacity rate : ℕ) (trace : List TraceStep) (ssrc : ℕ) → is_such is_due (entry_at capacity rate trace ssrc) ≡ has_news_at capacity rate trace ssrc
+pub due_at_trace : (capacity rate : ℕ) (trace : List TraceStep) (ssrc : ℕ) → is_such is_due (entry_at capacity rate trace ssrc) ≡ is_due_by capacity rate trace ssrc
 due_at_trace capacity rate trace ssrc = due_in rate ssrc (stay_of capacity trace ssrc)
 
 -- ---- Turns
@@ -230,12 +230,12 @@ module _ (last : Option ℕ) (table : TableValue) (trace : List TraceStep) (stan
   entries = entry_at table.capacity table.rate trace
 
   abbrev news : List ℕ
-  news = filter (has_news_at table.capacity table.rate trace) (rising (names trace))
+  news = filter (is_due_by table.capacity table.rate trace) (rising (names trace))
 
   due_are_news : due_rows table ≡ rows entries news
   due_are_news =
       ap (λ (t : List EntryRow). filter (λ (row : EntryRow). is_due row.1) t) (entries_in_order table trace stands)
-      ∙ rows_passing entries is_due (has_news_at table.capacity table.rate trace) (due_at_trace table.capacity table.rate trace) (rising (names trace))
+      ∙ rows_passing entries is_due (is_due_by table.capacity table.rate trace) (due_at_trace table.capacity table.rate trace) (rising (names trace))
 
   pub pending_is_traced : pending last table ≡ pending_rows_at last table.capacity table.rate trace
   pending_is_traced =
@@ -251,6 +251,6 @@ such_is_there test (Some e) h = refl
 pub pending_have_rows : (last : Option ℕ) (capacity rate : ℕ) (trace : List TraceStep) → map (λ (row : EntryRow). row.0) (pending_rows_at last capacity rate trace) ≡ pending_at last capacity rate trace
 pending_have_rows last capacity rate trace =
     let entry : ℕ → Option EntryValue = entry_at capacity rate trace in
-    let all = have_passing entry (has_news_at capacity rate trace) (λ ssrc news. such_is_there is_due (entry ssrc) (due_at_trace capacity rate trace ssrc ∙ news)) (rising (names trace)) in
+    let all = have_passing entry (is_due_by capacity rate trace) (λ ssrc news. such_is_there is_due (entry ssrc) (due_at_trace capacity rate trace ssrc ∙ news)) (rising (names trace)) in
     ssrcs_of_rows entry (pending_at last capacity rate trace)
     (have_joined entry _ _ (have_filtered entry (is_after last) _ all) (have_filtered entry (λ ssrc. not (is_after last ssrc)) _ all))

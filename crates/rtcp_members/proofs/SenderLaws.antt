@@ -5,7 +5,7 @@ use Rattle.std.proofs.lemmas.Bool.Decides.{nat_tests}
 use Rattle.rtcp_wire.specs.declared.fact.Fact.{Fact}
 use Rattle.rtcp_members.specs.Traces.{Horizons, TraceStep, fact_came, check_made, block_taken}
 use Rattle.rtcp_members.specs.Stays.{mark_of, before_mark, stay_of}
-use Rattle.rtcp_members.specs.Entries.{given_of, is_counted_fact, is_counted_by, names_it, is_valid, still_sending, sending_of, entry_of, entry_at, is_sender, is_such, IsSendingSince, IsSenderAt}
+use Rattle.rtcp_members.specs.Entries.{given_of, is_counted_fact, is_counted_by, gives_name, is_valid, still_sending, sending_of, entry_of, entry_at, is_sender, is_such, IsSendingSince, IsSenderAt}
 use Rattle.rtcp_members.proofs.Staying.{entry_with, entry_unmarked}
 
 none_is_no_moment : {X : Type 0} (x : X) → None ≡ Some x → ⊥
@@ -124,7 +124,7 @@ module _ (rate ssrc : ℕ) where
   -- ---- Who sends is valid
 
   counted_is_valid : (step : TraceStep) (earlier : List TraceStep) → is_counted_by ssrc step (given_of rate ssrc earlier) ≡ true → is_valid rate ssrc (step ∷ earlier) ≡ true
-  counted_is_valid step earlier counted = or_left _ _ (or_right (names_it ssrc step) _ counted)
+  counted_is_valid step earlier counted = or_left _ _ (or_right (gives_name ssrc step) _ counted)
 
   valid_since : (since : List TraceStep) (own : List TraceStep) → is_valid rate ssrc own ≡ true → is_valid rate ssrc (since ++ own) ≡ true
   valid_since [] own valid = valid

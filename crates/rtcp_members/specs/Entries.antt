@@ -11,13 +11,13 @@ use Rattle.rtcp_members.specs.Traces.{Horizons, TraceStep, fact_came, check_made
 use Rattle.rtcp_members.specs.Stays.{mark_of, before_mark, last_naming, is_before, stay_of}
 
 pub record EntryValue : Type 0 where
-  -- whether the source was named, or had a counted packet
+  -- whether the source gave its CNAME, or a packet of it was counted
   pub valid : Bool
   -- when it said goodbye
   pub mark : Option ℕ
   -- its last sighting
   pub sighting : ℕ
-  -- its last counted packet, while it is a sender
+  -- the moment of its last counted packet before the mark, until a check with a later horizon for packets
   pub sending : Option ℕ
   pub source : SourceValue
 
@@ -56,20 +56,20 @@ is_counted_by ssrc (fact_came fact moment) given = is_counted_fact ssrc fact giv
 is_counted_by ssrc (check_made horizons) given = false
 is_counted_by ssrc (block_taken other) given = false
 
-abbrev pub names_it : (ssrc : ℕ) → TraceStep → Bool
-names_it ssrc (fact_came (Heard other) moment) = false
-names_it ssrc (fact_came (Told other ntp) moment) = false
-names_it ssrc (fact_came (Named other) moment) = other == ssrc
-names_it ssrc (fact_came (Gone other) moment) = false
-names_it ssrc (fact_came (Media other seq timestamp) moment) = false
-names_it ssrc (check_made horizons) = false
-names_it ssrc (block_taken other) = false
+abbrev pub gives_name : (ssrc : ℕ) → TraceStep → Bool
+gives_name ssrc (fact_came (Heard other) moment) = false
+gives_name ssrc (fact_came (Told other ntp) moment) = false
+gives_name ssrc (fact_came (Named other) moment) = other == ssrc
+gives_name ssrc (fact_came (Gone other) moment) = false
+gives_name ssrc (fact_came (Media other seq timestamp) moment) = false
+gives_name ssrc (check_made horizons) = false
+gives_name ssrc (block_taken other) = false
 
 -- A source is valid once it gave its name, or a packet of it was counted.
 abbrev pub is_valid : (rate ssrc : ℕ) → List TraceStep → Bool
 is_valid rate ssrc [] = false
 is_valid rate ssrc (step ∷ earlier) =
-    names_it ssrc step || is_counted_by ssrc step (given_of rate ssrc earlier) || is_valid rate ssrc earlier
+    gives_name ssrc step || is_counted_by ssrc step (given_of rate ssrc earlier) || is_valid rate ssrc earlier
 
 abbrev pub still_sending : Horizons → Option ℕ → Option ℕ
 still_sending horizons sending = if is_before sending horizons.idle then None else sending
@@ -89,7 +89,7 @@ sending_of rate ssrc (step ∷ earlier) =
 -- ---- Packets that are counted
 
 -- Whether a fact is a packet that is counted, by the stay of its source: there is one, without a mark, and
--- the last run of what it gave counts the packet (A.1).
+-- the packet is counted, in the last run of what it gave or as the first of a new one (A.1).
 abbrev pub counted_in_stay : (rate : ℕ) → Fact → Option (List TraceStep) → Bool
 counted_in_stay rate fact None = false
 counted_in_stay rate fact (Some stay) =

@@ -1,4 +1,5 @@
--- Which sources have news, by the trace of a session, and in which turn they are reported (RFC 3550, 6.4).
+-- Of which sources a block is due, by the trace of a session, and in which turn they are reported (RFC 3550,
+-- 6.4).
 use Rattle.std.specs.Prelude.{ℕ, ◌&&◌, Bool, false, not, nat_lt, List, [], ◌∷◌, ◌++◌, filter, filter_map, if◌then◌else◌, Option, Some, None, is_none}
 use Rattle.rtcp_source.specs.Packets.{has_news_since}
 use Rattle.rtcp_members.specs.Traces.{TraceStep, names}
@@ -7,14 +8,14 @@ use Rattle.rtcp_members.specs.Entries.{given_of}
 use Rattle.rtcp_members.specs.Tables.{row_at}
 use Rattle.rtcp_members.specs.Pending.{EntryRow, is_after}
 
--- Whether a source has news, by its stay: there is one, without a mark, that holds a counted packet after the
--- source's last block.
-abbrev pub has_news_in : (rate ssrc : ℕ) → Option (List TraceStep) → Bool
-has_news_in rate ssrc None = false
-has_news_in rate ssrc (Some stay) = is_none (mark_of ssrc stay) && has_news_since (given_of rate ssrc stay)
+-- Whether a block of a source is due, by its stay: there is one, without a mark, that holds a counted packet
+-- after the source's last block, or at all if there is no block.
+abbrev pub is_due_in : (rate ssrc : ℕ) → Option (List TraceStep) → Bool
+is_due_in rate ssrc None = false
+is_due_in rate ssrc (Some stay) = is_none (mark_of ssrc stay) && has_news_since (given_of rate ssrc stay)
 
-abbrev pub has_news_at : (capacity rate : ℕ) → List TraceStep → (ssrc : ℕ) → Bool
-has_news_at capacity rate trace ssrc = has_news_in rate ssrc (stay_of capacity trace ssrc)
+abbrev pub is_due_by : (capacity rate : ℕ) → List TraceStep → (ssrc : ℕ) → Bool
+is_due_by capacity rate trace ssrc = is_due_in rate ssrc (stay_of capacity trace ssrc)
 
 -- ---- By rising SSRC, in turn
 
@@ -31,11 +32,11 @@ rising (x ∷ xs) = put_rising x (rising xs)
 abbrev pub ssrcs_in_turn : (last : Option ℕ) → List ℕ → List ℕ
 ssrcs_in_turn last ssrcs = filter (is_after last) ssrcs ++ filter (λ ssrc. not (is_after last ssrc)) ssrcs
 
--- The sources with news, in the turn in which they are reported after the last one that was, if there was
--- one.
+-- The sources that a block is due of, in the turn in which they are reported after the last one that was, if
+-- there was one.
 abbrev pub pending_at : (last : Option ℕ) (capacity rate : ℕ) → List TraceStep → List ℕ
 pending_at last capacity rate trace =
-    ssrcs_in_turn last (filter (has_news_at capacity rate trace) (rising (names trace)))
+    ssrcs_in_turn last (filter (is_due_by capacity rate trace) (rising (names trace)))
 
 -- The same sources, each with what the trace says of it.
 abbrev pub pending_rows_at : (last : Option ℕ) (capacity rate : ℕ) → List TraceStep → List EntryRow

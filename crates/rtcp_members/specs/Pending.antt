@@ -13,7 +13,8 @@ EntryRow = ℕ × EntryValue
 
 -- ---- Pending sources
 
--- A block of a source is due where it did not leave, and some packet of it was counted since its last block.
+-- A block of a source is due where the source has no mark, and some packet of it was counted since its last
+-- block, or at all if none was made.
 abbrev pub is_due : EntryValue → Bool
 is_due entry = is_none entry.mark && news_of entry.source.run
 

@@ -28,11 +28,12 @@ step_moment (fact_came fact moment) = moment
 step_moment (check_made horizons) = 0
 step_moment (block_taken ssrc) = 0
 
--- The moment of the last sighting, a naming before the mark. (A stay has one, its admission.)
+-- The moment of the last naming among these steps, 0 if there is none.
 abbrev pub last_naming : (ssrc : ℕ) → List TraceStep → ℕ
 last_naming ssrc [] = 0
 last_naming ssrc (step ∷ earlier) = if is_naming ssrc step then step_moment step else last_naming ssrc earlier
 
+-- The moment of the last sighting, a naming before the mark. (A stay has one, its admission.)
 abbrev pub last_sighting : (ssrc : ℕ) → List TraceStep → ℕ
 last_sighting ssrc stay = last_naming ssrc (before_mark ssrc stay)
 

@@ -21,13 +21,14 @@ use rtcp_wire::{Block, Fact};
 #[derive(Drop)]
 pub(crate) struct Entry {
     pub(crate) ssrc: u32,
-    /// Whether it gave its name, or a packet of it was counted.
+    /// Whether it gave its CNAME, or a packet of it was counted.
     pub(crate) valid: bool,
     /// When it said goodbye, in microseconds.
     pub(crate) mark: Option<u64>,
     /// Its last sighting, in microseconds.
     pub(crate) sighting: u64,
-    /// Its last counted packet, in microseconds, while it is a sender.
+    /// The moment of its last counted packet before the mark, in microseconds, until a check with a later
+    /// horizon for packets.
     pub(crate) sending: Option<u64>,
     pub(crate) source: Source,
 }

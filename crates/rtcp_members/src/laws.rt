@@ -11,7 +11,8 @@ ghost use Rattle.rtcp_members.specs.Entries.{counted_at, members_at, senders_at}
 ghost use Rattle.rtcp_members.specs.Pending.{EntryRow, is_due_at, after_block, after_blocks};
 ghost use Rattle.rtcp_members.specs.Tables.{TableValue, StandsAt, KeepsBounds, table_at, HasFew, IsFew, no_members, counted, after_fact, after_facts, after_check, members_in, senders_in};
 
-/// A table that stands at a trace goes with each step to one that stands at the trace with that step.
+/// The empty table stands at the empty trace. A table that stands at a trace goes with each fact, each check,
+/// and each block that is due to one that stands at the trace with that step.
 pub fn tables_follow_traces()
     ensures none { (capacity rate : ℕ) → StandsAt (no_members capacity rate) [] }
     ensures fact { (table : TableValue) (trace : List TraceStep) (fact : Fact) (moment : ℕ) →
@@ -96,8 +97,9 @@ pub fn facts_keep_members()
         members_at capacity rate trace ≤ members_at capacity rate (fact_came fact moment ∷ trace) }
 {}
 
-/// An RTP packet gives its source one packet more; no other fact gives any, and no check and no block does.
-/// So `apply` may be called as long as fewer than 2^40 RTP packets came.
+/// If no source was given more than some number of packets, none was given more than one above it after an
+/// RTP packet, nor more than it after any other fact, a check or a block. So `apply` may be called as long as
+/// fewer than 2^40 RTP packets came.
 pub fn packets_are_few()
     ensures none { (capacity rate : ℕ) → HasFew 0 (no_members capacity rate) }
     ensures fact { (packets : ℕ) (table : TableValue) (fact : Fact) (moment : ℕ) → HasFew packets table →

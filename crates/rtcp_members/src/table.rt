@@ -49,7 +49,7 @@ pub struct Dropped {
 ///
 /// A contract sees a table as a finite map from SSRC to entry, with its capacity and the rate of the media's
 /// clock. A table *stands at* the trace of a session (`StandsAt`) where that map is the one computed from the
-/// whole trace; after each call it stands at the trace with one step more (`laws`).
+/// whole trace; after each `apply`, `check` and `block_of` it stands at the trace with one step more (`laws`).
 pub trait MemberTable {
     ghost content: { Self → TableValue };
 
@@ -60,18 +60,19 @@ pub trait MemberTable {
         requires few { capacity ≤ 1024 }
         ensures { content result ≡ no_members capacity rate };
 
-    /// A fact came at the moment `t`, in microseconds (RFC 3550, 6.2.1, 6.3.3, 6.3.7). A source takes fewer
-    /// than 2^40 packets, so it was given fewer where the fact is `Media`; any other fact may always come.
+    /// A fact came at the moment `t`, in microseconds (RFC 3550, 6.2.1, 6.3.3, 6.3.7). A source takes at most
+    /// 2^40 packets, so where the fact is `Media` its source, if present, was given fewer before; any other
+    /// fact may always come.
     fn apply(&mut self, fact: Fact, t: u64) -> Applied
         requires { IsTrue (is_media fact) → IfSome (map.get (content self.old).entries (subject fact)) IsFew }
         ensures place { result.place ≡ placed (content self.old) fact }
         ensures counted { result.counted ≡ counted (content self.old) fact }
         ensures content { content self.new ≡ after_fact fact t (content self.old) };
 
-    /// Drops those who are silent for too long, at the moment `t`, in microseconds (RFC 3550, 6.3.5): entries
-    /// last seen before `silent_before`, and those that left before `gone_before`. A sender whose last
-    /// counted packet lies before `data_before` is no sender from then on, until another packet of it is
-    /// counted.
+    /// Drops those who are silent for too long (RFC 3550, 6.3.5): entries last seen before `silent_before`,
+    /// and those that left before `gone_before`. A sender whose last counted packet lies before `data_before`
+    /// is no sender from then on, until another packet of it is counted. All are moments in microseconds; `t`,
+    /// when the check is made, changes nothing.
     fn check(&mut self, t: u64, silent_before: u64, data_before: u64, gone_before: u64) -> Dropped
         ensures entries { result.entries
             ≡ dropped_entries (horizons_at silent_before data_before gone_before) (content self.old) }
@@ -90,8 +91,8 @@ pub trait MemberTable {
         ensures { result ≡ senders_in (content self.now) };
 
     /// The source that the next report block is for, if any has news: the least SSRC above `after` of a
-    /// source that did not leave and of which some packet was counted since its last block, else the least
-    /// SSRC of all such sources (RFC 3550, 6.4).
+    /// source that did not leave and of which some packet was counted since its last block, or at all if none
+    /// was made, else the least SSRC of all such sources (RFC 3550, 6.4).
     fn next_with_news(&self, after: Option<u32>) -> Option<u32>
         ensures { result ≡ first_ssrc (pending after (content self.now)) };
 

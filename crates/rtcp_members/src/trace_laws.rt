@@ -13,8 +13,10 @@ pub fn stays_are_prefixes()
         (stay_of capacity trace ssrc ≡ Some stay) ↔ IsStay capacity trace ssrc stay }
 {}
 
-/// A source is a sender exactly where it is present without a mark, a counted packet stands in its stay, and
-/// no check since the newest one has a later horizon for packets (RFC 3550, 6.3.3, 6.3.5).
+/// Among any steps, the moment since which a source sends is that of its newest counted packet, if no check
+/// since it has a later horizon for packets. So a source is a sender exactly where it is present without a
+/// mark, a counted packet stands in its stay, and no check since the newest one has a later horizon for
+/// packets (RFC 3550, 6.3.3, 6.3.5).
 pub fn senders_sent_lately()
     ensures sending { (rate ssrc : ℕ) (own : List TraceStep) (moment : ℕ) →
         (sending_of rate ssrc own ≡ Some moment) ↔ IsSendingSince rate ssrc own moment }

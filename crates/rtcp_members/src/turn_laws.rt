@@ -7,7 +7,7 @@ ghost use Rattle.rtcp_members.specs.Traces.{TraceStep};
 ghost use Rattle.rtcp_members.specs.Entries.{is_such, entry_at};
 ghost use Rattle.rtcp_members.specs.Tables.{TableValue, StandsAt};
 ghost use Rattle.rtcp_members.specs.Pending.{EntryRow, first_ssrc, is_due, is_due_at, pending, block_at, block_of_row, after_block};
-ghost use Rattle.rtcp_members.specs.News.{has_news_at, pending_at, pending_rows_at};
+ghost use Rattle.rtcp_members.specs.News.{is_due_by, pending_at, pending_rows_at};
 
 /// The first pending source is in the table, and a block is due of it: the one of its row. So `block_of` may
 /// be called with what `next_with_news` returns.
@@ -41,8 +41,8 @@ pub fn each_is_pending_once()
 {}
 
 /// The pending sources of a table that stands at a trace are exactly those whose stay has no mark and holds a
-/// counted packet after their last block: by rising SSRC, those above the last one reported first, each with
-/// what the trace says of it.
+/// counted packet after their last block, or at all if there is no block: by rising SSRC, those above the
+/// last one reported first, each with what the trace says of it.
 pub fn turns_follow_traces()
     ensures sources { (last : Option ℕ) (table : TableValue) (trace : List TraceStep) → StandsAt table trace →
         map (λ (row : EntryRow). row.0) (pending last table)
@@ -50,5 +50,5 @@ pub fn turns_follow_traces()
     ensures rows { (last : Option ℕ) (table : TableValue) (trace : List TraceStep) → StandsAt table trace →
         pending last table ≡ pending_rows_at last table.capacity table.rate trace }
     ensures due { (capacity rate : ℕ) (trace : List TraceStep) (ssrc : ℕ) →
-        is_such is_due (entry_at capacity rate trace ssrc) ≡ has_news_at capacity rate trace ssrc }
+        is_such is_due (entry_at capacity rate trace ssrc) ≡ is_due_by capacity rate trace ssrc }
 {}

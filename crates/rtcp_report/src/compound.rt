@@ -31,10 +31,10 @@ const BLOCK_SIZE: usize = 24;
 /// from 576 to 1,472.
 ///
 /// It begins with a sender report where `sender.sr` says what was sent, else with a receiver report (RFC
-/// 3550, 6.4). It has a block of each source that has news, or of as many as fit: in cyclic turn by rising
-/// SSRC, beginning above the cursor, none twice. At most 31 blocks stand in a packet, and the others in
-/// receiver reports after it. The last packet describes the participant by its CNAME, of at most 255 octets,
-/// and by the extra item, if there is one (6.5).
+/// 3550, 6.4). It has a block of each source that has news and did not leave, or of as many as fit: in cyclic
+/// turn by rising SSRC, beginning above the cursor, none twice. At most 31 blocks stand in a packet, and the
+/// others in receiver reports after it. The last packet describes the participant by its CNAME, of at most
+/// 255 octets, and by the extra item, if there is one (6.5).
 ///
 /// The sources that it has blocks of have no news any more, and the cursor is left at the SSRC of the last
 /// block, or as it was where there is none. Call it when a report is due, with the cursor of the call before,

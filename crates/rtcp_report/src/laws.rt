@@ -32,7 +32,7 @@ pub fn size_is_that_of_the_octets()
 {}
 
 /// A table that stands at a trace stands, once a report was made, at the trace with a block of each source of
-/// the report. A report gives no source a packet.
+/// the report. If no source was given more than some number of packets before a report, none was after it.
 pub fn tables_follow_reports()
     ensures stands { (reporter : Reporter) (limit : ℕ) (last : Option ℕ) (table : TableValue)
         (trace : List TraceStep) → StandsAt table trace → let rows = reported_rows reporter limit last table in

@@ -7,7 +7,8 @@ use arrayvec::ArrayVec;
 pub struct Sender<'a> {
     /// Its SSRC.
     pub ssrc: u32,
-    /// Its CNAME (RFC 3550, 6.5.1), from 1 to 255 octets.
+    /// Its CNAME (RFC 3550, 6.5.1), at most 255 octets. RFC 3550 asks for one, but an empty one is written
+    /// too.
     pub cname: &'a [u8],
     /// What it sent, where it reports as a sender.
     pub sr: Option<SrPart>,
@@ -30,7 +31,8 @@ pub struct SrPart {
 /// Something that a participant says of itself beside its CNAME (RFC 3550, 6.5.2 to 6.5.8).
 #[derive(Debug, Default, Drop)]
 pub struct Item {
-    /// The item's type, from 2 to 8: NAME 2, EMAIL 3, PHONE 4, LOC 5, TOOL 6, NOTE 7, PRIV 8.
+    /// The item's type, from 1 to 255. RFC 3550 has, beside CNAME: NAME 2, EMAIL 3, PHONE 4, LOC 5, TOOL 6,
+    /// NOTE 7, PRIV 8.
     pub kind: u8,
     /// The text. Nothing checks that it is UTF-8.
     pub text: ArrayVec<u8, 255>,

@@ -26,7 +26,7 @@ pub fn command<R: Read + Drop, W: Write + Drop, F: Write>(
     faults: &mut F,
 ) -> u8
     ensures status { (result ≡ 0) ⊎ (result ≡ 1) ⊎ (result ≡ 2) }
-    // The writer is left with the text that the status speaks of.
+    // Some state of the writer holds the text that the status speaks of.
     ensures whole { result ≡ 0 → (writer_after : W)
         × Writes (R.remaining reader) (W.contents writer) (W.contents writer_after) (IsTextOf None) }
     ensures refused { result ≡ 2 → (writer_after : W) × (line : ℕ) × (fault : Fault)

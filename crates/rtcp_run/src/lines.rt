@@ -8,7 +8,7 @@ ghost use Rattle.rtcp_run.specs.Progress.{Grows, IsBetween, IsAfterLine, Lengthe
 use crate::answer::compose;
 use crate::counted::Counted;
 use crate::fault::{LineFault, TextFault};
-use crate::writing::hand_over;
+use crate::writing::write_whole;
 use memchr::memchr;
 use std::alloc::Global;
 use std::io::Write;
@@ -158,7 +158,7 @@ impl LineChecker {
             &mut self.datagram,
             &mut self.text,
         )?;
-        hand_over(writer, &self.text)?;
+        write_whole(writer, &self.text)?;
         self.answered = number;
         self.pending.clear();
         Ok(())

@@ -68,7 +68,8 @@ pub(crate) fn unreadable(alloc: Global, kind: ErrorKind) -> OrderFault {
     }
 }
 
-/// Writes why there is no order, and returns the status to end with. A failed write is ignored.
+/// Writes why there is no order, and returns the status to end with: 2 where the words are refused or ask for
+/// help, 1 where memory is refused. A failed write is ignored.
 pub fn refuse<W: Write>(fault: &OrderFault, faults: &mut W) -> u8
     ensures { result ≡ order_status fault.now }
 {

@@ -14,7 +14,7 @@ use std::io::Write;
 ///
 /// [`TextFault::Write`] at the first call of the writer that fails or takes nothing: a prefix of the text is
 /// then written.
-pub(crate) fn hand_over<W: Write>(writer: &mut Counted<W>, text: &[u8]) -> Result<(), TextFault>
+pub(crate) fn write_whole<W: Write>(writer: &mut Counted<W>, text: &[u8]) -> Result<(), TextFault>
     requires { failures_of writer.old ≡ 0 }
     ensures only { IsOkUnless result TextFault.Write }
     ensures written { (prefix : List ℕ) × (more : List ℕ) × (text.now ≡ prefix ++ more)

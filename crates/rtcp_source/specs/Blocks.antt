@@ -8,7 +8,7 @@ use Rattle.rtcp_source.specs.Summary.{RunValue, ToldValue, SourceValue, expected
 
 -- ---- The fields
 
--- The packets lost, as a signed number of 24 bits. It is negative where more came than were expected:
+-- The packets lost, clamped to a signed number of 24 bits. It is negative where more came than were expected:
 -- repeated packets, and late ones from before the first.
 abbrev pub lost_of : (expected received : ℕ) → ℤ
 lost_of expected received = int_max (negsuc 8388607) (int_min (pos 8388607) (pos expected -ℤ pos received))
@@ -22,7 +22,7 @@ abbrev pub lsr_of : Option ToldValue → ℕ
 lsr_of None = 0
 lsr_of (Some told) = told.lsr
 
--- the time since the last sender report
+-- the time since the last sender report, in 1/65,536 of a second, or 0 if there was none
 abbrev pub dlsr_of : Option ToldValue → (t : ℕ) → ℕ
 dlsr_of None t = 0
 dlsr_of (Some told) t = short_seconds (t - told.moment)
@@ -36,7 +36,7 @@ fraction_since counted reported =
     fraction_of (expected_of counted - expected_of reported) (length counted - length reported)
 
 -- The block of a source over these packets, with what is known of its last sender report. The extended
--- highest sequence number is the greatest integer, which is 65536 below the greatest place.
+-- highest sequence number is the greatest integer, 65536 below the greatest place, modulo 2^32.
 abbrev pub block_of_packets : (ssrc lsr dlsr : ℕ) (counted reported : List CountedPacket) → ReportBlock
 block_of_packets ssrc lsr dlsr counted reported =
     record {
@@ -79,7 +79,8 @@ block_of_run ssrc lsr dlsr run =
       dlsr = dlsr;
     }
 
--- Whether a source has news, by its numbers: more packets were counted in its run than at its last block.
+-- Whether a source has news, by its numbers: more packets were counted in its last run than when a block was
+-- last made of that run, or any if none was.
 abbrev pub news_of : Option RunValue → Bool
 news_of None = false
 news_of (Some run) = nat_lt run.received_before run.received

@@ -126,7 +126,7 @@ is_counted Restarted = true
 is_counted Probation = false
 is_counted Bad = false
 
--- A source has news where some packet was counted since its last block.
+-- A source has news where some packet was counted since its last block, or at all if no block was made.
 abbrev pub has_news_since : List Given → Bool
 has_news_since [] = false
 has_news_since (packet_came seq timestamp arrival ∷ given) =

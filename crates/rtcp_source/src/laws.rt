@@ -31,9 +31,9 @@ pub fn summary_moves()
         summary_of (block_made ∷ given) ≡ after_block_made (summary_of given) }
 {}
 
-/// Once a run was started, a packet is counted in it exactly where its number has an integer near the run's
-/// greatest one, which is never negative. There is at most one such integer, and the packet enters the run
-/// with its place (RFC 3550, A.1).
+/// The greatest integer of a run is never negative. Once a run was started, a packet is counted in it exactly
+/// where its number has an integer near the greatest one; there is at most one such integer, and the packet
+/// enters the run with its place (RFC 3550, A.1).
 pub fn counted_by_integer()
     ensures greatest { (given : List Given) → HasCounted (run_of given) →
         65536 ≤ greatest_place (run_of given).counted }
@@ -54,7 +54,8 @@ pub fn integer_is_found()
         HasPlaceNear (greatest + 65536) seq (place_of integer) }
 {}
 
-/// A number that is near the greatest place has an integer near the greatest one, and its place.
+/// A number that is near the greatest place has an integer near the greatest one, and its place there is the
+/// place of that integer.
 pub fn place_has_integer()
     ensures { (greatest seq : ℕ) → seq < 65536 → is_near (greatest + 65536) seq ≡ true →
         IsPlaceOfInteger (pos greatest) seq (place_near (greatest + 65536) seq) }

@@ -21,9 +21,9 @@ pub(crate) struct Run {
     pub(crate) greatest: u64,
     /// How many packets were counted, late and repeated ones included.
     pub(crate) received: u64,
-    /// How many packets were expected at the last block.
+    /// How many packets were expected at the last block of this run, 0 if there was none.
     pub(crate) expected_before: u64,
-    /// How many packets were counted at the last block.
+    /// How many packets were counted at the last block of this run, 0 if there was none.
     pub(crate) received_before: u64,
     /// The transit of the newest packet: its arrival less its timestamp, modulo 2^32.
     pub(crate) transit: u32,

@@ -5,7 +5,7 @@ ghost use Rattle.std.specs.Prelude.{◌≡◌};
 /// What a packet is to its source.
 ///
 /// A number is near the greatest one of a run if it is fewer than 3,000 after it or fewer than 100 before it,
-/// modulo 65536. A stray is a packet that is not counted: its number is not near, or there is no run yet.
+/// modulo 65536. A stray is a packet that is not counted: `Probation` or `Bad`.
 #[derive(Clone, Copy, Debug, PartialEq, Eq)]
 pub enum Taken {
     /// The source is on probation, and the packet's number is not the successor of the one before it. The
@@ -23,7 +23,8 @@ pub enum Taken {
     /// A.1: only strays after it can lead to another one. That the jitter returns to 0 is this project's
     /// choice, since A.1 leaves it open.
     Restarted,
-    /// The packet's number is not near the greatest one. The packet is a stray, and is not counted.
+    /// The packet's number is neither near the greatest one nor the successor of the last stray's. The packet
+    /// is a stray, and is not counted.
     Bad,
 }
 

@@ -88,6 +88,6 @@ next_scaled (newest ∷ earlier) next =
     let before = next_scaled earlier next in
     if nat_le newest.moment before then newest.moment + scaled_at newest (before - newest.moment) else before
 
--- the moment of the newest setting, as the departures since have moved it
+-- the moment to which the newest setting set the next transmission, as the departures since have moved it
 abbrev pub next_moment : List Happening → ℕ
 next_moment events = next_scaled (departures_since_setting events) (newest_setting events)

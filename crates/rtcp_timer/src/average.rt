@@ -28,8 +28,8 @@ impl Model for Average {
 }
 
 impl Average {
-    /// The average over one compound of `size` octets, at most 65,535. A session starts with the compound
-    /// that the participant is to send first (RFC 3550, 6.3.2).
+    /// The average over one compound of `size` octets, without the headers of UDP and IPv4, at most 65,535. A
+    /// session starts with the compound that the participant is to send first (RFC 3550, 6.3.2).
     pub fn start(size: u32) -> Average
         requires { size ≤ 65535 }
         ensures { result ≡ average_of size [] }
@@ -39,8 +39,8 @@ impl Average {
         }
     }
 
-    /// Takes one more compound of `size` octets, at most 65,535, into the average. Call it once for each
-    /// compound that is accepted or sent.
+    /// Takes one more compound of `size` octets, without the headers of UDP and IPv4, at most 65,535, into the
+    /// average. Call it once for each compound that is accepted or sent.
     pub fn add(&mut self, size: u32)
         requires { size ≤ 65535 }
         ensures moves { self.new ≡ moved_average self.old size }

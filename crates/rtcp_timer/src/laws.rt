@@ -22,12 +22,13 @@ pub fn interval_keeps_to_share()
     ensures { (load : Load) → 1 ≤ load.rtcp_bw → KeepsToShare load (interval_of load) }
 {}
 
-/// The deterministic interval is never below the minimum (RFC 3550, 6.2).
+/// The deterministic interval is never below the minimum, by its definition (RFC 3550, 6.2).
 pub fn interval_has_minimum()
     ensures { (load : Load) → minimum_of load.initial ≤ interval_of load }
 {}
 
-/// The deterministic interval is the shortest that keeps to the share and the minimum (RFC 3550, 6.3.1).
+/// The deterministic interval is the shortest in whole microseconds that keeps to the share and the minimum
+/// (RFC 3550, 6.3.1).
 pub fn interval_is_least()
     ensures { (load : Load) (interval : ℕ) → 1 ≤ load.rtcp_bw → minimum_of load.initial ≤ interval →
         KeepsToShare load interval → interval_of load ≤ interval }
@@ -55,25 +56,25 @@ pub fn last_lies_between()
         (schedule_at events).last ≤ max (newest_transmission events) (last_departure events) }
 {}
 
-/// Where moments do not fall, `next` follows `last` by at most the greatest interval drawn by the newest
-/// transmission and the tries since: a departure scales both distances by the same fraction (RFC 3550,
-/// 6.3.4).
+/// Where moments do not fall, `next` is at most `last` plus the greatest interval drawn by the newest
+/// transmission and the tries since; an overdue `next` may even lie before `last`. A departure scales both
+/// distances by the same fraction, or leaves an overdue `next` (RFC 3550, 6.3.4).
 pub fn next_within_greatest_draw()
     ensures { (events : List Happening) → IsInOrder events →
         (schedule_at events).next ≤ (schedule_at events).last + greatest_draw events }
 {}
 
-/// No report is due until the interval drawn for it has passed since the newest transmission (RFC 3550,
-/// 6.3.6).
+/// Where moments do not fall, no report is due until the interval drawn for it has passed since the newest
+/// transmission (RFC 3550, 6.3.6).
 pub fn never_due_too_soon()
     ensures { (events : List Happening) (moment interval : ℕ) → IsInOrder events →
         IsDue (schedule_at events) moment interval → newest_transmission events + interval ≤ moment }
 {}
 
-/// A report is due at the latest when both the interval drawn for it and the greatest interval drawn by the
-/// newest transmission and the tries since have passed since the newest transmission and since the newest
-/// departure (RFC 3550, 6.3.4 and 6.3.6). Where there was no departure, its moment is 0, and so is that of
-/// the newest transmission in an empty history.
+/// Where moments do not fall, a report is due at the latest when both the interval drawn for it and the
+/// greatest interval drawn by the newest transmission and the tries since have passed since the newest
+/// transmission and since the newest departure (RFC 3550, 6.3.4 and 6.3.6). Where there was no departure, its
+/// moment is 0, and so is that of the newest transmission in an empty history.
 pub fn due_in_time()
     ensures { (events : List Happening) (moment interval : ℕ) → IsInOrder events →
         newest_transmission events + max interval (greatest_draw events) ≤ moment →

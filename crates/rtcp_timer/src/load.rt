@@ -19,7 +19,7 @@ const MINIMUM: u64 = 5_000_000;
 pub struct Load {
     /// The members of the session, the participant included.
     pub members: u32,
-    /// Those members that send RTP packets.
+    /// Those members that send RTP packets, the participant included if it does.
     pub senders: u32,
     /// Whether the participant is one of the senders.
     pub we_sent: bool,

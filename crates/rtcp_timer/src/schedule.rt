@@ -19,7 +19,7 @@ pub enum Verdict {
 }
 
 /// When the participant is to send its next report (RFC 3550, 6.3). Moments are in microseconds since the
-/// session began, at most 2^50.
+/// session began; those given to `sent` and `departed` are at most 2^50.
 #[derive(Debug, Drop)]
 pub struct Schedule {
     /// tp, the moment of the last transmission, as departures have moved it
@@ -59,7 +59,8 @@ impl Schedule {
     /// 2^49, `w1` a random word, and `members` the number of members now. Before `next` the call returns
     /// `Early` and changes nothing. From `next` on it draws an interval and returns `Due` if that has passed
     /// since `last`: send a report and call `sent`. Otherwise it returns `Later` and moves `next` to when the
-    /// interval will have passed: call `expire` again then.
+    /// interval will have passed: call `expire` again then. From `next` on `members` becomes the number that
+    /// `departed` compares with.
     pub fn expire(&mut self, tc: u64, td: u64, w1: u32, members: u32) -> Verdict
         requires { td < 2 ^ 49 }
         ensures early { (result ≡ Verdict.Early) ↔ (tc < self.old.next) }

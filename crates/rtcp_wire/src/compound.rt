@@ -23,8 +23,8 @@ pub const MAX_DATAGRAM: usize = 65_535;
 ///
 /// # Errors
 ///
-/// - [`ReadError::Wire`] where the datagram is not a compound: its first fault, and the offset of the packet
-///   that has it.
+/// - [`ReadError::Wire`] where the datagram is not a compound, or has more than [`MAX_DATAGRAM`] octets: its
+///   first fault, and the offset of the packet that has it, 0 where the datagram is too long.
 /// - [`ReadError::Memory`] where an allocation failed. The datagram may then be good or bad, but its first
 ///   packet is good: a fault there is found before anything is allocated.
 pub fn read_owned(alloc: Global, datagram: &[u8]) -> Result<Vec<Packet>, ReadError>
@@ -33,8 +33,8 @@ pub fn read_owned(alloc: Global, datagram: &[u8]) -> Result<Vec<Packet>, ReadErr
     ensures refused { (fault : Fault) → result ≡ Err (ReadError.Wire fault) →
         IsFirstFault datagram.now fault }
 
-    // What is so encoded is read, and a first fault is found, unless memory runs out: it never does at the
-    // first packet.
+    // What is so encoded is read, and a first fault is found, unless memory runs out. A fault at offset 0 is
+    // found even then.
     ensures reads { (packets : List RtcpPacket) → IsAccepted datagram.now packets →
         GivesPackets result packets }
     ensures finds { (fault : Fault) → IsFirstFault datagram.now fault → GivesFault result fault }

@@ -41,8 +41,8 @@ pub enum FaultReason {
     /// 201.
     #[error("first packet is not a report (RFC 3550, 6.1)")]
     FirstType,
-    /// F4. Padding may stand only at the end of a compound, so the first packet has none (RFC 3550, A.2), and
-    /// this one has its padding bit set.
+    /// F4. The first packet has no padding (RFC 3550, A.2), and this one has its padding bit set. A later
+    /// packet may be padded wherever it stands.
     #[error("first packet has its padding bit set (RFC 3550, A.2)")]
     FirstPadding,
     /// F5. The lengths of the packets add up to that of the datagram (RFC 3550, A.2), and this packet runs

@@ -3,9 +3,9 @@
 /// A packet of another type, whose body is kept as it is.
 #[derive(Debug, Drop)]
 pub struct OtherPacket {
-    /// The packet's type.
+    /// The packet's type: below 200 or above 204.
     pub kind: u8,
-    /// The five bits of the header that count something in the known types.
+    /// The header's five bits, which count something in the known types: at most 31.
     pub count: u8,
     /// The octets between the header and the padding: whole words.
     pub body: Vec<u8>,

@@ -77,6 +77,7 @@ fn block_and_extension(rt: HostRuntime) -> Result<(), Fail> {
         1, 2, 3, 4, // extension
     ];
     let packets = read_owned(rt.alloc(), &octets)?;
+    assert_eq!(rt; packets.len(), 1);
     for packet in &packets {
         match packet {
             Packet::Rr(report) => {

@@ -21,8 +21,8 @@ mod writable;
 
 pub use refs::{ChunkRef, ItemRef, PacketRef};
 
-/// The octets of a buffer that compounds are written into: what an Ethernet frame carries after the headers
-/// of IPv4 and UDP.
+/// How many octets a buffer for compounds holds: what an Ethernet frame carries after the headers of IPv4 and
+/// UDP.
 pub const MAX_COMPOUND: usize = 1_472;
 
 /// Appends the packets to what stands in the buffer, one after the other (RFC 3550, 6.1): without padding,

@@ -43,7 +43,7 @@ pub(crate) fn not_after_goodbye<T: MemberTable + Drop>(rt: &impl Abort) {
     assert_eq!(rt; whose(session.block(None, 0)), Some(2));
 }
 
-/// The fraction lost is over what came since the last block: of 12 to 14 two came.
+/// The fraction lost is over what was expected since the last block: of 12 to 14 two came.
 pub(crate) fn fractions<T: MemberTable + Drop>(rt: &impl Abort) {
     let mut session: Session<T> = three_senders();
     let first = session.block(None, 0);

@@ -76,7 +76,8 @@ fn a_restart_keeps_the_sender_report(rt: HostRuntime) {
     assert_eq!(rt; block.dlsr, 0x0005_4000);
 }
 
-/// With a clock of 8,000 units a second: packets are sent 20 ms apart, and the third one is 20 ms late.
+/// With a clock of 8,000 units a second: packets are sent 20 ms apart, and from the third one on they are
+/// 20 ms late.
 #[test]
 fn jitter(rt: HostRuntime) {
     let mut source = Source::new();
@@ -89,13 +90,13 @@ fn jitter(rt: HostRuntime) {
     assert_eq!(rt; source.block(9, 0).jitter, 9);
 }
 
-/// A transit just below 2^32 is two units from a transit of 1.
+/// A transit just below 2^32 is 32 units from a transit of 16.
 #[test]
 fn jitter_over_a_wrap(rt: HostRuntime) {
     let mut source = Source::new();
     let _ = source.take(1, 0, 0);
-    let _ = source.take(2, 1, 0);
-    let _ = source.take(3, 0, 1);
-    let _ = source.take(4, 0, 1);
+    let _ = source.take(2, 16, 0);
     assert_eq!(rt; source.block(9, 0).jitter, 0);
+    let _ = source.take(3, 0, 16);
+    assert_eq!(rt; source.block(9, 0).jitter, 2);
 }

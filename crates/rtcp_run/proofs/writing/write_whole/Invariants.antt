@@ -1,7 +1,7 @@
 use Rattle.std.proofs.Common.{◌≡◌, ◌++◌, ℕ, List, length}
 use Rattle.std.specs.Io.KnownBytes.{Appends}
 use Rattle.rtcp_run.specs.Counted.{failures_of, inner_of}
-use Rattle.rtcp_run.proofs.writing.hand_over.Given as goal
+use Rattle.rtcp_run.proofs.writing.write_whole.Given as goal
 
 -- a prefix of the text is written, and the rest is left
 abbrev pub invariant-loop-rest : goal.invariant-loop-rest

@@ -2,7 +2,7 @@
 use Rattle.std.proofs.Common.{◌≡◌, ◌++◌, append_assoc, take, take-append-drop, ap, sym, ◌∙◌}
 use Rattle.std.proofs.KnownBytes.{Appends-trans}
 use Rattle.rtcp_run.proofs.CountedLemmas.{count_after-took}
-use Rattle.rtcp_run.proofs.writing.hand_over.Goals as goal
+use Rattle.rtcp_run.proofs.writing.write_whole.Goals as goal
 
 pub loop-rest-preserved : goal.loop-rest-preserved
 loop-rest-preserved g c =
