@@ -1,13 +1,12 @@
 -- A walk over encodings of packets reads these packets.
-use Rattle.std.proofs.Common.{◌≡◌, ℕ, zero, suc, ◌+◌, ◌-◌, ◌*◌, ◌/◌, ◌%◌, ◌<◌, ◌≤◌, Bool, true, false, ◌==◌, if◌then◌else◌, List, [], ◌∷◌, ◌++◌, length, take, drop, slice_index, sum_by, Option, Some, None, refl, sym, ap, subst, ◌∙◌, append_assoc, append-nil, arith}
+use Rattle.std.proofs.Common.{◌≡◌, ℕ, suc, ◌+◌, ◌-◌, ◌*◌, ◌/◌, ◌%◌, ◌<◌, ◌≤◌, false, ◌==◌, if◌then◌else◌, List, [], ◌∷◌, ◌++◌, length, take, drop, Option, Some, None, refl, sym, ap, ◌∙◌, append_assoc, append-nil, arith}
 use Rattle.std.proofs.Math.Seq.{take-append_seam, drop-append_seam}
 use Rattle.std.proofs.lemmas.Bool.{ne_eqb}
-use Rattle.std.proofs.Math.Nat.{mul-zero, mul-suc}
 use Rattle.std.proofs.lemmas.List.{length-append}
 use Rattle.std.proofs.lemmas.List.Sums.{sum_by-append}
 use Rattle.byteorder.specs.Endian.{big_number}
 use Rattle.rtcp_wire.specs.Values.{ReportBlock, ItemValue, ChunkValue, RtcpPacket, sr, rr, sdes, bye, app, other}
-use Rattle.rtcp_wire.specs.Grammar.{Joins, type_of, count_of, size_of, body_of, block_in, sender_in, IsBlock, IsId, IsItem, IsChunk, IsReportEnd, IsReason, IsReasonPart, IsOtherType, IsBody, IsSpelling, IsAccepted}
+use Rattle.rtcp_wire.specs.Grammar.{Joins, type_of, count_of, size_of, body_of, block_in, sender_in, IsItem, IsChunk, IsReportEnd, IsReasonPart, IsOtherType, IsBody, IsSpelling}
 use Rattle.rtcp_wire.specs.Walks.{values_in, blocks_in, ids_in, item_in, items_after, chunk_in, items_size, chunk_size, chunks_in, reason_in, body_says, packet_in, packets_after, packets_in}
 use Rattle.rtcp_wire.proofs.Prefixes.{length_parts}
 use Rattle.rtcp_wire.proofs.Fixed.{Says, fixed_length}

@@ -1,6 +1,6 @@
 -- Worked examples: what a walk reads, computed octet by octet.
-use Rattle.std.proofs.Common.{◌≡◌, ℕ, pos, List, [], ◌∷◌, ◌++◌, Option, Some, None, refl}
-use Rattle.rtcp_wire.specs.Values.{ReportBlock, ItemValue, ChunkValue, RtcpPacket, sr, rr, sdes, bye, app, other}
+use Rattle.std.proofs.Common.{◌≡◌, ℕ, pos, List, [], ◌∷◌, ◌++◌, Some, None, refl}
+use Rattle.rtcp_wire.specs.Values.{ItemValue, rr, sdes, bye, app, other}
 use Rattle.rtcp_wire.specs.Walks.{packets_in}
 
 -- 80c90001 00000007: an empty receiver report
