@@ -1,35 +1,47 @@
 -- Texts with a separator between each two of them, one more text at a time.
-use Rattle.std.proofs.Common.{◌≡◌, ℕ, ◌+◌, ◌<◌, List, [], ◌∷◌, ◌++◌, length, map, take, get_or, refl, sym, ap, ◌∙◌, append_assoc, arith}
+use Rattle.std.proofs.Common.{◌≡◌, ℕ, Bool, true, false, List, [], ◌∷◌, ◌++◌, map, refl, sym, ap, ◌∙◌, append_assoc}
+use Rattle.std.specs.Iterator.{Drains, YieldsFirstBy}
 use Rattle.std.specs.List.{join_with_byte}
-use Rattle.std.proofs.lemmas.List.{take_more, map_push, append-nil, length-map, length-take}
+use Rattle.std.proofs.lemmas.List.{map_push, append-nil}
+
+-- no values
+abbrev pub is_none : {X : Type 0} → List X → Bool
+is_none [] = true
+is_none (x ∷ xs) = false
+
+pub is_none-push : {X : Type 0} (xs : List X) (x : X) → false ≡ is_none (xs ++ x ∷ [])
+is_none-push [] x = refl
+is_none-push (y ∷ xs) x = refl
 
 -- after a first piece the separator comes before the next
-join_with_byte-push : (c : ℕ) (pieces : List (List ℕ)) (piece : List ℕ) → 0 < length pieces → join_with_byte c (pieces ++ piece ∷ []) ≡ join_with_byte c pieces ++ (c ∷ piece)
-join_with_byte-push c [] piece h = absurd (omega arith)
-join_with_byte-push c (p ∷ []) piece h = refl
-join_with_byte-push c (p ∷ q ∷ pieces) piece h =
-    ap (λ (t : List ℕ). p ++ (c ∷ t)) (join_with_byte-push c (q ∷ pieces) piece (omega arith)) ∙ sym (append_assoc p (c ∷ join_with_byte c (q ∷ pieces)) (c ∷ piece))
+join_with_byte-push : (c : ℕ) (first : List ℕ) (pieces : List (List ℕ)) (piece : List ℕ)
+    → join_with_byte c ((first ∷ pieces) ++ piece ∷ []) ≡ join_with_byte c (first ∷ pieces) ++ (c ∷ piece)
+join_with_byte-push c first [] piece = refl
+join_with_byte-push c first (next ∷ pieces) piece =
+    ap (λ (t : List ℕ). first ++ (c ∷ t)) (join_with_byte-push c next pieces piece)
+    ∙ sym (append_assoc first (c ∷ join_with_byte c (next ∷ pieces)) (c ∷ piece))
 
-module _ {X : Type 0} (c : ℕ) (text : X → List ℕ) (xs : List X) (i : ℕ) (x d : X) (lt : i < length xs) (at : x ≡ get_or xs i d) where
-  abbrev pieces : List (List ℕ)
-  pieces = map text (take i xs)
-
-  with_next : map text (take (i + 1) xs) ≡ pieces ++ text x ∷ []
-  with_next = ap (map text) (take_more xs i d lt ∙ ap (λ y. take i xs ++ y ∷ []) (sym at)) ∙ map_push text (take i xs) x
+module _ {X : Type 0} (c : ℕ) (text : X → List ℕ) (x : X) (new out before : List ℕ) where
+  abbrev texts : List X → List ℕ
+  texts xs = before ++ join_with_byte c (map text xs)
 
   -- the first piece, with nothing before it
-  pub first_piece : (new out before : List ℕ) → i ≡ 0 → new ≡ out ++ text x → out ≡ before ++ join_with_byte c (map text (take i xs))
-      → new ≡ before ++ join_with_byte c (map text (take (i + 1) xs))
-  first_piece new out before none pushed so_far =
-      let empty : map text (take i xs) ≡ [] = rw none refl in
-      let next : join_with_byte c (map text (take (i + 1) xs)) ≡ text x = rw (with_next, empty) refl in
-      let nothing : out ≡ before = so_far ∙ ap (λ t. before ++ join_with_byte c t) empty ∙ append-nil before in
-      pushed ∙ ap (λ (t : List ℕ). t ++ text x) nothing ∙ ap (λ (t : List ℕ). before ++ t) (sym next)
+  pub first_piece : (xs : List X) → true ≡ is_none xs → new ≡ out ++ text x → out ≡ texts xs → new ≡ texts (xs ++ x ∷ [])
+  first_piece [] none pushed so_far = pushed ∙ ap (λ (t : List ℕ). t ++ text x) (so_far ∙ append-nil before)
+  first_piece (y ∷ xs) none pushed so_far = absurd (cc)
 
   -- a later piece, after the separator
-  pub next_piece : (new held out before : List ℕ) → 0 < i → new ≡ held ++ text x → held ≡ out ++ c ∷ [] → out ≡ before ++ join_with_byte c (map text (take i xs))
-      → new ≡ before ++ join_with_byte c (map text (take (i + 1) xs))
-  next_piece new held out before some pushed separated so_far =
-      let long : 0 < length pieces = simp (length-map, length-take) (omega arith) in
-      let next : join_with_byte c (map text (take (i + 1) xs)) ≡ join_with_byte c pieces ++ (c ∷ text x) = ap (join_with_byte c) with_next ∙ join_with_byte-push c pieces (text x) long in
-      rw (next, pushed, separated, so_far) (simp append_assoc)
+  pub next_piece : (xs : List X) (held : List ℕ) → false ≡ is_none xs → held ≡ out ++ c ∷ [] → new ≡ held ++ text x → out ≡ texts xs
+      → new ≡ texts (xs ++ x ∷ [])
+  next_piece [] held some separated pushed so_far = absurd (cc)
+  next_piece (y ∷ xs) held some separated pushed so_far =
+      let all : join_with_byte c (map text ((y ∷ xs) ++ x ∷ [])) ≡ join_with_byte c (map text (y ∷ xs)) ++ (c ∷ text x) =
+      ap (join_with_byte c) (map_push text (y ∷ xs) x) ∙ join_with_byte-push c (text y) (map text xs) (text x) in
+      rw (all, pushed, separated, so_far) (simp append_assoc)
+
+-- An iterator whose value is the list that it gives, where `view` reads the items, gave the texts of that list.
+pub texts_given : {X V : Type 0} (view : X → V) (text : V → List ℕ) (all : List V) (given : List X) → Drains (YieldsFirstBy view (λ left. left)) all given
+    → map (λ x. text (view x)) given ≡ map text all
+texts_given view text all [] drains = ap (map text) (sym (drains.1.1 ∙ drains.1.2.0))
+texts_given view text all (x ∷ given) (last, (before, (left, first, others), ends)) =
+    ap (λ (texts : List (List ℕ)). text (view x) ∷ texts) (texts_given view text left given (last, (before, others, ends))) ∙ ap (map text) (sym first)

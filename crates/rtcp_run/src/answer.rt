@@ -7,8 +7,8 @@ ghost use Rattle.rtcp_run.specs.Progress.{AnswersLine};
 use crate::digit_pairs::{DecodeFault, decode};
 use crate::fault::{LineFault, TextFault};
 use crate::text::{push_accepted, push_fault};
-use rtcp_wire::ReadError;
-use std::alloc::{AllocError, Global};
+use rtcp_wire::Compound;
+use std::alloc::AllocError;
 
 /// Makes `text` the answer to a line, which has at most 131,200 octets and is no later than line 65,536. The
 /// octets that the line spells go into `datagram`.
@@ -20,7 +20,6 @@ use std::alloc::{AllocError, Global};
 ///
 /// After an error it is left open what the two buffers hold.
 pub(crate) fn compose(
-    alloc: Global,
     number: u64,
     line: &[u8],
     datagram: &mut Vec<u8>,
@@ -41,20 +40,19 @@ pub(crate) fn compose(
             });
         }
     }
-    match push_reading(alloc, datagram, text) {
+    match push_reading(datagram, text) {
         Ok(()) => Ok(()),
         Err(AllocError) => Err(TextFault::Memory),
     }
 }
 
 /// Appends the line of text for a datagram.
-fn push_reading(alloc: Global, datagram: &[u8], text: &mut Vec<u8>) -> Result<(), AllocError>
+fn push_reading(datagram: &[u8], text: &mut Vec<u8>) -> Result<(), AllocError>
     ensures { OnOk result
         ((answer : List ℕ) × IsAnswer datagram.now answer × (text.new.items ≡ text.old.items ++ answer)) }
 {
-    match rtcp_wire::read_owned(alloc, datagram) {
-        Ok(packets) => push_accepted(text, &packets),
-        Err(ReadError::Wire(fault)) => push_fault(text, &fault),
-        Err(ReadError::Memory) => Err(AllocError),
+    match Compound::read(datagram) {
+        Ok(compound) => push_accepted(text, &compound),
+        Err(fault) => push_fault(text, &fault),
     }
 }

@@ -22,7 +22,6 @@ const MAX_LINE: usize = 131_200;
 /// Answers lines as they come. The buffers are kept from line to line.
 #[derive(Drop)]
 pub(crate) struct LineChecker {
-    alloc: Global,
     answered: u64,
     pending: Vec<u8>,
     datagram: Vec<u8>,
@@ -36,7 +35,6 @@ impl LineChecker {
         ensures pending { result.pending.items ≡ [] }
     {
         LineChecker {
-            alloc,
             answered: 0,
             pending: Vec::new(alloc),
             datagram: Vec::new(alloc),
@@ -151,13 +149,7 @@ impl LineChecker {
         ensures once { failures_of writer.new ≤ 1 }
     {
         let number = self.answered + 1;
-        compose(
-            self.alloc,
-            number,
-            &self.pending,
-            &mut self.datagram,
-            &mut self.text,
-        )?;
+        compose(number, &self.pending, &mut self.datagram, &mut self.text)?;
         write_whole(writer, &self.text)?;
         self.answered = number;
         self.pending.clear();

@@ -5,8 +5,8 @@
 //! Each function here and in the modules below returns `AllocError` where memory is refused. It is then left
 //! open how much of the text was appended.
 
-ghost use Rattle.std.specs.Prelude.{◌≡◌, ◌++◌, map, OnOk};
-ghost use Rattle.rtcp_wire.specs.Views.{packet_of, packets_of};
+ghost use Rattle.std.specs.Prelude.{◌≡◌, ◌++◌, OnOk};
+ghost use Rattle.rtcp_wire.specs.Views.{packet_value};
 ghost use Rattle.rtcp_run.specs.Text.{packet_text, accepted_text, reason_text, fault_text};
 
 mod descriptions;
@@ -23,33 +23,33 @@ use digits::push_decimal;
 use goodbyes::push_goodbye;
 use others::{push_application, push_other};
 use reports::{push_receiver_report, push_sender_report};
-use rtcp_wire::{FaultReason, Packet, WireFault};
+use rtcp_wire::{Compound, FaultReason, PacketView, WireFault};
 use std::alloc::AllocError;
 
 /// Appends the line for an accepted datagram.
-pub(crate) fn push_accepted(out: &mut Vec<u8>, packets: &[Packet]) -> Result<(), AllocError>
-    ensures { OnOk result (out.new.items ≡ out.old.items ++ accepted_text (packets_of packets.now)) }
+pub(crate) fn push_accepted(out: &mut Vec<u8>, compound: &Compound<'_>) -> Result<(), AllocError>
+    ensures { OnOk result (out.new.items ≡ out.old.items ++ accepted_text compound.now) }
 {
     out.extend_from_slice(b"ok")?;
-    for packet in packets {
+    for packet in compound.packets() {
         out.push(b' ')?;
-        push_packet(out, packet)?;
+        push_packet(out, &packet)?;
     }
     out.push(b'\n')?;
     Ok(())
 }
 
 /// Appends the text of a packet.
-fn push_packet(out: &mut Vec<u8>, packet: &Packet) -> Result<(), AllocError>
-    ensures { OnOk result (out.new.items ≡ out.old.items ++ packet_text (packet_of packet.now)) }
+fn push_packet(out: &mut Vec<u8>, packet: &PacketView<'_>) -> Result<(), AllocError>
+    ensures { OnOk result (out.new.items ≡ out.old.items ++ packet_text (packet_value packet.now)) }
 {
     match packet {
-        Packet::Sr(report) => push_sender_report(out, report),
-        Packet::Rr(report) => push_receiver_report(out, report),
-        Packet::Sdes(description) => push_description(out, description),
-        Packet::Bye(goodbye) => push_goodbye(out, goodbye),
-        Packet::App(packet) => push_application(out, packet),
-        Packet::Other(packet) => push_other(out, packet),
+        PacketView::Sr(report) => push_sender_report(out, report),
+        PacketView::Rr(report) => push_receiver_report(out, report),
+        PacketView::Sdes(description) => push_description(out, description),
+        PacketView::Bye(goodbye) => push_goodbye(out, goodbye),
+        PacketView::App(packet) => push_application(out, packet),
+        PacketView::Other(packet) => push_other(out, packet),
     }
 }
 

@@ -9,7 +9,7 @@ use Rattle.rtcp_wire.specs.Faults.{least_size}
 use Rattle.rtcp_wire.proofs.Joining.{same_count, same_whole}
 use Rattle.rtcp_wire.proofs.Prefixes.{cons_parts, cons_not_nil, same_prefixes, cut_prefix, length_parts}
 use Rattle.rtcp_wire.proofs.Fixed.{one_block, one_id, fixed_length}
-use Rattle.rtcp_wire.proofs.Chunks.{one_chunk, chunk_has_octets}
+use Rattle.rtcp_wire.proofs.ChunkPrefixes.{one_chunk, chunk_has_octets}
 
 -- ---- Reports
 

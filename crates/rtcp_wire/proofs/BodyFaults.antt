@@ -9,7 +9,7 @@ use Rattle.rtcp_wire.specs.Grammar.{IsReasonPart, IsGoodbye, IsBody}
 use Rattle.rtcp_wire.specs.Faults.{least_size, IsNoReason, FindsInBody}
 use Rattle.rtcp_wire.proofs.Prefixes.{cons_parts, cons_not_nil, length_parts}
 use Rattle.rtcp_wire.proofs.Fixed.{fixed_length}
-use Rattle.rtcp_wire.proofs.Chunks.{not_inside, not_beside, not_both}
+use Rattle.rtcp_wire.proofs.ChunkPrefixes.{not_inside, not_beside, not_both}
 use Rattle.rtcp_wire.proofs.Bodies.{body_room}
 
 -- ---- Reasons
@@ -24,7 +24,7 @@ reason_or_not (Some said) (size ∷ text) h bad =
     elim bad [ inl few ↦ omega (arith, few, sum, parts.0) | inr more ↦ omega (arith, more, sum, parts.0, h.fill) ]
 
 -- what follows the identifiers of a goodbye
-after_ids : (ids : List ℕ) (reason : Option (List ℕ)) (count : ℕ) (body : List ℕ) (h : IsGoodbye ids reason count body) → drop (4 * count) body ≡ h.rest
+pub after_ids : (ids : List ℕ) (reason : Option (List ℕ)) (count : ℕ) (body : List ℕ) (h : IsGoodbye ids reason count body) → drop (4 * count) body ≡ h.rest
 after_ids ids reason count body h =
     ap (drop (4 * count)) h.parts ∙ drop_at h.prefix h.rest (4 * count) (fixed_length 4 (big_number 4) ids h.prefix h.each ∙ ap (λ (n : ℕ). 4 * n) h.counted)
 

@@ -1,7 +1,7 @@
 -- Blocks and identifiers: values that a fixed number of octets says.
-use Rattle.std.proofs.Common.{◌≡◌, ℕ, zero, suc, ◌+◌, ◌*◌, List, [], ◌∷◌, length, take, drop, refl, sym, ap, ◌∙◌, arith}
+use Rattle.std.proofs.Common.{◌≡◌, ℕ, zero, suc, ◌+◌, ◌*◌, List, [], ◌∷◌, length, take, drop, refl, sym, ap, ◌∙◌, arith, lit<}
 use Rattle.std.proofs.Math.Nat.{mul-zero, mul-suc}
-use Rattle.std.proofs.lemmas.List.{take-append-drop, length-drop, length-take-le, nil_from_length}
+use Rattle.std.proofs.lemmas.List.{take-append-drop, length-drop, length-take-le, nil_from_length, get_or-take}
 use Rattle.byteorder.specs.Endian.{big_number}
 use Rattle.rtcp_wire.specs.Grammar.{Joins, block_in, IsBlock, IsId}
 use Rattle.rtcp_wire.proofs.Joining.{IsPrefixFree}
@@ -37,3 +37,12 @@ fixed_from size value (suc n) octets e =
     let more = fixed_from size value n (drop size octets) (omega (arith, length-drop size octets)) in
     let len : length (take size octets) ≡ size = length-take-le size octets (omega arith) in
     (value (take size octets) ∷ more.0, ap suc more.1, (take size octets, drop size octets, sym (take-append-drop size octets), (len, refl), more.2))
+
+-- the number in four octets is in them alone
+pub big_number-take : (octets : List ℕ) → big_number 4 (take 4 octets) ≡ big_number 4 octets
+big_number-take octets =
+    let a = get_or-take 4 octets 0 0 (lit< tt) in
+    let b = get_or-take 4 octets 1 0 (lit< tt) in
+    let c = get_or-take 4 octets 2 0 (lit< tt) in
+    let d = get_or-take 4 octets 3 0 (lit< tt) in
+    omega (arith, a, b, c, d)

@@ -1,7 +1,7 @@
 mod Joining
 mod Prefixes
 mod Fixed
-mod Chunks
+mod ChunkPrefixes
 mod Bodies
 mod BodyFaults
 mod Spellings
@@ -18,18 +18,21 @@ mod RtpHeading
 mod RtpFaults
 mod ReadingRtp
 mod RtpRows
-mod ReadingReports
-mod ReadingDescriptions
-mod ReadingGoodbyes
 mod ReadingPackets
-mod ReadingCompounds
-mod FactLists
+mod Passing
+mod PassingPackets
 mod FactRows
+mod AboutLists
+mod AboutRows
 mod Appending
 mod Written
 mod WrittenPackets
 mod Reports
 mod NoMedia
 mod ReadingWalks
+mod WalkSteps
+mod ItemSteps
+mod ChunkSteps
+mod PacketSteps
 mod WalkRows
 pub mod LawLemmas

@@ -1,15 +1,12 @@
--- A packet that is read at the start of octets, or else the first row of the table of faults.
-use Rattle.std.proofs.Common.{◌≡◌, ℕ, ◌≤◌, ◌<◌, Bool, true, false, List, length, drop, Result, Ok, Err, MatchResult, sym, ◌∙◌, arith, inl, inr}
+-- A packet that is tested at the start of octets, or else the first row of the table of faults.
+use Rattle.std.proofs.Common.{◌≡◌, ℕ, ◌<◌, Bool, true, false, List, length, drop, Result, Ok, Err, MatchResult, sym, ◌∙◌, arith, inl, inr}
 use Rattle.std.proofs.lemmas.List.{take-append-drop}
 use Rattle.rtcp_wire.specs.declared.fault.FaultReason.{FaultReason}
-use Rattle.rtcp_wire.specs.declared.fault.FaultReason.TheVariants.{Short, Version, FirstType, FirstPadding, Length, Padding, Body, Item, Reason, TooLong}
-use Rattle.rtcp_wire.specs.declared.part_error.PartError.{PartError}
-use Rattle.rtcp_wire.specs.declared.part_error.PartError.TheVariants.{Fault, Memory}
-use Rattle.rtcp_wire.specs.declared.packet.Packet.{Packet}
-use Rattle.rtcp_wire.specs.Grammar.{is_padded, count_of, type_of, size_of, padding_of, body_of, IsPadding, IsBody, IsSpelling, MayBegin}
-use Rattle.rtcp_wire.specs.Faults.{least_size, Finds, IsFirstRow, MayStand}
-use Rattle.rtcp_wire.specs.Parts.{Takes, IsWhole, IsUnpadded, IsBodyFault, IsPacketFault}
-use Rattle.rtcp_wire.specs.Views.{packet_of}
+use Rattle.rtcp_wire.specs.declared.fault.FaultReason.TheVariants.{Short, Version, FirstType, FirstPadding, Length, Padding}
+use Rattle.rtcp_wire.specs.Grammar.{is_padded, count_of, type_of, size_of, padding_of, body_of, IsPadding}
+use Rattle.rtcp_wire.specs.Faults.{FindsInBody, Finds, IsFirstRow, MayStand}
+use Rattle.rtcp_wire.specs.Parts.{Takes, IsWhole, IsUnpadded}
+use Rattle.rtcp_wire.specs.Validity.{IsSomeBody, IsSomePacket}
 use Rattle.rtcp_wire.proofs.Spellings.{own, is_own}
 use Rattle.rtcp_wire.proofs.Stops.{body_at, padding_at}
 use Rattle.rtcp_wire.proofs.Standing.{NoneBefore, none_at_first, next_row, IsSound, spelled_here, body_row}
@@ -64,38 +61,19 @@ is_sound is_first octets body kind count h =
 same_body : (is_first : Bool) (octets body : List ℕ) (kind count : ℕ) → HasBody is_first octets body kind count → body ≡ body_of octets
 same_body is_first octets body kind count h = h.unpadded.0 ∙ sym (is_own octets h.good.size).parts.body
 
--- ---- Out of memory
-
--- A datagram begins with a report.
-not_first : (octets : List ℕ) (kind : ℕ) → MayBegin octets → 201 < kind → type_of octets ≡ kind → ⊥
-not_first octets kind begins above is = elim begins.0 [ inl sender ↦ omega (arith, above, is, sender) | inr receiver ↦ omega (arith, above, is, receiver) ]
-
--- Where the datagram's first packet has the octets that its type asks for, no row finds a fault.
-no_row : (is_first : Bool) (octets body : List ℕ) (kind count : ℕ) → HasBody is_first octets body kind count → least_size kind count ≤ length body → is_first ≡ true
-    → (row : FaultReason) → Finds row is_first octets → ⊥
-no_row is_first octets body kind count h room first Body (inl few) =
-    let here : least_size (type_of octets) (count_of octets) ≤ length (body_of octets) = rw (← h.kind_is, ← h.count_is, ← same_body is_first octets body kind count h) room in
-    omega (arith, here, few)
-no_row is_first octets body kind count h room first Body (inr beside) = not_first octets 202 (h.good.may_stand first) (omega arith) beside.0
-no_row is_first octets body kind count h room first Item found = not_first octets 202 (h.good.may_stand first) (omega arith) found.0
-no_row is_first octets body kind count h room first Reason found = not_first octets 203 (h.good.may_stand first) (omega arith) found.0
-no_row is_first octets body kind count h room first TooLong found = found
-no_row is_first octets body kind count h room first row found = (is_sound is_first octets body kind count h).none row (omega arith) found
-
--- ---- What is read
+-- ---- What is tested
 
 -- the fault of a body is the first one
-body_fault : (is_first : Bool) (octets body : List ℕ) (kind count : ℕ) (error : PartError) → HasBody is_first octets body kind count → IsBodyFault error kind count body → IsPacketFault error is_first octets
-body_fault is_first octets body kind count (Fault reason) h found =
+body_fault : (is_first : Bool) (octets body : List ℕ) (kind count : ℕ) (reason : FaultReason) → HasBody is_first octets body kind count → FindsInBody reason kind count body → IsFirstRow reason is_first octets
+body_fault is_first octets body kind count reason h found =
     body_row reason is_first octets (is_sound is_first octets body kind count h) (rw (← h.kind_is, ← h.count_is, ← same_body is_first octets body kind count h) found)
-body_fault is_first octets body kind count Memory h room = no_row is_first octets body kind count h room
 
--- what is read of a body is read of the packet
-pub packet_read : (is_first : Bool) (octets body : List ℕ) (kind count : ℕ) (read : Result Packet PartError) → HasBody is_first octets body kind count
-    → MatchResult read (λ packet. IsBody (packet_of packet) kind count body) (λ error. IsBodyFault error kind count body)
-    → MatchResult read (λ packet. Takes octets (drop (size_of octets) octets) (λ s. IsSpelling (packet_of packet) s × MayStand is_first s)) (λ error. IsPacketFault error is_first octets)
-packet_read is_first octets body kind count (Ok packet) h made =
-    let here = spelled_here is_first octets (is_sound is_first octets body kind count h) (packet_of packet)
-    (body_at (packet_of packet) kind (type_of octets) count (count_of octets) body (body_of octets) h.kind_is h.count_is (same_body is_first octets body kind count h) made) in
-    (own octets, sym (take-append-drop (size_of octets) octets), here)
-packet_read is_first octets body kind count (Err error) h found = body_fault is_first octets body kind count error h found
+-- what is found in a body is found of the packet
+pub packet_passed : (is_first : Bool) (octets body : List ℕ) (kind count : ℕ) (tested : Result Unit FaultReason) → HasBody is_first octets body kind count
+    → MatchResult tested (λ _. IsSomeBody kind count body) (λ reason. FindsInBody reason kind count body)
+    → MatchResult tested (λ _. Takes octets (drop (size_of octets) octets) (λ s. IsSomePacket s × MayStand is_first s)) (λ reason. IsFirstRow reason is_first octets)
+packet_passed is_first octets body kind count (Ok done) h made =
+    let here = spelled_here is_first octets (is_sound is_first octets body kind count h) made.0
+    (body_at made.0 kind (type_of octets) count (count_of octets) body (body_of octets) h.kind_is h.count_is (same_body is_first octets body kind count h) made.1) in
+    (own octets, sym (take-append-drop (size_of octets) octets), ((made.0, here.0), here.1))
+packet_passed is_first octets body kind count (Err reason) h found = body_fault is_first octets body kind count reason h found

@@ -15,15 +15,15 @@ use Rattle.rtcp_wire.proofs.Spellings.{spelling_parts, spelling_length}
 -- ---- Parts of a whole
 
 module _ {A : Type 0} (size : ℕ) (a r : List A) (is : length a ≡ size) where
-  first_part : take size (a ++ r) ≡ a
+  pub first_part : take size (a ++ r) ≡ a
   first_part = ap (λ (n : ℕ). take n (a ++ r)) (sym is) ∙ take-append_seam a r
 
-  other_part : drop size (a ++ r) ≡ r
+  pub other_part : drop size (a ++ r) ≡ r
   other_part = ap (λ (n : ℕ). drop n (a ++ r)) (sym is) ∙ drop-append_seam a r
 
 -- ---- Blocks and identifiers
 
-values_read : {A : Type 0} (size : ℕ) (value : List ℕ → A) (xs : List A) (a r : List ℕ) → Joins (Says size value) xs a → values_in size value (length xs) (a ++ r) ≡ xs
+pub values_read : {A : Type 0} (size : ℕ) (value : List ℕ → A) (xs : List A) (a r : List ℕ) → Joins (Says size value) xs a → values_in size value (length xs) (a ++ r) ≡ xs
 values_read size value [] a r h = refl
 values_read {A = A} size value (x ∷ xs) a r h =
     let whole : a ++ r ≡ h.0 ++ (h.1 ++ r) = ap (λ (t : List ℕ). t ++ r) h.2 ∙ append_assoc h.0 h.1 r in
@@ -46,7 +46,7 @@ items_skipped (o ∷ a) r = items_skipped a r
 not_zero : (kind : ℕ) → (kind ≡ 0 → ⊥) → (kind == 0) ≡ false
 not_zero kind is = ne_eqb kind 0 is
 
-first_item : (item : ItemValue) (rest : List ℕ) → (item.kind ≡ 0 → ⊥) → items_after 0 (item.kind ∷ length item.text ∷ (item.text ++ rest)) ≡ item ∷ items_after 0 rest
+pub first_item : (item : ItemValue) (rest : List ℕ) → (item.kind ≡ 0 → ⊥) → items_after 0 (item.kind ∷ length item.text ∷ (item.text ++ rest)) ≡ item ∷ items_after 0 rest
 first_item item rest some =
     let text : take (length item.text) (item.text ++ rest) ≡ item.text = take-append_seam item.text rest in
     let read : item_in item.kind (length item.text ∷ (item.text ++ rest)) ≡ item = λ i. record { kind = item.kind; text = text i } in
@@ -63,7 +63,7 @@ items_read (item ∷ items) a r h =
     ∙ first_item item (h.1 ++ 0 ∷ r) h.3.0
     ∙ ap (λ (t : List ItemValue). item ∷ t) (items_read items h.1 r h.4)
 
-items_length : (items : List ItemValue) (a : List ℕ) → Joins IsItem items a → length a ≡ items_size items
+pub items_length : (items : List ItemValue) (a : List ℕ) → Joins IsItem items a → length a ≡ items_size items
 items_length [] a h = ap length h
 items_length (item ∷ items) a h =
     let one = sum_by-append (λ (i : ItemValue). length i.text + 2) (item ∷ []) items in
@@ -75,22 +75,22 @@ to_the_word : (items free whole : ℕ) → whole ≡ 5 + (items + free) → free
 to_the_word items free whole is few aligned = omega arith
 
 module _ (chunk : ChunkValue) (a r : List ℕ) (h : IsChunk chunk a) where
-  chunk_parts : a ++ r ≡ h.id ++ (h.items ++ 0 ∷ (h.free ++ r))
+  pub chunk_parts : a ++ r ≡ h.id ++ (h.items ++ 0 ∷ (h.free ++ r))
   chunk_parts = ap (λ (t : List ℕ). t ++ r) h.parts ∙ append_assoc h.id (h.items ++ 0 ∷ h.free) r ∙ ap (λ (t : List ℕ). h.id ++ t) (append_assoc h.items (0 ∷ h.free) r)
 
-  chunk_read : chunk_in (a ++ r) ≡ chunk
+  pub chunk_read : chunk_in (a ++ r) ≡ chunk
   chunk_read =
       let id : big_number 4 (take 4 (a ++ r)) ≡ chunk.id = ap (λ t. big_number 4 (take 4 t)) chunk_parts ∙ ap (big_number 4) (first_part 4 h.id (h.items ++ 0 ∷ (h.free ++ r)) h.id_size) ∙ sym h.source in
       let items : items_after 0 (drop 4 (a ++ r)) ≡ chunk.items = ap (λ t. items_after 0 (drop 4 t)) chunk_parts ∙ ap (items_after 0) (other_part 4 h.id (h.items ++ 0 ∷ (h.free ++ r)) h.id_size) ∙ items_read chunk.items h.items (h.free ++ r) h.each in
       λ i. record { id = id i; items = items i }
 
-  chunk_length : chunk_size chunk.items ≡ length a
+  pub chunk_length : chunk_size chunk.items ≡ length a
   chunk_length =
       let whole : length a ≡ 5 + (length h.items + length h.free) = omega (arith, length_parts a h.id (h.items ++ 0 ∷ h.free) h.parts, length-append h.items (0 ∷ h.free), h.id_size) in
       let size = items_length chunk.items h.items h.each in
       to_the_word (items_size chunk.items) (length h.free) (length a) (omega (arith, whole, size)) h.fill h.aligned
 
-  after_chunk : drop (chunk_size (chunk_in (a ++ r)).items) (a ++ r) ≡ r
+  pub after_chunk : drop (chunk_size (chunk_in (a ++ r)).items) (a ++ r) ≡ r
   after_chunk = ap (λ (c : ChunkValue). drop (chunk_size c.items) (a ++ r)) chunk_read ∙ other_part (chunk_size chunk.items) a r (sym chunk_length)
 
 chunks_read : (chunks : List ChunkValue) (a r : List ℕ) → Joins IsChunk chunks a → chunks_in (length chunks) (a ++ r) ≡ chunks
@@ -161,7 +161,7 @@ packets_skipped : (a r : List ℕ) → packets_after (length a) (a ++ r) ≡ pac
 packets_skipped [] r = refl
 packets_skipped (o ∷ a) r = packets_skipped a r
 
-packet_read : (packet : RtcpPacket) (a r : List ℕ) → IsSpelling packet a → packet_in (a ++ r) ≡ packet
+pub packet_read : (packet : RtcpPacket) (a r : List ℕ) → IsSpelling packet a → packet_in (a ++ r) ≡ packet
 packet_read packet a r h =
     let parts = spelling_parts packet a r h in
     (λ i. body_says (parts.header.kind i) (parts.header.count i) (parts.body i)) ∙ body_read packet (type_of a) (count_of a) (body_of a) h.body

@@ -52,7 +52,7 @@ of_an_application = refl
 of_another_type : packets_in (report ++ 0x83 ∷ 0xcf ∷ 0 ∷ 1 ∷ 9 ∷ 8 ∷ 7 ∷ 6 ∷ []) ≡ rr 7 [] [] ∷ other 207 3 (9 ∷ 8 ∷ 7 ∷ 6 ∷ []) ∷ []
 of_another_type = refl
 
--- a report of source 10 with one block, of fraction 25, lost 3, highest 11
+-- a report of source 7 with one block, of fraction 25, lost 3, highest 11
 with_block : packets_in (0x81 ∷ 0xc9 ∷ 0 ∷ 7 ∷ 0 ∷ 0 ∷ 0 ∷ 7 ∷ 0 ∷ 0 ∷ 0 ∷ 0xaa ∷ 0x19 ∷ 0 ∷ 0 ∷ 3 ∷ 0 ∷ 0 ∷ 0 ∷ 0x0b ∷ 0 ∷ 0 ∷ 0 ∷ 0
     ∷ 0xb7 ∷ 5 ∷ 0x20 ∷ 0 ∷ 0 ∷ 5 ∷ 0x40 ∷ 0 ∷ [])
     ≡ rr 7 (record { ssrc = 0xaa; fraction = 25; lost = pos 3; highest = 11; jitter = 0; lsr = 0xb7052000; dlsr = 0x00054000 } ∷ []) [] ∷ []

@@ -2,11 +2,12 @@ pub mod Values
 pub mod Grammar
 pub mod Faults
 pub mod Views
-pub mod Reading
 pub mod Parts
+pub mod Validity
 pub mod RtpHeads
 pub mod Facts
-pub mod Pending
+pub mod FactsLeft
+pub mod About
 pub mod Writing
 pub mod WriterViews
 pub mod Walks

@@ -1,5 +1,6 @@
--- What a walk over octets reads (RFC 3550, 6.4 to 6.7): packets from first to last, and their parts. Where octets are
--- encodings of packets it reads these, which a law says (`walks_read_encodings`); of other octets nothing is claimed.
+-- What a walk over octets reads (RFC 3550, 6.4 to 6.7): packets from first to last, and their parts. Where
+-- octets are encodings of packets it reads these, which a law says (`walks_read_encodings`); of other octets
+-- nothing is claimed.
 use Rattle.std.specs.Prelude.{ℕ, zero, suc, ◌+◌, ◌-◌, ◌*◌, ◌/◌, ◌==◌, if◌then◌else◌, List, [], ◌∷◌, Option, Some, None, length, take, drop, slice_index, sum_by}
 use Rattle.byteorder.specs.Endian.{big_number}
 use Rattle.rtcp_wire.specs.Values.{ReportBlock, ItemValue, ChunkValue, RtcpPacket, sr, rr, sdes, bye, app, other}
@@ -9,7 +10,8 @@ use Rattle.rtcp_wire.specs.Grammar.{type_of, count_of, size_of, body_of, block_i
 
 abbrev pub values_in : {A : Type 0} → (size : ℕ) → (List ℕ → A) → (count : ℕ) → List ℕ → List A
 values_in size value zero octets = []
-values_in size value (suc count) octets = value (take size octets) ∷ values_in size value count (drop size octets)
+values_in size value (suc count) octets =
+    value (take size octets) ∷ values_in size value count (drop size octets)
 
 abbrev pub blocks_in : (count : ℕ) → List ℕ → List ReportBlock
 blocks_in count octets = values_in 24 block_in count octets
@@ -43,7 +45,8 @@ chunk_size items = 4 * ((items_size items + 8) / 4)
 
 abbrev pub chunks_in : (count : ℕ) → List ℕ → List ChunkValue
 chunks_in zero octets = []
-chunks_in (suc count) octets = chunk_in octets ∷ chunks_in count (drop (chunk_size (chunk_in octets).items) octets)
+chunks_in (suc count) octets =
+    chunk_in octets ∷ chunks_in count (drop (chunk_size (chunk_in octets).items) octets)
 
 -- ---- Packets
 
@@ -60,7 +63,8 @@ body_says kind count body =
     rr (big_number 4 (take 4 body)) (blocks_in count (drop 4 body)) (drop (24 * count) (drop 4 body))
     else (if kind == 202 then sdes (chunks_in count body)
     else (if kind == 203 then bye (ids_in count body) (reason_in (drop (4 * count) body))
-    else (if kind == 204 then app count (big_number 4 (take 4 body)) (take 4 (drop 4 body)) (drop 4 (drop 4 body))
+    else (if kind == 204 then
+    app count (big_number 4 (take 4 body)) (take 4 (drop 4 body)) (drop 4 (drop 4 body))
     else other kind count body))))
 
 -- the packet that begins here

@@ -1,17 +1,12 @@
 //! Packets that an application defines (RFC 3550, 6.7).
 
-ghost use Rattle.std.specs.Prelude.{◌≡◌, MatchResult};
-ghost use Rattle.rtcp_wire.specs.Grammar.{IsApplication};
-ghost use Rattle.rtcp_wire.specs.Parts.{IsTooShort};
+ghost use Rattle.std.specs.Prelude.{◌≡◌, ◌≤◌, length, take, drop};
+ghost use Rattle.byteorder.specs.Endian.{big_number};
+ghost use Rattle.rtcp_wire.specs.Values.{app};
+ghost use Rattle.rtcp_wire.specs.Views.{packet_value};
+ghost use Rattle.rtcp_wire.specs.declared.packet.PacketView.TheVariants as views;
 
-use crate::fault::FaultReason;
-use crate::layout::ID_SIZE;
-use crate::part_error::PartError;
 use crate::reader::Reader;
-use std::alloc::Global;
-
-/// The octets of the body before the data: an identifier and the name.
-const PREFIX_SIZE: usize = ID_SIZE + 4;
 
 /// A packet that an application defines (RFC 3550, 6.7).
 ///
@@ -23,8 +18,8 @@ const PREFIX_SIZE: usize = ID_SIZE + 4;
 /// |                       data, whole words                       |
 /// +---------------------------------------------------------------+
 /// ```
-#[derive(Debug, Drop)]
-pub struct Application {
+#[derive(Clone, Copy, Debug)]
+pub struct Application<'a> {
     /// Five bits that the application defines.
     pub subtype: u8,
     /// The SSRC of the source that sends the packet.
@@ -32,31 +27,23 @@ pub struct Application {
     /// The name of the set of packets that this one belongs to. It need not be ASCII.
     pub name: [u8; 4],
     /// What the application says: whole words.
-    pub data: Vec<u8>,
+    pub data: &'a [u8],
 }
 
-/// Reads the body of an application's packet, whose header has the subtype where others have a count.
-pub(crate) fn read_application(
-    alloc: Global,
-    subtype: u8,
-    body: &[u8],
-) -> Result<Application, PartError>
-    ensures { MatchResult result
-        (λ packet. (packet.subtype ≡ subtype)
-        × IsApplication packet.ssrc packet.name packet.data.items body.now)
-        (λ error. IsTooShort error 8 body.now) }
+/// The application's packet whose body this is, under a header that has the subtype where others have a
+/// count.
+pub(crate) fn application_from(subtype: u8, body: &[u8]) -> Application<'_>
+    requires { 8 ≤ length body.now }
+    ensures { packet_value (views.App result) ≡
+        app subtype (big_number 4 (take 4 body.now)) (take 4 (drop 4 body.now)) (drop 4 (drop 4 body.now)) }
 {
     let mut reader = Reader::new(body);
-    if reader.left() < PREFIX_SIZE {
-        return Err(PartError::Fault(FaultReason::Body));
-    }
     let ssrc = reader.u32();
     let name = reader.word();
-    let data = Vec::from_slice(alloc, reader.rest())?;
-    Ok(Application {
+    Application {
         subtype,
         ssrc,
         name,
-        data,
-    })
+        data: reader.rest(),
+    }
 }

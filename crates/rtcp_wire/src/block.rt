@@ -1,11 +1,12 @@
 //! Reception report blocks (RFC 3550, 6.4.1).
 
-ghost use Rattle.std.specs.Prelude.{◌≡◌, ◌*◌, ◌≤◌, length, map, take, drop, IfOk};
-ghost use Rattle.rtcp_wire.specs.Grammar.{Joins, IsBlock, block_in};
-ghost use Rattle.rtcp_wire.specs.Views.{block_value};
+ghost use Rattle.std.specs.Prelude.{◌≡◌, length};
+ghost use Rattle.std.specs.Iterator.{YieldsFirstBy, item_count};
+ghost use Rattle.rtcp_wire.specs.Grammar.{block_in};
+ghost use Rattle.rtcp_wire.specs.Views.{block_value, block_values};
 
 use crate::reader::Reader;
-use std::alloc::{AllocError, Global};
+use std::marker::Model;
 
 /// The octets of a block.
 pub(crate) const BLOCK_SIZE: usize = 24;
@@ -46,23 +47,44 @@ pub struct Block {
     pub dlsr: u32,
 }
 
-/// The next `count` blocks.
-pub(crate) fn read_blocks(
-    alloc: Global,
-    count: u8,
-    reader: &mut Reader<'_>,
-) -> Result<Vec<Block>, AllocError>
-    requires { 24 * count ≤ length reader.old }
-    ensures blocks { IfOk result (λ blocks.
-        Joins IsBlock (map block_value blocks.items) (take (24 * count) reader.old)) }
-    ensures counted { IfOk result (λ blocks. length blocks.items ≡ count) }
-    ensures rest { IfOk result (λ _. reader.new ≡ drop (24 * count) reader.old) }
-{
-    let mut blocks = Vec::with_capacity(alloc, count as usize)?;
-    for _ in 0..count {
-        blocks.push(block_from(reader.take(BLOCK_SIZE)))?;
+/// The blocks of a report, in their order: an iterator that reads them from the datagram.
+/// `SenderReport::blocks` and `ReceiverReport::blocks` make it.
+#[derive(Debug, Drop)]
+pub struct Blocks<'a> {
+    octets: &'a [u8],
+}
+
+impl<'a> Model for Blocks<'a> {
+    ghost use Rattle.std.specs.Prelude.{List};
+    ghost use Rattle.rtcp_wire.specs.Values.{ReportBlock};
+    ghost use Rattle.rtcp_wire.specs.Views.{block_values};
+
+    ghost Value = { List ReportBlock };
+
+    ghost view = { λ blocks. block_values blocks.octets.now };
+}
+
+impl<'a> Blocks<'a> {
+    /// The blocks that these octets are, 24 octets each.
+    pub(crate) fn new(octets: &'a [u8]) -> Blocks<'a>
+        ensures { result ≡ block_values octets.now }
+    {
+        Blocks { octets }
     }
-    Ok(blocks)
+}
+
+impl<'a> Iterator for Blocks<'a> {
+    type Item = Block;
+
+    ghost next_gives = { YieldsFirstBy block_value (λ blocks. blocks) };
+
+    ghost remaining = { item_count (λ blocks. blocks) };
+
+    fn next(&mut self) -> Option<Block> {
+        let (block, others) = self.octets.split_at_checked(BLOCK_SIZE)?;
+        self.octets = others;
+        Some(block_from(block))
+    }
 }
 
 /// The block that these octets are.

@@ -1,74 +1,81 @@
 //! Compounds: the packets of a datagram (RFC 3550, 6.1 and appendix A.2).
 
-ghost use Rattle.std.specs.Prelude.{◌≡◌, ◌≤◌, List, length, IfOk, Err};
+ghost use Rattle.std.specs.Prelude.{◌≡◌, List, IfOk, IsOkAnd, Err};
 ghost use Rattle.rtcp_wire.specs.Values.{RtcpPacket};
 ghost use Rattle.rtcp_wire.specs.Grammar.{IsAccepted};
 ghost use Rattle.rtcp_wire.specs.Faults.{IsFirstFault};
-ghost use Rattle.rtcp_wire.specs.Views.{packets_of};
-ghost use Rattle.rtcp_wire.specs.Reading.{GivesPackets, GivesFault};
+ghost use Rattle.rtcp_wire.specs.Walks.{packets_in};
+ghost use Rattle.rtcp_wire.specs.About.{blocks_about};
 ghost use Rattle.rtcp_wire.specs.declared.fault.WireFault.{WireFault as Fault};
 
-use crate::fault::{FaultReason, ReadError, WireFault};
-use crate::packet::{Packet, read_packet};
-use crate::reader::Reader;
-use std::alloc::Global;
+mod about;
+mod packets;
+
+use crate::fault::WireFault;
+use crate::validity::check_datagram;
+pub use about::About;
+pub use packets::Packets;
+use std::marker::Model;
 
 /// The most octets of a datagram: UDP's own limit.
 pub const MAX_DATAGRAM: usize = 65_535;
 
-/// Reads the packets of a datagram (RFC 3550, 6.1): one or more, the first a report without padding, up to
-/// its last octet.
-///
-/// What the packets hold is allocated from `alloc`.
-///
-/// # Errors
-///
-/// - [`ReadError::Wire`] where the datagram is not a compound, or has more than [`MAX_DATAGRAM`] octets: its
-///   first fault, and the offset of the packet that has it, 0 where the datagram is too long.
-/// - [`ReadError::Memory`] where an allocation failed. The datagram may then be good or bad, but its first
-///   packet is good: a fault there is found before anything is allocated.
-pub fn read_owned(alloc: Global, datagram: &[u8]) -> Result<Vec<Packet>, ReadError>
-    // What is read is what the octets encode, and a fault is their first one.
-    ensures accepted { IfOk result (λ packets. IsAccepted datagram.now (packets_of packets.items)) }
-    ensures refused { (fault : Fault) → result ≡ Err (ReadError.Wire fault) →
-        IsFirstFault datagram.now fault }
-
-    // What is so encoded is read, and a first fault is found, unless memory runs out. A fault at offset 0 is
-    // found even then.
-    ensures reads { (packets : List RtcpPacket) → IsAccepted datagram.now packets →
-        GivesPackets result packets }
-    ensures finds { (fault : Fault) → IsFirstFault datagram.now fault → GivesFault result fault }
-    ensures prompt { (fault : Fault) → IsFirstFault datagram.now fault → fault.place ≡ 0 →
-        result ≡ Err (ReadError.Wire fault) }
-{
-    if datagram.len() > MAX_DATAGRAM {
-        return Err(ReadError::Wire(WireFault {
-            reason: FaultReason::TooLong,
-            place: 0,
-        }));
-    }
-    read_packets(alloc, datagram)
+/// The packets of a datagram (RFC 3550, 6.1): one or more, the first a report without padding, up to its last
+/// octet. It borrows the datagram, and keeps that its octets are such packets: what reads them later finds no
+/// fault.
+#[derive(Debug, Drop)]
+pub struct Compound<'a> {
+    octets: &'a [u8],
 }
 
-/// Reads packet after packet, to the end of the datagram or to its first fault.
-fn read_packets(alloc: Global, datagram: &[u8]) -> Result<Vec<Packet>, ReadError>
-    requires { length datagram.now ≤ 65535 }
-    ensures accepted { IfOk result (λ packets. IsAccepted datagram.now (packets_of packets.items)) }
-    ensures refused { (fault : Fault) → result ≡ Err (ReadError.Wire fault) →
-        IsFirstFault datagram.now fault }
-    ensures prompt { result ≡ Err ReadError.Memory → (fault : Fault) → IsFirstFault datagram.now fault →
-        fault.place ≡ 0 → ⊥ }
-{
-    let mut packets = Vec::new(alloc);
-    let mut reader = Reader::new(datagram);
-    'packets: loop {
-        let place = datagram.len() - reader.left();
-        match read_packet(alloc, &mut reader, place == 0) {
-            Ok(packet) => packets.push(packet)?,
-            Err(error) => return Err(error.at(place)),
+impl<'a> Model for Compound<'a> {
+    ghost use Rattle.std.specs.Prelude.{List};
+    ghost use Rattle.rtcp_wire.specs.Values.{RtcpPacket};
+    ghost use Rattle.rtcp_wire.specs.Grammar.{IsAccepted};
+    ghost use Rattle.rtcp_wire.specs.Walks.{packets_in};
+
+    ghost Value = { List RtcpPacket };
+
+    ghost view = { λ compound. packets_in compound.octets.now };
+
+    ghost invariant = { λ compound. IsAccepted compound.octets.now (packets_in compound.octets.now) };
+}
+
+impl<'a> Compound<'a> {
+    /// Reads a datagram. Nothing is copied or allocated.
+    ///
+    /// # Errors
+    ///
+    /// Where the datagram is not a compound, or has more than [`MAX_DATAGRAM`] octets: its first fault, and
+    /// the offset of the packet that has it, 0 where the datagram is too long.
+    pub fn read(datagram: &'a [u8]) -> Result<Compound<'a>, WireFault>
+        // What is read is what the octets encode, and an error is their first fault.
+        ensures accepted { IfOk result (λ compound. IsAccepted datagram.now compound) }
+        ensures refused { (fault : Fault) → result ≡ Err fault → IsFirstFault datagram.now fault }
+
+        // What is so encoded is read, and a first fault is found.
+        ensures reads { (packets : List RtcpPacket) → IsAccepted datagram.now packets →
+            IsOkAnd result (λ compound. compound ≡ packets) }
+        ensures finds { (fault : Fault) → IsFirstFault datagram.now fault → result ≡ Err fault }
+    {
+        match check_datagram(datagram) {
+            Ok(()) => Ok(Compound { octets: datagram }),
+            Err(fault) => Err(fault),
         }
-        if reader.left() == 0 {
-            return Ok(packets);
-        }
+    }
+
+    /// The packets, in their order.
+    pub fn packets(&self) -> Packets<'a>
+        ensures { result ≡ self.now }
+    {
+        Packets::new(self.octets)
+    }
+
+    /// What the reports say of the source `ssrc`: each block that names it, with the SSRC of its packet's
+    /// source, in their order (RFC 3550, 6.4). A source reads so how its own packets are received.
+    pub fn about(&self, ssrc: u32) -> About<'a>
+        ensures { result ≡ blocks_about ssrc self.now }
+    {
+        About::new(ssrc, self.packets())
     }
 }

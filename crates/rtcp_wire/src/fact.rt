@@ -1,16 +1,14 @@
 //! What the packets of a compound say of sources.
 
 ghost use Rattle.std.specs.Prelude.{◌≡◌};
-ghost use Rattle.rtcp_wire.specs.Views.{packets_of};
 ghost use Rattle.rtcp_wire.specs.Facts.{facts_of};
 
-mod pending;
 mod remaining;
 
-use crate::packet::Packet;
+use crate::compound::Compound;
 pub use remaining::Facts;
 
-/// What these packets say of sources, packet by packet. Neither the call nor the iterator allocates.
+/// What the packets of a compound say of sources, packet by packet.
 ///
 /// - A sender report: its sender was heard, and sent this NTP timestamp.
 /// - A receiver report, and a packet that an application defines: their source was heard.
@@ -19,10 +17,10 @@ pub use remaining::Facts;
 /// - A goodbye, for each identifier: the source left.
 ///
 /// Report blocks and packets of other types give no facts.
-pub fn facts(packets: &[Packet]) -> Facts<'_>
-    ensures { result ≡ facts_of (packets_of packets.now) }
+pub fn facts<'a>(compound: &Compound<'a>) -> Facts<'a>
+    ensures { result ≡ facts_of compound.now }
 {
-    Facts::new(packets)
+    Facts::new(compound.packets())
 }
 
 /// What a packet says of a source.

@@ -1,23 +1,8 @@
 //! Why octets were not read.
 
-ghost use Rattle.std.specs.Prelude.{◌≡◌};
-ghost use Rattle.rtcp_wire.specs.declared.fault.ReadError.TheVariants.{Memory};
-
-use std::alloc::{AllocError, AllocFailed};
 use thiserror::Error;
 
-/// Why a datagram was not read.
-#[derive(Clone, Copy, Debug, PartialEq, Eq, Error)]
-pub enum ReadError {
-    /// The datagram is not a compound (RFC 3550, 6.1): this is its first fault.
-    #[error("{0}")]
-    Wire(WireFault),
-    /// An allocation failed before the datagram was read to its end or to a fault.
-    #[error("out of memory")]
-    Memory,
-}
-
-/// The first fault of a datagram.
+/// Why a datagram was not read: its first fault.
 #[derive(Clone, Copy, Debug, PartialEq, Eq, Error)]
 #[error("{reason}, in the packet at octet {place}")]
 pub struct WireFault {
@@ -68,20 +53,4 @@ pub enum FaultReason {
     /// F10. A datagram has at most 65,535 octets, UDP's own limit, and this one has more.
     #[error("datagram has more than 65,535 octets")]
     TooLong,
-}
-
-impl From<AllocError> for ReadError {
-    ghost from_gives = { λ _ e. e ≡ Memory };
-
-    fn from(_e: AllocError) -> ReadError {
-        ReadError::Memory
-    }
-}
-
-impl<T: Drop> From<AllocFailed<T>> for ReadError {
-    ghost from_gives = { λ _ e. e ≡ Memory };
-
-    fn from(_e: AllocFailed<T>) -> ReadError {
-        ReadError::Memory
-    }
 }

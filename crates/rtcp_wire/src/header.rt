@@ -1,13 +1,13 @@
 //! The word that begins each packet (RFC 3550, 6.4.1).
 
 ghost use Rattle.std.specs.Prelude.{◌≡◌, ◌≤◌, length, MatchResult, IfOk, false};
-ghost use Rattle.rtcp_wire.specs.Grammar.{version_of, is_padded, count_of, type_of, size_of};
-ghost use Rattle.rtcp_wire.specs.Parts.{IsWhole, IsRow, IsUnpadded, Fails};
-ghost use Rattle.rtcp_wire.specs.Faults.{Finds};
+ghost use Rattle.rtcp_wire.specs.Grammar.{version_of, is_padded, count_of, type_of, size_of, body_of};
+ghost use Rattle.rtcp_wire.specs.Validity.{IsSomePacket};
+ghost use Rattle.rtcp_wire.specs.Parts.{IsWhole, IsUnpadded};
+ghost use Rattle.rtcp_wire.specs.Faults.{Finds, IsFirstRow};
 
 use crate::fault::FaultReason;
 use crate::layout::{HEADER_SIZE, RECEIVER_REPORT, SENDER_REPORT, VERSION, WORD_SIZE};
-use crate::part_error::PartError;
 use crate::reader::Reader;
 
 /// A packet's first word (RFC 3550, 6.4.1).
@@ -31,35 +31,35 @@ pub(crate) struct Header {
 
 /// The header of the packet that begins here, if all of the packet is there and it may be in this position:
 /// a datagram's first packet is a report without padding.
-pub(crate) fn read_header(octets: &[u8], is_first: bool) -> Result<Header, PartError>
+pub(crate) fn read_header(octets: &[u8], is_first: bool) -> Result<Header, FaultReason>
     ensures whole { MatchResult result
         (λ _. IsWhole is_first octets.now)
-        (λ error. IsRow error is_first octets.now) }
+        (λ reason. IsFirstRow reason is_first octets.now) }
     ensures fields { IfOk result (λ header.
         (header.count ≡ count_of octets.now) × (header.kind ≡ type_of octets.now)
         × (header.size ≡ size_of octets.now) × (header.is_padded ≡ is_padded octets.now)) }
 {
     if octets.len() < HEADER_SIZE {
-        return Err(PartError::Fault(FaultReason::Short));
+        return Err(FaultReason::Short);
     }
     let header = header_at(octets);
     if header.version != VERSION {
-        return Err(PartError::Fault(FaultReason::Version));
+        return Err(FaultReason::Version);
     }
     if is_first && header.kind != SENDER_REPORT && header.kind != RECEIVER_REPORT {
-        return Err(PartError::Fault(FaultReason::FirstType));
+        return Err(FaultReason::FirstType);
     }
     if is_first && header.is_padded {
-        return Err(PartError::Fault(FaultReason::FirstPadding));
+        return Err(FaultReason::FirstPadding);
     }
     if octets.len() < header.size {
-        return Err(PartError::Fault(FaultReason::Length));
+        return Err(FaultReason::Length);
     }
     Ok(header)
 }
 
 /// The header in the first four octets.
-fn header_at(octets: &[u8]) -> Header
+pub(crate) fn header_at(octets: &[u8]) -> Header
     requires { 4 ≤ length octets.now }
     ensures version { result.version ≡ version_of octets.now }
     ensures padded { result.is_padded ≡ is_padded octets.now }
@@ -82,13 +82,12 @@ fn header_at(octets: &[u8]) -> Header
 
 /// What stands between the header and the padding of a whole packet (RFC 3550, 6.4.1). The last octet of the
 /// padding counts all of it; the others are not checked.
-pub(crate) fn unpadded(octets: &[u8], has_padding: bool) -> Result<&[u8], PartError>
+pub(crate) fn unpadded(octets: &[u8], has_padding: bool) -> Result<&[u8], FaultReason>
     requires size { length octets.now ≡ size_of octets.now }
     requires padding { has_padding ≡ is_padded octets.now }
     ensures { MatchResult result
         (λ body. IsUnpadded octets.now body.now)
-        (λ error. (error ≡ PartError.Fault FaultReason.Padding)
-        × Finds FaultReason.Padding false octets.now) }
+        (λ reason. (reason ≡ FaultReason.Padding) × Finds FaultReason.Padding false octets.now) }
 {
     let mut reader = Reader::new(octets);
     reader.take(HEADER_SIZE);
@@ -97,8 +96,23 @@ pub(crate) fn unpadded(octets: &[u8], has_padding: bool) -> Result<&[u8], PartEr
     }
     let padding = octets.last().copied().unwrap_or(0) as usize;
     if padding == 0 || padding % 4 != 0 || reader.left() < padding {
-        return Err(PartError::Fault(FaultReason::Padding));
+        return Err(FaultReason::Padding);
     }
     let size = reader.left() - padding;
     Ok(reader.take(size))
+}
+
+/// What stands between the header and the padding of a packet that was accepted.
+pub(crate) fn accepted_body(octets: &[u8], has_padding: bool) -> &[u8]
+    requires packet { IsSomePacket octets.now }
+    requires padding { has_padding ≡ is_padded octets.now }
+    ensures { result.now ≡ body_of octets.now }
+{
+    let padding = if has_padding {
+        octets[octets.len() - 1] as usize
+    } else {
+        0
+    };
+    let (_, rest) = octets.split_at(HEADER_SIZE);
+    rest.split_at(rest.len() - padding).0
 }

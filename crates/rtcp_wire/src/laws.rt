@@ -41,8 +41,8 @@ pub fn compounds_give_no_media()
     ensures { (packets : List RtcpPacket) → All (λ fact. is_media fact ≡ false) (facts_of packets) }
 {}
 
-/// Where a datagram is accepted as packets, a walk over its octets reads these (`packets_in`): what it holds can be
-/// computed from the octets alone, packet by packet.
+/// Where a datagram is accepted as packets, a walk over its octets reads these (`packets_in`): what it holds
+/// is computed from the octets alone, packet by packet.
 pub fn walks_read_encodings()
     ensures { (octets : List ℕ) (packets : List RtcpPacket) → IsAccepted octets packets →
         packets_in octets ≡ packets }

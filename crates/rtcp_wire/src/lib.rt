@@ -1,19 +1,30 @@
 //! Reads and writes RTCP packets (RFC 3550, 6.1 to 6.7), and reads RTP packets (5.1). It is deterministic: it
-//! reads no clock, opens no socket and draws no random number. Only `read_owned` allocates: it is given an
-//! allocator, and the packets that it returns own what they hold.
+//! reads no clock, opens no socket, draws no random number and allocates nothing. What is read borrows from
+//! the datagram.
 //!
 //! ```
-//! let datagram = [0x80, 0xc9, 0, 1, 0, 0, 0, 7, 0x81, 0xca, 0, 2, 0, 0, 0, 7, 1, 1, 0x61, 0];
-//! match read_owned(rt.alloc(), &datagram) {
-//!     Ok(packets) => assert_eq!(rt; packets.len(), 2),
-//!     Err(ReadError::Wire(fault)) => panic!(rt; "{fault}"),
-//!     Err(ReadError::Memory) => panic!(rt; "out of memory"),
+//! let datagram = [
+//!     0x81, 0xc9, 0, 7, 0, 0, 0, 7, // a receiver report of source 7, with one block
+//!     0, 0, 0, 0xaa, 25, 0, 0, 3, 0, 0, 0, 11, // of source 0xaa: 3 packets lost
+//!     0, 0, 0, 0, 0xb7, 5, 0x20, 0, 0, 5, 0x40, 0, // jitter, LSR, DLSR
+//! ];
+//! match Compound::read(&datagram) {
+//!     Ok(compound) => {
+//!         for (reporter, block) in compound.about(0xaa) {
+//!             assert_eq!(rt; (reporter, block.lost), (7, 3));
+//!         }
+//!     }
+//!     Err(fault) => panic!(rt; "{fault}"),
 //! }
 //! ```
 //!
+//! Here source 7 reports how it receives the packets of source 0xaa. From the block's LSR and DLSR,
+//! `round_trip` of rtcp_clock computes the time to source 7 and back. [`Compound::packets`] gives all that a
+//! compound holds, [`facts`] what it says of who is in the session.
+//!
 //! `specs/` defines what octets mean (`Grammar`, `RtpHeads`), which fault they have (`Faults`), what packets
-//! say of sources (`Facts`) and what is written (`Writing`). The modules `laws`, `rtp_laws` and `write_laws`
-//! state laws of these definitions.
+//! say of sources (`Facts`, `About`) and what is written (`Writing`). The modules `laws`, `rtp_laws` and
+//! `write_laws` state laws of these definitions.
 #![tactic(auto)]
 
 mod app;
@@ -23,31 +34,33 @@ mod compound;
 mod fact;
 mod fault;
 mod header;
+mod ids;
 pub mod laws;
 mod layout;
 mod other;
 mod packet;
-mod part_error;
 mod reader;
 mod rr;
 mod rtp;
 pub mod rtp_laws;
 mod sdes;
 mod sr;
+mod validity;
 pub mod write_laws;
 mod writer;
 
 pub use app::Application;
-pub use block::Block;
+pub use block::{Block, Blocks};
 pub use bye::Goodbye;
-pub use compound::{MAX_DATAGRAM, read_owned};
+pub use compound::{About, Compound, MAX_DATAGRAM, Packets};
 pub use fact::{Fact, Facts, facts};
-pub use fault::{FaultReason, ReadError, WireFault};
+pub use fault::{FaultReason, WireFault};
+pub use ids::Ids;
 pub use other::OtherPacket;
-pub use packet::Packet;
+pub use packet::PacketView;
 pub use rr::ReceiverReport;
-pub use rtp::{Csrcs, RtpFault, RtpHead};
-pub use sdes::{Chunk, SdesItem, SourceDescription};
+pub use rtp::{RtpFault, RtpHead};
+pub use sdes::{Chunk, Chunks, Items, SourceDescription};
 pub use sr::SenderReport;
 pub use writer::{ChunkRef, Full, ItemRef, MAX_COMPOUND, PacketRef, write_compound};
 

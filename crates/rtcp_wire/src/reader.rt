@@ -1,6 +1,6 @@
 //! A cursor over octets, which all offsets go through.
 
-ghost use Rattle.std.specs.Prelude.{◌≡◌, ◌≤◌, ◌<◌, length, take, drop, slice_index};
+ghost use Rattle.std.specs.Prelude.{◌≡◌, ◌≤◌, ◌<◌, [], ◌∷◌, length, take, drop, slice_index, MatchOption};
 ghost use Rattle.byteorder.specs.Endian.{big_number, twos_complement};
 
 use byteorder::{BigEndian, ByteOrder};
@@ -51,6 +51,28 @@ impl<'a> Reader<'a> {
         let (prefix, rest) = self.rest.split_at(count);
         self.rest = rest;
         prefix
+    }
+
+    /// The next octet, if one is left.
+    pub(crate) fn next_octet(&mut self) -> Option<u8>
+        ensures { MatchOption result
+            ((self.old ≡ []) × (self.new ≡ []))
+            (λ octet. self.old ≡ octet ∷ self.new) }
+    {
+        let (octet, rest) = self.rest.split_first()?;
+        self.rest = rest;
+        Some(*octet)
+    }
+
+    /// Passes over the next `count` octets, if so many are left.
+    pub(crate) fn pass(&mut self, count: usize) -> Option<()>
+        ensures { MatchOption result
+            (length self.old < count)
+            (λ _. (count ≤ length self.old) × (self.new ≡ drop count self.old)) }
+    {
+        let (_, rest) = self.rest.split_at_checked(count)?;
+        self.rest = rest;
+        Some(())
     }
 
     /// The next octet.

@@ -1,16 +1,12 @@
 //! Receiver reports (RFC 3550, 6.4.2).
 
-ghost use Rattle.std.specs.Prelude.{◌+◌, ◌*◌, map, MatchResult};
-ghost use Rattle.rtcp_wire.specs.Grammar.{IsReport};
-ghost use Rattle.rtcp_wire.specs.Parts.{IsTooShort};
-ghost use Rattle.rtcp_wire.specs.Views.{block_value};
+ghost use Rattle.std.specs.Prelude.{◌≡◌, ◌≤◌, ◌+◌, ◌*◌, length, take, drop};
+ghost use Rattle.byteorder.specs.Endian.{big_number};
+ghost use Rattle.rtcp_wire.specs.Views.{receiver_blocks};
+ghost use Rattle.rtcp_wire.specs.Walks.{blocks_in};
 
-use crate::block::{BLOCK_SIZE, Block, read_blocks};
-use crate::fault::FaultReason;
-use crate::layout::ID_SIZE;
-use crate::part_error::PartError;
+use crate::block::{BLOCK_SIZE, Blocks};
 use crate::reader::Reader;
-use std::alloc::Global;
 
 /// A receiver report (RFC 3550, 6.4.2).
 ///
@@ -22,37 +18,39 @@ use std::alloc::Global;
 /// |                           extension                           |
 /// +---------------------------------------------------------------+
 /// ```
-#[derive(Debug, Drop)]
-pub struct ReceiverReport {
+#[derive(Clone, Copy, Debug)]
+pub struct ReceiverReport<'a> {
     /// The SSRC of the source that reports.
     pub ssrc: u32,
-    /// What it reports of the sources that it hears: at most 31 blocks.
-    pub blocks: Vec<Block>,
+    block_octets: &'a [u8],
     /// The octets after the blocks: whole words that a profile may define.
-    pub extension: Vec<u8>,
+    pub extension: &'a [u8],
 }
 
-/// Reads the body of a receiver report whose header counts `count` blocks.
-pub(crate) fn read_report(
-    alloc: Global,
-    count: u8,
-    body: &[u8],
-) -> Result<ReceiverReport, PartError>
-    ensures { MatchResult result
-        (λ report. IsReport
-        report.ssrc (map block_value report.blocks.items) report.extension.items count body.now)
-        (λ error. IsTooShort error (4 + 24 * count) body.now) }
+impl<'a> ReceiverReport<'a> {
+    ghost use Rattle.rtcp_wire.specs.Views.{receiver_blocks};
+
+    /// What it reports of the sources that it hears: at most 31 blocks.
+    pub fn blocks(&self) -> Blocks<'a>
+        ensures { result ≡ receiver_blocks self.now }
+    {
+        Blocks::new(self.block_octets)
+    }
+}
+
+/// The receiver report whose body this is, under a header that counts `count` blocks.
+pub(crate) fn receiver_report_from(count: u8, body: &[u8]) -> ReceiverReport<'_>
+    requires { 4 + 24 * count ≤ length body.now }
+    ensures sender { result.ssrc ≡ big_number 4 (take 4 body.now) }
+    ensures blocks { receiver_blocks result ≡ blocks_in count (drop 4 body.now) }
+    ensures extension { result.extension.now ≡ drop (24 * count) (drop 4 body.now) }
 {
     let mut reader = Reader::new(body);
-    if reader.left() < ID_SIZE + BLOCK_SIZE * count as usize {
-        return Err(PartError::Fault(FaultReason::Body));
-    }
     let ssrc = reader.u32();
-    let blocks = read_blocks(alloc, count, &mut reader)?;
-    let extension = Vec::from_slice(alloc, reader.rest())?;
-    Ok(ReceiverReport {
+    let block_octets = reader.take(BLOCK_SIZE * count as usize);
+    ReceiverReport {
         ssrc,
-        blocks,
-        extension,
-    })
+        block_octets,
+        extension: reader.rest(),
+    }
 }

@@ -1,12 +1,10 @@
 //! RTP packets (RFC 3550, 5.1 and 5.3.1): what their header says, and where their payload stands. Nothing is
 //! copied or allocated.
 
-mod csrcs;
 mod fault;
 mod fixed;
 mod head;
 
-pub use csrcs::Csrcs;
 pub use fault::RtpFault;
 pub use head::RtpHead;
 

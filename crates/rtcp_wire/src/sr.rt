@@ -1,15 +1,12 @@
 //! Sender reports (RFC 3550, 6.4.1).
 
-ghost use Rattle.std.specs.Prelude.{◌≡◌, ◌+◌, ◌*◌, length, map, MatchResult};
-ghost use Rattle.rtcp_wire.specs.Grammar.{sender_in, IsSenderReport};
-ghost use Rattle.rtcp_wire.specs.Parts.{IsTooShort};
-ghost use Rattle.rtcp_wire.specs.Views.{sender_of, block_value};
+ghost use Rattle.std.specs.Prelude.{◌≡◌, ◌≤◌, ◌+◌, ◌*◌, length, take, drop};
+ghost use Rattle.rtcp_wire.specs.Grammar.{sender_in};
+ghost use Rattle.rtcp_wire.specs.Views.{sender_value, sender_blocks};
+ghost use Rattle.rtcp_wire.specs.Walks.{blocks_in};
 
-use crate::block::{BLOCK_SIZE, Block, read_blocks};
-use crate::fault::FaultReason;
-use crate::part_error::PartError;
+use crate::block::{BLOCK_SIZE, Blocks};
 use crate::reader::Reader;
-use std::alloc::Global;
 
 /// The octets of a sender report's body before its blocks.
 pub(crate) const SENDER_SIZE: usize = 24;
@@ -29,8 +26,8 @@ pub(crate) const SENDER_SIZE: usize = 24;
 /// |                           extension                           |
 /// +---------------------------------------------------------------+
 /// ```
-#[derive(Debug, Drop)]
-pub struct SenderReport {
+#[derive(Clone, Copy, Debug)]
+pub struct SenderReport<'a> {
     /// The SSRC of the source that reports.
     pub ssrc: u32,
     /// When the report was sent, as an NTP timestamp: seconds since 1900 in the upper 32 bits, and 1/2^32 of
@@ -42,39 +39,40 @@ pub struct SenderReport {
     pub packets: u32,
     /// How many octets their payloads have, without headers and padding.
     pub octets: u32,
-    /// What it reports of the sources that it hears: at most 31 blocks.
-    pub blocks: Vec<Block>,
+    block_octets: &'a [u8],
     /// The octets after the blocks: whole words that a profile may define.
-    pub extension: Vec<u8>,
+    pub extension: &'a [u8],
 }
 
-/// Reads the body of a sender report whose header counts `count` blocks.
-pub(crate) fn read_sender_report(
-    alloc: Global,
-    count: u8,
-    body: &[u8],
-) -> Result<SenderReport, PartError>
-    ensures { MatchResult result
-        (λ report. IsSenderReport
-        (sender_of report) (map block_value report.blocks.items) report.extension.items count body.now)
-        (λ error. IsTooShort error (24 + 24 * count) body.now) }
-{
-    let mut reader = Reader::new(body);
-    if reader.left() < SENDER_SIZE + BLOCK_SIZE * count as usize {
-        return Err(PartError::Fault(FaultReason::Body));
+impl<'a> SenderReport<'a> {
+    ghost use Rattle.rtcp_wire.specs.Views.{sender_blocks};
+
+    /// What it reports of the sources that it hears: at most 31 blocks.
+    pub fn blocks(&self) -> Blocks<'a>
+        ensures { result ≡ sender_blocks self.now }
+    {
+        Blocks::new(self.block_octets)
     }
-    let prefix = reader.take(SENDER_SIZE);
-    let blocks = read_blocks(alloc, count, &mut reader)?;
-    let extension = Vec::from_slice(alloc, reader.rest())?;
-    Ok(report_from(prefix, blocks, extension))
+}
+
+/// The sender report whose body this is, under a header that counts `count` blocks.
+pub(crate) fn sender_report_from(count: u8, body: &[u8]) -> SenderReport<'_>
+    requires { 24 + 24 * count ≤ length body.now }
+    ensures sender { sender_value result ≡ sender_in (take 24 body.now) }
+    ensures blocks { sender_blocks result ≡ blocks_in count (drop 24 body.now) }
+    ensures extension { result.extension.now ≡ drop (24 * count) (drop 24 body.now) }
+{
+    let (sender, ends) = body.split_at(SENDER_SIZE);
+    let (block_octets, extension) = ends.split_at(BLOCK_SIZE * count as usize);
+    report_from(sender, block_octets, extension)
 }
 
 /// The report that begins with these octets, and has these blocks and this extension.
-fn report_from(octets: &[u8], blocks: Vec<Block>, extension: Vec<u8>) -> SenderReport
+fn report_from<'a>(octets: &[u8], block_octets: &'a [u8], extension: &'a [u8]) -> SenderReport<'a>
     requires { length octets.now ≡ 24 }
-    ensures sender { sender_of result ≡ sender_in octets.now }
-    ensures blocks { result.blocks.items ≡ blocks.items }
-    ensures extension { result.extension.items ≡ extension.items }
+    ensures sender { sender_value result ≡ sender_in octets.now }
+    ensures reports { result.block_octets.now ≡ block_octets.now }
+    ensures extension { result.extension.now ≡ extension.now }
 {
     let mut reader = Reader::new(octets);
     let ssrc = reader.u32();
@@ -88,7 +86,7 @@ fn report_from(octets: &[u8], blocks: Vec<Block>, extension: Vec<u8>) -> SenderR
         rtp,
         packets,
         octets,
-        blocks,
+        block_octets,
         extension,
     }
 }

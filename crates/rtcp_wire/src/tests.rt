@@ -1,6 +1,9 @@
 use super::*;
+use std::alloc::{AllocError, Global};
+use std::process::Abort;
 use std::test::*;
 
+mod about;
 mod body_faults;
 mod changes;
 mod facts;
@@ -16,48 +19,75 @@ const NAMED: [u8; 20] = [
     1, 1, 0x61, 0, // a CNAME of one octet, and the zero octet
 ];
 
-fn fault(reason: FaultReason, place: usize) -> Option<ReadError> {
-    Some(ReadError::Wire(WireFault { reason, place }))
+fn fault(reason: FaultReason, place: usize) -> Option<WireFault> {
+    Some(WireFault { reason, place })
+}
+
+/// The octets of a receiver report of source 7 with no blocks, and these octets.
+fn after_report(alloc: Global, octets: &[u8]) -> Result<Vec<u8>, AllocError> {
+    let mut datagram = Vec::from_slice(alloc, &[0x80, 0xc9, 0, 1, 0, 0, 0, 7])?;
+    datagram.extend_from_slice(octets)?;
+    Ok(datagram)
+}
+
+/// The second packet of a datagram.
+fn second_packet<'a>(rt: &impl Abort, datagram: &'a [u8]) -> PacketView<'a> {
+    match Compound::read(datagram) {
+        Ok(compound) => match compound.packets().nth(1) {
+            Some(packet) => packet,
+            None => panic!(rt; "there is one packet"),
+        },
+        Err(fault) => panic!(rt; "{fault}"),
+    }
 }
 
 /// The example at the head of the crate.
 #[test]
 fn example(rt: HostRuntime) {
     let datagram = [
-        0x80, 0xc9, 0, 1, 0, 0, 0, 7, 0x81, 0xca, 0, 2, 0, 0, 0, 7, 1, 1, 0x61, 0,
+        0x81, 0xc9, 0, 7, 0, 0, 0, 7, // a receiver report of source 7, with one block
+        0, 0, 0, 0xaa, 25, 0, 0, 3, 0, 0, 0, 11, // of source 0xaa: 3 packets lost
+        0, 0, 0, 0, 0xb7, 5, 0x20, 0, 0, 5, 0x40, 0, // jitter, LSR, DLSR
     ];
-    match read_owned(rt.alloc(), &datagram) {
-        Ok(packets) => assert_eq!(rt; packets.len(), 2),
-        Err(ReadError::Wire(fault)) => panic!(rt; "{fault}"),
-        Err(ReadError::Memory) => panic!(rt; "out of memory"),
+    match Compound::read(&datagram) {
+        Ok(compound) => {
+            for (reporter, block) in compound.about(0xaa) {
+                assert_eq!(rt; (reporter, block.lost), (7, 3));
+            }
+        }
+        Err(fault) => panic!(rt; "{fault}"),
     }
 }
 
 #[test]
 fn named_report(rt: HostRuntime) -> Result<(), Fail> {
-    let packets = read_owned(rt.alloc(), &NAMED)?;
-    assert_eq!(rt; packets.len(), 2);
-    for packet in &packets {
-        match packet {
-            Packet::Rr(report) => {
-                assert_eq!(rt; report.ssrc, 7);
-                assert_eq!(rt; report.blocks.len(), 0);
-                assert_eq!(rt; report.extension.len(), 0);
-            }
-            Packet::Sdes(description) => {
-                assert_eq!(rt; description.chunks.len(), 1);
-                for chunk in &description.chunks {
-                    assert_eq!(rt; chunk.id, 7);
-                    assert_eq!(rt; chunk.items.len(), 1);
-                    for item in &chunk.items {
-                        assert_eq!(rt; item.kind, 1);
-                        assert_eq!(rt; item.text.as_slice(), b"a".as_slice());
-                    }
-                }
-            }
-            _ => panic!(rt; "there is no other packet"),
+    let compound = Compound::read(&NAMED)?;
+    let mut packets = compound.packets();
+    match packets.next() {
+        Some(PacketView::Rr(report)) => {
+            assert_eq!(rt; report.ssrc, 7);
+            assert_eq!(rt; report.blocks().next(), None);
+            assert_eq!(rt; report.extension, [].as_slice());
         }
+        _ => panic!(rt; "the first packet is a receiver report"),
     }
+    match packets.next() {
+        Some(PacketView::Sdes(description)) => {
+            let mut chunks = description.chunks();
+            let chunk = chunks.next().ok_or("no chunk")?;
+            assert_eq!(rt; chunk.id(), 7);
+            let mut items = chunk.items();
+            let item = items.next().ok_or("no item")?;
+            assert_eq!(rt; item.kind, 1);
+            assert_eq!(rt; item.text, b"a".as_slice());
+            assert!(rt; items.next().is_none());
+            assert!(rt; items.next().is_none());
+            assert!(rt; chunks.next().is_none());
+        }
+        _ => panic!(rt; "the second packet is a source description"),
+    }
+    assert!(rt; packets.next().is_none());
+    assert!(rt; packets.next().is_none());
     Ok(())
 }
 
@@ -76,59 +106,54 @@ fn block_and_extension(rt: HostRuntime) -> Result<(), Fail> {
         0, 5, 0x40, 0, // DLSR
         1, 2, 3, 4, // extension
     ];
-    let packets = read_owned(rt.alloc(), &octets)?;
-    assert_eq!(rt; packets.len(), 1);
-    for packet in &packets {
-        match packet {
-            Packet::Rr(report) => {
-                let block = Block {
-                    ssrc: 9,
-                    fraction: 25,
-                    lost: -2,
-                    highest: 65_538,
-                    jitter: 10,
-                    lsr: 0xb705_2000,
-                    dlsr: 0x0005_4000,
-                };
-                assert_eq!(rt; report.blocks.as_slice(), [block].as_slice());
-                assert_eq!(rt; report.extension.as_slice(), [1, 2, 3, 4].as_slice());
-            }
-            _ => panic!(rt; "it is a receiver report"),
+    let block = Block {
+        ssrc: 9,
+        fraction: 25,
+        lost: -2,
+        highest: 65_538,
+        jitter: 10,
+        lsr: 0xb705_2000,
+        dlsr: 0x0005_4000,
+    };
+    let compound = Compound::read(&octets)?;
+    let mut packets = compound.packets();
+    match packets.next() {
+        Some(PacketView::Rr(report)) => {
+            let blocks: Vec<Block> = report.blocks().collect(rt.alloc())?;
+            assert_eq!(rt; blocks.as_slice(), [block].as_slice());
+            assert_eq!(rt; report.extension, [1, 2, 3, 4].as_slice());
         }
+        _ => panic!(rt; "it is a receiver report"),
     }
+    assert!(rt; packets.next().is_none());
     Ok(())
 }
 
 #[test]
 fn first_faults(rt: HostRuntime) {
+    assert_eq!(rt; Compound::read(&[]).err(), fault(FaultReason::Short, 0));
     assert_eq!(rt;
-        read_owned(rt.alloc(), &[]).err(),
-        fault(FaultReason::Short, 0)
-    );
-    assert_eq!(rt;
-        read_owned(rt.alloc(), &[0x40, 0xc9, 0, 1, 0, 0, 0, 7]).err(),
+        Compound::read(&[0x40, 0xc9, 0, 1, 0, 0, 0, 7]).err(),
         fault(FaultReason::Version, 0)
     );
     assert_eq!(rt;
-        read_owned(rt.alloc(), &[0x80, 0xca, 0, 0]).err(),
+        Compound::read(&[0x80, 0xca, 0, 0]).err(),
         fault(FaultReason::FirstType, 0)
     );
     assert_eq!(rt;
-        read_owned(rt.alloc(), &[0xa0, 0xc9, 0, 2, 0, 0, 0, 7, 0, 0, 0, 4]).err(),
+        Compound::read(&[0xa0, 0xc9, 0, 2, 0, 0, 0, 7, 0, 0, 0, 4]).err(),
         fault(FaultReason::FirstPadding, 0)
     );
     assert_eq!(rt;
-        read_owned(rt.alloc(), &[0x80, 0xc9, 0, 1, 0, 0, 0]).err(),
+        Compound::read(&[0x80, 0xc9, 0, 1, 0, 0, 0]).err(),
         fault(FaultReason::Length, 0)
     );
     assert_eq!(rt;
-        read_owned(rt.alloc(), &[0x81, 0xc9, 0, 1, 0, 0, 0, 7]).err(),
+        Compound::read(&[0x81, 0xc9, 0, 1, 0, 0, 0, 7]).err(),
         fault(FaultReason::Body, 0)
     );
     assert_eq!(rt;
-        read_owned(
-            rt.alloc(),
-            &[
+        Compound::read(&[
                 0x80, 0xc9, 0, 1, // a receiver report of two words
                 0, 0, 0, 7, // its SSRC
                 0xa0, 0xcc, 0, 1, // an application's packet of two words, with padding
@@ -139,9 +164,7 @@ fn first_faults(rt: HostRuntime) {
         fault(FaultReason::Padding, 8)
     );
     assert_eq!(rt;
-        read_owned(
-            rt.alloc(),
-            &[
+        Compound::read(&[
                 0x80, 0xc9, 0, 1, // a receiver report of two words
                 0, 0, 0, 7, // its SSRC
                 0x81, 0xca, 0, 2, // a source description of three words, with one chunk
@@ -158,13 +181,14 @@ fn first_faults(rt: HostRuntime) {
 fn too_long(rt: HostRuntime) -> Result<(), Fail> {
     let octets = vec![in rt.alloc(); 0; MAX_DATAGRAM + 1]?;
     assert_eq!(rt;
-        read_owned(rt.alloc(), octets.as_slice()).err(),
+        Compound::read(octets.as_slice()).err(),
         fault(FaultReason::TooLong, 0)
     );
     Ok(())
 }
 
-/// Each prefix of the named report: whole packets are read, and any other prefix has a fault at the packet that is cut.
+/// Each prefix of the named report: whole packets are read, and any other prefix has a fault at the packet
+/// that is cut.
 #[test]
 fn prefixes(rt: HostRuntime) {
     for size in 0..NAMED.len() {
@@ -176,11 +200,7 @@ fn prefixes(rt: HostRuntime) {
             9..12 => fault(FaultReason::Short, 8),
             _ => fault(FaultReason::Length, 8),
         };
-        assert_eq!(rt;
-            read_owned(rt.alloc(), prefix).err(),
-            expected,
-            "{size} octets"
-        );
+        assert_eq!(rt; Compound::read(prefix).err(), expected, "{size} octets");
     }
 }
 
@@ -215,10 +235,6 @@ fn messages(rt: HostRuntime) -> Result<(), Fail> {
     ] {
         let wire = WireFault { reason, place: 8 };
         assert_eq!(rt; wire.to_string(rt.alloc())?.as_str(), message);
-        assert_eq!(rt;
-            ReadError::Wire(wire).to_string(rt.alloc())?.as_str(),
-            message
-        );
     }
     for (reason, message) in [
         (
@@ -237,9 +253,5 @@ fn messages(rt: HostRuntime) -> Result<(), Fail> {
     ] {
         assert_eq!(rt; reason.to_string(rt.alloc())?.as_str(), message);
     }
-    assert_eq!(rt;
-        ReadError::Memory.to_string(rt.alloc())?.as_str(),
-        "out of memory"
-    );
     Ok(())
 }

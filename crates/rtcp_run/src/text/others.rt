@@ -1,7 +1,8 @@
 //! The text of packets of applications, and of types that are not looked into.
 
 ghost use Rattle.std.specs.Prelude.{◌≡◌, ◌++◌, OnOk};
-ghost use Rattle.rtcp_wire.specs.Values.{app, other};
+ghost use Rattle.rtcp_wire.specs.Views.{packet_value};
+ghost use Rattle.rtcp_wire.specs.declared.packet.PacketView.TheVariants.{App, Other};
 ghost use Rattle.rtcp_run.specs.Text.{packet_text};
 
 use super::digits::{push_decimal, push_octets, push_word};
@@ -9,9 +10,11 @@ use rtcp_wire::{Application, OtherPacket};
 use std::alloc::AllocError;
 
 /// Appends the text of an application's packet: of its data the length, in octets.
-pub(super) fn push_application(out: &mut Vec<u8>, packet: &Application) -> Result<(), AllocError>
-    ensures { OnOk result (out.new.items ≡ out.old.items ++ packet_text
-        (app packet.now.subtype packet.now.ssrc packet.now.name packet.now.data.items)) }
+pub(super) fn push_application(
+    out: &mut Vec<u8>,
+    packet: &Application<'_>,
+) -> Result<(), AllocError>
+    ensures { OnOk result (out.new.items ≡ out.old.items ++ packet_text (packet_value (App packet.now))) }
 {
     out.extend_from_slice(b"APP(")?;
     push_decimal(out, u64::from(packet.subtype))?;
@@ -26,9 +29,8 @@ pub(super) fn push_application(out: &mut Vec<u8>, packet: &Application) -> Resul
 }
 
 /// Appends the text of a packet of another type: of its body the length, in octets.
-pub(super) fn push_other(out: &mut Vec<u8>, packet: &OtherPacket) -> Result<(), AllocError>
-    ensures { OnOk result (out.new.items ≡ out.old.items
-        ++ packet_text (other packet.now.kind packet.now.count packet.now.body.items)) }
+pub(super) fn push_other(out: &mut Vec<u8>, packet: &OtherPacket<'_>) -> Result<(), AllocError>
+    ensures { OnOk result (out.new.items ≡ out.old.items ++ packet_text (packet_value (Other packet.now))) }
 {
     out.extend_from_slice(b"OTHER(")?;
     push_decimal(out, u64::from(packet.kind))?;

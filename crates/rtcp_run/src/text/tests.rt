@@ -1,66 +1,52 @@
 use super::digits::{push_decimal, push_octets, push_signed};
 use super::joined::Shown;
 use super::{push_accepted, push_fault, push_packet};
-use rtcp_wire::{
-    Application, Block, Chunk, FaultReason, Goodbye, OtherPacket, Packet, ReceiverReport, SdesItem,
-    SenderReport, SourceDescription, WireFault,
-};
+use rtcp_wire::{Block, Compound, FaultReason, WireFault};
 use std::alloc::{AllocError, Global};
 use std::test::Fail;
 
+/// A report by a receiver that hears no source, which may begin a datagram.
+const EMPTY_REPORT: [u8; 8] = [0x80, 201, 0, 1, 0x01, 0x23, 0x45, 0x67];
+
 /// A report on a source of which one packet too many came.
-const REPEATED: Block = Block {
-    ssrc: 10,
-    fraction: 25,
-    lost: -1,
-    highest: 11,
-    jitter: 0,
-    lsr: 0xb705_2000,
-    dlsr: 0x0005_4000,
-};
+const REPEATED: [u8; 24] = [
+    0, 0, 0, 10, 25, 0xff, 0xff, 0xff, 0, 0, 0, 11, 0, 0, 0, 0, 0xb7, 0x05, 0x20, 0x00, 0x00, 0x05,
+    0x40, 0x00,
+];
 
 /// A report with the most of each number, or nearly.
-const GREATEST: Block = Block {
-    ssrc: 0xdead_beef,
-    fraction: 255,
-    lost: 8_388_607,
-    highest: 4_294_967_295,
-    jitter: 100,
-    lsr: 0,
-    dlsr: 1,
-};
+const GREATEST: [u8; 24] = [
+    0xde, 0xad, 0xbe, 0xef, 255, 0x7f, 0xff, 0xff, 0xff, 0xff, 0xff, 0xff, 0, 0, 0, 100, 0, 0, 0,
+    0, 0, 0, 0, 1,
+];
 
-fn item(alloc: Global, kind: u8, text: &[u8]) -> Result<SdesItem, AllocError> {
-    let text = Vec::from_slice(alloc, text)?;
-    Ok(SdesItem { kind, text })
+/// A source description of two chunks, the second without items.
+const DESCRIPTION: [u8; 24] = [
+    0x82, 202, 0, 5, 0, 0, 0, 7, 1, 1, b'a', 2, 0, 0, 0, 0, 0, 0, 0, 8, 0, 0, 0, 0,
+];
+
+/// A packet of a type that is not looked into, with a body of twelve octets.
+const OTHER: [u8; 16] = [0x9f, 205, 0, 3, 0, 0, 0, 0, 0, 0, 0, 0, 0, 0, 0, 0];
+
+/// The octets of these parts, one after the other.
+fn datagram(alloc: Global, parts: &[&[u8]]) -> Result<Vec<u8>, AllocError> {
+    let mut octets = Vec::new(alloc);
+    for part in parts {
+        octets.extend_from_slice(part)?;
+    }
+    Ok(octets)
 }
 
-fn source_description(alloc: Global) -> Result<SourceDescription, AllocError> {
-    let items = vec![in alloc; item(alloc, 1, b"a")?, item(alloc, 2, b"")?]?;
-    let chunks = vec![in alloc;
-        Chunk { id: 7, items },
-        Chunk {
-            id: 8,
-            items: Vec::new(alloc)
-        },
-    ]?;
-    Ok(SourceDescription { chunks })
-}
-
-fn receiver_report(alloc: Global) -> Result<ReceiverReport, AllocError> {
-    Ok(ReceiverReport {
-        ssrc: 1,
-        blocks: vec![in alloc; REPEATED, GREATEST]?,
-        extension: vec![in alloc; 0; 8]?,
-    })
-}
-
-fn other_packet(alloc: Global) -> Result<OtherPacket, AllocError> {
-    Ok(OtherPacket {
-        kind: 205,
-        count: 31,
-        body: vec![in alloc; 0; 12]?,
-    })
+/// The text of the last packet of a datagram.
+fn last_packet(alloc: Global, parts: &[&[u8]]) -> Result<Vec<u8>, Fail> {
+    let octets = datagram(alloc, parts)?;
+    let compound = Compound::read(&octets)?;
+    let mut out = Vec::new(alloc);
+    for packet in compound.packets() {
+        out.clear();
+        push_packet(&mut out, &packet)?;
+    }
+    Ok(out)
 }
 
 #[test]
@@ -109,8 +95,17 @@ fn octets(rt: HostRuntime) -> Result<(), Fail> {
 
 #[test]
 fn block_with_a_repeated_packet(rt: HostRuntime) -> Result<(), Fail> {
+    let block = Block {
+        ssrc: 10,
+        fraction: 25,
+        lost: -1,
+        highest: 11,
+        jitter: 0,
+        lsr: 0xb705_2000,
+        dlsr: 0x0005_4000,
+    };
     let mut out = Vec::new(rt.alloc());
-    REPEATED.push_text(&mut out)?;
+    block.push_text(&mut out)?;
     assert_eq!(rt;
         out.as_slice(),
         b"0000000a/25/-1/11/0/b7052000/00054000".as_slice()
@@ -120,8 +115,8 @@ fn block_with_a_repeated_packet(rt: HostRuntime) -> Result<(), Fail> {
 
 #[test]
 fn report_with_an_extension(rt: HostRuntime) -> Result<(), Fail> {
-    let mut out = Vec::new(rt.alloc());
-    push_packet(&mut out, &Packet::Rr(receiver_report(rt.alloc())?))?;
+    let header = [0x82, 201, 0, 15, 0, 0, 0, 1];
+    let out = last_packet(rt.alloc(), &[&header, &REPEATED, &GREATEST, &[0; 8]])?;
     let want: &[u8] =
         b"RR(00000001,[0000000a/25/-1/11/0/b7052000/00054000;deadbeef/255/8388607/4294967295/100/00000000/00000001],8)";
     assert_eq!(rt; out.as_slice(), want);
@@ -131,32 +126,20 @@ fn report_with_an_extension(rt: HostRuntime) -> Result<(), Fail> {
 /// A sender that hears one source, and one that hears none.
 #[test]
 fn sender_reports(rt: HostRuntime) -> Result<(), Fail> {
-    let hears_none = SenderReport {
-        ssrc: 9,
-        ntp: 0x0000_b705_2000_0000,
-        rtp: 10,
-        packets: 3,
-        octets: 480,
-        blocks: Vec::new(rt.alloc()),
-        extension: Vec::new(rt.alloc()),
-    };
-    let mut out = Vec::new(rt.alloc());
-    push_packet(&mut out, &Packet::Sr(hears_none))?;
+    let hears_none = [
+        0x80, 200, 0, 6, 0, 0, 0, 9, 0x00, 0x00, 0xb7, 0x05, 0x20, 0x00, 0x00, 0x00, 0, 0, 0, 10,
+        0, 0, 0, 3, 0, 0, 0x01, 0xe0,
+    ];
+    let out = last_packet(rt.alloc(), &[&hears_none])?;
     assert_eq!(rt;
         out.as_slice(),
         b"SR(00000009,0000b70520000000,0000000a,3,480,[],0)".as_slice()
     );
-    let hears_one = SenderReport {
-        ssrc: 0xdead_beef,
-        ntp: u64::MAX,
-        rtp: 0,
-        packets: u32::MAX,
-        octets: 0,
-        blocks: vec![in rt.alloc(); REPEATED]?,
-        extension: vec![in rt.alloc(); 0; 4]?,
-    };
-    let mut out = Vec::new(rt.alloc());
-    push_packet(&mut out, &Packet::Sr(hears_one))?;
+    let hears_one = [
+        0x81, 200, 0, 13, 0xde, 0xad, 0xbe, 0xef, 0xff, 0xff, 0xff, 0xff, 0xff, 0xff, 0xff, 0xff,
+        0, 0, 0, 0, 0xff, 0xff, 0xff, 0xff, 0, 0, 0, 0,
+    ];
+    let out = last_packet(rt.alloc(), &[&hears_one, &REPEATED, &[0; 4]])?;
     let want: &[u8] =
         b"SR(deadbeef,ffffffffffffffff,00000000,4294967295,0,[0000000a/25/-1/11/0/b7052000/00054000],4)";
     assert_eq!(rt; out.as_slice(), want);
@@ -166,19 +149,19 @@ fn sender_reports(rt: HostRuntime) -> Result<(), Fail> {
 /// A goodbye with a reason, with an empty one, and with none.
 #[test]
 fn goodbyes(rt: HostRuntime) -> Result<(), Fail> {
-    let rows: [(&[u32], Option<&[u8]>, &str); 3] = [
-        (&[7], Some(b"ab"), "BYE([00000007],=6162)"),
-        (&[7, 8], Some(b""), "BYE([00000007;00000008],=)"),
-        (&[], None, "BYE([],-)"),
+    let rows: [(&[u8], &str); 3] = [
+        (
+            &[0x81, 203, 0, 2, 0, 0, 0, 7, 2, b'a', b'b', 0],
+            "BYE([00000007],=6162)",
+        ),
+        (
+            &[0x82, 203, 0, 3, 0, 0, 0, 7, 0, 0, 0, 8, 0, 0, 0, 0],
+            "BYE([00000007;00000008],=)",
+        ),
+        (&[0x80, 203, 0, 0], "BYE([],-)"),
     ];
-    for (ids, text, want) in rows {
-        let reason = match text {
-            Some(text) => Some(Vec::from_slice(rt.alloc(), text)?),
-            None => None,
-        };
-        let ids = Vec::from_slice(rt.alloc(), ids)?;
-        let mut out = Vec::new(rt.alloc());
-        push_packet(&mut out, &Packet::Bye(Goodbye { ids, reason }))?;
+    for (goodbye, want) in rows {
+        let out = last_packet(rt.alloc(), &[&EMPTY_REPORT, goodbye])?;
         assert_eq!(rt; out.as_slice(), want.as_bytes());
     }
     Ok(())
@@ -186,22 +169,17 @@ fn goodbyes(rt: HostRuntime) -> Result<(), Fail> {
 
 #[test]
 fn application(rt: HostRuntime) -> Result<(), Fail> {
-    let packet = Application {
-        subtype: 5,
-        ssrc: 7,
-        name: *b"ABCD",
-        data: vec![in rt.alloc(); 1; 4]?,
-    };
-    let mut out = Vec::new(rt.alloc());
-    push_packet(&mut out, &Packet::App(packet))?;
+    let packet = [
+        0x85, 204, 0, 3, 0, 0, 0, 7, b'A', b'B', b'C', b'D', 1, 1, 1, 1,
+    ];
+    let out = last_packet(rt.alloc(), &[&EMPTY_REPORT, &packet])?;
     assert_eq!(rt; out.as_slice(), b"APP(5,00000007,41424344,4)".as_slice());
     Ok(())
 }
 
 #[test]
 fn description_with_an_empty_chunk(rt: HostRuntime) -> Result<(), Fail> {
-    let mut out = Vec::new(rt.alloc());
-    push_packet(&mut out, &Packet::Sdes(source_description(rt.alloc())?))?;
+    let out = last_packet(rt.alloc(), &[&EMPTY_REPORT, &DESCRIPTION])?;
     assert_eq!(rt;
         out.as_slice(),
         b"SDES([00000007{1=61,2=};00000008{}])".as_slice()
@@ -211,29 +189,18 @@ fn description_with_an_empty_chunk(rt: HostRuntime) -> Result<(), Fail> {
 
 #[test]
 fn other_type(rt: HostRuntime) -> Result<(), Fail> {
-    let mut out = Vec::new(rt.alloc());
-    push_packet(&mut out, &Packet::Other(other_packet(rt.alloc())?))?;
+    let out = last_packet(rt.alloc(), &[&EMPTY_REPORT, &OTHER])?;
     assert_eq!(rt; out.as_slice(), b"OTHER(205,31,12)".as_slice());
     Ok(())
 }
 
 #[test]
-fn accepted_lines(rt: HostRuntime) -> Result<(), Fail> {
-    let empty_report = ReceiverReport {
-        ssrc: 0x0123_4567,
-        blocks: Vec::new(rt.alloc()),
-        extension: Vec::new(rt.alloc()),
-    };
-    let packets = vec![in rt.alloc();
-        Packet::Rr(empty_report),
-        Packet::Sdes(source_description(rt.alloc())?),
-        Packet::Other(other_packet(rt.alloc())?),
-    ]?;
+fn accepted_line(rt: HostRuntime) -> Result<(), Fail> {
+    let octets = datagram(rt.alloc(), &[&EMPTY_REPORT, &DESCRIPTION, &OTHER])?;
     let mut out = Vec::new(rt.alloc());
-    push_accepted(&mut out, &packets)?;
-    push_accepted(&mut out, &[])?;
+    push_accepted(&mut out, &Compound::read(&octets)?)?;
     let want: &[u8] =
-        b"ok RR(01234567,[],0) SDES([00000007{1=61,2=};00000008{}]) OTHER(205,31,12)\nok\n";
+        b"ok RR(01234567,[],0) SDES([00000007{1=61,2=};00000008{}]) OTHER(205,31,12)\n";
     assert_eq!(rt; out.as_slice(), want);
     Ok(())
 }

@@ -2,40 +2,48 @@
 
 ghost use Rattle.std.specs.Prelude.{◌≡◌};
 ghost use Rattle.std.specs.Iterator.{YieldsFirst, item_count};
-ghost use Rattle.rtcp_wire.specs.Views.{packets_of};
-ghost use Rattle.rtcp_wire.specs.Facts.{facts_of};
+ghost use Rattle.std.specs.List.{list_any};
+ghost use Rattle.rtcp_wire.specs.Facts.{is_cname, facts_of};
+ghost use Rattle.rtcp_wire.specs.FactsLeft.{fact_if_any, name_in};
 
 use super::Fact;
-use super::pending::Pending;
-use crate::packet::Packet;
+use crate::compound::Packets;
+use crate::ids::Ids;
+use crate::packet::PacketView;
+use crate::sdes::{CNAME, Chunk, Chunks};
 use std::marker::Model;
 
-/// The facts of packets that are left, in order: an iterator that does not allocate. `facts` makes it.
+/// The facts of a compound, in order: an iterator that reads them from the datagram. `facts` makes it.
 #[derive(Debug, Drop)]
 pub struct Facts<'a> {
-    pending: Pending<'a>,
-    packets: &'a [Packet],
+    /// A fact that comes before all others.
+    first: Option<Fact>,
+    /// The chunks of the source description that was reached.
+    chunks: Chunks<'a>,
+    /// The sources of the goodbye that was reached.
+    gone: Ids<'a>,
+    packets: Packets<'a>,
 }
 
 impl<'a> Model for Facts<'a> {
-    ghost use Rattle.std.specs.Prelude.{List, ◌++◌};
+    ghost use Rattle.std.specs.Prelude.{List};
     ghost use Rattle.rtcp_wire.specs.declared.fact.Fact.{Fact};
-    ghost use Rattle.rtcp_wire.specs.Views.{packets_of};
-    ghost use Rattle.rtcp_wire.specs.Facts.{facts_of};
-    ghost use Rattle.rtcp_wire.specs.Pending.{facts_pending};
+    ghost use Rattle.rtcp_wire.specs.FactsLeft.{facts_left};
 
     ghost Value = { List Fact };
 
-    ghost view = { λ facts. facts_pending facts.pending ++ facts_of (packets_of facts.packets.now) };
+    ghost view = { λ facts. facts_left facts.first facts.chunks facts.gone facts.packets };
 }
 
 impl<'a> Facts<'a> {
     /// All facts of these packets.
-    pub(super) fn new(packets: &'a [Packet]) -> Facts<'a>
-        ensures { result ≡ facts_of (packets_of packets.now) }
+    pub(super) fn new(packets: Packets<'a>) -> Facts<'a>
+        ensures { result ≡ facts_of packets.entry }
     {
         Facts {
-            pending: Pending::Empty,
+            first: None,
+            chunks: Chunks::none(),
+            gone: Ids::new(&[]),
             packets,
         }
     }
@@ -49,14 +57,46 @@ impl<'a> Iterator for Facts<'a> {
     ghost remaining = { item_count (λ facts. facts) };
 
     fn next(&mut self) -> Option<Fact> {
-        loop {
-            if let Some((fact, others)) = self.pending.split_first() {
-                self.pending = others;
+        'packets: loop {
+            if let Some(fact) = self.first.take() {
                 return Some(fact);
             }
-            let (packet, others) = self.packets.split_first()?;
-            self.pending = Pending::of(packet);
-            self.packets = others;
+            if let Some(chunk) = self.chunks.next() {
+                self.first = name_of(&chunk);
+                return Some(Fact::Heard(chunk.id()));
+            }
+            if let Some(id) = self.gone.next() {
+                return Some(Fact::Gone(id));
+            }
+            match self.packets.next()? {
+                PacketView::Sr(report) => {
+                    self.first = Some(Fact::Told(report.ssrc, report.ntp));
+                    return Some(Fact::Heard(report.ssrc));
+                }
+                PacketView::Rr(report) => return Some(Fact::Heard(report.ssrc)),
+                PacketView::Sdes(description) => self.chunks = description.chunks(),
+                PacketView::Bye(goodbye) => self.gone = goodbye.ids(),
+                PacketView::App(packet) => return Some(Fact::Heard(packet.ssrc)),
+                PacketView::Other(_) => (),
+            }
         }
     }
+}
+
+/// That the chunk's source gave its CNAME, if an item of the chunk is one.
+fn name_of(chunk: &Chunk<'_>) -> Option<Fact>
+    ensures { fact_if_any result ≡ name_in chunk.now }
+{
+    if has_cname(chunk) {
+        Some(Fact::Named(chunk.id()))
+    } else {
+        None
+    }
+}
+
+/// Whether an item of the chunk is a CNAME.
+fn has_cname(chunk: &Chunk<'_>) -> bool
+    ensures { result ≡ list_any is_cname chunk.now.items }
+{
+    chunk.items().any(|item| item.kind == CNAME)
 }

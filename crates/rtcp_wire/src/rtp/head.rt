@@ -4,9 +4,9 @@ ghost use Rattle.std.specs.Prelude.{◌≡◌, ◌<◌, ◌≤◌, length, IfOk,
 ghost use Rattle.rtcp_wire.specs.RtpHeads.{RtpValue, IsRtpHead, IsRtpFault, extension_size, without_extension, IsPadded, without_padding};
 ghost use Rattle.rtcp_wire.specs.declared.rtp.fault.RtpFault.{RtpFault as Fault};
 
+use crate::ids::Ids;
 use crate::layout::{ID_SIZE, VERSION, WORD_SIZE};
 use crate::reader::Reader;
-use crate::rtp::csrcs::Csrcs;
 use crate::rtp::fault::RtpFault;
 use crate::rtp::fixed::{FIXED_SIZE, take_fixed};
 use std::marker::Model;
@@ -142,11 +142,11 @@ impl<'a> RtpHead<'a> {
     }
 
     /// The contributing sources (RFC 3550, 5.1), in their order: at most 15.
-    pub fn csrcs(&self) -> Csrcs<'a>
+    pub fn csrcs(&self) -> Ids<'a>
         ensures items { result ≡ self.now.csrcs }
         ensures few { length result ≤ 15 }
     {
-        Csrcs::new(self.csrcs)
+        Ids::new(self.csrcs)
     }
 
     /// The payload (RFC 3550, 5.1), without the padding after it.

@@ -1,13 +1,11 @@
 //! The faults of bodies.
 
 use super::*;
-use std::alloc::Global;
 
-/// The error of a receiver report of source 7 with no blocks, and these octets.
-fn error_after_report(alloc: Global, octets: &[u8]) -> Result<Option<ReadError>, Fail> {
-    let mut datagram = Vec::from_slice(alloc, &[0x80, 0xc9, 0, 1, 0, 0, 0, 7])?;
-    datagram.extend_from_slice(octets)?;
-    Ok(read_owned(alloc, &datagram).err())
+/// The fault of a receiver report of source 7 with no blocks, and these octets.
+fn fault_after_report(alloc: Global, octets: &[u8]) -> Result<Option<WireFault>, AllocError> {
+    let datagram = after_report(alloc, octets)?;
+    Ok(Compound::read(&datagram).err())
 }
 
 /// A sender report has 24 octets, and 24 more for each block.
@@ -22,7 +20,7 @@ fn short_sender_reports(rt: HostRuntime) {
         0, 0, 0, 0, // packets sent
     ];
     assert_eq!(rt;
-        read_owned(rt.alloc(), &no_octet_count).err(),
+        Compound::read(&no_octet_count).err(),
         fault(FaultReason::Body, 0)
     );
     let no_block = [
@@ -35,7 +33,7 @@ fn short_sender_reports(rt: HostRuntime) {
         0, 0, 0, 0, // octets sent
     ];
     assert_eq!(rt;
-        read_owned(rt.alloc(), &no_block).err(),
+        Compound::read(&no_block).err(),
         fault(FaultReason::Body, 0)
     );
 }
@@ -44,7 +42,7 @@ fn short_sender_reports(rt: HostRuntime) {
 #[test]
 fn short_goodbye(rt: HostRuntime) -> Result<(), Fail> {
     assert_eq!(rt;
-        error_after_report(rt.alloc(), &[0x82, 0xcb, 0, 1, 0, 0, 0, 7])?,
+        fault_after_report(rt.alloc(), &[0x82, 0xcb, 0, 1, 0, 0, 0, 7])?,
         fault(FaultReason::Body, 8)
     );
     Ok(())
@@ -54,11 +52,11 @@ fn short_goodbye(rt: HostRuntime) -> Result<(), Fail> {
 #[test]
 fn short_applications(rt: HostRuntime) -> Result<(), Fail> {
     assert_eq!(rt;
-        error_after_report(rt.alloc(), &[0x80, 0xcc, 0, 1, 0, 0, 0, 7])?,
+        fault_after_report(rt.alloc(), &[0x80, 0xcc, 0, 1, 0, 0, 0, 7])?,
         fault(FaultReason::Body, 8)
     );
     assert_eq!(rt;
-        error_after_report(rt.alloc(), &[0x80, 0xcc, 0, 0])?,
+        fault_after_report(rt.alloc(), &[0x80, 0xcc, 0, 0])?,
         fault(FaultReason::Body, 8)
     );
     Ok(())
@@ -68,7 +66,7 @@ fn short_applications(rt: HostRuntime) -> Result<(), Fail> {
 #[test]
 fn reason_past_the_end(rt: HostRuntime) -> Result<(), Fail> {
     assert_eq!(rt;
-        error_after_report(
+        fault_after_report(
             rt.alloc(),
             &[
                 0x81, 0xcb, 0, 2, // a goodbye of three words, of one source
@@ -79,7 +77,7 @@ fn reason_past_the_end(rt: HostRuntime) -> Result<(), Fail> {
         fault(FaultReason::Reason, 8)
     );
     assert_eq!(rt;
-        error_after_report(rt.alloc(), &[0x80, 0xcb, 0, 1, 4, 0x61, 0x62, 0x63])?,
+        fault_after_report(rt.alloc(), &[0x80, 0xcb, 0, 1, 4, 0x61, 0x62, 0x63])?,
         fault(FaultReason::Reason, 8)
     );
     Ok(())
@@ -89,7 +87,7 @@ fn reason_past_the_end(rt: HostRuntime) -> Result<(), Fail> {
 #[test]
 fn words_after_reason(rt: HostRuntime) -> Result<(), Fail> {
     assert_eq!(rt;
-        error_after_report(
+        fault_after_report(
             rt.alloc(),
             &[
                 0x80, 0xcb, 0, 2, // a goodbye of three words, of no source
@@ -100,7 +98,7 @@ fn words_after_reason(rt: HostRuntime) -> Result<(), Fail> {
         fault(FaultReason::Reason, 8)
     );
     assert_eq!(rt;
-        error_after_report(
+        fault_after_report(
             rt.alloc(),
             &[
                 0x80, 0xcb, 0, 2, // a goodbye of three words, of no source

@@ -3,14 +3,14 @@
 use super::*;
 
 /// How many of the 256 values of an octet give this result, a fault or none.
-fn counted(rt: &HostRuntime, place: usize, expected: Option<ReadError>) -> u32 {
+fn counted(place: usize, expected: Option<WireFault>) -> u32 {
     let mut count: u32 = 0;
     for value in 0..=255u8 {
         let mut octets = NAMED;
         if place < octets.len() {
             octets[place] = value;
         }
-        if read_owned(rt.alloc(), &octets).err() == expected && count < 256 {
+        if Compound::read(&octets).err() == expected && count < 256 {
             count += 1;
         }
     }
@@ -37,7 +37,7 @@ fn first_word(rt: HostRuntime) {
         (3, None, 2),
     ];
     for (place, expected, count) in rows {
-        assert_eq!(rt; counted(&rt, place, expected), count, "octet {place}");
+        assert_eq!(rt; counted(place, expected), count, "octet {place}");
     }
 }
 
@@ -45,17 +45,17 @@ fn first_word(rt: HostRuntime) {
 #[test]
 fn free_octets(rt: HostRuntime) {
     for place in [4, 5, 6, 7, 12, 13, 14, 15, 18] {
-        assert_eq!(rt; counted(&rt, place, None), 256, "octet {place}");
+        assert_eq!(rt; counted(place, None), 256, "octet {place}");
     }
 }
 
-/// The item's type and length, and the zero octet after it: a type of 0 ends the items at once, and three octets
-/// are left for the fill.
+/// The item's type and length, and the zero octet after it: a type of 0 ends the items at once, and three
+/// octets are left for the fill.
 #[test]
 fn item(rt: HostRuntime) {
-    assert_eq!(rt; counted(&rt, 16, None), 256);
-    assert_eq!(rt; counted(&rt, 17, None), 1);
-    assert_eq!(rt; counted(&rt, 17, fault(FaultReason::Item, 8)), 255);
-    assert_eq!(rt; counted(&rt, 19, None), 1);
-    assert_eq!(rt; counted(&rt, 19, fault(FaultReason::Item, 8)), 255);
+    assert_eq!(rt; counted(16, None), 256);
+    assert_eq!(rt; counted(17, None), 1);
+    assert_eq!(rt; counted(17, fault(FaultReason::Item, 8)), 255);
+    assert_eq!(rt; counted(19, None), 1);
+    assert_eq!(rt; counted(19, fault(FaultReason::Item, 8)), 255);
 }

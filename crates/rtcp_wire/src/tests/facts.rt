@@ -1,9 +1,7 @@
 ghost use Rattle.std.specs.Prelude.{◌≡◌, ◌<◌, ◌^◌, length, IfOk};
-ghost use Rattle.rtcp_wire.specs.Views.{packets_of};
 ghost use Rattle.rtcp_wire.specs.Facts.{facts_of};
 
 use super::*;
-use std::alloc::{AllocError, Global};
 
 /// A sender report of source 9 with a block about source 13; a source description of 9, with two CNAMEs, and
 /// of 7, with a NAME alone; a goodbye of both; an application's packet of source 11; and a packet of type
@@ -38,36 +36,36 @@ const CALL: [u8; 108] = [
     0, 0, 0, 15, // its body
 ];
 
-/// The facts that these packets give, collected.
-fn collected(alloc: Global, packets: &[Packet]) -> Result<Vec<Fact>, AllocError>
-    ensures { IfOk result (λ found. found.items ≡ facts_of (packets_of packets.now)) }
+/// The facts of a compound, collected.
+fn collected(alloc: Global, compound: &Compound<'_>) -> Result<Vec<Fact>, AllocError>
+    ensures { IfOk result (λ found. found.items ≡ facts_of compound.now) }
 {
-    crate::facts(packets).collect(alloc)
+    crate::facts(compound).collect(alloc)
 }
 
-/// The facts that these packets give, one by one.
-fn visited(alloc: Global, packets: &[Packet]) -> Result<Vec<Fact>, AllocError>
-    ensures { IfOk result (λ found. found.items ≡ facts_of (packets_of packets.now)) }
+/// The facts of a compound, one by one.
+fn visited(alloc: Global, compound: &Compound<'_>) -> Result<Vec<Fact>, AllocError>
+    ensures { IfOk result (λ found. found.items ≡ facts_of compound.now) }
 {
     let mut found = Vec::new(alloc);
-    for fact in crate::facts(packets) {
+    for fact in crate::facts(compound) {
         found.push(fact)?;
     }
     Ok(found)
 }
 
-/// How many facts these packets give.
-fn fact_count(packets: &[Packet]) -> usize
-    requires { length (facts_of (packets_of packets.now)) < 2 ^ 64 }
-    ensures { result ≡ length (facts_of (packets_of packets.now)) }
+/// How many facts a compound gives.
+fn fact_count(compound: &Compound<'_>) -> usize
+    requires { length (facts_of compound.now) < 2 ^ 64 }
+    ensures { result ≡ length (facts_of compound.now) }
 {
-    crate::facts(packets).count()
+    crate::facts(compound).count()
 }
 
 #[test]
 fn each_type(rt: HostRuntime) -> Result<(), Fail> {
-    let packets = read_owned(rt.alloc(), &CALL)?;
-    let found = collected(rt.alloc(), packets.as_slice())?;
+    let compound = Compound::read(&CALL)?;
+    let found = collected(rt.alloc(), &compound)?;
     assert_eq!(rt;
         found.as_slice(),
         [
@@ -83,7 +81,7 @@ fn each_type(rt: HostRuntime) -> Result<(), Fail> {
         .as_slice()
     );
     assert_eq!(rt;
-        visited(rt.alloc(), packets.as_slice())?.as_slice(),
+        visited(rt.alloc(), &compound)?.as_slice(),
         found.as_slice()
     );
     Ok(())
@@ -91,9 +89,9 @@ fn each_type(rt: HostRuntime) -> Result<(), Fail> {
 
 #[test]
 fn report_alone(rt: HostRuntime) -> Result<(), Fail> {
-    let packets = read_owned(rt.alloc(), &[0x80, 0xc9, 0, 1, 0, 0, 0, 7])?;
+    let compound = Compound::read(&[0x80, 0xc9, 0, 1, 0, 0, 0, 7])?;
     let mut count = 0u8;
-    for fact in crate::facts(packets.as_slice()) {
+    for fact in crate::facts(&compound) {
         assert_eq!(rt; fact, Fact::Heard(7));
         count = count.saturating_add(1);
     }
@@ -116,12 +114,11 @@ fn empty_packets(rt: HostRuntime) -> Result<(), Fail> {
         0x80, 0xcb, 0, 0, // a goodbye of no sources
         0x80, 0xca, 0, 0, // a source description of no chunks
     ];
-    let packets = read_owned(rt.alloc(), &octets)?;
-    let mut left = crate::facts(packets.as_slice());
+    let compound = Compound::read(&octets)?;
+    let mut left = crate::facts(&compound);
     assert_eq!(rt; left.next(), Some(Fact::Heard(7)));
     assert_eq!(rt; left.next(), Some(Fact::Heard(8)));
     assert_eq!(rt; left.next(), None);
     assert_eq!(rt; left.next(), None);
-    assert_eq!(rt; fact_count(&[]), 0);
     Ok(())
 }

@@ -1,22 +1,11 @@
 //! A packet of each type, with all of its fields.
 
 use super::*;
-use std::alloc::Global;
-use std::process::Abort;
 
-/// The packets of a receiver report of source 7 with no blocks, and of these octets.
-fn read_after_report(alloc: Global, octets: &[u8]) -> Result<Vec<Packet>, ReadError> {
-    let mut datagram = Vec::from_slice(alloc, &[0x80, 0xc9, 0, 1, 0, 0, 0, 7])?;
-    datagram.extend_from_slice(octets)?;
-    read_owned(alloc, &datagram)
-}
-
-/// The goodbye that follows the report.
-fn read_goodbye(rt: &impl Abort, alloc: Global, goodbye: &[u8]) -> Result<Goodbye, ReadError> {
-    let mut packets = read_after_report(alloc, goodbye)?;
-    assert_eq!(rt; packets.len(), 2);
-    match packets.pop() {
-        Some(Packet::Bye(goodbye)) => Ok(goodbye),
+/// The goodbye that these octets are, after a report.
+fn goodbye_in<'a>(rt: &impl Abort, datagram: &'a [u8]) -> Goodbye<'a> {
+    match second_packet(rt, datagram) {
+        PacketView::Bye(goodbye) => goodbye,
         _ => panic!(rt; "it is a goodbye"),
     }
 }
@@ -33,20 +22,21 @@ fn sender_report(rt: HostRuntime) -> Result<(), Fail> {
         0, 0, 0, 3, // packets sent
         0, 0, 1, 0xe0, // octets sent
     ];
-    let mut packets = read_owned(rt.alloc(), &octets)?;
-    assert_eq!(rt; packets.len(), 1);
-    match packets.pop() {
-        Some(Packet::Sr(report)) => {
+    let compound = Compound::read(&octets)?;
+    let mut packets = compound.packets();
+    match packets.next() {
+        Some(PacketView::Sr(report)) => {
             assert_eq!(rt; report.ssrc, 9);
             assert_eq!(rt; report.ntp, 0x0000_b705_2000_0000);
             assert_eq!(rt; report.rtp, 10);
             assert_eq!(rt; report.packets, 3);
             assert_eq!(rt; report.octets, 480);
-            assert_eq!(rt; report.blocks.len(), 0);
+            assert_eq!(rt; report.blocks().next(), None);
             assert_eq!(rt; report.extension.len(), 0);
         }
         _ => panic!(rt; "it is a sender report"),
     }
+    assert!(rt; packets.next().is_none());
     Ok(())
 }
 
@@ -69,9 +59,10 @@ fn sender_report_with_block(rt: HostRuntime) -> Result<(), Fail> {
         0, 5, 0x40, 0, // DLSR
         1, 2, 3, 4, // extension
     ];
-    let mut packets = read_owned(rt.alloc(), &octets)?;
-    match packets.pop() {
-        Some(Packet::Sr(report)) => {
+    let compound = Compound::read(&octets)?;
+    let mut packets = compound.packets();
+    match packets.next() {
+        Some(PacketView::Sr(report)) => {
             assert_eq!(rt; report.ssrc, 0xdead_beef);
             assert_eq!(rt; report.ntp, 0x0102_0304_0506_0708);
             assert_eq!(rt; report.rtp, 0x090a_0b0c);
@@ -86,11 +77,13 @@ fn sender_report_with_block(rt: HostRuntime) -> Result<(), Fail> {
                 lsr: 0xb705_2000,
                 dlsr: 0x0005_4000,
             };
-            assert_eq!(rt; report.blocks.as_slice(), [block].as_slice());
-            assert_eq!(rt; report.extension.as_slice(), [1, 2, 3, 4].as_slice());
+            let blocks: Vec<Block> = report.blocks().collect(rt.alloc())?;
+            assert_eq!(rt; blocks.as_slice(), [block].as_slice());
+            assert_eq!(rt; report.extension, [1, 2, 3, 4].as_slice());
         }
         _ => panic!(rt; "it is a sender report"),
     }
+    assert!(rt; packets.next().is_none());
     Ok(())
 }
 
@@ -103,10 +96,11 @@ fn goodbye_with_reason(rt: HostRuntime) -> Result<(), Fail> {
         0, 0, 1, 0, // the second
         2, 0x61, 0x62, 0, // a reason of two octets, and its fill
     ];
-    let goodbye = read_goodbye(&rt, rt.alloc(), &octets)?;
-    assert_eq!(rt; goodbye.ids.as_slice(), [7, 256].as_slice());
-    let reason = goodbye.reason.ok_or("no reason")?;
-    assert_eq!(rt; reason.as_slice(), b"ab".as_slice());
+    let datagram = after_report(rt.alloc(), &octets)?;
+    let goodbye = goodbye_in(&rt, &datagram);
+    let ids: Vec<u32> = goodbye.ids().collect(rt.alloc())?;
+    assert_eq!(rt; ids.as_slice(), [7, 256].as_slice());
+    assert_eq!(rt; goodbye.reason, Some(b"ab".as_slice()));
     Ok(())
 }
 
@@ -114,19 +108,15 @@ fn goodbye_with_reason(rt: HostRuntime) -> Result<(), Fail> {
 #[test]
 fn filled_reasons(rt: HostRuntime) -> Result<(), Fail> {
     let full = [0x80, 0xcb, 0, 1, 3, 0x61, 0x62, 0x63];
-    let reason = read_goodbye(&rt, rt.alloc(), &full)?
-        .reason
-        .ok_or("no reason")?;
-    assert_eq!(rt; reason.as_slice(), b"abc".as_slice());
+    let datagram = after_report(rt.alloc(), &full)?;
+    assert_eq!(rt; goodbye_in(&rt, &datagram).reason, Some(b"abc".as_slice()));
     let filled = [
         0x80, 0xcb, 0, 2, // a goodbye of three words, of no source
         4, 0x61, 0x62, 0x63, // a reason of four octets
         0x64, 9, 9, 9, // its last octet, and the fill
     ];
-    let reason = read_goodbye(&rt, rt.alloc(), &filled)?
-        .reason
-        .ok_or("no reason")?;
-    assert_eq!(rt; reason.as_slice(), b"abcd".as_slice());
+    let datagram = after_report(rt.alloc(), &filled)?;
+    assert_eq!(rt; goodbye_in(&rt, &datagram).reason, Some(b"abcd".as_slice()));
     Ok(())
 }
 
@@ -138,10 +128,11 @@ fn goodbye_with_empty_reason(rt: HostRuntime) -> Result<(), Fail> {
         0, 0, 0, 7, // its SSRC
         0, 0, 0, 0, // a reason of no octets, and its fill
     ];
-    let goodbye = read_goodbye(&rt, rt.alloc(), &octets)?;
-    assert_eq!(rt; goodbye.ids.as_slice(), [7].as_slice());
-    let reason = goodbye.reason.ok_or("no reason")?;
-    assert_eq!(rt; reason.len(), 0);
+    let datagram = after_report(rt.alloc(), &octets)?;
+    let goodbye = goodbye_in(&rt, &datagram);
+    let ids: Vec<u32> = goodbye.ids().collect(rt.alloc())?;
+    assert_eq!(rt; ids.as_slice(), [7].as_slice());
+    assert_eq!(rt; goodbye.reason, Some([].as_slice()));
     Ok(())
 }
 
@@ -152,17 +143,20 @@ fn goodbye_without_reason(rt: HostRuntime) -> Result<(), Fail> {
         0, 0, 0, 7, // its SSRC
         0, 0, 0, 4, // four octets of padding
     ];
-    let goodbye = read_goodbye(&rt, rt.alloc(), &octets)?;
-    assert_eq!(rt; goodbye.ids.as_slice(), [7].as_slice());
-    assert!(rt; goodbye.reason.is_none());
+    let datagram = after_report(rt.alloc(), &octets)?;
+    let goodbye = goodbye_in(&rt, &datagram);
+    let ids: Vec<u32> = goodbye.ids().collect(rt.alloc())?;
+    assert_eq!(rt; ids.as_slice(), [7].as_slice());
+    assert_eq!(rt; goodbye.reason, None);
     Ok(())
 }
 
 #[test]
 fn goodbye_of_nobody(rt: HostRuntime) -> Result<(), Fail> {
-    let goodbye = read_goodbye(&rt, rt.alloc(), &[0x80, 0xcb, 0, 0])?;
-    assert_eq!(rt; goodbye.ids.len(), 0);
-    assert!(rt; goodbye.reason.is_none());
+    let datagram = after_report(rt.alloc(), &[0x80, 0xcb, 0, 0])?;
+    let goodbye = goodbye_in(&rt, &datagram);
+    assert_eq!(rt; goodbye.ids().next(), None);
+    assert_eq!(rt; goodbye.reason, None);
     Ok(())
 }
 
@@ -174,14 +168,13 @@ fn application(rt: HostRuntime) -> Result<(), Fail> {
         0x41, 0x42, 0x43, 0x44, // its name
         1, 2, 3, 4, // its data
     ];
-    let mut packets = read_after_report(rt.alloc(), &octets)?;
-    assert_eq!(rt; packets.len(), 2);
-    match packets.pop() {
-        Some(Packet::App(packet)) => {
+    let datagram = after_report(rt.alloc(), &octets)?;
+    match second_packet(&rt, &datagram) {
+        PacketView::App(packet) => {
             assert_eq!(rt; packet.subtype, 5);
             assert_eq!(rt; packet.ssrc, 7);
             assert_eq!(rt; packet.name.as_slice(), b"ABCD".as_slice());
-            assert_eq!(rt; packet.data.as_slice(), [1, 2, 3, 4].as_slice());
+            assert_eq!(rt; packet.data, [1, 2, 3, 4].as_slice());
         }
         _ => panic!(rt; "it is an application's packet"),
     }
@@ -191,12 +184,12 @@ fn application(rt: HostRuntime) -> Result<(), Fail> {
 /// The body of a type above the known ones is kept as it is.
 #[test]
 fn other_type(rt: HostRuntime) -> Result<(), Fail> {
-    let mut packets = read_after_report(rt.alloc(), &[0x83, 0xcd, 0, 1, 1, 2, 3, 4])?;
-    match packets.pop() {
-        Some(Packet::Other(packet)) => {
+    let datagram = after_report(rt.alloc(), &[0x83, 0xcd, 0, 1, 1, 2, 3, 4])?;
+    match second_packet(&rt, &datagram) {
+        PacketView::Other(packet) => {
             assert_eq!(rt; packet.kind, 205);
             assert_eq!(rt; packet.count, 3);
-            assert_eq!(rt; packet.body.as_slice(), [1, 2, 3, 4].as_slice());
+            assert_eq!(rt; packet.body, [1, 2, 3, 4].as_slice());
         }
         _ => panic!(rt; "it is a packet of another type"),
     }

@@ -2,7 +2,6 @@
 
 use super::*;
 use arrayvec::ArrayVec;
-use std::process::Abort;
 
 type Buffer = ArrayVec<u8, MAX_COMPOUND>;
 
@@ -115,19 +114,17 @@ fn named(rt: HostRuntime) -> Result<(), Fail> {
     let names = PacketRef::Sdes { chunks: &chunks };
     assert_eq!(rt; append_both(&rt, EMPTY_REPORT, names, &mut buffer), Ok(()));
     assert_eq!(rt; buffer.as_slice(), NAMED.as_slice());
-    let mut packets = read_owned(rt.alloc(), buffer.as_slice())?;
-    assert_eq!(rt; packets.len(), 2);
-    match packets.pop() {
-        Some(Packet::Sdes(description)) => {
-            assert_eq!(rt; description.chunks.len(), 1);
-            for chunk in &description.chunks {
-                assert_eq!(rt; chunk.id, 7);
-                assert_eq!(rt; chunk.items.len(), 1);
-                for item in &chunk.items {
-                    assert_eq!(rt; item.kind, 1);
-                    assert_eq!(rt; item.text.as_slice(), b"a".as_slice());
-                }
-            }
+    match second_packet(&rt, buffer.as_slice()) {
+        PacketView::Sdes(description) => {
+            let mut chunks = description.chunks();
+            let chunk = chunks.next().ok_or("no chunk")?;
+            assert_eq!(rt; chunk.id(), 7);
+            let mut items = chunk.items();
+            let item = items.next().ok_or("no item")?;
+            assert_eq!(rt; item.kind, 1);
+            assert_eq!(rt; item.text, b"a".as_slice());
+            assert!(rt; items.next().is_none());
+            assert!(rt; chunks.next().is_none());
         }
         _ => panic!(rt; "it is a source description"),
     }
@@ -166,11 +163,11 @@ fn block_and_extension(rt: HostRuntime) -> Result<(), Fail> {
         ]
         .as_slice()
     );
-    let mut packets = read_owned(rt.alloc(), buffer.as_slice())?;
-    match packets.pop() {
-        Some(Packet::Rr(report)) => {
-            assert_eq!(rt; report.blocks.as_slice(), [BLOCK].as_slice());
-            assert_eq!(rt; report.extension.as_slice(), [1, 2, 3, 4].as_slice());
+    match Compound::read(buffer.as_slice())?.packets().next() {
+        Some(PacketView::Rr(report)) => {
+            let blocks: Vec<Block> = report.blocks().collect(rt.alloc())?;
+            assert_eq!(rt; blocks.as_slice(), [BLOCK].as_slice());
+            assert_eq!(rt; report.extension, [1, 2, 3, 4].as_slice());
         }
         _ => panic!(rt; "it is a receiver report"),
     }

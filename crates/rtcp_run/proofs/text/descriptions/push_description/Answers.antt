@@ -1,8 +1,10 @@
 use Rattle.std.proofs.Common.{append_assoc, arith}
-use Rattle.std.proofs.lemmas.Simd.{map-map}
-use Rattle.rtcp_wire.specs.Views.{chunk_of}
 use Rattle.rtcp_run.specs.Text.{chunk_text}
+use Rattle.rtcp_run.proofs.Joined.{texts_given}
 use Rattle.rtcp_run.proofs.text.descriptions.push_description.Goals as goal
 
 pub returns : goal.returns
-returns c = grind (arith, append_assoc, map-map chunk_text chunk_of c.args.description.now.chunks.items)
+returns c =
+    let joined = c.in_ok-push_joined.ensures in
+    let texts = texts_given (λ chunk. chunk) chunk_text c.chunks.result joined.0 joined.1 in
+    grind (arith, append_assoc, texts, joined.2)

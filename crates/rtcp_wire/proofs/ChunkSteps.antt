@@ -1,0 +1,44 @@
+-- Chunks that are read one after the other, of octets that begin with as many chunks.
+use Rattle.std.proofs.Common.{◌≡◌, ℕ, suc, ◌≤◌, List, [], ◌∷◌, ◌++◌, length, drop, refl, sym, ap, subst, ◌∙◌, append_assoc, arith}
+use Rattle.std.proofs.lemmas.List.{length-append}
+use Rattle.rtcp_wire.specs.Values.{ChunkValue}
+use Rattle.rtcp_wire.specs.Grammar.{Joins, IsChunk}
+use Rattle.rtcp_wire.specs.Validity.{HasItems, HasChunks}
+use Rattle.rtcp_wire.specs.Walks.{items_after, chunk_size}
+use Rattle.rtcp_wire.proofs.ReadingWalks.{other_part, chunk_parts, chunk_read, chunk_length, after_chunk}
+
+-- the octets of the chunk that stands first
+abbrev pub first_size : List ℕ → ℕ
+first_size octets = chunk_size (items_after 0 (drop 4 octets))
+
+-- A chunk stands first, and so many others after it.
+pub record ChunkStep (others : ℕ) (octets : List ℕ) : Type 0 where
+  pub begun : 4 ≤ length octets
+  pub items : HasItems (drop 4 octets)
+  pub room : first_size octets ≤ length octets
+  pub more : HasChunks others (drop (first_size octets) octets)
+
+-- at a chunk and what follows it
+here : (others : ℕ) (chunk : ChunkValue) (a r : List ℕ) (h : IsChunk chunk a) → HasChunks others r → ChunkStep others (a ++ r)
+here others chunk a r h more =
+    let after_id : drop 4 (a ++ r) ≡ h.items ++ 0 ∷ (h.free ++ r) =
+    ap (drop 4) (chunk_parts chunk a r h) ∙ other_part 4 h.id (h.items ++ 0 ∷ (h.free ++ r)) h.id_size in
+    let size : first_size (a ++ r) ≡ length a = ap (λ (c : ChunkValue). chunk_size c.items) (chunk_read chunk a r h) ∙ chunk_length chunk a r h in
+    record {
+      begun = omega (arith, ap length (chunk_parts chunk a r h), length-append h.id (h.items ++ 0 ∷ (h.free ++ r)), h.id_size);
+      items = (h.free ++ r, record { items = chunk.items; middle = h.items; parts = after_id; each = h.each });
+      room = omega (arith, size, length-append a r);
+      more = subst (HasChunks others) (sym (after_chunk chunk a r h)) more;
+    }
+
+-- Octets that begin with a chunk more begin with a chunk.
+pub chunk_step : (count others : ℕ) (octets : List ℕ) → HasChunks count octets → count ≡ suc others → ChunkStep others octets
+chunk_step count others octets h is = step h.chunks h.middle h.counted h.parts h.each
+  where
+    step : (chunks : List ChunkValue) (middle : List ℕ) → length chunks ≡ count → octets ≡ middle ++ h.after → Joins IsChunk chunks middle → ChunkStep others octets
+    step [] middle counted parts each = absurd (omega (arith, counted, is))
+    step (chunk ∷ chunks) middle counted parts each =
+        let rest = each.1 ++ h.after in
+        let whole : octets ≡ each.0 ++ rest = parts ∙ ap (λ (t : List ℕ). t ++ h.after) each.2 ∙ append_assoc each.0 each.1 h.after in
+        let more : HasChunks others rest = record { chunks = chunks; middle = each.1; after = h.after; counted = omega (arith, counted, is); parts = refl; each = each.4 } in
+        subst (ChunkStep others) (sym whole) (here others chunk each.0 rest each.3 more)
