@@ -1,0 +1,8 @@
+use Rattle.std.proofs.Common.{length}
+use Rattle.rtcp_bench.proofs.pass_over.Given as goal
+
+abbrev pub invariant-datagrams : goal.invariant-datagrams
+invariant-datagrams l = Unit {0}
+
+abbrev pub decreases-datagrams : goal.decreases-datagrams
+decreases-datagrams l = length l.left
