@@ -1,0 +1,133 @@
+-- The laws of this crate as lemmas, for the proofs of the crates above: each has the name of its law, and of the
+-- clause where the law has several.
+use Rattle.std.proofs.Common.{◌≡◌, ◌↔◌, ℕ, ◌+◌, ◌-◌, ◌*◌, ◌/◌, ◌%◌, ◌≤◌, ◌&&◌, Bool, true, false, List, [], ◌∷◌, ◌++◌, length, drop, Option, Some, None, Result, Ok, Err, if◌then◌else◌, refl, sym, ap, ◌∙◌, arith, inl, inr}
+use Rattle.std.proofs.lemmas.Bool.{ne_eqb, eq-eqb, lt-ltb, le-ltb, cases_lt}
+use Rattle.rtcp_wire.specs.Values.{ItemValue, RtcpPacket}
+use Rattle.rtcp_wire.specs.RtpHeads.{RtpValue}
+use Rattle.rtcp_wire.specs.declared.fault.WireFault.{WireFault}
+use Rattle.rtcp_wire.specs.declared.rtp.fault.RtpFault.{RtpFault}
+use Rattle.rtcp_wire.proofs.LawLemmas as wire
+use Rattle.rtcp_members.specs.Traces.{TraceStep, block_taken}
+use Rattle.rtcp_members.specs.Stays.{is_before}
+use Rattle.rtcp_members.specs.Pending.{EntryRow, last_reported}
+use Rattle.rtcp_report.specs.Traced.{with_blocks}
+use Rattle.rtcp_engine.specs.declared.refusal.Refusal.{Refusal}
+use Rattle.rtcp_engine.specs.Setups.{Setup}
+use Rattle.rtcp_engine.specs.Acts.{Act, rtcp_came, rtp_came, rtp_sent, ticked, IsReading, IsRtpReading}
+use Rattle.rtcp_engine.specs.OwnStreams.{OwnStep, packet_sent, check_passed, sending_since}
+use Rattle.rtcp_engine.specs.OwnSending.{OutlastsChecks, IsSendingSince}
+use Rattle.rtcp_engine.specs.Outcomes.{Outcome}
+use Rattle.rtcp_engine.specs.Reporting.{extra_item, first_of, last_reported_in, report_octets}
+use Rattle.rtcp_engine.specs.Histories.{after}
+use Rattle.rtcp_engine.specs.Answers.{refusal_of, followed_by, report_by}
+use Rattle.rtcp_engine.specs.Sent.{new_reports}
+use Rattle.rtcp_engine.specs.Ticks.{checked, has_come, has_passed, reported, put_off}
+
+-- ---- Readings
+
+pub one_reading-always : (octets : List ℕ) → (reading : Result (List RtcpPacket) WireFault) × IsReading octets reading
+one_reading-always octets = elim (wire.accepted_or_faulty-always_one octets) [ inl read ↦ (Ok read.0, read.1) | inr fault ↦ (Err fault.0, fault.1) ]
+
+pub one_reading-once : (octets : List ℕ) (one other : Result (List RtcpPacket) WireFault) → IsReading octets one → IsReading octets other → one ≡ other
+one_reading-once octets (Ok ps) (Ok qs) h k = ap Ok (wire.one_reading octets ps qs h k)
+one_reading-once octets (Ok ps) (Err fault) h k = absurd (wire.accepted_or_faulty-never_both octets ps fault h k)
+one_reading-once octets (Err fault) (Ok qs) h k = absurd (wire.accepted_or_faulty-never_both octets qs fault k h)
+one_reading-once octets (Err fault) (Err other) h k = ap Err (wire.one_fault octets fault other h k)
+
+pub one_reading-rtp_always : (octets : List ℕ) → (reading : Result RtpValue RtpFault) × IsRtpReading octets reading
+one_reading-rtp_always octets = elim (wire.packet_or_fault-always_one octets) [ inl read ↦ (Ok read.0, read.1) | inr fault ↦ (Err fault.0, fault.1) ]
+
+pub one_reading-rtp_once : (octets : List ℕ) (one other : Result RtpValue RtpFault) → IsRtpReading octets one → IsRtpReading octets other → one ≡ other
+one_reading-rtp_once octets (Ok g) (Ok h) a b = ap Ok (wire.one_head octets g h a b)
+one_reading-rtp_once octets (Ok g) (Err fault) a b = absurd (wire.packet_or_fault-never_both octets g fault a b)
+one_reading-rtp_once octets (Err fault) (Ok h) a b = absurd (wire.packet_or_fault-never_both octets h fault b a)
+one_reading-rtp_once octets (Err fault) (Err other) a b = ap Err (wire.one_rtp_fault octets fault other a b)
+
+-- ---- Histories
+
+pub refused_acts_are_forgotten-refused : (setup : Setup) (history : List Act) (act : Act) (reason : Refusal) → refusal_of setup history act ≡ Some reason → followed_by setup history act ≡ history
+refused_acts_are_forgotten-refused setup history act reason is =
+    ap (λ r. elim r [ None ↦ act ∷ history | Some refusal ↦ history ]) is
+
+pub refused_acts_are_forgotten-taken : (setup : Setup) (history : List Act) (act : Act) → refusal_of setup history act ≡ None → followed_by setup history act ≡ act ∷ history
+refused_acts_are_forgotten-taken setup history act is =
+    ap (λ r. elim r [ None ↦ act ∷ history | Some refusal ↦ history ]) is
+
+-- ---- The own stream
+
+-- a check that leaves a sender
+kept : (sending : Option ℕ) (idle moment : ℕ) → (if is_before sending idle then None else sending) ≡ Some moment → (sending ≡ Some moment) × (idle ≤ moment)
+kept None idle moment h = absurd cc
+kept (Some at) idle moment h =
+    elim (cases_lt at idle) [
+      | inl below ↦ absurd (none_is_some moment (sym (ap (λ (b : Bool). if b then None else Some at) (lt-ltb at idle below)) ∙ h))
+      | inr above ↦ (let same : Some at ≡ Some moment = sym (ap (λ (b : Bool). if b then None else Some at) (le-ltb at idle above)) ∙ h in
+          let moments : at ≡ moment = cc in
+          (same, omega (arith, above, moments)))
+    ]
+  where
+    none_is_some : (n : ℕ) → None ≡ Some n → ⊥
+    none_is_some n e = cc
+
+sends_since : (own : List OwnStep) (moment : ℕ) → sending_since own ≡ Some moment → IsSendingSince own moment
+sends_since [] moment h = absurd cc
+sends_since (packet_sent at timestamp octets ∷ earlier) moment h =
+    let same : at ≡ moment = cc in
+    record { since = []; timestamp = timestamp; octets = octets; before = earlier; parts = ap (λ (m : ℕ). packet_sent m timestamp octets ∷ earlier) same; recent = tt }
+sends_since (check_passed idle ∷ earlier) moment h =
+    let both = kept (sending_since earlier) idle moment h in
+    let rest = sends_since earlier moment both.0 in
+    record { since = check_passed idle ∷ rest.since; timestamp = rest.timestamp; octets = rest.octets; before = rest.before; parts = ap (λ (t : List OwnStep). check_passed idle ∷ t) rest.parts; recent = (both.1, rest.recent) }
+
+lasts : (since : List OwnStep) (moment timestamp octets : ℕ) (before : List OwnStep) → OutlastsChecks moment since → sending_since (since ++ packet_sent moment timestamp octets ∷ before) ≡ Some moment
+lasts [] moment timestamp octets before h = refl
+lasts (packet_sent at other size ∷ since) moment timestamp octets before h = absurd h
+lasts (check_passed idle ∷ since) moment timestamp octets before h =
+    ap (λ (s : Option ℕ). if is_before s idle then None else s) (lasts since moment timestamp octets before h.1)
+    ∙ ap (λ (b : Bool). if b then None else Some moment) (le-ltb moment idle h.0)
+
+pub own_sending_lasts : (own : List OwnStep) (moment : ℕ) → (sending_since own ≡ Some moment) ↔ IsSendingSince own moment
+own_sending_lasts own moment = (
+  sends_since own moment,
+  λ h. ap sending_since h.parts ∙ lasts h.since moment h.timestamp h.octets h.before h.recent,
+)
+
+-- ---- Reports
+
+tick_reports : (setup : Setup) (t first_word second_word : ℕ) (outcome : Outcome) (come passed : Bool) → let now = checked setup t outcome in
+    (if come then (if passed then reported setup t second_word now else put_off setup t first_word now) else now).reports
+    ≡ new_reports setup (ticked t first_word second_word) outcome (if come && passed then Some (report_octets setup t now) else None) ++ outcome.reports
+tick_reports setup t first_word second_word outcome true true = refl
+tick_reports setup t first_word second_word outcome true false = refl
+tick_reports setup t first_word second_word outcome false passed = refl
+
+pub answers_hand_out_reports : (setup : Setup) (act : Act) (outcome : Outcome) →
+    (after setup act outcome).reports ≡ new_reports setup act outcome (report_by setup act outcome) ++ outcome.reports
+answers_hand_out_reports setup (rtcp_came moment size (Ok packets)) outcome = refl
+answers_hand_out_reports setup (rtcp_came moment size (Err fault)) outcome = refl
+answers_hand_out_reports setup (rtp_came moment (Ok head)) outcome = refl
+answers_hand_out_reports setup (rtp_came moment (Err fault)) outcome = refl
+answers_hand_out_reports setup (rtp_sent moment timestamp octets) outcome = refl
+answers_hand_out_reports setup (ticked moment first_word second_word) outcome =
+    let now = checked setup moment outcome in
+    tick_reports setup moment first_word second_word outcome (has_come moment now) (has_passed setup moment first_word now)
+
+pub last_block_is_newest : (rows : List EntryRow) (trace : List TraceStep) →
+    last_reported_in (with_blocks rows trace) ≡ last_reported (last_reported_in trace) rows
+last_block_is_newest [] trace = refl
+last_block_is_newest (row ∷ rows) trace = last_block_is_newest rows (block_taken row.0 ∷ trace)
+
+-- ---- Extra items
+
+pub extra_items_take_turns-third : (items : List ItemValue) (turn : ℕ) → (items ≡ [] → ⊥) →
+    extra_item items (3 * (turn + 1)) ≡ first_of (drop (turn % length items) items)
+extra_items_take_turns-third [] turn some = absurd (some refl)
+extra_items_take_turns-third (item ∷ items) turn some =
+    let third : 3 * (turn + 1) % 3 ≡ 0 = omega arith in
+    let at : 3 * (turn + 1) / 3 - 1 ≡ turn = omega arith in
+    let one : ℕ → Option ItemValue = λ place. first_of (drop (place % length (item ∷ items)) (item ∷ items)) in
+    ap (λ (b : Bool). if b then one (3 * (turn + 1) / 3 - 1) else None) (eq-eqb (3 * (turn + 1) % 3) 0 third) ∙ ap one at
+
+pub extra_items_take_turns-others : (items : List ItemValue) (number : ℕ) → (number % 3 ≡ 0 → ⊥) → extra_item items number ≡ None
+extra_items_take_turns-others [] number not_third = refl
+extra_items_take_turns-others (item ∷ items) number not_third = rw (ne_eqb (number % 3) 0 not_third) refl

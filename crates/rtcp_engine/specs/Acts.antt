@@ -1,0 +1,38 @@
+-- What a participant is told: what came, what was sent beside it, and that time has passed. Moments are in
+-- microseconds since the session began.
+use Rattle.std.specs.Prelude.{ℕ, List, Result, Ok, Err}
+use Rattle.rtcp_wire.specs.declared.fault.WireFault.{WireFault}
+use Rattle.rtcp_wire.specs.declared.rtp.fault.RtpFault.{RtpFault}
+use Rattle.rtcp_wire.specs.Values.{RtcpPacket}
+use Rattle.rtcp_wire.specs.Grammar.{IsAccepted}
+use Rattle.rtcp_wire.specs.Faults.{IsFirstFault}
+use Rattle.rtcp_wire.specs.RtpHeads.{RtpValue, IsRtpHead, IsRtpFault}
+
+pub data Act : Type 0 where
+  -- an RTCP datagram of so many octets came: its packets, or its first fault
+  rtcp_came : (moment size : ℕ) (reading : Result (List RtcpPacket) WireFault) → Act
+  -- an RTP datagram came: what its head says, or its first fault
+  rtp_came : (moment : ℕ) (reading : Result RtpValue RtpFault) → Act
+  -- the participant's host sent an RTP packet with this timestamp and so many octets of payload
+  rtp_sent : (moment timestamp octets : ℕ) → Act
+  -- the host asked whether a report is due, and gave two random words for the draws of intervals
+  ticked : (moment first_word second_word : ℕ) → Act
+
+abbrev pub moment_of : Act → ℕ
+moment_of (rtcp_came moment size reading) = moment
+moment_of (rtp_came moment reading) = moment
+moment_of (rtp_sent moment timestamp octets) = moment
+moment_of (ticked moment first_word second_word) = moment
+
+-- ---- Octets
+
+-- What the octets of an RTCP datagram say. There is exactly one reading (rtcp_wire's law
+-- `accepted_or_faulty`).
+abbrev pub IsReading : List ℕ → Result (List RtcpPacket) WireFault → Type 0
+IsReading octets (Ok packets) = IsAccepted octets packets
+IsReading octets (Err fault) = IsFirstFault octets fault
+
+-- what the octets of an RTP datagram say
+abbrev pub IsRtpReading : List ℕ → Result RtpValue RtpFault → Type 0
+IsRtpReading octets (Ok head) = IsRtpHead octets head
+IsRtpReading octets (Err fault) = IsRtpFault octets fault

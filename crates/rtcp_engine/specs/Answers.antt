@@ -1,0 +1,110 @@
+-- What a participant answers to an act, after the acts that it took before.
+use Rattle.std.specs.Prelude.{◌≡◌, ℕ, ◌-◌, ◌^◌, ◌==◌, Bool, nat_lt, nat_le, List, [], ◌∷◌, length, if◌then◌else◌, Option, Some, None, Result, Ok, Err}
+use Rattle.std.specs.List.{list_any}
+use Rattle.rtcp_wire.specs.declared.fault.WireFault.{WireFault}
+use Rattle.rtcp_wire.specs.declared.rtp.fault.RtpFault.{RtpFault}
+use Rattle.rtcp_wire.specs.Values.{RtcpPacket}
+use Rattle.rtcp_wire.specs.Facts.{subject, facts_of}
+use Rattle.rtcp_wire.specs.RtpHeads.{RtpValue}
+use Rattle.rtcp_engine.specs.declared.refusal.Refusal.{Refusal}
+use Rattle.rtcp_engine.specs.declared.refusal.Refusal.TheVariants.{Backwards, TooFar, TooMany, Wire, Rtp, OwnSsrc}
+use Rattle.rtcp_engine.specs.Setups.{Setup}
+use Rattle.rtcp_engine.specs.Acts.{Act, rtcp_came, rtp_came, rtp_sent, ticked, moment_of}
+use Rattle.rtcp_engine.specs.Outcomes.{Outcome, member_count, sender_count, timing_of}
+use Rattle.rtcp_engine.specs.Reporting.{report_octets}
+use Rattle.rtcp_engine.specs.Ticks.{checked, is_report_due}
+use Rattle.rtcp_engine.specs.Histories.{after, outcome_of}
+
+-- ---- Refusals
+
+abbrev pub last_moment : List Act → ℕ
+last_moment [] = 0
+last_moment (act ∷ earlier) = moment_of act
+
+-- whether some fact of a compound speaks of this source
+abbrev pub speaks_of : (ssrc : ℕ) → List RtcpPacket → Bool
+speaks_of ssrc packets = list_any (λ fact. subject fact == ssrc) (facts_of packets)
+
+abbrev pub refusal_if : Bool → Refusal → Option Refusal
+refusal_if b refusal = if b then Some refusal else None
+
+abbrev pub refusal_of_compound : Setup → Result (List RtcpPacket) WireFault → Option Refusal
+refusal_of_compound setup (Ok packets) = refusal_if (speaks_of setup.ssrc packets) OwnSsrc
+refusal_of_compound setup (Err fault) = Some (Wire fault)
+
+abbrev pub refusal_of_media : Setup → Result RtpValue RtpFault → Option Refusal
+refusal_of_media setup (Ok head) = refusal_if (head.ssrc == setup.ssrc) OwnSsrc
+refusal_of_media setup (Err fault) = Some (Rtp fault)
+
+abbrev pub refusal_of_datagram : Setup → Act → Option Refusal
+refusal_of_datagram setup (rtcp_came moment size reading) = refusal_of_compound setup reading
+refusal_of_datagram setup (rtp_came moment reading) = refusal_of_media setup reading
+refusal_of_datagram setup (rtp_sent moment timestamp octets) = None
+refusal_of_datagram setup (ticked moment first_word second_word) = None
+
+-- Why an act is refused after these that were taken, if it is: the first of the reasons.
+abbrev pub refusal_of : Setup → List Act → Act → Option Refusal
+refusal_of setup history act =
+    if nat_lt (moment_of act) (last_moment history) then Some Backwards
+    else (if nat_lt (2 ^ 50) (moment_of act) then Some TooFar
+    else (if nat_le (2 ^ 40 - 1) (length history) then Some TooMany
+    else refusal_of_datagram setup act))
+
+-- Each act was taken when it came.
+abbrev pub AllTaken : Setup → List Act → Type 0
+AllTaken setup [] = Unit {0}
+AllTaken setup (act ∷ earlier) = (refusal_of setup earlier act ≡ None) × AllTaken setup earlier
+
+-- ---- Answers
+
+-- what is answered to an act that is taken
+pub record StepValue : Type 0 where
+  -- the octets of a report to send, if one is due
+  pub report : Option (List ℕ)
+  -- with the participant among them
+  pub members : ℕ
+  pub senders : ℕ
+  -- the moment to ask again
+  pub next : ℕ
+
+abbrev pub report_by : Setup → Act → Outcome → Option (List ℕ)
+report_by setup (rtcp_came moment size reading) outcome = None
+report_by setup (rtp_came moment reading) outcome = None
+report_by setup (rtp_sent moment timestamp octets) outcome = None
+report_by setup (ticked moment first_word second_word) outcome =
+    let now = checked setup moment outcome in
+    if is_report_due setup moment first_word now then Some (report_octets setup moment now) else None
+
+abbrev pub step_of : Setup → Act → Outcome → StepValue
+step_of setup act outcome =
+    let now = after setup act outcome in
+    record {
+      report = report_by setup act outcome;
+      members = member_count setup now;
+      senders = sender_count setup now;
+      next = (timing_of now).next;
+    }
+
+abbrev pub AnswerValue : Type 0
+AnswerValue = Result StepValue Refusal
+
+abbrev pub answer_unless : Option Refusal → StepValue → AnswerValue
+answer_unless None step = Ok step
+answer_unless (Some refusal) step = Err refusal
+
+abbrev pub answer_of : Setup → (word : ℕ) → List Act → Act → AnswerValue
+answer_of setup word history act =
+    answer_unless (refusal_of setup history act) (step_of setup act (outcome_of setup word history))
+
+-- ---- Several acts
+
+-- the history with one act more, if it is taken
+abbrev pub followed_by : Setup → List Act → Act → List Act
+followed_by setup history act =
+    elim (refusal_of setup history act) [ None ↦ act ∷ history | Some refusal ↦ history ]
+
+-- The answers to acts, the first one first.
+abbrev pub answers_to : Setup → (word : ℕ) → List Act → List Act → List AnswerValue
+answers_to setup word history [] = []
+answers_to setup word history (act ∷ acts) =
+    answer_of setup word history act ∷ answers_to setup word (followed_by setup history act) acts

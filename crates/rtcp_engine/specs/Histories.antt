@@ -1,0 +1,71 @@
+-- What the acts of a session come to, from its beginning on. A history is a list of acts, newest first.
+use Rattle.std.specs.Prelude.{ℕ, ◌==◌, not, List, [], ◌∷◌, map, filter, if◌then◌else◌, Result, Ok, Err}
+use Rattle.rtcp_wire.specs.declared.fact.Fact.{Fact}
+use Rattle.rtcp_wire.specs.declared.fact.Fact.TheVariants.{Heard, Media}
+use Rattle.rtcp_wire.specs.declared.fault.WireFault.{WireFault}
+use Rattle.rtcp_wire.specs.declared.rtp.fault.RtpFault.{RtpFault}
+use Rattle.rtcp_wire.specs.Values.{RtcpPacket}
+use Rattle.rtcp_wire.specs.Facts.{facts_of}
+use Rattle.rtcp_wire.specs.RtpHeads.{RtpValue}
+use Rattle.rtcp_members.specs.Traces.{with_facts}
+use Rattle.rtcp_members.specs.Entries.{counted_at}
+use Rattle.rtcp_engine.specs.Setups.{Setup}
+use Rattle.rtcp_engine.specs.Acts.{Act, rtcp_came, rtp_came, rtp_sent, ticked}
+use Rattle.rtcp_engine.specs.OwnStreams.{packet_sent}
+use Rattle.rtcp_engine.specs.Outcomes.{Outcome, beginning}
+use Rattle.rtcp_engine.specs.Ticks.{with_recount, after_tick}
+
+-- ---- Arrivals
+
+-- The facts of a compound that came (RFC 3550, 6.3.3, 6.3.7). It moves the average, and members may have
+-- departed.
+abbrev pub with_compound : Setup → (t size : ℕ) → List RtcpPacket → Outcome → Outcome
+with_compound setup t size packets outcome =
+    with_recount setup t (record outcome {
+      trace = with_facts (facts_of packets) t outcome.trace;
+      sizes = size ∷ outcome.sizes;
+    })
+
+abbrev pub media_fact : RtpValue → Fact
+media_fact head = Media head.ssrc head.sequence head.timestamp
+
+-- the contributing sources of a packet, but for the participant itself
+abbrev pub other_csrcs : Setup → RtpValue → List ℕ
+other_csrcs setup head = filter (λ ssrc. not (ssrc == setup.ssrc)) head.csrcs
+
+-- The facts of an RTP packet that came (6.3.3): the packet, and if it is counted, its contributing sources
+-- too.
+abbrev pub facts_of_media : Setup → RtpValue → Outcome → List Fact
+facts_of_media setup head outcome =
+    media_fact head ∷
+    (if counted_at setup.capacity setup.rate outcome.trace (media_fact head)
+    then map Heard (other_csrcs setup head)
+    else [])
+
+abbrev pub with_media : Setup → (t : ℕ) → RtpValue → Outcome → Outcome
+with_media setup t head outcome =
+    record outcome { trace = with_facts (facts_of_media setup head outcome) t outcome.trace }
+
+-- What a datagram with a fault would change is nothing, and so no history holds one.
+abbrev pub with_reading : Setup → (t size : ℕ) → Result (List RtcpPacket) WireFault → Outcome → Outcome
+with_reading setup t size (Ok packets) outcome = with_compound setup t size packets outcome
+with_reading setup t size (Err fault) outcome = outcome
+
+abbrev pub with_rtp_reading : Setup → (t : ℕ) → Result RtpValue RtpFault → Outcome → Outcome
+with_rtp_reading setup t (Ok head) outcome = with_media setup t head outcome
+with_rtp_reading setup t (Err fault) outcome = outcome
+
+-- ---- Histories
+
+abbrev pub after : Setup → Act → Outcome → Outcome
+after setup (rtcp_came moment size reading) outcome = with_reading setup moment size reading outcome
+after setup (rtp_came moment reading) outcome = with_rtp_reading setup moment reading outcome
+after setup (rtp_sent moment timestamp octets) outcome =
+    record outcome { own = packet_sent moment timestamp octets ∷ outcome.own }
+after setup (ticked moment first_word second_word) outcome =
+    after_tick setup moment first_word second_word outcome
+
+-- What a session has come to, from its setup, its start word and all acts that were taken.
+abbrev pub outcome_of : Setup → (word : ℕ) → List Act → Outcome
+outcome_of setup word [] = beginning setup word
+outcome_of setup word (act ∷ earlier) = after setup act (outcome_of setup word earlier)

@@ -1,0 +1,10 @@
+pub mod Setups
+pub mod Acts
+pub mod OwnStreams
+pub mod OwnSending
+pub mod Outcomes
+pub mod Reporting
+pub mod Ticks
+pub mod Histories
+pub mod Answers
+pub mod Sent

@@ -1,0 +1,58 @@
+-- What a report of a session holds (RFC 3550, 6.1, 6.4, 6.5).
+use Rattle.std.specs.Prelude.{ℕ, ◌+◌, ◌-◌, ◌/◌, ◌%◌, ◌==◌, List, [], ◌∷◌, if◌then◌else◌, length, drop, Option, Some, None}
+use Rattle.rtcp_wire.specs.Values.{ItemValue, RtcpPacket}
+use Rattle.rtcp_wire.specs.Writing.{written_all}
+use Rattle.rtcp_members.specs.Traces.{TraceStep, fact_came, check_made, block_taken}
+use Rattle.rtcp_members.specs.Pending.{EntryRow, blocks_of}
+use Rattle.rtcp_members.specs.News.{pending_rows_at}
+use Rattle.rtcp_report.specs.Reports.{Reporter, packets_with}
+use Rattle.rtcp_report.specs.Sizes.{fitting}
+use Rattle.rtcp_report.specs.Views.{items_of}
+use Rattle.rtcp_engine.specs.Setups.{Setup}
+use Rattle.rtcp_engine.specs.OwnStreams.{sent_at}
+use Rattle.rtcp_engine.specs.Outcomes.{Outcome}
+
+-- ---- Items
+
+abbrev pub first_of : {A : Type 0} → List A → Option A
+first_of [] = None
+first_of (x ∷ xs) = Some x
+
+-- The extra item of the report with this number, which counts from 1: reports 3, 6, 9 and so on carry the
+-- items in turn.
+abbrev pub extra_item : List ItemValue → (number : ℕ) → Option ItemValue
+extra_item [] number = None
+extra_item (item ∷ items) number =
+    if number % 3 == 0
+    then first_of (drop ((number / 3 - 1) % length (item ∷ items)) (item ∷ items))
+    else None
+
+-- ---- Reports
+
+-- the source of the newest block
+abbrev pub last_reported_in : List TraceStep → Option ℕ
+last_reported_in [] = None
+last_reported_in (fact_came fact moment ∷ earlier) = last_reported_in earlier
+last_reported_in (check_made horizons ∷ earlier) = last_reported_in earlier
+last_reported_in (block_taken ssrc ∷ earlier) = Some ssrc
+
+-- who reports at a moment: a sender or a receiver, with its CNAME and the extra item whose turn it is
+abbrev pub reporter_at : Setup → (t : ℕ) → Outcome → Reporter
+reporter_at setup t outcome = record {
+  ssrc = setup.ssrc;
+  sent = sent_at setup t outcome.own;
+  items = items_of setup.cname (extra_item setup.extras (length outcome.reports + 1));
+}
+
+-- The sources that a report is of: as many of the pending ones as fit, in turn after the last one reported.
+abbrev pub reported_at : Setup → (t : ℕ) → Outcome → List EntryRow
+reported_at setup t outcome =
+    fitting (reporter_at setup t outcome) setup.limit
+    (pending_rows_at (last_reported_in outcome.trace) setup.capacity setup.rate outcome.trace)
+
+abbrev pub report_packets : Setup → (t : ℕ) → Outcome → List RtcpPacket
+report_packets setup t outcome =
+    packets_with (reporter_at setup t outcome) (blocks_of t (reported_at setup t outcome))
+
+abbrev pub report_octets : Setup → (t : ℕ) → Outcome → List ℕ
+report_octets setup t outcome = written_all (report_packets setup t outcome)
