@@ -18,8 +18,8 @@ use Rattle.rtcp_engine.specs.OwnStreams.{OwnStep, packet_sent, check_passed, sen
 use Rattle.rtcp_engine.specs.OwnSending.{OutlastsChecks, IsSendingSince}
 use Rattle.rtcp_engine.specs.Outcomes.{Outcome}
 use Rattle.rtcp_engine.specs.Reporting.{extra_item, first_of, last_reported_in, report_octets}
-use Rattle.rtcp_engine.specs.Histories.{after}
-use Rattle.rtcp_engine.specs.Answers.{refusal_of, followed_by, report_by}
+use Rattle.rtcp_engine.specs.Histories.{after, History}
+use Rattle.rtcp_engine.specs.Answers.{refusal_of, with_act, followed_by, report_by}
 use Rattle.rtcp_engine.specs.Sent.{new_reports}
 use Rattle.rtcp_engine.specs.Ticks.{checked, has_come, has_passed, reported, put_off}
 
@@ -45,13 +45,13 @@ one_reading-rtp_once octets (Err fault) (Err other) a b = ap Err (wire.one_rtp_f
 
 -- ---- Histories
 
-pub refused_acts_are_forgotten-refused : (setup : Setup) (history : List Act) (act : Act) (reason : Refusal) → refusal_of setup history act ≡ Some reason → followed_by setup history act ≡ history
-refused_acts_are_forgotten-refused setup history act reason is =
-    ap (λ r. elim r [ None ↦ act ∷ history | Some refusal ↦ history ]) is
+pub refused_acts_are_forgotten-refused : (history : History) (act : Act) (reason : Refusal) → refusal_of history.setup history.acts act ≡ Some reason → followed_by history act ≡ history
+refused_acts_are_forgotten-refused history act reason is =
+    ap (λ r. elim r [ None ↦ with_act history act | Some refusal ↦ history ]) is
 
-pub refused_acts_are_forgotten-taken : (setup : Setup) (history : List Act) (act : Act) → refusal_of setup history act ≡ None → followed_by setup history act ≡ act ∷ history
-refused_acts_are_forgotten-taken setup history act is =
-    ap (λ r. elim r [ None ↦ act ∷ history | Some refusal ↦ history ]) is
+pub refused_acts_are_forgotten-taken : (history : History) (act : Act) → refusal_of history.setup history.acts act ≡ None → followed_by history act ≡ with_act history act
+refused_acts_are_forgotten-taken history act is =
+    ap (λ r. elim r [ None ↦ with_act history act | Some refusal ↦ history ]) is
 
 -- ---- The own stream
 

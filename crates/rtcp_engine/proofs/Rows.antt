@@ -5,22 +5,29 @@ use Rattle.rtcp_wire.specs.declared.fault.FaultReason.TheVariants.{Short}
 use Rattle.rtcp_wire.specs.Values.{ItemValue, RtcpPacket, rr, sdes, bye}
 use Rattle.rtcp_wire.specs.RtpHeads.{RtpValue}
 use Rattle.rtcp_engine.specs.declared.refusal.Refusal.TheVariants.{Backwards, TooFar, Wire, Rtp, OwnSsrc}
+use Rattle.rtcp_engine.specs.declared.step.OutKind.TheVariants.{Report}
 use Rattle.rtcp_engine.specs.Setups.{Setup}
 use Rattle.rtcp_engine.specs.Acts.{Act, rtcp_came, rtp_came, rtp_sent, ticked}
 use Rattle.rtcp_engine.specs.Outcomes.{timing_of}
-use Rattle.rtcp_engine.specs.Histories.{outcome_of}
+use Rattle.rtcp_engine.specs.Histories.{History, outcome_of}
 use Rattle.rtcp_engine.specs.Answers.{AnswerValue, answers_to}
 
 abbrev setup : Setup
 setup = record { ssrc = 170; cname = 97 ∷ []; extras = []; capacity = 1024; limit = 1472; rtcp_bw = 400; rate = 8000; ntp_base = 0 }
 
+abbrev start_of : Setup → History
+start_of setup = record { setup = setup; word = 0; acts = [] }
+
+abbrev start : History
+start = start_of setup
+
 -- ---- Acts and answers
 
 abbrev ok : (members senders next : ℕ) → AnswerValue
-ok members senders next = Ok (record { report = None; members = members; senders = senders; next = next })
+ok members senders next = Ok (record { out = None; members = members; senders = senders; next = Some next })
 
 abbrev sends : (members senders next : ℕ) → List ℕ → AnswerValue
-sends members senders next octets = Ok (record { report = Some octets; members = members; senders = senders; next = next })
+sends members senders next octets = Ok (record { out = Some (record { kind = Report; octets = octets }); members = members; senders = senders; next = Some next })
 
 -- a receiver report without blocks, and the CNAME
 abbrev empty_report : List ℕ
@@ -59,60 +66,60 @@ start_greatest : (timing_of (outcome_of setup 4294967295 [])).next ≡ 3078111
 start_greatest = refl
 
 -- A report goes out when its moment has come and no sooner, and only one.
-reports_once : answers_to setup 0 [] (ticked 1026036 0 0 ∷ ticked 1026037 0 0 ∷ ticked 1026037 0 0 ∷ [])
+reports_once : answers_to start (ticked 1026036 0 0 ∷ ticked 1026037 0 0 ∷ ticked 1026037 0 0 ∷ [])
     ≡ ok 1 0 1026037 ∷ sends 1 0 3078111 empty_report ∷ ok 1 0 3078111 ∷ []
 reports_once = refl
 
 -- The interval drawn at the tick has not passed.
-put_off : answers_to setup 0 [] (ticked 1026037 4294967295 0 ∷ []) ≡ ok 1 0 3078111 ∷ []
+put_off : answers_to start (ticked 1026037 4294967295 0 ∷ []) ≡ ok 1 0 3078111 ∷ []
 put_off = refl
 
 -- A source whose packets are counted is a member, a sender, and reported.
-one_sender : answers_to setup 0 [] (packet_came 0 9 10 ∷ packet_came 0 9 11 ∷ ticked 1026037 0 0 ∷ [])
+one_sender : answers_to start (packet_came 0 9 10 ∷ packet_came 0 9 11 ∷ ticked 1026037 0 0 ∷ [])
     ≡ ok 1 0 1026037 ∷ ok 2 1 1026037 ∷ sends 2 1 3078111 (129 ∷ 201 ∷ 0 ∷ 7 ∷ 0 ∷ 0 ∷ 0 ∷ 170 ∷ 0 ∷ 0 ∷ 0 ∷ 9 ∷ 0 ∷ 0 ∷ 0 ∷ 0 ∷ 0 ∷ 0 ∷ 0 ∷ 11 ∷ 0 ∷ 0 ∷ 0 ∷ 0 ∷ 0 ∷ 0 ∷ 0 ∷ 0 ∷ 0 ∷ 0 ∷ 0 ∷ 0 ∷ 129 ∷ 202 ∷ 0 ∷ 2 ∷ 0 ∷ 0 ∷ 0 ∷ 170 ∷ 1 ∷ 1 ∷ 97 ∷ 0 ∷ []) ∷ []
 one_sender = refl
 
 -- The participant sends, and reports as a sender.
-own_stream : answers_to setup 0 [] (rtp_sent 0 1000 160 ∷ ticked 1026037 0 0 ∷ [])
+own_stream : answers_to start (rtp_sent 0 1000 160 ∷ ticked 1026037 0 0 ∷ [])
     ≡ ok 1 1 1026037 ∷ sends 1 1 3078111 (128 ∷ 200 ∷ 0 ∷ 6 ∷ 0 ∷ 0 ∷ 0 ∷ 170 ∷ 0 ∷ 0 ∷ 0 ∷ 1 ∷ 6 ∷ 170 ∷ 92 ∷ 95 ∷ 0 ∷ 0 ∷ 35 ∷ 248 ∷ 0 ∷ 0 ∷ 0 ∷ 1 ∷ 0 ∷ 0 ∷ 0 ∷ 160 ∷ 129 ∷ 202 ∷ 0 ∷ 2 ∷ 0 ∷ 0 ∷ 0 ∷ 170 ∷ 1 ∷ 1 ∷ 97 ∷ 0 ∷ []) ∷ []
 own_stream = refl
 
 -- It is a sender for two intervals,
-still_sender : answers_to setup 0 [] (rtp_sent 0 1000 160 ∷ ticked 1026037 0 0 ∷ ticked 10000000 0 0 ∷ [])
+still_sender : answers_to start (rtp_sent 0 1000 160 ∷ ticked 1026037 0 0 ∷ ticked 10000000 0 0 ∷ [])
     ≡ ok 1 1 1026037 ∷ sends 1 1 3078111 (128 ∷ 200 ∷ 0 ∷ 6 ∷ 0 ∷ 0 ∷ 0 ∷ 170 ∷ 0 ∷ 0 ∷ 0 ∷ 1 ∷ 6 ∷ 170 ∷ 92 ∷ 95 ∷ 0 ∷ 0 ∷ 35 ∷ 248 ∷ 0 ∷ 0 ∷ 0 ∷ 1 ∷ 0 ∷ 0 ∷ 0 ∷ 160 ∷ 129 ∷ 202 ∷ 0 ∷ 2 ∷ 0 ∷ 0 ∷ 0 ∷ 170 ∷ 1 ∷ 1 ∷ 97 ∷ 0 ∷ []) ∷ sends 1 1 12052074 (128 ∷ 200 ∷ 0 ∷ 6 ∷ 0 ∷ 0 ∷ 0 ∷ 170 ∷ 0 ∷ 0 ∷ 0 ∷ 10 ∷ 0 ∷ 0 ∷ 0 ∷ 0 ∷ 0 ∷ 1 ∷ 60 ∷ 104 ∷ 0 ∷ 0 ∷ 0 ∷ 1 ∷ 0 ∷ 0 ∷ 0 ∷ 160 ∷ 129 ∷ 202 ∷ 0 ∷ 2 ∷ 0 ∷ 0 ∷ 0 ∷ 170 ∷ 1 ∷ 1 ∷ 97 ∷ 0 ∷ []) ∷ []
 still_sender = refl
 
 -- and no longer.
-no_sender : answers_to setup 0 [] (rtp_sent 0 1000 160 ∷ ticked 1026037 0 0 ∷ ticked 10000001 0 0 ∷ [])
+no_sender : answers_to start (rtp_sent 0 1000 160 ∷ ticked 1026037 0 0 ∷ ticked 10000001 0 0 ∷ [])
     ≡ ok 1 1 1026037 ∷ sends 1 1 3078111 (128 ∷ 200 ∷ 0 ∷ 6 ∷ 0 ∷ 0 ∷ 0 ∷ 170 ∷ 0 ∷ 0 ∷ 0 ∷ 1 ∷ 6 ∷ 170 ∷ 92 ∷ 95 ∷ 0 ∷ 0 ∷ 35 ∷ 248 ∷ 0 ∷ 0 ∷ 0 ∷ 1 ∷ 0 ∷ 0 ∷ 0 ∷ 160 ∷ 129 ∷ 202 ∷ 0 ∷ 2 ∷ 0 ∷ 0 ∷ 0 ∷ 170 ∷ 1 ∷ 1 ∷ 97 ∷ 0 ∷ []) ∷ sends 1 0 12052075 empty_report ∷ []
 no_sender = refl
 
 -- A source is held for five intervals,
-still_held : answers_to setup 0 [] (named_came 1000000 7 ∷ ticked 13500000 0 0 ∷ []) ≡ ok 2 0 1026037 ∷ sends 2 0 15552074 empty_report ∷ []
+still_held : answers_to start (named_came 1000000 7 ∷ ticked 13500000 0 0 ∷ []) ≡ ok 2 0 1026037 ∷ sends 2 0 15552074 empty_report ∷ []
 still_held = refl
 
 -- and no longer.
-silent : answers_to setup 0 [] (named_came 1000000 7 ∷ ticked 13500001 0 0 ∷ []) ≡ ok 2 0 1026037 ∷ sends 1 0 15552075 empty_report ∷ []
+silent : answers_to start (named_came 1000000 7 ∷ ticked 13500001 0 0 ∷ []) ≡ ok 2 0 1026037 ∷ sends 1 0 15552075 empty_report ∷ []
 silent = refl
 
 -- A full table admits nobody, and a source that left is held for five seconds.
-full : answers_to (record setup { capacity = 2 }) 0 []
+full : answers_to (start_of (record setup { capacity = 2 }))
     (named_came 0 1 ∷ named_came 0 2 ∷ named_came 0 3 ∷ rtcp_came 1000000 16 (Ok (rr 1 [] [] ∷ bye (1 ∷ []) None ∷ []))
     ∷ named_came 1000000 3 ∷ ticked 6000000 2147483648 2147483648 ∷ named_came 6000000 3 ∷ [])
     ≡ ok 2 0 1026037 ∷ ok 3 0 1026037 ∷ ok 3 0 1026037 ∷ ok 2 0 1026037 ∷ ok 2 0 1026037 ∷ sends 2 0 10104147 empty_report ∷ ok 3 0 10104147 ∷ []
 full = refl
 
 -- Moments end at 2^50 microseconds, and do not go back.
-last_moments : answers_to setup 0 [] (ticked 1125899906842624 0 0 ∷ ticked 1125899906842625 0 0 ∷ ticked 0 0 0 ∷ [])
+last_moments : answers_to start (ticked 1125899906842624 0 0 ∷ ticked 1125899906842625 0 0 ∷ ticked 0 0 0 ∷ [])
     ≡ sends 1 0 1125899908894698 empty_report ∷ Err TooFar ∷ Err Backwards ∷ []
 last_moments = refl
 
 -- Datagrams that name the participant, or have a fault.
-refused : answers_to setup 0 [] (rtcp_came 0 8 (Ok (rr 170 [] [] ∷ [])) ∷ rtcp_came 0 0 (Err (record { reason = Short; place = 0 })) ∷ rtp_came 0 (Err PayloadType) ∷ [])
+refused : answers_to start (rtcp_came 0 8 (Ok (rr 170 [] [] ∷ [])) ∷ rtcp_came 0 0 (Err (record { reason = Short; place = 0 })) ∷ rtp_came 0 (Err PayloadType) ∷ [])
     ≡ Err OwnSsrc ∷ Err (Wire (record { reason = Short; place = 0 })) ∷ Err (Rtp PayloadType) ∷ []
 refused = refl
 
 -- The third report carries the extra item.
-third_report : answers_to (record setup { extras = record { kind = 6; text = 116 ∷ [] } ∷ [] }) 0 [] (ticked 1026037 0 0 ∷ ticked 3078111 0 0 ∷ ticked 5130185 0 0 ∷ [])
+third_report : answers_to (start_of (record setup { extras = record { kind = 6; text = 116 ∷ [] } ∷ [] })) (ticked 1026037 0 0 ∷ ticked 3078111 0 0 ∷ ticked 5130185 0 0 ∷ [])
     ≡ sends 1 0 3078111 empty_report ∷ sends 1 0 5130185 empty_report ∷ sends 1 0 7182259 (128 ∷ 201 ∷ 0 ∷ 1 ∷ 0 ∷ 0 ∷ 0 ∷ 170 ∷ 129 ∷ 202 ∷ 0 ∷ 3 ∷ 0 ∷ 0 ∷ 0 ∷ 170 ∷ 1 ∷ 1 ∷ 97 ∷ 6 ∷ 1 ∷ 116 ∷ 0 ∷ 0 ∷ []) ∷ []
 third_report = refl

@@ -1,5 +1,5 @@
 -- What a participant answers to an act, after the acts that it took before.
-use Rattle.std.specs.Prelude.{◌≡◌, ℕ, ◌-◌, ◌^◌, ◌==◌, Bool, nat_lt, nat_le, List, [], ◌∷◌, length, if◌then◌else◌, Option, Some, None, Result, Ok, Err}
+use Rattle.std.specs.Prelude.{ℕ, ◌-◌, ◌^◌, ◌==◌, Bool, nat_lt, nat_le, List, [], ◌∷◌, length, if◌then◌else◌, Option, Some, None, option_map, Result, Ok, Err}
 use Rattle.std.specs.List.{list_any}
 use Rattle.rtcp_wire.specs.declared.fault.WireFault.{WireFault}
 use Rattle.rtcp_wire.specs.declared.rtp.fault.RtpFault.{RtpFault}
@@ -8,12 +8,14 @@ use Rattle.rtcp_wire.specs.Facts.{subject, facts_of}
 use Rattle.rtcp_wire.specs.RtpHeads.{RtpValue}
 use Rattle.rtcp_engine.specs.declared.refusal.Refusal.{Refusal}
 use Rattle.rtcp_engine.specs.declared.refusal.Refusal.TheVariants.{Backwards, TooFar, TooMany, Wire, Rtp, OwnSsrc}
+use Rattle.rtcp_engine.specs.declared.step.OutKind.{OutKind}
+use Rattle.rtcp_engine.specs.declared.step.OutKind.TheVariants.{Report}
 use Rattle.rtcp_engine.specs.Setups.{Setup}
 use Rattle.rtcp_engine.specs.Acts.{Act, rtcp_came, rtp_came, rtp_sent, ticked, moment_of}
 use Rattle.rtcp_engine.specs.Outcomes.{Outcome, member_count, sender_count, timing_of}
 use Rattle.rtcp_engine.specs.Reporting.{report_octets}
 use Rattle.rtcp_engine.specs.Ticks.{checked, is_report_due}
-use Rattle.rtcp_engine.specs.Histories.{after, outcome_of}
+use Rattle.rtcp_engine.specs.Histories.{after, History, outcome_at}
 
 -- ---- Refusals
 
@@ -50,23 +52,23 @@ refusal_of setup history act =
     else (if nat_le (2 ^ 40 - 1) (length history) then Some TooMany
     else refusal_of_datagram setup act))
 
--- Each act was taken when it came.
-abbrev pub AllTaken : Setup → List Act → Type 0
-AllTaken setup [] = Unit {0}
-AllTaken setup (act ∷ earlier) = (refusal_of setup earlier act ≡ None) × AllTaken setup earlier
-
 -- ---- Answers
+
+pub record OutValue : Type 0 where
+  pub kind : OutKind
+  pub octets : List ℕ
 
 -- what is answered to an act that is taken
 pub record StepValue : Type 0 where
-  -- the octets of a report to send, if one is due
-  pub report : Option (List ℕ)
+  -- a compound to send, if there is one
+  pub out : Option OutValue
   -- with the participant among them
   pub members : ℕ
   pub senders : ℕ
   -- the moment to ask again
-  pub next : ℕ
+  pub next : Option ℕ
 
+-- the octets of the report that an act brings, if one is due
 abbrev pub report_by : Setup → Act → Outcome → Option (List ℕ)
 report_by setup (rtcp_came moment size reading) outcome = None
 report_by setup (rtp_came moment reading) outcome = None
@@ -75,15 +77,20 @@ report_by setup (ticked moment first_word second_word) outcome =
     let now = checked setup moment outcome in
     if is_report_due setup moment first_word now then Some (report_octets setup moment now) else None
 
+abbrev pub report_out : List ℕ → OutValue
+report_out octets = record { kind = Report; octets = octets }
+
+-- the answer where the participant now stands so, with this report
+abbrev pub step_with : Setup → Outcome → Option (List ℕ) → StepValue
+step_with setup now report = record {
+  out = option_map report_out report;
+  members = member_count setup now;
+  senders = sender_count setup now;
+  next = Some (timing_of now).next;
+}
+
 abbrev pub step_of : Setup → Act → Outcome → StepValue
-step_of setup act outcome =
-    let now = after setup act outcome in
-    record {
-      report = report_by setup act outcome;
-      members = member_count setup now;
-      senders = sender_count setup now;
-      next = (timing_of now).next;
-    }
+step_of setup act outcome = step_with setup (after setup act outcome) (report_by setup act outcome)
 
 abbrev pub AnswerValue : Type 0
 AnswerValue = Result StepValue Refusal
@@ -92,19 +99,28 @@ abbrev pub answer_unless : Option Refusal → StepValue → AnswerValue
 answer_unless None step = Ok step
 answer_unless (Some refusal) step = Err refusal
 
-abbrev pub answer_of : Setup → (word : ℕ) → List Act → Act → AnswerValue
-answer_of setup word history act =
-    answer_unless (refusal_of setup history act) (step_of setup act (outcome_of setup word history))
+-- What is answered to an act after a history.
+abbrev pub answer_of : History → Act → AnswerValue
+answer_of history act =
+    answer_unless (refusal_of history.setup history.acts act)
+    (step_of history.setup act (outcome_at history))
 
 -- ---- Several acts
 
+abbrev pub with_act : History → Act → History
+with_act history act = record history { acts = act ∷ history.acts }
+
 -- the history with one act more, if it is taken
-abbrev pub followed_by : Setup → List Act → Act → List Act
-followed_by setup history act =
-    elim (refusal_of setup history act) [ None ↦ act ∷ history | Some refusal ↦ history ]
+abbrev pub followed_by : History → Act → History
+followed_by history act =
+    elim (refusal_of history.setup history.acts act) [ None ↦ with_act history act | Some refusal ↦ history ]
 
 -- The answers to acts, the first one first.
-abbrev pub answers_to : Setup → (word : ℕ) → List Act → List Act → List AnswerValue
-answers_to setup word history [] = []
-answers_to setup word history (act ∷ acts) =
-    answer_of setup word history act ∷ answers_to setup word (followed_by setup history act) acts
+abbrev pub answers_to : History → List Act → List AnswerValue
+answers_to history [] = []
+answers_to history (act ∷ acts) = answer_of history act ∷ answers_to (followed_by history act) acts
+
+-- the history after acts, the first one first
+abbrev pub followed_by_all : History → List Act → History
+followed_by_all history [] = history
+followed_by_all history (act ∷ acts) = followed_by_all (followed_by history act) acts

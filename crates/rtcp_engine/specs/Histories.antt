@@ -69,3 +69,14 @@ after setup (ticked moment first_word second_word) outcome =
 abbrev pub outcome_of : Setup → (word : ℕ) → List Act → Outcome
 outcome_of setup word [] = beginning setup word
 outcome_of setup word (act ∷ earlier) = after setup act (outcome_of setup word earlier)
+
+-- A session so far.
+pub record History : Type 0 where
+  pub setup : Setup
+  -- the random word that it started with
+  pub word : ℕ
+  -- the acts that were taken, newest first
+  pub acts : List Act
+
+abbrev pub outcome_at : History → Outcome
+outcome_at history = outcome_of history.setup history.word history.acts

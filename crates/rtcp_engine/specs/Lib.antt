@@ -1,4 +1,5 @@
 pub mod Setups
+pub mod Refused
 pub mod Acts
 pub mod OwnStreams
 pub mod OwnSending
@@ -8,3 +9,7 @@ pub mod Ticks
 pub mod Histories
 pub mod Answers
 pub mod Sent
+pub mod Views
+pub mod Taken
+pub mod OwnValues
+pub mod States

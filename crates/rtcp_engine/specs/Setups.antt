@@ -1,5 +1,5 @@
 -- How a participant is set up.
-use Rattle.std.specs.Prelude.{ℕ, ◌≡◌, ◌≤◌, ◌%◌, ◌^◌, List, All, length}
+use Rattle.std.specs.Prelude.{ℕ, ◌≡◌, ◌≤◌, ◌%◌, ◌^◌, ◌&&◌, Bool, nat_le, List, All, length}
 use Rattle.rtcp_wire.specs.Values.{ItemValue}
 
 pub record Setup : Type 0 where
@@ -20,10 +20,16 @@ pub record Setup : Type 0 where
   -- the NTP timestamp of moment 0
   pub ntp_base : ℕ
 
+abbrev pub is_within : (least most number : ℕ) → Bool
+is_within least most number = nat_le least number && nat_le number most
+
 abbrev pub IsWithin : (least most number : ℕ) → Type 0
 IsWithin least most number = (least ≤ number) × (number ≤ most)
 
--- an item that may be given beside the CNAME: NAME to PRIV (RFC 3550, 6.5.2 to 6.5.8)
+-- whether an item may be given beside the CNAME: NAME to PRIV (RFC 3550, 6.5.2 to 6.5.8)
+abbrev pub is_extra_kind : ItemValue → Bool
+is_extra_kind item = is_within 2 8 item.kind
+
 abbrev pub IsExtraItem : ItemValue → Type 0
 IsExtraItem item = IsWithin 2 8 item.kind × (length item.text ≤ 255)
 

@@ -15,8 +15,8 @@ ghost use Rattle.rtcp_engine.specs.OwnStreams.{OwnStep, sending_since};
 ghost use Rattle.rtcp_engine.specs.OwnSending.{IsSendingSince};
 ghost use Rattle.rtcp_engine.specs.Outcomes.{Outcome};
 ghost use Rattle.rtcp_engine.specs.Reporting.{extra_item, first_of, last_reported_in};
-ghost use Rattle.rtcp_engine.specs.Histories.{after};
-ghost use Rattle.rtcp_engine.specs.Answers.{refusal_of, followed_by, report_by};
+ghost use Rattle.rtcp_engine.specs.Histories.{after, History};
+ghost use Rattle.rtcp_engine.specs.Answers.{refusal_of, with_act, followed_by, report_by};
 ghost use Rattle.rtcp_engine.specs.Sent.{new_reports};
 ghost use Rattle.rtcp_engine.specs.declared.refusal.Refusal.{Refusal as Reason};
 
@@ -34,10 +34,10 @@ pub fn one_reading()
 
 /// An act that is refused changes nothing of a history, and one that is taken becomes its newest.
 pub fn refused_acts_are_forgotten()
-    ensures refused { (setup : Setup) (history : List Act) (act : Act) (reason : Reason) →
-        refusal_of setup history act ≡ Some reason → followed_by setup history act ≡ history }
-    ensures taken { (setup : Setup) (history : List Act) (act : Act) →
-        refusal_of setup history act ≡ None → followed_by setup history act ≡ act ∷ history }
+    ensures refused { (history : History) (act : Act) (reason : Reason) →
+        refusal_of history.setup history.acts act ≡ Some reason → followed_by history act ≡ history }
+    ensures taken { (history : History) (act : Act) →
+        refusal_of history.setup history.acts act ≡ None → followed_by history act ≡ with_act history act }
 {}
 
 /// The participant sends since a moment exactly where its newest packet was sent then, and no check since has

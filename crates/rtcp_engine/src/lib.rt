@@ -2,7 +2,16 @@
 //! the definitions stand, in `specs/`, with their worked rows; the participant itself comes next.
 #![tactic(auto)]
 
+mod config;
+mod event;
 pub mod laws;
 mod refusal;
+mod sink;
+mod step;
 
+pub use config::{Config, ConfigError, rtcp_bw_of};
+pub use event::Event;
 pub use refusal::Refusal;
+pub use rtcp_report::Item;
+pub use sink::{Sink, SinkStop};
+pub use step::{Answer, Out, OutKind, Step};

@@ -1,0 +1,56 @@
+-- What a participant keeps of its history: a table and a few numbers.
+use Rattle.std.specs.Prelude.{ℕ, ◌≡◌, ◌≤◌, ◌<◌, ◌^◌, length, Option}
+use Rattle.std.specs.FinMap as map
+use Rattle.rtcp_members.specs.Tables.{TableValue, HasFew, StandsAt as IsTableAt}
+use Rattle.rtcp_timer.specs.Schedules.{Timing}
+use Rattle.rtcp_engine.specs.Setups.{Setup, IsUsable}
+use Rattle.rtcp_engine.specs.OwnValues.{OwnValue, own_of}
+use Rattle.rtcp_engine.specs.Outcomes.{Outcome, average_size, timing_of}
+use Rattle.rtcp_engine.specs.Reporting.{last_reported_in}
+use Rattle.rtcp_engine.specs.Histories.{History, outcome_at}
+use Rattle.rtcp_engine.specs.Answers.{last_moment}
+use Rattle.rtcp_engine.specs.Taken.{IsHistory}
+
+pub record State : Type 0 where
+  pub setup : Setup
+  pub table : TableValue
+  pub timing : Timing
+  pub average : ℕ
+  pub own : OwnValue
+  -- the source that was reported last
+  pub cursor : Option ℕ
+  -- how many reports were sent
+  pub reports : ℕ
+  -- the moment of the last call
+  pub last : ℕ
+  -- how many calls were taken
+  pub calls : ℕ
+
+-- A table and numbers are those of an outcome.
+pub record Agrees (state : State) (outcome : Outcome) : Type 0 where
+  pub table : IsTableAt state.table outcome.trace
+  pub timing : state.timing ≡ timing_of outcome
+  pub average : state.average ≡ average_size state.setup outcome
+  pub own : state.own ≡ own_of outcome.own
+  pub cursor : state.cursor ≡ last_reported_in outcome.trace
+  pub reports : state.reports ≡ length outcome.reports
+
+-- A participant equals the one computed from a whole history, or *stands at* it.
+pub record StandsAt (state : State) (history : History) : Type 0 where
+  pub is_history : IsHistory history
+  pub setup : state.setup ≡ history.setup
+  pub agrees : Agrees state (outcome_at history)
+  pub last : state.last ≡ last_moment history.acts
+  pub calls : state.calls ≡ length history.acts
+
+-- What holds of every participant.
+pub record IsSound (state : State) : Type 0 where
+  pub usable : IsUsable state.setup
+  pub capacity : state.table.capacity ≡ state.setup.capacity
+  pub rate : state.table.rate ≡ state.setup.rate
+  pub room : map.len state.table.entries ≤ state.setup.capacity
+  pub few : HasFew state.calls state.table
+  pub reports : state.reports ≤ state.calls
+  pub calls : state.calls < 2 ^ 40
+  pub timing : state.timing.last ≤ state.last
+  pub last : state.last ≤ 2 ^ 50

@@ -1,0 +1,113 @@
+//! How a participant is configured.
+
+ghost use Rattle.std.specs.Prelude.{◌≡◌, ◌/◌, ℕ, List, map, Option, Some, None};
+ghost use Rattle.std.specs.List.{list_all};
+ghost use Rattle.rtcp_report.specs.Views.{item_value};
+ghost use Rattle.rtcp_engine.specs.Setups.{is_within as within, is_extra_kind};
+ghost use Rattle.rtcp_engine.specs.Refused.{error_in};
+ghost use Rattle.rtcp_engine.specs.Views.{setup_of};
+
+use arrayvec::ArrayVec;
+use rtcp_report::Item;
+use thiserror::Error;
+
+/// How a participant is configured: the session as its host knows it.
+#[derive(Debug, Drop)]
+pub struct Config {
+    /// Its SSRC, which is to be chosen at random (RFC 3550, 8.1).
+    pub ssrc: u32,
+    /// Its CNAME, from 1 to 255 octets (RFC 3550, 6.5.1). Nothing checks that it is UTF-8.
+    pub cname: ArrayVec<u8, 255>,
+    /// What else it says of itself, in turn, in every third report: items of types 2 to 8 (RFC 3550, 6.5.2 to
+    /// 6.5.8).
+    pub extras: ArrayVec<Item, 7>,
+    /// How many other sources it can keep track of, from 1 to 1,024.
+    pub capacity: u32,
+    /// The most octets of a compound that it sends, from 576 to 1,472 and a multiple of 4. The headers of UDP
+    /// and IP are not counted.
+    pub limit: u32,
+    /// The session's bandwidth for RTCP, in octets a second, from 16 to 2^30: [`rtcp_bw_of`] has the usual
+    /// part of the session's bandwidth.
+    pub rtcp_bw: u32,
+    /// The units a second of the clock that RTP timestamps count in, from 1 to 2^20.
+    pub rate: u32,
+    /// The NTP timestamp of moment 0: seconds since 1900 in the upper 32 bits, their fraction in the lower.
+    pub ntp_base: u64,
+}
+
+/// Why a configuration is refused. The reasons are tested in this order.
+#[derive(Clone, Copy, Debug, PartialEq, Eq, Error)]
+pub enum ConfigError {
+    /// C1. The CNAME is empty.
+    #[error("CNAME is empty")]
+    Cname,
+    /// C2. The capacity is none of 1 to 1,024.
+    #[error("capacity is none of 1 to 1024")]
+    Capacity,
+    /// C3. The limit is none of 576 to 1,472, or no multiple of 4.
+    #[error("limit is no multiple of 4 from 576 to 1472")]
+    Limit,
+    /// C4. The bandwidth is none of 16 to 2^30.
+    #[error("RTCP bandwidth is none of 16 to 2^30 octets a second")]
+    Bandwidth,
+    /// C5. The clock's rate is none of 1 to 2^20.
+    #[error("clock rate is none of 1 to 2^20")]
+    Rate,
+    /// C6. The type of an extra item is none of 2 to 8.
+    #[error("type of an extra item is none of 2 to 8")]
+    Item,
+}
+
+/// The usual bandwidth for RTCP, in octets a second, of a session of `session_bps` bits a second: 5 per cent
+/// of it, rounded down (RFC 3550, 6.2).
+pub fn rtcp_bw_of(session_bps: u64) -> u64
+    ensures { result ≡ session_bps / 160 }
+{
+    session_bps / 160
+}
+
+impl Config {
+    /// Why this configuration is refused, if it is.
+    pub(crate) fn error(&self) -> Option<ConfigError>
+        ensures { result ≡ error_in (setup_of self.now) }
+    {
+        if self.cname.is_empty() {
+            return Some(ConfigError::Cname);
+        }
+        if !is_within(1, 1_024, self.capacity) {
+            return Some(ConfigError::Capacity);
+        }
+        if !is_within(576, 1_472, self.limit) || self.limit % 4 != 0 {
+            return Some(ConfigError::Limit);
+        }
+        if !is_within(16, 1 << 30, self.rtcp_bw) {
+            return Some(ConfigError::Bandwidth);
+        }
+        if !is_within(1, 1 << 20, self.rate) {
+            return Some(ConfigError::Rate);
+        }
+        if !are_extras(&self.extras) {
+            return Some(ConfigError::Item);
+        }
+        None
+    }
+}
+
+/// Whether a number lies between two others, both included.
+fn is_within(least: u32, most: u32, number: u32) -> bool
+    ensures { result ≡ within least most number }
+{
+    least <= number && number <= most
+}
+
+/// Whether the types of these items are those of extra items.
+fn are_extras(items: &[Item]) -> bool
+    ensures { result ≡ list_all is_extra_kind (map item_value items.now) }
+{
+    'items: for item in items {
+        if !is_within(2, 8, item.kind as u32) {
+            return false;
+        }
+    }
+    true
+}

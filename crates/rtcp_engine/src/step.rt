@@ -1,0 +1,38 @@
+//! What a participant answers.
+
+use crate::refusal::Refusal;
+use arrayvec::ArrayVec;
+use rtcp_wire::MAX_COMPOUND;
+
+/// What a compound is that a participant hands out.
+#[derive(Clone, Copy, Debug, PartialEq, Eq)]
+pub enum OutKind {
+    /// A report (RFC 3550, 6.4).
+    Report,
+}
+
+/// A compound to send, in one datagram, to the other participants.
+#[derive(Debug, Drop)]
+pub struct Out {
+    /// What it is.
+    pub kind: OutKind,
+    /// Its octets, without the headers of UDP and IP: at most the limit of the configuration.
+    pub bytes: ArrayVec<u8, MAX_COMPOUND>,
+}
+
+/// What a call that was taken answers.
+#[derive(Debug, Drop)]
+pub struct Step {
+    /// A compound to send now, if there is one. Only a tick hands one out.
+    pub out: Option<Out>,
+    /// The members of the session, the participant included (RFC 3550, 6.2.1).
+    pub members: u32,
+    /// Those of them that send RTP packets, the participant included where it does.
+    pub senders: u32,
+    /// When to call `tick` next, in microseconds since the session began. It may lie before the moment of the
+    /// call: then a report is overdue.
+    pub next: Option<u64>,
+}
+
+/// A step, or why the call was refused.
+pub type Answer = Result<Step, Refusal>;
