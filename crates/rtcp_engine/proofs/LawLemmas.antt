@@ -1,6 +1,6 @@
 -- The laws of this crate as lemmas, for the proofs of the crates above: each has the name of its law, and of the
 -- clause where the law has several.
-use Rattle.std.proofs.Common.{◌≡◌, ◌↔◌, ℕ, ◌+◌, ◌-◌, ◌*◌, ◌/◌, ◌%◌, ◌≤◌, ◌&&◌, Bool, true, false, List, [], ◌∷◌, ◌++◌, length, drop, Option, Some, None, Result, Ok, Err, if◌then◌else◌, refl, sym, ap, ◌∙◌, arith, inl, inr}
+use Rattle.std.proofs.Common.{◌≡◌, ◌↔◌, ℕ, ◌+◌, ◌-◌, ◌*◌, ◌/◌, ◌%◌, ◌≤◌, ◌&&◌, Bool, true, false, List, [], ◌∷◌, ◌++◌, length, slice_get, Option, Some, None, Result, Ok, Err, if◌then◌else◌, refl, sym, ap, ◌∙◌, arith, inl, inr}
 use Rattle.std.proofs.lemmas.Bool.{ne_eqb, eq-eqb, lt-ltb, le-ltb, cases_lt}
 use Rattle.rtcp_wire.specs.Values.{ItemValue, RtcpPacket}
 use Rattle.rtcp_wire.specs.RtpHeads.{RtpValue}
@@ -17,7 +17,7 @@ use Rattle.rtcp_engine.specs.Acts.{Act, rtcp_came, rtp_came, rtp_sent, ticked, I
 use Rattle.rtcp_engine.specs.OwnStreams.{OwnStep, packet_sent, check_passed, sending_since}
 use Rattle.rtcp_engine.specs.OwnSending.{OutlastsChecks, IsSendingSince}
 use Rattle.rtcp_engine.specs.Outcomes.{Outcome}
-use Rattle.rtcp_engine.specs.Reporting.{extra_item, first_of, last_reported_in, report_octets}
+use Rattle.rtcp_engine.specs.Reporting.{extra_item, last_reported_in, report_octets}
 use Rattle.rtcp_engine.specs.Histories.{after, History}
 use Rattle.rtcp_engine.specs.Answers.{refusal_of, with_act, followed_by, report_by}
 use Rattle.rtcp_engine.specs.Sent.{new_reports}
@@ -120,14 +120,12 @@ last_block_is_newest (row ∷ rows) trace = last_block_is_newest rows (block_tak
 -- ---- Extra items
 
 pub extra_items_take_turns-third : (items : List ItemValue) (turn : ℕ) → (items ≡ [] → ⊥) →
-    extra_item items (3 * (turn + 1)) ≡ first_of (drop (turn % length items) items)
-extra_items_take_turns-third [] turn some = absurd (some refl)
-extra_items_take_turns-third (item ∷ items) turn some =
+    extra_item items (3 * (turn + 1)) ≡ slice_get items (turn % length items)
+extra_items_take_turns-third items turn some =
     let third : 3 * (turn + 1) % 3 ≡ 0 = omega arith in
     let at : 3 * (turn + 1) / 3 - 1 ≡ turn = omega arith in
-    let one : ℕ → Option ItemValue = λ place. first_of (drop (place % length (item ∷ items)) (item ∷ items)) in
+    let one : ℕ → Option ItemValue = λ place. slice_get items (place % length items) in
     ap (λ (b : Bool). if b then one (3 * (turn + 1) / 3 - 1) else None) (eq-eqb (3 * (turn + 1) % 3) 0 third) ∙ ap one at
 
 pub extra_items_take_turns-others : (items : List ItemValue) (number : ℕ) → (number % 3 ≡ 0 → ⊥) → extra_item items number ≡ None
-extra_items_take_turns-others [] number not_third = refl
-extra_items_take_turns-others (item ∷ items) number not_third = rw (ne_eqb (number % 3) 0 not_third) refl
+extra_items_take_turns-others items number not_third = rw (ne_eqb (number % 3) 0 not_third) refl

@@ -13,3 +13,5 @@ pub mod Views
 pub mod Taken
 pub mod OwnValues
 pub mod States
+pub mod Moves
+pub mod Codes

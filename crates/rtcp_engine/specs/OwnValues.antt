@@ -3,7 +3,7 @@ use Rattle.std.specs.Prelude.{ℕ, ◌+◌, ◌-◌, ◌%◌, ◌^◌, List, [],
 use Rattle.rtcp_clock.specs.Moments.{ntp_moment, media_units}
 use Rattle.rtcp_members.specs.Stays.{is_before}
 use Rattle.rtcp_report.specs.Reports.{SentValue}
-use Rattle.rtcp_engine.specs.Setups.{Setup}
+use Rattle.rtcp_engine.specs.declared.own.LastPacket.{LastPacket}
 use Rattle.rtcp_engine.specs.OwnStreams.{OwnStep, packet_sent, check_passed, sending_since, packets_sent, octets_sent}
 
 pub record PacketValue : Type 0 where
@@ -18,6 +18,9 @@ pub record OwnValue : Type 0 where
   -- how many packets and octets of payload were sent, modulo 2^32
   pub packets : ℕ
   pub octets : ℕ
+
+abbrev pub packet_value : LastPacket → PacketValue
+packet_value packet = record { moment = packet.moment; timestamp = packet.timestamp }
 
 abbrev pub last_packet : List OwnStep → Option PacketValue
 last_packet [] = None
@@ -56,12 +59,12 @@ abbrev pub timestamp_by : (rate t : ℕ) → Option PacketValue → ℕ
 timestamp_by rate t None = 0
 timestamp_by rate t (Some packet) = (packet.timestamp + media_units (t - packet.moment) rate) % 2 ^ 32
 
-abbrev pub sent_by : Setup → (t : ℕ) → OwnValue → Option SentValue
-sent_by setup t own =
+abbrev pub sent_by : (ntp_base rate t : ℕ) → OwnValue → Option SentValue
+sent_by ntp_base rate t own =
     if is_some own.sending
     then Some (record {
-      ntp = ntp_moment setup.ntp_base t;
-      rtp = timestamp_by setup.rate t own.last;
+      ntp = ntp_moment ntp_base t;
+      rtp = timestamp_by rate t own.last;
       packets = own.packets;
       octets = own.octets;
     })

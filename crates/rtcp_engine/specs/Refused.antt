@@ -1,17 +1,26 @@
 -- Why a setup is refused.
-use Rattle.std.specs.Prelude.{◌^◌, ◌%◌, ◌==◌, ◌&&◌, not, if◌then◌else◌, length, Option, Some, None}
+use Rattle.std.specs.Prelude.{Bool, ℕ, ◌^◌, ◌%◌, ◌==◌, ◌&&◌, not, nat_le, if◌then◌else◌, List, length, Option, Some, None}
 use Rattle.std.specs.List.{list_all}
+use Rattle.rtcp_wire.specs.Values.{ItemValue}
 use Rattle.rtcp_engine.specs.declared.config.ConfigError.{ConfigError}
 use Rattle.rtcp_engine.specs.declared.config.ConfigError.TheVariants.{Cname, Capacity, Limit, Bandwidth, Rate, Item}
-use Rattle.rtcp_engine.specs.Setups.{Setup, is_within, is_extra_kind}
+use Rattle.rtcp_engine.specs.Setups.{Setup, is_within, is_extra_item}
 
--- the first of the reasons, in this order
+-- whether these may be given beside the CNAME
+abbrev pub are_extras : List ItemValue → Bool
+are_extras items = nat_le (length items) 7 && list_all is_extra_item items
+
+abbrev pub is_limit : (limit : ℕ) → Bool
+is_limit limit = is_within 576 1472 limit && limit % 4 == 0
+
+-- The first of the reasons, in this order. (By its types a configuration has at most 7 extra items, and texts
+-- of at most 255 octets.)
 abbrev pub error_in : Setup → Option ConfigError
 error_in setup =
-    if length setup.cname == 0 then Some Cname
+    if not (is_within 1 255 (length setup.cname)) then Some Cname
     else (if not (is_within 1 1024 setup.capacity) then Some Capacity
-    else (if not (is_within 576 1472 setup.limit && setup.limit % 4 == 0) then Some Limit
+    else (if not (is_limit setup.limit) then Some Limit
     else (if not (is_within 16 (2 ^ 30) setup.rtcp_bw) then Some Bandwidth
     else (if not (is_within 1 (2 ^ 20) setup.rate) then Some Rate
-    else (if not (list_all is_extra_kind setup.extras) then Some Item
+    else (if not (are_extras setup.extras) then Some Item
     else None)))))

@@ -1,5 +1,5 @@
 -- What a report of a session holds (RFC 3550, 6.1, 6.4, 6.5).
-use Rattle.std.specs.Prelude.{ℕ, ◌+◌, ◌-◌, ◌/◌, ◌%◌, ◌==◌, List, [], ◌∷◌, if◌then◌else◌, length, drop, Option, Some, None}
+use Rattle.std.specs.Prelude.{ℕ, ◌+◌, ◌-◌, ◌/◌, ◌%◌, ◌==◌, List, [], ◌∷◌, if◌then◌else◌, length, slice_get, Option, Some, None}
 use Rattle.rtcp_wire.specs.Values.{ItemValue, RtcpPacket}
 use Rattle.rtcp_wire.specs.Writing.{written_all}
 use Rattle.rtcp_members.specs.Traces.{TraceStep, fact_came, check_made, block_taken}
@@ -14,18 +14,11 @@ use Rattle.rtcp_engine.specs.Outcomes.{Outcome}
 
 -- ---- Items
 
-abbrev pub first_of : {A : Type 0} → List A → Option A
-first_of [] = None
-first_of (x ∷ xs) = Some x
-
 -- The extra item of the report with this number, which counts from 1: reports 3, 6, 9 and so on carry the
 -- items in turn.
 abbrev pub extra_item : List ItemValue → (number : ℕ) → Option ItemValue
-extra_item [] number = None
-extra_item (item ∷ items) number =
-    if number % 3 == 0
-    then first_of (drop ((number / 3 - 1) % length (item ∷ items)) (item ∷ items))
-    else None
+extra_item items number =
+    if number % 3 == 0 then slice_get items ((number / 3 - 1) % length items) else None
 
 -- ---- Reports
 

@@ -27,8 +27,8 @@ abbrev pub IsWithin : (least most number : ℕ) → Type 0
 IsWithin least most number = (least ≤ number) × (number ≤ most)
 
 -- whether an item may be given beside the CNAME: NAME to PRIV (RFC 3550, 6.5.2 to 6.5.8)
-abbrev pub is_extra_kind : ItemValue → Bool
-is_extra_kind item = is_within 2 8 item.kind
+abbrev pub is_extra_item : ItemValue → Bool
+is_extra_item item = is_within 2 8 item.kind && nat_le (length item.text) 255
 
 abbrev pub IsExtraItem : ItemValue → Type 0
 IsExtraItem item = IsWithin 2 8 item.kind × (length item.text ≤ 255)

@@ -26,9 +26,24 @@ pub record State : Type 0 where
   -- how many calls were taken
   pub calls : ℕ
 
+abbrev pub state_with : Setup → TableValue → Timing → (average : ℕ) → OwnValue → Option ℕ → (reports last calls : ℕ) → State
+state_with setup table timing average own cursor reports last calls = record {
+  setup = setup;
+  table = table;
+  timing = timing;
+  average = average;
+  own = own;
+  cursor = cursor;
+  reports = reports;
+  last = last;
+  calls = calls;
+}
+
 -- A table and numbers are those of an outcome.
 pub record Agrees (state : State) (outcome : Outcome) : Type 0 where
   pub table : IsTableAt state.table outcome.trace
+  pub capacity : state.table.capacity ≡ state.setup.capacity
+  pub rate : state.table.rate ≡ state.setup.rate
   pub timing : state.timing ≡ timing_of outcome
   pub average : state.average ≡ average_size state.setup outcome
   pub own : state.own ≡ own_of outcome.own

@@ -1,5 +1,5 @@
 -- Histories that a participant can have.
-use Rattle.std.specs.Prelude.{◌≡◌, ◌<◌, ◌^◌, List, [], ◌∷◌, None}
+use Rattle.std.specs.Prelude.{◌≡◌, ℕ, ◌<◌, ◌^◌, List, [], ◌∷◌, None}
 use Rattle.rtcp_engine.specs.Setups.{Setup, IsUsable}
 use Rattle.rtcp_engine.specs.Acts.{Act, rtcp_came, rtp_came, rtp_sent, ticked}
 use Rattle.rtcp_engine.specs.Histories.{History}
@@ -17,6 +17,10 @@ abbrev pub AllTaken : Setup → List Act → Type 0
 AllTaken setup [] = Unit {0}
 AllTaken setup (act ∷ earlier) =
     (refusal_of setup earlier act ≡ None) × HasWords act × AllTaken setup earlier
+
+-- a session that begins
+abbrev pub begun : Setup → (word : ℕ) → History
+begun setup word = record { setup = setup; word = word; acts = [] }
 
 -- The participant was set up as it may be, and each act was taken.
 pub record IsHistory (history : History) : Type 0 where

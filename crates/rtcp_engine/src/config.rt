@@ -1,10 +1,9 @@
 //! How a participant is configured.
 
 ghost use Rattle.std.specs.Prelude.{◌≡◌, ◌/◌, ℕ, List, map, Option, Some, None};
-ghost use Rattle.std.specs.List.{list_all};
 ghost use Rattle.rtcp_report.specs.Views.{item_value};
-ghost use Rattle.rtcp_engine.specs.Setups.{is_within as within, is_extra_kind};
-ghost use Rattle.rtcp_engine.specs.Refused.{error_in};
+ghost use Rattle.rtcp_engine.specs.Setups.{is_within as within, is_extra_item};
+ghost use Rattle.rtcp_engine.specs.Refused.{error_in, is_limit as is_limit_for, are_extras as extras_are};
 ghost use Rattle.rtcp_engine.specs.Views.{setup_of};
 
 use arrayvec::ArrayVec;
@@ -71,13 +70,13 @@ impl Config {
     pub(crate) fn error(&self) -> Option<ConfigError>
         ensures { result ≡ error_in (setup_of self.now) }
     {
-        if self.cname.is_empty() {
+        if !is_within(1, 255, self.cname.len() as u32) {
             return Some(ConfigError::Cname);
         }
         if !is_within(1, 1_024, self.capacity) {
             return Some(ConfigError::Capacity);
         }
-        if !is_within(576, 1_472, self.limit) || self.limit % 4 != 0 {
+        if !is_limit(self.limit) {
             return Some(ConfigError::Limit);
         }
         if !is_within(16, 1 << 30, self.rtcp_bw) {
@@ -100,14 +99,31 @@ fn is_within(least: u32, most: u32, number: u32) -> bool
     least <= number && number <= most
 }
 
-/// Whether the types of these items are those of extra items.
-fn are_extras(items: &[Item]) -> bool
-    ensures { result ≡ list_all is_extra_kind (map item_value items.now) }
+/// Whether a limit is one for compounds.
+fn is_limit(limit: u32) -> bool
+    ensures { result ≡ is_limit_for limit }
 {
+    is_within(576, 1_472, limit) && limit % 4 == 0
+}
+
+/// Whether these may be given beside the CNAME.
+fn are_extras(items: &[Item]) -> bool
+    ensures { result ≡ extras_are (map item_value items.now) }
+{
+    if items.len() > 7 {
+        return false;
+    }
     'items: for item in items {
-        if !is_within(2, 8, item.kind as u32) {
+        if !is_extra(item) {
             return false;
         }
     }
     true
+}
+
+/// Whether this may be given beside the CNAME.
+fn is_extra(item: &Item) -> bool
+    ensures { result ≡ is_extra_item (item_value item.now) }
+{
+    is_within(2, 8, item.kind as u32) && item.text.len() <= 255
 }

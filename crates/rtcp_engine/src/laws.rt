@@ -1,7 +1,7 @@
 //! Laws of the definitions of a participant's answers. Each is an empty function whose postcondition is the
 //! law; `proofs/LawLemmas` has a lemma of its name, or one for each clause.
 
-ghost use Rattle.std.specs.Prelude.{◌≡◌, ◌↔◌, ℕ, ◌+◌, ◌*◌, ◌%◌, List, [], ◌∷◌, ◌++◌, length, drop, Option, Some, None, Result};
+ghost use Rattle.std.specs.Prelude.{◌≡◌, ◌↔◌, ℕ, ◌+◌, ◌*◌, ◌%◌, List, [], ◌∷◌, ◌++◌, length, slice_get, Option, Some, None, Result};
 ghost use Rattle.rtcp_wire.specs.Values.{ItemValue, RtcpPacket};
 ghost use Rattle.rtcp_wire.specs.RtpHeads.{RtpValue};
 ghost use Rattle.rtcp_wire.specs.declared.fault.WireFault.{WireFault};
@@ -14,7 +14,7 @@ ghost use Rattle.rtcp_engine.specs.Acts.{Act, IsReading, IsRtpReading, moment_of
 ghost use Rattle.rtcp_engine.specs.OwnStreams.{OwnStep, sending_since};
 ghost use Rattle.rtcp_engine.specs.OwnSending.{IsSendingSince};
 ghost use Rattle.rtcp_engine.specs.Outcomes.{Outcome};
-ghost use Rattle.rtcp_engine.specs.Reporting.{extra_item, first_of, last_reported_in};
+ghost use Rattle.rtcp_engine.specs.Reporting.{extra_item, last_reported_in};
 ghost use Rattle.rtcp_engine.specs.Histories.{after, History};
 ghost use Rattle.rtcp_engine.specs.Answers.{refusal_of, with_act, followed_by, report_by};
 ghost use Rattle.rtcp_engine.specs.Sent.{new_reports};
@@ -64,7 +64,7 @@ pub fn last_block_is_newest()
 /// Reports 3, 6, 9 and so on carry the extra items in turn, and no others carry one.
 pub fn extra_items_take_turns()
     ensures third { (items : List ItemValue) (turn : ℕ) → (items ≡ [] → ⊥) →
-        extra_item items (3 * (turn + 1)) ≡ first_of (drop (turn % length items) items) }
+        extra_item items (3 * (turn + 1)) ≡ slice_get items (turn % length items) }
     ensures others { (items : List ItemValue) (number : ℕ) → (number % 3 ≡ 0 → ⊥) →
         extra_item items number ≡ None }
 {}

@@ -1,17 +1,55 @@
-//! One RTCP participant (RFC 3550, 6.2 to 6.3): what it answers is defined over all that it was told. So far
-//! the definitions stand, in `specs/`, with their worked rows; the participant itself comes next.
+//! One RTCP participant of a session (RFC 3550, 6.2 to 6.5): it is told what datagrams come, what its host
+//! sends and what time it is, and it answers who is there, what to send, and when to ask again. It reads no
+//! clock, opens no socket, draws no random number and does not allocate.
+//!
+//! A host has two sockets, a clock and random words. It hands over what came, asks at `next`, and sends what
+//! comes out:
+//!
+//! ```
+//! fn serve<T: MemberTable>(host: &mut Host<'_>, participant: &mut Participant<T>, turns: u32) {
+//!     for _ in 0..turns {
+//!         let now = host.now();
+//!         if let Some(datagram) = host.rtcp() {
+//!             let _ = participant.arrive_rtcp(now, datagram);
+//!         }
+//!         if let Some(datagram) = host.rtp() {
+//!             let _ = participant.arrive_rtp(now, datagram);
+//!         }
+//!         if participant.next().is_some_and(|next| next <= now) {
+//!             let answer = participant.tick(now, host.word(), host.word());
+//!             if let Ok(Step { out: Some(out), .. }) = answer {
+//!                 host.send(out.bytes.as_slice());
+//!             }
+//!         }
+//!     }
+//! }
+//! ```
+//!
+//! A call that is refused (`Refusal`) changes nothing. What each call answers is defined over all that the
+//! participant was told, in `specs/` (`Histories`, `Ticks`, `Answers`); `laws` has what holds of these
+//! definitions. [`run`] makes the calls of a list of events, and hands on each answer.
 #![tactic(auto)]
 
 mod config;
 mod event;
+mod extra;
 pub mod laws;
+mod own;
+mod participant;
 mod refusal;
+mod runs;
 mod sink;
 mod step;
+mod table;
 
 pub use config::{Config, ConfigError, rtcp_bw_of};
 pub use event::Event;
+pub use participant::Participant;
 pub use refusal::Refusal;
 pub use rtcp_report::Item;
+pub use runs::{Ran, run};
 pub use sink::{Sink, SinkStop};
 pub use step::{Answer, Out, OutKind, Step};
+
+#[cfg(test)]
+mod tests;

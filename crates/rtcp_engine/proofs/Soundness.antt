@@ -1,0 +1,133 @@
+-- What holds of every participant is kept by each move.
+use Rattle.std.proofs.Common.{◌≡◌, ℕ, ◌+◌, ◌-◌, ◌^◌, ◌<◌, ◌≤◌, ◌==◌, Bool, true, false, not, nat_lt, List, [], ◌∷◌, map, filter, All, Option, if◌then◌else◌, arith, ◌∙◌, ap, refl, sym, subst}
+use Rattle.std.specs.FinMap as finite
+use Rattle.std.proofs.lemmas.List.Elements.{All-nil, All-cons}
+use Rattle.rtcp_wire.specs.declared.fact.Fact.{Fact}
+use Rattle.rtcp_wire.specs.declared.fact.Fact.TheVariants.{Heard}
+use Rattle.rtcp_wire.specs.Facts.{is_media}
+use Rattle.rtcp_wire.specs.RtpHeads.{RtpValue}
+use Rattle.rtcp_members.specs.Traces.{Horizons}
+use Rattle.rtcp_members.specs.Tables.{TableValue, KeepsBounds, HasFew, counted, after_fact, after_facts, after_check}
+use Rattle.rtcp_members.specs.Pending.{EntryRow, after_blocks}
+use Rattle.rtcp_members.proofs.LawLemmas as tables
+use Rattle.rtcp_report.proofs.LawLemmas.{tables_follow_reports-packets}
+use Rattle.rtcp_timer.specs.Schedules.{Timing, recounted, after_departure, after}
+use Rattle.rtcp_engine.specs.OwnValues.{OwnValue}
+use Rattle.rtcp_engine.specs.Histories.{media_fact}
+use Rattle.rtcp_engine.specs.States.{State, state_with, IsSound}
+use Rattle.rtcp_engine.specs.Moves.{csrc_facts, media_facts_of}
+
+-- a table that another became, with its bounds and room, and few packets of each source
+pub record IsKept (old new : TableValue) (packets : ℕ) : Type 0 where
+  pub bounds : KeepsBounds old new
+  pub room : finite.len new.entries ≤ old.capacity
+  pub few : HasFew packets new
+
+-- a last transmission, a number of reports, a moment and a number of calls that go together
+pub record IsInStep (transmission reports last calls : ℕ) : Type 0 where
+  pub is_past : transmission ≤ last
+  pub in_range : last ≤ 2 ^ 50
+  pub fewer : reports ≤ calls
+  pub few : calls < 2 ^ 40
+
+pub kept : {s : State} → IsSound s → (table : TableValue) (timing : Timing) (average : ℕ) (own : OwnValue) (cursor : Option ℕ) (reports last calls : ℕ) →
+    IsKept s.table table calls → IsInStep timing.last reports last calls → IsSound (state_with s.setup table timing average own cursor reports last calls)
+kept {s} sound table timing average own cursor reports last calls is_kept in_step = record {
+  usable = sound.usable;
+  capacity = is_kept.bounds.capacity ∙ sound.capacity;
+  rate = is_kept.bounds.rate ∙ sound.rate;
+  room = omega (arith, is_kept.room, sound.capacity);
+  few = is_kept.few;
+  reports = in_step.fewer;
+  calls = in_step.few;
+  timing = in_step.is_past;
+  last = in_step.in_range;
+}
+
+-- ---- Tables
+
+few_entries : {s : State} → IsSound s → finite.len s.table.entries ≤ s.table.capacity
+few_entries {s} sound = omega (arith, sound.room, sound.capacity)
+
+-- a table of one more call has room for at most 1,024
+pub has_room : {s : State} → IsSound s → (table : TableValue) (packets : ℕ) → IsKept s.table table packets → finite.len table.entries ≤ 1024
+has_room {s} sound table packets is_kept = omega (arith, is_kept.room, sound.capacity, sound.usable.capacity.1)
+
+pub same_kept : {s : State} → IsSound s → IsKept s.table s.table (s.calls + 1)
+same_kept {s} sound = record {
+  bounds = record { capacity = refl; rate = refl };
+  room = few_entries sound;
+  few = tables.packets_are_few-more s.calls (s.calls + 1) s.table (omega arith) sound.few;
+}
+
+pub facts_kept : {s : State} → IsSound s → (facts : List Fact) (t : ℕ) → All (λ fact. is_media fact ≡ false) facts → IsKept s.table (after_facts facts t s.table) (s.calls + 1)
+facts_kept {s} sound facts t none = record {
+  bounds = tables.bounds_are_kept-facts s.table facts t;
+  room = tables.capacity_is_kept-facts s.table facts t (few_entries sound);
+  few = tables.packets_are_few-more s.calls (s.calls + 1) (after_facts facts t s.table) (omega arith) (tables.packets_are_few-facts s.calls s.table facts t none sound.few);
+}
+
+pub check_kept : {s : State} → IsSound s → (horizons : Horizons) → IsKept s.table (after_check horizons s.table) (s.calls + 1)
+check_kept {s} sound horizons = record {
+  bounds = tables.bounds_are_kept-check s.table horizons;
+  room = tables.capacity_is_kept-check s.table horizons (few_entries sound);
+  few = tables.packets_are_few-more s.calls (s.calls + 1) (after_check horizons s.table) (omega arith) (tables.packets_are_few-check s.calls s.table horizons sound.few);
+}
+
+pub blocks_kept : {s : State} → IsSound s → (rows : List EntryRow) → IsKept s.table (after_blocks rows s.table) s.calls
+blocks_kept {s} sound rows = record {
+  bounds = tables.bounds_are_kept-blocks s.table rows;
+  room = tables.capacity_is_kept-blocks s.table rows (few_entries sound);
+  few = tables_follow_reports-packets s.calls rows s.table sound.few;
+}
+
+one_heard : (other : Bool) (csrc : ℕ) (facts : List Fact) → All (λ fact. is_media fact ≡ false) facts → All (λ fact. is_media fact ≡ false) (if other then Heard csrc ∷ facts else facts)
+one_heard true csrc facts none = All-cons (λ fact. is_media fact ≡ false) (Heard csrc) facts refl none
+one_heard false csrc facts none = none
+
+map_of_test : (other : Bool) (csrc : ℕ) (csrcs : List ℕ) → map Heard (if other then csrc ∷ csrcs else csrcs) ≡ (if other then Heard csrc ∷ map Heard csrcs else map Heard csrcs)
+map_of_test true csrc csrcs = refl
+map_of_test false csrc csrcs = refl
+
+heard_facts : (own : ℕ) (csrcs : List ℕ) → All (λ fact. is_media fact ≡ false) (csrc_facts own csrcs)
+heard_facts own [] = All-nil (λ fact. is_media fact ≡ false)
+heard_facts own (csrc ∷ csrcs) =
+    let other = not (csrc == own) in
+    subst (λ (facts : List Fact). All (λ fact. is_media fact ≡ false) facts) (sym (map_of_test other csrc (filter (λ ssrc. not (ssrc == own)) csrcs)))
+    (one_heard other csrc (csrc_facts own csrcs) (heard_facts own csrcs))
+
+few_media : (own : ℕ) (head : RtpValue) (is_counted : Bool) (table : TableValue) (t packets : ℕ) → HasFew packets table →
+    HasFew (packets + 1) (after_facts (media_fact head ∷ (if is_counted then csrc_facts own head.csrcs else [])) t table)
+few_media own head true table t packets few =
+    tables.packets_are_few-facts (packets + 1) (after_fact (media_fact head) t table) (csrc_facts own head.csrcs) t (heard_facts own head.csrcs)
+    (tables.packets_are_few-fact packets table (media_fact head) t few)
+few_media own head false table t packets few = tables.packets_are_few-fact packets table (media_fact head) t few
+
+pub media_kept : {s : State} → IsSound s → (own : ℕ) (head : RtpValue) (t : ℕ) → IsKept s.table (after_facts (media_facts_of own head s.table) t s.table) (s.calls + 1)
+media_kept {s} sound own head t = record {
+  bounds = tables.bounds_are_kept-facts s.table (media_facts_of own head s.table) t;
+  room = tables.capacity_is_kept-facts s.table (media_facts_of own head s.table) t (few_entries sound);
+  few = few_media own head (counted s.table (media_fact head)) s.table t s.calls sound.few;
+}
+
+-- ---- Schedules and calls
+
+recounted_by : (fewer : Bool) (t members : ℕ) (timing : Timing) → timing.last ≤ t → (if fewer then after_departure t members timing else timing).last ≤ t
+recounted_by true t members timing h = omega arith
+recounted_by false t members timing h = h
+
+-- a count of members leaves the last transmission in the past
+pub recounted_last : (t members : ℕ) (timing new : Timing) → new ≡ after (recounted t members) timing → timing.last ≤ t → new.last ≤ t
+recounted_last t members timing new is h = subst (λ (n : Timing). n.last ≤ t) (sym is) (recounted_by (nat_lt members timing.known) t members timing h)
+
+-- the last transmission of a participant that takes a call
+pub past : {s : State} → IsSound s → (w : State) → s ≡ w → (t : ℕ) → w.last ≤ t → s.timing.last ≤ t
+past {s} sound w is t order = omega (arith, sound.timing, order, ap (λ (x : State). x.last) is)
+
+pub one_call : {s : State} → IsSound s → (w : State) → s ≡ w → (t : ℕ) → t ≤ 2 ^ 50 → w.calls < 2 ^ 40 - 1 → (transmission : ℕ) → transmission ≤ t → IsInStep transmission s.reports t (s.calls + 1)
+one_call {s} sound w is t moment calls transmission h = record {
+  is_past = h;
+  in_range = moment;
+  fewer = omega (arith, sound.reports);
+  few = omega (arith, calls, ap (λ (x : State). x.calls) is);
+}

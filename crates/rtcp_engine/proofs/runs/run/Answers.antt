@@ -1,0 +1,39 @@
+use Rattle.std.proofs.Common.{◌++◌, ◌+◌, ◌∙◌, List, [], ◌∷◌, take, ap, sym, subst}
+use Rattle.std.proofs.lemmas.List.{append_assoc}
+use Rattle.rtcp_engine.specs.Histories.{History}
+use Rattle.rtcp_engine.specs.Answers.{AnswerValue, answer_of, answers_to, followed_by_all}
+use Rattle.rtcp_engine.specs.Views.{answer_value}
+use Rattle.rtcp_engine.specs.States.{StandsAt}
+use Rattle.rtcp_engine.proofs.OneMore.{answers_more, followed_more, next_act, of_no_error}
+use Rattle.rtcp_engine.proofs.runs.run.Goals as goal
+
+pub returns-then-is_err-clause-stands : goal.returns-then-is_err-clause-stands
+returns-then-is_err-clause-stands g c history acts h are =
+    let next = next_act c.args.events.now acts c.events.taken c.events.event-index c.events.invariant.count c.events-test.true are in
+    let told = followed_by_all history (take c.events.taken acts) in
+    subst (λ (hs : History). StandsAt c.tell-answer.new.participant hs) (sym (ap (followed_by_all history) next.more ∙ followed_more history (take c.events.taken acts) next.act))
+    (c.tell-answer.ensures.stands told next.act (c.events.invariant.stands history acts h are) (next.is_act _))
+
+pub events-preserved : goal.events-preserved
+events-preserved g c =
+    let none = sym c.is_err.ensures.value ∙ c.if-is_err.false in
+    record {
+      count = ap (λ n. n + 1) c.events.invariant.count;
+      refusals = of_no_error c.put.result none c.put.ensures.none ∙ c.events.invariant.refusals;
+      told = λ history acts h are.
+          let next = next_act c.args.events.now acts c.events.taken c.events.event-index c.events.invariant.count c.events-test.true are in
+          let told = followed_by_all history (take c.events.taken acts) in
+          let before = answers_to history (take c.events.taken acts) in
+          let one = c.tell-answer.ensures.answer told next.act (c.events.invariant.stands history acts h are) (next.is_act _) in
+          let start = g.S.Sink.content c.args.sink.now in
+          of_no_error c.put.result none c.put.ensures.taken
+          ∙ ap (λ (answers : List AnswerValue). answers ++ answer_value c.tell-answer.result ∷ []) (c.events.invariant.told history acts h are)
+          ∙ ap (λ (answer : AnswerValue). (start ++ before) ++ answer ∷ []) one
+          ∙ append_assoc start before (answer_of told next.act ∷ [])
+          ∙ sym (ap (λ (answers : List AnswerValue). start ++ answers) (ap (answers_to history) next.more ∙ answers_more history (take c.events.taken acts) next.act));
+      stands = λ history acts h are.
+          let next = next_act c.args.events.now acts c.events.taken c.events.event-index c.events.invariant.count c.events-test.true are in
+          let told = followed_by_all history (take c.events.taken acts) in
+          subst (λ (hs : History). StandsAt c.tell-answer.new.participant hs) (sym (ap (followed_by_all history) next.more ∙ followed_more history (take c.events.taken acts) next.act))
+          (c.tell-answer.ensures.stands told next.act (c.events.invariant.stands history acts h are) (next.is_act _));
+    }

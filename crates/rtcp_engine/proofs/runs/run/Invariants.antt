@@ -1,0 +1,17 @@
+use Rattle.std.proofs.Common.{◌≡◌, ◌++◌, List, take}
+use Rattle.rtcp_engine.specs.Acts.{Act}
+use Rattle.rtcp_engine.specs.Histories.{History}
+use Rattle.rtcp_engine.specs.Answers.{answers_to, followed_by_all}
+use Rattle.rtcp_engine.specs.Views.{AreActsOf}
+use Rattle.rtcp_engine.specs.States.{StandsAt}
+use Rattle.rtcp_engine.proofs.runs.run.Given as goal
+
+abbrev pub invariant-events : goal.invariant-events
+invariant-events g l = record {
+  count : l.taken ≡ l.event-index;
+  refusals : g.S.Sink.refusals l.sink ≡ g.S.Sink.refusals l.fn.sink;
+  told : (history : History) (acts : List Act) → StandsAt l.fn.participant history → AreActsOf l.events acts →
+      g.S.Sink.content l.sink ≡ g.S.Sink.content l.fn.sink ++ answers_to history (take l.taken acts);
+  stands : (history : History) (acts : List Act) → StandsAt l.fn.participant history → AreActsOf l.events acts →
+      StandsAt l.participant (followed_by_all history (take l.taken acts));
+}

@@ -1,0 +1,43 @@
+-- Codes, by which a proof tells participants apart.
+use Rattle.std.specs.Prelude.{ℕ, List, Option, refl}
+use Rattle.std.specs.Coded.{Coded, code_by, coded×, coded_ℕ, coded_list, coded_option}
+use Rattle.rtcp_members.specs.Tables.{TableValue}
+use Rattle.rtcp_members.specs.Codes.{table_code}
+use Rattle.rtcp_timer.specs.Schedules.{Timing}
+use Rattle.rtcp_wire.specs.Values.{ItemValue}
+use Rattle.rtcp_engine.specs.Setups.{Setup}
+use Rattle.rtcp_engine.specs.OwnValues.{PacketValue, OwnValue}
+use Rattle.rtcp_engine.specs.States.{State}
+
+abbrev pub item_code : Coded ItemValue
+item_code =
+    code_by (ℕ × List ℕ) (coded× coded_ℕ (coded_list coded_ℕ)) (λ i. (i.kind, i.text)) (λ p. record { kind = p.0; text = p.1 }) (λ _. refl)
+
+abbrev pub setup_code : Coded Setup
+setup_code =
+    code_by (ℕ × (List ℕ × (List ItemValue × (ℕ × (ℕ × (ℕ × (ℕ × ℕ))))))) (coded× coded_ℕ (coded× (coded_list coded_ℕ) (coded× (coded_list item_code) (coded× coded_ℕ (coded× coded_ℕ (coded× coded_ℕ (coded× coded_ℕ coded_ℕ)))))))
+    (λ s. (s.ssrc, (s.cname, (s.extras, (s.capacity, (s.limit, (s.rtcp_bw, (s.rate, s.ntp_base))))))))
+    (λ p. record { ssrc = p.0; cname = p.1.0; extras = p.1.1.0; capacity = p.1.1.1.0; limit = p.1.1.1.1.0; rtcp_bw = p.1.1.1.1.1.0; rate = p.1.1.1.1.1.1.0; ntp_base = p.1.1.1.1.1.1.1 })
+    (λ _. refl)
+
+abbrev pub timing_code : Coded Timing
+timing_code =
+    code_by (ℕ × (ℕ × ℕ)) (coded× coded_ℕ (coded× coded_ℕ coded_ℕ)) (λ t. (t.last, (t.next, t.known))) (λ p. record { last = p.0; next = p.1.0; known = p.1.1 }) (λ _. refl)
+
+abbrev pub packet_code : Coded PacketValue
+packet_code =
+    code_by (ℕ × ℕ) (coded× coded_ℕ coded_ℕ) (λ p. (p.moment, p.timestamp)) (λ p. record { moment = p.0; timestamp = p.1 }) (λ _. refl)
+
+abbrev pub own_code : Coded OwnValue
+own_code =
+    code_by (Option ℕ × (Option PacketValue × (ℕ × ℕ))) (coded× (coded_option coded_ℕ) (coded× (coded_option packet_code) (coded× coded_ℕ coded_ℕ)))
+    (λ o. (o.sending, (o.last, (o.packets, o.octets))))
+    (λ p. record { sending = p.0; last = p.1.0; packets = p.1.1.0; octets = p.1.1.1 })
+    (λ _. refl)
+
+abbrev pub state_code : Coded State
+state_code =
+    code_by (Setup × (TableValue × (Timing × (ℕ × (OwnValue × (Option ℕ × (ℕ × (ℕ × ℕ)))))))) (coded× setup_code (coded× table_code (coded× timing_code (coded× coded_ℕ (coded× own_code (coded× (coded_option coded_ℕ) (coded× coded_ℕ (coded× coded_ℕ coded_ℕ))))))))
+    (λ s. (s.setup, (s.table, (s.timing, (s.average, (s.own, (s.cursor, (s.reports, (s.last, s.calls)))))))))
+    (λ p. record { setup = p.0; table = p.1.0; timing = p.1.1.0; average = p.1.1.1.0; own = p.1.1.1.1.0; cursor = p.1.1.1.1.1.0; reports = p.1.1.1.1.1.1.0; last = p.1.1.1.1.1.1.1.0; calls = p.1.1.1.1.1.1.1.1 })
+    (λ _. refl)

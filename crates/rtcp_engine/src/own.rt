@@ -1,0 +1,111 @@
+//! The participant's own RTP stream (RFC 3550, 6.3.8, 6.4.1).
+
+ghost use Rattle.std.specs.Prelude.{◌≡◌, is_some, option_map};
+ghost use Rattle.rtcp_report.specs.Views.{sent_value};
+ghost use Rattle.rtcp_engine.specs.OwnValues.{no_packets, own_after_packet, own_after_check, timestamp_by, packet_value, sent_by};
+
+use rtcp_clock::{ntp_of, rtp_units};
+use rtcp_report::SrPart;
+use std::marker::Model;
+
+/// The last packet that was sent.
+#[derive(Clone, Copy, Debug)]
+pub(crate) struct LastPacket {
+    moment: u64,
+    timestamp: u32,
+}
+
+/// What the participant sent, as far as its reports go.
+#[derive(Debug, Drop)]
+pub(crate) struct OwnStream {
+    /// The moment of the last packet, until a check finds that too long ago.
+    sending: Option<u64>,
+    last: Option<LastPacket>,
+    /// How many packets were sent, modulo 2^32.
+    packets: u32,
+    /// How many octets of payload were sent, modulo 2^32.
+    octets: u32,
+}
+
+impl Model for OwnStream {
+    ghost use Rattle.std.specs.Prelude.{option_map};
+    ghost use Rattle.rtcp_engine.specs.OwnValues.{OwnValue, packet_value};
+
+    ghost Value = { OwnValue };
+
+    ghost view = { λ own. record {
+      sending = own.sending;
+      last = option_map packet_value own.last;
+      packets = own.packets;
+      octets = own.octets;
+    } };
+}
+
+impl OwnStream {
+    /// Nothing was sent.
+    pub(crate) fn new() -> OwnStream
+        ensures { result ≡ no_packets }
+    {
+        OwnStream {
+            sending: None,
+            last: None,
+            packets: 0,
+            octets: 0,
+        }
+    }
+
+    /// Records that a packet with this timestamp and so many octets of payload was sent.
+    pub(crate) fn sent(&mut self, moment: u64, timestamp: u32, octets: u32)
+        ensures { self.new ≡ own_after_packet moment timestamp octets self.old }
+    {
+        self.sending = Some(moment);
+        self.last = Some(LastPacket { moment, timestamp });
+        self.packets = self.packets.wrapping_add(1);
+        self.octets = self.octets.wrapping_add(octets);
+    }
+
+    /// The participant is no sender any more if its last packet was sent before `idle`.
+    pub(crate) fn check(&mut self, idle: u64)
+        ensures { self.new ≡ own_after_check idle self.old }
+    {
+        if self.sending.is_some_and(|moment| moment < idle) {
+            self.sending = None;
+        }
+    }
+
+    /// Whether the participant is a sender.
+    pub(crate) fn is_sending(&self) -> bool
+        ensures { result ≡ is_some self.now.sending }
+    {
+        self.sending.is_some()
+    }
+
+    /// What a report at the moment `t` says of the stream, where the participant is a sender. `ntp_base` is
+    /// the NTP timestamp of moment 0, and `rate` the units a second of the media's clock.
+    pub(crate) fn report(&self, ntp_base: u64, rate: u32, t: u64) -> Option<SrPart>
+        ensures { option_map sent_value result ≡ sent_by ntp_base rate t self.now }
+    {
+        if !self.is_sending() {
+            return None;
+        }
+        Some(SrPart {
+            ntp: ntp_of(ntp_base, t),
+            rtp: timestamp_of(self.last, rate, t),
+            packets: self.packets,
+            octets: self.octets,
+        })
+    }
+}
+
+/// The RTP timestamp of the moment `t`: that of the last packet, and the units of the media's clock since.
+fn timestamp_of(last: Option<LastPacket>, rate: u32, t: u64) -> u32
+    ensures { result ≡ timestamp_by rate t (option_map packet_value last) }
+{
+    match last {
+        Some(packet) => {
+            let since = rtp_units(t.saturating_sub(packet.moment), rate);
+            packet.timestamp.wrapping_add(since)
+        }
+        None => 0,
+    }
+}

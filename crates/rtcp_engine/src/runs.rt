@@ -1,0 +1,85 @@
+//! Runs of a participant over events.
+
+ghost use Rattle.std.specs.Prelude.{◌≡◌, ◌≤◌, ◌<◌, ◌+◌, ◌-◌, ◌^◌, ◌++◌, true, false, List, length, take, OnErr};
+ghost use Rattle.rtcp_engine.specs.Acts.{Act};
+ghost use Rattle.rtcp_engine.specs.Outcomes.{one_if};
+ghost use Rattle.rtcp_engine.specs.Histories.{History};
+ghost use Rattle.rtcp_engine.specs.Answers.{answer_of, answers_to, followed_by, followed_by_all};
+ghost use Rattle.rtcp_engine.specs.Views.{answer_value, IsActOf, AreActsOf};
+ghost use Rattle.rtcp_engine.specs.States.{StandsAt};
+
+use crate::event::Event;
+use crate::participant::Participant;
+use crate::sink::Sink;
+use crate::step::Answer;
+use rtcp_members::MemberTable;
+
+/// What a run did.
+#[derive(Clone, Copy, Debug, PartialEq, Eq)]
+pub struct Ran {
+    /// How many events the participant was told, those that it refused included.
+    pub taken: usize,
+    /// Whether the sink took no more: the answer to the last event that was told is lost then.
+    pub stopped: bool,
+}
+
+/// Tells a participant events, one after the other, and hands each answer, step or refusal, to a sink. It ends
+/// with the last event, or where the sink takes no more.
+pub fn run<T: MemberTable, S: Sink>(
+    participant: &mut Participant<T>,
+    events: &[Event<'_>],
+    sink: &mut S,
+) -> Ran
+    requires { S.refusals sink.old < 2 ^ 64 - 1 }
+
+    // All events are told where the sink took every answer, and at least one where it did not.
+    ensures most { result.taken ≤ length events.now }
+    ensures whole { result.stopped ≡ false → result.taken ≡ length events.now }
+    ensures some { result.stopped ≡ true → 1 ≤ result.taken }
+    ensures stopped { S.refusals sink.new ≡ S.refusals sink.old + one_if result.stopped }
+
+    // The sink has the answers of the whole history to the events that it was told of, and the participant
+    // stands at the history followed by all that were told.
+    ensures told { (history : History) (acts : List Act) → StandsAt participant.old history →
+        AreActsOf events.now acts → S.content sink.new ≡ S.content sink.old
+        ++ answers_to history (take (result.taken - one_if result.stopped) acts) }
+    ensures stands { (history : History) (acts : List Act) → StandsAt participant.old history →
+        AreActsOf events.now acts →
+        StandsAt participant.new (followed_by_all history (take result.taken acts)) }
+{
+    let mut taken = 0;
+    'events: for event in events {
+        let answer = tell(participant, event);
+        taken += 1;
+        if sink.put(answer).is_err() {
+            return Ran {
+                taken,
+                stopped: true,
+            };
+        }
+    }
+    Ran {
+        taken,
+        stopped: false,
+    }
+}
+
+/// Tells a participant one event.
+fn tell<T: MemberTable>(participant: &mut Participant<T>, event: &Event<'_>) -> Answer
+    ensures answer { (history : History) (act : Act) → StandsAt participant.old history →
+        IsActOf event.now act → answer_value result ≡ answer_of history act }
+    ensures stands { (history : History) (act : Act) → StandsAt participant.old history →
+        IsActOf event.now act → StandsAt participant.new (followed_by history act) }
+    ensures refused { OnErr result (participant.new ≡ participant.old) }
+{
+    match *event {
+        Event::ArriveRtcp { now, bytes } => participant.arrive_rtcp(now, bytes),
+        Event::ArriveRtp { now, bytes } => participant.arrive_rtp(now, bytes),
+        Event::SentRtp {
+            now,
+            rtp_ts,
+            octets,
+        } => participant.sent_rtp(now, rtp_ts, octets),
+        Event::Tick { now, w1, w2 } => participant.tick(now, w1, w2),
+    }
+}

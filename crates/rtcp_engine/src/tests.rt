@@ -1,0 +1,15 @@
+use super::*;
+use arrayvec::ArrayVec;
+use rtcp_members::{ListTable, MemberTable};
+use rtcp_wire::{FaultReason, RtpFault, WireFault};
+use std::process::Abort;
+use std::test::*;
+
+mod configs;
+mod host;
+mod list;
+mod rows;
+mod runs;
+mod session;
+
+use session::{REPORT, Session, config};
