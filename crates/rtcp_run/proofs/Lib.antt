@@ -1,6 +1,7 @@
 mod CheckLemmas
 mod CountedLemmas
 mod DigitTable
+mod AnswerRows
 mod Joined
 pub mod LawLemmas
 mod LinesLemmas

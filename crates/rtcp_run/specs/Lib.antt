@@ -1,4 +1,5 @@
 pub mod Text
+pub mod AnswerText
 pub mod Check
 pub mod Counted
 pub mod Progress
