@@ -1,10 +1,14 @@
+mod AnswerRows
 mod CheckLemmas
 mod CountedLemmas
 mod DigitTable
-mod AnswerRows
+pub mod EventLemmas
+mod EventRows
+mod FieldLemmas
 mod Joined
 pub mod LawLemmas
 mod LinesLemmas
+mod NumeralLemmas
 mod OneText
 mod PrefixLemmas
 mod ProgressLemmas
