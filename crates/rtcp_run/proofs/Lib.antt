@@ -9,6 +9,7 @@ mod Joined
 pub mod LawLemmas
 mod LinesLemmas
 mod NumeralLemmas
+mod OptionLemmas
 mod OneText
 mod PrefixLemmas
 mod ProgressLemmas

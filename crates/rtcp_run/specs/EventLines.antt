@@ -3,6 +3,7 @@ use Rattle.std.specs.Prelude.{◌≡◌, ℕ, ◌==◌, List, [], ◌∷◌, len
 use Rattle.std.specs.Borrow.{Bor}
 use Rattle.std.specs.Int.{w32}
 use Rattle.std.specs.List.{slice_split}
+use Rattle.std.specs.Option.{ok_or}
 use Rattle.std.specs.Str.{bytes_eq}
 use Rattle.rtcp_engine.specs.declared.event.Event.{Event}
 use Rattle.rtcp_engine.specs.declared.event.Event.TheVariants.{ArriveRtcp, ArriveRtp, SentRtp, Tick}
@@ -16,6 +17,7 @@ use Rattle.rtcp_run.specs.declared.event_line.LineKind.TheVariants.{Rtcp, Rtp, S
 use Rattle.rtcp_run.specs.declared.fault.LineFault.{LineFault}
 use Rattle.rtcp_run.specs.declared.fault.LineFault.TheVariants.{Words, Hex, Number}
 use Rattle.rtcp_run.specs.Numerals.{decimal_in, hex_in, datagram_in}
+use Rattle.rtcp_run.specs.Results.{◌>>=◌}
 
 -- ---- Events
 
@@ -57,29 +59,19 @@ abbrev pub fields_left : Option (Bor (List ℕ)) → List (List ℕ)
 fields_left None = []
 fields_left (Some rest) = fields_of rest.now
 
-abbrev pub or_fault : {A : Type 0} → LineFault → Option A → Result A LineFault
-or_fault fault None = Err fault
-or_fault fault (Some x) = Ok x
-
 abbrev pub moment_in : List ℕ → Result ℕ LineFault
-moment_in field = or_fault Number (decimal_in 64 field)
+moment_in field = ok_or (decimal_in 64 field) Number
 
 abbrev pub short_in : List ℕ → Result ℕ LineFault
-short_in field = or_fault Number (decimal_in 32 field)
+short_in field = ok_or (decimal_in 32 field) Number
 
 abbrev pub word_in : List ℕ → Result ℕ LineFault
-word_in field = or_fault Hex (hex_in w32 field)
+word_in field = ok_or (hex_in w32 field) Hex
 
 abbrev pub octets_in : List ℕ → Result (List ℕ) LineFault
-octets_in field = or_fault Hex (datagram_in field)
+octets_in field = ok_or (datagram_in field) Hex
 
 -- ---- Lines
-
--- one thing and then another, or the first fault
-infixl 10 ◌>>=◌
-abbrev pub ◌>>=◌ : {A B : Type 0} → Result A LineFault → (A → Result B LineFault) → Result B LineFault
-Ok x >>= next = next x
-Err fault >>= next = Err fault
 
 abbrev pub arrival : (ℕ → List ℕ → EventValue) → List (List ℕ) → Result EventValue LineFault
 arrival arrived (moment ∷ datagram ∷ []) = do

@@ -15,6 +15,7 @@ mod fault;
 mod laws;
 mod lines;
 mod numerals;
+mod options;
 mod order;
 mod orders;
 #[cfg(test)]
