@@ -2,11 +2,19 @@
 use Rattle.std.proofs.Common.{◌≡◌, ℕ, ◌+◌, inl, inr, List, [], ◌∷◌, ◌++◌, Option, Some, refl, sym, ◌∙◌, ap, subst, arith}
 use Rattle.rtcp_wire.proofs.LawLemmas.{accepted_or_faulty-never_both, one_fault, one_reading}
 use Rattle.rtcp_run.specs.declared.fault.LineFault.{LineFault}
-use Rattle.rtcp_run.specs.declared.fault.LineFault.TheVariants.{LineTooLong, TooManyLines, Hex}
+use Rattle.rtcp_run.specs.declared.fault.LineFault.TheVariants.{LineTooLong, TooManyLines, Words, Hex, Number}
 use Rattle.rtcp_run.specs.Check.{IsAnswer, IsLine, IsLineFault, IsCheckText}
 use Rattle.rtcp_run.specs.Text.{accepted_text, fault_text}
 
 one_line_fault : (n : ℕ) (line : List ℕ) (f g : LineFault) → IsLineFault n line f → IsLineFault n line g → f ≡ g
+one_line_fault n line Words g h k = absurd h
+one_line_fault n line Number g h k = absurd h
+one_line_fault n line TooManyLines Words h k = absurd k
+one_line_fault n line TooManyLines Number h k = absurd k
+one_line_fault n line LineTooLong Words h k = absurd k
+one_line_fault n line LineTooLong Number h k = absurd k
+one_line_fault n line Hex Words h k = absurd k
+one_line_fault n line Hex Number h k = absurd k
 one_line_fault n line TooManyLines TooManyLines h k = refl
 one_line_fault n line TooManyLines LineTooLong h k = absurd (omega (arith, k.0))
 one_line_fault n line TooManyLines Hex h k = absurd (omega (arith, k.0))
@@ -21,6 +29,8 @@ one_line_fault n line Hex Hex h k = refl
 no_line : (n : ℕ) (line octets : List ℕ) (fault : LineFault) → IsLineFault n line fault → IsLine n line octets → ⊥
 no_line n line octets TooManyLines h k = omega (arith, k.0)
 no_line n line octets LineTooLong h k = omega (arith, h.1, k.1)
+no_line n line octets Words h k = h
+no_line n line octets Number h k = h
 no_line n line octets Hex h k = let failed = rw k.2 at h.2 in cc
 
 one_answer : (octets text text' : List ℕ) → IsAnswer octets text → IsAnswer octets text' → text ≡ text'

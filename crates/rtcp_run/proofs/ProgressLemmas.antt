@@ -7,7 +7,7 @@ use Rattle.std.proofs.lemmas.Bool.{false≢true}
 use Rattle.std.proofs.lemmas.List.Concat.{flat_map-append}
 use Rattle.std.proofs.lemmas.List.Elements.{All-nil, All-cons, All-append}
 use Rattle.rtcp_run.specs.declared.fault.LineFault.{LineFault}
-use Rattle.rtcp_run.specs.declared.fault.LineFault.TheVariants.{LineTooLong, TooManyLines, Hex}
+use Rattle.rtcp_run.specs.declared.fault.LineFault.TheVariants.{LineTooLong, TooManyLines, Words, Hex, Number}
 use Rattle.rtcp_run.specs.declared.fault.TextFault.{TextFault}
 use Rattle.rtcp_run.specs.declared.fault.TextFault.TheVariants.{Text, Read, Write, Memory}
 use Rattle.rtcp_run.specs.Check.{lines_of, HasNoLineFeed, BeginsWithLines, IsCheckText}
@@ -182,7 +182,9 @@ PartLeaves-lengthens (Text number LineTooLong) n answered' pending piece after l
     subst (λ l. IsCheckText (n + 1) (lines_of l) [] (Some (number, LineTooLong)))
     (append_assoc pending piece (after ++ more) ∙ ap (λ l. pending ++ l) (sym (append_assoc piece after more)) ∙ sym (append_assoc pending (piece ++ after) more))
     (too_long n number (pending ++ piece) (after ++ more) (All-append (λ octet. octet ≢ 10) pending piece part each) h.2 h.0 h.1)
+PartLeaves-lengthens (Text number Words) n answered' pending piece after longer rest' part each some h = absurd h
 PartLeaves-lengthens (Text number Hex) n answered' pending piece after longer rest' part each some h = absurd h
+PartLeaves-lengthens (Text number Number) n answered' pending piece after longer rest' part each some h = absurd h
 PartLeaves-lengthens Memory n answered' pending piece after longer rest' part each some h = record {
   lines = [];
   rest = pending ++ (piece ++ after);
@@ -245,6 +247,24 @@ module _ (n answered : ℕ) (old prefix rest block pending text : List ℕ) (fir
     number = first.number;
     texts = first.texts;
   }
+
+-- ---- a call of the writer that failed
+
+-- A prefix of the answer to a line is written.
+pub LineLeaves-cut : (n : ℕ) (line text prefix more : List ℕ) → IsCheckText n (line ∷ []) text None → text ≡ prefix ++ more
+    → LineLeaves {A = Unit {0}} (Err Write) n line prefix
+LineLeaves-cut n line text prefix more texts parts = (more, subst (λ t. IsCheckText n (line ∷ []) t None) parts texts)
+
+-- All answers are written, and the flush failed.
+pub PartLeaves-unflushed : (n answered answered' : ℕ) (octets rest rest' text : List ℕ) → Answers n octets answered rest text
+    → PartLeaves {A = Unit {0}} (Err Write) n octets answered' rest' text
+PartLeaves-unflushed n answered answered' octets rest rest' text all = record {
+  lines = all.lines;
+  rest = rest;
+  more = [];
+  begins = all.begins;
+  texts = subst (λ t. IsCheckText (n + 1) all.lines t None) (sym (append-nil text)) all.texts;
+}
 
 -- ---- between two lines
 

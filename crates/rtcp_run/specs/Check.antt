@@ -9,7 +9,7 @@ use Rattle.rtcp_wire.specs.declared.fault.WireFault.{WireFault}
 use Rattle.rtcp_run.specs.Counted.{inner_of}
 use Rattle.rtcp_run.specs.declared.counted.Counted.{Counted}
 use Rattle.rtcp_run.specs.declared.fault.LineFault.{LineFault}
-use Rattle.rtcp_run.specs.declared.fault.LineFault.TheVariants.{LineTooLong, TooManyLines, Hex}
+use Rattle.rtcp_run.specs.declared.fault.LineFault.TheVariants.{LineTooLong, TooManyLines, Words, Hex, Number}
 use Rattle.rtcp_run.specs.Text.{accepted_text, fault_text}
 
 -- ---- Lines
@@ -42,11 +42,14 @@ IsAnswer octets text =
     ((packets : List RtcpPacket) × IsAccepted octets packets × (text ≡ accepted_text packets))
     ⊎ ((fault : WireFault) × IsFirstFault octets fault × (text ≡ fault_text fault))
 
--- what is wrong with line n of the input, counted from 1: no two of these hold
+-- What is wrong with line n of the input, counted from 1: no two of these hold. A line of hex has neither words
+-- nor numbers.
 abbrev pub IsLineFault : ℕ → List ℕ → LineFault → Type 0
 IsLineFault n line TooManyLines = 65536 < n
 IsLineFault n line LineTooLong = (n ≤ 65536) × (131200 < length line)
+IsLineFault n line Words = ⊥
 IsLineFault n line Hex = (n ≤ 65536) × (length line ≤ 131200) × IsErr (decode_of line)
+IsLineFault n line Number = ⊥
 
 -- line n spells these octets in hex, of either case
 abbrev pub IsLine : ℕ → List ℕ → List ℕ → Type 0

@@ -1,4 +1,9 @@
 pub mod Text
+pub mod AnswerText
+pub mod Numerals
+pub mod Results
+pub mod EventLines
+pub mod Options
 pub mod Check
 pub mod Counted
 pub mod Progress

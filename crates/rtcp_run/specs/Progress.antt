@@ -1,7 +1,7 @@
 -- What the parts of a check leave: the lines that they answered, and the text that they wrote.
 use Rattle.std.specs.Prelude.{◌≡◌, ◌≢◌, ℕ, ◌+◌, ◌<◌, ◌≤◌, List, [], ◌∷◌, ◌++◌, length, Option, Some, None, Result, Ok, Err}
 use Rattle.std.specs.Io.KnownBytes.{Appends}
-use Rattle.rtcp_run.specs.declared.fault.LineFault.TheVariants.{LineTooLong, TooManyLines, Hex}
+use Rattle.rtcp_run.specs.declared.fault.LineFault.TheVariants.{LineTooLong, TooManyLines, Words, Hex, Number}
 use Rattle.rtcp_run.specs.declared.fault.TextFault.{TextFault}
 use Rattle.rtcp_run.specs.declared.fault.TextFault.TheVariants.{Text, Read, Write, Memory}
 use Rattle.rtcp_run.specs.Check.{lines_of, HasNoLineFeed, BeginsWithLines, IsLineFault, IsCheckText, IsTextOf, AnswersWhatCame, AnswersUpToBlock}
@@ -103,7 +103,9 @@ Lengthens (Ok x) n pending piece longer = (longer ≡ pending ++ piece) × (n < 
 Lengthens (Err (Text number TooManyLines)) n pending piece longer = (number ≡ n + 1) × (65536 ≤ n)
 Lengthens (Err (Text number LineTooLong)) n pending piece longer =
     (number ≡ n + 1) × (n < 65536) × (131200 < length (pending ++ piece))
+Lengthens (Err (Text number Words)) n pending piece longer = ⊥
 Lengthens (Err (Text number Hex)) n pending piece longer = ⊥
+Lengthens (Err (Text number Number)) n pending piece longer = ⊥
 Lengthens (Err Memory) n pending piece longer = Unit {0}
 Lengthens (Err Write) n pending piece longer = ⊥
 Lengthens (Err Read) n pending piece longer = ⊥

@@ -86,6 +86,10 @@ reason_text Item = codes "F8 Item"
 reason_text Reason = codes "F9 Reason"
 reason_text TooLong = codes "F10 TooLong"
 
+-- the rule that a datagram breaks, and where
+abbrev pub fault_words : WireFault → List ℕ
+fault_words fault = reason_text fault.reason ++ codes " at " ++ decimal fault.place
+
 -- the line for a refused datagram
 abbrev pub fault_text : WireFault → List ℕ
-fault_text fault = reason_text fault.reason ++ codes " at " ++ decimal fault.place ++ 10 ∷ []
+fault_text fault = fault_words fault ++ 10 ∷ []

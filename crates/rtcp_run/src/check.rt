@@ -10,6 +10,7 @@ use crate::counted::Counted;
 use crate::fault::TextFault;
 use crate::laws::one_text;
 use crate::lines::LineChecker;
+use crate::writing::flush;
 use rtcp_wire::laws::accepted_or_faulty;
 use std::alloc::Global;
 use std::io::{Read, Write};
@@ -21,8 +22,10 @@ const BLOCK: usize = 8_192;
 /// first fault.
 ///
 /// A line has at most 131,200 octets before its line feed, which the last line may lack, and the text has at
-/// most 65,536 lines. The answer to a line is written before the next line is looked at. The first call of
-/// the reader or the writer that fails ends the run.
+/// most 65,536 lines. The answer to a line is written before the next line is looked at. What was answered is
+/// flushed before the reader is asked for more, so a line's answer is seen while the next line is awaited; what
+/// is answered after the last read is left for the caller to flush. The first call of the reader or the writer
+/// that fails ends the run.
 ///
 /// # Errors
 ///
@@ -30,8 +33,8 @@ const BLOCK: usize = 8_192;
 ///   lines before it are written.
 /// - [`TextFault::Read`] where a call of the reader fails, for whatever reason. The answers to the whole
 ///   lines that were read are written.
-/// - [`TextFault::Write`] where a call of the writer fails or takes nothing. A prefix of the answers is
-///   written.
+/// - [`TextFault::Write`] where a call of the writer fails, a flush included, or takes nothing. A prefix of the
+///   answers is written.
 /// - [`TextFault::Memory`] where memory is refused. The answers to the first lines are written, at least to
 ///   those that ended before the last block that was read.
 pub fn check<R: Read, W: Write>(
@@ -69,7 +72,8 @@ pub fn check<R: Read, W: Write>(
     answer_blocks(alloc, reader, writer)
 }
 
-/// Answers the lines of the reader's input, block by block, up to its end or the first fault.
+/// Answers the lines of the reader's input, block by block, up to its end or the first fault. Each block's
+/// answers are flushed before the next one is read.
 fn answer_blocks<R: Read, W: Write>(
     alloc: Global,
     reader: &mut Counted<R>,
@@ -95,5 +99,6 @@ fn answer_blocks<R: Read, W: Write>(
             return checker.finish(writer);
         }
         checker.take(&block[..count], writer)?;
+        flush(writer)?;
     }
 }

@@ -2,7 +2,8 @@
 
 use thiserror::Error;
 
-/// What is wrong with a line of the input. `TooManyLines` is tested first, then the others in their order.
+/// What is wrong with a line of the input. `TooManyLines` is tested first, then `LineTooLong`, then `Words`.
+/// Of `Hex` and `Number`, a line has that of its first faulty field.
 #[derive(Clone, Copy, Debug, PartialEq, Eq, Error)]
 pub enum LineFault {
     /// It has more than 131,200 octets before its line feed or the end.
@@ -11,9 +12,16 @@ pub enum LineFault {
     /// It is line 65,537, which is not looked at.
     #[error("X2 TooManyLines")]
     TooManyLines,
-    /// It is not an even number of hex digits.
+    /// Its first word is not known, or it has too few fields or too many. Where a line is hex and no words, it
+    /// has not this fault.
+    #[error("X3 Words")]
+    Words,
+    /// What should be hex digits is not, or there are too few of them or too many.
     #[error("X4 Hex")]
     Hex,
+    /// What should be a decimal number is not, or the number is too great.
+    #[error("X5 Number")]
+    Number,
 }
 
 /// Why a run over text ended early.

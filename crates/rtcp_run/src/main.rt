@@ -10,9 +10,12 @@ mod check;
 mod command;
 mod counted;
 mod digit_pairs;
+mod event_line;
 mod fault;
 mod laws;
 mod lines;
+mod numerals;
+mod options;
 mod order;
 mod orders;
 #[cfg(test)]

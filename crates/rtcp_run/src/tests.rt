@@ -1,3 +1,4 @@
 mod commands;
 mod ends;
+mod flushes;
 mod rows;

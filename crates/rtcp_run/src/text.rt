@@ -1,4 +1,4 @@
-//! The text of packets and of faults, as `rtcp check` shows them.
+//! The text of packets, faults and answers, as `rtcp check` and `rtcp replay` show them.
 //!
 //! # Errors
 //!
@@ -7,8 +7,9 @@
 
 ghost use Rattle.std.specs.Prelude.{◌≡◌, ◌++◌, OnOk};
 ghost use Rattle.rtcp_wire.specs.Views.{packet_value};
-ghost use Rattle.rtcp_run.specs.Text.{packet_text, accepted_text, reason_text, fault_text};
+ghost use Rattle.rtcp_run.specs.Text.{packet_text, accepted_text, reason_text, fault_text, fault_words};
 
+mod answers;
 mod descriptions;
 mod digits;
 mod goodbyes;
@@ -18,6 +19,7 @@ mod reports;
 #[cfg(test)]
 mod tests;
 
+pub(crate) use answers::{push_answer, push_start};
 use descriptions::push_description;
 use digits::push_decimal;
 use goodbyes::push_goodbye;
@@ -57,11 +59,18 @@ fn push_packet(out: &mut Vec<u8>, packet: &PacketView<'_>) -> Result<(), AllocEr
 pub(crate) fn push_fault(out: &mut Vec<u8>, fault: &WireFault) -> Result<(), AllocError>
     ensures { OnOk result (out.new.items ≡ out.old.items ++ fault_text fault.now) }
 {
-    out.extend_from_slice(reason_name(fault.reason).as_bytes())?;
-    out.extend_from_slice(b" at ")?;
-    push_decimal(out, fault.place as u64)?;
+    push_fault_words(out, fault)?;
     out.push(b'\n')?;
     Ok(())
+}
+
+/// Appends the rule that a datagram breaks, and where.
+fn push_fault_words(out: &mut Vec<u8>, fault: &WireFault) -> Result<(), AllocError>
+    ensures { OnOk result (out.new.items ≡ out.old.items ++ fault_words fault.now) }
+{
+    out.extend_from_slice(reason_name(fault.reason).as_bytes())?;
+    out.extend_from_slice(b" at ")?;
+    push_decimal(out, fault.place as u64)
 }
 
 /// The number of a rule and its name.

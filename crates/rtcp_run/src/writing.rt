@@ -1,7 +1,7 @@
-//! Writing the whole of a text.
+//! Writing the whole of a text, and handing it on.
 
 ghost use Rattle.std.specs.Prelude.{◌≡◌, ◌≢◌, ◌≤◌, ◌++◌, ◌↔◌, ℕ, List, [], OnOk, IsOkUnless};
-ghost use Rattle.std.specs.Io.KnownBytes.{Appends};
+ghost use Rattle.std.specs.Io.KnownBytes.{Appends, Keeps};
 ghost use Rattle.rtcp_run.specs.Counted.{failures_of, inner_of};
 
 use crate::counted::Counted;
@@ -35,4 +35,22 @@ pub(crate) fn write_whole<W: Write>(writer: &mut Counted<W>, text: &[u8]) -> Res
         rest = rest.split_at(count).1;
     }
     Ok(())
+}
+
+/// Hands on what was written, so that it is seen before more is read.
+///
+/// # Errors
+///
+/// [`TextFault::Write`] where the flush fails.
+pub(crate) fn flush<W: Write>(writer: &mut Counted<W>) -> Result<(), TextFault>
+    requires { failures_of writer.old ≡ 0 }
+    ensures only { IsOkUnless result TextFault.Write }
+    ensures kept { Keeps (W.contents (inner_of writer.old)) (W.contents (inner_of writer.new)) }
+    ensures failed { (result ≡ Err TextFault.Write) ↔ (failures_of writer.new ≢ 0) }
+    ensures once { failures_of writer.new ≤ 1 }
+{
+    match writer.flush() {
+        Ok(()) => Ok(()),
+        Err(_) => Err(TextFault::Write),
+    }
 }

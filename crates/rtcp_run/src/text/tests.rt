@@ -1,7 +1,9 @@
 use super::digits::{push_decimal, push_octets, push_signed};
 use super::joined::Shown;
-use super::{push_accepted, push_fault, push_packet};
-use rtcp_wire::{Block, Compound, FaultReason, WireFault};
+use super::{push_accepted, push_answer, push_fault, push_packet, push_start};
+use arrayvec::ArrayVec;
+use rtcp_engine::{Answer, Out, OutKind, Refusal, Step};
+use rtcp_wire::{Block, Compound, FaultReason, RtpFault, WireFault};
 use std::alloc::{AllocError, Global};
 use std::test::Fail;
 
@@ -223,6 +225,90 @@ fn faults(rt: HostRuntime) -> Result<(), Fail> {
         let mut out = Vec::new(rt.alloc());
         push_fault(&mut out, &WireFault { reason, place })?;
         assert_eq!(rt; out.as_slice(), want.as_bytes());
+    }
+    Ok(())
+}
+
+/// The line for an answer.
+fn answer_line(alloc: Global, answer: Answer) -> Result<Vec<u8>, AllocError> {
+    let mut out = Vec::new(alloc);
+    push_answer(&mut out, &answer)?;
+    Ok(out)
+}
+
+#[test]
+fn start(rt: HostRuntime) -> Result<(), Fail> {
+    let mut out = Vec::new(rt.alloc());
+    push_start(&mut out, Some(1_026_037))?;
+    assert_eq!(rt;
+        out.as_slice(),
+        b"start members=1 senders=0 next=1026037\n".as_slice()
+    );
+    Ok(())
+}
+
+#[test]
+fn steps(rt: HostRuntime) -> Result<(), Fail> {
+    let quiet = Step {
+        out: None,
+        members: 2,
+        senders: 1,
+        next: Some(1_125_899_908_894_698),
+    };
+    let line = answer_line(rt.alloc(), Ok(quiet))?;
+    let want: &[u8] = b"ok members=2 senders=1 next=1125899908894698 out=-\n";
+    assert_eq!(rt; line.as_slice(), want);
+
+    let mut bytes = ArrayVec::new();
+    bytes.try_extend_from_slice(&EMPTY_REPORT)?;
+    let report = Step {
+        out: Some(Out {
+            kind: OutKind::Report,
+            bytes,
+        }),
+        members: 1,
+        senders: 0,
+        next: None,
+    };
+    let line = answer_line(rt.alloc(), Ok(report))?;
+    let want: &[u8] = b"ok members=1 senders=0 next=- out=report:80c9000101234567\n";
+    assert_eq!(rt; line.as_slice(), want);
+    Ok(())
+}
+
+#[test]
+fn refusals(rt: HostRuntime) -> Result<(), Fail> {
+    let wire = WireFault {
+        reason: FaultReason::Item,
+        place: 8,
+    };
+    let rows = [
+        (Refusal::Backwards, "refused E2 Backwards\n"),
+        (Refusal::TooFar, "refused E3 TooFar\n"),
+        (Refusal::TooMany, "refused E4 TooMany\n"),
+        (Refusal::Wire(wire), "refused E5 Wire: F8 Item at 8\n"),
+        (Refusal::Rtp(RtpFault::Short), "refused E6 Rtp: G1 Short\n"),
+        (
+            Refusal::Rtp(RtpFault::Version),
+            "refused E6 Rtp: G2 Version\n",
+        ),
+        (
+            Refusal::Rtp(RtpFault::PayloadType),
+            "refused E6 Rtp: G3 PayloadType\n",
+        ),
+        (
+            Refusal::Rtp(RtpFault::Extension),
+            "refused E6 Rtp: G4 Extension\n",
+        ),
+        (
+            Refusal::Rtp(RtpFault::Padding),
+            "refused E6 Rtp: G5 Padding\n",
+        ),
+        (Refusal::OwnSsrc, "refused E7 OwnSsrc\n"),
+    ];
+    for (refusal, want) in rows {
+        let line = answer_line(rt.alloc(), Err(refusal))?;
+        assert_eq!(rt; line.as_slice(), want.as_bytes());
     }
     Ok(())
 }

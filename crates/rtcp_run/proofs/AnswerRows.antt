@@ -1,0 +1,47 @@
+-- Worked examples of the text of answers.
+use Rattle.std.proofs.Common.{◌≡◌, [], ◌∷◌, ◌++◌, Some, None, Ok, Err, refl, codes}
+use Rattle.std.specs.Fmt.{digits}
+use Rattle.hex.specs.Hex.{encode_with}
+use Rattle.rtcp_wire.specs.declared.fault.FaultReason.TheVariants.{Short}
+use Rattle.rtcp_wire.specs.declared.rtp.fault.RtpFault.TheVariants.{PayloadType}
+use Rattle.rtcp_engine.specs.declared.refusal.Refusal.TheVariants.{Backwards, TooFar, TooMany, Wire, Rtp, OwnSsrc}
+use Rattle.rtcp_engine.specs.declared.step.OutKind.TheVariants.{Report}
+use Rattle.rtcp_run.specs.AnswerText.{start_text, answer_text}
+
+start : start_text (Some 1026037) ≡ codes "start members=1 senders=0 next=1026037" ++ 10 ∷ []
+unfolding digits
+start = refl
+
+nothing_sent : answer_text (Ok (record { out = None; members = 2; senders = 1; next = Some 1026037 }))
+    ≡ codes "ok members=2 senders=1 next=1026037 out=-" ++ 10 ∷ []
+unfolding digits
+nothing_sent = refl
+
+report : answer_text (Ok (record { out = Some (record { kind = Report; octets = 128 ∷ 201 ∷ 0 ∷ 1 ∷ 0 ∷ 0 ∷ 0 ∷ 170 ∷ [] }); members = 1; senders = 0; next = Some 3078111 }))
+    ≡ codes "ok members=1 senders=0 next=3078111 out=report:80c90001000000aa" ++ 10 ∷ []
+unfolding digits encode_with
+report = refl
+
+no_next : answer_text (Ok (record { out = None; members = 0; senders = 0; next = None }))
+    ≡ codes "ok members=0 senders=0 next=- out=-" ++ 10 ∷ []
+unfolding digits
+no_next = refl
+
+backwards : answer_text (Err Backwards) ≡ codes "refused E2 Backwards" ++ 10 ∷ []
+backwards = refl
+
+too_far : answer_text (Err TooFar) ≡ codes "refused E3 TooFar" ++ 10 ∷ []
+too_far = refl
+
+too_many : answer_text (Err TooMany) ≡ codes "refused E4 TooMany" ++ 10 ∷ []
+too_many = refl
+
+wire : answer_text (Err (Wire (record { reason = Short; place = 20 }))) ≡ codes "refused E5 Wire: F1 Short at 20" ++ 10 ∷ []
+unfolding digits
+wire = refl
+
+rtp : answer_text (Err (Rtp PayloadType)) ≡ codes "refused E6 Rtp: G3 PayloadType" ++ 10 ∷ []
+rtp = refl
+
+own_ssrc : answer_text (Err OwnSsrc) ≡ codes "refused E7 OwnSsrc" ++ 10 ∷ []
+own_ssrc = refl

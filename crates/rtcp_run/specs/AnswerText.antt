@@ -1,0 +1,62 @@
+-- The text of what a participant answers, as `rtcp replay` shows it.
+use Rattle.std.specs.Prelude.{ℕ, List, [], ◌∷◌, ◌++◌, Option, Some, None, Ok, Err, codes}
+use Rattle.std.specs.Fmt.{decimal}
+use Rattle.hex.specs.Hex.{encode_lower}
+use Rattle.rtcp_wire.specs.declared.rtp.fault.RtpFault.{RtpFault}
+use Rattle.rtcp_wire.specs.declared.rtp.fault.RtpFault.TheVariants.{Short, Version, PayloadType, Extension, Padding}
+use Rattle.rtcp_engine.specs.declared.refusal.Refusal.{Refusal}
+use Rattle.rtcp_engine.specs.declared.refusal.Refusal.TheVariants.{Backwards, TooFar, TooMany, Wire, Rtp, OwnSsrc}
+use Rattle.rtcp_engine.specs.declared.step.OutKind.{OutKind}
+use Rattle.rtcp_engine.specs.declared.step.OutKind.TheVariants.{Report}
+use Rattle.rtcp_engine.specs.Answers.{OutValue, StepValue, AnswerValue}
+use Rattle.rtcp_run.specs.Text.{fault_words}
+
+-- ---- Steps
+
+-- a moment, if there is one
+abbrev pub next_text : Option ℕ → List ℕ
+next_text None = codes "-"
+next_text (Some next) = decimal next
+
+abbrev pub counts_text : (members senders : ℕ) → (next : Option ℕ) → List ℕ
+counts_text members senders next =
+    codes "members=" ++ decimal members ++ codes " senders=" ++ decimal senders ++ codes " next=" ++ next_text next
+
+abbrev pub kind_text : OutKind → List ℕ
+kind_text Report = codes "report"
+
+-- kind:octets, if there is a compound to send
+abbrev pub out_text : Option OutValue → List ℕ
+out_text None = codes "-"
+out_text (Some out) = kind_text out.kind ++ codes ":" ++ encode_lower out.octets
+
+abbrev pub step_text : StepValue → List ℕ
+step_text step = codes "ok " ++ counts_text step.members step.senders step.next ++ codes " out=" ++ out_text step.out
+
+-- ---- Refusals
+
+abbrev pub rtp_fault_text : RtpFault → List ℕ
+rtp_fault_text Short = codes "G1 Short"
+rtp_fault_text Version = codes "G2 Version"
+rtp_fault_text PayloadType = codes "G3 PayloadType"
+rtp_fault_text Extension = codes "G4 Extension"
+rtp_fault_text Padding = codes "G5 Padding"
+
+abbrev pub refusal_text : Refusal → List ℕ
+refusal_text Backwards = codes "E2 Backwards"
+refusal_text TooFar = codes "E3 TooFar"
+refusal_text TooMany = codes "E4 TooMany"
+refusal_text (Wire fault) = codes "E5 Wire: " ++ fault_words fault
+refusal_text (Rtp fault) = codes "E6 Rtp: " ++ rtp_fault_text fault
+refusal_text OwnSsrc = codes "E7 OwnSsrc"
+
+-- ---- Lines
+
+-- the line for the start of a session, with the moment of its first tick
+abbrev pub start_text : (next : Option ℕ) → List ℕ
+start_text next = codes "start " ++ counts_text 1 0 next ++ 10 ∷ []
+
+-- the line for an answer
+abbrev pub answer_text : AnswerValue → List ℕ
+answer_text (Ok step) = step_text step ++ 10 ∷ []
+answer_text (Err refusal) = codes "refused " ++ refusal_text refusal ++ 10 ∷ []

@@ -1,0 +1,122 @@
+-- What a line of a session says, as `rtcp replay` reads it.
+use Rattle.std.specs.Prelude.{◌≡◌, ℕ, ◌==◌, List, [], ◌∷◌, length, if◌then◌else◌, Option, Some, None, Result, Ok, Err, codes}
+use Rattle.std.specs.Borrow.{Bor}
+use Rattle.std.specs.Int.{w32}
+use Rattle.std.specs.List.{slice_split}
+use Rattle.std.specs.Option.{ok_or}
+use Rattle.std.specs.Str.{bytes_eq}
+use Rattle.rtcp_engine.specs.declared.event.Event.{Event}
+use Rattle.rtcp_engine.specs.declared.event.Event.TheVariants.{ArriveRtcp, ArriveRtp, SentRtp, Tick}
+use Rattle.rtcp_engine.specs.Acts.{Act, rtcp_came, rtp_came, rtp_sent, ticked, IsReading, IsRtpReading}
+use Rattle.rtcp_wire.specs.declared.fault.WireFault.{WireFault}
+use Rattle.rtcp_wire.specs.declared.rtp.fault.RtpFault.{RtpFault}
+use Rattle.rtcp_wire.specs.RtpHeads.{RtpValue}
+use Rattle.rtcp_wire.specs.Values.{RtcpPacket}
+use Rattle.rtcp_run.specs.declared.event_line.LineKind.{LineKind}
+use Rattle.rtcp_run.specs.declared.event_line.LineKind.TheVariants.{Rtcp, Rtp, Sent, Ticked}
+use Rattle.rtcp_run.specs.declared.fault.LineFault.{LineFault}
+use Rattle.rtcp_run.specs.declared.fault.LineFault.TheVariants.{Words, Hex, Number}
+use Rattle.rtcp_run.specs.Numerals.{decimal_in, hex_in, datagram_in}
+use Rattle.rtcp_run.specs.Results.{◌>>=◌}
+
+-- ---- Events
+
+pub data EventValue : Type 0 where
+  -- an RTCP datagram came
+  rtcp_arrived : (moment : ℕ) (octets : List ℕ) → EventValue
+  -- an RTP datagram came
+  rtp_arrived : (moment : ℕ) (octets : List ℕ) → EventValue
+  -- the host sent an RTP packet with this timestamp and so many octets of payload
+  packet_sent : (moment timestamp octets : ℕ) → EventValue
+  -- the host asked whether a report is due, and gave two random words
+  time_passed : (moment first_word second_word : ℕ) → EventValue
+
+-- an event as the participant takes it
+abbrev pub event_value : Event → EventValue
+event_value (ArriveRtcp now bytes) = rtcp_arrived now bytes.now
+event_value (ArriveRtp now bytes) = rtp_arrived now bytes.now
+event_value (SentRtp now timestamp octets) = packet_sent now timestamp octets
+event_value (Tick now first_word second_word) = time_passed now first_word second_word
+
+-- the act of an event: what the octets of a datagram say stands in it
+abbrev pub IsActOfEvent : EventValue → Act → Type 0
+IsActOfEvent (rtcp_arrived moment octets) act =
+    (reading : Result (List RtcpPacket) WireFault) × IsReading octets reading
+    × (act ≡ rtcp_came moment (length octets) reading)
+IsActOfEvent (rtp_arrived moment octets) act =
+    (reading : Result RtpValue RtpFault) × IsRtpReading octets reading × (act ≡ rtp_came moment reading)
+IsActOfEvent (packet_sent moment timestamp octets) act = act ≡ rtp_sent moment timestamp octets
+IsActOfEvent (time_passed moment first_word second_word) act = act ≡ ticked moment first_word second_word
+
+-- ---- Fields
+
+-- what stands between the spaces (32) of a line
+abbrev pub fields_of : List ℕ → List (List ℕ)
+fields_of line = slice_split (λ octet. octet == 32) line
+
+-- what stands so after a field, if something comes after it
+abbrev pub fields_left : Option (Bor (List ℕ)) → List (List ℕ)
+fields_left None = []
+fields_left (Some rest) = fields_of rest.now
+
+abbrev pub moment_in : List ℕ → Result ℕ LineFault
+moment_in field = ok_or (decimal_in 64 field) Number
+
+abbrev pub short_in : List ℕ → Result ℕ LineFault
+short_in field = ok_or (decimal_in 32 field) Number
+
+abbrev pub word_in : List ℕ → Result ℕ LineFault
+word_in field = ok_or (hex_in w32 field) Hex
+
+abbrev pub octets_in : List ℕ → Result (List ℕ) LineFault
+octets_in field = ok_or (datagram_in field) Hex
+
+-- ---- Lines
+
+abbrev pub arrival : (ℕ → List ℕ → EventValue) → List (List ℕ) → Result EventValue LineFault
+arrival arrived (moment ∷ datagram ∷ []) = do
+  now ← moment_in moment
+  octets ← octets_in datagram
+  Ok (arrived now octets)
+arrival arrived _ = Err Words
+
+abbrev pub sending : List (List ℕ) → Result EventValue LineFault
+sending (moment ∷ timestamp ∷ octets ∷ []) = do
+  now ← moment_in moment
+  rtp ← short_in timestamp
+  count ← short_in octets
+  Ok (packet_sent now rtp count)
+sending _ = Err Words
+
+abbrev pub tick : List (List ℕ) → Result EventValue LineFault
+tick (moment ∷ first ∷ second ∷ []) = do
+  now ← moment_in moment
+  first_word ← word_in first
+  second_word ← word_in second
+  Ok (time_passed now first_word second_word)
+tick _ = Err Words
+
+-- what the first field of a line names
+abbrev pub kind_named : List ℕ → Option LineKind
+kind_named name =
+    if bytes_eq name (codes "rtcp") then Some Rtcp
+    else (if bytes_eq name (codes "rtp") then Some Rtp
+    else (if bytes_eq name (codes "sent") then Some Sent
+    else (if bytes_eq name (codes "tick") then Some Ticked
+    else None)))
+
+-- by the kind of the line, with the fields after the first
+abbrev pub event_with : Option LineKind → List (List ℕ) → Result EventValue LineFault
+event_with None fields = Err Words
+event_with (Some Rtcp) fields = arrival rtcp_arrived fields
+event_with (Some Rtp) fields = arrival rtp_arrived fields
+event_with (Some Sent) fields = sending fields
+event_with (Some Ticked) fields = tick fields
+
+abbrev pub event_of : List (List ℕ) → Result EventValue LineFault
+event_of [] = Err Words
+event_of (name ∷ fields) = event_with (kind_named name) fields
+
+-- The event of a line, or the first fault of the line.
+abbrev pub event_in : (line : List ℕ) → Result EventValue LineFault
+event_in line = event_of (fields_of line)

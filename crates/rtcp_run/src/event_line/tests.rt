@@ -1,0 +1,91 @@
+use super::{EventFault, read_event};
+use crate::fault::LineFault;
+use rtcp_engine::Event;
+use std::test::Fail;
+
+/// Lines, each with its first fault.
+const FAULTS: [(&str, LineFault); 35] = [
+    ("rtcp 18446744073709551616 -", LineFault::Number),
+    ("rtp 000000000000000000007 80", LineFault::Number),
+    ("sent 5 4294967296 0", LineFault::Number),
+    ("tick 5 0000000 00000000", LineFault::Hex),
+    ("tick 5 00000000 000000000", LineFault::Hex),
+    ("tick 5 zz 00000000", LineFault::Hex),
+    ("tick five zz 00000000", LineFault::Number),
+    ("tick five zz", LineFault::Words),
+    ("", LineFault::Words),
+    ("leave 0 00000000", LineFault::Words),
+    ("RTCP 0 -", LineFault::Words),
+    ("rtcp 0", LineFault::Words),
+    ("rtcp 0 - ", LineFault::Words),
+    ("tick  5 00000000 00000000", LineFault::Words),
+    ("rtcp  -", LineFault::Number),
+    ("rtcp 0 ", LineFault::Hex),
+    ("rtcp 0 8", LineFault::Hex),
+    ("rtcp 0 80c", LineFault::Hex),
+    ("rtcp +1 -", LineFault::Number),
+    ("rtcp 0 80c9\r", LineFault::Hex),
+    ("sent 0 1 2\r", LineFault::Number),
+    ("tick 0 00000000 0000000\r", LineFault::Hex),
+    ("rtp 0 -\t", LineFault::Hex),
+    ("rtcp 0 --", LineFault::Hex),
+    ("sent 0 1 2 3", LineFault::Words),
+    ("sent 0 1", LineFault::Words),
+    ("tick 0 00000000", LineFault::Words),
+    ("tick 0 00000000 00000000 0", LineFault::Words),
+    (" rtcp 0 -", LineFault::Words),
+    ("rtp -1 -", LineFault::Number),
+    ("sent 0 1 -", LineFault::Number),
+    ("sent 0 0x1 2", LineFault::Number),
+    ("tick 0 00000000 0000000g", LineFault::Hex),
+    ("sent 0 99999999999999999999 1", LineFault::Number),
+    ("rtcp 0 zz", LineFault::Hex),
+];
+
+#[test]
+fn faults(rt: HostRuntime) -> Result<(), Fail> {
+    let mut datagram = Vec::new(rt.alloc());
+    for (line, want) in FAULTS {
+        let fault = read_event(line.as_bytes(), &mut datagram).err();
+        assert_eq!(rt; fault, Some(EventFault::Line(want)), "{line}");
+    }
+    Ok(())
+}
+
+#[test]
+fn datagrams(rt: HostRuntime) -> Result<(), Fail> {
+    let mut datagram = Vec::new(rt.alloc());
+    match read_event(b"rtcp 18446744073709551615 80C9f0", &mut datagram)? {
+        Event::ArriveRtcp { now, bytes } => {
+            assert_eq!(rt; now, u64::MAX);
+            assert_eq!(rt; bytes, [0x80, 0xc9, 0xf0].as_slice());
+        }
+        _ => Err::<(), &str>("no RTCP datagram")?,
+    }
+    match read_event(b"rtp 00000000000000000007 -", &mut datagram)? {
+        Event::ArriveRtp { now, bytes } => {
+            assert_eq!(rt; now, 7);
+            assert_eq!(rt; bytes, [].as_slice());
+        }
+        _ => Err::<(), &str>("no RTP datagram")?,
+    }
+    Ok(())
+}
+
+#[test]
+fn numbers(rt: HostRuntime) -> Result<(), Fail> {
+    let mut datagram = Vec::new(rt.alloc());
+    match read_event(b"sent 5 4294967295 160", &mut datagram)? {
+        Event::SentRtp {
+            now,
+            rtp_ts,
+            octets,
+        } => assert_eq!(rt; (now, rtp_ts, octets), (5, u32::MAX, 160)),
+        _ => Err::<(), &str>("no packet sent")?,
+    }
+    match read_event(b"tick 1026037 0000000a fFfFfFfF", &mut datagram)? {
+        Event::Tick { now, w1, w2 } => assert_eq!(rt; (now, w1, w2), (1_026_037, 10, u32::MAX)),
+        _ => Err::<(), &str>("no tick")?,
+    }
+    Ok(())
+}
