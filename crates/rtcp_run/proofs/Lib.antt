@@ -1,10 +1,11 @@
 mod CheckLemmas
+mod ClauseLemmas
 mod CountedLemmas
 mod DigitTable
 mod Joined
 pub mod LawLemmas
 mod LinesLemmas
-mod OneText
-mod PrefixLemmas
 mod ProgressLemmas
+mod RunLemmas
 mod StatusLemmas
+mod TextLemmas

@@ -1,4 +1,5 @@
 pub mod Text
+pub mod Lines
 pub mod Check
 pub mod Counted
 pub mod Progress

@@ -100,10 +100,10 @@ fn answers_stand_flushed(rt: HostRuntime) {
     assert_eq!(rt; checked(&rt, &[b"\n", b"\n\nq\n"], 100), (refused, 42, 14));
 }
 
-/// A flush that fails between two blocks is the fault `Write`, and ends the run.
+/// A flush that fails, before the first block or between two, is the fault `Write` and ends the run.
 #[test]
 fn failed_flushes(rt: HostRuntime) {
-    let rows = [(0, 35, 0), (1, 35, 35), (2, 56, 35), (3, 56, 56)];
+    let rows = [(0, 0, 0), (1, 35, 0), (2, 35, 35), (3, 56, 35), (4, 56, 56)];
     for (flushes, written, flushed) in rows {
         let found = checked(&rt, &BLOCKS, flushes);
         assert_eq!(rt;
