@@ -19,11 +19,13 @@ FAULTY_OPTIONS = [
     ["--ssrc", "00000000"], ["--cname", "a"], ["--help"],
 ]
 FAULTY_LINES = [
-    b"", b" ", b"tick", b"tick 1 00000000", b"tick 1 00000000 00000000 ", b"tick  1 00000000", b" tick 1 00000000 00000000",
-    b"tick 1 0000000 00000000", b"tick 1 00000000 0000000g", b"tick x zz zz", b"tick 1 00000000 00000000\r", b"TICK 1 0 0",
-    b"tick 18446744073709551616 00000000 00000000", b"tick 000000000000000000001 00000000 00000000", b"tick +1 00000000 0",
+    b"", b" ", b"tick", b"tick 1 00000000", b"tick 1 00000000 00000000 ", b"tick  1 00000000",
+    b" tick 1 00000000 00000000", b"tick 1 0000000 00000000", b"tick 1 00000000 0000000g", b"tick x zz zz",
+    b"tick 1 00000000 00000000\r", b"TICK 1 0 0", b"tick 18446744073709551616 00000000 00000000",
+    b"tick 000000000000000000001 00000000 00000000", b"tick +1 00000000 0", b"tick 1 00000000 0x000000",
     b"rtcp 1 ", b"rtcp 1 0", b"rtcp 1 80c9000100000007 ", b"rtcp 1 --", b"rtcp 1", b"rtcp  -", b"rtp -1 -", b"rtp 1 8g",
-    b"sent 1 4294967296 0", b"sent 1 0 4294967296", b"sent 1 0", b"sent 1 0x0 0", b"sent 1 0 \xb2", b"check 1 -", b"\x00",
+    b"sent 1 4294967296 0", b"sent 1 0 4294967296", b"sent 1 0", b"sent 1 0x0 0", b"sent 1 0 \xb2", b"check 1 -",
+    b"\x00", b"tick 1 0000000\xc3\xa9 00000000", b"sent 1 1_0 0",
 ]
 
 
@@ -44,7 +46,8 @@ def random_options(rng, own):
     options = [["--ssrc", ssrc], ["--cname", "c" * rng.choice([1, 2, 3, 4, 5, 20, 254, 255])]]
     options.append(["--capacity", str(rng.choice([1, 2, 3, 4, 5, 8, 100, 1024]))])
     options.append(["--limit", str(rng.choice([576, 580, 600, 1000, 1468, 1472]))])
-    options.append(["--session-bps", str(rng.choice([2560, 2719, 2720, 5000, 16000, 64000, 10**6, 10**9, 160 * 2**30]))])
+    bandwidths = [2560, 2719, 2720, 5000, 16000, 64000, 10**6, 10**9, 160 * 2**30]
+    options.append(["--session-bps", str(rng.choice(bandwidths))])
     options.append(["--rate", str(rng.choice([1, 7, 8000, 48000, 90000, 2**20]))])
     options.append(["--ntp", number(rng, 8).hex()])
     options.append(["--word", f"{random_word(rng):08x}"])
@@ -60,6 +63,11 @@ def random_options(rng, own):
         kept[rng.randrange(2)] = rng.choice([["--cname", ""], ["--cname", "c" * 256], ["--ssrc", "0"], []])
     rng.shuffle(kept)
     return [word for option in kept for word in option]
+
+
+def full_packet_limit(rng):
+    """A limit near the size of a report of 31 blocks with the CNAME `c`."""
+    return choose(rng, (1, 28), (1, 8)) + 24 * 31 + 12 + rng.randrange(-4, 40, 4)
 
 
 def random_word(rng):
@@ -142,7 +150,10 @@ class History:
         self.rng = rng
         self.own, *others = rng.sample(POOL, len(POOL))
         self.others = others[:rng.randrange(1, len(others) + 1)]
+        self.has_crowd = rng.randrange(20) == 0
         self.options = random_options(rng, self.own)
+        if self.has_crowd and rng.randrange(2):
+            self.options = ["--ssrc", f"{self.own:08x}", "--cname", "c", "--limit", str(full_packet_limit(rng))]
         self.sequences = {}
         self.moment, self.moments, self.lines = 0, [0], []
         try:
@@ -170,24 +181,28 @@ class History:
         rng = self.rng
         following = self.model.next if self.model else SECOND
         near = choose(rng, (3, 0), (1, 1), (1, -1), (2, rng.randrange(200_000)), (2, -rng.randrange(200_000)))
-        edge = rng.choice(self.moments) + rng.choice(WAITS) + rng.choice([-1, 0, 1])
-        moment = choose(rng, (8, following + near), (2, self.advance()), (2, edge),
+        edge = rng.choice(self.moments[-rng.randrange(1, 20):]) + rng.choice(WAITS) + rng.choice([-1, 0, 1])
+        moment = choose(rng, (8, following + near), (2, self.advance()), (3, edge),
                         (1, following + rng.randrange(10 * SECOND)), (0.3, following + rng.randrange(100 * SECOND)))
         return max(0, moment if moment >= self.moment or rng.randrange(20) == 0 else self.advance())
 
     def rtp_packet(self):
         rng, ssrc = self.rng, self.rng.choice(self.pool())
-        before = self.sequences.get(ssrc, rng.choice([0, 65533, 65535, rng.randrange(65536)]))
-        sequence = before + choose(rng, (8, 1), (2, rng.choice(SEQUENCE_STEPS)), (0.1, rng.randrange(65536)))
-        self.sequences[ssrc] = sequence
+        earlier = self.sequences.setdefault(ssrc, [rng.choice([0, 65533, 65535, rng.randrange(65536)])])
+        sequence = choose(rng, (8, earlier[-1] + 1), (2, earlier[-1] + rng.choice(SEQUENCE_STEPS)),
+                          (2, earlier[-2:][0] + 1), (1, rng.choice(earlier) + rng.randrange(2)),
+                          (0.1, rng.randrange(65536)))
+        earlier.append(sequence)
         timestamp = choose(rng, (5, self.moment * 8000 // SECOND + rng.randrange(100)), (1, rng.getrandbits(32)))
-        csrcs = [rng.choice(self.others + [self.own]) for _ in range(choose(rng, (5, 0), (2, rng.randrange(4)), (0.1, 15)))]
+        mixed = choose(rng, (5, 0), (2, rng.randrange(4)), (0.1, 15))
+        csrcs = [rng.choice(self.others + [self.own]) for _ in range(mixed)]
         extension = choose(rng, (8, b""), (1, number(rng, 2) + b"\0\1" + number(rng, 4)), (1, number(rng, 2) + b"\0\0"))
         payload = number(rng, rng.randrange(6))
-        first = 0x80 | len(csrcs) | (0x10 if extension else 0) | (0x20 if payload and 1 <= payload[-1] <= len(payload) else 0)
+        is_padded = payload and 1 <= payload[-1] <= len(payload) or rng.randrange(40) == 0
+        first = 0x80 | len(csrcs) | (0x10 if extension else 0) | (0x20 if is_padded else 0)
         kind = choose(rng, (20, rng.choice([0, 8, 96, 0x80, 71, 77])), (1, rng.randrange(256)))
-        return bytes([first, kind]) + (sequence % 65536).to_bytes(2, "big") + participant.words(timestamp, ssrc, *csrcs) \
-            + extension + payload
+        head = bytes([first, kind]) + (sequence % 65536).to_bytes(2, "big")
+        return head + participant.words(timestamp, ssrc, *csrcs) + extension + payload
 
     def line(self):
         rng = self.rng
@@ -221,7 +236,7 @@ class History:
 
     def make(self):
         rng = self.rng
-        if rng.randrange(25) == 0:
+        if self.has_crowd:
             self.add_crowd()
         for _ in range(choose(rng, (3, rng.randrange(20)), (3, rng.randrange(120)), (0.2, 500))):
             self.add(self.line().encode())

@@ -165,7 +165,8 @@ class Source:
             came, timestamp = self.sender_reports[-1]
             last_report, delay = timestamp >> 16, short_delay(moment - came)
         self.reported, self.has_news = received, False
-        return words(ssrc, fraction << 24 | lost % 2**24, self.greatest[-1], jitter_of(self.transits), last_report, delay)
+        losses = fraction << 24 | lost % 2**24
+        return words(ssrc, losses, self.greatest[-1], jitter_of(self.transits), last_report, delay)
 
 
 # The participant
