@@ -1,4 +1,6 @@
 """Sessions made at random: command lines and lines of `rtcp replay`."""
+import random
+
 import participant
 
 SECOND, FURTHEST = 10**6, 2**50
@@ -244,3 +246,50 @@ class History:
             self.lines.insert(rng.randrange(len(self.lines) + 1), rng.choice(FAULTY_LINES))
         octets = b"".join(line + b"\n" for line in self.lines)
         return self.options, octets[:-1] if rng.randrange(10) == 0 else octets
+
+
+def media(moment, ssrc, sequence):
+    return f"rtp {moment} {(bytes([0x80, 0, 0, sequence]) + participant.words(0, ssrc)).hex()}"
+
+
+def many_join(rng, sources):
+    """A quarter of them by RTP, the others by their name; a tick now and then."""
+    for number, ssrc in enumerate(sources):
+        moment = 10_000 * number
+        if number % 4 == 0:
+            yield from (media(moment, ssrc, sequence) for sequence in (1, 2))
+        else:
+            name = participant.source_description(ssrc, [(1, b"name")])
+            yield f"rtcp {moment} {(packet(0, 201, participant.words(ssrc)) + name).hex()}"
+        if number % 20 == 0:
+            yield f"tick {moment} {random_word(rng):08x} {random_word(rng):08x}"
+
+
+def many_leave(rng, sources, start):
+    """Most say goodbye, 1 to 31 at once; the others fall silent."""
+    moment = start
+    while len(sources) > 100:
+        gone, sources = sources[:rng.randrange(1, 32)], sources[31:]
+        goodbyes = packet(len(gone), 203, participant.words(*gone))
+        yield f"rtcp {moment} {(packet(0, 201, participant.words(gone[0])) + goodbyes).hex()}"
+        yield f"tick {moment} {random_word(rng):08x} {random_word(rng):08x}"
+        moment += rng.randrange(SECOND)
+    for _ in range(300):
+        moment += rng.randrange(SECOND)
+        yield f"tick {moment} {random_word(rng):08x} {random_word(rng):08x}"
+
+
+def large_session(seed):
+    """More sources than a participant has room for, who come, stay and go."""
+    rng = random.Random(seed)
+    sources = rng.sample(range(1000, 2**32), 1100)
+    lines, moment = list(many_join(rng, sources)), 11 * SECOND
+    for number in range(1000):
+        moment += rng.randrange(SECOND // 10)
+        if number % 2:
+            lines.append(media(moment, sources[4 * rng.randrange(20)], rng.randrange(3, 100)))
+        else:
+            lines.append(f"tick {moment} {random_word(rng):08x} {random_word(rng):08x}")
+    rng.shuffle(sources)
+    lines += many_leave(rng, sources, moment)
+    return "".join(line + "\n" for line in lines).encode()

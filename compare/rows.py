@@ -58,6 +58,11 @@ SESSIONS = [
         ("rtp 0 80480001000000000000000a", "refused E6 Rtp: G3 PayloadType"),
         ("tick 5 zz 00000000", None),
     ], "line 4: X4 Hex", 2),
+    (PLAIN, [  # the example of docs/FORMATS.md
+        ("rtcp 0 80c900010000000781ca00020000000701016100", ok(2, 0, 1026037)),
+        (tick(1026037), ok(2, 0, 3078111, REPORT)),
+        ("rtcp 1026037 -", "refused E5 Wire: F1 Short at 0"),
+    ], "", 0),
     (PLAIN, [
         (tick(2**50), ok(1, 0, 1125899908894698, REPORT)),
         (tick(2**50 + 1), "refused E3 TooFar"),
