@@ -48,12 +48,13 @@ def application_text(body, count):
     return f"APP({count},{body[:4].hex()},{body[4:8].hex()},{len(body) - 8})"
 
 
-def description_text(body, count):
+def description_chunks(body, count):
+    """Each chunk's identifier and items, an item as its type and text."""
     at, chunks = 0, []
     for _ in range(count):
         if len(body) - at < 4:
             raise Fault("F7 Body")
-        identifier, at, items = body[at:at + 4].hex(), at + 4, []
+        identifier, at, items = body[at:at + 4], at + 4, []
         while True:
             if at >= len(body):
                 raise Fault("F8 Item")
@@ -61,17 +62,25 @@ def description_text(body, count):
                 break
             if at + 1 >= len(body) or at + 2 + body[at + 1] > len(body):
                 raise Fault("F8 Item")
-            items.append(f"{body[at]}={body[at + 2:at + 2 + body[at + 1]].hex()}")
+            items.append((body[at], body[at + 2:at + 2 + body[at + 1]]))
             at += 2 + body[at + 1]
         at = (at + 4) // 4 * 4
-        chunks.append(f"{identifier}{{{','.join(items)}}}")
+        chunks.append((identifier, items))
     if at < len(body):
         raise Fault("F7 Body")
+    return chunks
+
+
+def description_text(body, count):
+    chunks = []
+    for identifier, items in description_chunks(body, count):
+        texts = ",".join(f"{kind}={text.hex()}" for kind, text in items)
+        chunks.append(f"{identifier.hex()}{{{texts}}}")
     return f"SDES([{';'.join(chunks)}])"
 
 
-def packet_text(octets, is_first):
-    """The text of the first packet, and its size."""
+def packet_parts(octets, is_first):
+    """Type, count, body and size of the first packet."""
     if len(octets) < 4:
         raise Fault("F1 Short")
     version, padded, count, kind = octets[0] >> 6, octets[0] & 0x20, octets[0] & 0x1f, octets[1]
@@ -87,7 +96,12 @@ def packet_text(octets, is_first):
     padding = octets[size - 1] if padded else 0
     if padded and (padding == 0 or padding % 4 or padding > size - 4):
         raise Fault("F6 Padding")
-    body = octets[4:size - padding]
+    return kind, count, octets[4:size - padding], size
+
+
+def packet_text(octets, is_first):
+    """The text of the first packet, and its size."""
+    kind, count, body, size = packet_parts(octets, is_first)
     texts = {200: sender_report_text, 201: report_text, 202: description_text, 203: goodbye_text, 204: application_text}
     if kind in texts:
         return texts[kind](body, count), size
@@ -107,3 +121,31 @@ def answer(octets):
     except Fault as fault:
         return f"{fault} at {place}"
     return " ".join(["ok", *texts])
+
+
+def packet_facts(kind, count, body):
+    """The facts of one packet: what is said, the SSRC, and the NTP timestamp that is told."""
+    number = lambda start, size: int.from_bytes(body[start:start + size], "big")
+    if kind == 200:
+        return [("heard", number(0, 4), None), ("told", number(0, 4), number(4, 8))]
+    if kind in (201, 204):
+        return [("heard", number(0, 4), None)]
+    if kind == 203:
+        return [("gone", number(4 * i, 4), None) for i in range(count)]
+    facts = []
+    for identifier, items in description_chunks(body, count) if kind == 202 else []:
+        source = int.from_bytes(identifier, "big")
+        facts.append(("heard", source, None))
+        if any(item == 1 for item, _ in items):
+            facts.append(("named", source, None))
+    return facts
+
+
+def facts(octets):
+    """The facts of a datagram that is accepted, in order."""
+    place, found = 0, []
+    while place < len(octets):
+        kind, count, body, size = packet_parts(octets[place:], place == 0)
+        found += packet_facts(kind, count, body)
+        place += size
+    return found

@@ -1,0 +1,295 @@
+"""Sessions made at random: command lines and lines of `rtcp replay`."""
+import random
+
+import participant
+
+SECOND, FURTHEST = 10**6, 2**50
+POOL = [0, 1, 2, 0xaa, 0xab, 0x7fffffff, 0x80000000, 0xffffffff]
+WORDS = [0, 0xffffffff, 0x80000000]
+SEQUENCE_STEPS = [-65536, -101, -100, -99, -98, -2, -1, 0, 2, 3, 50, 2998, 2999, 3000, 3001, 32768]
+TEXT_SIZES = [0, 1, 2, 3, 4, 20, 254, 255]
+# A report's minimum intervals, the horizons that follow from these, and the stay of a goodbye.
+WAITS = [2_500_000, 5_000_000, 10_000_000, 12_500_000, 25_000_000]
+FAULTY_OPTIONS = [
+    ["--capacity", "0"], ["--capacity", "1025"], ["--capacity", "4294967296"], ["--capacity", ""], ["--limit", "572"],
+    ["--limit", "1474"], ["--limit", "1476"], ["--limit", "577"], ["--limit", "+600"], ["--session-bps", "2559"],
+    ["--session-bps", "0"], ["--session-bps", "171798692000"], ["--session-bps", "18446744073709551615"],
+    ["--session-bps", "18446744073709551616"], ["--session-bps", "687194767360"], ["--rate", "0"],
+    ["--rate", "1048577"], ["--rate", "-1"], ["--rate", "000000000000000000001"], ["--ntp", "0"],
+    ["--ntp", "000000000000000g"], ["--priv", "0"], ["--priv", "zz"], ["--priv", "00" * 256], ["--tool", "t" * 256],
+    ["--note", "\u00e9" * 128], ["--word", "0000000"], ["--word", "0x000000"], ["--what", "1"], ["--tool"], ["word"],
+    ["--ssrc", "00000000"], ["--cname", "a"], ["--help"],
+]
+FAULTY_LINES = [
+    b"", b" ", b"tick", b"tick 1 00000000", b"tick 1 00000000 00000000 ", b"tick  1 00000000",
+    b" tick 1 00000000 00000000", b"tick 1 0000000 00000000", b"tick 1 00000000 0000000g", b"tick x zz zz",
+    b"tick 1 00000000 00000000\r", b"TICK 1 0 0", b"tick 18446744073709551616 00000000 00000000",
+    b"tick 000000000000000000001 00000000 00000000", b"tick +1 00000000 0", b"tick 1 00000000 0x000000",
+    b"rtcp 1 ", b"rtcp 1 0", b"rtcp 1 80c9000100000007 ", b"rtcp 1 --", b"rtcp 1", b"rtcp  -", b"rtp -1 -", b"rtp 1 8g",
+    b"sent 1 4294967296 0", b"sent 1 0 4294967296", b"sent 1 0", b"sent 1 0x0 0", b"sent 1 0 \xb2", b"check 1 -",
+    b"\x00", b"tick 1 0000000\xc3\xa9 00000000", b"sent 1 1_0 0",
+]
+
+
+def choose(rng, *chances):
+    """One of some values, by their weights."""
+    return rng.choices([value for _, value in chances], [weight for weight, _ in chances])[0]
+
+
+def number(rng, size):
+    return rng.getrandbits(8 * size).to_bytes(size, "big")
+
+
+# Options
+
+
+def random_options(rng, own):
+    ssrc = f"{own:08x}" if rng.randrange(2) else f"{own:08X}"
+    options = [["--ssrc", ssrc], ["--cname", "c" * rng.choice([1, 2, 3, 4, 5, 20, 254, 255])]]
+    options.append(["--capacity", str(rng.choice([1, 2, 3, 4, 5, 8, 100, 1024]))])
+    options.append(["--limit", str(rng.choice([576, 580, 600, 1000, 1468, 1472]))])
+    bandwidths = [2560, 2719, 2720, 5000, 16000, 64000, 10**6, 10**9, 160 * 2**30]
+    options.append(["--session-bps", str(rng.choice(bandwidths))])
+    options.append(["--rate", str(rng.choice([1, 7, 8000, 48000, 90000, 2**20]))])
+    options.append(["--ntp", number(rng, 8).hex()])
+    options.append(["--word", f"{random_word(rng):08x}"])
+    for item in ("name", "email", "phone", "loc", "tool", "note"):
+        if rng.randrange(5) == 0:
+            options.append(["--" + item, "\u00e9" * 127 if rng.randrange(9) == 0 else "i" * rng.choice(TEXT_SIZES)])
+    if rng.randrange(5) == 0:
+        options.append(["--priv", number(rng, rng.choice(TEXT_SIZES)).hex()])
+    kept = options[:2] + [option for option in options[2:] if rng.randrange(5)]
+    if rng.randrange(30) == 0:
+        kept.append(rng.choice(FAULTY_OPTIONS))
+    if rng.randrange(300) == 0:
+        kept[rng.randrange(2)] = rng.choice([["--cname", ""], ["--cname", "c" * 256], ["--ssrc", "0"], []])
+    rng.shuffle(kept)
+    return [word for option in kept for word in option]
+
+
+def full_packet_limit(rng):
+    """A limit near the size of a report of 31 blocks with the CNAME `c`."""
+    return choose(rng, (1, 28), (1, 8)) + 24 * 31 + 12 + rng.randrange(-4, 40, 4)
+
+
+def random_word(rng):
+    return choose(rng, (1, rng.choice(WORDS)), (2, rng.getrandbits(32)))
+
+
+# Datagrams
+
+
+def report_block(rng, pool):
+    return participant.words(rng.choice(pool)) + number(rng, 20)
+
+
+def sources_report(rng, pool, kind):
+    blocks = choose(rng, (3, 0), (3, rng.randrange(4)), (0.1, 31))
+    body = participant.words(rng.choice(pool)) + (number(rng, 20) if kind == 200 else b"")
+    body += b"".join(report_block(rng, pool) for _ in range(blocks))
+    return blocks, body + number(rng, 4 * choose(rng, (5, 0), (1, rng.randrange(4))))
+
+
+def chunk(rng, pool):
+    octets = participant.words(rng.choice(pool))
+    for kind in rng.choices([1, 1, 2, 6, 8, 99], k=rng.randrange(4)):
+        text = number(rng, rng.choice([0, 1, 2, 3, 8]))
+        octets += bytes([kind, len(text)]) + text
+    return octets + bytes(4 - len(octets) % 4)
+
+
+def goodbye(rng, pool):
+    identifiers = [rng.choice(pool) for _ in range(choose(rng, (4, 1), (1, 0), (1, 2), (0.3, 5)))]
+    reason = b""
+    if rng.randrange(3) == 0:
+        reason = number(rng, rng.randrange(6))
+        reason = bytes([len(reason)]) + reason
+    return len(identifiers), participant.words(*identifiers) + reason + bytes(-len(reason) % 4)
+
+
+def further_packet(rng, pool):
+    kind = choose(rng, (2, 200), (2, 201), (8, 202), (2.5, 203), (2, 204), (1, 207))
+    if kind in (200, 201):
+        count, body = sources_report(rng, pool, kind)
+    elif kind == 202:
+        count = choose(rng, (6, 1), (1, 0), (2, 2), (0.5, 6))
+        body = b"".join(chunk(rng, pool) for _ in range(count))
+    elif kind == 203:
+        count, body = goodbye(rng, pool)
+    elif kind == 204:
+        count = rng.randrange(32)
+        body = participant.words(rng.choice(pool)) + b"name" + number(rng, 4 * rng.choice([0, 0, 1, 300]))
+    else:
+        count, body = rng.randrange(32), number(rng, 4 * rng.randrange(5))
+    padding = bytes(choose(rng, (20, 0), (1, 4), (1, 8)))
+    if padding:
+        padding = padding[:-1] + bytes([len(padding)])
+    return packet(count | (0x20 if padding else 0), kind, body + padding)
+
+
+def packet(count, kind, body):
+    return bytes([0x80 | count, kind]) + (len(body) // 4).to_bytes(2, "big") + body
+
+
+def compound(rng, pool):
+    kind = rng.choice([200, 201])
+    count, body = sources_report(rng, pool, kind)
+    packets = [further_packet(rng, pool) for _ in range(choose(rng, (1, 0), (4, 1), (2, 2), (1, 4)))]
+    return packet(count, kind, body) + b"".join(packets)
+
+
+def damaged(rng, octets):
+    octets = bytearray(octets)
+    for _ in range(rng.randrange(3)):
+        octets[rng.randrange(min(len(octets), 24))] = rng.choice([0, 1, 255, rng.randrange(256)])
+    return bytes(octets[:choose(rng, (1, len(octets)), (2, rng.randrange(len(octets) + 1)))])
+
+
+class History:
+    """Makes the lines of a session, following it by the model, so that ticks can fall near the next moment."""
+
+    def __init__(self, rng):
+        self.rng = rng
+        self.own, *others = rng.sample(POOL, len(POOL))
+        self.others = others[:rng.randrange(1, len(others) + 1)]
+        self.has_crowd = rng.randrange(20) == 0
+        self.options = random_options(rng, self.own)
+        if self.has_crowd and rng.randrange(2):
+            self.options = ["--ssrc", f"{self.own:08x}", "--cname", "c", "--limit", str(full_packet_limit(rng))]
+        self.sequences = {}
+        self.moment, self.moments, self.lines = 0, [0], []
+        try:
+            self.model = participant.Participant(participant.configuration(self.options))
+        except (participant.Fault, participant.Usage):
+            self.model = None
+
+    def pool(self):
+        """The sources that the next datagram may name; at times the own one too."""
+        return self.others + ([self.own] if self.rng.randrange(12) == 0 else [])
+
+    def advance(self):
+        rng = self.rng
+        step = choose(rng, (4, 0), (2, rng.randrange(1000)), (6, rng.randrange(50_000)), (6, rng.randrange(SECOND)),
+                      (2, rng.randrange(6 * SECOND)), (0.3, rng.randrange(60 * SECOND)), (0.003, rng.getrandbits(49)))
+        moment = self.moment + step
+        if rng.randrange(60) == 0:
+            moment = rng.choice([self.moment - 1, self.moment - rng.randrange(SECOND), 0, FURTHEST + 1,
+                                 FURTHEST + rng.getrandbits(30), 2**64 - 1])
+        if rng.randrange(2000) == 0:
+            moment = FURTHEST - rng.choice([0, 1, rng.randrange(20 * SECOND)])
+        return max(0, moment)
+
+    def tick_moment(self):
+        rng = self.rng
+        following = self.model.next if self.model else SECOND
+        near = choose(rng, (3, 0), (1, 1), (1, -1), (2, rng.randrange(200_000)), (2, -rng.randrange(200_000)))
+        edge = rng.choice(self.moments[-rng.randrange(1, 20):]) + rng.choice(WAITS) + rng.choice([-1, 0, 1])
+        moment = choose(rng, (8, following + near), (2, self.advance()), (3, edge),
+                        (1, following + rng.randrange(10 * SECOND)), (0.3, following + rng.randrange(100 * SECOND)))
+        return max(0, moment if moment >= self.moment or rng.randrange(20) == 0 else self.advance())
+
+    def rtp_packet(self):
+        rng, ssrc = self.rng, self.rng.choice(self.pool())
+        earlier = self.sequences.setdefault(ssrc, [rng.choice([0, 65533, 65535, rng.randrange(65536)])])
+        sequence = choose(rng, (8, earlier[-1] + 1), (2, earlier[-1] + rng.choice(SEQUENCE_STEPS)),
+                          (2, earlier[-2:][0] + 1), (1, rng.choice(earlier) + rng.randrange(2)),
+                          (0.1, rng.randrange(65536)))
+        earlier.append(sequence)
+        timestamp = choose(rng, (5, self.moment * 8000 // SECOND + rng.randrange(100)), (1, rng.getrandbits(32)))
+        mixed = choose(rng, (5, 0), (2, rng.randrange(4)), (0.1, 15))
+        csrcs = [rng.choice(self.others + [self.own]) for _ in range(mixed)]
+        extension = choose(rng, (8, b""), (1, number(rng, 2) + b"\0\1" + number(rng, 4)), (1, number(rng, 2) + b"\0\0"))
+        payload = number(rng, rng.randrange(6))
+        is_padded = payload and 1 <= payload[-1] <= len(payload) or rng.randrange(40) == 0
+        first = 0x80 | len(csrcs) | (0x10 if extension else 0) | (0x20 if is_padded else 0)
+        kind = choose(rng, (20, rng.choice([0, 8, 96, 0x80, 71, 77])), (1, rng.randrange(256)))
+        head = bytes([first, kind]) + (sequence % 65536).to_bytes(2, "big")
+        return head + participant.words(timestamp, ssrc, *csrcs) + extension + payload
+
+    def line(self):
+        rng = self.rng
+        kind = choose(rng, (8, "rtp"), (5, "rtcp"), (2, "sent"), (8, "tick"))
+        if kind == "tick":
+            return f"tick {self.tick_moment()} {random_word(rng):08x} {random_word(rng):08x}"
+        moment = self.advance()
+        if kind == "sent":
+            octets = choose(rng, (5, 160), (1, rng.getrandbits(32)))
+            return f"sent {moment} {rng.getrandbits(32)} {octets}"
+        octets = self.rtp_packet() if kind == "rtp" else compound(rng, self.pool())
+        if rng.randrange(20) == 0:
+            octets = damaged(rng, octets)
+        text = octets.hex() if rng.randrange(20) else octets.hex().upper()
+        return f"{kind} {moment} {text or '-'}"
+
+    def add(self, line):
+        self.lines.append(line)
+        if self.model:
+            participant.answer(self.model, line)
+            self.moment = self.model.last_call
+            self.moments.append(self.moment)
+
+    def add_crowd(self):
+        """So many senders that a report is full, or needs a second packet."""
+        for ssrc in self.rng.sample(range(1000, 2000), self.rng.randrange(20, 80)):
+            self.others.append(ssrc)
+            for sequence in (5, 6):
+                octets = bytes([0x80, 0, 0, sequence]) + participant.words(0, ssrc)
+                self.add(f"rtp {self.moment} {octets.hex()}".encode())
+
+    def make(self):
+        rng = self.rng
+        if self.has_crowd:
+            self.add_crowd()
+        for _ in range(choose(rng, (3, rng.randrange(20)), (3, rng.randrange(120)), (0.2, 500))):
+            self.add(self.line().encode())
+        if rng.randrange(15) == 0:
+            self.lines.insert(rng.randrange(len(self.lines) + 1), rng.choice(FAULTY_LINES))
+        octets = b"".join(line + b"\n" for line in self.lines)
+        return self.options, octets[:-1] if rng.randrange(10) == 0 else octets
+
+
+def media(moment, ssrc, sequence):
+    return f"rtp {moment} {(bytes([0x80, 0, 0, sequence]) + participant.words(0, ssrc)).hex()}"
+
+
+def many_join(rng, sources):
+    """A quarter of them by RTP, the others by their name; a tick now and then."""
+    for number, ssrc in enumerate(sources):
+        moment = 10_000 * number
+        if number % 4 == 0:
+            yield from (media(moment, ssrc, sequence) for sequence in (1, 2))
+        else:
+            name = participant.source_description(ssrc, [(1, b"name")])
+            yield f"rtcp {moment} {(packet(0, 201, participant.words(ssrc)) + name).hex()}"
+        if number % 20 == 0:
+            yield f"tick {moment} {random_word(rng):08x} {random_word(rng):08x}"
+
+
+def many_leave(rng, sources, start):
+    """Most say goodbye, 1 to 31 at once; the others fall silent."""
+    moment = start
+    while len(sources) > 100:
+        gone, sources = sources[:rng.randrange(1, 32)], sources[31:]
+        goodbyes = packet(len(gone), 203, participant.words(*gone))
+        yield f"rtcp {moment} {(packet(0, 201, participant.words(gone[0])) + goodbyes).hex()}"
+        yield f"tick {moment} {random_word(rng):08x} {random_word(rng):08x}"
+        moment += rng.randrange(SECOND)
+    for _ in range(300):
+        moment += rng.randrange(SECOND)
+        yield f"tick {moment} {random_word(rng):08x} {random_word(rng):08x}"
+
+
+def large_session(seed):
+    """More sources than a participant has room for, who come, stay and go."""
+    rng = random.Random(seed)
+    sources = rng.sample(range(1000, 2**32), 1100)
+    lines, moment = list(many_join(rng, sources)), 11 * SECOND
+    for number in range(1000):
+        moment += rng.randrange(SECOND // 10)
+        if number % 2:
+            lines.append(media(moment, sources[4 * rng.randrange(20)], rng.randrange(3, 100)))
+        else:
+            lines.append(f"tick {moment} {random_word(rng):08x} {random_word(rng):08x}")
+    rng.shuffle(sources)
+    lines += many_leave(rng, sources, moment)
+    return "".join(line + "\n" for line in lines).encode()

@@ -1,0 +1,507 @@
+#!/usr/bin/env python3
+"""A plain model of `rtcp replay`, written from docs/PROTOCOL.md and docs/FORMATS.md alone.
+
+It keeps all that happened in lists and works out what it needs from these. Failed reads and writes, want of memory and
+the text of a command line that is not understood are not modelled.
+
+usage: compare/participant.py [replay] OPTION VALUE ... < LINES
+       compare/participant.py --self-test"""
+import re
+import sys
+
+import decoder
+
+SECOND = 10**6
+FURTHEST = 2**50
+MOST_CALLS = 2**40 - 1
+MOST_LINES, LONGEST_LINE = 65_536, 131_200
+SHORT_MINIMUM, MINIMUM = 2_500_000, 5_000_000
+HEADERS = 28  # of UDP and IPv4
+BLOCKS_IN_A_PACKET = 31
+
+
+class Refusal(Exception):
+    """A call that is refused."""
+
+
+class Fault(Exception):
+    """What ends the run: its line on standard error."""
+
+
+class Usage(Exception):
+    """A command line that is not understood."""
+
+
+def rounded_up(dividend, divisor):
+    return -(-dividend // divisor)
+
+
+def words(*numbers):
+    return b"".join((number % 2**32).to_bytes(4, "big") for number in numbers)
+
+
+# Moments and intervals
+
+
+def ntp_timestamp(base, moment):
+    return (base + moment * 2**32 // SECOND) % 2**64
+
+
+def media_units(moment, rate):
+    return moment * rate // SECOND % 2**32
+
+
+def short_delay(time):
+    return min(time * 65536 // SECOND, 2**32 - 1)
+
+
+def deterministic_interval(members, senders, is_sender, average, bandwidth, minimum):
+    if 4 * senders > members:
+        sharers, quarters = members, 4
+    elif is_sender:
+        sharers, quarters = senders, 1
+    else:
+        sharers, quarters = members - senders, 3
+    return max(minimum, rounded_up(4 * SECOND * sharers * average, quarters * 256 * bandwidth))
+
+
+def drawn_interval(deterministic, word):
+    return rounded_up(deterministic * (2**31 + word) * 100_000, 2**32 * 121_828)
+
+
+# One source
+
+
+def read_head(octets):
+    """Sequence number, timestamp, SSRC and CSRCs of an RTP packet."""
+    csrcs_end = 12 + 4 * (octets[0] & 0x0f) if octets else 12
+    if len(octets) < csrcs_end:
+        raise decoder.Fault("G1 Short")
+    if octets[0] >> 6 != 2:
+        raise decoder.Fault("G2 Version")
+    if 72 <= octets[1] & 0x7f <= 76:
+        raise decoder.Fault("G3 PayloadType")
+    payload = octets[csrcs_end:]
+    if octets[0] & 0x10:
+        if len(payload) < 4 or len(payload) < 4 + 4 * int.from_bytes(payload[2:4], "big"):
+            raise decoder.Fault("G4 Extension")
+        payload = payload[4 + 4 * int.from_bytes(payload[2:4], "big"):]
+    if octets[0] & 0x20 and (not payload or not 1 <= payload[-1] <= len(payload)):
+        raise decoder.Fault("G5 Padding")
+    number = lambda start, size: int.from_bytes(octets[start:start + size], "big")
+    return number(2, 2), number(4, 4), number(8, 4), [number(at, 4) for at in range(12, csrcs_end, 4)]
+
+
+def jitter_of(transits):
+    jitter = 0
+    for before, transit in zip(transits, transits[1:]):
+        ahead = (transit - before) % 2**32
+        distance = min(ahead, 2**32 - ahead)
+        jitter = jitter + distance - (jitter + 8) // 16
+    return jitter // 16
+
+
+class Source:
+    """All that came of a source since it was admitted."""
+
+    def __init__(self):
+        self.sightings = []  # moments
+        self.sender_reports = []  # moments with NTP timestamps
+        self.is_named = False
+        self.is_sender = False
+        self.left = None  # the moment of its goodbye, which marks it
+        self.counted = []  # moments of all counted packets
+        self.integers = []  # of the counted packets of the last run
+        self.greatest = []  # the run's greatest integer after each of them
+        self.transits = []  # theirs
+        self.strays = []  # sequence numbers since the run began
+        self.has_news = False
+        self.reported = 0  # how many packets of the run came before the last block
+
+    def is_member(self):
+        return (self.is_named or self.counted != []) and self.left is None
+
+    def counts_as_sender(self):
+        return self.is_member() and self.is_sender
+
+    def integer_near(self, sequence):
+        """The integer that a sequence number stands for in the run, if one is near its greatest one."""
+        if not self.integers:
+            return None
+        ahead = (sequence - self.greatest[-1]) % 65536
+        if ahead < 3000:
+            return self.greatest[-1] + ahead
+        if ahead - 65536 > -100:
+            return self.greatest[-1] + ahead - 65536
+        return None
+
+    def take(self, sequence, transit, moment):
+        """Takes an RTP packet. Says whether it is counted."""
+        integer = self.integer_near(sequence)
+        if integer is None:
+            if not self.strays or sequence != (self.strays[-1] + 1) % 65536:
+                self.strays.append(sequence)
+                return False
+            integer = sequence
+            self.integers, self.greatest, self.transits, self.strays, self.reported = [], [], [], [], 0
+        self.integers.append(integer)
+        self.greatest.append(max(self.greatest[-1:] + [integer]))
+        self.transits.append(transit)
+        self.counted.append(moment)
+        self.has_news = self.is_sender = True
+        return True
+
+    def block(self, ssrc, moment):
+        """The report block of a source with news, which ends its news."""
+        expected = self.greatest[-1] - self.integers[0] + 1
+        received = len(self.integers)
+        expected_before = self.greatest[self.reported - 1] - self.integers[0] + 1 if self.reported else 0
+        expected_since = expected - expected_before
+        lost_since = expected_since - (received - self.reported)
+        fraction = 256 * lost_since // expected_since if expected_since > 0 and lost_since > 0 else 0
+        lost = max(-2**23, min(2**23 - 1, expected - received))
+        last_report, delay = 0, 0
+        if self.sender_reports:
+            came, timestamp = self.sender_reports[-1]
+            last_report, delay = timestamp >> 16, short_delay(moment - came)
+        self.reported, self.has_news = received, False
+        losses = fraction << 24 | lost % 2**24
+        return words(ssrc, losses, self.greatest[-1], jitter_of(self.transits), last_report, delay)
+
+
+# The participant
+
+
+def source_description(ssrc, items):
+    text = words(ssrc) + b"".join(bytes([kind, len(octets)]) + octets for kind, octets in items) + b"\0"
+    text += bytes(-len(text) % 4)
+    return bytes([0x81, 202]) + (len(text) // 4).to_bytes(2, "big") + text
+
+
+def report_header(count, kind, size):
+    return bytes([0x80 | count, kind]) + (size // 4 - 1).to_bytes(2, "big")
+
+
+class Participant:
+    def __init__(self, options):
+        """`options` has a value for each name of the table in docs/FORMATS.md, and `items`, the extra items."""
+        self.options = options
+        self.ssrc, self.rate = options["ssrc"], options["rate"]
+        self.sources = {}  # those that are present, by SSRC
+        self.sent_packets = []  # moments, timestamps and octets
+        self.is_sender = False
+        self.reports = 0
+        self.last_reported = None
+        self.calls, self.last_call = 0, 0
+        self.average = 256 * (8 + len(source_description(self.ssrc, [(1, options["cname"])])) + HEADERS)
+        self.last, self.known = 0, 1  # tp and pmembers
+        self.next = drawn_interval(self.interval(is_sender=False), options["word"])  # tn
+
+    def members(self):
+        return 1 + sum(source.is_member() for source in self.sources.values())
+
+    def senders(self):
+        return int(self.is_sender) + sum(source.counts_as_sender() for source in self.sources.values())
+
+    def interval(self, is_sender):
+        minimum = MINIMUM if self.reports else SHORT_MINIMUM
+        return deterministic_interval(
+            self.members(), self.senders(), is_sender, self.average, self.options["bandwidth"], minimum)
+
+    def begin_call(self, moment):
+        if moment < self.last_call:
+            raise Refusal("E2 Backwards")
+        if moment > FURTHEST:
+            raise Refusal("E3 TooFar")
+        if self.calls >= MOST_CALLS:
+            raise Refusal("E4 TooMany")
+
+    def end_call(self, moment, report=None):
+        self.calls, self.last_call = self.calls + 1, moment
+        out = "-" if report is None else "report:" + report.hex()
+        return f"members={self.members()} senders={self.senders()} next={self.next} out={out}"
+
+    def seen(self, ssrc, moment):
+        """A sighting: the source, admitted where there is room; or none, where its facts are ignored."""
+        if ssrc not in self.sources:
+            if len(self.sources) >= self.options["capacity"]:
+                return None
+            self.sources[ssrc] = Source()
+        source = self.sources[ssrc]
+        if source.left is not None:
+            return None
+        source.sightings.append(moment)
+        return source
+
+    def take_fact(self, kind, ssrc, timestamp, moment):
+        if kind == "gone":
+            if ssrc in self.sources and self.sources[ssrc].left is None:
+                self.sources[ssrc].left = moment
+            return
+        source = self.seen(ssrc, moment)
+        if source and kind == "told":
+            source.sender_reports.append((moment, timestamp))
+        if source and kind == "named":
+            source.is_named = True
+
+    def move_average(self, size):
+        self.average = (256 * (size + HEADERS) + 15 * self.average) // 16
+
+    def reconsider_departures(self, moment):
+        members = self.members()
+        if members >= self.known:
+            return
+        self.last = moment - (moment - self.last) * members // self.known
+        if self.next >= moment:
+            self.next = moment + (self.next - moment) * members // self.known
+        self.known = members
+
+    def rtcp_came(self, moment, octets):
+        self.begin_call(moment)
+        text = decoder.answer(octets)
+        if not text.startswith("ok"):
+            raise Refusal("E5 Wire: " + text)
+        facts = decoder.facts(octets)
+        if any(ssrc == self.ssrc for _, ssrc, _ in facts):
+            raise Refusal("E7 OwnSsrc")
+        for kind, ssrc, timestamp in facts:
+            self.take_fact(kind, ssrc, timestamp, moment)
+        self.move_average(len(octets))
+        self.reconsider_departures(moment)
+        return self.end_call(moment)
+
+    def rtp_came(self, moment, octets):
+        self.begin_call(moment)
+        try:
+            sequence, timestamp, ssrc, csrcs = read_head(octets)
+        except decoder.Fault as fault:
+            raise Refusal(f"E6 Rtp: {fault}")
+        if ssrc == self.ssrc:
+            raise Refusal("E7 OwnSsrc")
+        source = self.seen(ssrc, moment)
+        transit = (media_units(moment, self.rate) - timestamp) % 2**32
+        if source and source.take(sequence, transit, moment):
+            for csrc in csrcs:
+                if csrc != self.ssrc:
+                    self.seen(csrc, moment)
+        return self.end_call(moment)
+
+    def packet_sent(self, moment, timestamp, octets):
+        self.begin_call(moment)
+        self.sent_packets.append((moment, timestamp, octets))
+        self.is_sender = True
+        return self.end_call(moment)
+
+    def check(self, moment):
+        interval = self.interval(is_sender=False)
+        silent, idle = max(0, moment - 5 * interval), max(0, moment - 2 * interval)
+        gone = max(0, moment + 1 - 5 * SECOND)
+        for ssrc, source in list(self.sources.items()):
+            if source.sightings[-1] < silent or source.left is not None and source.left < gone:
+                del self.sources[ssrc]
+            elif source.is_sender and source.counted[-1] < idle:
+                source.is_sender = False
+        if self.is_sender and self.sent_packets[-1][0] < idle:
+            self.is_sender = False
+
+    def tick(self, moment, word1, word2):
+        self.begin_call(moment)
+        self.check(moment)
+        self.reconsider_departures(moment)
+        if moment < self.next:
+            return self.end_call(moment)
+        interval = drawn_interval(self.interval(self.is_sender), word1)
+        self.known = self.members()
+        if self.last + interval > moment:
+            self.next = self.last + interval
+            return self.end_call(moment)
+        report = self.make_report(moment)
+        self.move_average(len(report))
+        self.last, self.known = moment, self.members()
+        self.next = moment + drawn_interval(self.interval(self.is_sender), word2)
+        return self.end_call(moment, report)
+
+    def pending(self):
+        """The sources to report, those above the last one reported first."""
+        waiting = sorted(ssrc for ssrc, source in self.sources.items() if source.has_news and source.left is None)
+        if self.last_reported is None:
+            return waiting
+        above = [ssrc for ssrc in waiting if ssrc > self.last_reported]
+        return above + [ssrc for ssrc in waiting if ssrc <= self.last_reported]
+
+    def items(self):
+        """What the source description of the next report holds."""
+        extra, number = self.options["items"], self.reports + 1
+        if extra and number % 3 == 0:
+            return [(1, self.options["cname"]), extra[(number // 3 - 1) % len(extra)]]
+        return [(1, self.options["cname"])]
+
+    def sender_information(self, moment):
+        if not self.is_sender:
+            return b""
+        newest, timestamp, _ = self.sent_packets[-1]
+        ntp = ntp_timestamp(self.options["ntp"], moment)
+        octets = sum(octets for _, _, octets in self.sent_packets)
+        units = media_units(moment - newest, self.rate)
+        return words(ntp >> 32, ntp, timestamp + units, len(self.sent_packets), octets)
+
+    def make_report(self, moment):
+        description = source_description(self.ssrc, self.items())
+        information = self.sender_information(moment)
+        room = self.options["limit"] - len(description) - 8 - len(information)
+        reported = []
+        for ssrc in self.pending():
+            packets_after_first = len(reported) // BLOCKS_IN_A_PACKET  # with one more block
+            if 24 * (len(reported) + 1) + 8 * packets_after_first > room:
+                break
+            reported.append(ssrc)
+        blocks = [self.sources[ssrc].block(ssrc, moment) for ssrc in reported]
+        compound = b""
+        while blocks or not compound:
+            part, blocks = blocks[:BLOCKS_IN_A_PACKET], blocks[BLOCKS_IN_A_PACKET:]
+            body = words(self.ssrc) + (information if not compound else b"") + b"".join(part)
+            compound += report_header(len(part), 200 if information and not compound else 201, 4 + len(body)) + body
+        self.last_reported = reported[-1] if reported else self.last_reported
+        self.reports += 1
+        return compound + description
+
+
+# Options and lines
+
+
+def hex_digits(count):
+    return lambda text: int(text, 16) if re.fullmatch(b"[0-9a-fA-F]{%d}" % count, text) else None
+
+
+def decimal(bound):
+    return lambda text: int(text) if re.fullmatch(b"[0-9]{1,20}", text) and int(text) < bound else None
+
+
+def text_value(text):
+    return text if len(text) <= 255 else None
+
+
+def private_value(text):
+    return bytes.fromhex(text.decode()) if re.fullmatch(b"([0-9a-fA-F]{2}){0,255}", text) else None
+
+
+def datagram(text):
+    if text == b"-":
+        return b""
+    return bytes.fromhex(text.decode()) if re.fullmatch(b"([0-9a-fA-F]{2})+", text) else None
+
+
+OPTIONS = {
+    "ssrc": (hex_digits(8), None), "cname": (text_value, None), "capacity": (decimal(2**32), b"1024"),
+    "limit": (decimal(2**32), b"1472"), "session-bps": (decimal(2**64), b"64000"), "rate": (decimal(2**32), b"8000"),
+    "ntp": (hex_digits(16), b"0" * 16),
+    **{name: (text_value, None) for name in ("name", "email", "phone", "loc", "tool", "note")},
+    "priv": (private_value, None), "word": (hex_digits(8), b"0" * 8),
+}
+ITEM_TYPES = {"name": 2, "email": 3, "phone": 4, "loc": 5, "tool": 6, "note": 7, "priv": 8}
+
+LINES = {
+    b"rtcp": (Participant.rtcp_came, ("number", datagram)),
+    b"rtp": (Participant.rtp_came, ("number", datagram)),
+    b"sent": (Participant.packet_sent, ("number", "timestamp", "octets")),
+    b"tick": (Participant.tick, ("number", hex_digits(8), hex_digits(8))),
+}
+NUMBERS = {"number": decimal(2**64), "timestamp": decimal(2**32), "octets": decimal(2**32)}
+
+
+def given_options(arguments):
+    """The options of a command line, by name, as octets."""
+    given = {}
+    if len(arguments) % 2:
+        raise Usage
+    for option, value in zip(arguments[::2], arguments[1::2]):
+        if not option.startswith("--") or option[2:] not in OPTIONS or option[2:] in given:
+            raise Usage
+        try:
+            given[option[2:]] = value.encode()
+        except UnicodeEncodeError:
+            raise Usage
+    if "ssrc" not in given or "cname" not in given:
+        raise Usage
+    return given
+
+
+def configuration(arguments):
+    given, options = given_options(arguments), {}
+    for name, (value_of, default) in OPTIONS.items():
+        text = given.get(name, default)
+        options[name] = None if text is None else value_of(text)
+        if text is not None and options[name] is None:
+            raise Fault("option " + name)
+    options["bandwidth"] = min(options["session-bps"] // 160, 2**32 - 1)
+    options["items"] = [(kind, options[name]) for name, kind in ITEM_TYPES.items() if options[name] is not None]
+    if not options["cname"]:
+        raise Fault("config C1 Cname")
+    if not 1 <= options["capacity"] <= 1024:
+        raise Fault("config C2 Capacity")
+    if not 576 <= options["limit"] <= 1472 or options["limit"] % 4:
+        raise Fault("config C3 Limit")
+    if not 16 <= options["bandwidth"] <= 2**30:
+        raise Fault("config C4 Bandwidth")
+    if not 1 <= options["rate"] <= 2**20:
+        raise Fault("config C5 Rate")
+    return options
+
+
+def answer(participant, line):
+    """The answer to a line, without its line feed. Its fault has no line number yet."""
+    if len(line) > LONGEST_LINE:
+        raise Fault("X1 LineTooLong")
+    kind, *fields = line.split(b" ")
+    if kind not in LINES or len(fields) != len(LINES[kind][1]):
+        raise Fault("X3 Words")
+    call, forms = LINES[kind]
+    values = []
+    for field, form in zip(fields, forms):
+        value = NUMBERS.get(form, form)(field)
+        if value is None:
+            raise Fault("X5 Number" if form in NUMBERS else "X4 Hex")
+        values.append(value)
+    try:
+        return "ok " + call(participant, *values)
+    except Refusal as refusal:
+        return f"refused {refusal}"
+
+
+def replay(arguments, octets):
+    """What goes to standard output and to standard error, and the status."""
+    try:
+        participant = Participant(configuration(arguments))
+    except Usage:
+        return "", __doc__ + "\n", 2
+    except Fault as fault:
+        return "", f"{fault}\n", 2
+    answers = [f"start members=1 senders=0 next={participant.next}\n"]
+    lines = octets.split(b"\n")
+    if not lines[-1]:
+        lines.pop()
+    for number, line in enumerate(lines, 1):
+        try:
+            if number > MOST_LINES:
+                raise Fault("X2 TooManyLines")
+            answers.append(answer(participant, line) + "\n")
+        except Fault as fault:
+            return "".join(answers), f"line {number}: {fault}\n", 2
+    return "".join(answers), "", 0
+
+
+def main(arguments):
+    if arguments == ["--self-test"]:
+        import rows
+        sys.exit(rows.run(replay))
+    if arguments[:1] == ["replay"]:
+        arguments = arguments[1:]
+    answers, fault, status = replay(arguments, sys.stdin.buffer.read())
+    sys.stdout.write(answers)
+    sys.stdout.flush()
+    sys.stderr.write(fault)
+    sys.exit(status)
+
+
+if __name__ == "__main__":
+    main(sys.argv[1:])
