@@ -11,7 +11,6 @@ pub mod LawLemmas
 mod LinesLemmas
 mod NumeralLemmas
 mod OptionLemmas
-mod PrefixLemmas
 mod ProgressLemmas
 mod RunLemmas
 mod StatusLemmas
