@@ -1,5 +1,5 @@
 -- What the options of `rtcp replay` say, and the first of them that is refused.
-use Rattle.std.specs.Prelude.{ℕ, ◌/◌, ◌^◌, ◌-◌, nat_le, min, List, [], ◌∷◌, ◌++◌, length, if◌then◌else◌, Option, Some, None, option_map, Result, Ok, Err, codes}
+use Rattle.std.specs.Prelude.{◌≡◌, ℕ, ◌/◌, ◌^◌, ◌-◌, nat_le, min, List, [], ◌∷◌, ◌++◌, length, if◌then◌else◌, Option, Some, None, option_map, unwrap_or, Result, Ok, Err, codes}
 use Rattle.std.specs.Borrow.{Bor}
 use Rattle.std.specs.Int.{w32, w64}
 use Rattle.std.specs.Option.{ok_or}
@@ -7,7 +7,12 @@ use Rattle.std.specs.Result.{result_ok}
 use Rattle.hex.specs.Hex.{decode_of}
 use Rattle.rtcp_wire.specs.Values.{ItemValue}
 use Rattle.rtcp_engine.specs.Setups.{Setup}
+use Rattle.rtcp_engine.specs.Views.{setup_of}
 use Rattle.rtcp_run.specs.declared.options.Options.{Options}
+use Rattle.rtcp_run.specs.declared.orders.TextOrder.{TextOrder}
+use Rattle.rtcp_run.specs.declared.orders.TextOrder.TheVariants.{Check, Replay}
+use Rattle.rtcp_run.specs.declared.orders.OrderFault.{OrderFault}
+use Rattle.rtcp_run.specs.declared.orders.OrderFault.TheVariants.{Clap, Option as BadOption, Memory}
 use Rattle.rtcp_run.specs.Numerals.{decimal_in, hex_in}
 use Rattle.rtcp_run.specs.Results.{◌>>=◌}
 
@@ -51,6 +56,26 @@ texts_of options = record {
   note = text_given options.note;
   private = text_given options.private;
   word = options.word.now;
+}
+
+-- the texts that a command line gives, by the options' names (an empty one where it gives none)
+abbrev pub texts_found : (List ℕ → Option (List ℕ)) → OptionTexts
+texts_found found = record {
+  ssrc = unwrap_or (found (codes "ssrc")) [];
+  cname = unwrap_or (found (codes "cname")) [];
+  capacity = unwrap_or (found (codes "capacity")) [];
+  limit = unwrap_or (found (codes "limit")) [];
+  session_bps = unwrap_or (found (codes "session-bps")) [];
+  rate = unwrap_or (found (codes "rate")) [];
+  ntp = unwrap_or (found (codes "ntp")) [];
+  name = found (codes "name");
+  email = found (codes "email");
+  phone = found (codes "phone");
+  loc = found (codes "loc");
+  tool = found (codes "tool");
+  note = found (codes "note");
+  private = found (codes "priv");
+  word = unwrap_or (found (codes "word")) [];
 }
 
 -- ---- Values
@@ -122,3 +147,13 @@ replay_in texts = do
   setup ← setup_in texts
   word ← ok_or (hex_in w32 texts.word) (codes "word")
   Ok (setup, word)
+
+-- ---- Orders
+
+-- What the options come to is this order, or this fault.
+abbrev pub IsReplayOrder : Result TextOrder OrderFault → Result (Setup × ℕ) (List ℕ) → Type 0
+IsReplayOrder (Ok (Replay config word)) expected = expected ≡ Ok (setup_of config, word)
+IsReplayOrder (Ok Check) expected = ⊥
+IsReplayOrder (Err (BadOption name)) expected = expected ≡ Err name.now
+IsReplayOrder (Err (Clap text)) expected = ⊥
+IsReplayOrder (Err Memory) expected = ⊥

@@ -3,7 +3,7 @@ use Rattle.std.specs.Prelude.{ℕ, Result, Ok, Err}
 use Rattle.rtcp_run.specs.declared.fault.TextFault.{TextFault}
 use Rattle.rtcp_run.specs.declared.fault.TextFault.TheVariants.{Text, Read, Write, Memory}
 use Rattle.rtcp_run.specs.declared.orders.OrderFault.{OrderFault}
-use Rattle.rtcp_run.specs.declared.orders.OrderFault.TheVariants.{Clap, Memory as NoMemory}
+use Rattle.rtcp_run.specs.declared.orders.OrderFault.TheVariants.{Clap, Option as BadOption, Memory as NoMemory}
 
 -- 0 where all went well, 2 where the text is refused, and 1 where reading, writing or memory failed
 abbrev pub text_status : {A : Type 0} → Result A TextFault → ℕ
@@ -13,7 +13,8 @@ text_status (Err Read) = 1
 text_status (Err Write) = 1
 text_status (Err Memory) = 1
 
--- 2 where the words are refused or ask for help, and 1 where memory failed
+-- 2 where the words or an option are refused or help is asked for, and 1 where memory failed
 abbrev pub order_status : OrderFault → ℕ
 order_status (Clap text) = 2
+order_status (BadOption name) = 2
 order_status NoMemory = 1

@@ -69,6 +69,8 @@ fn run<R: Read, W: Write>(
 {
     let outcome = match order {
         TextOrder::Check => check(alloc, reader, writer),
+        // No participant can be made yet.
+        TextOrder::Replay { .. } => return Err(TextFault::Memory),
     };
     match writer.flush() {
         Ok(()) => outcome,

@@ -3,6 +3,10 @@
 ghost use Rattle.std.specs.Prelude.{◌≡◌};
 ghost use Rattle.rtcp_run.specs.Status.{order_status};
 
+mod replay;
+#[cfg(test)]
+mod tests;
+
 use crate::orders::{Order, OrderFault, TextOrder};
 use clap::Command;
 use clap::error::ErrorKind as ClapErrorKind;
@@ -10,6 +14,9 @@ use std::alloc::{AllocError, Global};
 use std::io::{ErrorKind, Write};
 
 const ABOUT: &str = "The control half of an RTP participant (RFC 3550)";
+
+const AFTER_HELP: &str = "\
+Run `rtcp check --help` or `rtcp replay --help` for what to pipe in and what comes out.";
 
 const CHECK_ABOUT: &str = "Show what RTCP datagrams are, or why they are refused";
 
@@ -43,15 +50,19 @@ For more information, try '--help'.
 ///
 /// # Errors
 ///
-/// - [`OrderFault::Clap`] where a subcommand is missing, a word is unknown, or help is asked for.
+/// - [`OrderFault::Clap`] where a subcommand or an option that is required is missing, a word is unknown, or
+///   help is asked for.
+/// - [`OrderFault::Option`] where the value of an option is refused: the first one, in the order in which
+///   docs/FORMATS.md has them.
 /// - [`OrderFault::Memory`] where memory is refused.
 pub fn order<'a>(alloc: Global, words: &'a [&'a str]) -> Result<Order, OrderFault> {
     let Ok(mut program) = program(alloc) else {
         return Err(OrderFault::Memory);
     };
     match program.try_get_matches_from_mut(words) {
-        Ok(matches) => match matches.subcommand_name() {
-            Some("check") => Ok(Order::Text(TextOrder::Check)),
+        Ok(matches) => match matches.subcommand() {
+            Some(("check", _)) => Ok(Order::Text(TextOrder::Check)),
+            Some(("replay", matches)) => Ok(Order::Text(replay::order(matches)?)),
             _ => Err(shown(program.render_help())),
         },
         Err(error) if error.kind() == ClapErrorKind::OutOfMemory => Err(OrderFault::Memory),
@@ -78,6 +89,10 @@ pub fn refuse<W: Write>(fault: &OrderFault, faults: &mut W) -> u8
             let _ = faults.write_all(text.as_bytes());
             2
         }
+        OrderFault::Option(name) => {
+            let _ = writeln!(faults, "option {name}");
+            2
+        }
         OrderFault::Memory => {
             let _ = faults.write_all(b"memory\n");
             1
@@ -93,10 +108,11 @@ fn program<'a>(alloc: Global) -> Result<Command<'a>, AllocError> {
     Command::new(alloc, "rtcp")
         .bin_name("rtcp")?
         .about(ABOUT)
-        .after_help("Run `rtcp check --help` for what to pipe in and what comes out.")
+        .after_help(AFTER_HELP)
         .disable_help_subcommand(true)
         .subcommand_required(true)
-        .subcommand(check)
+        .subcommand(check)?
+        .subcommand(replay::subcommand(alloc)?)
 }
 
 /// The fault that shows a text, unless there was no memory for the text.

@@ -1,17 +1,26 @@
 //! What a command line may ask for, and what is wrong with one.
 
+use rtcp_engine::Config;
+
 /// What the program is asked to do.
-#[derive(Clone, Copy, Debug, PartialEq, Eq)]
+#[derive(Debug, Drop)]
 pub enum Order {
     /// A run over text.
     Text(TextOrder),
 }
 
 /// A run from standard input to standard output.
-#[derive(Clone, Copy, Debug, PartialEq, Eq)]
+#[derive(Debug, Drop)]
 pub enum TextOrder {
     /// Shows what each datagram is.
     Check,
+    /// Shows what a participant answers to each event.
+    Replay {
+        /// How the participant is configured. Nothing of it was tested against the ranges of a configuration.
+        config: Config,
+        /// The random word of the start.
+        word: u32,
+    },
 }
 
 /// Why a command line gives no order.
@@ -19,6 +28,8 @@ pub enum TextOrder {
 pub enum OrderFault {
     /// `clap` refuses the words, or they ask for help: its own text.
     Clap(String),
+    /// The value of an option is refused: the option's name without its dashes.
+    Option(&'static str),
     /// Memory was asked for and refused.
     Memory,
 }

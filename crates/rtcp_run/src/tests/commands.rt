@@ -138,11 +138,11 @@ fn orders(rt: HostRuntime) -> Result<(), Fail> {
     let alloc = rt.alloc();
     let asked = order(alloc, &["rtcp", "check"]);
     assert!(rt; matches!(asked, Ok(Order::Text(TextOrder::Check))));
-    let rows: [(&[&str], &str); 6] = [
+    let rows: [(&[&str], &str); 7] = [
         (&["rtcp"], "error: 'rtcp' requires a subcommand"),
         (
             &["rtcp", "replay"],
-            "error: unrecognized subcommand 'replay'",
+            "error: the following required arguments were not provided:\n  --ssrc <HEX>\n  --cname <TEXT>\n",
         ),
         (
             &["rtcp", "check", "--fast"],
@@ -157,6 +157,10 @@ fn orders(rt: HostRuntime) -> Result<(), Fail> {
             "The control half of an RTP participant",
         ),
         (&["rtcp", "check", "--help"], "Show what RTCP datagrams are"),
+        (
+            &["rtcp", "replay", "--help"],
+            "Show what a participant answers to the events of a session.\n",
+        ),
     ];
     for (words, beginning) in rows {
         let (status, text) = refused(alloc, words)?;
