@@ -14,5 +14,6 @@ mod OptionLemmas
 mod ProgressLemmas
 mod ReplayLemmas
 mod RunLemmas
+mod SessionLemmas
 mod StatusLemmas
 mod TextLemmas

@@ -1,5 +1,6 @@
 //! How a run over text ends where it does not end well.
 
+use rtcp_engine::ConfigError;
 use thiserror::Error;
 
 /// What is wrong with a line of the input. `TooManyLines` is tested first, then `LineTooLong`, then `Words`.
@@ -43,4 +44,15 @@ pub enum TextFault {
     /// Memory was asked for and refused.
     #[error("memory")]
     Memory,
+}
+
+/// Why a replay ended early.
+#[derive(Clone, Copy, Debug, PartialEq, Eq, Error)]
+pub enum ReplayFault {
+    /// The configuration of the participant was refused.
+    #[error("config {0}")]
+    Config(ConfigError),
+    /// The run over the text ended early.
+    #[error("{0}")]
+    Run(TextFault),
 }

@@ -21,6 +21,7 @@ mod options;
 mod order;
 mod orders;
 mod player;
+mod replay;
 #[cfg(test)]
 mod tests;
 mod text;
