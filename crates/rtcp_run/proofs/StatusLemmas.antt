@@ -1,27 +1,37 @@
 -- What a status says of the outcome.
-use Rattle.std.proofs.Common.{◌≡◌, ℕ, List, Option, Result, Ok, Err, OnOk, refl, subst}
+use Rattle.std.proofs.Common.{◌≡◌, ℕ, ◌⊎◌, inl, inr, List, Option, Result, Ok, Err, OnOk, refl, ap, subst}
 use Rattle.rtcp_run.specs.declared.fault.LineFault.{LineFault}
 use Rattle.rtcp_run.specs.declared.fault.TextFault.{TextFault}
 use Rattle.rtcp_run.specs.declared.fault.TextFault.TheVariants.{Text, Read, Write, Memory}
+use Rattle.rtcp_run.specs.declared.fault.ReplayFault.{ReplayFault}
+use Rattle.rtcp_run.specs.declared.fault.ReplayFault.TheVariants.{Config, Run}
+use Rattle.rtcp_engine.specs.declared.config.ConfigError.{ConfigError}
 use Rattle.rtcp_run.specs.declared.counted.Counted.{Counted}
 use Rattle.rtcp_run.specs.Lines.{Writes, Wrote}
 use Rattle.rtcp_run.specs.Counted.{inner_of}
 use Rattle.rtcp_run.specs.Status.{text_status}
 
-pub well_at_zero : {A : Type 0} (P : Type 0) (r : Result A TextFault) (status : ℕ) → status ≡ text_status r → status ≡ 0 → OnOk r P → P
+pub well_at_zero : {A : Type 0} (P : Type 0) (r : Result A ReplayFault) (status : ℕ) → status ≡ text_status r → status ≡ 0 → OnOk r P → P
 well_at_zero P (Ok x) status is zero holds = holds
-well_at_zero P (Err (Text line fault)) status is zero holds = absurd (cc (is, zero))
-well_at_zero P (Err Read) status is zero holds = absurd (cc (is, zero))
-well_at_zero P (Err Write) status is zero holds = absurd (cc (is, zero))
-well_at_zero P (Err Memory) status is zero holds = absurd (cc (is, zero))
+well_at_zero P (Err (Config error)) status is zero holds = absurd (cc (is, zero))
+well_at_zero P (Err (Run (Text line fault))) status is zero holds = absurd (cc (is, zero))
+well_at_zero P (Err (Run Read)) status is zero holds = absurd (cc (is, zero))
+well_at_zero P (Err (Run Write)) status is zero holds = absurd (cc (is, zero))
+well_at_zero P (Err (Run Memory)) status is zero holds = absurd (cc (is, zero))
 
-pub refused_at_two : {A : Type 0} (P : ℕ → LineFault → Type 0) (r : Result A TextFault) (status : ℕ) → status ≡ text_status r → status ≡ 2
-    → ((line : ℕ) (fault : LineFault) → r ≡ Err (Text line fault) → P line fault) → (line : ℕ) × (fault : LineFault) × P line fault
-refused_at_two P (Ok x) status is two holds = absurd (cc (is, two))
-refused_at_two P (Err (Text line fault)) status is two holds = (line, fault, holds line fault refl)
-refused_at_two P (Err Read) status is two holds = absurd (cc (is, two))
-refused_at_two P (Err Write) status is two holds = absurd (cc (is, two))
-refused_at_two P (Err Memory) status is two holds = absurd (cc (is, two))
+pub refused_at_two : {A : Type 0} (Q : ConfigError → Type 0) (P : ℕ → LineFault → Type 0) (r : Result A ReplayFault) (status : ℕ) → status ≡ text_status r → status ≡ 2
+    → ((error : ConfigError) → r ≡ Err (Config error) → Q error) → ((line : ℕ) (fault : LineFault) → r ≡ Err (Run (Text line fault)) → P line fault)
+    → ((error : ConfigError) × Q error) ⊎ ((line : ℕ) × (fault : LineFault) × P line fault)
+refused_at_two Q P (Ok x) status is two config holds = absurd (cc (is, two))
+refused_at_two Q P (Err (Config error)) status is two config holds = inl (error, config error refl)
+refused_at_two Q P (Err (Run (Text line fault))) status is two config holds = inr (line, fault, holds line fault refl)
+refused_at_two Q P (Err (Run Read)) status is two config holds = absurd (cc (is, two))
+refused_at_two Q P (Err (Run Write)) status is two config holds = absurd (cc (is, two))
+refused_at_two Q P (Err (Run Memory)) status is two config holds = absurd (cc (is, two))
+
+-- The fault of a run is that of a replay.
+pub run_fault : (A B : Type 0) (found wanted : TextFault) → ◌≡◌ {A = Result A ReplayFault} (Err (Run found)) (Err (Run wanted)) → ◌≡◌ {A = Result B TextFault} (Err found) (Err wanted)
+run_fault A B found wanted is = let same : found ≡ wanted = cc is in ap Err same
 
 -- A writer that counts is left with what the writer inside holds.
 pub Writes-inner : {R W : Type 0} (remaining : R → Option (List ℕ)) (contents : W → Option (List ℕ)) (reader : Counted R) (writer writer' : Counted W)

@@ -9,4 +9,5 @@ pub mod Check
 pub mod Counted
 pub mod Progress
 pub mod Replay
+pub mod Orders
 pub mod Status

@@ -1,6 +1,7 @@
 //! How a run over text ends where it does not end well.
 
 use rtcp_engine::ConfigError;
+use std::fmt;
 use thiserror::Error;
 
 /// What is wrong with a line of the input. `TooManyLines` is tested first, then `LineTooLong`, then `Words`.
@@ -47,12 +48,31 @@ pub enum TextFault {
 }
 
 /// Why a replay ended early.
-#[derive(Clone, Copy, Debug, PartialEq, Eq, Error)]
+#[derive(Clone, Copy, Debug, PartialEq, Eq)]
 pub enum ReplayFault {
     /// The configuration of the participant was refused.
-    #[error("config {0}")]
     Config(ConfigError),
     /// The run over the text ended early.
-    #[error("{0}")]
     Run(TextFault),
+}
+
+impl fmt::Display for ReplayFault {
+    fn fmt<W: fmt::Write>(&self, f: &mut fmt::Formatter<W>) -> fmt::Result {
+        match self {
+            ReplayFault::Config(error) => write!(f, "config {}", config_name(*error)),
+            ReplayFault::Run(fault) => write!(f, "{fault}"),
+        }
+    }
+}
+
+/// The number of a rule of configurations and its name.
+fn config_name(error: ConfigError) -> &'static str {
+    match error {
+        ConfigError::Cname => "C1 Cname",
+        ConfigError::Capacity => "C2 Capacity",
+        ConfigError::Limit => "C3 Limit",
+        ConfigError::Bandwidth => "C4 Bandwidth",
+        ConfigError::Rate => "C5 Rate",
+        ConfigError::Item => "C6 Item",
+    }
 }
