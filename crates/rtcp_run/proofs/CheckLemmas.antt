@@ -1,163 +1,86 @@
--- Lemmas on what a whole check leaves.
-use Rattle.std.proofs.Common.{◌≡◌, ◌≢◌, ℕ, ◌+◌, ◌≤◌, List, [], ◌∷◌, ◌++◌, length, length-append, Option, Some, None, Result, Ok, Err, refl, sym, ◌∙◌, ap, subst, append_assoc, append-nil, arith}
-use Rattle.std.specs.List.{flat_map}
-use Rattle.std.proofs.lemmas.List.Elements.{All-nil, All-head, All-tail}
-use Rattle.std.specs.Io.KnownBytes.{Keeps, Appends, Consumes, IsAtEnd}
+-- The text of a check: each line of hex has one answer, since each datagram has one reading.
+use Rattle.std.proofs.Common.{◌≡◌, ℕ, ◌⊎◌, inl, inr, List, Option, Result, Ok, Err, IsErr, refl, sym, ◌∙◌, ap, subst}
+use Rattle.hex.specs.Hex.{decode_of}
+use Rattle.hex.specs.declared.error.FromHexError.{FromHexError}
+use Rattle.rtcp_wire.proofs.LawLemmas.{accepted_or_faulty-always_one, accepted_or_faulty-never_both, one_fault, one_reading}
 use Rattle.rtcp_run.specs.declared.fault.LineFault.{LineFault}
+use Rattle.rtcp_run.specs.declared.fault.LineFault.TheVariants.{Hex}
+use Rattle.rtcp_run.specs.Check.{IsAnswer, AnswersHex, IsNotHex, IsCheckText}
 use Rattle.rtcp_run.specs.declared.fault.TextFault.{TextFault}
-use Rattle.rtcp_run.specs.declared.fault.TextFault.TheVariants.{Text, Read, Write, Memory}
-use Rattle.rtcp_run.specs.Check.{lines_of, HasNoLineFeed, BeginsWithLines, IsCheckText, Writes}
-use Rattle.rtcp_run.specs.Progress.{Answers, PartLeaves, EndLeaves, CheckLeaves}
-use Rattle.rtcp_run.proofs.LinesLemmas.{lines_of-begins, IsCheckText-append}
-use Rattle.rtcp_run.proofs.ProgressLemmas.{BeginsWithLines-append, BeginsWithLines-longer, PartLeaves-after}
-use Rattle.std.proofs.KnownBytes.{Consumes-trans, Appends-trans}
+use Rattle.rtcp_run.specs.Lines.{IsTextFrom, Writes}
+use Rattle.rtcp_run.specs.Progress.{RunLeaves}
+use Rattle.rtcp_run.specs.Text.{accepted_text, fault_text}
+use Rattle.rtcp_run.proofs.TextLemmas.{IsTotal, IsUnique, text_exists, text_continues, one_text, IsTextBy-shown}
+use Rattle.rtcp_run.proofs.ClauseLemmas.{Continues, RunLeaves-weaker, Writes-weaker}
 
--- The input is what was taken, and what the reader has left.
-pub taken_of : (a b : Option (List ℕ)) (taken input : List ℕ) → Consumes a b taken → a ≡ Some input → (rest : List ℕ) × (b ≡ Some rest) × (input ≡ taken ++ rest)
-taken_of None b taken input consumed e = absurd (cc e)
-taken_of (Some x) None taken input consumed e = absurd consumed
-taken_of (Some x) (Some y) taken input consumed e = (y, refl, cc (consumed, e))
+-- A line is answered by itself.
+abbrev answers_alone : {S : Type 0} → S → List ℕ → List ℕ → S → Type 0
+answers_alone state line text next = AnswersHex line text
 
--- The writer holds what it held, and the text.
-pub written_of : (a b : Option (List ℕ)) (text before : List ℕ) → Appends a b text → a ≡ Some before → b ≡ Some (before ++ text)
-written_of None b text before appended e = absurd (cc e)
-written_of (Some x) None text before appended e = absurd appended
-written_of (Some x) (Some y) text before appended e = cc (appended, e)
+-- ---- Each line has an answer or a fault
 
--- A read that returned an error gave nothing.
-pub Consumes-failed : (a b c : Option (List ℕ)) (taken : List ℕ) → Consumes a b taken → Keeps b c → Consumes a c taken
-Consumes-failed None b c taken p q = tt
-Consumes-failed (Some x) None c taken p q = absurd p
-Consumes-failed (Some x) (Some y) None taken p q = absurd q
-Consumes-failed (Some x) (Some y) (Some z) taken p q = p ∙ ap (λ l. taken ++ l) (sym q)
+answer_exists : (octets : List ℕ) → (answer : List ℕ) × IsAnswer octets answer
+answer_exists octets =
+    elim (accepted_or_faulty-always_one octets) [
+      | inl accepted ↦ (accepted_text accepted.0, inl (accepted.0, accepted.1, refl))
+      | inr refused ↦ (fault_text refused.0, inr (refused.0, refused.1, refl))
+    ]
 
--- Nothing is left at the end.
-nothing_left : (b : Option (List ℕ)) (rest : List ℕ) → b ≡ Some rest → IsAtEnd b → rest ≡ []
-nothing_left None rest e end = absurd (cc e)
-nothing_left (Some x) rest e end = cc (e, end)
+line_exists : (line : List ℕ) (r : Result (List ℕ) FromHexError) → decode_of line ≡ r
+    → ((fault : LineFault) × IsNotHex line fault) ⊎ ((text : List ℕ) × (next : Unit {0}) × AnswersHex line text)
+line_exists line (Ok octets) is = let answer = answer_exists octets in inr (answer.0, tt, (octets, is, answer.1))
+line_exists line (Err e) is = inl (Hex, (refl, subst IsErr (sym is) refl))
 
--- ---- The reader's end
+total : IsTotal {S = Unit {0}} answers_alone IsNotHex
+total state line = line_exists line (decode_of line) refl
 
--- The last line's outcome, after the answers to the lines before it.
-ends : {A : Type 0} (r : Result A TextFault) (left : Option (List ℕ)) (taken pending text text' : List ℕ) (answered : ℕ) → left ≡ Some [] → HasNoLineFeed pending
-    → Answers 0 taken answered pending text → EndLeaves r answered pending text' → CheckLeaves r left taken (text ++ text')
-ends r left taken pending text text' answered nothing each first last =
-    let all = lines_of-begins taken first.lines pending first.begins in
-    let joined : (end : Option (ℕ × LineFault)) (more : List ℕ) → IsCheckText (answered + 1) (lines_of pending) more end → IsCheckText 1 (lines_of taken) (text ++ more) end =
-    λ end more h. subst (λ lines. IsCheckText 1 lines (text ++ more) end) (sym all)
-    (IsCheckText-append 1 first.lines (lines_of pending) text more end first.texts
-    (subst (λ m. IsCheckText m (lines_of pending) more end) (let number = first.number in omega arith) h)) in
-    by_cases r joined last
-  where
-    by_cases : {A : Type 0} (r : Result A TextFault) → ((end : Option (ℕ × LineFault)) (more : List ℕ) → IsCheckText (answered + 1) (lines_of pending) more end → IsCheckText 1 (lines_of taken) (text ++ more) end)
-        → EndLeaves r answered pending text' → CheckLeaves r left taken (text ++ text')
-    by_cases (Ok x) joined last = joined None text' last
-    by_cases (Err (Text number fault)) joined last = joined (Some (number, fault)) text' last
-    by_cases (Err Memory) joined last = (
-      first.lines,
-      pending,
-      [],
-      [],
-      nothing,
-      each,
-      omega arith,
-      subst (λ l. l ≢ []) (sym (append-nil pending)) last.0,
-      subst (λ l. BeginsWithLines taken first.lines l) (sym (append-nil (pending ++ []) ∙ append-nil pending)) first.begins,
-      subst (λ t. IsCheckText 1 first.lines t None) (sym (ap (λ t. text ++ t) last.1 ∙ append-nil text)) first.texts,
-    )
-    by_cases (Err Write) joined last = (
-      lines_of taken,
-      [],
-      last.0,
-      sym (append-nil (lines_of taken)),
-      subst (λ t. IsCheckText 1 (lines_of taken) t None) (sym (append_assoc text text' last.0)) (joined None (text' ++ last.0) last.1),
-    )
-    by_cases (Err Read) joined last = absurd last
+-- ---- And only one
 
--- The reader is at its end, and the last line is answered.
-pub Writes-at_end : {A : Type 0} (r : Result A TextFault) (start now left held holds last : Option (List ℕ)) (taken pending text gone text' : List ℕ) (answered : ℕ)
-    → Consumes start now taken → Appends held holds text → Answers 0 taken answered pending text → Consumes now left gone → gone ≡ [] → IsAtEnd left
-    → HasNoLineFeed pending → Appends holds last text' → EndLeaves r answered pending text' → Writes start held last (CheckLeaves r left)
-Writes-at_end r start now left held holds last taken pending text gone text' answered consumed appended first none is_none end each appended' leaves =
-    λ input before known written.
-    let found = taken_of start left (taken ++ gone) input (Consumes-trans _ _ _ taken gone consumed none) known in
-    let whole : taken ≡ input =
-    sym (found.2 ∙ ap (λ l. (taken ++ l) ++ found.0) is_none ∙ ap (λ l. (taken ++ []) ++ l) (nothing_left left found.0 found.1 end)
-    ∙ append-nil (taken ++ []) ∙ append-nil taken) in (
-      text ++ text',
-      written_of held last (text ++ text') before (Appends-trans _ _ _ text text' appended appended') written,
-      subst (λ i. CheckLeaves r left i (text ++ text')) whole (ends r left taken pending text text' answered (found.1 ∙ ap Some (nothing_left left found.0 found.1 end)) each first leaves),
-    )
+one_answer : (octets text text' : List ℕ) → IsAnswer octets text → IsAnswer octets text' → text ≡ text'
+one_answer octets text text' (inl h) (inl k) = h.2 ∙ ap accepted_text (one_reading octets h.0 k.0 h.1 k.1) ∙ sym k.2
+one_answer octets text text' (inl h) (inr k) = absurd (accepted_or_faulty-never_both octets h.0 k.0 h.1 k.1)
+one_answer octets text text' (inr h) (inl k) = absurd (accepted_or_faulty-never_both octets k.0 h.0 k.1 h.1)
+one_answer octets text text' (inr h) (inr k) = h.2 ∙ ap fault_text (one_fault octets h.0 k.0 h.1 k.1) ∙ sym k.2
 
--- ---- A fault before the reader's end
+one_of_line : (line text text' : List ℕ) → AnswersHex line text → AnswersHex line text' → text ≡ text'
+one_of_line line text text' (octets, is, is_answer) (octets', is', is_answer') =
+    let same : octets ≡ octets' = cc (is, is') in
+    one_answer octets text text' is_answer (subst (λ o. IsAnswer o text') (sym same) is_answer')
 
--- What comes after the first line feed of a part of a line and a block is no longer than the block.
-after_feed : (pending block line more : List ℕ) → HasNoLineFeed pending → pending ++ block ≡ line ++ 10 ∷ more → length more ≤ length block
-after_feed [] block line more each e =
-    let long = length-append line (10 ∷ more) in
-    let same : length block ≡ length (line ++ 10 ∷ more) = ap length e in
-    omega arith
-after_feed (octet ∷ pending) block [] more each e = absurd (All-head (λ octet. octet ≢ 10) octet pending each (cc e))
-after_feed (octet ∷ pending) block (first ∷ line) more each e = after_feed pending block line more (All-tail (λ octet. octet ≢ 10) octet pending each) (cc e)
+never_both : (line text : List ℕ) (fault : LineFault) → IsNotHex line fault → AnswersHex line text → ⊥
+never_both line text fault (same, is_err) (octets, is, is_answer) = let failed = rw is at is_err in cc
 
--- What is left of a part of a line and a block after whole lines is a part of a line, and then no more than the block.
-left_of_block : (pending block : List ℕ) (lines : List (List ℕ)) (rest : List ℕ) → HasNoLineFeed pending → BeginsWithLines (pending ++ block) lines rest
-    → (part : List ℕ) × (after : List ℕ) × (rest ≡ part ++ after) × HasNoLineFeed part × (length after ≤ length block)
-left_of_block pending block [] rest each begins = (pending, block, sym begins.parts, each, omega arith)
-left_of_block pending block (line ∷ lines) rest each begins =
-    let others = flat_map (λ line. line ++ 10 ∷ []) lines in
-    let parts : pending ++ block ≡ line ++ 10 ∷ (others ++ rest) =
-    begins.parts ∙ append_assoc (line ++ 10 ∷ []) others rest ∙ append_assoc line (10 ∷ []) (others ++ rest) in
-    let within = after_feed pending block line (others ++ rest) each parts in
-    let long = length-append others rest in
-    ([], rest, refl, All-nil (λ octet. octet ≢ 10), omega arith)
+unique : IsUnique {S = Unit {0}} answers_alone IsNotHex
+unique = record {
+  answer = λ state next next' line text text' h k. (one_of_line line text text' h k, refl);
+  fault = λ line fault fault' h k. h.0 ∙ sym k.0;
+  never_both = λ state next line text fault h k. never_both line text fault h k;
+}
 
-module _ (left : Option (List ℕ)) (taken pending block after text text' rest : List ℕ) (answered answered' : ℕ) where
-  fails : (fault : TextFault) → left ≡ Some after → HasNoLineFeed pending → length block ≤ 8192 → Answers 0 taken answered pending text
-      → PartLeaves {A = Unit {0}} (Err fault) answered (pending ++ block) answered' rest text'
-      → CheckLeaves {A = Unit {0}} (Err fault) left ((taken ++ block) ++ after) (text ++ text')
-  fails (Text number fault) is_left each short first leaves =
-      PartLeaves-after 0 answered taken pending text block first {A = Unit {0}} (Err (Text number fault)) answered' rest text' leaves after
-  fails Memory is_left each short first leaves =
-      let lines = first.lines ++ leaves.lines in
-      let texts : IsCheckText 1 lines (text ++ text') None =
-      IsCheckText-append 1 first.lines leaves.lines text text' None first.texts
-      (subst (λ m. IsCheckText m leaves.lines text' None) (let number = first.number in omega arith) leaves.texts) in
-      let all = BeginsWithLines-append taken block first.lines leaves.lines pending leaves.rest first.begins leaves.begins in
-      let cut = left_of_block pending block leaves.lines leaves.rest each leaves.begins in
-      let begins : BeginsWithLines (taken ++ block) lines (cut.0 ++ cut.1) = subst (λ l. BeginsWithLines (taken ++ block) lines l) cut.2 all in (
-        lines,
-        cut.0,
-        cut.1,
-        after,
-        is_left,
-        cut.3,
-        omega (arith, cut.4),
-        subst (λ l. l ≢ []) cut.2 leaves.some,
-        BeginsWithLines-longer (taken ++ block) after lines (cut.0 ++ cut.1) begins,
-        texts,
-      )
-  fails Write is_left each short first leaves =
-      let all = PartLeaves-after 0 answered taken pending text block first {A = Unit {0}} (Err Write) answered' rest text' leaves in (
-        all.lines,
-        lines_of (all.rest ++ after),
-        all.more,
-        lines_of-begins ((taken ++ block) ++ after) all.lines (all.rest ++ after) (BeginsWithLines-longer (taken ++ block) after all.lines all.rest all.begins),
-        all.texts,
-      )
-  fails Read is_left each short first leaves = absurd leaves
+-- ---- The text of a check
 
--- A fault in a block.
-pub Writes-at_fault : (fault : TextFault) (start now left held holds last : Option (List ℕ)) (taken pending text block text' rest : List ℕ) (answered answered' : ℕ)
-    → Consumes start now taken → Appends held holds text → Answers 0 taken answered pending text → Consumes now left block
-    → HasNoLineFeed pending → length block ≤ 8192
-    → Appends holds last text' → PartLeaves {A = Unit {0}} (Err fault) answered (pending ++ block) answered' rest text'
-    → Writes start held last (CheckLeaves {A = Unit {0}} (Err fault) left)
-Writes-at_fault fault start now left held holds last taken pending text block text' rest answered answered' consumed appended first consumed' each short appended' leaves =
-    λ input before known written.
-    let found = taken_of start left (taken ++ block) input (Consumes-trans _ _ _ taken block consumed consumed') known in (
-      text ++ text',
-      written_of held last (text ++ text') before (Appends-trans _ _ _ text text' appended appended') written,
-      subst (λ i. CheckLeaves {A = Unit {0}} (Err fault) left i (text ++ text')) (sym found.2)
-          (fails left taken pending block found.0 text text' rest answered answered' fault found.1 each short first leaves),
-    )
+pub check_text_exists : (n : ℕ) (lines : List (List ℕ)) → (text : List ℕ) × (end : Option (ℕ × LineFault)) × IsCheckText n lines text end
+check_text_exists n lines = let found = text_exists answers_alone IsNotHex total n tt lines in (found.0, found.1, found.2.1)
+
+pub one_check_text : (n : ℕ) (lines : List (List ℕ)) (text text' : List ℕ) (end end' : Option (ℕ × LineFault))
+    → IsCheckText n lines text end → IsCheckText n lines text' end' → (text ≡ text') × (end ≡ end')
+one_check_text n lines text text' end end' h k = one_text answers_alone IsNotHex unique n tt tt tt lines text text' end end' h k
+
+pub check_text_continues : Continues (IsCheckText 1)
+check_text_continues lines others text texts =
+    let found = text_continues answers_alone IsNotHex total 1 tt lines others text (tt, texts) in (found.0, found.1, found.2.1)
+
+-- What an answerer of single lines writes is the text of a check.
+IsCheckText-from : {S : Type 0} (n : ℕ) (state : S) (lines : List (List ℕ)) (text : List ℕ) (end : Option (ℕ × LineFault))
+    → IsTextFrom {S = S} answers_alone IsNotHex n state lines text end → IsCheckText n lines text end
+IsCheckText-from {S} n state lines text end (last, texts) =
+    (IsTextBy-shown {S = S} {T = Unit {0}} answers_alone answers_alone IsNotHex (λ shown s. Unit {0}) (λ s next shown line answer shows h. (tt, tt, h))
+    n state last tt lines text end tt texts).2
+
+-- And so what it leaves is what a check leaves.
+pub check_leaves : {S A : Type 0} (state : S) (r : Result A TextFault) (remaining held holds left : Option (List ℕ))
+    → Writes remaining held holds (RunLeaves (IsTextFrom {S = S} answers_alone IsNotHex 1 state) r left) → Writes remaining held holds (RunLeaves (IsCheckText 1) r left)
+check_leaves {S} state r remaining held holds left writes =
+    let IsText = IsTextFrom {S = S} answers_alone IsNotHex 1 state in
+    Writes-weaker remaining held holds (RunLeaves IsText r left) (RunLeaves (IsCheckText 1) r left)
+    (RunLeaves-weaker IsText (IsCheckText 1) (IsCheckText-from 1 state) r left) writes

@@ -1,5 +1,6 @@
 mod AnswerRows
 mod CheckLemmas
+mod ClauseLemmas
 mod CountedLemmas
 mod DigitTable
 pub mod EventLemmas
@@ -10,7 +11,7 @@ pub mod LawLemmas
 mod LinesLemmas
 mod NumeralLemmas
 mod OptionLemmas
-mod OneText
-mod PrefixLemmas
 mod ProgressLemmas
+mod RunLemmas
 mod StatusLemmas
+mod TextLemmas

@@ -1,10 +1,10 @@
--- Lemmas on the lines of an input and on the text of a check.
+-- Lemmas on the lines of an input and on their text.
 use Rattle.std.proofs.Common.{◌≡◌, ◌≢◌, ℕ, ◌+◌, inl, inr, List, [], ◌∷◌, ◌++◌, length, Option, None, Bool, true, false, eqb, cond, All, refl, sym, ◌∙◌, ap, subst, append_assoc, arith, add-zero}
 use Rattle.std.specs.List.{flat_map}
 use Rattle.std.proofs.lemmas.List.Elements.{All-head, All-tail}
 use Rattle.std.proofs.lemmas.Bool.Decides.{nat_tests}
 use Rattle.rtcp_run.specs.declared.fault.LineFault.{LineFault}
-use Rattle.rtcp_run.specs.Check.{with_octet, lines_of, HasNoLineFeed, BeginsWithLines, IsCheckText}
+use Rattle.rtcp_run.specs.Lines.{with_octet, lines_of, HasNoLineFeed, BeginsWithLines, Answering, Refusing, IsTextBy}
 
 -- not a line feed
 abbrev Other : ℕ → Type 0
@@ -57,22 +57,28 @@ lines_of-whole (line ∷ lines) rest each =
 pub lines_of-begins : (input : List ℕ) (lines : List (List ℕ)) (rest : List ℕ) → BeginsWithLines input lines rest → lines_of input ≡ lines ++ lines_of rest
 lines_of-begins input lines rest begins = ap lines_of begins.parts ∙ lines_of-whole lines rest begins.each
 
-pub IsCheckText-append : (n : ℕ) (lines others : List (List ℕ)) (text more : List ℕ) (end : Option (ℕ × LineFault))
-    → IsCheckText n lines text None → IsCheckText (n + length lines) others more end → IsCheckText n (lines ++ others) (text ++ more) end
-IsCheckText-append n [] others text more end first second =
-    subst (λ m. IsCheckText m others (text ++ more) end) (add-zero n)
-    (subst (λ t. IsCheckText (n + 0) others (t ++ more) end) (sym first.0) second)
-IsCheckText-append n (line ∷ lines) others text more end (inl fault) second = absurd (let e = fault.3 in cc)
-IsCheckText-append n (line ∷ lines) others text more end (inr (octets, answer, later, is_line, is_answer, parts, first)) second =
+-- The texts of two runs of lines, one after the other.
+pub IsTextBy-append : {S : Type 0} (answers : Answering S) (refuses : Refusing)
+    (n : ℕ) (state next last : S) (lines others : List (List ℕ)) (text more : List ℕ) (end : Option (ℕ × LineFault))
+    → IsTextBy answers refuses n state lines text None next → IsTextBy answers refuses (n + length lines) next others more end last
+    → IsTextBy answers refuses n state (lines ++ others) (text ++ more) end last
+IsTextBy-append answers refuses n state next last [] others text more end (none, ends, same) second =
+    subst (λ t. IsTextBy answers refuses n state others (t ++ more) end last) (sym none)
+    (subst (λ s. IsTextBy answers refuses n s others more end last) same
+    (subst (λ m. IsTextBy answers refuses m next others more end last) (add-zero n) second))
+IsTextBy-append answers refuses n state next last (line ∷ lines) others text more end (inl fault) second = absurd (let e = fault.3 in cc)
+IsTextBy-append answers refuses n state next last (line ∷ lines) others text more end (inr (answer, between, later, few, short, is_answer, parts, first)) second =
     let number : n + length (line ∷ lines) ≡ (n + 1) + length lines = omega arith in
     inr (
-      octets,
       answer,
+      between,
       later ++ more,
-      is_line,
+      few,
+      short,
       is_answer,
       ap (λ t. t ++ more) parts ∙ append_assoc answer later more,
-      IsCheckText-append (n + 1) lines others later more end first (subst (λ m. IsCheckText m others more end) number second),
+      IsTextBy-append answers refuses (n + 1) between next last lines others later more end first
+          (subst (λ m. IsTextBy answers refuses m next others more end last) number second),
     )
 
 -- What has no line feed is one line.

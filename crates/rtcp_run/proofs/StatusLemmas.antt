@@ -4,7 +4,7 @@ use Rattle.rtcp_run.specs.declared.fault.LineFault.{LineFault}
 use Rattle.rtcp_run.specs.declared.fault.TextFault.{TextFault}
 use Rattle.rtcp_run.specs.declared.fault.TextFault.TheVariants.{Text, Read, Write, Memory}
 use Rattle.rtcp_run.specs.declared.counted.Counted.{Counted}
-use Rattle.rtcp_run.specs.Check.{Writes, Wrote}
+use Rattle.rtcp_run.specs.Lines.{Writes, Wrote}
 use Rattle.rtcp_run.specs.Counted.{inner_of}
 use Rattle.rtcp_run.specs.Status.{text_status}
 

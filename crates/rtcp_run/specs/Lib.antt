@@ -4,6 +4,7 @@ pub mod Numerals
 pub mod Results
 pub mod EventLines
 pub mod Options
+pub mod Lines
 pub mod Check
 pub mod Counted
 pub mod Progress

@@ -1,48 +1,52 @@
-//! The answer to a line: what the octets are that it spells in hex.
+//! The answer to a line of hex: what the octets are that it spells.
 
-ghost use Rattle.std.specs.Prelude.{◌≡◌, ◌++◌, ◌≤◌, ℕ, List, length, OnOk};
+ghost use Rattle.std.specs.Prelude.{◌≡◌, ◌++◌, ℕ, List, OnOk};
 ghost use Rattle.rtcp_run.specs.Check.{IsAnswer};
-ghost use Rattle.rtcp_run.specs.Progress.{AnswersLine};
 
+use crate::answerer::Answerer;
 use crate::digit_pairs::{DecodeFault, decode};
 use crate::fault::{LineFault, TextFault};
 use crate::text::{push_accepted, push_fault};
 use rtcp_wire::Compound;
-use std::alloc::AllocError;
+use std::alloc::{AllocError, Global};
 
-/// Makes `text` the answer to a line, which has at most 131,200 octets and is no later than line 65,536. The
-/// octets that the line spells go into `datagram`.
-///
-/// # Errors
-///
-/// - [`TextFault::Text`] with [`LineFault::Hex`] where the line is not hex.
-/// - [`TextFault::Memory`] where memory is refused.
-///
-/// After an error it is left open what the two buffers hold.
-pub(crate) fn compose(
-    number: u64,
-    line: &[u8],
-    datagram: &mut Vec<u8>,
-    text: &mut Vec<u8>,
-) -> Result<(), TextFault>
-    requires few { number ≤ 65536 }
-    requires short { length line.now ≤ 131200 }
-    ensures { AnswersLine result number line.now text.new.items }
-{
-    text.clear();
-    match decode(line, datagram) {
-        Ok(()) => (),
-        Err(DecodeFault::Memory) => return Err(TextFault::Memory),
-        Err(DecodeFault::NotHex) => {
-            return Err(TextFault::Text {
-                line: number,
-                fault: LineFault::Hex,
-            });
+/// Answers each line of hex by itself. The buffer of the octets is kept from line to line.
+#[derive(Drop)]
+pub(crate) struct Checker {
+    datagram: Vec<u8>,
+}
+
+impl Checker {
+    /// A checker with an empty buffer.
+    pub(crate) fn new(alloc: Global) -> Self {
+        Checker {
+            datagram: Vec::new(alloc),
         }
     }
-    match push_reading(datagram, text) {
-        Ok(()) => Ok(()),
-        Err(AllocError) => Err(TextFault::Memory),
+}
+
+impl Answerer for Checker {
+    ghost use Rattle.rtcp_run.specs.Check.{AnswersHex, IsNotHex};
+
+    ghost answers = { λ before line text after. AnswersHex line text };
+
+    ghost refuses = { IsNotHex };
+
+    fn compose(&mut self, number: u64, line: &[u8], text: &mut Vec<u8>) -> Result<(), TextFault> {
+        match decode(line, &mut self.datagram) {
+            Ok(()) => (),
+            Err(DecodeFault::Memory) => return Err(TextFault::Memory),
+            Err(DecodeFault::NotHex) => {
+                return Err(TextFault::Text {
+                    line: number,
+                    fault: LineFault::Hex,
+                });
+            }
+        }
+        match push_reading(&self.datagram, text) {
+            Ok(()) => Ok(()),
+            Err(AllocError) => Err(TextFault::Memory),
+        }
     }
 }
 

@@ -1,31 +1,28 @@
 //! A check of a text: an answer for each line of hex.
 
 ghost use Rattle.std.specs.Prelude.{◌≡◌, ◌≢◌, ◌≤◌, ◌↔◌, ℕ, Some, None, OnOk};
-ghost use Rattle.rtcp_run.specs.Check.{Wrote, IsTextOf, IsPrefixOfText, AnswersWhatCame, AnswersLinesBefore, AnswersUpToBlock};
+ghost use Rattle.rtcp_run.specs.Check.{IsTextOf, IsPrefixOfText, AnswersWhatCame, AnswersLinesBefore, AnswersUpToBlock};
 ghost use Rattle.rtcp_run.specs.Counted.{failures_of, inner_of};
-ghost use Rattle.rtcp_run.specs.Progress.{CheckLeaves};
+ghost use Rattle.rtcp_run.specs.Lines.{Wrote};
 ghost use Rattle.rtcp_run.specs.declared.fault.LineFault.{LineFault as Fault};
 
+use crate::answer::Checker;
+use crate::blocks::answer_blocks;
 use crate::counted::Counted;
 use crate::fault::TextFault;
 use crate::laws::one_text;
-use crate::lines::LineChecker;
-use crate::writing::flush;
 use rtcp_wire::laws::accepted_or_faulty;
 use std::alloc::Global;
 use std::io::{Read, Write};
-
-/// The most octets that one read asks for.
-const BLOCK: usize = 8_192;
 
 /// Reads a text, a datagram in hex on each line, and writes a line for each: the datagram's packets, or its
 /// first fault.
 ///
 /// A line has at most 131,200 octets before its line feed, which the last line may lack, and the text has at
 /// most 65,536 lines. The answer to a line is written before the next line is looked at. What was answered is
-/// flushed before the reader is asked for more, so a line's answer is seen while the next line is awaited; what
-/// is answered after the last read is left for the caller to flush. The first call of the reader or the writer
-/// that fails ends the run.
+/// flushed before the reader is asked for more, so a line's answer is seen while the next line is awaited;
+/// what is answered after the last read is left for the caller to flush. The first call of the reader or the
+/// writer that fails ends the run.
 ///
 /// # Errors
 ///
@@ -33,8 +30,8 @@ const BLOCK: usize = 8_192;
 ///   lines before it are written.
 /// - [`TextFault::Read`] where a call of the reader fails, for whatever reason. The answers to the whole
 ///   lines that were read are written.
-/// - [`TextFault::Write`] where a call of the writer fails, a flush included, or takes nothing. A prefix of the
-///   answers is written.
+/// - [`TextFault::Write`] where a call of the writer fails, a flush included, or takes nothing. A prefix of
+///   the answers is written.
 /// - [`TextFault::Memory`] where memory is refused. The answers to the first lines are written, at least to
 ///   those that ended before the last block that was read.
 pub fn check<R: Read, W: Write>(
@@ -69,36 +66,5 @@ pub fn check<R: Read, W: Write>(
     // So every input has a text, of which what is written is a prefix, and only one.
     accepted_or_faulty();
     one_text();
-    answer_blocks(alloc, reader, writer)
-}
-
-/// Answers the lines of the reader's input, block by block, up to its end or the first fault. Each block's
-/// answers are flushed before the next one is read.
-fn answer_blocks<R: Read, W: Write>(
-    alloc: Global,
-    reader: &mut Counted<R>,
-    writer: &mut Counted<W>,
-) -> Result<(), TextFault>
-    requires reader_unfailed { failures_of reader.old ≡ 0 }
-    requires writer_unfailed { failures_of writer.old ≡ 0 }
-    ensures leaves { Wrote R.remaining W.contents reader.old writer.old writer.new
-        (CheckLeaves result (R.remaining (inner_of reader.new))) }
-    ensures read_failed { (result ≡ Err TextFault.Read) ↔ (failures_of reader.new ≢ 0) }
-    ensures write_failed { (result ≡ Err TextFault.Write) ↔ (failures_of writer.new ≢ 0) }
-    ensures read_once { failures_of reader.new ≤ 1 }
-    ensures write_once { failures_of writer.new ≤ 1 }
-{
-    let mut checker = LineChecker::new(alloc);
-    let mut block = [0; BLOCK];
-    'turns: loop {
-        let count = match reader.read(&mut block) {
-            Ok(count) => count,
-            Err(_) => return Err(TextFault::Read),
-        };
-        if count == 0 {
-            return checker.finish(writer);
-        }
-        checker.take(&block[..count], writer)?;
-        flush(writer)?;
-    }
+    answer_blocks(alloc, Checker::new(alloc), reader, writer)
 }

@@ -1,8 +1,9 @@
 //! A run over text, from its order to its status.
 
 ghost use Rattle.std.specs.Prelude.{◌≡◌, ◌≢◌, ◌⊎◌, ◌↔◌, ℕ, Some, None, OnOk};
-ghost use Rattle.rtcp_run.specs.Check.{Writes, Wrote, IsTextOf};
+ghost use Rattle.rtcp_run.specs.Check.{IsTextOf};
 ghost use Rattle.rtcp_run.specs.Counted.{failures_of, inner_of};
+ghost use Rattle.rtcp_run.specs.Lines.{Writes, Wrote};
 ghost use Rattle.rtcp_run.specs.declared.fault.LineFault.{LineFault as Fault};
 ghost use Rattle.rtcp_run.specs.Status.{text_status};
 

@@ -12,8 +12,7 @@ pub enum LineFault {
     /// It is line 65,537, which is not looked at.
     #[error("X2 TooManyLines")]
     TooManyLines,
-    /// Its first word is not known, or it has too few fields or too many. Where a line is hex and no words, it
-    /// has not this fault.
+    /// Its first word is not known, or it has too few fields or too many.
     #[error("X3 Words")]
     Words,
     /// What should be hex digits is not, or there are too few of them or too many.

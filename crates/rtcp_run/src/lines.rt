@@ -1,11 +1,11 @@
 //! The lines of a text that is read in blocks, and their answers.
 
 ghost use Rattle.std.specs.Prelude.{◌≡◌, ◌≢◌, ◌+◌, ◌<◌, ◌≤◌, ◌++◌, ◌↔◌, [], length, OnOk, vec_len};
-ghost use Rattle.rtcp_run.specs.Check.{HasNoLineFeed};
 ghost use Rattle.rtcp_run.specs.Counted.{failures_of, inner_of};
+ghost use Rattle.rtcp_run.specs.Lines.{HasNoLineFeed};
 ghost use Rattle.rtcp_run.specs.Progress.{Grows, IsBetween, IsAfterLine, Lengthens, LineLeaves, PartLeaves, EndLeaves};
 
-use crate::answer::compose;
+use crate::answerer::Answerer;
 use crate::counted::Counted;
 use crate::fault::{LineFault, TextFault};
 use crate::writing::write_whole;
@@ -19,25 +19,26 @@ const MAX_LINES: u64 = 65_536;
 /// The most octets of a line, its line feed not counted.
 const MAX_LINE: usize = 131_200;
 
-/// Answers lines as they come. The buffers are kept from line to line.
+/// Cuts a text into its lines and has each answered as it comes. The buffers are kept from line to line.
 #[derive(Drop)]
-pub(crate) struct LineChecker {
+pub(crate) struct LineCutter<A> {
+    answerer: A,
     answered: u64,
     pending: Vec<u8>,
-    datagram: Vec<u8>,
     text: Vec<u8>,
 }
 
-impl LineChecker {
-    /// A checker that has answered no line.
-    pub(crate) fn new(alloc: Global) -> Self
+impl<A: Answerer> LineCutter<A> {
+    /// A cutter that has had no line answered.
+    pub(crate) fn new(alloc: Global, answerer: A) -> Self
+        ensures answerer { result.answerer ≡ answerer }
         ensures answered { result.answered ≡ 0 }
         ensures pending { result.pending.items ≡ [] }
     {
-        LineChecker {
+        LineCutter {
+            answerer,
             answered: 0,
             pending: Vec::new(alloc),
-            datagram: Vec::new(alloc),
             text: Vec::new(alloc),
         }
     }
@@ -47,7 +48,8 @@ impl LineChecker {
     ///
     /// # Errors
     ///
-    /// Those of [`check`](crate::check::check) but for `Read`. The checker is not to be used after one.
+    /// Those of [`answer_blocks`](crate::blocks::answer_blocks) but for `Read`. The cutter is not to be used
+    /// after one.
     pub(crate) fn take<W: Write>(
         &mut self,
         block: &[u8],
@@ -56,8 +58,9 @@ impl LineChecker {
         requires between { IsBetween self.old.answered self.old.pending.items }
         requires unfailed { failures_of writer.old ≡ 0 }
         ensures written { Grows (W.contents (inner_of writer.old)) (W.contents (inner_of writer.new))
-            (PartLeaves result self.old.answered (self.old.pending.items ++ block.now)
-            self.new.answered self.new.pending.items) }
+            (PartLeaves A.answers A.refuses result
+            self.old.answered self.old.answerer (self.old.pending.items ++ block.now)
+            self.new.answered self.new.answerer self.new.pending.items) }
         ensures between { OnOk result (IsBetween self.new.answered self.new.pending.items) }
         ensures failed { (result ≡ Err TextFault.Write) ↔ (failures_of writer.new ≢ 0) }
         ensures once { failures_of writer.new ≤ 1 }
@@ -79,12 +82,14 @@ impl LineChecker {
     ///
     /// # Errors
     ///
-    /// Those of [`check`](crate::check::check) but for `Read`. The checker is not to be used after one.
+    /// Those of [`answer_blocks`](crate::blocks::answer_blocks) but for `Read`. The cutter is not to be used
+    /// after one.
     pub(crate) fn finish<W: Write>(&mut self, writer: &mut Counted<W>) -> Result<(), TextFault>
         requires between { IsBetween self.old.answered self.old.pending.items }
         requires unfailed { failures_of writer.old ≡ 0 }
         ensures written { Grows (W.contents (inner_of writer.old)) (W.contents (inner_of writer.new))
-            (EndLeaves result self.old.answered self.old.pending.items) }
+            (EndLeaves A.answers A.refuses result
+            self.old.answered self.old.answerer self.old.pending.items) }
         ensures failed { (result ≡ Err TextFault.Write) ↔ (failures_of writer.new ≢ 0) }
         ensures once { failures_of writer.new ≤ 1 }
     {
@@ -105,6 +110,7 @@ impl LineChecker {
         ensures longer { Lengthens result self.old.answered self.old.pending.items piece.now
             self.new.pending.items }
         ensures answered { self.new.answered ≡ self.old.answered }
+        ensures answerer { self.new.answerer ≡ self.old.answerer }
     {
         if self.answered >= MAX_LINES {
             return Err(self.refused(LineFault::TooManyLines));
@@ -133,8 +139,8 @@ impl LineChecker {
     ///
     /// # Errors
     ///
-    /// - [`TextFault::Text`] where the line is not hex, and [`TextFault::Memory`] where memory is refused:
-    ///   nothing is written.
+    /// - [`TextFault::Text`] where the answerer refuses the line, and [`TextFault::Memory`] where memory is
+    ///   refused: nothing is written.
     /// - [`TextFault::Write`] where a call of the writer fails or takes nothing: a prefix of the answer is
     ///   written.
     fn answer<W: Write>(&mut self, writer: &mut Counted<W>) -> Result<(), TextFault>
@@ -142,14 +148,17 @@ impl LineChecker {
         requires short { vec_len self.old.pending ≤ 131200 }
         requires unfailed { failures_of writer.old ≡ 0 }
         ensures written { Grows (W.contents (inner_of writer.old)) (W.contents (inner_of writer.new))
-            (LineLeaves result (self.old.answered + 1) self.old.pending.items) }
+            (λ text. LineLeaves A.answers A.refuses result (self.old.answered + 1) self.old.answerer
+            self.old.pending.items text self.new.answerer) }
         ensures answered { OnOk result (self.new.answered ≡ self.old.answered + 1) }
         ensures pending { OnOk result (self.new.pending.items ≡ []) }
         ensures failed { (result ≡ Err TextFault.Write) ↔ (failures_of writer.new ≢ 0) }
         ensures once { failures_of writer.new ≤ 1 }
     {
         let number = self.answered + 1;
-        compose(number, &self.pending, &mut self.datagram, &mut self.text)?;
+        self.text.clear();
+        self.answerer
+            .compose(number, &self.pending, &mut self.text)?;
         write_whole(writer, &self.text)?;
         self.answered = number;
         self.pending.clear();

@@ -6,6 +6,8 @@
 #![tactic(auto)]
 
 mod answer;
+mod answerer;
+mod blocks;
 mod check;
 mod command;
 mod counted;

@@ -1,3 +1,4 @@
+mod answerers;
 mod commands;
 mod ends;
 mod flushes;

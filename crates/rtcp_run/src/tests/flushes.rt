@@ -18,6 +18,7 @@ struct Seen {
 #[derive(Drop)]
 struct Blocks<'a> {
     blocks: &'a [&'a [u8]],
+    given: usize,
     seen: &'a Seen,
 }
 
@@ -26,10 +27,10 @@ impl Read for Blocks<'_> {
         if self.seen.flushed.get() < self.seen.written.get() {
             return Err(io::Error::from(ErrorKind::Other));
         }
-        let Some((block, blocks)) = self.blocks.split_first() else {
+        let Some(block) = self.blocks.get(self.given) else {
             return Ok(0);
         };
-        self.blocks = blocks;
+        self.given += 1;
         let mut octets = *block;
         octets.read(buf)
     }
@@ -62,7 +63,8 @@ impl Write for Noting<'_> {
 /// The answers to two lines, to none, to one that came in two blocks, and to the first part of a last line.
 const BLOCKS: [&[u8]; 4] = [b"80c9000100000007\n\n", b"80c9", b"000100000008\n8", b"0"];
 
-/// What a check of the blocks answers, and what was written and stands flushed, where so many flushes succeed.
+/// What a check of the blocks answers, and how much was written and stands flushed, where so many flushes
+/// succeed.
 fn checked(
     rt: &HostRuntime,
     blocks: &[&[u8]],
@@ -74,6 +76,7 @@ fn checked(
     };
     let mut reader = Counted::new(Blocks {
         blocks,
+        given: 0,
         seen: &seen,
     });
     let mut writer = Counted::new(Noting {
@@ -97,10 +100,10 @@ fn answers_stand_flushed(rt: HostRuntime) {
     assert_eq!(rt; checked(&rt, &[b"\n", b"\n\nq\n"], 100), (refused, 42, 14));
 }
 
-/// A flush that fails between two blocks is the fault `Write`, and ends the run.
+/// A flush that fails, before the first block or between two, is the fault `Write` and ends the run.
 #[test]
 fn failed_flushes(rt: HostRuntime) {
-    let rows = [(0, 35, 0), (1, 35, 35), (2, 56, 35), (3, 56, 56)];
+    let rows = [(0, 0, 0), (1, 35, 0), (2, 35, 35), (3, 56, 35), (4, 56, 56)];
     for (flushes, written, flushed) in rows {
         let found = checked(&rt, &BLOCKS, flushes);
         assert_eq!(rt;

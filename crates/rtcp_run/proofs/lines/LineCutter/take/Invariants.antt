@@ -1,8 +1,8 @@
 use Rattle.std.proofs.Common.{◌≡◌, ◌++◌, ℕ, List, length}
 use Rattle.std.specs.Io.KnownBytes.{Appends}
 use Rattle.rtcp_run.specs.Counted.{failures_of, inner_of}
-use Rattle.rtcp_run.specs.Progress.{IsBetween, Answers}
-use Rattle.rtcp_run.proofs.lines.LineChecker.take.Given as goal
+use Rattle.rtcp_run.specs.Progress.{IsBetween, AnswersLines}
+use Rattle.rtcp_run.proofs.lines.LineCutter.take.Given as goal
 
 -- a prefix of the block is taken, and its lines are answered
 abbrev pub invariant-loop-rest : goal.invariant-loop-rest
@@ -11,7 +11,8 @@ invariant-loop-rest g l = record {
   unfailed : failures_of l.writer ≡ 0;
   written : (prefix : List ℕ) × (text : List ℕ) × (l.block ≡ prefix ++ l.rest)
       × Appends (g.W.Write.contents (inner_of l.initial.writer)) (g.W.Write.contents (inner_of l.writer)) text
-      × Answers l.initial.self.answered (l.initial.self.pending.items ++ prefix) l.self.answered l.self.pending.items text;
+      × AnswersLines g.A.Answerer.answers g.A.Answerer.refuses l.initial.self.answered l.initial.self.answerer
+      (l.initial.self.pending.items ++ prefix) l.self.answered l.self.answerer l.self.pending.items text;
 }
 
 abbrev pub decreases-loop-rest : goal.decreases-loop-rest
