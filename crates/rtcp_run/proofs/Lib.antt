@@ -12,6 +12,7 @@ mod LinesLemmas
 mod NumeralLemmas
 mod OptionLemmas
 mod ProgressLemmas
+mod ReplayLemmas
 mod RunLemmas
 mod StatusLemmas
 mod TextLemmas

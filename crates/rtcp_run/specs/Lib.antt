@@ -8,4 +8,5 @@ pub mod Lines
 pub mod Check
 pub mod Counted
 pub mod Progress
+pub mod Replay
 pub mod Status

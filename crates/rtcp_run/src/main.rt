@@ -20,6 +20,7 @@ mod numerals;
 mod options;
 mod order;
 mod orders;
+mod player;
 #[cfg(test)]
 mod tests;
 mod text;
