@@ -1,4 +1,4 @@
-use Rattle.std.proofs.Common.{◌≡◌, [], ◌∷◌, Some, ap, sym, ◌∙◌, option_map}
+use Rattle.std.proofs.Common.{[], ◌∷◌, ap, sym, ◌∙◌, option_map}
 use Rattle.std.proofs.lemmas.List.{map-append}
 use Rattle.rtcp_run.specs.Options.{item_in, text_given, text_in}
 use Rattle.rtcp_run.proofs.OptionLemmas.{item_in-given}
