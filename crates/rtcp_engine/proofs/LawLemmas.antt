@@ -12,7 +12,8 @@ use Rattle.rtcp_members.specs.Stays.{is_before}
 use Rattle.rtcp_members.specs.Pending.{EntryRow, last_reported}
 use Rattle.rtcp_report.specs.Traced.{with_blocks}
 use Rattle.rtcp_engine.specs.declared.refusal.Refusal.{Refusal}
-use Rattle.rtcp_engine.specs.Setups.{Setup}
+use Rattle.rtcp_engine.specs.Setups.{Setup, IsUsable}
+use Rattle.rtcp_engine.specs.Refused.{error_in}
 use Rattle.rtcp_engine.specs.Acts.{Act, rtcp_came, rtp_came, rtp_sent, ticked, IsReading, IsRtpReading}
 use Rattle.rtcp_engine.specs.OwnStreams.{OwnStep, packet_sent, check_passed, sending_since}
 use Rattle.rtcp_engine.specs.OwnSending.{OutlastsChecks, IsSendingSince}
@@ -21,6 +22,7 @@ use Rattle.rtcp_engine.specs.Reporting.{extra_item, last_reported_in, report_oct
 use Rattle.rtcp_engine.specs.Histories.{after, History}
 use Rattle.rtcp_engine.specs.Answers.{refusal_of, with_act, followed_by, report_by}
 use Rattle.rtcp_engine.specs.Sent.{new_reports}
+use Rattle.rtcp_engine.proofs.Usable.{usable_of_unrefused, unrefused_of_usable}
 use Rattle.rtcp_engine.specs.Ticks.{checked, has_come, has_passed, reported, put_off}
 
 -- ---- Readings
@@ -42,6 +44,11 @@ one_reading-rtp_once octets (Ok g) (Ok h) a b = ap Ok (wire.one_head octets g h 
 one_reading-rtp_once octets (Ok g) (Err fault) a b = absurd (wire.packet_or_fault-never_both octets g fault a b)
 one_reading-rtp_once octets (Err fault) (Ok h) a b = absurd (wire.packet_or_fault-never_both octets h fault b a)
 one_reading-rtp_once octets (Err fault) (Err other) a b = ap Err (wire.one_rtp_fault octets fault other a b)
+
+-- ---- Setups
+
+pub usable_is_unrefused : (setup : Setup) → IsUsable setup ↔ (error_in setup ≡ None)
+usable_is_unrefused setup = (unrefused_of_usable setup, usable_of_unrefused setup)
 
 -- ---- Histories
 

@@ -1,8 +1,9 @@
 -- A setup is usable exactly where it is not refused.
 use Rattle.std.proofs.Common.{◌≡◌, ℕ, ◌^◌, ◌%◌, ◌==◌, Bool, true, false, not, List, [], ◌∷◌, length, All, Option, Some, None, if◌then◌else◌, nat_le, refl}
 use Rattle.std.specs.List.{list_all}
-use Rattle.std.proofs.lemmas.Bool.{leb-true, eqb-true, and_parts}
-use Rattle.std.proofs.lemmas.List.Elements.{All-nil, All-cons}
+use Rattle.std.specs.Cmp.Derive.{both_true}
+use Rattle.std.proofs.lemmas.Bool.{leb-true, le-leb, eqb-true, eq-eqb, and_parts, false≢true}
+use Rattle.std.proofs.lemmas.List.Elements.{All-nil, All-cons, All-head, All-tail}
 use Rattle.rtcp_wire.specs.Values.{ItemValue}
 use Rattle.rtcp_engine.specs.declared.config.ConfigError.{ConfigError}
 use Rattle.rtcp_engine.specs.declared.config.ConfigError.TheVariants.{Cname, Capacity, Limit, Bandwidth, Rate, Item}
@@ -50,3 +51,28 @@ usable_of_unrefused setup h =
       few_extras = leb-true (length setup.extras) 7 items.0;
       extras = all_extras setup.extras items.1;
     }
+
+-- ---- And the other way round
+
+passes : (test : Bool) (error : ConfigError) (others : Option ConfigError) → test ≡ true → others ≡ None → (if not test then Some error else others) ≡ None
+passes true error others is none = none
+passes false error others is none = absurd (false≢true is)
+
+is_within_of : (least most number : ℕ) → IsWithin least most number → is_within least most number ≡ true
+is_within_of least most number h = both_true (le-leb least number h.0) (le-leb number most h.1)
+
+is_extra_of : (item : ItemValue) → IsExtraItem item → is_extra_item item ≡ true
+is_extra_of item h = both_true (is_within_of 2 8 item.kind h.0) (le-leb (length item.text) 255 h.1)
+
+are_extra_of : (items : List ItemValue) → All IsExtraItem items → list_all is_extra_item items ≡ true
+are_extra_of [] h = refl
+are_extra_of (item ∷ items) h = both_true (is_extra_of item (All-head IsExtraItem item items h)) (are_extra_of items (All-tail IsExtraItem item items h))
+
+pub unrefused_of_usable : (setup : Setup) → IsUsable setup → error_in setup ≡ None
+unrefused_of_usable setup h =
+    passes (is_within 1 255 (length setup.cname)) Cname _ (is_within_of 1 255 (length setup.cname) h.cname)
+    (passes (is_within 1 1024 setup.capacity) Capacity _ (is_within_of 1 1024 setup.capacity h.capacity)
+    (passes (is_limit setup.limit) Limit _ (both_true (is_within_of 576 1472 setup.limit h.limit) (eq-eqb (setup.limit % 4) 0 h.words))
+    (passes (is_within 16 (2 ^ 30) setup.rtcp_bw) Bandwidth _ (is_within_of 16 (2 ^ 30) setup.rtcp_bw h.bandwidth)
+    (passes (is_within 1 (2 ^ 20) setup.rate) Rate _ (is_within_of 1 (2 ^ 20) setup.rate h.rate)
+    (passes (are_extras setup.extras) Item None (both_true (le-leb (length setup.extras) 7 h.few_extras) (are_extra_of setup.extras h.extras)) refl)))))

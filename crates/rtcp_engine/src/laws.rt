@@ -9,7 +9,8 @@ ghost use Rattle.rtcp_wire.specs.declared.rtp.fault.RtpFault.{RtpFault};
 ghost use Rattle.rtcp_members.specs.Traces.{TraceStep};
 ghost use Rattle.rtcp_members.specs.Pending.{EntryRow, last_reported};
 ghost use Rattle.rtcp_report.specs.Traced.{with_blocks};
-ghost use Rattle.rtcp_engine.specs.Setups.{Setup};
+ghost use Rattle.rtcp_engine.specs.Setups.{Setup, IsUsable};
+ghost use Rattle.rtcp_engine.specs.Refused.{error_in};
 ghost use Rattle.rtcp_engine.specs.Acts.{Act, IsReading, IsRtpReading, moment_of};
 ghost use Rattle.rtcp_engine.specs.OwnStreams.{OwnStep, sending_since};
 ghost use Rattle.rtcp_engine.specs.OwnSending.{IsSendingSince};
@@ -30,6 +31,11 @@ pub fn one_reading()
         (reading : Result RtpValue RtpFault) × IsRtpReading octets reading }
     ensures rtp_once { (octets : List ℕ) (one other : Result RtpValue RtpFault) →
         IsRtpReading octets one → IsRtpReading octets other → one ≡ other }
+{}
+
+/// A setup is usable exactly where no reason to refuse it applies.
+pub fn usable_is_unrefused()
+    ensures { (setup : Setup) → IsUsable setup ↔ (error_in setup ≡ None) }
 {}
 
 /// An act that is refused changes nothing of a history, and one that is taken becomes its newest.

@@ -118,7 +118,8 @@ impl<T: MemberTable> Participant<T> {
         self.sender_count()
     }
 
-    /// When to call `tick` next, in microseconds since the session began.
+    /// When to call `tick` next, in microseconds since the session began. (It is never `None` yet, since a
+    /// participant cannot leave so far.)
     pub fn next(&self) -> Option<u64>
         ensures { (history : History) → StandsAt self.now history →
             result ≡ Some (timing_of (outcome_at history)).next }

@@ -30,7 +30,7 @@ pub struct Step {
     /// Those of them that send RTP packets, the participant included where it does.
     pub senders: u32,
     /// When to call `tick` next, in microseconds since the session began. It may lie before the moment of the
-    /// call: then a report is overdue.
+    /// call: then a report is overdue. (It is never `None` yet, since a participant cannot leave so far.)
     pub next: Option<u64>,
 }
 

@@ -20,7 +20,8 @@ next_text (Some next) = decimal next
 
 abbrev pub counts_text : (members senders : ℕ) → (next : Option ℕ) → List ℕ
 counts_text members senders next =
-    codes "members=" ++ decimal members ++ codes " senders=" ++ decimal senders ++ codes " next=" ++ next_text next
+    codes "members=" ++ decimal members ++ codes " senders=" ++ decimal senders
+    ++ codes " next=" ++ next_text next
 
 abbrev pub kind_text : OutKind → List ℕ
 kind_text Report = codes "report"
@@ -31,7 +32,8 @@ out_text None = codes "-"
 out_text (Some out) = kind_text out.kind ++ codes ":" ++ encode_lower out.octets
 
 abbrev pub step_text : StepValue → List ℕ
-step_text step = codes "ok " ++ counts_text step.members step.senders step.next ++ codes " out=" ++ out_text step.out
+step_text step =
+    codes "ok " ++ counts_text step.members step.senders step.next ++ codes " out=" ++ out_text step.out
 
 -- ---- Refusals
 

@@ -11,7 +11,8 @@ use Rattle.hex.specs.Hex.{decode_of, decode_sized}
 -- ---- Decimal
 
 abbrev pub is_decimal : List ℕ → Bool
-is_decimal text = nat_le 1 (length text) && nat_le (length text) 20 && list_all (λ digit. is_digit digit 10) text
+is_decimal text =
+    nat_le 1 (length text) && nat_le (length text) 20 && list_all (λ digit. is_digit digit 10) text
 
 -- The number that 1 to 20 decimal digits write, where it is below 2 ^ bits.
 abbrev pub decimal_in : (bits : ℕ) → List ℕ → Option ℕ

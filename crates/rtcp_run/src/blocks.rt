@@ -16,8 +16,8 @@ use std::io::{Read, Write};
 /// The most octets that one read asks for.
 const BLOCK: usize = 8_192;
 
-/// Answers the lines of the reader's input, block by block, up to its end or the first fault. What was written
-/// is flushed before each read; what is answered after the last one is left for the caller to flush.
+/// Answers the lines of the reader's input, block by block, up to its end or the first fault. What was
+/// written is flushed before each read; what is answered after the last one is left for the caller to flush.
 ///
 /// # Errors
 ///

@@ -34,8 +34,8 @@ impl From<LineFault> for EventFault {
     }
 }
 
-/// The event that a line says. The octets of its datagram, if it has one, go into `datagram`, a buffer that is
-/// kept from line to line.
+/// The event that a line says. The octets of its datagram, if it has one, go into `datagram`, a buffer that
+/// is kept from line to line.
 ///
 /// # Errors
 ///
@@ -157,7 +157,8 @@ fn read_octets<'a>(field: &[u8], datagram: &'a mut Vec<u8>) -> Result<&'a [u8], 
 
 /// The three fields after a first one, if there are just three.
 fn three_fields(rest: Option<&[u8]>) -> Option<(&[u8], &[u8], &[u8])>
-    ensures some { IfSome result (λ fields. fields_left rest.entry ≡ fields.0.now ∷ fields.1.now ∷ fields.2.now ∷ []) }
+    ensures some { IfSome result (λ fields.
+        fields_left rest.entry ≡ fields.0.now ∷ fields.1.now ∷ fields.2.now ∷ []) }
     ensures none { IfNone result (length (fields_left rest.entry) ≢ 3) }
 {
     let (first, rest) = split_field(rest?);

@@ -29,8 +29,8 @@ pub(crate) struct Options<'a> {
     pub(crate) word: &'a str,
 }
 
-/// The configuration and the word of the start that options say. Whether a participant takes the configuration
-/// is not tested here.
+/// The configuration and the word of the start that options say. Whether a participant takes the
+/// configuration is not tested here.
 ///
 /// # Errors
 ///
@@ -69,8 +69,8 @@ fn read_config(options: Options<'_>) -> Result<Config, &'static str>
     Ok(config)
 }
 
-/// RTCP's part of a session's bandwidth, in octets a second, or the greatest number of 32 bits where it does not
-/// fit those.
+/// RTCP's part of a session's bandwidth, in octets a second, or the greatest number of 32 bits where it does
+/// not fit those.
 fn bandwidth_of(session_bps: u64) -> u32
     ensures { result ≡ bandwidth_by session_bps }
 {
