@@ -9,8 +9,5 @@ pub mod Check
 pub mod Counted
 pub mod Progress
 pub mod Replay
-<<<<<<< HEAD
 pub mod Orders
-=======
->>>>>>> main
 pub mod Status

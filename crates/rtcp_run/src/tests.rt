@@ -2,4 +2,5 @@ mod answerers;
 mod commands;
 mod ends;
 mod flushes;
+mod replays;
 mod rows;

@@ -54,7 +54,8 @@ enum Absent {
     Nothing,
 }
 
-/// The options: the name, the value, what stands for it, and the help, in the order in which they are looked at.
+/// The options: the name, the value, what stands for it, and the help, in the order in which they are looked
+/// at.
 const OPTIONS: [(&str, &str, Absent, &str); 15] = [
     ("ssrc", "HEX", Absent::Refused, "SSRC, 8 hex digits"),
     ("cname", "TEXT", Absent::Refused, "CNAME, 1 to 255 octets"),

@@ -81,8 +81,8 @@ fn numbers(rt: HostRuntime) -> Result<(), Fail> {
     Ok(())
 }
 
-/// RTCP's bandwidth is the twentieth part of the session's, in octets, and the greatest number of 32 bits where it
-/// does not fit those.
+/// RTCP's bandwidth is the twentieth part of the session's, in octets, and the greatest number of 32 bits
+/// where it does not fit those.
 #[test]
 fn bandwidths(rt: HostRuntime) -> Result<(), Fail> {
     let rows = [
