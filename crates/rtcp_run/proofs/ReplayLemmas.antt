@@ -1,9 +1,5 @@
 -- The text of a session: each line says one act or has one fault, and what holds a participant answers as its history does.
-use Rattle.std.proofs.Common.{◌≡◌, ℕ, ◌⊎◌, inl, inr, List, [], ◌++◌, Option, Some, None, Result, Ok, Err, refl, sym, ◌∙◌, ap, subst, append_assoc, append-nil}
-use Rattle.rtcp_wire.specs.declared.fault.WireFault.{WireFault}
-use Rattle.rtcp_wire.specs.declared.rtp.fault.RtpFault.{RtpFault}
-use Rattle.rtcp_wire.specs.Values.{RtcpPacket}
-use Rattle.rtcp_wire.specs.RtpHeads.{RtpValue}
+use Rattle.std.proofs.Common.{◌≡◌, ℕ, ◌⊎◌, inl, inr, List, [], ◌++◌, Option, Result, Ok, Err, refl, sym, ◌∙◌, ap, subst, append_assoc}
 use Rattle.rtcp_engine.specs.Acts.{Act, rtcp_came, rtp_came, rtp_sent, ticked}
 use Rattle.rtcp_engine.specs.Answers.{AnswerValue, answer_of, followed_by}
 use Rattle.rtcp_engine.specs.Histories.{History}
@@ -15,7 +11,7 @@ use Rattle.rtcp_run.specs.declared.fault.LineFault.{LineFault}
 use Rattle.rtcp_run.specs.declared.fault.TextFault.{TextFault}
 use Rattle.rtcp_run.specs.declared.fault.TextFault.TheVariants.{Text, Read, Write, Memory}
 use Rattle.rtcp_run.specs.Lines.{lines_of, IsTextFrom}
-use Rattle.rtcp_run.specs.Progress.{RunLeaves, IsPrefixOfAnswers}
+use Rattle.rtcp_run.specs.Progress.{RunLeaves}
 use Rattle.rtcp_run.specs.Replay.{AnswersEvent, AnswersStanding, IsNoEvent, IsSessionText, IsPrefixOfSession, SessionBefore, SessionUpToBlock, SessionLeaves, opening}
 use Rattle.rtcp_run.proofs.TextLemmas.{IsTotal, IsUnique, text_exists, text_continues, one_text, IsTextBy-shown}
 use Rattle.rtcp_run.proofs.ClauseLemmas.{Continues, RunLeaves-weaker, IsPrefixBy-leaves, AnswersLinesBeforeBy-block}

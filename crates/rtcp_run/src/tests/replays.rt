@@ -8,11 +8,7 @@ use std::alloc::Global;
 use std::test::Fail;
 
 /// A plain participant, with the option that a row adds.
-fn asked(
-    alloc: Global,
-    option: &'static str,
-    value: &'static str,
-) -> Result<TextOrder, Fail> {
+fn asked(alloc: Global, option: &'static str, value: &'static str) -> Result<TextOrder, Fail> {
     let words = [
         "rtcp", "replay", "--ssrc", "000000aa", "--cname", "a", option, value,
     ];
