@@ -417,6 +417,8 @@ def given_options(arguments):
     for option, value in zip(arguments[::2], arguments[1::2]):
         if not option.startswith("--") or option[2:] not in OPTIONS or option[2:] in given:
             raise Usage
+        if value.startswith("-") and value != "-":  # an option, so the one before has no value
+            raise Usage
         try:
             given[option[2:]] = value.encode()
         except UnicodeEncodeError:
