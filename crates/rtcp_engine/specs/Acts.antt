@@ -1,6 +1,6 @@
 -- What a participant is told: what came, what was sent beside it, and that time has passed. Moments are in
 -- microseconds since the session began.
-use Rattle.std.specs.Prelude.{ℕ, List, Result, Ok, Err}
+use Rattle.std.specs.Prelude.{◌≡◌, ℕ, List, length, Result, Ok, Err}
 use Rattle.rtcp_wire.specs.declared.fault.WireFault.{WireFault}
 use Rattle.rtcp_wire.specs.declared.rtp.fault.RtpFault.{RtpFault}
 use Rattle.rtcp_wire.specs.Values.{RtcpPacket}
@@ -36,3 +36,26 @@ IsReading octets (Err fault) = IsFirstFault octets fault
 abbrev pub IsRtpReading : List ℕ → Result RtpValue RtpFault → Type 0
 IsRtpReading octets (Ok head) = IsRtpHead octets head
 IsRtpReading octets (Err fault) = IsRtpFault octets fault
+
+-- ---- Events
+
+-- What a host tells a participant, with the octets of a datagram as they came.
+pub data EventValue : Type 0 where
+  -- an RTCP datagram came
+  rtcp_arrived : (moment : ℕ) (octets : List ℕ) → EventValue
+  -- an RTP datagram came
+  rtp_arrived : (moment : ℕ) (octets : List ℕ) → EventValue
+  -- the host sent an RTP packet with this timestamp and so many octets of payload
+  packet_sent : (moment timestamp octets : ℕ) → EventValue
+  -- the host asked whether a report is due, and gave two random words
+  time_passed : (moment first_word second_word : ℕ) → EventValue
+
+-- The act of an event: what the octets of a datagram say stands in it.
+abbrev pub IsActOfEvent : EventValue → Act → Type 0
+IsActOfEvent (rtcp_arrived moment octets) act =
+    (reading : Result (List RtcpPacket) WireFault) × IsReading octets reading
+    × (act ≡ rtcp_came moment (length octets) reading)
+IsActOfEvent (rtp_arrived moment octets) act =
+    (reading : Result RtpValue RtpFault) × IsRtpReading octets reading × (act ≡ rtp_came moment reading)
+IsActOfEvent (packet_sent moment timestamp octets) act = act ≡ rtp_sent moment timestamp octets
+IsActOfEvent (time_passed moment first_word second_word) act = act ≡ ticked moment first_word second_word

@@ -1,9 +1,5 @@
 -- What the crate's types say, as values of the definitions.
-use Rattle.std.specs.Prelude.{◌≡◌, List, [], ◌∷◌, map, length, option_map, Result, Ok, Err}
-use Rattle.rtcp_wire.specs.declared.fault.WireFault.{WireFault}
-use Rattle.rtcp_wire.specs.declared.rtp.fault.RtpFault.{RtpFault}
-use Rattle.rtcp_wire.specs.Values.{RtcpPacket}
-use Rattle.rtcp_wire.specs.RtpHeads.{RtpValue}
+use Rattle.std.specs.Prelude.{List, [], ◌∷◌, map, option_map, Result, Ok, Err}
 use Rattle.rtcp_report.specs.Views.{item_value}
 use Rattle.rtcp_engine.specs.declared.config.Config.{Config}
 use Rattle.rtcp_engine.specs.declared.refusal.Refusal.{Refusal}
@@ -12,7 +8,7 @@ use Rattle.rtcp_engine.specs.declared.step.Step.{Step}
 use Rattle.rtcp_engine.specs.declared.event.Event.{Event}
 use Rattle.rtcp_engine.specs.declared.event.Event.TheVariants.{ArriveRtcp, ArriveRtp, SentRtp, Tick}
 use Rattle.rtcp_engine.specs.Setups.{Setup}
-use Rattle.rtcp_engine.specs.Acts.{Act, rtcp_came, rtp_came, rtp_sent, ticked, IsReading, IsRtpReading}
+use Rattle.rtcp_engine.specs.Acts.{Act, EventValue, rtcp_arrived, rtp_arrived, packet_sent, time_passed, IsActOfEvent}
 use Rattle.rtcp_engine.specs.Answers.{OutValue, StepValue, AnswerValue}
 
 abbrev pub setup_of : Config → Setup
@@ -46,15 +42,14 @@ answer_value (Err refusal) = Err refusal
 
 -- ---- Events
 
--- The act of an event: what the octets of a datagram say stands in it.
+abbrev pub event_value : Event → EventValue
+event_value (ArriveRtcp now bytes) = rtcp_arrived now bytes.now
+event_value (ArriveRtp now bytes) = rtp_arrived now bytes.now
+event_value (SentRtp now timestamp octets) = packet_sent now timestamp octets
+event_value (Tick now first_word second_word) = time_passed now first_word second_word
+
 abbrev pub IsActOf : Event → Act → Type 0
-IsActOf (ArriveRtcp now bytes) act =
-    (reading : Result (List RtcpPacket) WireFault) × IsReading bytes.now reading
-    × (act ≡ rtcp_came now (length bytes.now) reading)
-IsActOf (ArriveRtp now bytes) act =
-    (reading : Result RtpValue RtpFault) × IsRtpReading bytes.now reading × (act ≡ rtp_came now reading)
-IsActOf (SentRtp now timestamp octets) act = act ≡ rtp_sent now timestamp octets
-IsActOf (Tick now first_word second_word) act = act ≡ ticked now first_word second_word
+IsActOf event act = IsActOfEvent (event_value event) act
 
 -- one act for each event, in their order
 abbrev pub AreActsOf : List Event → List Act → Type 0

@@ -32,11 +32,14 @@ pub fn run<T: MemberTable, S: Sink>(
 ) -> Ran
     requires { S.refusals sink.old < 2 ^ 64 - 1 }
 
-    // All events are told where the sink took every answer, and at least one where it did not.
+    // All events are told where the sink took every answer, and at least one where it did not. The sink gets
+    // as many answers as events were told, but for the one that it refused.
     ensures most { result.taken ≤ length events.now }
     ensures whole { result.stopped ≡ false → result.taken ≡ length events.now }
     ensures some { result.stopped ≡ true → 1 ≤ result.taken }
     ensures stopped { S.refusals sink.new ≡ S.refusals sink.old + one_if result.stopped }
+    ensures handed { length (S.content sink.new)
+        ≡ length (S.content sink.old) + (result.taken - one_if result.stopped) }
 
     // The sink has the answers of the whole history to the events that it was told of, and the participant
     // stands at the history followed by all that were told.

@@ -2,7 +2,8 @@
 use Rattle.std.proofs.Common.{◌≡◌, [], ◌∷◌, Ok, Err, refl, codes}
 use Rattle.hex.specs.Hex.{decode_pairs}
 use Rattle.rtcp_run.specs.declared.fault.LineFault.TheVariants.{Words, Hex, Number}
-use Rattle.rtcp_run.specs.EventLines.{rtcp_arrived, rtp_arrived, packet_sent, time_passed, event_in}
+use Rattle.rtcp_engine.specs.Acts.{rtcp_arrived, rtp_arrived, packet_sent, time_passed}
+use Rattle.rtcp_run.specs.EventLines.{event_in}
 
 -- The empty datagram.
 empty_datagram : event_in (codes "rtcp 0 -") ≡ Ok (rtcp_arrived 0 [])

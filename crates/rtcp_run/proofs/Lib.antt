@@ -3,7 +3,6 @@ mod CheckLemmas
 mod ClauseLemmas
 mod CountedLemmas
 mod DigitTable
-pub mod EventLemmas
 mod EventRows
 mod FieldLemmas
 mod Joined

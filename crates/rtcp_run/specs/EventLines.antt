@@ -1,52 +1,17 @@
 -- What a line of a session says, as `rtcp replay` reads it.
-use Rattle.std.specs.Prelude.{◌≡◌, ℕ, ◌==◌, List, [], ◌∷◌, length, if◌then◌else◌, Option, Some, None, Result, Ok, Err, codes}
+use Rattle.std.specs.Prelude.{ℕ, ◌==◌, List, [], ◌∷◌, if◌then◌else◌, Option, Some, None, Result, Ok, Err, codes}
 use Rattle.std.specs.Borrow.{Bor}
 use Rattle.std.specs.Int.{w32}
 use Rattle.std.specs.List.{slice_split}
 use Rattle.std.specs.Option.{ok_or}
 use Rattle.std.specs.Str.{bytes_eq}
-use Rattle.rtcp_engine.specs.declared.event.Event.{Event}
-use Rattle.rtcp_engine.specs.declared.event.Event.TheVariants.{ArriveRtcp, ArriveRtp, SentRtp, Tick}
-use Rattle.rtcp_engine.specs.Acts.{Act, rtcp_came, rtp_came, rtp_sent, ticked, IsReading, IsRtpReading}
-use Rattle.rtcp_wire.specs.declared.fault.WireFault.{WireFault}
-use Rattle.rtcp_wire.specs.declared.rtp.fault.RtpFault.{RtpFault}
-use Rattle.rtcp_wire.specs.RtpHeads.{RtpValue}
-use Rattle.rtcp_wire.specs.Values.{RtcpPacket}
+use Rattle.rtcp_engine.specs.Acts.{EventValue, rtcp_arrived, rtp_arrived, packet_sent, time_passed}
 use Rattle.rtcp_run.specs.declared.event_line.LineKind.{LineKind}
 use Rattle.rtcp_run.specs.declared.event_line.LineKind.TheVariants.{Rtcp, Rtp, Sent, Ticked}
 use Rattle.rtcp_run.specs.declared.fault.LineFault.{LineFault}
 use Rattle.rtcp_run.specs.declared.fault.LineFault.TheVariants.{Words, Hex, Number}
 use Rattle.rtcp_run.specs.Numerals.{decimal_in, hex_in, datagram_in}
 use Rattle.rtcp_run.specs.Results.{◌>>=◌}
-
--- ---- Events
-
-pub data EventValue : Type 0 where
-  -- an RTCP datagram came
-  rtcp_arrived : (moment : ℕ) (octets : List ℕ) → EventValue
-  -- an RTP datagram came
-  rtp_arrived : (moment : ℕ) (octets : List ℕ) → EventValue
-  -- the host sent an RTP packet with this timestamp and so many octets of payload
-  packet_sent : (moment timestamp octets : ℕ) → EventValue
-  -- the host asked whether a report is due, and gave two random words
-  time_passed : (moment first_word second_word : ℕ) → EventValue
-
--- an event as the participant takes it
-abbrev pub event_value : Event → EventValue
-event_value (ArriveRtcp now bytes) = rtcp_arrived now bytes.now
-event_value (ArriveRtp now bytes) = rtp_arrived now bytes.now
-event_value (SentRtp now timestamp octets) = packet_sent now timestamp octets
-event_value (Tick now first_word second_word) = time_passed now first_word second_word
-
--- the act of an event: what the octets of a datagram say stands in it
-abbrev pub IsActOfEvent : EventValue → Act → Type 0
-IsActOfEvent (rtcp_arrived moment octets) act =
-    (reading : Result (List RtcpPacket) WireFault) × IsReading octets reading
-    × (act ≡ rtcp_came moment (length octets) reading)
-IsActOfEvent (rtp_arrived moment octets) act =
-    (reading : Result RtpValue RtpFault) × IsRtpReading octets reading × (act ≡ rtp_came moment reading)
-IsActOfEvent (packet_sent moment timestamp octets) act = act ≡ rtp_sent moment timestamp octets
-IsActOfEvent (time_passed moment first_word second_word) act = act ≡ ticked moment first_word second_word
 
 -- ---- Fields
 

@@ -1,6 +1,6 @@
 -- The text of a session: what a participant answers to the events that the lines of an input say.
 use Rattle.std.specs.Prelude.{◌≡◌, ℕ, ◌⊎◌, List, [], ◌++◌, Option, Some, None, Result, Ok, Err}
-use Rattle.rtcp_engine.specs.Acts.{Act}
+use Rattle.rtcp_engine.specs.Acts.{Act, EventValue, IsActOfEvent}
 use Rattle.rtcp_engine.specs.Outcomes.{timing_of}
 use Rattle.rtcp_engine.specs.Histories.{History, outcome_at}
 use Rattle.rtcp_engine.specs.Answers.{answer_of, followed_by}
@@ -8,7 +8,7 @@ use Rattle.rtcp_engine.specs.States.{State, StandsAt}
 use Rattle.rtcp_run.specs.declared.fault.LineFault.{LineFault}
 use Rattle.rtcp_run.specs.declared.fault.TextFault.{TextFault}
 use Rattle.rtcp_run.specs.declared.fault.TextFault.TheVariants.{Text, Read, Write, Memory}
-use Rattle.rtcp_run.specs.EventLines.{EventValue, event_in, IsActOfEvent}
+use Rattle.rtcp_run.specs.EventLines.{event_in}
 use Rattle.rtcp_run.specs.AnswerText.{start_text, answer_text}
 use Rattle.rtcp_run.specs.Lines.{lines_of, Answering, Refusing, IsTextFrom, TextOfLines, AnswersWhatCameBy, AnswersUpToBlockBy, AnswersLinesBeforeBy}
 

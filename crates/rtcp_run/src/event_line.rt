@@ -1,7 +1,9 @@
 //! A line of a session, as `rtcp replay` reads it.
 
 ghost use Rattle.std.specs.Prelude.{◌≡◌, ◌≢◌, ℕ, List, ◌∷◌, [], Ok, Err, IfOk, IfErr, IfSome, IfNone, length};
-ghost use Rattle.rtcp_run.specs.EventLines.{arrival, event_in, event_value, EventValue, fields_left, fields_of, kind_named, moment_in, octets_in, sending, tick};
+ghost use Rattle.rtcp_engine.specs.Acts.{EventValue};
+ghost use Rattle.rtcp_engine.specs.Views.{event_value};
+ghost use Rattle.rtcp_run.specs.EventLines.{arrival, event_in, fields_left, fields_of, kind_named, moment_in, octets_in, sending, tick};
 ghost use Rattle.rtcp_run.specs.declared.event_line.EventFault.TheVariants.{Line};
 ghost use Rattle.rtcp_run.specs.declared.fault.LineFault.{LineFault as Fault};
 

@@ -1,6 +1,6 @@
 //! The answer to a line of a session: what a participant answers to the event that the line says.
 
-ghost use Rattle.std.specs.Prelude.{◌≡◌};
+ghost use Rattle.std.specs.Prelude.{◌≡◌, false, is_some};
 ghost use Rattle.rtcp_engine.specs.Acts.{Act};
 ghost use Rattle.rtcp_engine.specs.Answers.{answer_of, followed_by};
 ghost use Rattle.rtcp_engine.specs.Histories.{History};
@@ -11,9 +11,10 @@ use crate::answerer::Answerer;
 use crate::event_line::{EventFault, read_event};
 use crate::fault::TextFault;
 use crate::text::push_answer;
-use rtcp_engine::{Answer, Event, Participant};
+use rtcp_engine::{Answer, Event, Participant, Sink, SinkStop, run};
 use rtcp_members::MemberTable;
 use std::alloc::{AllocError, Global};
+use std::slice;
 
 /// Tells a participant the event of each line. The buffer of the datagrams is kept from line to line.
 #[derive(Drop)]
@@ -67,14 +68,37 @@ fn answer_to<T: MemberTable>(participant: &mut Participant<T>, event: &Event<'_>
     ensures stands { (history : History) (act : Act) → StandsAt participant.old history →
         IsActOf event.now act → StandsAt participant.new (followed_by history act) }
 {
-    match *event {
-        Event::ArriveRtcp { now, bytes } => participant.arrive_rtcp(now, bytes),
-        Event::ArriveRtp { now, bytes } => participant.arrive_rtp(now, bytes),
-        Event::SentRtp {
-            now,
-            rtp_ts,
-            octets,
-        } => participant.sent_rtp(now, rtp_ts, octets),
-        Event::Tick { now, w1, w2 } => participant.tick(now, w1, w2),
+    let mut sink = OneAnswer {
+        answer: None,
+        refusals: 0,
+    };
+    run(participant, slice::from_ref(event), &mut sink);
+    sink.answer.unwrap()
+}
+
+/// A sink with room for one answer.
+#[derive(Drop)]
+struct OneAnswer {
+    answer: Option<Answer>,
+    refusals: u64,
+    // It refuses none before it has one.
+    ghost open: { is_some answer ≡ false → refusals ≡ 0 },
+}
+
+impl Sink for OneAnswer {
+    ghost use Rattle.std.specs.Prelude.{map};
+    ghost use Rattle.std.specs.Option.{option_to_list};
+
+    ghost content = { λ sink. map answer_value (option_to_list sink.answer) };
+
+    ghost refusals = { λ sink. sink.refusals };
+
+    fn put(&mut self, answer: Answer) -> Result<(), SinkStop> {
+        if self.answer.is_some() {
+            self.refusals += 1;
+            return Err(SinkStop);
+        }
+        self.answer = Some(answer);
+        Ok(())
     }
 }

@@ -1,5 +1,5 @@
-use Rattle.std.proofs.Common.{◌++◌, ◌+◌, ◌∙◌, List, [], ◌∷◌, take, ap, sym, subst}
-use Rattle.std.proofs.lemmas.List.{append_assoc}
+use Rattle.std.proofs.Common.{◌++◌, ◌+◌, ◌∙◌, List, [], ◌∷◌, length, take, ap, sym, subst, arith}
+use Rattle.std.proofs.lemmas.List.{append_assoc, length-append}
 use Rattle.rtcp_engine.specs.Histories.{History}
 use Rattle.rtcp_engine.specs.Answers.{AnswerValue, answer_of, answers_to, followed_by_all}
 use Rattle.rtcp_engine.specs.Views.{answer_value}
@@ -20,6 +20,9 @@ events-preserved g c =
     record {
       count = ap (λ n. n + 1) c.events.invariant.count;
       refusals = of_no_error c.put.result none c.put.ensures.none ∙ c.events.invariant.refusals;
+      handed = ap length (of_no_error c.put.result none c.put.ensures.taken)
+          ∙ length-append _ (answer_value c.tell-answer.result ∷ [])
+          ∙ omega (arith, c.events.invariant.handed);
       told = λ history acts h are.
           let next = next_act c.args.events.now acts c.events.taken c.events.event-index c.events.invariant.count c.events-test.true are in
           let told = followed_by_all history (take c.events.taken acts) in

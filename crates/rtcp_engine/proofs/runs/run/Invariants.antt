@@ -1,4 +1,4 @@
-use Rattle.std.proofs.Common.{◌≡◌, ◌++◌, List, take}
+use Rattle.std.proofs.Common.{◌≡◌, ◌+◌, ◌++◌, List, length, take}
 use Rattle.rtcp_engine.specs.Acts.{Act}
 use Rattle.rtcp_engine.specs.Histories.{History}
 use Rattle.rtcp_engine.specs.Answers.{answers_to, followed_by_all}
@@ -10,6 +10,7 @@ abbrev pub invariant-events : goal.invariant-events
 invariant-events g l = record {
   count : l.taken ≡ l.event-index;
   refusals : g.S.Sink.refusals l.sink ≡ g.S.Sink.refusals l.fn.sink;
+  handed : length (g.S.Sink.content l.sink) ≡ length (g.S.Sink.content l.fn.sink) + l.taken;
   told : (history : History) (acts : List Act) → StandsAt l.fn.participant history → AreActsOf l.events acts →
       g.S.Sink.content l.sink ≡ g.S.Sink.content l.fn.sink ++ answers_to history (take l.taken acts);
   stands : (history : History) (acts : List Act) → StandsAt l.fn.participant history → AreActsOf l.events acts →

@@ -1,5 +1,6 @@
 use Rattle.std.proofs.Common.{Some, Err, ap, sym, ◌∙◌}
-use Rattle.rtcp_run.specs.EventLines.{rtcp_arrived, rtp_arrived, fields_left}
+use Rattle.rtcp_engine.specs.Acts.{rtcp_arrived, rtp_arrived}
+use Rattle.rtcp_run.specs.EventLines.{fields_left}
 use Rattle.rtcp_run.specs.declared.event_line.LineKind.TheVariants.{Rtcp, Rtp}
 use Rattle.rtcp_run.proofs.FieldLemmas.{event_in-named}
 use Rattle.rtcp_run.proofs.event_line.read_event.Goals as goal
