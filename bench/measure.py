@@ -1,6 +1,7 @@
 #!/usr/bin/env python3
-"""Prints the processor time a line, the least of three runs, and the peak memory of `PROGRAM check` over a file of
-lines."""
+"""Prints the processor time a line, the least of three runs, and the peak memory of `PROGRAM check` over a
+file of lines.
+usage: bench/measure.py PROGRAM FILE NAME"""
 import os
 import resource
 import subprocess
@@ -10,18 +11,18 @@ import time
 RUNS = 3
 
 
-def processor_seconds(program, path):
+def processor_seconds(command, path):
     before = resource.getrusage(resource.RUSAGE_CHILDREN)
     with open(path) as lines, open(os.devnull, "w") as nothing:
-        subprocess.run([program, "check"], stdin=lines, stdout=nothing, check=True)
+        subprocess.run(command, stdin=lines, stdout=nothing, check=True)
     after = resource.getrusage(resource.RUSAGE_CHILDREN)
     return after.ru_utime - before.ru_utime + after.ru_stime - before.ru_stime
 
 
-def peak_megabytes(program, path):
+def peak_megabytes(command, path):
     """The most memory that was resident, read from the system after all lines were sent and before the input ends."""
     with open(path, "rb") as lines, open(os.devnull, "w") as nothing:
-        running = subprocess.Popen([program, "check"], stdin=subprocess.PIPE, stdout=nothing)
+        running = subprocess.Popen(command, stdin=subprocess.PIPE, stdout=nothing)
         while piece := lines.read(1 << 20):
             running.stdin.write(piece)
         running.stdin.flush()
@@ -35,10 +36,12 @@ def peak_megabytes(program, path):
 
 def main():
     program, path, name = sys.argv[1:]
+    command = [program, "check"]
     with open(path) as lines:
         count = sum(1 for _ in lines)
-    spent = min(processor_seconds(program, path) for _ in range(RUNS))
-    print(f"{name:8} {spent / count * 1e6:7.2f} us a line, {peak_megabytes(program, path):5.1f} MB at most")
+    spent = min(processor_seconds(command, path) for _ in range(RUNS))
+    print(f"{name:8} {spent / count * 1e6:7.2f} us a line, {peak_megabytes(command, path):5.1f} MB at most")
 
 
-main()
+if __name__ == "__main__":
+    main()

@@ -74,4 +74,5 @@ def main():
         (folder / f"{name}.hex").write_text("".join(line.hex() + "\n" for line in lines))
 
 
-main()
+if __name__ == "__main__":
+    main()
