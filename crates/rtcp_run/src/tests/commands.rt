@@ -1,12 +1,14 @@
 //! Command lines, fault lines and statuses.
 
 use super::ends::{Narrow, Pieces};
+use super::{refused, same};
 use crate::command::command;
 use crate::order::{order, refuse, unreadable};
 use crate::orders::{Order, OrderFault, TextOrder};
 use std::alloc::{AllocError, Global};
 use std::io;
 use std::io::{ErrorKind, Read, Write};
+use std::process::Abort;
 use std::test::Fail;
 
 /// Takes all, and fails when it is flushed.
@@ -33,61 +35,60 @@ fn full(alloc: Global) -> Narrow {
     }
 }
 
-/// The status of a check, and its fault line.
-fn ended<R: Read + Drop, W: Write + Drop>(alloc: Global, reader: R, writer: W) -> (u8, Vec<u8>) {
+/// A check of this reader to this writer ends with this status and this fault line.
+fn ends_with<R: Read + Drop, W: Write + Drop>(
+    rt: &impl Abort,
+    alloc: Global,
+    reader: R,
+    writer: W,
+    status: u8,
+    fault: &str,
+) {
     let mut faults = Vec::new(alloc);
-    let status = command(alloc, TextOrder::Check, reader, writer, &mut faults);
-    (status, faults)
+    let ended = command(alloc, TextOrder::Check, reader, writer, &mut faults);
+    assert_eq!(rt; ended, status, "{fault}");
+    same(rt, &faults, fault.as_bytes(), fault);
 }
 
 #[test]
 fn ends(rt: HostRuntime) {
     let alloc = rt.alloc();
-    let (status, fault) = ended(alloc, b"80c9000100000007\n".as_slice(), Vec::new(alloc));
-    assert_eq!(rt; status, 0);
-    assert_eq!(rt; fault.as_slice(), b"".as_slice());
-    let (status, fault) = ended(alloc, b"\n80\n0".as_slice(), Vec::new(alloc));
-    assert_eq!(rt; status, 2);
-    assert_eq!(rt; fault.as_slice(), b"line 3: X4 Hex\n".as_slice());
+    let well = b"80c9000100000007\n".as_slice();
+    ends_with(&rt, alloc, well, Vec::new(alloc), 0, "");
+    let faulty = b"\n80\n0".as_slice();
+    ends_with(&rt, alloc, faulty, Vec::new(alloc), 2, "line 3: X4 Hex\n");
     let broken = Pieces {
         rest: b"",
         piece: 1,
         calls: 0,
     };
-    let (status, fault) = ended(alloc, broken, Vec::new(alloc));
-    assert_eq!(rt; status, 1);
-    assert_eq!(rt; fault.as_slice(), b"read\n".as_slice());
-    let (status, fault) = ended(alloc, b"\n".as_slice(), full(alloc));
-    assert_eq!(rt; status, 1);
-    assert_eq!(rt; fault.as_slice(), b"write\n".as_slice());
-    let (status, fault) = ended(alloc, b"\n".as_slice(), NeverFlushed);
-    assert_eq!(rt; status, 1);
-    assert_eq!(rt; fault.as_slice(), b"write\n".as_slice());
+    ends_with(&rt, alloc, broken, Vec::new(alloc), 1, "read\n");
+    ends_with(&rt, alloc, b"\n".as_slice(), full(alloc), 1, "write\n");
+    ends_with(&rt, alloc, b"\n".as_slice(), NeverFlushed, 1, "write\n");
 }
 
-/// A refused text: the status, the fault line, and the answers that are written.
+/// Refused texts: the lines, the fault line, and the answers that are written.
+static REFUSED: [(&str, &str, &str); 4] = [
+    (
+        "80c9000100000007\n\n80c9000100000007\r\n\n",
+        "line 3: X4 Hex\n",
+        "ok RR(00000007,[],0)\nF1 Short at 0\n",
+    ),
+    ("\r\n", "line 1: X4 Hex\n", ""),
+    ("80c9000100000007\r", "line 1: X4 Hex\n", ""),
+    (
+        "80c9000100000007\nq",
+        "line 2: X4 Hex\n",
+        "ok RR(00000007,[],0)\n",
+    ),
+];
+
 #[test]
 fn refused_texts(rt: HostRuntime) {
-    let alloc = rt.alloc();
-    let rows = [
-        (
-            "80c9000100000007\n\n80c9000100000007\r\n\n",
-            "line 3: X4 Hex\n",
-            "ok RR(00000007,[],0)\nF1 Short at 0\n",
-        ),
-        ("\r\n", "line 1: X4 Hex\n", ""),
-        (
-            "80c9000100000007\nq",
-            "line 2: X4 Hex\n",
-            "ok RR(00000007,[],0)\n",
-        ),
-    ];
-    for (lines, fault, answers) in rows {
-        let mut written = Vec::new(alloc);
-        let (status, line) = ended(alloc, lines.as_bytes(), &mut written);
-        assert_eq!(rt; status, 2, "{lines}");
-        assert_eq!(rt; line.as_slice(), fault.as_bytes(), "{lines}");
-        assert_eq!(rt; written.as_slice(), answers.as_bytes(), "{lines}");
+    for (lines, fault, answers) in &REFUSED {
+        let mut written = Vec::new(rt.alloc());
+        ends_with(&rt, rt.alloc(), lines.as_bytes(), &mut written, 2, fault);
+        same(&rt, &written, answers.as_bytes(), lines);
     }
 }
 
@@ -95,16 +96,11 @@ fn refused_texts(rt: HostRuntime) {
 fn limits(rt: HostRuntime) -> Result<(), Fail> {
     let alloc = rt.alloc();
     let zeros = vec![in alloc; b'0'; 131_201]?;
-    let (status, fault) = ended(alloc, zeros.as_slice(), Vec::new(alloc));
-    assert_eq!(rt; status, 2);
-    assert_eq!(rt; fault.as_slice(), b"line 1: X1 LineTooLong\n".as_slice());
+    let fault = "line 1: X1 LineTooLong\n";
+    ends_with(&rt, alloc, zeros.as_slice(), Vec::new(alloc), 2, fault);
     let feeds = vec![in alloc; b'\n'; 65_537]?;
-    let (status, fault) = ended(alloc, feeds.as_slice(), Vec::new(alloc));
-    assert_eq!(rt; status, 2);
-    assert_eq!(rt;
-        fault.as_slice(),
-        b"line 65537: X2 TooManyLines\n".as_slice()
-    );
+    let fault = "line 65537: X2 TooManyLines\n";
+    ends_with(&rt, alloc, feeds.as_slice(), Vec::new(alloc), 2, fault);
     Ok(())
 }
 
@@ -125,44 +121,38 @@ fn unwritten_fault(rt: HostRuntime) {
     assert_eq!(rt; refuse(&OrderFault::Memory, &mut faults), 1);
 }
 
-/// The status of a refused command line, and what is written.
-fn refused(alloc: Global, words: &[&str]) -> Result<(u8, Vec<u8>), Fail> {
-    let fault = order(alloc, words).err().ok_or("it was understood")?;
-    let mut faults = Vec::new(alloc);
-    let status = refuse(&fault, &mut faults);
-    Ok((status, faults))
-}
+/// Command lines that are refused, and how what they print begins.
+static COMMAND_LINES: [(&[&str], &str); 7] = [
+    (&["rtcp"], "error: 'rtcp' requires a subcommand"),
+    (
+        &["rtcp", "replay"],
+        "error: the following required arguments were not provided:\n  --ssrc <HEX>\n  --cname <TEXT>\n",
+    ),
+    (
+        &["rtcp", "check", "--fast"],
+        "error: unexpected argument '--fast' found",
+    ),
+    (
+        &["rtcp", "check", "file"],
+        "error: unexpected argument 'file' found",
+    ),
+    (
+        &["rtcp", "--help"],
+        "The control half of an RTP participant",
+    ),
+    (&["rtcp", "check", "--help"], "Show what RTCP datagrams are"),
+    (
+        &["rtcp", "replay", "--help"],
+        "Show what a participant answers to the events of a session.\n",
+    ),
+];
 
 #[test]
 fn orders(rt: HostRuntime) -> Result<(), Fail> {
     let alloc = rt.alloc();
     let asked = order(alloc, &["rtcp", "check"]);
     assert!(rt; matches!(asked, Ok(Order::Text(TextOrder::Check))));
-    let rows: [(&[&str], &str); 7] = [
-        (&["rtcp"], "error: 'rtcp' requires a subcommand"),
-        (
-            &["rtcp", "replay"],
-            "error: the following required arguments were not provided:\n  --ssrc <HEX>\n  --cname <TEXT>\n",
-        ),
-        (
-            &["rtcp", "check", "--fast"],
-            "error: unexpected argument '--fast' found",
-        ),
-        (
-            &["rtcp", "check", "file"],
-            "error: unexpected argument 'file' found",
-        ),
-        (
-            &["rtcp", "--help"],
-            "The control half of an RTP participant",
-        ),
-        (&["rtcp", "check", "--help"], "Show what RTCP datagrams are"),
-        (
-            &["rtcp", "replay", "--help"],
-            "Show what a participant answers to the events of a session.\n",
-        ),
-    ];
-    for (words, beginning) in rows {
+    for (words, beginning) in &COMMAND_LINES {
         let (status, text) = refused(alloc, words)?;
         assert_eq!(rt; status, 2, "{beginning}");
         assert!(rt; text.starts_with(beginning.as_bytes()), "{beginning}");

@@ -1,11 +1,12 @@
 //! Readers and writers that fail, or that give and take little at a time.
 
+use super::same;
 use crate::check;
 use crate::counted::Counted;
 use crate::fault::TextFault;
+use std::alloc::Global;
 use std::io;
 use std::io::{ErrorKind, Read, Write};
-use std::test::Fail;
 
 /// Gives at most `piece` octets a call, and fails at the call after `calls` others.
 #[derive(Drop)]
@@ -69,38 +70,51 @@ fn answered(octets: u32) -> &'static [u8] {
     }
 }
 
+/// What a check answers, how many calls of the reader and of the writer failed, and the writer.
+fn checked<R: Read + Drop, W: Write>(
+    alloc: Global,
+    reader: R,
+    writer: W,
+) -> (Result<(), TextFault>, (u64, u64), W) {
+    let mut reader = Counted::new(reader);
+    let mut writer = Counted::new(writer);
+    let outcome = check::check(alloc, &mut reader, &mut writer);
+    let failures = (reader.failures(), writer.failures());
+    (outcome, failures, writer.into_inner())
+}
+
 #[test]
 fn one_octet_at_a_time(rt: HostRuntime) {
-    let mut reader = Counted::new(Pieces {
+    let reader = Pieces {
         rest: LINES,
         piece: 1,
         calls: 100,
-    });
-    let mut writer = Counted::new(Narrow {
+    };
+    let writer = Narrow {
         taken: Vec::new(rt.alloc()),
         piece: 1,
         calls: 100,
         fails: true,
-    });
-    assert_eq!(rt; check::check(rt.alloc(), &mut reader, &mut writer), Ok(()));
-    assert_eq!(rt; writer.failures(), 0);
-    assert_eq!(rt; writer.into_inner().taken.as_slice(), TEXT);
+    };
+    let (outcome, failures, writer) = checked(rt.alloc(), reader, writer);
+    assert_eq!(rt; outcome, Ok(()));
+    assert_eq!(rt; failures, (0, 0));
+    same(&rt, &writer.taken, TEXT, "the text");
 }
 
 /// At each call of the reader, the end of the input included.
 #[test]
 fn failed_reads(rt: HostRuntime) {
     for calls in 0u32..35 {
-        let mut reader = Counted::new(Pieces {
+        let reader = Pieces {
             rest: LINES,
             piece: 1,
             calls,
-        });
-        let mut writer = Counted::new(Vec::new(rt.alloc()));
-        let outcome = check::check(rt.alloc(), &mut reader, &mut writer);
+        };
+        let (outcome, failures, written) = checked(rt.alloc(), reader, Vec::new(rt.alloc()));
         assert_eq!(rt; outcome, Err(TextFault::Read), "{calls}");
-        assert_eq!(rt; (reader.failures(), writer.failures()), (1, 0), "{calls}");
-        assert_eq!(rt; writer.into_inner().as_slice(), answered(calls), "{calls}");
+        assert_eq!(rt; failures, (1, 0), "{calls}");
+        same(&rt, &written, answered(calls), "the lines that came");
     }
 }
 
@@ -109,47 +123,50 @@ fn failed_reads(rt: HostRuntime) {
 fn failed_writes(rt: HostRuntime) {
     for calls in 0u32..56 {
         for fails in [true, false] {
-            let mut reader = Counted::new(LINES);
-            let mut writer = Counted::new(Narrow {
+            let writer = Narrow {
                 taken: Vec::new(rt.alloc()),
                 piece: 1,
                 calls,
                 fails,
-            });
-            let outcome = check::check(rt.alloc(), &mut reader, &mut writer);
+            };
+            let (outcome, failures, writer) = checked(rt.alloc(), LINES, writer);
             assert_eq!(rt; outcome, Err(TextFault::Write), "{calls}");
-            assert_eq!(rt; (reader.failures(), writer.failures()), (0, 1), "{calls}");
-            let (text, _) = TEXT.split_at(calls as usize);
-            assert_eq!(rt; writer.into_inner().taken.as_slice(), text, "{calls}");
+            assert_eq!(rt; failures, (0, 1), "{calls}");
+            assert!(rt; TEXT.starts_with(&writer.taken), "{calls}");
+            assert_eq!(rt; writer.taken.len(), calls as usize, "{calls}");
         }
     }
 }
 
-/// A count starts at 0, and a call that fails is passed on.
+/// A count of reads starts at 0, and a call that fails is passed on.
 #[test]
-fn counted_calls(rt: HostRuntime) -> Result<(), Fail> {
+fn counted_reads(rt: HostRuntime) {
     let mut reader = Counted::new(Pieces {
         rest: b"ab",
         piece: 2,
         calls: 1,
     });
-    let mut room = [0u8; 4];
     assert_eq!(rt; reader.failures(), 0);
-    assert_eq!(rt; reader.read(&mut room)?, 2);
-    assert!(rt; reader.read(&mut room).is_err());
-    assert!(rt; reader.read(&mut room).is_err());
-    assert_eq!(rt; reader.failures(), 2);
+    for (octets, failures) in [(Some(2), 0), (None, 1), (None, 2)] {
+        let mut room = [0u8; 4];
+        assert_eq!(rt; reader.read(&mut room).ok(), octets, "{failures}");
+        assert_eq!(rt; reader.failures(), failures);
+    }
+}
+
+/// A write that takes nothing of nothing does not count as failed, and nor does a flush.
+#[test]
+fn counted_writes(rt: HostRuntime) {
     let mut writer = Counted::new(Narrow {
         taken: Vec::new(rt.alloc()),
         piece: 1,
         calls: 1,
         fails: false,
     });
-    assert_eq!(rt; writer.write(b"ab")?, 1);
-    assert_eq!(rt; writer.write(b"")?, 0);
-    writer.flush()?;
-    assert_eq!(rt; writer.failures(), 0);
-    assert_eq!(rt; writer.write(b"b")?, 0);
-    assert_eq!(rt; writer.failures(), 1);
-    Ok(())
+    let rows: [(&[u8], usize, u64); 3] = [(b"ab", 1, 0), (b"", 0, 0), (b"b", 0, 1)];
+    for (octets, taken, failures) in rows {
+        assert_eq!(rt; writer.write(octets).ok(), Some(taken), "{failures}");
+        assert!(rt; writer.flush().is_ok());
+        assert_eq!(rt; writer.failures(), failures);
+    }
 }

@@ -9,17 +9,26 @@ use std::io::{ErrorKind, Read, Write};
 
 /// How many octets a writer took, and how many of them stood flushed.
 #[derive(Drop)]
-struct Seen {
-    written: Cell<usize>,
-    flushed: Cell<usize>,
+pub(super) struct Seen {
+    pub(super) written: Cell<usize>,
+    pub(super) flushed: Cell<usize>,
+}
+
+impl Seen {
+    pub(super) fn none() -> Self {
+        Seen {
+            written: Cell::new(0),
+            flushed: Cell::new(0),
+        }
+    }
 }
 
 /// Gives a block a call, and fails where not all that was written stands flushed by then.
 #[derive(Drop)]
-struct Blocks<'a> {
-    blocks: &'a [&'a [u8]],
-    given: usize,
-    seen: &'a Seen,
+pub(super) struct Blocks<'a> {
+    pub(super) blocks: &'a [&'a [u8]],
+    pub(super) given: usize,
+    pub(super) seen: &'a Seen,
 }
 
 impl Read for Blocks<'_> {
@@ -38,9 +47,9 @@ impl Read for Blocks<'_> {
 
 /// Notes what it takes, and at each flush what it took. The flush after `flushes` others fails.
 #[derive(Drop)]
-struct Noting<'a> {
-    flushes: u32,
-    seen: &'a Seen,
+pub(super) struct Noting<'a> {
+    pub(super) flushes: u32,
+    pub(super) seen: &'a Seen,
 }
 
 impl Write for Noting<'_> {
@@ -70,10 +79,7 @@ fn checked(
     blocks: &[&[u8]],
     flushes: u32,
 ) -> (Result<(), TextFault>, usize, usize) {
-    let seen = Seen {
-        written: Cell::new(0),
-        flushed: Cell::new(0),
-    };
+    let seen = Seen::none();
     let mut reader = Counted::new(Blocks {
         blocks,
         given: 0,

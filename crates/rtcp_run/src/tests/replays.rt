@@ -1,89 +1,129 @@
 //! Sessions, from the order to the status.
 
+use super::ends::Pieces;
+use super::same;
 use crate::command::command;
 use crate::order::order;
 use crate::orders::Order;
 use std::alloc::Global;
+use std::process::Abort;
 use std::test::Fail;
 
-/// A session's status, what is written, and the fault line.
-type Replayed = (u8, Vec<u8>, Vec<u8>);
+/// The status, what is written, and the fault line.
+type Ended = (u8, Vec<u8>, Vec<u8>);
 
-/// A session of these options, over these lines.
-fn replayed(
+/// How a command line ends over these lines, with a reader that gives all of them at once and fails at the
+/// call after `calls` others.
+fn ended<'a>(
     alloc: Global,
-    words: &'static [&'static str],
-    lines: &'static [u8],
-) -> Result<Replayed, Fail> {
+    words: &'a [&'a str],
+    rest: &'a [u8],
+    calls: u32,
+) -> Result<Ended, Fail> {
     let Order::Text(asked) = order(alloc, words).ok().ok_or("the options are refused")?;
+    let reader = Pieces {
+        rest,
+        piece: rest.len(),
+        calls,
+    };
     let mut written = Vec::new(alloc);
     let mut faults = Vec::new(alloc);
-    let status = command(alloc, asked, lines, &mut written, &mut faults);
+    let status = command(alloc, asked, reader, &mut written, &mut faults);
     Ok((status, written, faults))
+}
+
+/// It ends with this status, this text and this fault line.
+fn ends_with(rt: &impl Abort, ended: Ended, status: u8, text: &str, fault: &str) {
+    let (found, written, faults) = ended;
+    assert_eq!(rt; found, status, "{fault}");
+    same(rt, &written, text.as_bytes(), fault);
+    same(rt, &faults, fault.as_bytes(), text);
 }
 
 /// A participant that is told of time alone.
 const PLAIN: [&str; 6] = ["rtcp", "replay", "--ssrc", "000000aa", "--cname", "a"];
-
-#[test]
-fn reports(rt: HostRuntime) -> Result<(), Fail> {
-    let lines = b"tick 1026036 00000000 00000000\ntick 1026037 00000000 00000000\n";
-    let (status, written, faults) = replayed(rt.alloc(), &PLAIN, lines)?;
-    let text = b"start members=1 senders=0 next=1026037\n\
-        ok members=1 senders=0 next=1026037 out=-\n\
-        ok members=1 senders=0 next=3078111 out=report:80c90001000000aa81ca0002000000aa01016100\n";
-    assert_eq!(rt; status, 0);
-    assert_eq!(rt; written.as_slice(), text.as_slice());
-    assert!(rt; faults.is_empty());
-    Ok(())
-}
-
-#[test]
-fn refused_calls_and_a_refused_line(rt: HostRuntime) -> Result<(), Fail> {
-    let lines =
-        b"rtcp 0 80c90001000000aa\nrtcp 0 -\nrtp 0 80480001000000000000000a\ntick 5 zz 00000000\n";
-    let (status, written, faults) = replayed(rt.alloc(), &PLAIN, lines)?;
-    let text = b"start members=1 senders=0 next=1026037\n\
-        refused E7 OwnSsrc\nrefused E5 Wire: F1 Short at 0\nrefused E6 Rtp: G3 PayloadType\n";
-    assert_eq!(rt; status, 2);
-    assert_eq!(rt; written.as_slice(), text.as_slice());
-    assert_eq!(rt; faults.as_slice(), b"line 4: X4 Hex\n".as_slice());
-    Ok(())
-}
-
-/// A configuration that is refused: nothing is written.
-const NO_ROOM: [&str; 8] = [
-    "rtcp",
-    "replay",
-    "--ssrc",
-    "000000aa",
-    "--cname",
-    "a",
-    "--capacity",
-    "0",
-];
-
-#[test]
-fn refused_configuration(rt: HostRuntime) -> Result<(), Fail> {
-    let (status, written, faults) = replayed(rt.alloc(), &NO_ROOM, b"tick 0 00000000 00000000\n")?;
-    assert_eq!(rt; status, 2);
-    assert!(rt; written.is_empty());
-    assert_eq!(rt; faults.as_slice(), b"config C2 Capacity\n".as_slice());
-    Ok(())
-}
 
 /// The greatest word at the start.
 const LATE: [&str; 8] = [
     "rtcp", "replay", "--ssrc", "000000aa", "--cname", "a", "--word", "ffffffff",
 ];
 
+/// The least bandwidth: Td is 4,000,000 at the start, by 48 octets a compound and 12 octets a second.
+const NARROW: [&str; 8] = [
+    "rtcp",
+    "replay",
+    "--ssrc",
+    "000000aa",
+    "--cname",
+    "a",
+    "--session-bps",
+    "2560",
+];
+
+/// Sessions, and a line that is no hex: the words, the lines, the status, the text and the fault line.
+static TEXTS: [(&[&str], &str, u8, &str, &str); 5] = [
+    (
+        &PLAIN,
+        "tick 1026036 00000000 00000000\ntick 1026037 00000000 00000000\n",
+        0,
+        "start members=1 senders=0 next=1026037\n\
+        ok members=1 senders=0 next=1026037 out=-\n\
+        ok members=1 senders=0 next=3078111 out=report:80c90001000000aa81ca0002000000aa01016100\n",
+        "",
+    ),
+    (
+        &PLAIN,
+        "rtcp 0 80c90001000000aa\nrtcp 0 -\nrtp 0 80480001000000000000000a\ntick 5 zz 00000000\n",
+        2,
+        "start members=1 senders=0 next=1026037\n\
+        refused E7 OwnSsrc\nrefused E5 Wire: F1 Short at 0\nrefused E6 Rtp: G3 PayloadType\n",
+        "line 4: X4 Hex\n",
+    ),
+    (&LATE, "", 0, "start members=1 senders=0 next=3078111\n", ""),
+    (
+        &NARROW,
+        "",
+        0,
+        "start members=1 senders=0 next=1641659\n",
+        "",
+    ),
+    (
+        &["rtcp", "check"],
+        "80c9000100000007\r",
+        2,
+        "",
+        "line 1: X4 Hex\n",
+    ),
+];
+
 #[test]
-fn no_lines(rt: HostRuntime) -> Result<(), Fail> {
-    let (status, written, _) = replayed(rt.alloc(), &LATE, b"")?;
-    assert_eq!(rt; status, 0);
-    assert_eq!(rt;
-        written.as_slice(),
-        b"start members=1 senders=0 next=3078111\n".as_slice()
-    );
+fn texts(rt: HostRuntime) -> Result<(), Fail> {
+    for (words, lines, status, text, fault) in &TEXTS {
+        let ended = ended(rt.alloc(), words, lines.as_bytes(), 2)?;
+        ends_with(&rt, ended, *status, text, fault);
+    }
+    Ok(())
+}
+
+/// Configurations that are refused: the CNAME, an option, its value, and the fault line.
+static REFUSED: [(&str, &str, &str, &str); 6] = [
+    ("", "--capacity", "0", "config C1 Cname\n"),
+    ("a", "--capacity", "0", "config C2 Capacity\n"),
+    ("a", "--capacity", "1025", "config C2 Capacity\n"),
+    ("a", "--limit", "578", "config C3 Limit\n"),
+    ("a", "--session-bps", "2559", "config C4 Bandwidth\n"),
+    ("a", "--rate", "0", "config C5 Rate\n"),
+];
+
+/// A configuration that is refused: nothing is written, and nothing read.
+#[test]
+fn refused_configurations(rt: HostRuntime) -> Result<(), Fail> {
+    for &(cname, option, value, fault) in &REFUSED {
+        let words = [
+            "rtcp", "replay", "--ssrc", "000000aa", "--cname", cname, option, value,
+        ];
+        let ended = ended(rt.alloc(), &words, b"tick 0 00000000 00000000\n", 0)?;
+        ends_with(&rt, ended, 2, "", fault);
+    }
     Ok(())
 }
