@@ -7,6 +7,7 @@ use std::test::Fail;
 
 mod answerers;
 mod commands;
+mod conversation;
 mod ends;
 mod flushes;
 mod replay_ends;

@@ -14,7 +14,7 @@ type Ended = (u8, Vec<u8>, Vec<u8>);
 
 /// How a command line ends over these lines, with a reader that gives all of them at once and fails at the
 /// call after `calls` others.
-fn ended<'a>(
+pub(super) fn ended<'a>(
     alloc: Global,
     words: &'a [&'a str],
     rest: &'a [u8],
@@ -33,7 +33,7 @@ fn ended<'a>(
 }
 
 /// It ends with this status, this text and this fault line.
-fn ends_with(rt: &impl Abort, ended: Ended, status: u8, text: &str, fault: &str) {
+pub(super) fn ends_with(rt: &impl Abort, ended: Ended, status: u8, text: &str, fault: &str) {
     let (found, written, faults) = ended;
     assert_eq!(rt; found, status, "{fault}");
     same(rt, &written, text.as_bytes(), fault);
