@@ -1,10 +1,11 @@
 use super::{EventFault, read_event};
 use crate::fault::LineFault;
+use crate::tests::same;
 use rtcp_engine::Event;
 use std::test::Fail;
 
 /// Lines, each with its first fault.
-const FAULTS: [(&str, LineFault); 35] = [
+static FAULTS: [(&str, LineFault); 35] = [
     ("rtcp 18446744073709551616 -", LineFault::Number),
     ("rtp 000000000000000000007 80", LineFault::Number),
     ("sent 5 4294967296 0", LineFault::Number),
@@ -45,9 +46,9 @@ const FAULTS: [(&str, LineFault); 35] = [
 #[test]
 fn faults(rt: HostRuntime) -> Result<(), Fail> {
     let mut datagram = Vec::new(rt.alloc());
-    for (line, want) in FAULTS {
+    for (line, want) in &FAULTS {
         let fault = read_event(line.as_bytes(), &mut datagram).err();
-        assert_eq!(rt; fault, Some(EventFault::Line(want)), "{line}");
+        assert_eq!(rt; fault, Some(EventFault::Line(*want)), "{line}");
     }
     Ok(())
 }
@@ -58,14 +59,14 @@ fn datagrams(rt: HostRuntime) -> Result<(), Fail> {
     match read_event(b"rtcp 18446744073709551615 80C9f0", &mut datagram)? {
         Event::ArriveRtcp { now, bytes } => {
             assert_eq!(rt; now, u64::MAX);
-            assert_eq!(rt; bytes, [0x80, 0xc9, 0xf0].as_slice());
+            same(&rt, bytes, &[0x80, 0xc9, 0xf0], "rtcp");
         }
         _ => Err::<(), &str>("no RTCP datagram")?,
     }
     match read_event(b"rtp 00000000000000000007 -", &mut datagram)? {
         Event::ArriveRtp { now, bytes } => {
             assert_eq!(rt; now, 7);
-            assert_eq!(rt; bytes, [].as_slice());
+            same(&rt, bytes, &[], "rtp");
         }
         _ => Err::<(), &str>("no RTP datagram")?,
     }
