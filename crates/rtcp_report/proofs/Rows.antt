@@ -2,7 +2,7 @@
 use Rattle.std.proofs.Common.{◌≡◌, List, [], ◌∷◌, Some, None, pos, length, replicate, refl}
 use Rattle.rtcp_wire.specs.Values.{ReportBlock, ItemValue}
 use Rattle.rtcp_wire.specs.Writing.{written_all}
-use Rattle.rtcp_report.specs.Reports.{SentValue, Reporter, cname_item, packets_with}
+use Rattle.rtcp_report.specs.Reports.{SentValue, Reporter, cname_item, packets_with, bye_of}
 use Rattle.rtcp_report.specs.Sizes.{report_size, block_count}
 
 abbrev named_a : List ItemValue
@@ -29,6 +29,10 @@ block = record { ssrc = 9; fraction = 0; lost = pos 0; highest = 1; jitter = 0; 
 empty_report : written_all (packets_with receiver [])
     ≡ 0x80 ∷ 0xc9 ∷ 0 ∷ 1 ∷ 0 ∷ 0 ∷ 0 ∷ 0xaa ∷ 0x81 ∷ 0xca ∷ 0 ∷ 2 ∷ 0 ∷ 0 ∷ 0 ∷ 0xaa ∷ 1 ∷ 1 ∷ 0x61 ∷ 0 ∷ []
 empty_report = refl
+
+goodbye : written_all (bye_of 0xaa (0x61 ∷ []))
+    ≡ 0x80 ∷ 0xc9 ∷ 0 ∷ 1 ∷ 0 ∷ 0 ∷ 0 ∷ 0xaa ∷ 0x81 ∷ 0xca ∷ 0 ∷ 2 ∷ 0 ∷ 0 ∷ 0 ∷ 0xaa ∷ 1 ∷ 1 ∷ 0x61 ∷ 0 ∷ 0x81 ∷ 0xcb ∷ 0 ∷ 1 ∷ 0 ∷ 0 ∷ 0 ∷ 0xaa ∷ []
+goodbye = refl
 
 three_packets : length (packets_with sender (replicate 32 block)) ≡ 3
 three_packets = refl

@@ -1,6 +1,6 @@
 -- The packets of a compound report (RFC 3550, 6.1, 6.4, 6.5).
 use Rattle.std.specs.Prelude.{ℕ, zero, suc, ◌-◌, ◌/◌, List, [], ◌∷◌, ◌++◌, length, take, drop, Option, Some, None}
-use Rattle.rtcp_wire.specs.Values.{ReportBlock, ItemValue, RtcpPacket, rr, sr, sdes}
+use Rattle.rtcp_wire.specs.Values.{ReportBlock, ItemValue, RtcpPacket, rr, sr, sdes, bye}
 
 -- What a sender's report says beside its SSRC (6.4.1).
 pub record SentValue : Type 0 where
@@ -48,3 +48,24 @@ description_of reporter = sdes (record { id = reporter.ssrc; items = reporter.it
 -- The packets of a report with these blocks.
 abbrev pub packets_with : Reporter → List ReportBlock → List RtcpPacket
 packets_with reporter blocks = reports_with reporter.ssrc reporter.sent blocks ++ description_of reporter ∷ []
+
+-- ---- Leaving
+
+-- a BYE of one source, without a reason (6.6)
+abbrev pub goodbye : (ssrc : ℕ) → RtcpPacket
+goodbye ssrc = bye (ssrc ∷ []) None
+
+-- who only receives
+abbrev pub receiver_with : (ssrc : ℕ) → List ItemValue → Reporter
+receiver_with ssrc items = record { ssrc = ssrc; sent = None; items = items }
+
+abbrev pub goodbye_with : (ssrc : ℕ) → List ItemValue → List RtcpPacket
+goodbye_with ssrc items = packets_with (receiver_with ssrc items) [] ++ goodbye ssrc ∷ []
+
+-- who only receives, and says nothing of itself but its CNAME
+abbrev pub receiver_named : (ssrc : ℕ) → (cname : List ℕ) → Reporter
+receiver_named ssrc cname = receiver_with ssrc (cname_item cname ∷ [])
+
+-- What a participant sends as it leaves: a report without blocks, and its BYE (6.3.7).
+abbrev pub bye_of : (ssrc : ℕ) → (cname : List ℕ) → List RtcpPacket
+bye_of ssrc cname = goodbye_with ssrc (cname_item cname ∷ [])

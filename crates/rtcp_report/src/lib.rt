@@ -1,5 +1,5 @@
 //! Compound reports of an RTP participant (RFC 3550, 6.1, 6.4, 6.5): what it sends when a report is due, over
-//! any table of members. It is deterministic, reads no clock, opens no socket, draws no random number and
+//! any table of members, and when it leaves. It is deterministic, reads no clock, opens no socket, draws no random number and
 //! does not allocate.
 //!
 //! ```
@@ -16,11 +16,13 @@
 mod compound;
 mod description;
 mod gathering;
+mod goodbye;
 pub mod laws;
 mod sender;
 mod writing;
 
 pub use compound::{first_size, report};
+pub use goodbye::bye;
 pub use sender::{Item, Sender, SrPart};
 
 #[cfg(test)]

@@ -64,7 +64,7 @@ fn compound_with<'a>(
 }
 
 /// The packets' octets, for which there is room.
-fn compound_of(packets: &[PacketRef<'_>]) -> ArrayVec<u8, MAX_COMPOUND>
+pub(crate) fn compound_of(packets: &[PacketRef<'_>]) -> ArrayVec<u8, MAX_COMPOUND>
     requires writable { All IsWritable (packet_refs_of packets.now) }
     requires begins { BeginsWithReport (packet_refs_of packets.now) }
     requires fits { length (written_all (packet_refs_of packets.now)) ≤ 1472 }

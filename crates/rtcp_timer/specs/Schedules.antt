@@ -6,7 +6,7 @@ use Rattle.rtcp_clock.specs.Intervals.{scaled_down}
 -- what happens to a schedule
 pub data Happening : Type 0 where
   -- a report was sent, and an interval drawn (6.3.6); the start of a session is a transmission at 0 with one
-  -- member (6.3.2)
+  -- member (6.3.2), and so is a leave at its moment (6.3.7)
   transmitted : (moment interval members : ℕ) → Happening
   -- the moment of the next transmission had come, and an interval was drawn to see whether it is due (6.3.6)
   tried : (moment interval members : ℕ) → Happening

@@ -100,6 +100,20 @@ impl Schedule {
         self.known = members;
     }
 
+    /// Records that the participant leaves at `tc`, at most 2^50, where too many would leave with it at once
+    /// (RFC 3550, 6.3.7): from now on it counts itself alone. `last` becomes `tc`, and `next`, the first moment
+    /// for its BYE, is drawn from it by the deterministic interval from now on, `td`, below 2^49, and a random
+    /// word `w`. Call `expire` at `next`.
+    pub fn leave(&mut self, tc: u64, td: u64, w: u32)
+        requires moment_fits { tc ≤ 2 ^ 50 }
+        requires interval_fits { td < 2 ^ 49 }
+        ensures steps { self.new ≡ after (transmitted tc (drawn_interval td w) 1) self.old }
+        ensures stands { (events : List Happening) → self.old ≡ schedule_at events →
+            self.new ≡ schedule_at (transmitted tc (drawn_interval td w) 1 ∷ events) }
+    {
+        self.sent(tc, td, w, 1);
+    }
+
     /// Takes a new count of `members` at `tc`, which is at most 2^50 and not before `last` (RFC 3550,
     /// 6.3.4). If they are fewer than at the last draw or departure, the distances from `tc` to `last` and
     /// `next` shrink in proportion, except that an overdue `next` stays. Otherwise nothing changes, so a
@@ -128,8 +142,8 @@ impl Schedule {
         self.next
     }
 
-    /// The moment of the last transmission, a report or the start, as departures since have moved it: tp
-    /// (RFC 3550, 6.3).
+    /// The moment of the last transmission, a report, the start or a leave, as departures since have moved it:
+    /// tp (RFC 3550, 6.3).
     pub fn last(&self) -> u64
         ensures { result ≡ self.now.last }
     {

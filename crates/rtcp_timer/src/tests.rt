@@ -147,3 +147,25 @@ fn departure_when_overdue(rt: HostRuntime) {
     schedule.departed(10_000_000, 3);
     assert_eq!(rt; (schedule.last(), schedule.next()), (8_500_001, 9_999_999));
 }
+
+/// A participant that leaves counts itself alone, whatever was known before.
+#[test]
+fn leave_into_backoff(rt: HostRuntime) {
+    let mut schedule = Schedule::begin(2_500_000, 0);
+    schedule.sent(5_000_000, 5_000_000, 0, 51);
+    schedule.leave(10_000_000, 2_500_000, 0);
+    assert_eq!(rt;
+        (schedule.last(), schedule.next()),
+        (10_000_000, 11_026_037)
+    );
+    schedule.departed(10_000_001, 1);
+    assert_eq!(rt;
+        (schedule.last(), schedule.next()),
+        (10_000_000, 11_026_037)
+    );
+    assert_eq!(rt;
+        schedule.expire(11_026_036, 2_500_000, 0, 1),
+        Verdict::Early
+    );
+    assert_eq!(rt; schedule.expire(11_026_037, 2_500_000, 0, 1), Verdict::Due);
+}
