@@ -1,6 +1,6 @@
 //! Compound reports of an RTP participant (RFC 3550, 6.1, 6.4, 6.5): what it sends when a report is due, over
-//! any table of members, and when it leaves. It is deterministic, reads no clock, opens no socket, draws no random number and
-//! does not allocate.
+//! any table of members, and when it leaves. It is deterministic, reads no clock, opens no socket, draws no
+//! random number and does not allocate.
 //!
 //! ```
 //! let mut table = ListTable::empty(1_024, 8_000);
