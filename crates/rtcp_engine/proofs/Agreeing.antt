@@ -50,7 +50,7 @@ senders_agree s o a =
     let table : senders_in s.table ≡ senders_at s.setup.capacity s.setup.rate o.trace = counts ∙ ap (λ (c : ℕ). senders_at c s.table.rate o.trace) a.capacity ∙ ap (λ (r : ℕ). senders_at s.setup.capacity r o.trace) a.rate in
     ap (λ (n : ℕ). n + one_if (is_some s.own.sending)) table ∙ ap (λ (b : Bool). senders_at s.setup.capacity s.setup.rate o.trace + one_if b) (we_sent_agrees s o a)
 
-none_yet : (sent : List Report) → (length sent == 0) ≡ is_initial sent
+pub none_yet : (sent : List Report) → (length sent == 0) ≡ is_initial sent
 none_yet [] = refl
 none_yet (report ∷ earlier) = ne_eqb (length (report ∷ earlier)) 0 (λ h. absurd cc)
 

@@ -15,7 +15,7 @@ use Rattle.rtcp_engine.specs.Setups.{Setup, IsUsable}
 use Rattle.rtcp_engine.specs.OwnValues.{OwnValue, no_packets}
 use Rattle.rtcp_engine.specs.Outcomes.{first_size_of}
 use Rattle.rtcp_engine.specs.Taken.{begun}
-use Rattle.rtcp_engine.specs.States.{state_with, IsSound, StandsAt}
+use Rattle.rtcp_engine.specs.States.{state_with, IsSound, IsPresentAt}
 
 abbrev pub first_load : (average rtcp_bw : ℕ) → Load
 first_load average rtcp_bw = record { members = 1; senders = 0; we_sent = false; initial = true; avg = average; rtcp_bw = rtcp_bw }
@@ -42,7 +42,7 @@ start_is_sound setup word table timing average own usable start = record {
 }
 
 pub start_stands : (setup : Setup) (word : ℕ) (table : TableValue) (timing : Timing) (average : ℕ) (own : OwnValue) → IsUsable setup → word < 2 ^ 32 →
-    IsStart setup word table timing average own → StandsAt (state_with setup table timing average own None 0 0 0) (begun setup word)
+    IsStart setup word table timing average own → IsPresentAt (state_with setup table timing average own None 0 0 0) (begun setup word)
 start_stands setup word table timing average own usable word_fits start =
     let bw = setup.rtcp_bw in
     record {

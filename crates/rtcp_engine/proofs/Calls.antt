@@ -9,80 +9,50 @@ use Rattle.rtcp_engine.specs.Setups.{Setup}
 use Rattle.rtcp_engine.specs.Acts.{rtcp_came, rtp_came, rtp_sent, ticked}
 use Rattle.rtcp_engine.specs.Outcomes.{Outcome}
 use Rattle.rtcp_engine.specs.Histories.{History, after, outcome_at}
-use Rattle.rtcp_engine.specs.Answers.{speaks_of, refusal_if, refusal_of, report_by, report_out, answer_of, followed_by}
-use Rattle.rtcp_engine.specs.States.{State, Agrees, StandsAt}
+use Rattle.rtcp_engine.specs.Presence.{speaks_of, refusal_if, refusal_of, report_by, report_out, present_answer, present_after}
+use Rattle.rtcp_engine.specs.States.{State, Agrees, IsPresentAt}
 use Rattle.rtcp_engine.specs.Moves as moves
-use Rattle.rtcp_engine.specs.Moves.{step_in, call_refusal, with_call, after_compound, after_media, after_packet, checked, after_check_at, report_at}
+use Rattle.rtcp_engine.specs.Moves.{step_in, call_refusal, compound_refusal, media_refusal, with_call, after_compound, after_media, after_packet, checked, after_check_at, report_at}
 use Rattle.rtcp_engine.proofs.Agreeing.{calls_agree, compounds_agree, media_agree, packets_agree, checked_agree, after_checks_agree, due_reports_agree}
-use Rattle.rtcp_engine.proofs.Standing.{Counts, admitted_call, taken, answered}
+use Rattle.rtcp_engine.proofs.Standing.{Counts, numbers_of, refusal_stands, admitted_call, taken, answered}
 
 -- ---- Sent packets
 
-pub sent_answer : (s : State) (h : History) (now timestamp octets : ℕ) → StandsAt s h → call_refusal now s ≡ None → Ok (step_in (after_packet now timestamp octets s) None) ≡ answer_of h (rtp_sent now timestamp octets)
+pub sent_answer : (s : State) (h : History) (now timestamp octets : ℕ) → IsPresentAt s h → call_refusal now s ≡ None → Ok (step_in (after_packet now timestamp octets s) None) ≡ present_answer h (rtp_sent now timestamp octets)
 sent_answer s h now timestamp octets a none =
     let act = rtp_sent now timestamp octets in
     answered s (after_packet now timestamp octets s) h act None a (admitted_call s h act a none) refl (packets_agree s (outcome_at h) now timestamp octets a.agrees) refl
 
-pub sent_stands : (s : State) (h : History) (now timestamp octets : ℕ) → timestamp < 2 ^ 32 → octets < 2 ^ 32 → StandsAt s h → call_refusal now s ≡ None → StandsAt (after_packet now timestamp octets s) (followed_by h (rtp_sent now timestamp octets))
+pub sent_stands : (s : State) (h : History) (now timestamp octets : ℕ) → timestamp < 2 ^ 32 → octets < 2 ^ 32 → IsPresentAt s h → call_refusal now s ≡ None → IsPresentAt (after_packet now timestamp octets s) (present_after h (rtp_sent now timestamp octets))
 sent_stands s h now timestamp octets t_fits o_fits a none =
     let act = rtp_sent now timestamp octets in
     taken s (after_packet now timestamp octets s) h act a (admitted_call s h act a none) (t_fits, o_fits) (record { setup = refl; last = refl; calls = refl }) (packets_agree s (outcome_at h) now timestamp octets a.agrees)
 
 -- ---- Compounds
 
-compound_tested : (s : State) (h : History) (now size : ℕ) (packets : List RtcpPacket) (own : Bool) → StandsAt s h → call_refusal now s ≡ None → speaks_of s.setup.ssrc packets ≡ own →
-    refusal_of h.setup h.acts (rtcp_came now size (Ok packets)) ≡ refusal_if own OwnSsrc
-compound_tested s h now size packets own a none is =
-    admitted_call s h (rtcp_came now size (Ok packets)) a none
-    ∙ sym (ap (λ (setup : Setup). refusal_if (speaks_of setup.ssrc packets) OwnSsrc) a.setup)
-    ∙ ap (λ (b : Bool). refusal_if b OwnSsrc) is
-
-pub own_compound : (s : State) (h : History) (now size : ℕ) (packets : List RtcpPacket) → StandsAt s h → call_refusal now s ≡ None → speaks_of s.setup.ssrc packets ≡ true →
-    refusal_of h.setup h.acts (rtcp_came now size (Ok packets)) ≡ Some OwnSsrc
-own_compound s h now size packets a none is = compound_tested s h now size packets true a none is
-
-pub faulty_compound : (s : State) (h : History) (now size : ℕ) (fault : WireFault) → StandsAt s h → call_refusal now s ≡ None →
-    refusal_of h.setup h.acts (rtcp_came now size (Err fault)) ≡ Some (Wire fault)
-faulty_compound s h now size fault a none = admitted_call s h (rtcp_came now size (Err fault)) a none
-
-pub compound_answer : (s : State) (h : History) (now size : ℕ) (packets : List RtcpPacket) → StandsAt s h → call_refusal now s ≡ None → speaks_of s.setup.ssrc packets ≡ false →
-    Ok (step_in (after_compound now size packets s) None) ≡ answer_of h (rtcp_came now size (Ok packets))
-compound_answer s h now size packets a none other =
+pub compound_answer : (s : State) (h : History) (now size : ℕ) (packets : List RtcpPacket) → IsPresentAt s h → compound_refusal now (Ok packets) s ≡ None →
+    Ok (step_in (after_compound now size packets s) None) ≡ present_answer h (rtcp_came now size (Ok packets))
+compound_answer s h now size packets a none =
     let act = rtcp_came now size (Ok packets) in
-    answered s (after_compound now size packets s) h act None a (compound_tested s h now size packets false a none other) refl (compounds_agree s (outcome_at h) now size packets a.agrees) refl
+    answered s (after_compound now size packets s) h act None a (sym (refusal_stands s h act (numbers_of s h a)) ∙ none) refl (compounds_agree s (outcome_at h) now size packets a.agrees) refl
 
-pub compound_stands : (s : State) (h : History) (now size : ℕ) (packets : List RtcpPacket) → StandsAt s h → call_refusal now s ≡ None → speaks_of s.setup.ssrc packets ≡ false →
-    StandsAt (after_compound now size packets s) (followed_by h (rtcp_came now size (Ok packets)))
-compound_stands s h now size packets a none other =
+pub compound_stands : (s : State) (h : History) (now size : ℕ) (packets : List RtcpPacket) → IsPresentAt s h → compound_refusal now (Ok packets) s ≡ None →
+    IsPresentAt (after_compound now size packets s) (present_after h (rtcp_came now size (Ok packets)))
+compound_stands s h now size packets a none =
     let act = rtcp_came now size (Ok packets) in
-    taken s (after_compound now size packets s) h act a (compound_tested s h now size packets false a none other) tt (record { setup = refl; last = refl; calls = refl }) (compounds_agree s (outcome_at h) now size packets a.agrees)
+    taken s (after_compound now size packets s) h act a (sym (refusal_stands s h act (numbers_of s h a)) ∙ none) tt (record { setup = refl; last = refl; calls = refl }) (compounds_agree s (outcome_at h) now size packets a.agrees)
 
 -- ---- RTP packets
 
-media_tested : (s : State) (h : History) (now : ℕ) (head : RtpValue) (own : Bool) → StandsAt s h → call_refusal now s ≡ None → (head.ssrc == s.setup.ssrc) ≡ own →
-    refusal_of h.setup h.acts (rtp_came now (Ok head)) ≡ refusal_if own OwnSsrc
-media_tested s h now head own a none is =
-    admitted_call s h (rtp_came now (Ok head)) a none
-    ∙ sym (ap (λ (setup : Setup). refusal_if (head.ssrc == setup.ssrc) OwnSsrc) a.setup)
-    ∙ ap (λ (b : Bool). refusal_if b OwnSsrc) is
+pub media_answer : (s : State) (h : History) (now : ℕ) (head : RtpValue) → IsPresentAt s h → media_refusal now (Ok head) s ≡ None →
+    Ok (step_in (after_media now head s) None) ≡ present_answer h (rtp_came now (Ok head))
+media_answer s h now head a none =
+    answered s (after_media now head s) h (rtp_came now (Ok head)) None a (sym (refusal_stands s h (rtp_came now (Ok head)) (numbers_of s h a)) ∙ none) refl (media_agree s (outcome_at h) now head a.agrees) refl
 
-pub own_media : (s : State) (h : History) (now : ℕ) (head : RtpValue) → StandsAt s h → call_refusal now s ≡ None → (head.ssrc == s.setup.ssrc) ≡ true →
-    refusal_of h.setup h.acts (rtp_came now (Ok head)) ≡ Some OwnSsrc
-own_media s h now head a none is = media_tested s h now head true a none is
-
-pub faulty_media : (s : State) (h : History) (now : ℕ) (fault : RtpFault) → StandsAt s h → call_refusal now s ≡ None →
-    refusal_of h.setup h.acts (rtp_came now (Err fault)) ≡ Some (Rtp fault)
-faulty_media s h now fault a none = admitted_call s h (rtp_came now (Err fault)) a none
-
-pub media_answer : (s : State) (h : History) (now : ℕ) (head : RtpValue) → StandsAt s h → call_refusal now s ≡ None → (head.ssrc == s.setup.ssrc) ≡ false →
-    Ok (step_in (after_media now head s) None) ≡ answer_of h (rtp_came now (Ok head))
-media_answer s h now head a none other =
-    answered s (after_media now head s) h (rtp_came now (Ok head)) None a (media_tested s h now head false a none other) refl (media_agree s (outcome_at h) now head a.agrees) refl
-
-pub media_stands : (s : State) (h : History) (now : ℕ) (head : RtpValue) → StandsAt s h → call_refusal now s ≡ None → (head.ssrc == s.setup.ssrc) ≡ false →
-    StandsAt (after_media now head s) (followed_by h (rtp_came now (Ok head)))
-media_stands s h now head a none other =
-    taken s (after_media now head s) h (rtp_came now (Ok head)) a (media_tested s h now head false a none other) tt (record { setup = refl; last = refl; calls = refl }) (media_agree s (outcome_at h) now head a.agrees)
+pub media_stands : (s : State) (h : History) (now : ℕ) (head : RtpValue) → IsPresentAt s h → media_refusal now (Ok head) s ≡ None →
+    IsPresentAt (after_media now head s) (present_after h (rtp_came now (Ok head)))
+media_stands s h now head a none =
+    taken s (after_media now head s) h (rtp_came now (Ok head)) a (sym (refusal_stands s h (rtp_came now (Ok head)) (numbers_of s h a)) ∙ none) tt (record { setup = refl; last = refl; calls = refl }) (media_agree s (outcome_at h) now head a.agrees)
 
 -- ---- Ticks
 
@@ -96,7 +66,7 @@ ticks_agree s o now first_word second_word a =
     let check = checked_agree (with_call now s) o now called in
     after_checks_agree (checked now (with_call now s)) _ now first_word second_word check
 
-pub tick_report : (s : State) (h : History) (now first_word second_word : ℕ) → StandsAt s h → report_at now first_word (checked now (with_call now s)) ≡ report_by s.setup (ticked now first_word second_word) (outcome_at h)
+pub tick_report : (s : State) (h : History) (now first_word second_word : ℕ) → IsPresentAt s h → report_at now first_word (checked now (with_call now s)) ≡ report_by s.setup (ticked now first_word second_word) (outcome_at h)
 tick_report s h now first_word second_word a =
     let called = calls_agree s (outcome_at h) now a.agrees in
     let check = checked_agree (with_call now s) (outcome_at h) now called in
@@ -114,16 +84,16 @@ tick_counts s now first_word second_word =
     let t = checked now (with_call now s) in
     counted s t now first_word second_word (moves.has_come now t) (moves.has_passed now first_word t) (record { setup = refl; last = refl; calls = refl })
 
-pub tick_answer : (s : State) (h : History) (now first_word second_word : ℕ) → StandsAt s h → call_refusal now s ≡ None →
-    Ok (step_in (after_tick now first_word second_word s) (option_map report_out (report_at now first_word (checked now (with_call now s))))) ≡ answer_of h (ticked now first_word second_word)
+pub tick_answer : (s : State) (h : History) (now first_word second_word : ℕ) → IsPresentAt s h → call_refusal now s ≡ None →
+    Ok (step_in (after_tick now first_word second_word s) (option_map report_out (report_at now first_word (checked now (with_call now s))))) ≡ present_answer h (ticked now first_word second_word)
 tick_answer s h now first_word second_word a none =
     let act = ticked now first_word second_word in
     let report = report_at now first_word (checked now (with_call now s)) in
     answered s (after_tick now first_word second_word s) h act report a (admitted_call s h act a none) (tick_counts s now first_word second_word).setup
     (ticks_agree s (outcome_at h) now first_word second_word a.agrees) (tick_report s h now first_word second_word a)
 
-pub tick_stands : (s : State) (h : History) (now first_word second_word : ℕ) → first_word < 2 ^ 32 → second_word < 2 ^ 32 → StandsAt s h → call_refusal now s ≡ None →
-    StandsAt (after_tick now first_word second_word s) (followed_by h (ticked now first_word second_word))
+pub tick_stands : (s : State) (h : History) (now first_word second_word : ℕ) → first_word < 2 ^ 32 → second_word < 2 ^ 32 → IsPresentAt s h → call_refusal now s ≡ None →
+    IsPresentAt (after_tick now first_word second_word s) (present_after h (ticked now first_word second_word))
 tick_stands s h now first_word second_word first_fits second_fits a none =
     let act = ticked now first_word second_word in
     taken s (after_tick now first_word second_word s) h act a (admitted_call s h act a none) (first_fits, second_fits) (tick_counts s now first_word second_word)

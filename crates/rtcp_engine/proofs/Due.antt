@@ -3,7 +3,8 @@ use Rattle.std.proofs.Common.{◌≡◌, ℕ, ◌+◌, ◌<◌, ◌≤◌, ◌&&
 use Rattle.std.proofs.lemmas.Bool.{le-leb, lt-leb}
 use Rattle.rtcp_clock.specs.Intervals.{drawn_interval}
 use Rattle.rtcp_timer.specs.Schedules.{Timing, tried, IsDue, after}
-use Rattle.rtcp_engine.specs.Answers.{OutValue, report_out}
+use Rattle.rtcp_engine.specs.Presence.{report_out}
+use Rattle.rtcp_engine.specs.Steps.{OutValue}
 use Rattle.rtcp_engine.specs.States.{State}
 use Rattle.rtcp_engine.specs.Moves.{members_of, interval_in, has_come, has_passed, reported, put_off, octets_in, after_check_at, report_at}
 

@@ -14,13 +14,13 @@ use Rattle.rtcp_report.specs.Traced.{with_blocks}
 use Rattle.rtcp_engine.specs.declared.refusal.Refusal.{Refusal}
 use Rattle.rtcp_engine.specs.Setups.{Setup, IsUsable}
 use Rattle.rtcp_engine.specs.Refused.{error_in}
-use Rattle.rtcp_engine.specs.Acts.{Act, rtcp_came, rtp_came, rtp_sent, ticked, IsReading, IsRtpReading}
+use Rattle.rtcp_engine.specs.Acts.{Act, rtcp_came, rtp_came, rtp_sent, ticked, left, IsReading, IsRtpReading}
 use Rattle.rtcp_engine.specs.OwnStreams.{OwnStep, packet_sent, check_passed, sending_since}
 use Rattle.rtcp_engine.specs.OwnSending.{OutlastsChecks, IsSendingSince}
 use Rattle.rtcp_engine.specs.Outcomes.{Outcome}
 use Rattle.rtcp_engine.specs.Reporting.{extra_item, last_reported_in, report_octets}
 use Rattle.rtcp_engine.specs.Histories.{after, History}
-use Rattle.rtcp_engine.specs.Answers.{refusal_of, with_act, followed_by, report_by}
+use Rattle.rtcp_engine.specs.Presence.{refusal_of, with_act, present_after, report_by}
 use Rattle.rtcp_engine.specs.Sent.{new_reports}
 use Rattle.rtcp_engine.proofs.Usable.{usable_of_unrefused, unrefused_of_usable}
 use Rattle.rtcp_engine.specs.Ticks.{checked, has_come, has_passed, reported, put_off}
@@ -52,11 +52,11 @@ usable_is_unrefused setup = (unrefused_of_usable setup, usable_of_unrefused setu
 
 -- ---- Histories
 
-pub refused_acts_are_forgotten-refused : (history : History) (act : Act) (reason : Refusal) → refusal_of history.setup history.acts act ≡ Some reason → followed_by history act ≡ history
+pub refused_acts_are_forgotten-refused : (history : History) (act : Act) (reason : Refusal) → refusal_of history.setup history.acts act ≡ Some reason → present_after history act ≡ history
 refused_acts_are_forgotten-refused history act reason is =
     ap (λ r. elim r [ None ↦ with_act history act | Some refusal ↦ history ]) is
 
-pub refused_acts_are_forgotten-taken : (history : History) (act : Act) → refusal_of history.setup history.acts act ≡ None → followed_by history act ≡ with_act history act
+pub refused_acts_are_forgotten-taken : (history : History) (act : Act) → refusal_of history.setup history.acts act ≡ None → present_after history act ≡ with_act history act
 refused_acts_are_forgotten-taken history act is =
     ap (λ r. elim r [ None ↦ with_act history act | Some refusal ↦ history ]) is
 
@@ -115,6 +115,7 @@ answers_hand_out_reports setup (rtcp_came moment size (Err fault)) outcome = ref
 answers_hand_out_reports setup (rtp_came moment (Ok head)) outcome = refl
 answers_hand_out_reports setup (rtp_came moment (Err fault)) outcome = refl
 answers_hand_out_reports setup (rtp_sent moment timestamp octets) outcome = refl
+answers_hand_out_reports setup (left moment word) outcome = refl
 answers_hand_out_reports setup (ticked moment first_word second_word) outcome =
     let now = checked setup moment outcome in
     tick_reports setup moment first_word second_word outcome (has_come moment now) (has_passed setup moment first_word now)

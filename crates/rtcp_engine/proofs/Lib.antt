@@ -1,10 +1,12 @@
-mod Rows
-pub mod LawLemmas
 mod Agreeing
-mod Standing
-mod Soundness
-mod Usable
 mod Beginning
 mod Calls
 mod Due
+mod LeavingRows
+mod LifeLemmas
 mod OneMore
+mod Rows
+mod Soundness
+mod Standing
+mod Usable
+pub mod LawLemmas

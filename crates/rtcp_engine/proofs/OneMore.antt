@@ -6,7 +6,8 @@ use Rattle.std.proofs.lemmas.List.{take_more}
 use Rattle.rtcp_engine.specs.declared.event.Event.{Event}
 use Rattle.rtcp_engine.specs.Acts.{Act, ticked}
 use Rattle.rtcp_engine.specs.Histories.{History}
-use Rattle.rtcp_engine.specs.Answers.{AnswerValue, answer_of, answers_to, followed_by, followed_by_all}
+use Rattle.rtcp_engine.specs.Steps.{AnswerValue}
+use Rattle.rtcp_engine.specs.Answers.{answer_of, answers_to, followed_by, followed_by_all}
 use Rattle.rtcp_engine.specs.Views.{IsActOf, AreActsOf}
 
 pub answers_more : (h : History) (acts : List Act) (act : Act) → answers_to h (acts ++ act ∷ []) ≡ answers_to h acts ++ answer_of (followed_by_all h acts) act ∷ []

@@ -10,37 +10,38 @@ use Rattle.rtcp_engine.specs.Setups.{Setup}
 use Rattle.rtcp_engine.specs.Acts.{Act, rtcp_came, rtp_came, rtp_sent, ticked}
 use Rattle.rtcp_engine.specs.Outcomes.{timing_of}
 use Rattle.rtcp_engine.specs.Histories.{History, outcome_of}
-use Rattle.rtcp_engine.specs.Answers.{AnswerValue, answers_to}
+use Rattle.rtcp_engine.specs.Steps.{AnswerValue}
+use Rattle.rtcp_engine.specs.Answers.{answers_to}
 
-abbrev setup : Setup
+abbrev pub setup : Setup
 setup = record { ssrc = 170; cname = 97 ∷ []; extras = []; capacity = 1024; limit = 1472; rtcp_bw = 400; rate = 8000; ntp_base = 0 }
 
-abbrev start_of : Setup → History
+abbrev pub start_of : Setup → History
 start_of setup = record { setup = setup; word = 0; acts = [] }
 
-abbrev start : History
+abbrev pub start : History
 start = start_of setup
 
 -- ---- Acts and answers
 
-abbrev ok : (members senders next : ℕ) → AnswerValue
+abbrev pub ok : (members senders next : ℕ) → AnswerValue
 ok members senders next = Ok (record { out = None; members = members; senders = senders; next = Some next })
 
-abbrev sends : (members senders next : ℕ) → List ℕ → AnswerValue
+abbrev pub sends : (members senders next : ℕ) → List ℕ → AnswerValue
 sends members senders next octets = Ok (record { out = Some (record { kind = Report; octets = octets }); members = members; senders = senders; next = Some next })
 
 -- a receiver report without blocks, and the CNAME
-abbrev empty_report : List ℕ
+abbrev pub empty_report : List ℕ
 empty_report = 128 ∷ 201 ∷ 0 ∷ 1 ∷ 0 ∷ 0 ∷ 0 ∷ 170 ∷ 129 ∷ 202 ∷ 0 ∷ 2 ∷ 0 ∷ 0 ∷ 0 ∷ 170 ∷ 1 ∷ 1 ∷ 97 ∷ 0 ∷ []
 
-abbrev items_a : List ItemValue
+abbrev pub items_a : List ItemValue
 items_a = record { kind = 1; text = 97 ∷ [] } ∷ []
 
-abbrev named : ℕ → List RtcpPacket
+abbrev pub named : ℕ → List RtcpPacket
 named ssrc = rr ssrc [] [] ∷ sdes (record { id = ssrc; items = items_a } ∷ []) ∷ []
 
 -- a receiver report of a source, and its CNAME
-abbrev named_came : (moment ssrc : ℕ) → Act
+abbrev pub named_came : (moment ssrc : ℕ) → Act
 named_came moment ssrc = rtcp_came moment 20 (Ok (named ssrc))
 
 abbrev packet_of : (ssrc seq : ℕ) → RtpValue

@@ -1,4 +1,4 @@
--- What a participant is told: what came, what was sent beside it, and that time has passed. Moments are in
+-- What a participant is told: what came, what was sent beside it, that time has passed, and that it is to leave. Moments are in
 -- microseconds since the session began.
 use Rattle.std.specs.Prelude.{◌≡◌, ℕ, List, length, Result, Ok, Err}
 use Rattle.rtcp_wire.specs.declared.fault.WireFault.{WireFault}
@@ -17,12 +17,15 @@ pub data Act : Type 0 where
   rtp_sent : (moment timestamp octets : ℕ) → Act
   -- the host asked whether a report is due, and gave two random words for the draws of intervals
   ticked : (moment first_word second_word : ℕ) → Act
+  -- the host asked the participant to leave, and gave a random word for the draw of a backoff
+  left : (moment word : ℕ) → Act
 
 abbrev pub moment_of : Act → ℕ
 moment_of (rtcp_came moment size reading) = moment
 moment_of (rtp_came moment reading) = moment
 moment_of (rtp_sent moment timestamp octets) = moment
 moment_of (ticked moment first_word second_word) = moment
+moment_of (left moment word) = moment
 
 -- ---- Octets
 
@@ -49,6 +52,8 @@ pub data EventValue : Type 0 where
   packet_sent : (moment timestamp octets : ℕ) → EventValue
   -- the host asked whether a report is due, and gave two random words
   time_passed : (moment first_word second_word : ℕ) → EventValue
+  -- the host asked the participant to leave, and gave a random word
+  leave_asked : (moment word : ℕ) → EventValue
 
 -- The act of an event: what the octets of a datagram say stands in it.
 abbrev pub IsActOfEvent : EventValue → Act → Type 0
@@ -59,3 +64,4 @@ IsActOfEvent (rtp_arrived moment octets) act =
     (reading : Result RtpValue RtpFault) × IsRtpReading octets reading × (act ≡ rtp_came moment reading)
 IsActOfEvent (packet_sent moment timestamp octets) act = act ≡ rtp_sent moment timestamp octets
 IsActOfEvent (time_passed moment first_word second_word) act = act ≡ ticked moment first_word second_word
+IsActOfEvent (leave_asked moment word) act = act ≡ left moment word

@@ -1,5 +1,5 @@
 -- Codes, by which a proof tells participants apart.
-use Rattle.std.specs.Prelude.{ℕ, List, Option, refl}
+use Rattle.std.specs.Prelude.{◌≡◌, ℕ, List, Option, Some, None, refl}
 use Rattle.std.specs.Coded.{Coded, code_by, coded×, coded_ℕ, coded_list, coded_option}
 use Rattle.rtcp_members.specs.Tables.{TableValue}
 use Rattle.rtcp_members.specs.Codes.{table_code}
@@ -7,7 +7,7 @@ use Rattle.rtcp_timer.specs.Schedules.{Timing}
 use Rattle.rtcp_wire.specs.Values.{ItemValue}
 use Rattle.rtcp_engine.specs.Setups.{Setup}
 use Rattle.rtcp_engine.specs.OwnValues.{PacketValue, OwnValue}
-use Rattle.rtcp_engine.specs.States.{State}
+use Rattle.rtcp_engine.specs.States.{State, PhaseValue, taking_part, leaving, over, ParticipantValue}
 
 abbrev pub item_code : Coded ItemValue
 item_code =
@@ -41,3 +41,27 @@ state_code =
     (λ s. (s.setup, (s.table, (s.timing, (s.average, (s.own, (s.cursor, (s.reports, (s.last, s.calls)))))))))
     (λ p. record { setup = p.0; table = p.1.0; timing = p.1.1.0; average = p.1.1.1.0; own = p.1.1.1.1.0; cursor = p.1.1.1.1.1.0; reports = p.1.1.1.1.1.1.0; last = p.1.1.1.1.1.1.1.0; calls = p.1.1.1.1.1.1.1.1 })
     (λ _. refl)
+
+-- ---- The whole participant
+
+abbrev phase_number : PhaseValue → Option (Option ℕ)
+phase_number taking_part = None
+phase_number (leaving members) = Some (Some members)
+phase_number over = Some None
+
+abbrev phase_numbered : Option (Option ℕ) → PhaseValue
+phase_numbered None = taking_part
+phase_numbered (Some (Some members)) = leaving members
+phase_numbered (Some None) = over
+
+abbrev phase_again : (phase : PhaseValue) → phase_numbered (phase_number phase) ≡ phase
+phase_again taking_part = refl
+phase_again (leaving members) = refl
+phase_again over = refl
+
+abbrev pub phase_code : Coded PhaseValue
+phase_code = code_by (Option (Option ℕ)) (coded_option (coded_option coded_ℕ)) phase_number phase_numbered phase_again
+
+abbrev pub participant_code : Coded ParticipantValue
+participant_code =
+    code_by (State × PhaseValue) (coded× state_code phase_code) (λ p. (p.presence, p.phase)) (λ p. record { presence = p.0; phase = p.1 }) (λ _. refl)

@@ -10,7 +10,7 @@ use Rattle.rtcp_wire.specs.RtpHeads.{RtpValue}
 use Rattle.rtcp_members.specs.Traces.{with_facts}
 use Rattle.rtcp_members.specs.Entries.{counted_at}
 use Rattle.rtcp_engine.specs.Setups.{Setup}
-use Rattle.rtcp_engine.specs.Acts.{Act, rtcp_came, rtp_came, rtp_sent, ticked}
+use Rattle.rtcp_engine.specs.Acts.{Act, rtcp_came, rtp_came, rtp_sent, ticked, left}
 use Rattle.rtcp_engine.specs.OwnStreams.{packet_sent}
 use Rattle.rtcp_engine.specs.Outcomes.{Outcome, beginning}
 use Rattle.rtcp_engine.specs.Ticks.{with_recount, after_tick}
@@ -57,6 +57,7 @@ with_rtp_reading setup t (Err fault) outcome = outcome
 
 -- ---- Histories
 
+-- (A leave ends the participation whose outcome this is, and adds nothing to it.)
 abbrev pub after : Setup → Act → Outcome → Outcome
 after setup (rtcp_came moment size reading) outcome = with_reading setup moment size reading outcome
 after setup (rtp_came moment reading) outcome = with_rtp_reading setup moment reading outcome
@@ -64,6 +65,7 @@ after setup (rtp_sent moment timestamp octets) outcome =
     record outcome { own = packet_sent moment timestamp octets ∷ outcome.own }
 after setup (ticked moment first_word second_word) outcome =
     after_tick setup moment first_word second_word outcome
+after setup (left moment word) outcome = outcome
 
 -- What a session has come to, from its setup, its start word and all acts that were taken.
 abbrev pub outcome_of : Setup → (word : ℕ) → List Act → Outcome

@@ -7,6 +7,10 @@ pub mod Outcomes
 pub mod Reporting
 pub mod Ticks
 pub mod Histories
+pub mod Steps
+pub mod Presence
+pub mod Leaving
+pub mod Lives
 pub mod Answers
 pub mod Sent
 pub mod Views

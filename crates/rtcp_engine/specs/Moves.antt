@@ -1,7 +1,9 @@
 -- How a table and the numbers of a participant move with each call.
-use Rattle.std.specs.Prelude.{ℕ, ◌+◌, ◌==◌, ◌&&◌, Bool, false, nat_lt, nat_le, ◌-◌, ◌^◌, not, List, [], ◌∷◌, length, map, filter, if◌then◌else◌, Option, Some, None, is_some}
+use Rattle.std.specs.Prelude.{ℕ, ◌+◌, ◌==◌, ◌&&◌, Bool, true, false, nat_lt, nat_le, ◌-◌, ◌^◌, not, List, [], ◌∷◌, length, map, filter, if◌then◌else◌, Option, Some, None, is_some, Result}
 use Rattle.rtcp_clock.specs.Intervals.{drawn_interval}
 use Rattle.rtcp_wire.specs.declared.fact.Fact.{Fact}
+use Rattle.rtcp_wire.specs.declared.fault.WireFault.{WireFault}
+use Rattle.rtcp_wire.specs.declared.rtp.fault.RtpFault.{RtpFault}
 use Rattle.rtcp_wire.specs.declared.fact.Fact.TheVariants.{Heard}
 use Rattle.rtcp_wire.specs.Values.{RtcpPacket}
 use Rattle.rtcp_wire.specs.Facts.{facts_of}
@@ -24,8 +26,10 @@ use Rattle.rtcp_engine.specs.OwnValues.{OwnValue, own_after_packet, own_after_ch
 use Rattle.rtcp_engine.specs.Outcomes.{one_if}
 use Rattle.rtcp_engine.specs.Reporting.{extra_item}
 use Rattle.rtcp_engine.specs.Histories.{media_fact}
+use Rattle.rtcp_engine.specs.Presence.{refusal_of_compound, refusal_of_media}
+use Rattle.rtcp_engine.specs.Leaving.{leaving_load, leaving_average}
 use Rattle.rtcp_engine.specs.Ticks.{horizons_of}
-use Rattle.rtcp_engine.specs.Answers.{OutValue, StepValue}
+use Rattle.rtcp_engine.specs.Steps.{OutValue, StepValue}
 use Rattle.rtcp_engine.specs.States.{State}
 
 -- ---- Numbers
@@ -178,3 +182,62 @@ after_check_at t first_word second_word state =
 abbrev pub report_at : (t first_word : ℕ) → State → Option (List ℕ)
 report_at t first_word state =
     if has_come t state && has_passed t first_word state then Some (octets_in t state) else None
+
+-- ---- Leaving
+
+abbrev pub waiting_step_in : (members : ℕ) → State → StepValue
+waiting_step_in members state = record { out = None; members = members; senders = 0; next = Some state.timing.next }
+
+abbrev pub last_step_with : Option OutValue → StepValue
+last_step_with out = record { out = out; members = 0; senders = 0; next = None }
+
+-- why a compound is refused, if it is
+abbrev pub compound_refusal : (moment : ℕ) → Result (List RtcpPacket) WireFault → State → Option Refusal
+compound_refusal moment reading state =
+    elim (call_refusal moment state) [ None ↦ refusal_of_compound state.setup reading | Some refusal ↦ Some refusal ]
+
+abbrev pub media_refusal : (moment : ℕ) → Result RtpValue RtpFault → State → Option Refusal
+media_refusal moment reading state =
+    elim (call_refusal moment state) [ None ↦ refusal_of_media state.setup reading | Some refusal ↦ Some refusal ]
+
+abbrev pub is_unheard_in : State → Bool
+is_unheard_in state = state.reports == 0 && not (is_some state.own.last)
+
+-- The numbers of one that backs off from a moment on.
+abbrev pub backed_off : (t word : ℕ) → State → State
+backed_off t word state =
+    record state {
+      average = leaving_average state.setup [];
+      timing = schedules.after
+          (schedules.transmitted t (drawn_interval (interval_of (leaving_load state.setup 1 [])) word) 1) state.timing;
+    }
+
+abbrev pub backoff_load : (members : ℕ) → State → Load
+backoff_load members state = record {
+  members = members;
+  senders = 0;
+  we_sent = false;
+  initial = true;
+  avg = state.average;
+  rtcp_bw = state.setup.rtcp_bw;
+}
+
+abbrev pub backoff_interval : (members : ℕ) → State → ℕ
+backoff_interval members state = interval_of (backoff_load members state)
+
+-- one more compound with BYE packets
+abbrev pub with_farewell_of : (size : ℕ) → State → State
+with_farewell_of size state = record state { average = moved_average state.average size }
+
+abbrev pub has_waited : (t word members : ℕ) → State → Bool
+has_waited t word members state =
+    has_come t state && nat_le (state.timing.last + drawn_interval (backoff_interval members state) word) t
+
+abbrev pub waited : (t word members : ℕ) → State → State
+waited t word members state =
+    if has_come t state
+    then record state {
+      timing = schedules.after
+          (schedules.tried t (drawn_interval (backoff_interval members state) word) members) state.timing;
+    }
+    else state

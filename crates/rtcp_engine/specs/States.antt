@@ -1,4 +1,4 @@
--- What a participant keeps of its history: a table and a few numbers.
+-- What a participant keeps of its history: a table and a few numbers, and its phase.
 use Rattle.std.specs.Prelude.{ℕ, ◌≡◌, ◌≤◌, ◌<◌, ◌^◌, length, Option}
 use Rattle.std.specs.FinMap as map
 use Rattle.rtcp_members.specs.Tables.{TableValue, HasFew, StandsAt as IsTableAt}
@@ -8,7 +8,9 @@ use Rattle.rtcp_engine.specs.OwnValues.{OwnValue, own_of}
 use Rattle.rtcp_engine.specs.Outcomes.{Outcome, average_size, timing_of}
 use Rattle.rtcp_engine.specs.Reporting.{last_reported_in}
 use Rattle.rtcp_engine.specs.Histories.{History, outcome_at}
-use Rattle.rtcp_engine.specs.Answers.{last_moment}
+use Rattle.rtcp_engine.specs.Presence.{last_moment}
+use Rattle.rtcp_engine.specs.Leaving.{Life, present, backing_off, gone, leaving_count, leaving_timing, leaving_average}
+use Rattle.rtcp_engine.specs.Lives.{life_at}
 use Rattle.rtcp_engine.specs.Taken.{IsHistory}
 
 pub record State : Type 0 where
@@ -50,15 +52,15 @@ pub record Agrees (state : State) (outcome : Outcome) : Type 0 where
   pub cursor : state.cursor ≡ last_reported_in outcome.trace
   pub reports : state.reports ≡ length outcome.reports
 
--- A participant equals the one computed from a whole history, or *stands at* it.
-pub record StandsAt (state : State) (history : History) : Type 0 where
+-- A participant that takes part equals the one computed from a history without a leave.
+pub record IsPresentAt (state : State) (history : History) : Type 0 where
   pub is_history : IsHistory history
   pub setup : state.setup ≡ history.setup
   pub agrees : Agrees state (outcome_at history)
   pub last : state.last ≡ last_moment history.acts
   pub calls : state.calls ≡ length history.acts
 
--- What holds of every participant.
+-- What holds of every participant that takes part or did.
 pub record IsSound (state : State) : Type 0 where
   pub usable : IsUsable state.setup
   pub capacity : state.table.capacity ≡ state.setup.capacity
@@ -69,3 +71,39 @@ pub record IsSound (state : State) : Type 0 where
   pub calls : state.calls < 2 ^ 40
   pub timing : state.timing.last ≤ state.last
   pub last : state.last ≤ 2 ^ 50
+
+-- ---- The whole participant
+
+-- where it is in its session
+pub data PhaseValue : Type 0 where
+  taking_part : PhaseValue
+  -- it backs off, and knows of so many that leave
+  leaving : (members : ℕ) → PhaseValue
+  over : PhaseValue
+
+pub record ParticipantValue : Type 0 where
+  pub presence : State
+  pub phase : PhaseValue
+
+-- What holds of a phase: the number of those who leave has 16 bits.
+abbrev pub IsCounted : PhaseValue → Type 0
+IsCounted taking_part = Unit {0}
+IsCounted (leaving members) = (1 ≤ members) × (members ≤ 65535)
+IsCounted over = Unit {0}
+
+-- A participant is where its session is: its numbers are those of the outcome, or of the backoff.
+abbrev pub IsAt : ParticipantValue → Life → Type 0
+IsAt participant (present outcome) = (participant.phase ≡ taking_part) × Agrees participant.presence outcome
+IsAt participant (backing_off outcome backoff) =
+    (participant.phase ≡ leaving (leaving_count backoff))
+    × (participant.presence.timing ≡ leaving_timing backoff)
+    × (participant.presence.average ≡ leaving_average participant.presence.setup backoff.farewells)
+IsAt participant (gone outcome) = participant.phase ≡ over
+
+-- A participant equals the one computed from a whole history, or *stands at* it.
+pub record StandsAt (participant : ParticipantValue) (history : History) : Type 0 where
+  pub is_history : IsHistory history
+  pub setup : participant.presence.setup ≡ history.setup
+  pub life : IsAt participant (life_at history)
+  pub last : participant.presence.last ≡ last_moment history.acts
+  pub calls : participant.presence.calls ≡ length history.acts

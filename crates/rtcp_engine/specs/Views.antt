@@ -2,14 +2,22 @@
 use Rattle.std.specs.Prelude.{List, [], ◌∷◌, map, option_map, Result, Ok, Err}
 use Rattle.rtcp_report.specs.Views.{item_value}
 use Rattle.rtcp_engine.specs.declared.config.Config.{Config}
+use Rattle.rtcp_engine.specs.declared.participant.Phase.{Phase}
+use Rattle.rtcp_engine.specs.declared.participant.Phase.TheVariants.{Present, BackingOff, Gone}
 use Rattle.rtcp_engine.specs.declared.refusal.Refusal.{Refusal}
 use Rattle.rtcp_engine.specs.declared.step.Out.{Out}
 use Rattle.rtcp_engine.specs.declared.step.Step.{Step}
 use Rattle.rtcp_engine.specs.declared.event.Event.{Event}
-use Rattle.rtcp_engine.specs.declared.event.Event.TheVariants.{ArriveRtcp, ArriveRtp, SentRtp, Tick}
+use Rattle.rtcp_engine.specs.declared.event.Event.TheVariants.{ArriveRtcp, ArriveRtp, SentRtp, Tick, Leave}
 use Rattle.rtcp_engine.specs.Setups.{Setup}
-use Rattle.rtcp_engine.specs.Acts.{Act, EventValue, rtcp_arrived, rtp_arrived, packet_sent, time_passed, IsActOfEvent}
-use Rattle.rtcp_engine.specs.Answers.{OutValue, StepValue, AnswerValue}
+use Rattle.rtcp_engine.specs.Acts.{Act, EventValue, rtcp_arrived, rtp_arrived, packet_sent, time_passed, leave_asked, IsActOfEvent}
+use Rattle.rtcp_engine.specs.Steps.{OutValue, StepValue, AnswerValue}
+use Rattle.rtcp_engine.specs.States.{PhaseValue, taking_part, leaving, over}
+
+abbrev pub phase_value : Phase → PhaseValue
+phase_value Present = taking_part
+phase_value (BackingOff members) = leaving members
+phase_value Gone = over
 
 abbrev pub setup_of : Config → Setup
 setup_of config = record {
@@ -47,6 +55,7 @@ event_value (ArriveRtcp now bytes) = rtcp_arrived now bytes.now
 event_value (ArriveRtp now bytes) = rtp_arrived now bytes.now
 event_value (SentRtp now timestamp octets) = packet_sent now timestamp octets
 event_value (Tick now first_word second_word) = time_passed now first_word second_word
+event_value (Leave now word) = leave_asked now word
 
 abbrev pub IsActOf : Event → Act → Type 0
 IsActOf event act = IsActOfEvent (event_value event) act

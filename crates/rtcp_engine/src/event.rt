@@ -35,4 +35,11 @@ pub enum Event<'a> {
         /// A random word, for the draw of the next interval.
         w2: u32,
     },
+    /// [`leave`](crate::Participant::leave).
+    Leave {
+        /// When the host asks.
+        now: u64,
+        /// A random word, for the draw of a backoff.
+        w: u32,
+    },
 }

@@ -17,7 +17,7 @@ ghost use Rattle.rtcp_engine.specs.OwnSending.{IsSendingSince};
 ghost use Rattle.rtcp_engine.specs.Outcomes.{Outcome};
 ghost use Rattle.rtcp_engine.specs.Reporting.{extra_item, last_reported_in};
 ghost use Rattle.rtcp_engine.specs.Histories.{after, History};
-ghost use Rattle.rtcp_engine.specs.Answers.{refusal_of, with_act, followed_by, report_by};
+ghost use Rattle.rtcp_engine.specs.Presence.{refusal_of, with_act, present_after, report_by};
 ghost use Rattle.rtcp_engine.specs.Sent.{new_reports};
 ghost use Rattle.rtcp_engine.specs.declared.refusal.Refusal.{Refusal as Reason};
 
@@ -41,9 +41,9 @@ pub fn usable_is_unrefused()
 /// An act that is refused changes nothing of a history, and one that is taken becomes its newest.
 pub fn refused_acts_are_forgotten()
     ensures refused { (history : History) (act : Act) (reason : Reason) →
-        refusal_of history.setup history.acts act ≡ Some reason → followed_by history act ≡ history }
+        refusal_of history.setup history.acts act ≡ Some reason → present_after history act ≡ history }
     ensures taken { (history : History) (act : Act) →
-        refusal_of history.setup history.acts act ≡ None → followed_by history act ≡ with_act history act }
+        refusal_of history.setup history.acts act ≡ None → present_after history act ≡ with_act history act }
 {}
 
 /// The participant sends since a moment exactly where its newest packet was sent then, and no check since has

@@ -30,12 +30,14 @@
 //! definitions. [`run`] makes the calls of a list of events, and hands on each answer.
 #![tactic(auto)]
 
+mod byes;
 mod config;
 mod event;
 mod extra;
 pub mod laws;
 mod own;
 mod participant;
+mod presence;
 mod refusal;
 mod runs;
 mod sink;

@@ -73,6 +73,13 @@ impl OwnStream {
         }
     }
 
+    /// Whether a packet was sent.
+    pub(crate) fn has_sent(&self) -> bool
+        ensures { result ≡ is_some self.now.last }
+    {
+        self.last.is_some()
+    }
+
     /// Whether the participant is a sender.
     pub(crate) fn is_sending(&self) -> bool
         ensures { result ≡ is_some self.now.sending }

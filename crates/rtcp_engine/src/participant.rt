@@ -1,69 +1,63 @@
-//! A participant of a session (RFC 3550, 6.2, 6.3).
+//! A participant of a session, up to its leave and through it (RFC 3550, 6.2, 6.3).
 
-ghost use Rattle.std.specs.Prelude.{◌≡◌, ◌↔◌, ◌≤◌, ◌<◌, ◌*◌, ◌^◌, Option, Some, None, is_some, Err, IfOk, option_map};
+ghost use Rattle.std.specs.Prelude.{◌≡◌, ◌↔◌, ◌≤◌, ◌<◌, List, Result, Some, Err, IfOk, OnErr, length, option_map};
+ghost use Rattle.rtcp_wire.specs.declared.fault.WireFault.{WireFault as Fault};
+ghost use Rattle.rtcp_wire.specs.declared.rtp.fault.RtpFault.{RtpFault as HeadFault};
+ghost use Rattle.rtcp_wire.specs.Values.{RtcpPacket};
+ghost use Rattle.rtcp_wire.specs.RtpHeads.{RtpValue};
 ghost use Rattle.rtcp_engine.specs.declared.config.ConfigError.{ConfigError as Error};
+ghost use Rattle.rtcp_engine.specs.Acts.{rtcp_came, rtp_came, rtp_sent, ticked, left, IsReading, IsRtpReading};
+ghost use Rattle.rtcp_engine.specs.Answers.{answer_of, followed_by};
+ghost use Rattle.rtcp_engine.specs.Histories.{History};
+ghost use Rattle.rtcp_engine.specs.Lives.{life_at, members_in_life, senders_in_life, next_in_life};
 ghost use Rattle.rtcp_engine.specs.Refused.{error_in};
-ghost use Rattle.rtcp_engine.specs.Views.{setup_of, out_value, step_value};
-ghost use Rattle.rtcp_engine.specs.Outcomes.{one_if, member_count, sender_count, timing_of};
-ghost use Rattle.rtcp_engine.specs.Histories.{History, outcome_at};
-ghost use Rattle.rtcp_engine.specs.Taken.{begun};
 ghost use Rattle.rtcp_engine.specs.States.{StandsAt};
-ghost use Rattle.rtcp_engine.specs.Moves.{members_of, senders_of, load_in, interval_in, step_in, call_refusal};
+ghost use Rattle.rtcp_engine.specs.Taken.{begun};
+ghost use Rattle.rtcp_engine.specs.Views.{setup_of, answer_value};
 
 use crate::config::{Config, ConfigError};
-use crate::own::OwnStream;
+use crate::presence::Presence;
 use crate::refusal::Refusal;
-use crate::step::{Out, Step};
-use crate::table::member_count;
+use crate::step::{Answer, Out, OutKind, Step};
 use rtcp_members::MemberTable;
-use rtcp_report::first_size;
-use rtcp_timer::{Average, Load, Schedule, interval};
 use std::marker::Model;
 
-mod arrivals;
-mod ticks;
+mod backoff;
 
-/// The greatest moment, in microseconds since the session began: some 35 years.
-const MAX_MOMENT: u64 = 1 << 50;
+/// The most members with which a BYE goes out at once (RFC 3550, 6.3.7).
+const FEW_MEMBERS: u32 = 50;
 
-/// The most calls that a session takes.
-const MAX_CALLS: u64 = (1 << 40) - 1;
+/// Where a participant is in its session.
+#[derive(Clone, Copy, Debug)]
+pub(crate) enum Phase {
+    /// It takes part.
+    Present,
+    /// It left, and its BYE is to come: with it, so many leave.
+    BackingOff(u32),
+    /// It left for good.
+    Gone,
+}
 
 /// The control half of a participant: it is told what arrives, what is sent and what time it is, and it answers
 /// what to send, and when to ask again.
 #[derive(Drop)]
 pub struct Participant<T: MemberTable> {
-    config: Config,
-    table: T,
-    schedule: Schedule,
-    average: Average,
-    own: OwnStream,
-    /// the source of the last block that was sent
-    cursor: Option<u32>,
-    /// how many reports were sent
-    reports: u64,
-    /// the moment of the last call that was taken
-    last: u64,
-    /// how many calls were taken
-    calls: u64,
+    presence: Presence<T>,
+    phase: Phase,
 }
 
 impl<T: MemberTable> Model for Participant<T> {
-    ghost use Rattle.rtcp_engine.specs.Views.{setup_of};
-    ghost use Rattle.rtcp_engine.specs.States.{State, IsSound, state_with};
-    ghost use Rattle.rtcp_engine.specs.Codes.{state_code};
+    ghost use Rattle.rtcp_engine.specs.States.{ParticipantValue, IsCounted};
+    ghost use Rattle.rtcp_engine.specs.Views.{phase_value};
+    ghost use Rattle.rtcp_engine.specs.Codes.{participant_code};
 
-    ghost Value = { State };
+    ghost Value = { ParticipantValue };
 
-    ghost coded = { state_code };
+    ghost coded = { participant_code };
 
-    ghost view = { λ p.
-        state_with (setup_of p.config) (T.content p.table) p.schedule p.average p.own p.cursor p.reports p.last
-        p.calls };
+    ghost view = { λ p. record { presence = p.presence; phase = phase_value p.phase } };
 
-    ghost invariant = { λ p. IsSound (
-        state_with (setup_of p.config) (T.content p.table) p.schedule p.average p.own p.cursor p.reports p.last
-        p.calls) };
+    ghost invariant = { λ p. IsCounted (phase_value p.phase) };
 }
 
 impl<T: MemberTable> Participant<T> {
@@ -77,133 +71,153 @@ impl<T: MemberTable> Participant<T> {
         ensures begins { IfOk result (λ participant. StandsAt participant (begun (setup_of config) word)) }
         ensures refused { (error : Error) → (result ≡ Err error) ↔ (error_in (setup_of config) ≡ Some error) }
     {
-        if let Some(error) = config.error() {
-            return Err(error);
+        match Presence::new(config, word) {
+            Ok(presence) => Ok(Participant {
+                presence,
+                phase: Phase::Present,
+            }),
+            Err(error) => Err(error),
         }
-        let average = Average::start(first_size(&config.cname));
-        let load = Load {
-            members: 1,
-            senders: 0,
-            we_sent: false,
-            initial: true,
-            avg: average.value(),
-            rtcp_bw: config.rtcp_bw,
-        };
-        Ok(Participant {
-            table: T::empty(config.capacity, config.rate),
-            schedule: Schedule::begin(interval(&load), word),
-            average,
-            own: OwnStream::new(),
-            cursor: None,
-            reports: 0,
-            last: 0,
-            calls: 0,
-            config,
-        })
     }
 
-    /// The members of the session, this participant included (RFC 3550, 6.2.1).
+    /// The members of the session, this participant included (RFC 3550, 6.2.1): 0 once it has left.
     pub fn members(&self) -> u32
         ensures { (history : History) → StandsAt self.now history →
-            result ≡ member_count history.setup (outcome_at history) }
+            result ≡ members_in_life history.setup (life_at history) }
     {
-        self.member_count()
+        match self.phase {
+            Phase::Present => self.presence.members(),
+            Phase::BackingOff(members) => members,
+            Phase::Gone => 0,
+        }
     }
 
     /// The members that send RTP packets, this participant included where it does.
     pub fn senders(&self) -> u32
         ensures { (history : History) → StandsAt self.now history →
-            result ≡ sender_count history.setup (outcome_at history) }
+            result ≡ senders_in_life history.setup (life_at history) }
     {
-        self.sender_count()
+        match self.phase {
+            Phase::Present => self.presence.senders(),
+            Phase::BackingOff(_) | Phase::Gone => 0,
+        }
     }
 
-    /// When to call `tick` next, in microseconds since the session began. (It is never `None` yet, since a
-    /// participant cannot leave so far.)
+    /// When to call `tick` next, in microseconds since the session began: `None` once the participant has left.
     pub fn next(&self) -> Option<u64>
         ensures { (history : History) → StandsAt self.now history →
-            result ≡ Some (timing_of (outcome_at history)).next }
+            result ≡ next_in_life (life_at history) }
     {
-        Some(self.next_moment())
-    }
-
-    fn member_count(&self) -> u32
-        ensures exact { result ≡ members_of self.now }
-        ensures few { result ≤ 1025 }
-    {
-        member_count(&self.table)
-    }
-
-    fn sender_count(&self) -> u32
-        ensures { result ≡ senders_of self.now }
-    {
-        self.table.senders() + one_if_sending(&self.own)
-    }
-
-    fn next_moment(&self) -> u64
-        ensures { result ≡ self.now.timing.next }
-    {
-        self.schedule.next()
-    }
-
-    /// Why a call at the moment `now` is refused, whatever it tells.
-    fn refusal(&self, now: u64) -> Option<Refusal>
-        ensures { result ≡ call_refusal now self.now }
-    {
-        if now < self.last {
-            return Some(Refusal::Backwards);
-        }
-        if now > MAX_MOMENT {
-            return Some(Refusal::TooFar);
-        }
-        if self.calls >= MAX_CALLS {
-            return Some(Refusal::TooMany);
-        }
-        None
-    }
-
-    /// What the interval depends on.
-    fn load(&self) -> Load
-        ensures exact { result ≡ load_in self.now }
-        ensures members { result.members ≤ 65535 }
-        ensures average { result.avg ≤ 256 * 65563 }
-        ensures bandwidth { 16 ≤ result.rtcp_bw }
-    {
-        Load {
-            members: self.member_count(),
-            senders: self.sender_count(),
-            we_sent: self.own.is_sending(),
-            initial: self.reports == 0,
-            avg: self.average.value(),
-            rtcp_bw: self.config.rtcp_bw,
+        match self.phase {
+            Phase::Present | Phase::BackingOff(_) => Some(self.presence.next_moment()),
+            Phase::Gone => None,
         }
     }
 
-    /// The deterministic interval.
-    fn interval(&self) -> u64
-        ensures exact { result ≡ interval_in self.now }
-        ensures bounded { result < 2 ^ 49 }
+    /// An RTCP datagram came at the moment `now`, with the octets that UDP carried.
+    ///
+    /// # Errors
+    ///
+    /// The first of E1 to E5 and E7 that applies. Then the participant is unchanged.
+    pub fn arrive_rtcp(&mut self, now: u64, bytes: &[u8]) -> Answer
+        ensures answer { (history : History) (reading : Result (List RtcpPacket) Fault) →
+            StandsAt self.old history → IsReading bytes.now reading →
+            answer_value result ≡ answer_of history (rtcp_came now (length bytes.now) reading) }
+        ensures stands { (history : History) (reading : Result (List RtcpPacket) Fault) →
+            StandsAt self.old history → IsReading bytes.now reading →
+            StandsAt self.new (followed_by history (rtcp_came now (length bytes.now) reading)) }
+        ensures refused { OnErr result (self.new ≡ self.old) }
     {
-        interval(&self.load())
-    }
-
-    /// The answer of a call that was taken.
-    fn step(&self, out: Option<Out>) -> Step
-        ensures { step_value result ≡ step_in self.now (option_map out_value out) }
-    {
-        Step {
-            out,
-            members: self.member_count(),
-            senders: self.sender_count(),
-            next: Some(self.next_moment()),
+        match self.phase {
+            Phase::Present => self.presence.arrive_rtcp(now, bytes),
+            Phase::BackingOff(members) => self.hear_rtcp(now, bytes, members),
+            Phase::Gone => Err(Refusal::Left),
         }
     }
-}
 
-/// 1 where the participant is a sender, else 0.
-fn one_if_sending(own: &OwnStream) -> u32
-    ensures exact { result ≡ one_if (is_some own.now.sending) }
-    ensures few { result ≤ 1 }
-{
-    u32::from(own.is_sending())
+    /// An RTP datagram came at the moment `now`, with the octets that UDP carried.
+    ///
+    /// # Errors
+    ///
+    /// The first of E1 to E4, E6 and E7 that applies. Then the participant is unchanged.
+    pub fn arrive_rtp(&mut self, now: u64, bytes: &[u8]) -> Answer
+        ensures answer { (history : History) (reading : Result RtpValue HeadFault) →
+            StandsAt self.old history → IsRtpReading bytes.now reading →
+            answer_value result ≡ answer_of history (rtp_came now reading) }
+        ensures stands { (history : History) (reading : Result RtpValue HeadFault) →
+            StandsAt self.old history → IsRtpReading bytes.now reading →
+            StandsAt self.new (followed_by history (rtp_came now reading)) }
+        ensures refused { OnErr result (self.new ≡ self.old) }
+    {
+        match self.phase {
+            Phase::Present => self.presence.arrive_rtp(now, bytes),
+            Phase::BackingOff(members) => self.hear_rtp(now, bytes, members),
+            Phase::Gone => Err(Refusal::Left),
+        }
+    }
+
+    /// The host sent an RTP packet at the moment `now`, with the RTP timestamp `rtp_ts` and so many octets of
+    /// payload, without padding (RFC 3550, 6.3.8, 6.4.1). Once the participant leaves, it counts for nothing.
+    ///
+    /// # Errors
+    ///
+    /// The first of E1 to E4 that applies. Then the participant is unchanged.
+    pub fn sent_rtp(&mut self, now: u64, rtp_ts: u32, octets: u32) -> Answer
+        ensures answer { (history : History) → StandsAt self.old history →
+            answer_value result ≡ answer_of history (rtp_sent now rtp_ts octets) }
+        ensures stands { (history : History) → StandsAt self.old history →
+            StandsAt self.new (followed_by history (rtp_sent now rtp_ts octets)) }
+        ensures refused { OnErr result (self.new ≡ self.old) }
+    {
+        match self.phase {
+            Phase::Present => self.presence.sent_rtp(now, rtp_ts, octets),
+            Phase::BackingOff(members) => self.pass(now, members),
+            Phase::Gone => Err(Refusal::Left),
+        }
+    }
+
+    /// Asks at the moment `now` whether a report is due, or the BYE of a participant that backs off, with two
+    /// random words: `w1` for the draw that decides it, and `w2` for that of the next interval. Each tick before
+    /// a leave also drops those who are silent for too long (RFC 3550, 6.3.5).
+    ///
+    /// # Errors
+    ///
+    /// The first of E1 to E4 that applies. Then the participant is unchanged.
+    pub fn tick(&mut self, now: u64, w1: u32, w2: u32) -> Answer
+        ensures answer { (history : History) → StandsAt self.old history →
+            answer_value result ≡ answer_of history (ticked now w1 w2) }
+        ensures stands { (history : History) → StandsAt self.old history →
+            StandsAt self.new (followed_by history (ticked now w1 w2)) }
+        ensures refused { OnErr result (self.new ≡ self.old) }
+    {
+        match self.phase {
+            Phase::Present => self.presence.tick(now, w1, w2),
+            Phase::BackingOff(members) => self.wait(now, w1, members),
+            Phase::Gone => Err(Refusal::Left),
+        }
+    }
+
+    /// Leaves the session at the moment `now`, with a random word for the draw of a backoff (RFC 3550, 6.3.7).
+    ///
+    /// One that sent neither a report nor an RTP packet leaves silently. Else, with at most 50 members, the BYE
+    /// goes out at once. With more the participant backs off, so that not all who leave say so at once: go on
+    /// with `tick` at `next` until that is `None`. The BYE comes from one of these ticks. A leave in a backoff
+    /// changes nothing of it.
+    ///
+    /// # Errors
+    ///
+    /// The first of E1 to E4 that applies. Then the participant is unchanged.
+    pub fn leave(&mut self, now: u64, w: u32) -> Answer
+        ensures answer { (history : History) → StandsAt self.old history →
+            answer_value result ≡ answer_of history (left now w) }
+        ensures stands { (history : History) → StandsAt self.old history →
+            StandsAt self.new (followed_by history (left now w)) }
+        ensures refused { OnErr result (self.new ≡ self.old) }
+    {
+        match self.phase {
+            Phase::Present => self.depart(now, w),
+            Phase::BackingOff(members) => self.pass(now, members),
+            Phase::Gone => Err(Refusal::Left),
+        }
+    }
 }

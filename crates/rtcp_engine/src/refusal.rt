@@ -7,6 +7,9 @@ use thiserror::Error;
 /// changes nothing.
 #[derive(Clone, Copy, Debug, PartialEq, Eq, Error)]
 pub enum Refusal {
+    /// E1. The participant has left the session (RFC 3550, 6.3.7).
+    #[error("participant has left")]
+    Left,
     /// E2. Moments do not go back, and this one lies before that of the last call taken.
     #[error("moment lies before that of the last call")]
     Backwards,

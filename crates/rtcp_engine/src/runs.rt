@@ -84,5 +84,6 @@ fn tell<T: MemberTable>(participant: &mut Participant<T>, event: &Event<'_>) -> 
             octets,
         } => participant.sent_rtp(now, rtp_ts, octets),
         Event::Tick { now, w1, w2 } => participant.tick(now, w1, w2),
+        Event::Leave { now, w } => participant.leave(now, w),
     }
 }

@@ -9,6 +9,8 @@ use rtcp_wire::MAX_COMPOUND;
 pub enum OutKind {
     /// A report (RFC 3550, 6.4).
     Report,
+    /// The participant's goodbye, with an empty report before it (RFC 3550, 6.3.7, 6.6).
+    Bye,
 }
 
 /// A compound to send, in one datagram, to the other participants.
@@ -23,14 +25,14 @@ pub struct Out {
 /// What a call that was taken answers.
 #[derive(Debug, Drop)]
 pub struct Step {
-    /// A compound to send now, if there is one. Only a tick hands one out.
+    /// A compound to send now, if there is one. Only a tick and a leave hand one out.
     pub out: Option<Out>,
-    /// The members of the session, the participant included (RFC 3550, 6.2.1).
+    /// The members of the session, the participant included (RFC 3550, 6.2.1): 0 once it has left.
     pub members: u32,
     /// Those of them that send RTP packets, the participant included where it does.
     pub senders: u32,
-    /// When to call `tick` next, in microseconds since the session began. It may lie before the moment of the
-    /// call: then a report is overdue. (It is never `None` yet, since a participant cannot leave so far.)
+    /// When to call `tick` next, in microseconds since the session began, or `None` once the participant has
+    /// left. It may lie before the moment of the call: then a report is overdue.
     pub next: Option<u64>,
 }
 

@@ -1,7 +1,8 @@
 use Rattle.std.proofs.Common.{◌++◌, ◌+◌, ◌∙◌, List, [], ◌∷◌, length, take, ap, sym, subst, arith}
 use Rattle.std.proofs.lemmas.List.{append_assoc, length-append}
 use Rattle.rtcp_engine.specs.Histories.{History}
-use Rattle.rtcp_engine.specs.Answers.{AnswerValue, answer_of, answers_to, followed_by_all}
+use Rattle.rtcp_engine.specs.Steps.{AnswerValue}
+use Rattle.rtcp_engine.specs.Answers.{answer_of, answers_to, followed_by_all}
 use Rattle.rtcp_engine.specs.Views.{answer_value}
 use Rattle.rtcp_engine.specs.States.{StandsAt}
 use Rattle.rtcp_engine.proofs.OneMore.{answers_more, followed_more, next_act, of_no_error}

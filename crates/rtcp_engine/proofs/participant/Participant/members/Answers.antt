@@ -1,6 +1,11 @@
-use Rattle.std.proofs.Common.{◌∙◌}
-use Rattle.rtcp_engine.proofs.Standing.{members_stand}
+use Rattle.std.proofs.Common.{◌∙◌, ap, sym, subst}
+use Rattle.rtcp_engine.specs.Lives.{members_in_life}
+use Rattle.rtcp_engine.specs.States.{ParticipantValue, StandsAt}
+use Rattle.rtcp_engine.specs.Views.{phase_value}
+use Rattle.rtcp_engine.proofs.LifeLemmas.{taking_part_at}
 use Rattle.rtcp_engine.proofs.participant.Participant.members.Goals as goal
 
-pub returns : goal.returns
-returns g c history h = c.member_count.ensures.exact ∙ members_stand c.args.self.now history h
+pub returns-in-Present : goal.returns-in-Present
+returns-in-Present g c history h =
+    let part = taking_part_at _ history (subst (λ (p : ParticipantValue). StandsAt p history) (sym c.self.view_is) h) (ap phase_value c.in-Present.is) in
+    c.members.ensures history part.stands ∙ sym (ap (members_in_life history.setup) part.life)

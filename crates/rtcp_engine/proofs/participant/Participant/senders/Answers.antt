@@ -1,6 +1,11 @@
-use Rattle.std.proofs.Common.{◌∙◌}
-use Rattle.rtcp_engine.proofs.Standing.{senders_stand}
+use Rattle.std.proofs.Common.{◌∙◌, ap, sym, subst}
+use Rattle.rtcp_engine.specs.Lives.{senders_in_life}
+use Rattle.rtcp_engine.specs.States.{ParticipantValue, StandsAt}
+use Rattle.rtcp_engine.specs.Views.{phase_value}
+use Rattle.rtcp_engine.proofs.LifeLemmas.{taking_part_at}
 use Rattle.rtcp_engine.proofs.participant.Participant.senders.Goals as goal
 
-pub returns : goal.returns
-returns g c history h = c.sender_count.ensures ∙ senders_stand c.args.self.now history h
+pub returns-in-Present : goal.returns-in-Present
+returns-in-Present g c history h =
+    let part = taking_part_at _ history (subst (λ (p : ParticipantValue). StandsAt p history) (sym c.self.view_is) h) (ap phase_value c.in-Present.is) in
+    c.senders.ensures history part.stands ∙ sym (ap (senders_in_life history.setup) part.life)

@@ -1,24 +1,23 @@
-use Rattle.std.proofs.Common.{◌≡◌, ◌∙◌, ap, sym, subst, Ok, option_map}
-use Rattle.rtcp_engine.specs.States.{State, StandsAt}
-use Rattle.rtcp_engine.specs.Moves.{step_in, after_check_at, report_at}
-use Rattle.rtcp_engine.specs.Answers.{report_out, followed_by}
+use Rattle.std.proofs.Common.{◌≡◌, ◌∙◌, refl, ap, sym, subst}
 use Rattle.rtcp_engine.specs.Acts.{ticked}
-use Rattle.rtcp_engine.proofs.Calls.{after_tick, tick_answer, tick_stands}
-use Rattle.rtcp_engine.proofs.participant.Participant.tick.Given as given
+use Rattle.rtcp_engine.specs.States.{State, IsPresentAt, ParticipantValue}
+use Rattle.rtcp_engine.specs.Views.{phase_value}
+use Rattle.rtcp_engine.proofs.LifeLemmas.{taking_part_at, present_answers, present_stands, gone_stands}
 use Rattle.rtcp_engine.proofs.participant.Participant.tick.Goals as goal
 
-state_is : (g : given.Over) (c : goal.After-step g) → c.report_if_due-report.new.self ≡ after_tick c.args.now c.args.w1 c.args.w2 c.args.self.now
-state_is g c = c.report_if_due-report.ensures.new ∙ ap (after_check_at c.args.now c.args.w1 c.args.w2) c.check_members.ensures.new
+pub returns-in-Present-clause-answer : goal.returns-in-Present-clause-answer
+returns-in-Present-clause-answer g c history h =
+    let part = taking_part_at c.args.self.now history h (sym (ap (λ (p : ParticipantValue). p.phase) c.self.view_is) ∙ ap phase_value c.in-Present.is) in
+    let stands = subst (λ (s : State). IsPresentAt s history) (sym (ap (λ (p : ParticipantValue). p.presence) c.self.view_is)) part.stands in
+    c.tick.ensures.answer history stands ∙ present_answers history (ticked c.args.now c.args.w1 c.args.w2) part.life (record { life = refl; out = refl })
 
-pub returns-clause-answer : goal.returns-clause-answer
-returns-clause-answer g c history h =
-    let new = c.report_if_due-report.new.self in
-    ap Ok (c.step.ensures
-    ∙ ap (step_in new) (c.report_if_due-report.ensures.report ∙ ap (λ (s : State). option_map report_out (report_at c.args.now c.args.w1 s)) c.check_members.ensures.new)
-    ∙ ap (λ (s : State). step_in s (option_map report_out (report_at c.args.now c.args.w1 (Rattle.rtcp_engine.specs.Moves.checked c.args.now (Rattle.rtcp_engine.specs.Moves.with_call c.args.now c.args.self.now))))) (state_is g c))
-    ∙ tick_answer c.args.self.now history c.args.now c.args.w1 c.args.w2 h (sym c.refusal.ensures ∙ c.in_default.is)
+pub returns-in-Present-clause-stands : goal.returns-in-Present-clause-stands
+returns-in-Present-clause-stands g c history h =
+    let part = taking_part_at c.args.self.now history h (sym (ap (λ (p : ParticipantValue). p.phase) c.self.view_is) ∙ ap phase_value c.in-Present.is) in
+    let stands = subst (λ (s : State). IsPresentAt s history) (sym (ap (λ (p : ParticipantValue). p.presence) c.self.view_is)) part.stands in
+    present_stands (record { presence = c.tick.new.self; phase = phase_value c.self.inside.phase }) history (ticked c.args.now c.args.w1 c.args.w2) (ap phase_value c.in-Present.is) part.life (record { life = refl; out = refl })
+    (c.tick.ensures.stands history stands)
 
-pub returns-clause-stands : goal.returns-clause-stands
-returns-clause-stands g c history h =
-    subst (λ (s : State). StandsAt s (followed_by history (ticked c.args.now c.args.w1 c.args.w2))) (sym (state_is g c))
-    (tick_stands c.args.self.now history c.args.now c.args.w1 c.args.w2 c.ranges.w1.fits c.ranges.w2.fits h (sym c.refusal.ensures ∙ c.in_default.is))
+pub returns-in-Gone-clause-stands : goal.returns-in-Gone-clause-stands
+returns-in-Gone-clause-stands g c history h =
+    gone_stands c.args.self.now history (ticked c.args.now c.args.w1 c.args.w2) h (sym (ap (λ (p : ParticipantValue). p.phase) c.self.view_is) ∙ ap phase_value c.in-Gone.is)

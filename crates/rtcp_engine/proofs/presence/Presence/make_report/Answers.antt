@@ -1,0 +1,23 @@
+use Rattle.std.proofs.Common.{◌+◌, ◌≤◌, ap, sym, subst, arith}
+use Rattle.rtcp_members.specs.Tables.{TableValue}
+use Rattle.rtcp_report.specs.Sizes.{reported_rows}
+use Rattle.rtcp_engine.specs.Views.{setup_of}
+use Rattle.rtcp_engine.specs.States.{State}
+use Rattle.rtcp_engine.specs.Moves.{reporter_by}
+use Rattle.rtcp_engine.proofs.Soundness.{IsKept, IsInStep, blocks_kept, kept}
+use Rattle.rtcp_engine.proofs.presence.Presence.make_report.Goals as goal
+
+pub invariant_of-self : goal.invariant_of-self
+invariant_of-self g c =
+    let content = g.T.MemberTable.content in
+    let inside = c.self.inside in
+    let rows = reported_rows (reporter_by (setup_of inside.config) inside.own (inside.reports + 1) c.args.now) inside.config.limit inside.cursor (content inside.table) in
+    let is_kept = subst (λ (table : TableValue). IsKept (content inside.table) table inside.calls) (sym c.write_report-bytes.ensures.content) (blocks_kept c.self.invariant rows) in
+    let fewer : inside.reports + 1 ≤ inside.calls = omega (arith, c.requires.reports, ap (λ (s : State). s.reports) c.self.view_is, ap (λ (s : State). s.calls) c.self.view_is) in
+    let in_step : IsInStep inside.schedule.last (inside.reports + 1) inside.last inside.calls = record {
+      is_past = c.self.invariant.timing;
+      in_range = c.self.invariant.last;
+      fewer = fewer;
+      few = c.self.invariant.calls;
+    } in
+    kept c.self.invariant (content c.write_report-bytes.new.table) inside.schedule c.add.new.self inside.own c.write_report-bytes.new.cursor (inside.reports + 1) inside.last inside.calls is_kept in_step

@@ -1,0 +1,142 @@
+-- Leaving a session (RFC 3550, 6.3.7): silently, with a BYE at once, or with a BYE after a backoff in which
+-- nothing counts but the BYE packets of others. Lists are newest first.
+use Rattle.std.specs.Prelude.{ℕ, ◌+◌, ◌==◌, ◌&&◌, Bool, true, false, nat_le, min, List, [], ◌∷◌, length, map, filter, sum_by, if◌then◌else◌, Option, Some, None}
+use Rattle.rtcp_clock.specs.Intervals.{drawn_interval}
+use Rattle.rtcp_wire.specs.Values.{RtcpPacket, sr, rr, sdes, bye, app, other}
+use Rattle.rtcp_wire.specs.Writing.{written_all}
+use Rattle.rtcp_report.specs.Reports.{bye_of}
+use Rattle.rtcp_timer.specs.declared.load.Load.{Load}
+use Rattle.rtcp_timer.specs.Averages.{average_of}
+use Rattle.rtcp_timer.specs.Loads.{interval_of}
+use Rattle.rtcp_timer.specs.Schedules.{Happening, transmitted, tried, Timing, schedule_at}
+use Rattle.rtcp_engine.specs.Setups.{Setup}
+use Rattle.rtcp_engine.specs.OwnStreams.{packets_sent}
+use Rattle.rtcp_engine.specs.Outcomes.{Outcome, is_initial, member_count}
+
+-- ---- The last compound
+
+-- the octets of the compound with the participant's BYE
+abbrev pub bye_octets : Setup → List ℕ
+bye_octets setup = written_all (bye_of setup.ssrc setup.cname)
+
+-- ---- Backing off
+
+abbrev pub is_bye : RtcpPacket → Bool
+is_bye (sr sender blocks extension) = false
+is_bye (rr ssrc blocks extension) = false
+is_bye (sdes chunks) = false
+is_bye (bye ids reason) = true
+is_bye (app subtype ssrc name octets) = false
+is_bye (other kind count octets) = false
+
+-- how many packets of a compound are BYE packets
+abbrev pub bye_count : List RtcpPacket → ℕ
+bye_count packets = length (filter is_bye packets)
+
+-- a compound with BYE packets: how many, and its size
+pub record Farewell : Type 0 where
+  pub byes : ℕ
+  pub size : ℕ
+
+-- What came since the participant began to back off.
+pub record Backoff : Type 0 where
+  -- the moment of its leave
+  pub since : ℕ
+  -- the compounds with BYE packets that were accepted since
+  pub farewells : List Farewell
+  -- what happened to the schedule, from the start of the session on
+  pub happenings : List Happening
+
+-- The members that are leaving: the participant, and one for each BYE packet, as far as 16 bits go.
+abbrev pub leaving_count : Backoff → ℕ
+leaving_count backoff = min 65535 (1 + sum_by (λ farewell. farewell.byes) backoff.farewells)
+
+-- The average begins anew with the participant's own BYE, and BYE packets of others move it.
+abbrev pub leaving_average : Setup → List Farewell → ℕ
+leaving_average setup farewells = average_of (length (bye_octets setup)) (map (λ farewell. farewell.size) farewells)
+
+-- The participant counts as one that joins, and does not send.
+abbrev pub leaving_load : Setup → (members : ℕ) → List Farewell → Load
+leaving_load setup members farewells = record {
+  members = members;
+  senders = 0;
+  we_sent = false;
+  initial = true;
+  avg = leaving_average setup farewells;
+  rtcp_bw = setup.rtcp_bw;
+}
+
+abbrev pub leaving_interval : Setup → Backoff → ℕ
+leaving_interval setup backoff = interval_of (leaving_load setup (leaving_count backoff) backoff.farewells)
+
+abbrev pub leaving_timing : Backoff → Timing
+leaving_timing backoff = schedule_at backoff.happenings
+
+-- A compound counts if it has a BYE packet.
+abbrev pub after_farewell : (size : ℕ) → List RtcpPacket → Backoff → Backoff
+after_farewell size packets backoff =
+    if bye_count packets == 0 then backoff
+    else record backoff { farewells = record { byes = bye_count packets; size = size } ∷ backoff.farewells }
+
+abbrev pub is_bye_due : Setup → (t word : ℕ) → Backoff → Bool
+is_bye_due setup t word backoff =
+    nat_le (leaving_timing backoff).next t
+    && nat_le ((leaving_timing backoff).last + drawn_interval (leaving_interval setup backoff) word) t
+
+-- a tick that sends no BYE: its moment has not come, or it is put off
+abbrev pub after_wait : Setup → (t word : ℕ) → Backoff → Backoff
+after_wait setup t word backoff =
+    if nat_le (leaving_timing backoff).next t
+    then record backoff {
+      happenings =
+          tried t (drawn_interval (leaving_interval setup backoff) word) (leaving_count backoff)
+          ∷ backoff.happenings;
+    }
+    else backoff
+
+-- ---- A leave
+
+-- nothing was sent, no report and no RTP packet
+abbrev pub is_unheard : Outcome → Bool
+is_unheard outcome = is_initial outcome.reports && packets_sent outcome.own == 0
+
+-- The most members with which a BYE goes out at once.
+abbrev pub few_members : ℕ
+few_members = 50
+
+-- A backoff begins as if the participant, alone, had just sent a compound.
+abbrev pub backoff_from : Setup → (t word : ℕ) → Outcome → Backoff
+backoff_from setup t word outcome = record {
+  since = t;
+  farewells = [];
+  happenings =
+      transmitted t (drawn_interval (interval_of (leaving_load setup 1 [])) word) 1 ∷ outcome.happenings;
+}
+
+-- Where a participant is in its session.
+pub data Life : Type 0 where
+  -- it takes part
+  present : Outcome → Life
+  -- it left, and has yet to say so
+  backing_off : Outcome → Backoff → Life
+  -- it left for good
+  gone : Outcome → Life
+
+-- What a leave makes of a session, without a check before it.
+abbrev pub left_at : Setup → (t word : ℕ) → Outcome → Life
+left_at setup t word outcome =
+    if is_unheard outcome then gone outcome
+    else (if nat_le (member_count setup outcome) few_members then gone outcome
+    else backing_off outcome (backoff_from setup t word outcome))
+
+-- the BYE that goes out at once, if one does
+abbrev pub bye_at_once : Setup → Outcome → Option (List ℕ)
+bye_at_once setup outcome =
+    if is_unheard outcome then None
+    else (if nat_le (member_count setup outcome) few_members then Some (bye_octets setup) else None)
+
+-- what a tick makes of a backoff
+abbrev pub after_waiting_tick : Setup → (t word : ℕ) → Outcome → Backoff → Life
+after_waiting_tick setup t word outcome backoff =
+    if is_bye_due setup t word backoff then gone outcome
+    else backing_off outcome (after_wait setup t word backoff)

@@ -1,0 +1,201 @@
+//! A participant as long as it takes part in its session (RFC 3550, 6.2, 6.3).
+
+ghost use Rattle.std.specs.Prelude.{◌≡◌, ◌↔◌, ◌≤◌, ◌<◌, ◌*◌, ◌^◌, Option, Some, None, is_some, Err, IfOk, option_map};
+ghost use Rattle.rtcp_engine.specs.declared.config.ConfigError.{ConfigError as Error};
+ghost use Rattle.rtcp_engine.specs.Refused.{error_in};
+ghost use Rattle.rtcp_engine.specs.Views.{setup_of, out_value, step_value};
+ghost use Rattle.rtcp_engine.specs.Outcomes.{one_if, member_count, sender_count, timing_of};
+ghost use Rattle.rtcp_engine.specs.Histories.{History, outcome_at};
+ghost use Rattle.rtcp_engine.specs.Taken.{begun};
+ghost use Rattle.rtcp_engine.specs.States.{IsPresentAt};
+ghost use Rattle.rtcp_engine.specs.Moves.{members_of, senders_of, load_in, interval_in, step_in, call_refusal};
+
+use crate::config::{Config, ConfigError};
+use crate::own::OwnStream;
+use crate::refusal::Refusal;
+use crate::step::{Out, Step};
+use crate::table::member_count;
+use rtcp_members::MemberTable;
+use rtcp_report::first_size;
+use rtcp_timer::{Average, Load, Schedule, interval};
+use std::marker::Model;
+
+mod arrivals;
+mod leaving;
+mod ticks;
+
+/// The greatest moment, in microseconds since the session began: some 35 years.
+const MAX_MOMENT: u64 = 1 << 50;
+
+/// The most calls that a session takes.
+const MAX_CALLS: u64 = (1 << 40) - 1;
+
+/// What a participant knows of its session, up to its leave. From then on the members and the own stream stand
+/// still, and average and schedule are those of the backoff.
+#[derive(Drop)]
+pub(crate) struct Presence<T: MemberTable> {
+    config: Config,
+    table: T,
+    schedule: Schedule,
+    average: Average,
+    own: OwnStream,
+    /// the source of the last block that was sent
+    cursor: Option<u32>,
+    /// how many reports were sent
+    reports: u64,
+    /// the moment of the last call that was taken
+    last: u64,
+    /// how many calls were taken
+    calls: u64,
+}
+
+impl<T: MemberTable> Model for Presence<T> {
+    ghost use Rattle.rtcp_engine.specs.Views.{setup_of};
+    ghost use Rattle.rtcp_engine.specs.States.{State, IsSound, state_with};
+    ghost use Rattle.rtcp_engine.specs.Codes.{state_code};
+
+    ghost Value = { State };
+
+    ghost coded = { state_code };
+
+    ghost view = { λ p.
+        state_with (setup_of p.config) (T.content p.table) p.schedule p.average p.own p.cursor p.reports p.last
+        p.calls };
+
+    ghost invariant = { λ p. IsSound (
+        state_with (setup_of p.config) (T.content p.table) p.schedule p.average p.own p.cursor p.reports p.last
+        p.calls) };
+}
+
+impl<T: MemberTable> Presence<T> {
+    /// A participant of a session that begins now, at moment 0. `word` is a random word, for the draw of the
+    /// first interval. Call `tick` at `next`.
+    ///
+    /// # Errors
+    ///
+    /// The first of C1 to C6 that applies to the configuration.
+    pub(crate) fn new(config: Config, word: u32) -> Result<Presence<T>, ConfigError>
+        ensures begins { IfOk result (λ participant. IsPresentAt participant (begun (setup_of config) word)) }
+        ensures refused { (error : Error) → (result ≡ Err error) ↔ (error_in (setup_of config) ≡ Some error) }
+    {
+        if let Some(error) = config.error() {
+            return Err(error);
+        }
+        let average = Average::start(first_size(&config.cname));
+        let load = Load {
+            members: 1,
+            senders: 0,
+            we_sent: false,
+            initial: true,
+            avg: average.value(),
+            rtcp_bw: config.rtcp_bw,
+        };
+        Ok(Presence {
+            table: T::empty(config.capacity, config.rate),
+            schedule: Schedule::begin(interval(&load), word),
+            average,
+            own: OwnStream::new(),
+            cursor: None,
+            reports: 0,
+            last: 0,
+            calls: 0,
+            config,
+        })
+    }
+
+    /// The members of the session, this participant included (RFC 3550, 6.2.1).
+    pub(crate) fn members(&self) -> u32
+        ensures { (history : History) → IsPresentAt self.now history →
+            result ≡ member_count history.setup (outcome_at history) }
+    {
+        self.member_count()
+    }
+
+    /// The members that send RTP packets, this participant included where it does.
+    pub(crate) fn senders(&self) -> u32
+        ensures { (history : History) → IsPresentAt self.now history →
+            result ≡ sender_count history.setup (outcome_at history) }
+    {
+        self.sender_count()
+    }
+
+    pub(crate) fn member_count(&self) -> u32
+        ensures exact { result ≡ members_of self.now }
+        ensures few { result ≤ 1025 }
+    {
+        member_count(&self.table)
+    }
+
+    fn sender_count(&self) -> u32
+        ensures { result ≡ senders_of self.now }
+    {
+        self.table.senders() + one_if_sending(&self.own)
+    }
+
+    pub(crate) fn next_moment(&self) -> u64
+        ensures { result ≡ self.now.timing.next }
+    {
+        self.schedule.next()
+    }
+
+    /// Why a call at the moment `now` is refused, whatever it tells.
+    pub(crate) fn refusal(&self, now: u64) -> Option<Refusal>
+        ensures { result ≡ call_refusal now self.now }
+    {
+        if now < self.last {
+            return Some(Refusal::Backwards);
+        }
+        if now > MAX_MOMENT {
+            return Some(Refusal::TooFar);
+        }
+        if self.calls >= MAX_CALLS {
+            return Some(Refusal::TooMany);
+        }
+        None
+    }
+
+    /// What the interval depends on.
+    fn load(&self) -> Load
+        ensures exact { result ≡ load_in self.now }
+        ensures members { result.members ≤ 65535 }
+        ensures average { result.avg ≤ 256 * 65563 }
+        ensures bandwidth { 16 ≤ result.rtcp_bw }
+    {
+        Load {
+            members: self.member_count(),
+            senders: self.sender_count(),
+            we_sent: self.own.is_sending(),
+            initial: self.reports == 0,
+            avg: self.average.value(),
+            rtcp_bw: self.config.rtcp_bw,
+        }
+    }
+
+    /// The deterministic interval.
+    fn interval(&self) -> u64
+        ensures exact { result ≡ interval_in self.now }
+        ensures bounded { result < 2 ^ 49 }
+    {
+        interval(&self.load())
+    }
+
+    /// The answer of a call that was taken.
+    fn step(&self, out: Option<Out>) -> Step
+        ensures { step_value result ≡ step_in self.now (option_map out_value out) }
+    {
+        Step {
+            out,
+            members: self.member_count(),
+            senders: self.sender_count(),
+            next: Some(self.next_moment()),
+        }
+    }
+}
+
+/// 1 where the participant is a sender, else 0.
+fn one_if_sending(own: &OwnStream) -> u32
+    ensures exact { result ≡ one_if (is_some own.now.sending) }
+    ensures few { result ≤ 1 }
+{
+    u32::from(own.is_sending())
+}
