@@ -1,6 +1,6 @@
 -- The laws of this crate as lemmas, for the proofs of the crates above: each has the name of its law, and of the
 -- clause where the law has several.
-use Rattle.std.proofs.Common.{◌≡◌, ◌↔◌, ℕ, ◌+◌, ◌-◌, ◌*◌, ◌/◌, ◌%◌, ◌≤◌, ◌&&◌, Bool, true, false, List, [], ◌∷◌, ◌++◌, length, slice_get, Option, Some, None, Result, Ok, Err, if◌then◌else◌, refl, sym, ap, ◌∙◌, arith, inl, inr}
+use Rattle.std.proofs.Common.{◌≡◌, ◌↔◌, All, map, ℕ, ◌+◌, ◌-◌, ◌*◌, ◌/◌, ◌%◌, ◌≤◌, ◌&&◌, Bool, true, false, List, [], ◌∷◌, ◌++◌, length, slice_get, Option, Some, None, Result, Ok, Err, if◌then◌else◌, refl, sym, ap, ◌∙◌, arith, inl, inr}
 use Rattle.std.proofs.lemmas.Bool.{ne_eqb, eq-eqb, lt-ltb, le-ltb, cases_lt}
 use Rattle.rtcp_wire.specs.Values.{ItemValue, RtcpPacket}
 use Rattle.rtcp_wire.specs.RtpHeads.{RtpValue}
@@ -14,16 +14,22 @@ use Rattle.rtcp_report.specs.Traced.{with_blocks}
 use Rattle.rtcp_engine.specs.declared.refusal.Refusal.{Refusal}
 use Rattle.rtcp_engine.specs.Setups.{Setup, IsUsable}
 use Rattle.rtcp_engine.specs.Refused.{error_in}
-use Rattle.rtcp_engine.specs.Acts.{Act, rtcp_came, rtp_came, rtp_sent, ticked, left, IsReading, IsRtpReading}
+use Rattle.rtcp_engine.specs.Acts.{Act, moment_of, IsReading, IsRtpReading}
 use Rattle.rtcp_engine.specs.OwnStreams.{OwnStep, packet_sent, check_passed, sending_since}
 use Rattle.rtcp_engine.specs.OwnSending.{OutlastsChecks, IsSendingSince}
-use Rattle.rtcp_engine.specs.Outcomes.{Outcome}
-use Rattle.rtcp_engine.specs.Reporting.{extra_item, last_reported_in, report_octets}
-use Rattle.rtcp_engine.specs.Histories.{after, History}
-use Rattle.rtcp_engine.specs.Presence.{refusal_of, with_act, present_after, report_by}
-use Rattle.rtcp_engine.specs.Sent.{new_reports}
+use Rattle.rtcp_engine.specs.Reporting.{extra_item, last_reported_in}
+use Rattle.rtcp_engine.specs.Histories.{History}
+use Rattle.rtcp_engine.specs.Presence.{with_act, last_moment}
+use Rattle.rtcp_engine.specs.Steps.{answer_unless}
+use Rattle.rtcp_engine.specs.Lives.{life_at}
+use Rattle.rtcp_engine.specs.Answers.{step_by, refusal_after, answer_of, followed_by}
+use Rattle.rtcp_engine.specs.Taken.{IsHistory}
+use Rattle.rtcp_engine.specs.Sent.{Sent, reports_in, interval_by, sent_at, handed_out, reports_of, counted_report}
+use Rattle.rtcp_engine.specs.Spacing.{AreSpaced, count_within, first_leave, EndsWithBye, AllFit}
 use Rattle.rtcp_engine.proofs.Usable.{usable_of_unrefused, unrefused_of_usable}
-use Rattle.rtcp_engine.specs.Ticks.{checked, has_come, has_passed, reported, put_off}
+use Rattle.rtcp_engine.proofs.Counting.{reports_counted}
+use Rattle.rtcp_engine.proofs.Sending.{session_keeps_apart}
+use Rattle.rtcp_engine.proofs.Windows.{spaced_in, first_in, window_in, ends_in, limit_in}
 
 -- ---- Readings
 
@@ -52,11 +58,11 @@ usable_is_unrefused setup = (unrefused_of_usable setup, usable_of_unrefused setu
 
 -- ---- Histories
 
-pub refused_acts_are_forgotten-refused : (history : History) (act : Act) (reason : Refusal) → refusal_of history.setup history.acts act ≡ Some reason → present_after history act ≡ history
+pub refused_acts_are_forgotten-refused : (history : History) (act : Act) (reason : Refusal) → refusal_after history act ≡ Some reason → followed_by history act ≡ history
 refused_acts_are_forgotten-refused history act reason is =
     ap (λ r. elim r [ None ↦ with_act history act | Some refusal ↦ history ]) is
 
-pub refused_acts_are_forgotten-taken : (history : History) (act : Act) → refusal_of history.setup history.acts act ≡ None → present_after history act ≡ with_act history act
+pub refused_acts_are_forgotten-taken : (history : History) (act : Act) → refusal_after history act ≡ None → followed_by history act ≡ with_act history act
 refused_acts_are_forgotten-taken history act is =
     ap (λ r. elim r [ None ↦ with_act history act | Some refusal ↦ history ]) is
 
@@ -101,29 +107,41 @@ own_sending_lasts own moment = (
 
 -- ---- Reports
 
-tick_reports : (setup : Setup) (t first_word second_word : ℕ) (outcome : Outcome) (come passed : Bool) → let now = checked setup t outcome in
-    (if come then (if passed then reported setup t second_word now else put_off setup t first_word now) else now).reports
-    ≡ new_reports setup (ticked t first_word second_word) outcome (if come && passed then Some (report_octets setup t now) else None) ++ outcome.reports
-tick_reports setup t first_word second_word outcome true true = refl
-tick_reports setup t first_word second_word outcome true false = refl
-tick_reports setup t first_word second_word outcome false passed = refl
+pub answers_hand_out_compounds : (history : History) (act : Act) →
+    sent_at (followed_by history act)
+    ≡ handed_out (moment_of act) (interval_by history.setup act (life_at history)) (answer_of history act) ++ sent_at history
+answers_hand_out_compounds history act = handed_by history act (refusal_after history act)
+  where
+    handed_by : (history : History) (act : Act) (refusal : Option Refusal) →
+        sent_at (elim refusal [ None ↦ with_act history act | Some reason ↦ history ])
+        ≡ handed_out (moment_of act) (interval_by history.setup act (life_at history)) (answer_unless refusal (step_by history.setup act (life_at history))) ++ sent_at history
+    handed_by history act None = refl
+    handed_by history act (Some reason) = refl
 
-pub answers_hand_out_reports : (setup : Setup) (act : Act) (outcome : Outcome) →
-    (after setup act outcome).reports ≡ new_reports setup act outcome (report_by setup act outcome) ++ outcome.reports
-answers_hand_out_reports setup (rtcp_came moment size (Ok packets)) outcome = refl
-answers_hand_out_reports setup (rtcp_came moment size (Err fault)) outcome = refl
-answers_hand_out_reports setup (rtp_came moment (Ok head)) outcome = refl
-answers_hand_out_reports setup (rtp_came moment (Err fault)) outcome = refl
-answers_hand_out_reports setup (rtp_sent moment timestamp octets) outcome = refl
-answers_hand_out_reports setup (left moment word) outcome = refl
-answers_hand_out_reports setup (ticked moment first_word second_word) outcome =
-    let now = checked setup moment outcome in
-    tick_reports setup moment first_word second_word outcome (has_come moment now) (has_passed setup moment first_word now)
+pub sent_reports_are_counted : (history : History) → reports_of (life_at history) ≡ map counted_report (reports_in (sent_at history))
+sent_reports_are_counted history = reports_counted history.setup history.word history.acts
 
 pub last_block_is_newest : (rows : List EntryRow) (trace : List TraceStep) →
     last_reported_in (with_blocks rows trace) ≡ last_reported (last_reported_in trace) rows
 last_block_is_newest [] trace = refl
 last_block_is_newest (row ∷ rows) trace = last_block_is_newest rows (block_taken row.0 ∷ trace)
+
+-- ---- Distances, sizes and the BYE
+
+pub sent_compounds_keep_apart-spaced : (history : History) → IsHistory history → AreSpaced (reports_in (sent_at history))
+sent_compounds_keep_apart-spaced history is = spaced_in history.setup.limit (last_moment history.acts) (first_leave history.acts) (sent_at history) (life_at history) (session_keeps_apart history.setup history.word history.acts is.usable is.taken)
+
+pub sent_compounds_keep_apart-first : (history : History) → IsHistory history → All (λ report. 1026037 ≤ report.moment) (reports_in (sent_at history))
+sent_compounds_keep_apart-first history is = first_in history.setup.limit (last_moment history.acts) (first_leave history.acts) (sent_at history) (life_at history) (session_keeps_apart history.setup history.word history.acts is.usable is.taken)
+
+pub sent_compounds_keep_apart-window : (history : History) (from width : ℕ) → IsHistory history → count_within from width (reports_in (sent_at history)) ≤ 1 + width / 2052074
+sent_compounds_keep_apart-window history from width is = window_in history.setup.limit (last_moment history.acts) (first_leave history.acts) (sent_at history) from width (life_at history) (session_keeps_apart history.setup history.word history.acts is.usable is.taken)
+
+pub sent_compounds_keep_apart-leaves_once : (history : History) → IsHistory history → EndsWithBye (first_leave history.acts) (sent_at history)
+sent_compounds_keep_apart-leaves_once history is = ends_in history.setup.limit (last_moment history.acts) (first_leave history.acts) (sent_at history) (life_at history) (session_keeps_apart history.setup history.word history.acts is.usable is.taken)
+
+pub sent_compounds_keep_apart-limit : (history : History) → IsHistory history → AllFit history.setup.limit (sent_at history)
+sent_compounds_keep_apart-limit history is = limit_in history.setup.limit (last_moment history.acts) (first_leave history.acts) (sent_at history) (life_at history) (session_keeps_apart history.setup history.word history.acts is.usable is.taken)
 
 -- ---- Extra items
 

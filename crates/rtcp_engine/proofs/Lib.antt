@@ -1,12 +1,15 @@
 mod Agreeing
 mod Beginning
 mod Calls
+mod Counting
 mod Due
 mod LeavingRows
 mod LifeLemmas
 mod OneMore
 mod Rows
+mod Sending
 mod Soundness
 mod Standing
 mod Usable
+mod Windows
 pub mod LawLemmas

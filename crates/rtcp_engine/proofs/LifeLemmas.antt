@@ -25,8 +25,7 @@ use Rattle.rtcp_timer.specs.Schedules as schedules
 use Rattle.rtcp_timer.specs.Schedules.{Happening, transmitted, tried, Timing, schedule_at}
 use Rattle.rtcp_engine.specs.Moves.{call_refusal, with_call, is_unheard_in, backed_off, waiting_step_in, last_step_with, with_farewell_of, backoff_load, backoff_interval, has_waited, waited}
 use Rattle.rtcp_engine.proofs.Agreeing.{none_yet}
-use Rattle.rtcp_engine.proofs.Standing.{Counts, Numbers, refusal_stands}
-use Rattle.rtcp_engine.proofs.LawLemmas.{refused_acts_are_forgotten-refused, refused_acts_are_forgotten-taken}
+use Rattle.rtcp_engine.proofs.Standing.{Counts, Numbers, refusal_stands, present_forgets, present_takes_in}
 
 -- ---- Lives
 
@@ -154,10 +153,10 @@ followed_present h act life =
 life_after : (h : History) (act : Act) (refusal : Option Refusal) → refusal_of h.setup h.acts act ≡ refusal → life_at h ≡ present (outcome_at h) → IsStaying h.setup act (outcome_at h)
     → life_at (present_after h act) ≡ present (outcome_at (present_after h act))
 life_after h act None is life stays =
-    let taken = refused_acts_are_forgotten-taken h act is in
+    let taken = present_takes_in h act is in
     subst (λ (next : History). life_at next ≡ present (outcome_at next)) (sym taken) (ap (lived h.setup act) life ∙ stays.life)
 life_after h act (Some reason) is life stays =
-    let forgotten = refused_acts_are_forgotten-refused h act reason is in
+    let forgotten = present_forgets h act reason is in
     subst (λ (next : History). life_at next ≡ present (outcome_at next)) (sym forgotten) life
 
 pub present_stands : (p : ParticipantValue) (h : History) (act : Act) → p.phase ≡ taking_part → life_at h ≡ present (outcome_at h) → IsStaying h.setup act (outcome_at h) → IsPresentAt p.presence (present_after h act) → StandsAt p (followed_by h act)

@@ -6,12 +6,11 @@ use Rattle.rtcp_engine.specs.Setups.{Setup}
 use Rattle.rtcp_engine.specs.Acts.{Act, moment_of}
 use Rattle.rtcp_engine.specs.Outcomes.{Outcome, member_count, sender_count}
 use Rattle.rtcp_engine.specs.Histories.{History, after, outcome_at}
-use Rattle.rtcp_engine.specs.Presence.{last_moment, refusal_of, refusal_of_datagram, report_by, report_out, step_with, step_of, present_answer, present_after}
+use Rattle.rtcp_engine.specs.Presence.{last_moment, refusal_of, refusal_of_datagram, report_by, report_out, step_with, step_of, with_act, present_answer, present_after}
 use Rattle.rtcp_engine.specs.Steps.{StepValue, answer_unless}
 use Rattle.rtcp_engine.specs.Taken.{HasWords}
 use Rattle.rtcp_engine.specs.States.{State, Agrees, IsPresentAt}
 use Rattle.rtcp_engine.specs.Moves.{members_of, senders_of, step_in, call_refusal}
-use Rattle.rtcp_engine.proofs.LawLemmas.{refused_acts_are_forgotten-refused, refused_acts_are_forgotten-taken}
 use Rattle.rtcp_engine.proofs.Agreeing.{members_agree, senders_agree}
 
 -- ---- Counts
@@ -89,8 +88,15 @@ admitted_call s h act a is =
 pub answered_refusal : (h : History) (act : Act) (refusal : Refusal) → refusal_of h.setup h.acts act ≡ Some refusal → Err refusal ≡ present_answer h act
 answered_refusal h act refusal is = sym (ap (λ (r : Option Refusal). answer_unless r (step_of h.setup act (outcome_at h))) is)
 
+-- an act that is refused changes nothing of a history without a leave, and one that is taken becomes its newest
+pub present_forgets : (h : History) (act : Act) (reason : Refusal) → refusal_of h.setup h.acts act ≡ Some reason → present_after h act ≡ h
+present_forgets h act reason is = ap (λ r. elim r [ None ↦ with_act h act | Some refusal ↦ h ]) is
+
+pub present_takes_in : (h : History) (act : Act) → refusal_of h.setup h.acts act ≡ None → present_after h act ≡ with_act h act
+present_takes_in h act is = ap (λ r. elim r [ None ↦ with_act h act | Some refusal ↦ h ]) is
+
 pub refused : (s : State) (h : History) (act : Act) (refusal : Refusal) → IsPresentAt s h → refusal_of h.setup h.acts act ≡ Some refusal → IsPresentAt s (present_after h act)
-refused s h act refusal a is = subst (IsPresentAt s) (sym (refused_acts_are_forgotten-refused h act refusal is)) a
+refused s h act refusal a is = subst (IsPresentAt s) (sym (present_forgets h act refusal is)) a
 
 -- ---- Acts that are taken
 
@@ -102,7 +108,7 @@ pub record Counts (s t : State) (moment : ℕ) : Type 0 where
 
 pub taken : (s t : State) (h : History) (act : Act) → IsPresentAt s h → refusal_of h.setup h.acts act ≡ None → HasWords act → Counts s t (moment_of act) → Agrees t (after s.setup act (outcome_at h)) → IsPresentAt t (present_after h act)
 taken s t h act a none words counts agrees =
-    subst (IsPresentAt t) (sym (refused_acts_are_forgotten-taken h act none)) (record {
+    subst (IsPresentAt t) (sym (present_takes_in h act none)) (record {
       is_history = record { usable = a.is_history.usable; word = a.is_history.word; taken = (none, words, a.is_history.taken) };
       setup = counts.setup ∙ a.setup;
       agrees = subst (λ (setup : Setup). Agrees t (after setup act (outcome_at h))) a.setup agrees;

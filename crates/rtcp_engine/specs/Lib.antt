@@ -13,6 +13,7 @@ pub mod Leaving
 pub mod Lives
 pub mod Answers
 pub mod Sent
+pub mod Spacing
 pub mod Views
 pub mod Taken
 pub mod OwnValues

@@ -1,17 +1,78 @@
--- The reports that an answer hands out.
-use Rattle.std.specs.Prelude.{ℕ, List, [], ◌∷◌, Option, Some, None}
+-- The compounds that a participant sends over its session. Lists are newest first.
+use Rattle.std.specs.Prelude.{ℕ, List, [], ◌∷◌, ◌++◌, filter, Bool, true, false, Option, Some, None, Result, Ok, Err}
+use Rattle.rtcp_engine.specs.declared.refusal.Refusal.{Refusal}
+use Rattle.rtcp_engine.specs.declared.step.OutKind.{OutKind}
+use Rattle.rtcp_engine.specs.declared.step.OutKind.TheVariants.{Report as ReportKind, Bye as ByeKind}
 use Rattle.rtcp_engine.specs.Setups.{Setup}
-use Rattle.rtcp_engine.specs.Acts.{Act, moment_of}
+use Rattle.rtcp_engine.specs.Acts.{Act, rtcp_came, rtp_came, rtp_sent, ticked, left, moment_of}
 use Rattle.rtcp_engine.specs.Outcomes.{Outcome, Report, interval_at}
 use Rattle.rtcp_engine.specs.Ticks.{checked}
+use Rattle.rtcp_engine.specs.Histories.{History}
+use Rattle.rtcp_engine.specs.Steps.{OutValue, StepValue, AnswerValue}
+use Rattle.rtcp_engine.specs.Leaving.{Backoff, Life, present, backing_off, gone, leaving_interval}
+use Rattle.rtcp_engine.specs.Lives.{life_of, out_by}
 
--- The report of these octets, if there is one: at the moment of the act, and with the interval after its
--- check.
-abbrev pub new_reports : Setup → Act → Outcome → Option (List ℕ) → List Report
-new_reports setup act outcome None = []
-new_reports setup act outcome (Some octets) =
-    record {
-      moment = moment_of act;
-      interval = interval_at setup (checked setup (moment_of act) outcome);
-      octets = octets;
-    } ∷ []
+-- ---- A compound
+
+pub record Sent : Type 0 where
+  pub moment : ℕ
+  -- the deterministic interval then computed, after the check of its tick: 0 for a BYE that waits for nothing
+  pub interval : ℕ
+  pub out : OutValue
+
+abbrev pub is_report : Sent → Bool
+is_report sent = elim sent.out.kind [ ReportKind ↦ true | ByeKind ↦ false ]
+
+abbrev pub reports_in : List Sent → List Sent
+reports_in sent = filter is_report sent
+
+-- ---- Intervals
+
+abbrev pub interval_while_present : Setup → Act → Outcome → ℕ
+interval_while_present setup (rtcp_came moment size reading) outcome = 0
+interval_while_present setup (rtp_came moment reading) outcome = 0
+interval_while_present setup (rtp_sent moment timestamp octets) outcome = 0
+interval_while_present setup (ticked moment first_word second_word) outcome =
+    interval_at setup (checked setup moment outcome)
+interval_while_present setup (left moment word) outcome = 0
+
+-- the deterministic interval that decides whether an act brings a compound (RFC 3550, 6.3.6, 6.3.7)
+abbrev pub interval_by : Setup → Act → Life → ℕ
+interval_by setup act (present outcome) = interval_while_present setup act outcome
+interval_by setup act (backing_off outcome backoff) = leaving_interval setup backoff
+interval_by setup act (gone outcome) = 0
+
+-- ---- Sessions
+
+abbrev pub sent_with : (moment interval : ℕ) → Option OutValue → List Sent
+sent_with moment interval None = []
+sent_with moment interval (Some out) = record { moment = moment; interval = interval; out = out } ∷ []
+
+-- what an act brings
+abbrev pub sent_by : Setup → Act → Life → List Sent
+sent_by setup act life = sent_with (moment_of act) (interval_by setup act life) (out_by setup act life)
+
+-- All that a session brought, from its setup, its start word and the acts that were taken.
+abbrev pub sent_over : Setup → (word : ℕ) → List Act → List Sent
+sent_over setup word [] = []
+sent_over setup word (act ∷ earlier) =
+    sent_by setup act (life_of setup word earlier) ++ sent_over setup word earlier
+
+abbrev pub sent_at : History → List Sent
+sent_at history = sent_over history.setup history.word history.acts
+
+-- what an answer hands out
+abbrev pub handed_out : (moment interval : ℕ) → AnswerValue → List Sent
+handed_out moment interval (Ok step) = sent_with moment interval step.out
+handed_out moment interval (Err refusal) = []
+
+-- ---- What a session counts
+
+-- the reports that the participant counts, for the minimum of its interval and for its extra items
+abbrev pub reports_of : Life → List Report
+reports_of (present outcome) = outcome.reports
+reports_of (backing_off outcome backoff) = outcome.reports
+reports_of (gone outcome) = outcome.reports
+
+abbrev pub counted_report : Sent → Report
+counted_report sent = record { moment = sent.moment; interval = sent.interval; octets = sent.out.octets }

@@ -1,7 +1,7 @@
 //! Laws of the definitions of a participant's answers. Each is an empty function whose postcondition is the
 //! law; `proofs/LawLemmas` has a lemma of its name, or one for each clause.
 
-ghost use Rattle.std.specs.Prelude.{◌≡◌, ◌↔◌, ℕ, ◌+◌, ◌*◌, ◌%◌, List, [], ◌∷◌, ◌++◌, length, slice_get, Option, Some, None, Result};
+ghost use Rattle.std.specs.Prelude.{◌≡◌, ◌↔◌, ◌≤◌, ℕ, ◌+◌, ◌*◌, ◌/◌, ◌%◌, All, map, List, [], ◌∷◌, ◌++◌, length, slice_get, Option, Some, None, Result};
 ghost use Rattle.rtcp_wire.specs.Values.{ItemValue, RtcpPacket};
 ghost use Rattle.rtcp_wire.specs.RtpHeads.{RtpValue};
 ghost use Rattle.rtcp_wire.specs.declared.fault.WireFault.{WireFault};
@@ -14,11 +14,14 @@ ghost use Rattle.rtcp_engine.specs.Refused.{error_in};
 ghost use Rattle.rtcp_engine.specs.Acts.{Act, IsReading, IsRtpReading, moment_of};
 ghost use Rattle.rtcp_engine.specs.OwnStreams.{OwnStep, sending_since};
 ghost use Rattle.rtcp_engine.specs.OwnSending.{IsSendingSince};
-ghost use Rattle.rtcp_engine.specs.Outcomes.{Outcome};
 ghost use Rattle.rtcp_engine.specs.Reporting.{extra_item, last_reported_in};
-ghost use Rattle.rtcp_engine.specs.Histories.{after, History};
-ghost use Rattle.rtcp_engine.specs.Presence.{refusal_of, with_act, present_after, report_by};
-ghost use Rattle.rtcp_engine.specs.Sent.{new_reports};
+ghost use Rattle.rtcp_engine.specs.Histories.{History};
+ghost use Rattle.rtcp_engine.specs.Presence.{with_act};
+ghost use Rattle.rtcp_engine.specs.Lives.{life_at};
+ghost use Rattle.rtcp_engine.specs.Answers.{refusal_after, answer_of, followed_by};
+ghost use Rattle.rtcp_engine.specs.Taken.{IsHistory};
+ghost use Rattle.rtcp_engine.specs.Sent.{reports_in, interval_by, sent_at, handed_out, reports_of, counted_report};
+ghost use Rattle.rtcp_engine.specs.Spacing.{AreSpaced, count_within, first_leave, EndsWithBye, AllFit};
 ghost use Rattle.rtcp_engine.specs.declared.refusal.Refusal.{Refusal as Reason};
 
 /// The octets of a datagram have exactly one reading: packets, or a first fault.
@@ -41,9 +44,9 @@ pub fn usable_is_unrefused()
 /// An act that is refused changes nothing of a history, and one that is taken becomes its newest.
 pub fn refused_acts_are_forgotten()
     ensures refused { (history : History) (act : Act) (reason : Reason) →
-        refusal_of history.setup history.acts act ≡ Some reason → present_after history act ≡ history }
+        refusal_after history act ≡ Some reason → followed_by history act ≡ history }
     ensures taken { (history : History) (act : Act) →
-        refusal_of history.setup history.acts act ≡ None → present_after history act ≡ with_act history act }
+        refusal_after history act ≡ None → followed_by history act ≡ with_act history act }
 {}
 
 /// The participant sends since a moment exactly where its newest packet was sent then, and no check since has
@@ -53,12 +56,34 @@ pub fn own_sending_lasts()
         (sending_since own ≡ Some moment) ↔ IsSendingSince own moment }
 {}
 
-/// The reports of a session are those that its answers hand out, each at the moment of its act and with the
-/// deterministic interval after that act's check.
-pub fn answers_hand_out_reports()
-    ensures { (setup : Setup) (act : Act) (outcome : Outcome) →
-        (after setup act outcome).reports
-        ≡ new_reports setup act outcome (report_by setup act outcome) ++ outcome.reports }
+/// What was sent over a session is what its answers handed out, each compound at the moment of its act.
+pub fn answers_hand_out_compounds()
+    ensures { (history : History) (act : Act) → sent_at (followed_by history act)
+        ≡ handed_out (moment_of act) (interval_by history.setup act (life_at history)) (answer_of history act)
+        ++ sent_at history }
+{}
+
+/// The reports that a session counts, for its minimum interval and for the turns of its extra items, are those
+/// that it sent.
+pub fn sent_reports_are_counted()
+    ensures { (history : History) →
+        reports_of (life_at history) ≡ map counted_report (reports_in (sent_at history)) }
+{}
+
+/// Whatever a participant is told, and whenever: two successive reports lie at least half the interval then
+/// computed for the later one apart, over 1.21828, and none comes before 1,026,037 microseconds; so in a window
+/// of some width at most one report more lies than 2,052,074 microseconds fit into it (RFC 3550, 6.3.1, 6.3.6).
+/// A BYE is the last compound, and after a backoff it comes no sooner than half its interval after the leave,
+/// over 1.21828 (6.3.7). No compound passes the limit.
+pub fn sent_compounds_keep_apart()
+    ensures spaced { (history : History) → IsHistory history → AreSpaced (reports_in (sent_at history)) }
+    ensures first { (history : History) → IsHistory history →
+        All (λ report. 1026037 ≤ report.moment) (reports_in (sent_at history)) }
+    ensures window { (history : History) (from width : ℕ) → IsHistory history →
+        count_within from width (reports_in (sent_at history)) ≤ 1 + width / 2052074 }
+    ensures leaves_once { (history : History) → IsHistory history →
+        EndsWithBye (first_leave history.acts) (sent_at history) }
+    ensures limit { (history : History) → IsHistory history → AllFit history.setup.limit (sent_at history) }
 {}
 
 /// The source that was reported last is that of the newest block, over any number of blocks.

@@ -4,5 +4,6 @@ mod ReportPackets
 mod Prefixes
 mod WholeReports
 mod Following
+mod Fitting
 mod Rows
 pub mod LawLemmas

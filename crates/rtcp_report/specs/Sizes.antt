@@ -24,6 +24,11 @@ abbrev pub report_size : Reporter → (blocks : ℕ) → ℕ
 report_size reporter blocks =
     first_report_size reporter.sent + 24 * blocks + 8 * further_count blocks + description_size reporter.items
 
+-- an item of at most 255 octets, if there is one
+abbrev pub IsShort : Option ItemValue → Type 0
+IsShort None = Unit {0}
+IsShort (Some item) = length item.text ≤ 255
+
 -- ---- As many as fit
 
 -- the greatest number from 1 to `most` that passes the test, or 0

@@ -1,14 +1,15 @@
 //! Laws of the definitions of reports. Each is an empty function whose postcondition is the law.
 
 ghost use Rattle.std.specs.Prelude.{◌≡◌, ◌==◌, ◌≤◌, ℕ, List, Option, count_by, length};
-ghost use Rattle.rtcp_wire.specs.Values.{ReportBlock};
+ghost use Rattle.rtcp_wire.specs.Values.{ReportBlock, ItemValue};
 ghost use Rattle.rtcp_wire.specs.Writing.{written_all};
 ghost use Rattle.rtcp_members.specs.Traces.{TraceStep};
 ghost use Rattle.rtcp_members.specs.Tables.{TableValue, StandsAt, HasFew};
-ghost use Rattle.rtcp_members.specs.Pending.{EntryRow, after_blocks};
-ghost use Rattle.rtcp_report.specs.Reports.{Reporter, packets_with};
-ghost use Rattle.rtcp_report.specs.Sizes.{report_size, fitting, reported_rows, IsLongestFitting};
+ghost use Rattle.rtcp_members.specs.Pending.{EntryRow, blocks_of, after_blocks};
+ghost use Rattle.rtcp_report.specs.Reports.{SentValue, Reporter, packets_with, bye_of};
+ghost use Rattle.rtcp_report.specs.Sizes.{report_size, IsShort, fitting, reported_rows, IsLongestFitting};
 ghost use Rattle.rtcp_report.specs.Traced.{with_blocks};
+ghost use Rattle.rtcp_report.specs.Views.{items_of};
 
 /// The sources of a report are the longest prefix of the pending ones that fits, where a report without
 /// blocks fits: none is left out that fits. There is one such prefix.
@@ -29,6 +30,19 @@ pub fn none_is_reported_twice()
 pub fn size_is_that_of_the_octets()
     ensures { (reporter : Reporter) (blocks : List ReportBlock) →
         length (written_all (packets_with reporter blocks)) ≡ report_size reporter (length blocks) }
+{}
+
+/// A report keeps to its limit, where one without blocks does. One without blocks has at most 552 octets, where
+/// no text has more than 255, and the compound with a BYE at most 284.
+pub fn compounds_are_small()
+    ensures report { (reporter : Reporter) (limit t : ℕ) (rows : List EntryRow) →
+        report_size reporter 0 ≤ limit →
+        length (written_all (packets_with reporter (blocks_of t (fitting reporter limit rows)))) ≤ limit }
+    ensures empty { (ssrc : ℕ) (sent : Option SentValue) (cname : List ℕ) (extra : Option ItemValue) →
+        length cname ≤ 255 → IsShort extra →
+        report_size (record { ssrc = ssrc; sent = sent; items = items_of cname extra }) 0 ≤ 552 }
+    ensures bye { (ssrc : ℕ) (cname : List ℕ) → length cname ≤ 255 →
+        length (written_all (bye_of ssrc cname)) ≤ 284 }
 {}
 
 /// A table that stands at a trace stands, once a report was made, at the trace with a block of each source of

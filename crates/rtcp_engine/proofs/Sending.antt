@@ -1,0 +1,322 @@
+-- What a participant sends keeps its distances and its limit, whatever it is told.
+use Rattle.std.proofs.Common.{◌≡◌, ℕ, ◌+◌, ◌-◌, ◌*◌, ◌^◌, ◌<◌, ◌≤◌, ◌&&◌, ◌==◌, ◌⊎◌, inl, inr, nat_lt, nat_le, Bool, true, false, List, [], ◌∷◌, ◌++◌, length, All, Option, Some, None, option_map, Result, Ok, Err, if◌then◌else◌, refl, sym, ap, ◌∙◌, arith, subst}
+use Rattle.std.proofs.lemmas.Bool.{leb-true, and_parts, cases_lt, lt-ltb}
+use Rattle.std.proofs.lemmas.Option.{slice_get_cases}
+use Rattle.std.specs.List.{slice_get}
+use Rattle.rtcp_clock.specs.Intervals.{drawn_interval, shortest_draw}
+use Rattle.rtcp_clock.proofs.LawLemmas.{draw_within_bounds}
+use Rattle.rtcp_report.specs.Sizes.{IsShort}
+use Rattle.rtcp_report.proofs.LawLemmas.{compounds_are_small-report, compounds_are_small-empty, compounds_are_small-bye}
+use Rattle.rtcp_timer.specs.Loads.{minimum_of}
+use Rattle.rtcp_timer.specs.Schedules as schedules
+use Rattle.rtcp_timer.specs.Schedules.{Happening, transmitted, tried, recounted, IsDue, IsInOrder, newest_transmission, schedule_at}
+use Rattle.rtcp_timer.proofs.LawLemmas.{interval_has_minimum, never_due_too_soon}
+use Rattle.rtcp_members.specs.News.{pending_rows_at}
+use Rattle.rtcp_wire.specs.Values.{ItemValue}
+use Rattle.rtcp_engine.specs.declared.refusal.Refusal.{Refusal}
+use Rattle.rtcp_engine.specs.declared.refusal.Refusal.TheVariants.{Backwards}
+use Rattle.rtcp_engine.specs.Setups.{Setup, IsExtraItem, IsUsable}
+use Rattle.rtcp_engine.specs.Acts.{Act, rtcp_came, rtp_came, rtp_sent, ticked, left, moment_of}
+use Rattle.rtcp_engine.specs.Outcomes.{Outcome, is_initial, interval_at, load_of, member_count}
+use Rattle.rtcp_engine.specs.Ticks.{checked, has_come, has_passed, reported, put_off, is_report_due}
+use Rattle.rtcp_engine.specs.OwnStreams.{sent_at}
+use Rattle.rtcp_engine.specs.Reporting.{report_octets, extra_item, reporter_at, last_reported_in}
+use Rattle.rtcp_engine.specs.Presence.{report_out, last_moment}
+use Rattle.rtcp_engine.specs.Taken.{HasWords, AllTaken}
+use Rattle.rtcp_engine.specs.Leaving.{Farewell, Backoff, Life, present, backing_off, gone, backoff_from, bye_count, bye_octets, few_members, is_bye_due, is_unheard, after_wait, leaving_interval, leaving_timing}
+use Rattle.rtcp_engine.specs.Lives.{while_present, while_backing_off, lived, life_of, bye_out}
+use Rattle.rtcp_engine.specs.Sent.{Sent, is_report, sent_with, sent_by, sent_over}
+use Rattle.rtcp_engine.specs.Spacing.{HalfPasses, newest_moment, leave_moment, or_else, first_leave, IsLate}
+
+-- ---- Draws
+
+-- A draw is at least half its interval over 1.21828.
+half_passes : (from until interval word : ℕ) → word < 2 ^ 32 → from + drawn_interval interval word ≤ until → HalfPasses from until interval
+half_passes from until interval word fits passed =
+    let least = (draw_within_bounds interval word fits).0 in
+    omega (arith, least, passed)
+
+-- ---- Lists of reports
+
+abbrev pub none_sent : List Sent → Bool
+none_sent [] = true
+none_sent (newest ∷ earlier) = false
+
+-- a report after those before it
+pub record IsNext (limit : ℕ) (report : Sent) (earlier : List Sent) : Type 0 where
+  pub kind : is_report report ≡ true
+  pub spaced : HalfPasses (newest_moment earlier) report.moment report.interval
+  pub least : minimum_of (none_sent earlier) ≤ report.interval
+  pub fits : length report.out.octets ≤ limit
+
+abbrev pub AreReports : (limit : ℕ) → List Sent → Type 0
+AreReports limit [] = Unit {0}
+AreReports limit (report ∷ earlier) = IsNext limit report earlier × AreReports limit earlier
+
+-- a BYE after the reports
+pub record IsLast (limit : ℕ) (leave : Option ℕ) (bye : Sent) : Type 0 where
+  pub kind : is_report bye ≡ false
+  pub late : IsLate leave bye
+  pub fits : length bye.out.octets ≤ limit
+
+abbrev pub EndsSo : (limit : ℕ) → (leave : Option ℕ) → List Sent → Type 0
+EndsSo limit leave [] = ⊥
+EndsSo limit leave (bye ∷ earlier) = IsLast limit leave bye × AreReports limit earlier
+
+-- ---- Lives
+
+-- happenings up to a moment
+pub record AreUpTo (t : ℕ) (happenings : List Happening) : Type 0 where
+  pub in_order : IsInOrder happenings
+  pub past : schedules.newest_moment happenings ≤ t
+
+pub record TakesPart (limit t : ℕ) (leave : Option ℕ) (outcome : Outcome) (sent : List Sent) : Type 0 where
+  pub up_to : AreUpTo t outcome.happenings
+  pub newest : newest_transmission outcome.happenings ≡ newest_moment sent
+  pub initial : is_initial outcome.reports ≡ none_sent sent
+  pub stays : leave ≡ None
+  pub reports : AreReports limit sent
+
+pub record BacksOff (limit t : ℕ) (leave : Option ℕ) (backoff : Backoff) (sent : List Sent) : Type 0 where
+  pub up_to : AreUpTo t backoff.happenings
+  pub newest : newest_transmission backoff.happenings ≡ backoff.since
+  pub left_then : leave ≡ Some backoff.since
+  pub reports : AreReports limit sent
+
+-- what was sent in a life, up to a moment
+abbrev pub KeepsApart : (limit t : ℕ) → (leave : Option ℕ) → Life → List Sent → Type 0
+KeepsApart limit t leave (present outcome) sent = TakesPart limit t leave outcome sent
+KeepsApart limit t leave (backing_off outcome backoff) sent = BacksOff limit t leave backoff sent
+KeepsApart limit t leave (gone outcome) sent = AreReports limit sent ⊎ EndsSo limit leave sent
+
+-- ---- Sizes
+
+short_read : (items : List ItemValue) (place : ℕ) → All IsExtraItem items → IsShort (slice_get items place)
+short_read items place short =
+    elim (slice_get_cases items place).1 [
+      | inl found ↦ subst IsShort (sym found.2) (ap_le found.3 (short place found.0 found.1).1)
+      | inr none ↦ subst IsShort (sym none.1) tt
+    ]
+  where
+    ap_le : {one other : ItemValue} → one ≡ other → length one.text ≤ 255 → length other.text ≤ 255
+    ap_le {one} {other} same h = subst (λ (item : ItemValue). length item.text ≤ 255) same h
+
+short_if : (turn : Bool) (found : Option ItemValue) → IsShort found → IsShort (if turn then found else None)
+short_if true found short = short
+short_if false found short = tt
+
+report_is_within : (setup : Setup) (t : ℕ) (outcome : Outcome) → IsUsable setup → length (report_octets setup t outcome) ≤ setup.limit
+report_is_within setup t outcome usable =
+    let extra = short_if _ _ (short_read setup.extras _ usable.extras) in
+    let empty = compounds_are_small-empty setup.ssrc (sent_at setup t outcome.own) setup.cname (extra_item setup.extras (length outcome.reports + 1)) usable.cname.1 extra in
+    compounds_are_small-report (reporter_at setup t outcome) setup.limit t (pending_rows_at (last_reported_in outcome.trace) setup.capacity setup.rate outcome.trace)
+    (omega (arith, empty, usable.limit.0))
+
+bye_is_within : (setup : Setup) → IsUsable setup → length (bye_octets setup) ≤ setup.limit
+bye_is_within setup usable = omega (arith, compounds_are_small-bye setup.ssrc setup.cname usable.cname.1, usable.limit.0)
+
+-- ---- Happenings
+
+later : {t : ℕ} {happenings : List Happening} → (u : ℕ) → t ≤ u → AreUpTo t happenings → AreUpTo u happenings
+later {t} {happenings} u order h = record { in_order = h.in_order; past = omega (arith, order, h.past) }
+
+one_more : {t : ℕ} {happenings : List Happening} → (happening : Happening) → t ≤ schedules.happening_moment happening → AreUpTo t happenings
+    → AreUpTo (schedules.happening_moment happening) (happening ∷ happenings)
+one_more {t} {happenings} happening order h = record { in_order = (omega (arith, order, h.past), h.in_order); past = omega arith }
+
+-- ---- Taking part
+
+-- an act that brings nothing, and is no leave
+passes : {limit t : ℕ} {leave : Option ℕ} {outcome : Outcome} {sent : List Sent} → (act : Act) (new : Outcome) → TakesPart limit t leave outcome sent
+    → leave_moment act ≡ None → AreUpTo (moment_of act) new.happenings → newest_transmission new.happenings ≡ newest_transmission outcome.happenings → new.reports ≡ outcome.reports
+    → TakesPart limit (moment_of act) (or_else leave (leave_moment act)) new sent
+passes {limit} {t} {leave} {outcome} {sent} act new h stays up_to newest reports = record {
+  up_to = up_to;
+  newest = newest ∙ h.newest;
+  initial = ap is_initial reports ∙ h.initial;
+  stays = ap (λ (l : Option ℕ). or_else l (leave_moment act)) h.stays ∙ stays;
+  reports = h.reports;
+}
+
+-- a check that was made, in a tick
+checks : {limit t : ℕ} {leave : Option ℕ} {outcome : Outcome} {sent : List Sent} → (setup : Setup) (moment : ℕ) → t ≤ moment → TakesPart limit t leave outcome sent
+    → TakesPart limit moment leave (checked setup moment outcome) sent
+checks {limit} {t} {leave} {outcome} {sent} setup moment order h = record {
+  up_to = one_more (recounted moment _) order h.up_to;
+  newest = h.newest;
+  initial = h.initial;
+  stays = h.stays;
+  reports = h.reports;
+}
+
+-- a report that is due keeps its distance from the one before it
+next_report : (setup : Setup) (t word : ℕ) (leave : Option ℕ) (now : Outcome) (sent : List Sent) → IsUsable setup → word < 2 ^ 32 → TakesPart setup.limit t leave now sent
+    → IsDue (schedule_at now.happenings) t (drawn_interval (interval_at setup now) word)
+    → IsNext setup.limit (record { moment = t; interval = interval_at setup now; out = report_out (report_octets setup t now) }) sent
+next_report setup t word leave now sent usable fits h due =
+    let interval = interval_at setup now in
+    let apart = never_due_too_soon now.happenings t (drawn_interval interval word) h.up_to.in_order due in
+    record {
+      kind = refl;
+      spaced = half_passes (newest_moment sent) t interval word fits (subst (λ (from : ℕ). from + drawn_interval interval word ≤ t) h.newest apart);
+      least = subst (λ (initial : Bool). minimum_of initial ≤ interval) h.initial (interval_has_minimum (load_of setup now));
+      fits = report_is_within setup t now usable;
+    }
+
+tick_by : (setup : Setup) (t first_word second_word : ℕ) (leave : Option ℕ) (now : Outcome) (sent : List Sent) (come passed : Bool) → IsUsable setup → first_word < 2 ^ 32
+    → (come ≡ true → passed ≡ true → IsDue (schedule_at now.happenings) t (drawn_interval (interval_at setup now) first_word)) → TakesPart setup.limit t leave now sent
+    → TakesPart setup.limit t leave (if come then (if passed then reported setup t second_word now else put_off setup t first_word now) else now)
+    (sent_with t (interval_at setup now) (option_map report_out (if come && passed then Some (report_octets setup t now) else None)) ++ sent)
+tick_by setup t first_word second_word leave now sent true true usable fits due h = record {
+  up_to = one_more (transmitted t _ _) (omega arith) h.up_to;
+  newest = refl;
+  initial = refl;
+  stays = h.stays;
+  reports = (next_report setup t first_word leave now sent usable fits h (due refl refl), h.reports);
+}
+tick_by setup t first_word second_word leave now sent true false usable fits due h = record {
+  up_to = one_more (tried t _ _) (omega arith) h.up_to;
+  newest = h.newest;
+  initial = h.initial;
+  stays = h.stays;
+  reports = h.reports;
+}
+tick_by setup t first_word second_word leave now sent false passed usable fits due h = h
+
+-- the BYE with which a participant is gone
+last_bye : (setup : Setup) (leave : Option ℕ) (asked t interval : ℕ) → IsUsable setup → leave ≡ Some asked → HalfPasses asked t interval
+    → IsLast setup.limit leave (record { moment = t; interval = interval; out = bye_out (bye_octets setup) })
+last_bye setup leave asked t interval usable is passed = record {
+  kind = refl;
+  late = subst (λ (l : Option ℕ). IsLate l (record { moment = t; interval = interval; out = bye_out (bye_octets setup) })) (sym is) passed;
+  fits = bye_is_within setup usable;
+}
+
+leave_by : (setup : Setup) (t u word : ℕ) (leave : Option ℕ) (outcome : Outcome) (sent : List Sent) (unheard few : Bool) → IsUsable setup → t ≤ u → TakesPart setup.limit t leave outcome sent
+    → KeepsApart setup.limit u (or_else leave (Some u)) (if unheard then gone outcome else (if few then gone outcome else backing_off outcome (backoff_from setup u word outcome)))
+    (sent_with u 0 (option_map bye_out (if unheard then None else (if few then Some (bye_octets setup) else None))) ++ sent)
+leave_by setup t u word leave outcome sent true few usable order h = inl h.reports
+leave_by setup t u word leave outcome sent false true usable order h =
+    inr (last_bye setup (or_else leave (Some u)) u u 0 usable (ap (λ (l : Option ℕ). or_else l (Some u)) h.stays) (omega arith), h.reports)
+leave_by setup t u word leave outcome sent false false usable order h = record {
+  up_to = one_more (transmitted u _ 1) order h.up_to;
+  newest = refl;
+  left_then = ap (λ (l : Option ℕ). or_else l (Some u)) h.stays;
+  reports = h.reports;
+}
+
+stays_on : {limit t : ℕ} {leave other : Option ℕ} {outcome : Outcome} {sent : List Sent} → leave ≡ other → TakesPart limit t leave outcome sent → TakesPart limit t other outcome sent
+stays_on {limit} {t} {leave} {other} {outcome} {sent} same h = subst (λ (l : Option ℕ). TakesPart limit t l outcome sent) same h
+
+still_present : (setup : Setup) (t : ℕ) (leave : Option ℕ) (act : Act) (outcome : Outcome) (sent : List Sent) → IsUsable setup → t ≤ moment_of act → HasWords act → TakesPart setup.limit t leave outcome sent
+    → KeepsApart setup.limit (moment_of act) (or_else leave (leave_moment act)) (while_present setup act outcome) (sent_by setup act (present outcome) ++ sent)
+still_present setup t leave (rtcp_came moment size (Ok packets)) outcome sent usable order words h =
+    passes (rtcp_came moment size (Ok packets)) _ h refl (one_more (recounted moment _) order h.up_to) refl refl
+still_present setup t leave (rtcp_came moment size (Err fault)) outcome sent usable order words h =
+    passes (rtcp_came moment size (Err fault)) outcome h refl (later moment order h.up_to) refl refl
+still_present setup t leave (rtp_came moment (Ok head)) outcome sent usable order words h =
+    passes (rtp_came moment (Ok head)) _ h refl (later moment order h.up_to) refl refl
+still_present setup t leave (rtp_came moment (Err fault)) outcome sent usable order words h =
+    passes (rtp_came moment (Err fault)) outcome h refl (later moment order h.up_to) refl refl
+still_present setup t leave (rtp_sent moment timestamp octets) outcome sent usable order words h =
+    passes (rtp_sent moment timestamp octets) _ h refl (later moment order h.up_to) refl refl
+still_present setup t leave (ticked moment first_word second_word) outcome sent usable order words h =
+    let now = checked setup moment outcome in
+    stays_on (h.stays ∙ sym (ap (λ (l : Option ℕ). or_else l None) h.stays))
+    (tick_by setup moment first_word second_word leave now sent (has_come moment now) (has_passed setup moment first_word now) usable words.0
+    (λ come passed. record { came = leb-true _ moment come; passed = leb-true _ moment passed }) (checks setup moment order h))
+still_present setup t leave (left moment word) outcome sent usable order words h =
+    leave_by setup t moment word leave outcome sent (is_unheard outcome) (nat_le (member_count setup outcome) few_members) usable order h
+
+-- ---- Backing off
+
+waits : {limit t : ℕ} {leave : Option ℕ} {backoff : Backoff} {sent : List Sent} → (act : Act) (new : Backoff) → BacksOff limit t leave backoff sent
+    → new.since ≡ backoff.since → AreUpTo (moment_of act) new.happenings → newest_transmission new.happenings ≡ newest_transmission backoff.happenings
+    → BacksOff limit (moment_of act) (or_else leave (leave_moment act)) new sent
+waits {limit} {t} {leave} {backoff} {sent} act new h since up_to newest = record {
+  up_to = up_to;
+  newest = newest ∙ h.newest ∙ sym since;
+  left_then = ap (λ (l : Option ℕ). or_else l (leave_moment act)) h.left_then ∙ ap Some (sym since);
+  reports = h.reports;
+}
+
+hears : {limit t : ℕ} {leave : Option ℕ} {backoff : Backoff} {sent : List Sent} → (act : Act) (none : Bool) (farewells : List Farewell) → t ≤ moment_of act → BacksOff limit t leave backoff sent
+    → BacksOff limit (moment_of act) (or_else leave (leave_moment act)) (if none then backoff else record backoff { farewells = farewells }) sent
+hears {limit} {t} {leave} {backoff} {sent} act true farewells order h = waits act backoff h refl (later (moment_of act) order h.up_to) refl
+hears {limit} {t} {leave} {backoff} {sent} act false farewells order h = waits act (record backoff { farewells = farewells }) h refl (later (moment_of act) order h.up_to) refl
+
+waits_on : {limit t : ℕ} {leave : Option ℕ} {backoff : Backoff} {sent : List Sent} → (act : Act) (come : Bool) (interval members : ℕ) → t ≤ moment_of act → BacksOff limit t leave backoff sent
+    → BacksOff limit (moment_of act) (or_else leave (leave_moment act)) (if come then record backoff { happenings = tried (moment_of act) interval members ∷ backoff.happenings } else backoff) sent
+waits_on {limit} {t} {leave} {backoff} {sent} act true interval members order h =
+    waits act (record backoff { happenings = tried (moment_of act) interval members ∷ backoff.happenings }) h refl (one_more (tried (moment_of act) interval members) order h.up_to) refl
+waits_on {limit} {t} {leave} {backoff} {sent} act false interval members order h = waits act backoff h refl (later (moment_of act) order h.up_to) refl
+
+bye_by : (setup : Setup) (t : ℕ) (leave : Option ℕ) (act : Act) (word : ℕ) (outcome : Outcome) (backoff : Backoff) (sent : List Sent) (due : Bool) → IsUsable setup → t ≤ moment_of act → word < 2 ^ 32
+    → (due ≡ true → IsDue (schedule_at backoff.happenings) (moment_of act) (drawn_interval (leaving_interval setup backoff) word)) → BacksOff setup.limit t leave backoff sent
+    → KeepsApart setup.limit (moment_of act) (or_else leave (leave_moment act)) (if due then gone outcome else backing_off outcome (after_wait setup (moment_of act) word backoff))
+    (sent_with (moment_of act) (leaving_interval setup backoff) (if due then Some (bye_out (bye_octets setup)) else None) ++ sent)
+bye_by setup t leave act word outcome backoff sent true usable order fits due h =
+    let moment = moment_of act in
+    let interval = leaving_interval setup backoff in
+    let apart = never_due_too_soon backoff.happenings moment (drawn_interval interval word) h.up_to.in_order (due refl) in
+    inr (last_bye setup (or_else leave (leave_moment act)) backoff.since moment interval usable (ap (λ (l : Option ℕ). or_else l (leave_moment act)) h.left_then)
+    (half_passes backoff.since moment interval word fits (subst (λ (from : ℕ). from + drawn_interval interval word ≤ moment) h.newest apart)), h.reports)
+bye_by setup t leave act word outcome backoff sent false usable order fits due h =
+    waits_on act (nat_le (leaving_timing backoff).next (moment_of act)) _ _ order h
+
+still_backing_off : (setup : Setup) (t : ℕ) (leave : Option ℕ) (act : Act) (outcome : Outcome) (backoff : Backoff) (sent : List Sent) → IsUsable setup → t ≤ moment_of act → HasWords act → BacksOff setup.limit t leave backoff sent
+    → KeepsApart setup.limit (moment_of act) (or_else leave (leave_moment act)) (while_backing_off setup act outcome backoff) (sent_by setup act (backing_off outcome backoff) ++ sent)
+still_backing_off setup t leave (rtcp_came moment size (Ok packets)) outcome backoff sent usable order words h =
+    hears (rtcp_came moment size (Ok packets)) (bye_count packets == 0) _ order h
+still_backing_off setup t leave (rtcp_came moment size (Err fault)) outcome backoff sent usable order words h =
+    waits (rtcp_came moment size (Err fault)) backoff h refl (later moment order h.up_to) refl
+still_backing_off setup t leave (rtp_came moment reading) outcome backoff sent usable order words h =
+    waits (rtp_came moment reading) backoff h refl (later moment order h.up_to) refl
+still_backing_off setup t leave (rtp_sent moment timestamp octets) outcome backoff sent usable order words h =
+    waits (rtp_sent moment timestamp octets) backoff h refl (later moment order h.up_to) refl
+still_backing_off setup t leave (ticked moment first_word second_word) outcome backoff sent usable order words h =
+    bye_by setup t leave (ticked moment first_word second_word) first_word outcome backoff sent (is_bye_due setup moment first_word backoff) usable order words.0
+    (λ due. let parts = and_parts _ _ due in record { came = leb-true _ moment parts.0; passed = leb-true _ moment parts.1 }) h
+still_backing_off setup t leave (left moment word) outcome backoff sent usable order words h =
+    waits (left moment word) backoff h refl (later moment order h.up_to) refl
+
+-- ---- Sessions
+
+still_late : (leave : Option ℕ) (act : Act) (bye : Sent) → IsLate leave bye → IsLate (or_else leave (leave_moment act)) bye
+still_late None act bye late = absurd late
+still_late (Some moment) act bye late = late
+
+still_ends : (limit : ℕ) (leave : Option ℕ) (act : Act) (sent : List Sent) → EndsSo limit leave sent → EndsSo limit (or_else leave (leave_moment act)) sent
+still_ends limit leave act [] h = absurd h
+still_ends limit leave act (bye ∷ earlier) h = (record { kind = h.0.kind; late = still_late leave act bye h.0.late; fits = h.0.fits }, h.1)
+
+keeps_apart : (setup : Setup) (t : ℕ) (leave : Option ℕ) (act : Act) (life : Life) (sent : List Sent) → IsUsable setup → t ≤ moment_of act → HasWords act → KeepsApart setup.limit t leave life sent
+    → KeepsApart setup.limit (moment_of act) (or_else leave (leave_moment act)) (lived setup act life) (sent_by setup act life ++ sent)
+keeps_apart setup t leave act (present outcome) sent usable order words h = still_present setup t leave act outcome sent usable order words h
+keeps_apart setup t leave act (backing_off outcome backoff) sent usable order words h = still_backing_off setup t leave act outcome backoff sent usable order words h
+keeps_apart setup t leave act (gone outcome) sent usable order words (inl reports) = inl reports
+keeps_apart setup t leave act (gone outcome) sent usable order words (inr ends) = inr (still_ends setup.limit leave act sent ends)
+
+-- an act that is taken does not lie before the last one
+in_time : (moment last : ℕ) (others : Option Refusal) → (if nat_lt moment last then Some Backwards else others) ≡ None → last ≤ moment
+in_time moment last others none =
+    elim (cases_lt moment last) [
+      | inl below ↦ absurd (some_is_none (sym (ap (λ (b : Bool). if b then Some Backwards else others) (lt-ltb moment last below)) ∙ none))
+      | inr above ↦ above
+    ]
+  where
+    some_is_none : Some Backwards ≡ None → ⊥
+    some_is_none e = cc
+
+pub session_keeps_apart : (setup : Setup) (word : ℕ) (acts : List Act) → IsUsable setup → AllTaken setup acts
+    → KeepsApart setup.limit (last_moment acts) (first_leave acts) (life_of setup word acts) (sent_over setup word acts)
+session_keeps_apart setup word [] usable taken = record {
+  up_to = record { in_order = (omega arith, tt); past = omega arith };
+  newest = refl;
+  initial = refl;
+  stays = refl;
+  reports = tt;
+}
+session_keeps_apart setup word (act ∷ earlier) usable taken =
+    keeps_apart setup (last_moment earlier) (first_leave earlier) act (life_of setup word earlier) (sent_over setup word earlier) usable
+    (in_time (moment_of act) (last_moment earlier) _ taken.0) taken.1 (session_keeps_apart setup word earlier usable taken.2)

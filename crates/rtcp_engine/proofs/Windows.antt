@@ -1,0 +1,151 @@
+-- What follows for all that was sent: how far apart it lies, how much lies in a window, and what comes last.
+use Rattle.std.proofs.Common.{◌≡◌, ℕ, suc, ◌+◌, ◌-◌, ◌*◌, ◌/◌, ◌<◌, ◌≤◌, ◌&&◌, ◌⊎◌, inl, inr, nat_le, Bool, true, false, cond, List, [], ◌∷◌, length, filter, All, Option, refl, sym, ap, ◌∙◌, arith, subst}
+use Rattle.std.proofs.lemmas.Bool.{cases_lt, le-leb, lt-leb}
+use Rattle.std.proofs.lemmas.List.Elements.{All-nil, All-cons}
+use Rattle.rtcp_timer.specs.Loads.{minimum_of}
+use Rattle.rtcp_engine.specs.Leaving.{Life, present, backing_off, gone}
+use Rattle.rtcp_engine.specs.Sent.{Sent, is_report, reports_in}
+use Rattle.rtcp_engine.specs.Spacing.{newest_moment, AreSpaced, is_between, count_within, EndsWithBye, AllFit}
+use Rattle.rtcp_engine.proofs.Sending.{none_sent, IsNext, AreReports, IsLast, EndsSo, KeepsApart}
+
+-- ---- Reports alone
+
+all_reports : (limit : ℕ) (sent : List Sent) → AreReports limit sent → reports_in sent ≡ sent
+all_reports limit [] h = refl
+all_reports limit (newest ∷ earlier) h =
+    ap (λ (b : Bool). cond b (newest ∷ reports_in earlier) (reports_in earlier)) h.0.kind ∙ ap (λ (rest : List Sent). newest ∷ rest) (all_reports limit earlier h.1)
+
+last_is_none : (limit : ℕ) (leave : Option ℕ) (bye : Sent) (earlier : List Sent) → IsLast limit leave bye → reports_in (bye ∷ earlier) ≡ reports_in earlier
+last_is_none limit leave bye earlier h = ap (λ (b : Bool). cond b (bye ∷ reports_in earlier) (reports_in earlier)) h.kind
+
+ending_reports : (limit : ℕ) (leave : Option ℕ) (sent : List Sent) → EndsSo limit leave sent → AreReports limit (reports_in sent)
+ending_reports limit leave [] h = absurd h
+ending_reports limit leave (bye ∷ earlier) h =
+    subst (AreReports limit) (sym (last_is_none limit leave bye earlier h.0 ∙ all_reports limit earlier h.1)) h.1
+
+its_reports : (limit : ℕ) (sent : List Sent) → AreReports limit sent → AreReports limit (reports_in sent)
+its_reports limit sent h = subst (AreReports limit) (sym (all_reports limit sent h)) h
+
+reports_apart : (limit t : ℕ) (leave : Option ℕ) (sent : List Sent) (life : Life) → KeepsApart limit t leave life sent → AreReports limit (reports_in sent)
+reports_apart limit t leave sent (present outcome) h = its_reports limit sent h.reports
+reports_apart limit t leave sent (backing_off outcome backoff) h = its_reports limit sent h.reports
+reports_apart limit t leave sent (gone outcome) (inl h) = its_reports limit sent h
+reports_apart limit t leave sent (gone outcome) (inr h) = ending_reports limit leave sent h
+
+spaced : (limit : ℕ) (reports : List Sent) → AreReports limit reports → AreSpaced reports
+spaced limit [] h = tt
+spaced limit (newest ∷ earlier) h = (h.0.spaced, spaced limit earlier h.1)
+
+least_interval : (initial : Bool) → 2500000 ≤ minimum_of initial
+least_interval true = omega arith
+least_interval false = omega arith
+
+none_too_soon : (limit : ℕ) (reports : List Sent) → AreReports limit reports → All (λ report. 1026037 ≤ report.moment) reports
+none_too_soon limit [] h = All-nil (λ (report : Sent). 1026037 ≤ report.moment)
+none_too_soon limit (newest ∷ earlier) h =
+    All-cons (λ (report : Sent). 1026037 ≤ report.moment) newest earlier (omega (arith, h.0.spaced, h.0.least, least_interval (none_sent earlier)))
+    (none_too_soon limit earlier h.1)
+
+-- ---- Windows
+
+-- Reports that lie in a window lie so far apart that only so many fit.
+abbrev Fills : (from until newest count : ℕ) → Type 0
+Fills from until newest count = (count ≡ 0) ⊎ ((2052074 * (count - 1) + from ≤ newest) × (2052074 * (count - 1) + from ≤ until) × (1 ≤ count))
+
+both : {a b c d : Bool} → a ≡ c → b ≡ d → (a && b) ≡ (c && d)
+both p q = λ i. p i && q i
+
+abbrev FillsBy : (from until moment count : ℕ) → Bool → Type 0
+FillsBy from until moment count inside = Fills from until moment (cond inside (suc count) count)
+
+fills_more : (from until before moment count : ℕ) → Fills from until before count → before ≤ moment → (1 ≤ count → before + 2052074 ≤ moment)
+    → FillsBy from until moment count (nat_le from moment && nat_le moment until)
+fills_more from until before moment count so_far order gap =
+    elim (cases_lt moment from) [
+      | inl below ↦ subst (FillsBy from until moment count) (sym (both (lt-leb from moment below) refl)) (too_early below so_far)
+      | inr inside ↦
+          elim (cases_lt until moment) [
+            | inl above ↦ subst (FillsBy from until moment count) (sym (both (le-leb from moment inside) (lt-leb moment until above))) (too_late so_far)
+            | inr within ↦ subst (FillsBy from until moment count) (sym (both (le-leb from moment inside) (le-leb moment until within))) (one_more inside within so_far)
+          ]
+    ]
+  where
+    too_early : moment < from → Fills from until before count → Fills from until moment count
+    too_early below (inl none) = inl none
+    too_early below (inr some) = absurd (omega (arith, below, some.0, order))
+    too_late : Fills from until before count → Fills from until moment count
+    too_late (inl none) = inl none
+    too_late (inr some) = inr (omega (arith, some.0, order), some.1, some.2)
+    one_more : from ≤ moment → moment ≤ until → Fills from until before count → Fills from until moment (suc count)
+    one_more inside within (inl none) = inr (omega (arith, none, inside), omega (arith, none, inside, within), omega arith)
+    one_more inside within (inr some) =
+        let far = gap some.2 in
+        inr (omega (arith, some.0, some.2, far), omega (arith, some.0, some.2, far, within), omega arith)
+
+kept_or_not : (inside : Bool) (newest : Sent) (earlier : List Sent) → length (cond inside (newest ∷ earlier) earlier) ≡ cond inside (suc (length earlier)) (length earlier)
+kept_or_not true newest earlier = refl
+kept_or_not false newest earlier = refl
+
+fills_cons : (from until : ℕ) (newest : Sent) (earlier : List Sent) → FillsBy from until newest.moment (length (filter (is_between from until) earlier)) (is_between from until newest)
+    → Fills from until newest.moment (length (filter (is_between from until) (newest ∷ earlier)))
+fills_cons from until newest earlier h =
+    subst (Fills from until newest.moment) (sym (kept_or_not (is_between from until newest) newest (filter (is_between from until) earlier))) h
+
+fills : (limit from until : ℕ) (reports : List Sent) → AreReports limit reports → Fills from until (newest_moment reports) (length (filter (is_between from until) reports))
+fills limit from until [] h = inl refl
+fills limit from until (newest ∷ []) h =
+    fills_cons from until newest [] (fills_more from until 0 newest.moment 0 (inl refl) (omega arith) (λ some. absurd (omega (arith, some))))
+fills limit from until (newest ∷ before ∷ earlier) h =
+    let far : before.moment + 2052074 ≤ newest.moment = omega (arith, h.0.spaced, h.0.least) in
+    fills_cons from until newest (before ∷ earlier)
+    (fills_more from until before.moment newest.moment (length (filter (is_between from until) (before ∷ earlier))) (fills limit from until (before ∷ earlier) h.1) (omega (arith, far)) (λ some. far))
+
+few_fit : (from width newest count : ℕ) → Fills from (from + width) newest count → count ≤ 1 + width / 2052074
+few_fit from width newest count (inl none) = omega (arith, none)
+few_fit from width newest count (inr some) = omega (arith, some.1, some.2)
+
+-- ---- Ends and sizes
+
+all_are_reports : (limit : ℕ) (sent : List Sent) → AreReports limit sent → All (λ compound. is_report compound ≡ true) sent
+all_are_reports limit [] h = All-nil (λ (compound : Sent). is_report compound ≡ true)
+all_are_reports limit (newest ∷ earlier) h = All-cons (λ (compound : Sent). is_report compound ≡ true) newest earlier h.0.kind (all_are_reports limit earlier h.1)
+
+reports_end : (limit : ℕ) (leave : Option ℕ) (sent : List Sent) → AreReports limit sent → EndsWithBye leave sent
+reports_end limit leave [] h = tt
+reports_end limit leave (newest ∷ earlier) h = (all_are_reports limit earlier h.1, λ bye. absurd (cc (sym bye ∙ h.0.kind)))
+
+bye_ends : (limit : ℕ) (leave : Option ℕ) (sent : List Sent) → EndsSo limit leave sent → EndsWithBye leave sent
+bye_ends limit leave [] h = absurd h
+bye_ends limit leave (bye ∷ earlier) h = (all_are_reports limit earlier h.1, λ is. h.0.late)
+
+reports_fit : (limit : ℕ) (sent : List Sent) → AreReports limit sent → AllFit limit sent
+reports_fit limit [] h = All-nil (λ (compound : Sent). length compound.out.octets ≤ limit)
+reports_fit limit (newest ∷ earlier) h = All-cons (λ (compound : Sent). length compound.out.octets ≤ limit) newest earlier h.0.fits (reports_fit limit earlier h.1)
+
+bye_fits : (limit : ℕ) (leave : Option ℕ) (sent : List Sent) → EndsSo limit leave sent → AllFit limit sent
+bye_fits limit leave [] h = absurd h
+bye_fits limit leave (bye ∷ earlier) h = All-cons (λ (compound : Sent). length compound.out.octets ≤ limit) bye earlier h.0.fits (reports_fit limit earlier h.1)
+
+-- ---- Of a life
+
+pub spaced_in : (limit t : ℕ) (leave : Option ℕ) (sent : List Sent) (life : Life) → KeepsApart limit t leave life sent → AreSpaced (reports_in sent)
+spaced_in limit t leave sent life h = spaced limit (reports_in sent) (reports_apart limit t leave sent life h)
+
+pub first_in : (limit t : ℕ) (leave : Option ℕ) (sent : List Sent) (life : Life) → KeepsApart limit t leave life sent → All (λ report. 1026037 ≤ report.moment) (reports_in sent)
+first_in limit t leave sent life h = none_too_soon limit (reports_in sent) (reports_apart limit t leave sent life h)
+
+pub window_in : (limit t : ℕ) (leave : Option ℕ) (sent : List Sent) (from width : ℕ) (life : Life) → KeepsApart limit t leave life sent → count_within from width (reports_in sent) ≤ 1 + width / 2052074
+window_in limit t leave sent from width life h =
+    few_fit from width (newest_moment (reports_in sent)) _ (fills limit from (from + width) (reports_in sent) (reports_apart limit t leave sent life h))
+
+pub ends_in : (limit t : ℕ) (leave : Option ℕ) (sent : List Sent) (life : Life) → KeepsApart limit t leave life sent → EndsWithBye leave sent
+ends_in limit t leave sent (present outcome) h = reports_end limit leave sent h.reports
+ends_in limit t leave sent (backing_off outcome backoff) h = reports_end limit leave sent h.reports
+ends_in limit t leave sent (gone outcome) (inl h) = reports_end limit leave sent h
+ends_in limit t leave sent (gone outcome) (inr h) = bye_ends limit leave sent h
+
+pub limit_in : (limit t : ℕ) (leave : Option ℕ) (sent : List Sent) (life : Life) → KeepsApart limit t leave life sent → AllFit limit sent
+limit_in limit t leave sent (present outcome) h = reports_fit limit sent h.reports
+limit_in limit t leave sent (backing_off outcome backoff) h = reports_fit limit sent h.reports
+limit_in limit t leave sent (gone outcome) (inl h) = reports_fit limit sent h
+limit_in limit t leave sent (gone outcome) (inr h) = bye_fits limit leave sent h

@@ -1,0 +1,65 @@
+-- How far apart the compounds of a participant lie, and how large they are. Lists are newest first, and moments
+-- and intervals are in microseconds.
+use Rattle.std.specs.Prelude.{ℕ, ◌≡◌, ◌+◌, ◌-◌, ◌*◌, ◌≤◌, ◌&&◌, Bool, true, false, nat_le, List, [], ◌∷◌, length, filter, All, Option, Some, None}
+use Rattle.rtcp_engine.specs.Acts.{Act, rtcp_came, rtp_came, rtp_sent, ticked, left}
+use Rattle.rtcp_engine.specs.Histories.{History}
+use Rattle.rtcp_engine.specs.Sent.{Sent, is_report, reports_in, sent_at}
+
+-- From one moment to another at least half an interval passes, over 1.21828: the least that a draw can give
+-- (RFC 3550, 6.3.1).
+abbrev pub HalfPasses : (from until interval : ℕ) → Type 0
+HalfPasses from until interval = 100000 * interval ≤ 2 * 121828 * (until - from)
+
+-- ---- Reports
+
+-- the moment of the newest compound, or the start of the session
+abbrev pub newest_moment : List Sent → ℕ
+newest_moment [] = 0
+newest_moment (newest ∷ earlier) = newest.moment
+
+-- Each report keeps its distance from the one before it, and the first from the start.
+abbrev pub AreSpaced : List Sent → Type 0
+AreSpaced [] = Unit {0}
+AreSpaced (report ∷ earlier) =
+    HalfPasses (newest_moment earlier) report.moment report.interval × AreSpaced earlier
+
+abbrev pub is_between : (from until : ℕ) → Sent → Bool
+is_between from until report = nat_le from report.moment && nat_le report.moment until
+
+-- how many reports lie in a window of so many microseconds, its ends included
+abbrev pub count_within : (from width : ℕ) → List Sent → ℕ
+count_within from width reports = length (filter (is_between from (from + width)) reports)
+
+-- ---- Leaving
+
+abbrev pub leave_moment : Act → Option ℕ
+leave_moment (rtcp_came moment size reading) = None
+leave_moment (rtp_came moment reading) = None
+leave_moment (rtp_sent moment timestamp octets) = None
+leave_moment (ticked moment first_word second_word) = None
+leave_moment (left moment word) = Some moment
+
+abbrev pub or_else : Option ℕ → Option ℕ → Option ℕ
+or_else None other = other
+or_else (Some moment) other = Some moment
+
+-- the moment of the first leave, if there was one
+abbrev pub first_leave : List Act → Option ℕ
+first_leave [] = None
+first_leave (act ∷ earlier) = or_else (first_leave earlier) (leave_moment act)
+
+-- A BYE comes after a leave, at once or once half its interval over 1.21828 has passed.
+abbrev pub IsLate : (leave : Option ℕ) → Sent → Type 0
+IsLate None bye = ⊥
+IsLate (Some leave) bye = HalfPasses leave bye.moment bye.interval
+
+-- Only the newest compound may be a BYE: there is at most one, and nothing comes after it.
+abbrev pub EndsWithBye : (leave : Option ℕ) → List Sent → Type 0
+EndsWithBye leave [] = Unit {0}
+EndsWithBye leave (newest ∷ earlier) =
+    All (λ sent. is_report sent ≡ true) earlier × (is_report newest ≡ false → IsLate leave newest)
+
+-- ---- Sizes
+
+abbrev pub AllFit : (limit : ℕ) → List Sent → Type 0
+AllFit limit sent = All (λ compound. length compound.out.octets ≤ limit) sent
