@@ -1,15 +1,11 @@
 -- What each call answers, and where it leaves a participant that stands at a history.
-use Rattle.std.proofs.Common.{◌≡◌, ℕ, ◌==◌, ◌^◌, ◌<◌, Bool, true, false, List, Some, None, Ok, Err, refl, sym, ap, ◌∙◌, option_map, if◌then◌else◌}
-use Rattle.rtcp_wire.specs.declared.fault.WireFault.{WireFault}
-use Rattle.rtcp_wire.specs.declared.rtp.fault.RtpFault.{RtpFault}
+use Rattle.std.proofs.Common.{◌≡◌, ℕ, ◌^◌, ◌<◌, Bool, true, false, List, None, Ok, refl, sym, ◌∙◌, option_map, if◌then◌else◌}
 use Rattle.rtcp_wire.specs.Values.{RtcpPacket}
 use Rattle.rtcp_wire.specs.RtpHeads.{RtpValue}
-use Rattle.rtcp_engine.specs.declared.refusal.Refusal.TheVariants.{OwnSsrc, Wire, Rtp}
-use Rattle.rtcp_engine.specs.Setups.{Setup}
 use Rattle.rtcp_engine.specs.Acts.{rtcp_came, rtp_came, rtp_sent, ticked}
 use Rattle.rtcp_engine.specs.Outcomes.{Outcome}
 use Rattle.rtcp_engine.specs.Histories.{History, after, outcome_at}
-use Rattle.rtcp_engine.specs.Presence.{speaks_of, refusal_if, refusal_of, report_by, report_out, present_answer, present_after}
+use Rattle.rtcp_engine.specs.Presence.{report_by, report_out, present_answer, present_after}
 use Rattle.rtcp_engine.specs.States.{State, Agrees, IsPresentAt}
 use Rattle.rtcp_engine.specs.Moves as moves
 use Rattle.rtcp_engine.specs.Moves.{step_in, call_refusal, compound_refusal, media_refusal, with_call, after_compound, after_media, after_packet, checked, after_check_at, report_at}

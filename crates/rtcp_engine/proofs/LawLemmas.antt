@@ -1,6 +1,6 @@
 -- The laws of this crate as lemmas, for the proofs of the crates above: each has the name of its law, and of the
 -- clause where the law has several.
-use Rattle.std.proofs.Common.{◌≡◌, ◌↔◌, All, map, ℕ, ◌+◌, ◌-◌, ◌*◌, ◌/◌, ◌%◌, ◌≤◌, ◌&&◌, Bool, true, false, List, [], ◌∷◌, ◌++◌, length, slice_get, Option, Some, None, Result, Ok, Err, if◌then◌else◌, refl, sym, ap, ◌∙◌, arith, inl, inr}
+use Rattle.std.proofs.Common.{◌≡◌, ◌↔◌, All, map, ℕ, ◌+◌, ◌-◌, ◌*◌, ◌/◌, ◌%◌, ◌≤◌, Bool, List, [], ◌∷◌, ◌++◌, length, slice_get, Option, Some, None, Result, Ok, Err, if◌then◌else◌, refl, sym, ap, ◌∙◌, arith, inl, inr}
 use Rattle.std.proofs.lemmas.Bool.{ne_eqb, eq-eqb, lt-ltb, le-ltb, cases_lt}
 use Rattle.rtcp_wire.specs.Values.{ItemValue, RtcpPacket}
 use Rattle.rtcp_wire.specs.RtpHeads.{RtpValue}
@@ -24,7 +24,7 @@ use Rattle.rtcp_engine.specs.Steps.{answer_unless}
 use Rattle.rtcp_engine.specs.Lives.{life_at}
 use Rattle.rtcp_engine.specs.Answers.{step_by, refusal_after, answer_of, followed_by}
 use Rattle.rtcp_engine.specs.Taken.{IsHistory}
-use Rattle.rtcp_engine.specs.Sent.{Sent, reports_in, interval_by, sent_at, handed_out, reports_of, counted_report}
+use Rattle.rtcp_engine.specs.Sent.{reports_in, interval_by, sent_at, handed_out, reports_of, counted_report}
 use Rattle.rtcp_engine.specs.Spacing.{AreSpaced, count_within, first_leave, EndsWithBye, AllFit}
 use Rattle.rtcp_engine.proofs.Usable.{usable_of_unrefused, unrefused_of_usable}
 use Rattle.rtcp_engine.proofs.Counting.{reports_counted}

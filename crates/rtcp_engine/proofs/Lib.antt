@@ -1,5 +1,6 @@
 mod Agreeing
 mod Beginning
+mod Bounded
 mod Calls
 mod Counting
 mod Due

@@ -1,16 +1,16 @@
 -- A participant that takes part, backs off or is gone: what it answers to an act, and where it stands after it.
-use Rattle.std.proofs.Common.{◌≡◌, ℕ, ◌+◌, ◌<◌, ◌≤◌, ◌==◌, ◌&&◌, not, is_some, nat_le, min, sum_by, Bool, true, false, List, [], ◌∷◌, length, Option, Some, None, option_map, Result, Ok, Err, if◌then◌else◌, refl, sym, ap, ◌∙◌, arith, subst}
+use Rattle.std.proofs.Common.{◌≡◌, ℕ, ◌+◌, ◌==◌, ◌&&◌, not, is_some, nat_le, min, sum_by, Bool, true, false, List, [], ◌∷◌, Option, Some, None, option_map, Ok, Err, if◌then◌else◌, refl, sym, ap, ◌∙◌, arith, subst}
 use Rattle.rtcp_engine.specs.declared.refusal.Refusal.{Refusal}
 use Rattle.rtcp_engine.specs.declared.refusal.Refusal.TheVariants.{Left}
 use Rattle.rtcp_engine.specs.Setups.{Setup}
 use Rattle.rtcp_engine.specs.Acts.{Act, rtcp_came, rtp_came, rtp_sent, ticked, left, moment_of}
 use Rattle.rtcp_engine.specs.OwnStreams.{OwnStep, packet_sent, check_passed, packets_sent}
 use Rattle.rtcp_engine.specs.OwnValues.{OwnValue, last_packet}
-use Rattle.rtcp_engine.specs.Outcomes.{Outcome, beginning, member_count}
+use Rattle.rtcp_engine.specs.Outcomes.{Outcome, member_count}
 use Rattle.rtcp_engine.specs.Histories.{after, History, outcome_of, outcome_at}
 use Rattle.rtcp_engine.specs.Steps.{OutValue, StepValue, answer_unless}
 use Rattle.rtcp_engine.specs.Presence.{refusal_of, refusal_of_datagram, report_by, report_out, step_of, with_act, present_answer, present_after}
-use Rattle.rtcp_engine.specs.Leaving.{Farewell, Backoff, bye_count, is_unheard, few_members, backoff_from, bye_at_once, Life, present, backing_off, gone, left_at, after_wait, after_waiting_tick, bye_octets, is_bye_due, leaving_count, leaving_timing, leaving_average, leaving_load, leaving_interval}
+use Rattle.rtcp_engine.specs.Leaving.{Farewell, Backoff, bye_count, is_unheard, few_members, backoff_from, bye_at_once, Life, present, backing_off, gone, left_at, after_wait, bye_octets, is_bye_due, leaving_count, leaving_timing, leaving_average, leaving_load, leaving_interval}
 use Rattle.rtcp_engine.specs.Lives.{while_present, while_backing_off, lived, life_of, life_at, bye_out, PassesBy, members_in_life, senders_in_life, next_in_life, out_while_present, out_while_backing_off, out_by}
 use Rattle.rtcp_engine.specs.Answers.{step_by, refusal_in, refusal_after, answer_of, followed_by}
 use Rattle.rtcp_engine.specs.Taken.{HasWords}

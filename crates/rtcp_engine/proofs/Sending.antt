@@ -1,9 +1,9 @@
 -- What a participant sends keeps its distances and its limit, whatever it is told.
-use Rattle.std.proofs.Common.{◌≡◌, ℕ, ◌+◌, ◌-◌, ◌*◌, ◌^◌, ◌<◌, ◌≤◌, ◌&&◌, ◌==◌, ◌⊎◌, inl, inr, nat_lt, nat_le, Bool, true, false, List, [], ◌∷◌, ◌++◌, length, All, Option, Some, None, option_map, Result, Ok, Err, if◌then◌else◌, refl, sym, ap, ◌∙◌, arith, subst}
+use Rattle.std.proofs.Common.{◌≡◌, ℕ, ◌+◌, ◌^◌, ◌<◌, ◌≤◌, ◌&&◌, ◌==◌, ◌⊎◌, inl, inr, nat_lt, nat_le, Bool, true, false, List, [], ◌∷◌, ◌++◌, length, All, Option, Some, None, option_map, Ok, Err, if◌then◌else◌, refl, sym, ap, ◌∙◌, arith, subst}
 use Rattle.std.proofs.lemmas.Bool.{leb-true, and_parts, cases_lt, lt-ltb}
 use Rattle.std.proofs.lemmas.Option.{slice_get_cases}
 use Rattle.std.specs.List.{slice_get}
-use Rattle.rtcp_clock.specs.Intervals.{drawn_interval, shortest_draw}
+use Rattle.rtcp_clock.specs.Intervals.{drawn_interval}
 use Rattle.rtcp_clock.proofs.LawLemmas.{draw_within_bounds}
 use Rattle.rtcp_report.specs.Sizes.{IsShort}
 use Rattle.rtcp_report.proofs.LawLemmas.{compounds_are_small-report, compounds_are_small-empty, compounds_are_small-bye}
@@ -18,7 +18,7 @@ use Rattle.rtcp_engine.specs.declared.refusal.Refusal.TheVariants.{Backwards}
 use Rattle.rtcp_engine.specs.Setups.{Setup, IsExtraItem, IsUsable}
 use Rattle.rtcp_engine.specs.Acts.{Act, rtcp_came, rtp_came, rtp_sent, ticked, left, moment_of}
 use Rattle.rtcp_engine.specs.Outcomes.{Outcome, is_initial, interval_at, load_of, member_count}
-use Rattle.rtcp_engine.specs.Ticks.{checked, has_come, has_passed, reported, put_off, is_report_due}
+use Rattle.rtcp_engine.specs.Ticks.{checked, has_come, has_passed, reported, put_off}
 use Rattle.rtcp_engine.specs.OwnStreams.{sent_at}
 use Rattle.rtcp_engine.specs.Reporting.{report_octets, extra_item, reporter_at, last_reported_in}
 use Rattle.rtcp_engine.specs.Presence.{report_out, last_moment}
@@ -259,8 +259,11 @@ bye_by setup t leave act word outcome backoff sent true usable order fits due h 
     let moment = moment_of act in
     let interval = leaving_interval setup backoff in
     let apart = never_due_too_soon backoff.happenings moment (drawn_interval interval word) h.up_to.in_order (due refl) in
-    inr (last_bye setup (or_else leave (leave_moment act)) backoff.since moment interval usable (ap (λ (l : Option ℕ). or_else l (leave_moment act)) h.left_then)
-    (half_passes backoff.since moment interval word fits (subst (λ (from : ℕ). from + drawn_interval interval word ≤ moment) h.newest apart)), h.reports)
+    inr (
+      last_bye setup (or_else leave (leave_moment act)) backoff.since moment interval usable (ap (λ (l : Option ℕ). or_else l (leave_moment act)) h.left_then)
+          (half_passes backoff.since moment interval word fits (subst (λ (from : ℕ). from + drawn_interval interval word ≤ moment) h.newest apart)),
+      h.reports,
+    )
 bye_by setup t leave act word outcome backoff sent false usable order fits due h =
     waits_on act (nat_le (leaving_timing backoff).next (moment_of act)) _ _ order h
 

@@ -6,7 +6,7 @@ use Rattle.rtcp_timer.specs.Loads.{minimum_of}
 use Rattle.rtcp_engine.specs.Leaving.{Life, present, backing_off, gone}
 use Rattle.rtcp_engine.specs.Sent.{Sent, is_report, reports_in}
 use Rattle.rtcp_engine.specs.Spacing.{newest_moment, AreSpaced, is_between, count_within, EndsWithBye, AllFit}
-use Rattle.rtcp_engine.proofs.Sending.{none_sent, IsNext, AreReports, IsLast, EndsSo, KeepsApart}
+use Rattle.rtcp_engine.proofs.Sending.{none_sent, AreReports, IsLast, EndsSo, KeepsApart}
 
 -- ---- Reports alone
 
@@ -73,9 +73,11 @@ fills_more from until before moment count so_far order gap =
     too_early : moment < from → Fills from until before count → Fills from until moment count
     too_early below (inl none) = inl none
     too_early below (inr some) = absurd (omega (arith, below, some.0, order))
+
     too_late : Fills from until before count → Fills from until moment count
     too_late (inl none) = inl none
     too_late (inr some) = inr (omega (arith, some.0, order), some.1, some.2)
+
     one_more : from ≤ moment → moment ≤ until → Fills from until before count → Fills from until moment (suc count)
     one_more inside within (inl none) = inr (omega (arith, none, inside), omega (arith, none, inside, within), omega arith)
     one_more inside within (inr some) =

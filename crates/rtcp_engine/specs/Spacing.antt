@@ -1,6 +1,6 @@
 -- How far apart the compounds of a participant lie, and how large they are. Lists are newest first, and moments
 -- and intervals are in microseconds.
-use Rattle.std.specs.Prelude.{ℕ, ◌≡◌, ◌+◌, ◌-◌, ◌*◌, ◌≤◌, ◌&&◌, Bool, true, false, nat_le, List, [], ◌∷◌, length, filter, All, Option, Some, None}
+use Rattle.std.specs.Prelude.{ℕ, ◌≡◌, ◌+◌, ◌-◌, ◌*◌, ◌/◌, ◌≤◌, ◌&&◌, Bool, true, false, nat_le, List, [], ◌∷◌, length, filter, All, Option, Some, None}
 use Rattle.rtcp_engine.specs.Acts.{Act, rtcp_came, rtp_came, rtp_sent, ticked, left}
 use Rattle.rtcp_engine.specs.Histories.{History}
 use Rattle.rtcp_engine.specs.Sent.{Sent, is_report, reports_in, sent_at}
@@ -63,3 +63,14 @@ EndsWithBye leave (newest ∷ earlier) =
 
 abbrev pub AllFit : (limit : ℕ) → List Sent → Type 0
 AllFit limit sent = All (λ compound. length compound.out.octets ≤ limit) sent
+
+-- ---- All together
+
+-- What holds of all that was sent over a history: reports lie apart, the first one too, and so few lie in a
+-- window; a BYE comes last; no compound passes the limit.
+pub record KeepsBounds (history : History) : Type 0 where
+  pub spaced : AreSpaced (reports_in (sent_at history))
+  pub first : All (λ report. 1026037 ≤ report.moment) (reports_in (sent_at history))
+  pub window : (from width : ℕ) → count_within from width (reports_in (sent_at history)) ≤ 1 + width / 2052074
+  pub leaves_once : EndsWithBye (first_leave history.acts) (sent_at history)
+  pub limit : AllFit history.setup.limit (sent_at history)

@@ -72,6 +72,10 @@ pub record IsSound (state : State) : Type 0 where
   pub timing : state.timing.last ≤ state.last
   pub last : state.last ≤ 2 ^ 50
 
+-- The table holds no more sources than it may.
+abbrev pub KeepsCapacity : State → Type 0
+KeepsCapacity state = map.len state.table.entries ≤ state.setup.capacity
+
 -- ---- The whole participant
 
 -- where it is in its session

@@ -11,7 +11,8 @@ ghost use Rattle.rtcp_engine.specs.Answers.{answer_of, followed_by};
 ghost use Rattle.rtcp_engine.specs.Histories.{History};
 ghost use Rattle.rtcp_engine.specs.Lives.{life_at, members_in_life, senders_in_life, next_in_life};
 ghost use Rattle.rtcp_engine.specs.Refused.{error_in};
-ghost use Rattle.rtcp_engine.specs.States.{StandsAt};
+ghost use Rattle.rtcp_engine.specs.States.{KeepsCapacity, StandsAt};
+ghost use Rattle.rtcp_engine.specs.Spacing.{KeepsBounds};
 ghost use Rattle.rtcp_engine.specs.Taken.{begun};
 ghost use Rattle.rtcp_engine.specs.Views.{setup_of, answer_value};
 
@@ -47,7 +48,7 @@ pub struct Participant<T: MemberTable> {
 }
 
 impl<T: MemberTable> Model for Participant<T> {
-    ghost use Rattle.rtcp_engine.specs.States.{ParticipantValue, IsCounted};
+    ghost use Rattle.rtcp_engine.specs.States.{ParticipantValue, KeepsCapacity, IsCounted};
     ghost use Rattle.rtcp_engine.specs.Views.{phase_value};
     ghost use Rattle.rtcp_engine.specs.Codes.{participant_code};
 
@@ -57,7 +58,7 @@ impl<T: MemberTable> Model for Participant<T> {
 
     ghost view = { λ p. record { presence = p.presence; phase = phase_value p.phase } };
 
-    ghost invariant = { λ p. IsCounted (phase_value p.phase) };
+    ghost invariant = { λ p. KeepsCapacity p.presence × IsCounted (phase_value p.phase) };
 }
 
 impl<T: MemberTable> Participant<T> {
@@ -69,6 +70,7 @@ impl<T: MemberTable> Participant<T> {
     /// The first of C1 to C6 that applies to the configuration.
     pub fn new(config: Config, word: u32) -> Result<Participant<T>, ConfigError>
         ensures begins { IfOk result (λ participant. StandsAt participant (begun (setup_of config) word)) }
+        ensures within { IfOk result (λ participant. KeepsCapacity participant.presence) }
         ensures refused { (error : Error) → (result ≡ Err error) ↔ (error_in (setup_of config) ≡ Some error) }
     {
         match Presence::new(config, word) {
@@ -126,6 +128,10 @@ impl<T: MemberTable> Participant<T> {
         ensures stands { (history : History) (reading : Result (List RtcpPacket) Fault) →
             StandsAt self.old history → IsReading bytes.now reading →
             StandsAt self.new (followed_by history (rtcp_came now (length bytes.now) reading)) }
+        ensures bounded { (history : History) (reading : Result (List RtcpPacket) Fault) →
+            StandsAt self.old history → IsReading bytes.now reading →
+            KeepsBounds (followed_by history (rtcp_came now (length bytes.now) reading)) }
+        ensures within { KeepsCapacity self.new.presence }
         ensures refused { OnErr result (self.new ≡ self.old) }
     {
         match self.phase {
@@ -147,6 +153,10 @@ impl<T: MemberTable> Participant<T> {
         ensures stands { (history : History) (reading : Result RtpValue HeadFault) →
             StandsAt self.old history → IsRtpReading bytes.now reading →
             StandsAt self.new (followed_by history (rtp_came now reading)) }
+        ensures bounded { (history : History) (reading : Result RtpValue HeadFault) →
+            StandsAt self.old history → IsRtpReading bytes.now reading →
+            KeepsBounds (followed_by history (rtp_came now reading)) }
+        ensures within { KeepsCapacity self.new.presence }
         ensures refused { OnErr result (self.new ≡ self.old) }
     {
         match self.phase {
@@ -167,6 +177,9 @@ impl<T: MemberTable> Participant<T> {
             answer_value result ≡ answer_of history (rtp_sent now rtp_ts octets) }
         ensures stands { (history : History) → StandsAt self.old history →
             StandsAt self.new (followed_by history (rtp_sent now rtp_ts octets)) }
+        ensures bounded { (history : History) → StandsAt self.old history →
+            KeepsBounds (followed_by history (rtp_sent now rtp_ts octets)) }
+        ensures within { KeepsCapacity self.new.presence }
         ensures refused { OnErr result (self.new ≡ self.old) }
     {
         match self.phase {
@@ -188,6 +201,9 @@ impl<T: MemberTable> Participant<T> {
             answer_value result ≡ answer_of history (ticked now w1 w2) }
         ensures stands { (history : History) → StandsAt self.old history →
             StandsAt self.new (followed_by history (ticked now w1 w2)) }
+        ensures bounded { (history : History) → StandsAt self.old history →
+            KeepsBounds (followed_by history (ticked now w1 w2)) }
+        ensures within { KeepsCapacity self.new.presence }
         ensures refused { OnErr result (self.new ≡ self.old) }
     {
         match self.phase {
@@ -212,6 +228,9 @@ impl<T: MemberTable> Participant<T> {
             answer_value result ≡ answer_of history (left now w) }
         ensures stands { (history : History) → StandsAt self.old history →
             StandsAt self.new (followed_by history (left now w)) }
+        ensures bounded { (history : History) → StandsAt self.old history →
+            KeepsBounds (followed_by history (left now w)) }
+        ensures within { KeepsCapacity self.new.presence }
         ensures refused { OnErr result (self.new ≡ self.old) }
     {
         match self.phase {

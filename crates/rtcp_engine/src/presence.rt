@@ -7,7 +7,7 @@ ghost use Rattle.rtcp_engine.specs.Views.{setup_of, out_value, step_value};
 ghost use Rattle.rtcp_engine.specs.Outcomes.{one_if, member_count, sender_count, timing_of};
 ghost use Rattle.rtcp_engine.specs.Histories.{History, outcome_at};
 ghost use Rattle.rtcp_engine.specs.Taken.{begun};
-ghost use Rattle.rtcp_engine.specs.States.{IsPresentAt};
+ghost use Rattle.rtcp_engine.specs.States.{IsPresentAt, KeepsCapacity};
 ghost use Rattle.rtcp_engine.specs.Moves.{members_of, senders_of, load_in, interval_in, step_in, call_refusal};
 
 use crate::config::{Config, ConfigError};
@@ -76,6 +76,7 @@ impl<T: MemberTable> Presence<T> {
     /// The first of C1 to C6 that applies to the configuration.
     pub(crate) fn new(config: Config, word: u32) -> Result<Presence<T>, ConfigError>
         ensures begins { IfOk result (λ participant. IsPresentAt participant (begun (setup_of config) word)) }
+        ensures within { IfOk result (λ participant. KeepsCapacity participant) }
         ensures refused { (error : Error) → (result ≡ Err error) ↔ (error_in (setup_of config) ≡ Some error) }
     {
         if let Some(error) = config.error() {
@@ -122,6 +123,7 @@ impl<T: MemberTable> Presence<T> {
     pub(crate) fn member_count(&self) -> u32
         ensures exact { result ≡ members_of self.now }
         ensures few { result ≤ 1025 }
+        ensures within { KeepsCapacity self.now }
     {
         member_count(&self.table)
     }
@@ -140,7 +142,8 @@ impl<T: MemberTable> Presence<T> {
 
     /// Why a call at the moment `now` is refused, whatever it tells.
     pub(crate) fn refusal(&self, now: u64) -> Option<Refusal>
-        ensures { result ≡ call_refusal now self.now }
+        ensures exact { result ≡ call_refusal now self.now }
+        ensures within { KeepsCapacity self.now }
     {
         if now < self.last {
             return Some(Refusal::Backwards);
@@ -181,7 +184,8 @@ impl<T: MemberTable> Presence<T> {
 
     /// The answer of a call that was taken.
     fn step(&self, out: Option<Out>) -> Step
-        ensures { step_value result ≡ step_in self.now (option_map out_value out) }
+        ensures exact { step_value result ≡ step_in self.now (option_map out_value out) }
+        ensures within { KeepsCapacity self.now }
     {
         Step {
             out,

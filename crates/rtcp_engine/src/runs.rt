@@ -1,12 +1,14 @@
 //! Runs of a participant over events.
 
-ghost use Rattle.std.specs.Prelude.{◌≡◌, ◌≤◌, ◌<◌, ◌+◌, ◌-◌, ◌^◌, ◌++◌, true, false, List, length, take, OnErr};
+ghost use Rattle.std.specs.Prelude.{◌≡◌, ◌≤◌, ◌<◌, ◌+◌, ◌-◌, ◌/◌, ◌^◌, ◌++◌, ℕ, All, true, false, List, length, take, OnErr};
 ghost use Rattle.rtcp_engine.specs.Acts.{Act};
 ghost use Rattle.rtcp_engine.specs.Outcomes.{one_if};
 ghost use Rattle.rtcp_engine.specs.Histories.{History};
 ghost use Rattle.rtcp_engine.specs.Answers.{answer_of, answers_to, followed_by, followed_by_all};
 ghost use Rattle.rtcp_engine.specs.Views.{answer_value, IsActOf, AreActsOf};
-ghost use Rattle.rtcp_engine.specs.States.{StandsAt};
+ghost use Rattle.rtcp_engine.specs.Sent.{reports_in, sent_at};
+ghost use Rattle.rtcp_engine.specs.Spacing.{AllFit, AreSpaced, EndsWithBye, count_within, first_leave};
+ghost use Rattle.rtcp_engine.specs.States.{KeepsCapacity, StandsAt};
 
 use crate::event::Event;
 use crate::participant::Participant;
@@ -49,6 +51,32 @@ pub fn run<T: MemberTable, S: Sink>(
     ensures stands { (history : History) (acts : List Act) → StandsAt participant.old history →
         AreActsOf events.now acts →
         StandsAt participant.new (followed_by_all history (take result.taken acts)) }
+
+    // The table never passes its capacity, and no compound the limit.
+    ensures within { KeepsCapacity participant.old.presence → KeepsCapacity participant.new.presence }
+    ensures limit { (history : History) (acts : List Act) → StandsAt participant.old history →
+        AreActsOf events.now acts → let told = followed_by_all history (take result.taken acts) in
+        AllFit told.setup.limit (sent_at told) }
+
+    // Two successive reports of the whole history lie at least half the interval then computed for the later
+    // one apart, over 1.21828; none comes before 1,026,037 microseconds; and in a window of any width at most
+    // one more lies than 2,052,074 microseconds fit into it.
+    ensures spaced { (history : History) (acts : List Act) → StandsAt participant.old history →
+        AreActsOf events.now acts → let told = followed_by_all history (take result.taken acts) in
+        AreSpaced (reports_in (sent_at told)) }
+    ensures first { (history : History) (acts : List Act) → StandsAt participant.old history →
+        AreActsOf events.now acts → let told = followed_by_all history (take result.taken acts) in
+        All (λ report. 1026037 ≤ report.moment) (reports_in (sent_at told)) }
+    ensures window { (history : History) (acts : List Act) (from width : ℕ) →
+        StandsAt participant.old history → AreActsOf events.now acts →
+        let told = followed_by_all history (take result.taken acts) in
+        count_within from width (reports_in (sent_at told)) ≤ 1 + width / 2052074 }
+
+    // There is at most one BYE, nothing comes after it, and after a backoff it comes no sooner than half its
+    // interval after the leave, over 1.21828.
+    ensures leaves_once { (history : History) (acts : List Act) → StandsAt participant.old history →
+        AreActsOf events.now acts → let told = followed_by_all history (take result.taken acts) in
+        EndsWithBye (first_leave told.acts) (sent_at told) }
 {
     let mut taken = 0;
     'events: for event in events {
@@ -73,6 +101,7 @@ fn tell<T: MemberTable>(participant: &mut Participant<T>, event: &Event<'_>) -> 
         IsActOf event.now act → answer_value result ≡ answer_of history act }
     ensures stands { (history : History) (act : Act) → StandsAt participant.old history →
         IsActOf event.now act → StandsAt participant.new (followed_by history act) }
+    ensures within { KeepsCapacity participant.new.presence }
     ensures refused { OnErr result (participant.new ≡ participant.old) }
 {
     match *event {

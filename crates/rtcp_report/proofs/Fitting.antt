@@ -1,12 +1,12 @@
 -- No compound passes its limit.
-use Rattle.std.proofs.Common.{◌≡◌, ℕ, suc, ◌+◌, ◌≤◌, List, [], ◌∷◌, ◌++◌, length, Option, Some, None, arith, refl, ap, ◌∙◌}
-use Rattle.std.specs.List.{filter_map, cons_option}
+use Rattle.std.proofs.Common.{ℕ, suc, ◌≤◌, List, [], ◌∷◌, length, Option, Some, None, arith, ap}
+use Rattle.std.specs.List.{cons_option}
 use Rattle.std.proofs.lemmas.List.{length-append}
 use Rattle.std.proofs.lemmas.List.Concat.{flat_map-append}
 use Rattle.std.proofs.lemmas.List.Sums.{sum_by-cons}
-use Rattle.rtcp_wire.specs.Values.{ReportBlock, ItemValue, RtcpPacket}
+use Rattle.rtcp_wire.specs.Values.{ReportBlock, ItemValue}
 use Rattle.rtcp_wire.specs.Writing.{written, written_all}
-use Rattle.rtcp_members.specs.Pending.{EntryRow, blocks_of, block_of_row}
+use Rattle.rtcp_members.specs.Pending.{EntryRow, blocks_of}
 use Rattle.rtcp_report.specs.Reports.{SentValue, Reporter, cname_item, receiver_named, goodbye, packets_with, bye_of}
 use Rattle.rtcp_report.specs.Sizes.{item_size, description_size, first_report_size, report_size, IsShort, fitting}
 use Rattle.rtcp_report.specs.Views.{items_of}
@@ -51,5 +51,11 @@ empty_is_small ssrc sent cname extra short also =
 pub bye_is_small : (ssrc : ℕ) (cname : List ℕ) → length cname ≤ 255 → length (written_all (bye_of ssrc cname)) ≤ 284
 bye_is_small ssrc cname short =
     let report = packets_with (receiver_named ssrc cname) [] in
-    omega (arith, short, ap length (flat_map-append written report (goodbye ssrc ∷ [])), length-append (written_all report) (written_all (goodbye ssrc ∷ [])),
-    packets_length (receiver_named ssrc cname) [], sum_by-cons item_size (cname_item cname) [])
+    omega (
+      arith,
+      short,
+      ap length (flat_map-append written report (goodbye ssrc ∷ [])),
+      length-append (written_all report) (written_all (goodbye ssrc ∷ [])),
+      packets_length (receiver_named ssrc cname) [],
+      sum_by-cons item_size (cname_item cname) [],
+    )

@@ -11,7 +11,7 @@ ghost use Rattle.rtcp_engine.specs.Histories.{History};
 ghost use Rattle.rtcp_engine.specs.Leaving.{bye_octets};
 ghost use Rattle.rtcp_engine.specs.Lives.{bye_out, PassesBy};
 ghost use Rattle.rtcp_engine.specs.Moves.{last_step_with, waiting_step_in};
-ghost use Rattle.rtcp_engine.specs.States.{StandsAt, taking_part, leaving};
+ghost use Rattle.rtcp_engine.specs.States.{KeepsCapacity, StandsAt, taking_part, leaving};
 ghost use Rattle.rtcp_engine.specs.Taken.{HasWords};
 ghost use Rattle.rtcp_engine.specs.Views.{answer_value, out_value, step_value};
 
@@ -28,6 +28,7 @@ impl<T: MemberTable> Participant<T> {
             answer_value result ≡ answer_of history (left now w) }
         ensures stands { (history : History) → StandsAt self.old history →
             StandsAt self.new (followed_by history (left now w)) }
+        ensures within { KeepsCapacity self.new.presence }
         ensures refused { OnErr result (self.new ≡ self.old) }
     {
         if let Some(refusal) = self.presence.refusal(now) {
@@ -56,6 +57,7 @@ impl<T: MemberTable> Participant<T> {
         ensures stands { (history : History) (reading : Result (List RtcpPacket) Fault) →
             StandsAt self.old history → IsReading bytes.now reading →
             StandsAt self.new (followed_by history (rtcp_came now (length bytes.now) reading)) }
+        ensures within { KeepsCapacity self.new.presence }
         ensures refused { OnErr result (self.new ≡ self.old) }
     {
         let compound = self.presence.admit_compound(now, bytes)?;
@@ -79,6 +81,7 @@ impl<T: MemberTable> Participant<T> {
         ensures stands { (history : History) (reading : Result RtpValue HeadFault) →
             StandsAt self.old history → IsRtpReading bytes.now reading →
             StandsAt self.new (followed_by history (rtp_came now reading)) }
+        ensures within { KeepsCapacity self.new.presence }
         ensures refused { OnErr result (self.new ≡ self.old) }
     {
         let _head = self.presence.admit_head(now, bytes)?;
@@ -93,6 +96,7 @@ impl<T: MemberTable> Participant<T> {
             moment_of act ≡ now → HasWords act → answer_value result ≡ answer_of history act }
         ensures stands { (history : History) (act : Act) → StandsAt self.old history → PassesBy act →
             moment_of act ≡ now → HasWords act → StandsAt self.new (followed_by history act) }
+        ensures within { KeepsCapacity self.new.presence }
         ensures refused { OnErr result (self.new ≡ self.old) }
     {
         if let Some(refusal) = self.presence.refusal(now) {
@@ -109,6 +113,7 @@ impl<T: MemberTable> Participant<T> {
             answer_value result ≡ answer_of history (ticked now w1 w2) }
         ensures stands { (history : History) (w2 : ℕ) → w2 < 2 ^ 32 → StandsAt self.old history →
             StandsAt self.new (followed_by history (ticked now w1 w2)) }
+        ensures within { KeepsCapacity self.new.presence }
         ensures refused { OnErr result (self.new ≡ self.old) }
     {
         if let Some(refusal) = self.presence.refusal(now) {

@@ -11,7 +11,7 @@ ghost use Rattle.rtcp_engine.specs.Acts.{rtcp_came, rtp_came, rtp_sent, IsReadin
 ghost use Rattle.rtcp_engine.specs.Histories.{History};
 ghost use Rattle.rtcp_engine.specs.Presence.{present_answer, present_after, speaks_of as names};
 ghost use Rattle.rtcp_engine.specs.Views.{answer_value};
-ghost use Rattle.rtcp_engine.specs.States.{IsPresentAt};
+ghost use Rattle.rtcp_engine.specs.States.{IsPresentAt, KeepsCapacity};
 ghost use Rattle.rtcp_engine.specs.Moves.{after_compound, after_media, after_packet, compound_refusal, media_refusal};
 
 use super::Presence;
@@ -34,6 +34,7 @@ impl<T: MemberTable> Presence<T> {
         ensures stands { (history : History) (reading : Result (List RtcpPacket) Fault) →
             IsPresentAt self.old history → IsReading bytes.now reading →
             IsPresentAt self.new (present_after history (rtcp_came now (length bytes.now) reading)) }
+        ensures within { KeepsCapacity self.new }
         ensures refused { OnErr result (self.new ≡ self.old) }
     {
         let compound = self.admit_compound(now, bytes)?;
@@ -53,6 +54,7 @@ impl<T: MemberTable> Presence<T> {
         ensures stands { (history : History) (reading : Result RtpValue HeadFault) →
             IsPresentAt self.old history → IsRtpReading bytes.now reading →
             IsPresentAt self.new (present_after history (rtp_came now reading)) }
+        ensures within { KeepsCapacity self.new }
         ensures refused { OnErr result (self.new ≡ self.old) }
     {
         let head = self.admit_head(now, bytes)?;
@@ -71,6 +73,7 @@ impl<T: MemberTable> Presence<T> {
             answer_value result ≡ present_answer history (rtp_sent now rtp_ts octets) }
         ensures stands { (history : History) → IsPresentAt self.old history →
             IsPresentAt self.new (present_after history (rtp_sent now rtp_ts octets)) }
+        ensures within { KeepsCapacity self.new }
         ensures refused { OnErr result (self.new ≡ self.old) }
     {
         if let Some(refusal) = self.refusal(now) {
@@ -94,6 +97,7 @@ impl<T: MemberTable> Presence<T> {
         ensures moment { OnOk result (now ≤ 2 ^ 50) }
         ensures calls { OnOk result (self.now.calls < 2 ^ 40 - 1) }
         ensures size { OnOk result (length bytes.now ≤ 65535) }
+        ensures within { KeepsCapacity self.now }
     {
         if let Some(refusal) = self.refusal(now) {
             return Err(refusal);
@@ -117,6 +121,7 @@ impl<T: MemberTable> Presence<T> {
         ensures order { OnOk result (self.now.last ≤ now) }
         ensures moment { OnOk result (now ≤ 2 ^ 50) }
         ensures calls { OnOk result (self.now.calls < 2 ^ 40 - 1) }
+        ensures within { KeepsCapacity self.now }
     {
         if let Some(refusal) = self.refusal(now) {
             return Err(refusal);

@@ -9,7 +9,7 @@ ghost use Rattle.rtcp_engine.specs.Acts.{ticked};
 ghost use Rattle.rtcp_engine.specs.Histories.{History};
 ghost use Rattle.rtcp_engine.specs.Presence.{present_answer, present_after, report_out};
 ghost use Rattle.rtcp_engine.specs.Views.{setup_of, answer_value, out_value};
-ghost use Rattle.rtcp_engine.specs.States.{IsPresentAt};
+ghost use Rattle.rtcp_engine.specs.States.{IsPresentAt, KeepsCapacity};
 ghost use Rattle.rtcp_engine.specs.Moves.{reporter_by, with_call, checked, with_report, octets_in, reported, after_check_at, report_at, receiver_interval_in};
 
 use super::Presence;
@@ -40,6 +40,7 @@ impl<T: MemberTable> Presence<T> {
             answer_value result ≡ present_answer history (ticked now w1 w2) }
         ensures stands { (history : History) → IsPresentAt self.old history →
             IsPresentAt self.new (present_after history (ticked now w1 w2)) }
+        ensures within { KeepsCapacity self.new }
         ensures refused { OnErr result (self.new ≡ self.old) }
     {
         if let Some(refusal) = self.refusal(now) {

@@ -5,6 +5,7 @@ use Rattle.rtcp_engine.specs.Steps.{AnswerValue}
 use Rattle.rtcp_engine.specs.Answers.{answer_of, answers_to, followed_by_all}
 use Rattle.rtcp_engine.specs.Views.{answer_value}
 use Rattle.rtcp_engine.specs.States.{StandsAt}
+use Rattle.rtcp_engine.proofs.LawLemmas.{sent_compounds_keep_apart-spaced, sent_compounds_keep_apart-first, sent_compounds_keep_apart-window, sent_compounds_keep_apart-leaves_once, sent_compounds_keep_apart-limit}
 use Rattle.rtcp_engine.proofs.OneMore.{answers_more, followed_more, next_act, of_no_error}
 use Rattle.rtcp_engine.proofs.runs.run.Goals as goal
 
@@ -15,6 +16,36 @@ returns-then-is_err-clause-stands g c history acts h are =
     subst (λ (hs : History). StandsAt c.tell-answer.new.participant hs) (sym (ap (followed_by_all history) next.more ∙ followed_more history (take c.events.taken acts) next.act))
     (c.tell-answer.ensures.stands told next.act (c.events.invariant.stands history acts h are) (next.is_act _))
 
+pub returns-then-is_err-clause-spaced : goal.returns-then-is_err-clause-spaced
+returns-then-is_err-clause-spaced g c history acts h are = sent_compounds_keep_apart-spaced _ (returns-then-is_err-clause-stands g c history acts h are).is_history
+
+pub returns-then-is_err-clause-first : goal.returns-then-is_err-clause-first
+returns-then-is_err-clause-first g c history acts h are = sent_compounds_keep_apart-first _ (returns-then-is_err-clause-stands g c history acts h are).is_history
+
+pub returns-then-is_err-clause-window : goal.returns-then-is_err-clause-window
+returns-then-is_err-clause-window g c history acts from width h are = sent_compounds_keep_apart-window _ from width (returns-then-is_err-clause-stands g c history acts h are).is_history
+
+pub returns-then-is_err-clause-leaves_once : goal.returns-then-is_err-clause-leaves_once
+returns-then-is_err-clause-leaves_once g c history acts h are = sent_compounds_keep_apart-leaves_once _ (returns-then-is_err-clause-stands g c history acts h are).is_history
+
+pub returns-then-is_err-clause-limit : goal.returns-then-is_err-clause-limit
+returns-then-is_err-clause-limit g c history acts h are = sent_compounds_keep_apart-limit _ (returns-then-is_err-clause-stands g c history acts h are).is_history
+
+pub returns-clause-spaced : goal.returns-clause-spaced
+returns-clause-spaced g c history acts h are = sent_compounds_keep_apart-spaced _ (c.events.invariant.stands history acts h are).is_history
+
+pub returns-clause-first : goal.returns-clause-first
+returns-clause-first g c history acts h are = sent_compounds_keep_apart-first _ (c.events.invariant.stands history acts h are).is_history
+
+pub returns-clause-window : goal.returns-clause-window
+returns-clause-window g c history acts from width h are = sent_compounds_keep_apart-window _ from width (c.events.invariant.stands history acts h are).is_history
+
+pub returns-clause-leaves_once : goal.returns-clause-leaves_once
+returns-clause-leaves_once g c history acts h are = sent_compounds_keep_apart-leaves_once _ (c.events.invariant.stands history acts h are).is_history
+
+pub returns-clause-limit : goal.returns-clause-limit
+returns-clause-limit g c history acts h are = sent_compounds_keep_apart-limit _ (c.events.invariant.stands history acts h are).is_history
+
 pub events-preserved : goal.events-preserved
 events-preserved g c =
     let none = sym c.is_err.ensures.value ∙ c.if-is_err.false in
@@ -24,6 +55,7 @@ events-preserved g c =
       handed = ap length (of_no_error c.put.result none c.put.ensures.taken)
           ∙ length-append _ (answer_value c.tell-answer.result ∷ [])
           ∙ omega (arith, c.events.invariant.handed);
+      within = λ before. c.tell-answer.ensures.within;
       told = λ history acts h are.
           let next = next_act c.args.events.now acts c.events.taken c.events.event-index c.events.invariant.count c.events-test.true are in
           let told = followed_by_all history (take c.events.taken acts) in

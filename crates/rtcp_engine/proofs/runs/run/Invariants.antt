@@ -3,7 +3,7 @@ use Rattle.rtcp_engine.specs.Acts.{Act}
 use Rattle.rtcp_engine.specs.Histories.{History}
 use Rattle.rtcp_engine.specs.Answers.{answers_to, followed_by_all}
 use Rattle.rtcp_engine.specs.Views.{AreActsOf}
-use Rattle.rtcp_engine.specs.States.{StandsAt}
+use Rattle.rtcp_engine.specs.States.{KeepsCapacity, StandsAt}
 use Rattle.rtcp_engine.proofs.runs.run.Given as goal
 
 abbrev pub invariant-events : goal.invariant-events
@@ -11,6 +11,7 @@ invariant-events g l = record {
   count : l.taken ≡ l.event-index;
   refusals : g.S.Sink.refusals l.sink ≡ g.S.Sink.refusals l.fn.sink;
   handed : length (g.S.Sink.content l.sink) ≡ length (g.S.Sink.content l.fn.sink) + l.taken;
+  within : KeepsCapacity l.fn.participant.presence → KeepsCapacity l.participant.presence;
   told : (history : History) (acts : List Act) → StandsAt l.fn.participant history → AreActsOf l.events acts →
       g.S.Sink.content l.sink ≡ g.S.Sink.content l.fn.sink ++ answers_to history (take l.taken acts);
   stands : (history : History) (acts : List Act) → StandsAt l.fn.participant history → AreActsOf l.events acts →

@@ -1,8 +1,9 @@
-use Rattle.std.proofs.Common.{◌≡◌, ◌∙◌, refl, ap, sym, subst, length}
+use Rattle.std.proofs.Common.{◌∙◌, refl, ap, sym, subst, length}
 use Rattle.rtcp_engine.specs.Acts.{rtcp_came}
 use Rattle.rtcp_engine.specs.States.{State, IsPresentAt, ParticipantValue}
 use Rattle.rtcp_engine.specs.Views.{phase_value}
 use Rattle.rtcp_engine.proofs.LifeLemmas.{taking_part_at, present_answers, present_stands, gone_stands}
+use Rattle.rtcp_engine.proofs.Bounded.{bounds_after}
 use Rattle.rtcp_engine.proofs.participant.Participant.arrive_rtcp.Goals as goal
 
 pub returns-in-Present-clause-answer : goal.returns-in-Present-clause-answer
@@ -21,3 +22,12 @@ returns-in-Present-clause-stands g c history reading h is =
 pub returns-in-Gone-clause-stands : goal.returns-in-Gone-clause-stands
 returns-in-Gone-clause-stands g c history reading h is =
     gone_stands c.args.self.now history (rtcp_came c.args.now (length c.args.bytes.now) reading) h (sym (ap (λ (p : ParticipantValue). p.phase) c.self.view_is) ∙ ap phase_value c.in-Gone.is)
+
+pub returns-in-Present-clause-bounded : goal.returns-in-Present-clause-bounded
+returns-in-Present-clause-bounded g c history reading h is = bounds_after history (rtcp_came c.args.now (length c.args.bytes.now) reading) tt h.is_history
+
+pub returns-in-BackingOff-clause-bounded : goal.returns-in-BackingOff-clause-bounded
+returns-in-BackingOff-clause-bounded g c history reading h is = bounds_after history (rtcp_came c.args.now (length c.args.bytes.now) reading) tt h.is_history
+
+pub returns-in-Gone-clause-bounded : goal.returns-in-Gone-clause-bounded
+returns-in-Gone-clause-bounded g c history reading h is = bounds_after history (rtcp_came c.args.now (length c.args.bytes.now) reading) tt h.is_history

@@ -1,11 +1,11 @@
-use Rattle.std.proofs.Common.{◌≡◌, ◌∙◌, ℕ, ◌≤◌, ◌<◌, Ok, Some, None, true, false, refl, ap, sym, subst, nat_le, arith}
+use Rattle.std.proofs.Common.{◌∙◌, ℕ, ◌≤◌, ◌<◌, Ok, Some, None, true, false, refl, ap, sym, subst, nat_le, arith}
 use Rattle.std.proofs.lemmas.Bool.{le-leb, lt-leb}
 use Rattle.rtcp_engine.specs.Setups.{Setup}
 use Rattle.rtcp_engine.specs.Acts.{left}
 use Rattle.rtcp_engine.specs.Outcomes.{member_count}
 use Rattle.rtcp_engine.specs.Histories.{outcome_at}
 use Rattle.rtcp_engine.specs.Steps.{OutValue}
-use Rattle.rtcp_engine.specs.Leaving.{Life, present, bye_octets}
+use Rattle.rtcp_engine.specs.Leaving.{present, bye_octets}
 use Rattle.rtcp_engine.specs.Lives.{bye_out}
 use Rattle.rtcp_engine.specs.Moves.{call_refusal, with_call, members_of, is_unheard_in, backed_off, last_step_with}
 use Rattle.rtcp_engine.specs.States.{State, ParticipantValue, IsAt, over, leaving}
@@ -19,7 +19,7 @@ returns-in-Some-clause-stands g c history h =
     let same = ap (λ (p : ParticipantValue). p.presence) c.self.view_is in
     let act = left c.args.now c.args.w in
     let part = taking_part_at p history h c.requires.phase in
-    whole_refused p history act c.in-Some.refusal (present_refuses p history act c.in-Some.refusal part h (call_decides act p.presence (Some c.in-Some.refusal) refl (sym (ap (call_refusal c.args.now) same) ∙ sym c.refusal.ensures ∙ c.in-Some.is))) h
+    whole_refused p history act c.in-Some.refusal (present_refuses p history act c.in-Some.refusal part h (call_decides act p.presence (Some c.in-Some.refusal) refl (sym (ap (call_refusal c.args.now) same) ∙ sym c.refusal.ensures.exact ∙ c.in-Some.is))) h
 
 pub returns-then-is_unheard-clause-answer : goal.returns-then-is_unheard-clause-answer
 returns-then-is_unheard-clause-answer g c history h =
@@ -28,7 +28,7 @@ returns-then-is_unheard-clause-answer g c history h =
     let act = left c.args.now c.args.w in
     let part = taking_part_at p history h c.requires.phase in
     let o = outcome_at history in
-    let takes = present_takes p history act part h (call_decides act p.presence None refl (sym (ap (call_refusal c.args.now) same) ∙ sym c.refusal.ensures ∙ c.in_default.is)) in
+    let takes = present_takes p history act part h (call_decides act p.presence None refl (sym (ap (call_refusal c.args.now) same) ∙ sym c.refusal.ensures.exact ∙ c.in_default.is)) in
     let called = c.take_call.ensures ∙ ap (with_call c.args.now) same in
     let unheard = sym (unheard_agrees p.presence o part.stands.agrees) ∙ sym (ap is_unheard_in called) ∙ sym c.is_unheard.ensures ∙ c.if-is_unheard.true in
     ap Ok c.last_step.ensures
@@ -41,7 +41,7 @@ returns-then-is_unheard-clause-stands g c history h =
     let act = left c.args.now c.args.w in
     let part = taking_part_at p history h c.requires.phase in
     let o = outcome_at history in
-    let takes = present_takes p history act part h (call_decides act p.presence None refl (sym (ap (call_refusal c.args.now) same) ∙ sym c.refusal.ensures ∙ c.in_default.is)) in
+    let takes = present_takes p history act part h (call_decides act p.presence None refl (sym (ap (call_refusal c.args.now) same) ∙ sym c.refusal.ensures.exact ∙ c.in_default.is)) in
     let called = c.take_call.ensures ∙ ap (with_call c.args.now) same in
     let unheard = sym (unheard_agrees p.presence o part.stands.agrees) ∙ sym (ap is_unheard_in called) ∙ sym c.is_unheard.ensures ∙ c.if-is_unheard.true in
     last_stands p (record { presence = c.take_call.new.self; phase = over }) history act (present o) o h part.life takes c.ranges.w.fits
@@ -54,7 +54,7 @@ returns-then-member_count-le-FEW_MEMBERS-clause-answer g c history h =
     let act = left c.args.now c.args.w in
     let part = taking_part_at p history h c.requires.phase in
     let o = outcome_at history in
-    let takes = present_takes p history act part h (call_decides act p.presence None refl (sym (ap (call_refusal c.args.now) same) ∙ sym c.refusal.ensures ∙ c.in_default.is)) in
+    let takes = present_takes p history act part h (call_decides act p.presence None refl (sym (ap (call_refusal c.args.now) same) ∙ sym c.refusal.ensures.exact ∙ c.in_default.is)) in
     let called = c.take_call.ensures ∙ ap (with_call c.args.now) same in
     let unheard = sym (unheard_agrees p.presence o part.stands.agrees) ∙ sym (ap is_unheard_in called) ∙ sym c.is_unheard.ensures ∙ c.if-is_unheard.false in
     let members = c.member_count.ensures.exact ∙ ap members_of called ∙ members_stand p.presence history part.stands in
@@ -69,7 +69,7 @@ returns-then-member_count-le-FEW_MEMBERS-clause-stands g c history h =
     let act = left c.args.now c.args.w in
     let part = taking_part_at p history h c.requires.phase in
     let o = outcome_at history in
-    let takes = present_takes p history act part h (call_decides act p.presence None refl (sym (ap (call_refusal c.args.now) same) ∙ sym c.refusal.ensures ∙ c.in_default.is)) in
+    let takes = present_takes p history act part h (call_decides act p.presence None refl (sym (ap (call_refusal c.args.now) same) ∙ sym c.refusal.ensures.exact ∙ c.in_default.is)) in
     let called = c.take_call.ensures ∙ ap (with_call c.args.now) same in
     let unheard = sym (unheard_agrees p.presence o part.stands.agrees) ∙ sym (ap is_unheard_in called) ∙ sym c.is_unheard.ensures ∙ c.if-is_unheard.false in
     let members = c.member_count.ensures.exact ∙ ap members_of called ∙ members_stand p.presence history part.stands in
@@ -84,7 +84,7 @@ returns-clause-answer g c history h =
     let act = left c.args.now c.args.w in
     let part = taking_part_at p history h c.requires.phase in
     let o = outcome_at history in
-    let takes = present_takes p history act part h (call_decides act p.presence None refl (sym (ap (call_refusal c.args.now) same) ∙ sym c.refusal.ensures ∙ c.in_default.is)) in
+    let takes = present_takes p history act part h (call_decides act p.presence None refl (sym (ap (call_refusal c.args.now) same) ∙ sym c.refusal.ensures.exact ∙ c.in_default.is)) in
     let called = c.take_call.ensures ∙ ap (with_call c.args.now) same in
     let unheard = sym (unheard_agrees p.presence o part.stands.agrees) ∙ sym (ap is_unheard_in called) ∙ sym c.is_unheard.ensures ∙ c.if-is_unheard.false in
     let members = c.member_count.ensures.exact ∙ ap members_of called ∙ members_stand p.presence history part.stands in
@@ -101,7 +101,7 @@ returns-clause-stands g c history h =
     let act = left c.args.now c.args.w in
     let part = taking_part_at p history h c.requires.phase in
     let o = outcome_at history in
-    let takes = present_takes p history act part h (call_decides act p.presence None refl (sym (ap (call_refusal c.args.now) same) ∙ sym c.refusal.ensures ∙ c.in_default.is)) in
+    let takes = present_takes p history act part h (call_decides act p.presence None refl (sym (ap (call_refusal c.args.now) same) ∙ sym c.refusal.ensures.exact ∙ c.in_default.is)) in
     let called = c.take_call.ensures ∙ ap (with_call c.args.now) same in
     let unheard = sym (unheard_agrees p.presence o part.stands.agrees) ∙ sym (ap is_unheard_in called) ∙ sym c.is_unheard.ensures ∙ c.if-is_unheard.false in
     let members = c.member_count.ensures.exact ∙ ap members_of called ∙ members_stand p.presence history part.stands in

@@ -1,4 +1,4 @@
-use Rattle.std.proofs.Common.{◌≡◌, ◌∙◌, Ok, Err, None, refl, ap, sym, subst, Result}
+use Rattle.std.proofs.Common.{◌∙◌, Ok, Err, refl, ap, sym, subst, Result}
 use Rattle.std.proofs.lemmas.Result.{err_from_is_err_and}
 use Rattle.rtcp_wire.specs.declared.rtp.fault.RtpFault.{RtpFault}
 use Rattle.rtcp_wire.specs.RtpHeads.{RtpValue}

@@ -1,4 +1,4 @@
-use Rattle.std.proofs.Common.{◌≡◌, Err, ap, sym}
+use Rattle.std.proofs.Common.{Err, ap}
 use Rattle.rtcp_engine.proofs.participant.Participant.new.Goals as goal
 
 pub returns-in-Ok-clause-refused : goal.returns-in-Ok-clause-refused

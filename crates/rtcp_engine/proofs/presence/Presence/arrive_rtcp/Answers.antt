@@ -20,7 +20,7 @@ same_reading g c reading is = one_reading-once c.args.bytes.now (Ok c.in_ok-comp
 pub returns-clause-answer : goal.returns-clause-answer
 returns-clause-answer g c history reading h is =
     let size = length c.args.bytes.now in
-    ap Ok (c.step.ensures ∙ ap (λ (s : State). step_in s None) c.take_compound.ensures)
+    ap Ok (c.step.ensures.exact ∙ ap (λ (s : State). step_in s None) c.take_compound.ensures)
     ∙ compound_answer c.args.self.now history c.args.now size c.in_ok-compound.compound h c.in_ok-compound.ensures.admitted
     ∙ ap (λ (r : Result (List RtcpPacket) WireFault). present_answer history (rtcp_came c.args.now size r)) (same_reading g c reading is)
 

@@ -1,4 +1,4 @@
-use Rattle.std.proofs.Common.{◌≡◌, ◌∙◌, refl, ap, sym, subst, Result, Ok, Err, None}
+use Rattle.std.proofs.Common.{◌∙◌, refl, ap, sym, subst, Result, Ok, Err, None}
 use Rattle.std.proofs.lemmas.Result.{err_from_is_err_and}
 use Rattle.rtcp_wire.specs.declared.rtp.fault.RtpFault.{RtpFault}
 use Rattle.rtcp_wire.specs.RtpHeads.{RtpValue}
@@ -15,7 +15,7 @@ use Rattle.rtcp_engine.proofs.presence.Presence.arrive_rtp.Goals as goal
 pub returns-clause-answer : goal.returns-clause-answer
 returns-clause-answer g c history reading h is =
     let same = one_reading-rtp_once c.args.bytes.now (Ok c.in_ok-head.head) reading c.in_ok-head.ensures.read is in
-    ap Ok (c.step.ensures ∙ ap (λ (s : State). step_in s None) c.take_media.ensures)
+    ap Ok (c.step.ensures.exact ∙ ap (λ (s : State). step_in s None) c.take_media.ensures)
     ∙ media_answer c.args.self.now history c.args.now c.in_ok-head.head h c.in_ok-head.ensures.admitted
     ∙ ap (λ (r : Result RtpValue RtpFault). present_answer history (rtp_came c.args.now r)) same
 

@@ -35,3 +35,6 @@ invariant_of-result g c =
 pub returns-clause-begins : goal.returns-clause-begins
 returns-clause-begins g c =
     start_stands (setup_of c.args.config) c.args.word (g.T.MemberTable.content c.empty.result) c.begin.result c.start-average.result c.new.result (usable g c) c.ranges.word.fits (started g c)
+
+pub returns-clause-within : goal.returns-clause-within
+returns-clause-within g c = (invariant_of-result g c).room

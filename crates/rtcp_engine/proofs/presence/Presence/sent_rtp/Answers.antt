@@ -6,5 +6,5 @@ use Rattle.rtcp_engine.proofs.presence.Presence.sent_rtp.Goals as goal
 
 pub returns-clause-answer : goal.returns-clause-answer
 returns-clause-answer g c history h =
-    ap Ok (c.step.ensures ∙ ap (λ (s : State). step_in s None) c.take_sent.ensures)
-    ∙ sent_answer c.args.self.now history c.args.now c.args.rtp_ts c.args.octets h (sym c.refusal.ensures ∙ c.in_default.is)
+    ap Ok (c.step.ensures.exact ∙ ap (λ (s : State). step_in s None) c.take_sent.ensures)
+    ∙ sent_answer c.args.self.now history c.args.now c.args.rtp_ts c.args.octets h (sym c.refusal.ensures.exact ∙ c.in_default.is)

@@ -13,12 +13,12 @@ state_is g c = c.report_if_due-report.ensures.new ∙ ap (after_check_at c.args.
 pub returns-clause-answer : goal.returns-clause-answer
 returns-clause-answer g c history h =
     let new = c.report_if_due-report.new.self in
-    ap Ok (c.step.ensures
+    ap Ok (c.step.ensures.exact
     ∙ ap (step_in new) (c.report_if_due-report.ensures.report ∙ ap (λ (s : State). option_map report_out (report_at c.args.now c.args.w1 s)) c.check_members.ensures.new)
     ∙ ap (λ (s : State). step_in s (option_map report_out (report_at c.args.now c.args.w1 (Rattle.rtcp_engine.specs.Moves.checked c.args.now (Rattle.rtcp_engine.specs.Moves.with_call c.args.now c.args.self.now))))) (state_is g c))
-    ∙ tick_answer c.args.self.now history c.args.now c.args.w1 c.args.w2 h (sym c.refusal.ensures ∙ c.in_default.is)
+    ∙ tick_answer c.args.self.now history c.args.now c.args.w1 c.args.w2 h (sym c.refusal.ensures.exact ∙ c.in_default.is)
 
 pub returns-clause-stands : goal.returns-clause-stands
 returns-clause-stands g c history h =
     subst (λ (s : State). IsPresentAt s (present_after history (ticked c.args.now c.args.w1 c.args.w2))) (sym (state_is g c))
-    (tick_stands c.args.self.now history c.args.now c.args.w1 c.args.w2 c.ranges.w1.fits c.ranges.w2.fits h (sym c.refusal.ensures ∙ c.in_default.is))
+    (tick_stands c.args.self.now history c.args.now c.args.w1 c.args.w2 c.ranges.w1.fits c.ranges.w2.fits h (sym c.refusal.ensures.exact ∙ c.in_default.is))
