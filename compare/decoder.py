@@ -141,11 +141,20 @@ def packet_facts(kind, count, body):
     return facts
 
 
-def facts(octets):
-    """The facts of a datagram that is accepted, in order."""
-    place, found = 0, []
+def packets(octets):
+    """Type, count and body of each packet of a datagram that is accepted."""
+    place = 0
     while place < len(octets):
         kind, count, body, size = packet_parts(octets[place:], place == 0)
-        found += packet_facts(kind, count, body)
+        yield kind, count, body
         place += size
-    return found
+
+
+def facts(octets):
+    """The facts of a datagram that is accepted, in order."""
+    return [fact for packet in packets(octets) for fact in packet_facts(*packet)]
+
+
+def goodbyes(octets):
+    """How many BYE packets a datagram has that is accepted."""
+    return sum(kind == 203 for kind, _, _ in packets(octets))

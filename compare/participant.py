@@ -18,6 +18,7 @@ MOST_LINES, LONGEST_LINE = 65_536, 131_200
 SHORT_MINIMUM, MINIMUM = 2_500_000, 5_000_000
 HEADERS = 28  # of UDP and IPv4
 BLOCKS_IN_A_PACKET = 31
+MOST_WITHOUT_BACKOFF, MOST_LEAVING = 50, 65_535
 
 
 class Refusal(Exception):
@@ -178,7 +179,7 @@ def source_description(ssrc, items):
     return bytes([0x81, 202]) + (len(text) // 4).to_bytes(2, "big") + text
 
 
-def report_header(count, kind, size):
+def packet_header(count, kind, size):
     return bytes([0x80 | count, kind]) + (size // 4 - 1).to_bytes(2, "big")
 
 
@@ -193,22 +194,35 @@ class Participant:
         self.reports = 0
         self.last_reported = None
         self.calls, self.last_call = 0, 0
-        self.average = 256 * (8 + len(source_description(self.ssrc, [(1, options["cname"])])) + HEADERS)
+        self.goodbyes = None  # in backoff, the numbers of BYE packets in the compounds that had any
+        self.has_left = False
+        self.average = 256 * (8 + len(self.description([])) + HEADERS)
         self.last, self.known = 0, 1  # tp and pmembers
         self.next = drawn_interval(self.interval(is_sender=False), options["word"])  # tn
 
+    def is_present(self):
+        return self.goodbyes is None and not self.has_left
+
     def members(self):
+        if self.has_left:
+            return 0
+        if self.goodbyes is not None:
+            return min(MOST_LEAVING, 1 + sum(self.goodbyes))
         return 1 + sum(source.is_member() for source in self.sources.values())
 
     def senders(self):
+        if not self.is_present():
+            return 0
         return int(self.is_sender) + sum(source.counts_as_sender() for source in self.sources.values())
 
     def interval(self, is_sender):
-        minimum = MINIMUM if self.reports else SHORT_MINIMUM
+        minimum = MINIMUM if self.reports and self.is_present() else SHORT_MINIMUM
         return deterministic_interval(
             self.members(), self.senders(), is_sender, self.average, self.options["bandwidth"], minimum)
 
     def begin_call(self, moment):
+        if self.has_left:
+            raise Refusal("E1 Left")
         if moment < self.last_call:
             raise Refusal("E2 Backwards")
         if moment > FURTHEST:
@@ -216,10 +230,10 @@ class Participant:
         if self.calls >= MOST_CALLS:
             raise Refusal("E4 TooMany")
 
-    def end_call(self, moment, report=None):
+    def end_call(self, moment, out="-"):
         self.calls, self.last_call = self.calls + 1, moment
-        out = "-" if report is None else "report:" + report.hex()
-        return f"members={self.members()} senders={self.senders()} next={self.next} out={out}"
+        following = "-" if self.has_left else self.next
+        return f"members={self.members()} senders={self.senders()} next={following} out={out}"
 
     def seen(self, ssrc, moment):
         """A sighting: the source, admitted where there is room; or none, where its facts are ignored."""
@@ -264,6 +278,8 @@ class Participant:
         facts = decoder.facts(octets)
         if any(ssrc == self.ssrc for _, ssrc, _ in facts):
             raise Refusal("E7 OwnSsrc")
+        if not self.is_present():
+            return self.hear_leaving(moment, octets)
         for kind, ssrc, timestamp in facts:
             self.take_fact(kind, ssrc, timestamp, moment)
         self.move_average(len(octets))
@@ -278,6 +294,8 @@ class Participant:
             raise Refusal(f"E6 Rtp: {fault}")
         if ssrc == self.ssrc:
             raise Refusal("E7 OwnSsrc")
+        if not self.is_present():
+            return self.end_call(moment)
         source = self.seen(ssrc, moment)
         transit = (media_units(moment, self.rate) - timestamp) % 2**32
         if source and source.take(sequence, transit, moment):
@@ -288,8 +306,9 @@ class Participant:
 
     def packet_sent(self, moment, timestamp, octets):
         self.begin_call(moment)
-        self.sent_packets.append((moment, timestamp, octets))
-        self.is_sender = True
+        if self.is_present():
+            self.sent_packets.append((moment, timestamp, octets))
+            self.is_sender = True
         return self.end_call(moment)
 
     def check(self, moment):
@@ -304,22 +323,61 @@ class Participant:
         if self.is_sender and self.sent_packets[-1][0] < idle:
             self.is_sender = False
 
-    def tick(self, moment, word1, word2):
-        self.begin_call(moment)
-        self.check(moment)
-        self.reconsider_departures(moment)
+    def is_due(self, moment, is_sender, word):
+        """Whether a compound is due, by timer reconsideration, which may set a later moment."""
         if moment < self.next:
-            return self.end_call(moment)
-        interval = drawn_interval(self.interval(self.is_sender), word1)
+            return False
+        interval = drawn_interval(self.interval(is_sender), word)
         self.known = self.members()
         if self.last + interval > moment:
             self.next = self.last + interval
+            return False
+        return True
+
+    def tick(self, moment, word1, word2):
+        self.begin_call(moment)
+        if not self.is_present():
+            return self.say_goodbye(moment) if self.is_due(moment, False, word1) else self.end_call(moment)
+        self.check(moment)
+        self.reconsider_departures(moment)
+        if not self.is_due(moment, self.is_sender, word1):
             return self.end_call(moment)
         report = self.make_report(moment)
         self.move_average(len(report))
         self.last, self.known = moment, self.members()
         self.next = moment + drawn_interval(self.interval(self.is_sender), word2)
-        return self.end_call(moment, report)
+        return self.end_call(moment, "report:" + report.hex())
+
+    def leave(self, moment, word):
+        self.begin_call(moment)
+        if not self.is_present():
+            return self.end_call(moment)
+        if not self.reports and not self.sent_packets:
+            self.has_left = True
+            return self.end_call(moment)
+        if self.members() <= MOST_WITHOUT_BACKOFF:
+            return self.say_goodbye(moment)
+        self.goodbyes = []
+        self.average = 256 * (len(self.goodbye_compound()) + HEADERS)
+        self.last, self.known = moment, self.members()
+        self.next = moment + drawn_interval(self.interval(is_sender=False), word)
+        return self.end_call(moment)
+
+    def hear_leaving(self, moment, octets):
+        """What a compound changes in backoff."""
+        goodbyes = decoder.goodbyes(octets)
+        if goodbyes:
+            self.goodbyes.append(goodbyes)
+            self.move_average(len(octets))
+        return self.end_call(moment)
+
+    def say_goodbye(self, moment):
+        self.has_left = True
+        return self.end_call(moment, "bye:" + self.goodbye_compound().hex())
+
+    def goodbye_compound(self):
+        report = packet_header(0, 201, 8) + words(self.ssrc)
+        return report + self.description([]) + packet_header(1, 203, 8) + words(self.ssrc)
 
     def pending(self):
         """The sources to report, those above the last one reported first."""
@@ -329,12 +387,13 @@ class Participant:
         above = [ssrc for ssrc in waiting if ssrc > self.last_reported]
         return above + [ssrc for ssrc in waiting if ssrc <= self.last_reported]
 
-    def items(self):
-        """What the source description of the next report holds."""
+    def extra_items(self):
+        """What the source description of the next report holds beside the CNAME."""
         extra, number = self.options["items"], self.reports + 1
-        if extra and number % 3 == 0:
-            return [(1, self.options["cname"]), extra[(number // 3 - 1) % len(extra)]]
-        return [(1, self.options["cname"])]
+        return [extra[(number // 3 - 1) % len(extra)]] if extra and number % 3 == 0 else []
+
+    def description(self, extra):
+        return source_description(self.ssrc, [(1, self.options["cname"])] + extra)
 
     def sender_information(self, moment):
         if not self.is_sender:
@@ -346,7 +405,7 @@ class Participant:
         return words(ntp >> 32, ntp, timestamp + units, len(self.sent_packets), octets)
 
     def make_report(self, moment):
-        description = source_description(self.ssrc, self.items())
+        description = self.description(self.extra_items())
         information = self.sender_information(moment)
         room = self.options["limit"] - len(description) - 8 - len(information)
         reported = []
@@ -360,7 +419,7 @@ class Participant:
         while blocks or not compound:
             part, blocks = blocks[:BLOCKS_IN_A_PACKET], blocks[BLOCKS_IN_A_PACKET:]
             body = words(self.ssrc) + (information if not compound else b"") + b"".join(part)
-            compound += report_header(len(part), 200 if information and not compound else 201, 4 + len(body)) + body
+            compound += packet_header(len(part), 200 if information and not compound else 201, 4 + len(body)) + body
         self.last_reported = reported[-1] if reported else self.last_reported
         self.reports += 1
         return compound + description
@@ -405,6 +464,7 @@ LINES = {
     b"rtp": (Participant.rtp_came, ("number", datagram)),
     b"sent": (Participant.packet_sent, ("number", "timestamp", "octets")),
     b"tick": (Participant.tick, ("number", hex_digits(8), hex_digits(8))),
+    b"leave": (Participant.leave, ("number", hex_digits(8))),
 }
 NUMBERS = {"number": decimal(2**64), "timestamp": decimal(2**32), "octets": decimal(2**32)}
 
