@@ -27,7 +27,9 @@ FAULTY_LINES = [
     b"tick 000000000000000000001 00000000 00000000", b"tick +1 00000000 0", b"tick 1 00000000 0x000000",
     b"rtcp 1 ", b"rtcp 1 0", b"rtcp 1 80c9000100000007 ", b"rtcp 1 --", b"rtcp 1", b"rtcp  -", b"rtp -1 -", b"rtp 1 8g",
     b"sent 1 4294967296 0", b"sent 1 0 4294967296", b"sent 1 0", b"sent 1 0x0 0", b"sent 1 0 \xb2", b"check 1 -",
-    b"\x00", b"tick 1 0000000\xc3\xa9 00000000", b"sent 1 1_0 0",
+    b"\x00", b"tick 1 0000000\xc3\xa9 00000000", b"sent 1 1_0 0", b"leave", b"leave 1", b"leave 1 0000000",
+    b"leave 1 0000000g", b"leave 1 00000000 00000000", b"leave 1 00000000 ", b"leave x 0", b"LEAVE 1 00000000",
+    b"leave 18446744073709551616 00000000", b"leave 000000000000000000001 00000000", b"leave 1 00000000\r",
 ]
 
 
@@ -43,10 +45,10 @@ def number(rng, size):
 # Options
 
 
-def random_options(rng, own):
+def random_options(rng, own, capacities):
     ssrc = f"{own:08x}" if rng.randrange(2) else f"{own:08X}"
     options = [["--ssrc", ssrc], ["--cname", "c" * rng.choice([1, 2, 3, 4, 5, 20, 254, 255])]]
-    options.append(["--capacity", str(rng.choice([1, 2, 3, 4, 5, 8, 100, 1024]))])
+    options.append(["--capacity", str(rng.choice(capacities))])
     options.append(["--limit", str(rng.choice([576, 580, 600, 1000, 1468, 1472]))])
     bandwidths = [2560, 2719, 2720, 5000, 16000, 64000, 10**6, 10**9, 160 * 2**30]
     options.append(["--session-bps", str(rng.choice(bandwidths))])
@@ -153,7 +155,10 @@ class History:
         self.own, *others = rng.sample(POOL, len(POOL))
         self.others = others[:rng.randrange(1, len(others) + 1)]
         self.has_crowd = rng.randrange(20) == 0
-        self.options = random_options(rng, self.own)
+        self.leaves = rng.randrange(2) == 0
+        self.has_audience = self.leaves and rng.randrange(2) == 0
+        capacities = [49, 50, 51, 100, 1024, 1024] if self.has_audience else [1, 2, 3, 4, 5, 8, 100, 1024]
+        self.options = random_options(rng, self.own, capacities)
         if self.has_crowd and rng.randrange(2):
             self.options = ["--ssrc", f"{self.own:08x}", "--cname", "c", "--limit", str(full_packet_limit(rng))]
         self.sequences = {}
@@ -236,12 +241,88 @@ class History:
                 octets = bytes([0x80, 0, 0, sequence]) + participant.words(0, ssrc)
                 self.add(f"rtp {self.moment} {octets.hex()}".encode())
 
+    def add_audience(self):
+        """So many sources that there are about 51 members, as a leave needs for a backoff."""
+        rng = self.rng
+        wanted = choose(rng, (2, 50), (4, 51), (2, 52), (3, rng.randrange(45, 120)), (0.2, 1024))
+        missing = max(0, wanted - self.model.members())
+        sources = rng.sample(range(3000, 2**31), missing)
+        while sources:
+            some = sources[:rng.randrange(1, 100)]
+            sources = sources[len(some):]
+            octets = packet(0, 201, participant.words(some[0]))
+            for start in range(0, len(some), 31):
+                chunks = [participant.words(ssrc) + b"\x01\x01a\0" for ssrc in some[start:start + 31]]
+                octets += packet(len(chunks), 202, b"".join(chunks))
+            self.others += some[:rng.randrange(3)]
+            self.add(f"rtcp {self.moment} {octets.hex()}".encode())
+
+    def add_sending(self):
+        """A packet of the host or a report, without which a leave is silent."""
+        rng = self.rng
+        if rng.randrange(2):
+            self.add(f"sent {self.moment} {rng.getrandbits(32)} 160".encode())
+        for _ in range(rng.randrange(4)):
+            if not self.model.reports:
+                self.add(f"tick {self.tick_moment()} {random_word(rng):08x} {random_word(rng):08x}".encode())
+
+    def leave_line(self):
+        moment = choose(self.rng, (9, self.advance()), (1, self.moment + self.rng.randrange(1000 * SECOND)))
+        return f"leave {moment} {random_word(self.rng):08x}"
+
+    def farewell_line(self):
+        """A compound with BYE packets, among others."""
+        rng, pool = self.rng, self.pool()
+        count = choose(rng, (6, 1), (3, rng.randrange(2, 6)), (1, rng.randrange(60)))
+        packets = [packet(number, 203, body) for number, body in (goodbye(rng, pool) for _ in range(count))]
+        packets += [further_packet(rng, pool) for _ in range(choose(rng, (3, 0), (2, 1), (1, 3)))]
+        rng.shuffle(packets)
+        octets = packet(0, 201, participant.words(rng.choice(pool))) + b"".join(packets)
+        if rng.randrange(20) == 0:
+            octets = damaged(rng, octets)
+        return f"rtcp {self.advance()} {octets.hex() or '-'}"
+
+    def backoff_line(self):
+        rng = self.rng
+        kind = choose(rng, (6, "farewell"), (4, "tick"), (1, "leave"), (3, "any"))
+        if kind == "tick":
+            return f"tick {self.tick_moment()} {random_word(rng):08x} {random_word(rng):08x}"
+        return {"farewell": self.farewell_line, "leave": self.leave_line, "any": self.line}[kind]()
+
+    def add_flood(self):
+        """So many BYE packets that members in a backoff come to 65,535."""
+        octets = packet(0, 201, participant.words(self.others[0])) + packet(0, 203, b"") * 16_381
+        for _ in range(self.rng.randrange(4, 8)):
+            self.add(f"rtcp {self.moment} {octets.hex()}".encode())
+
+    def add_leaving(self):
+        """A leave or a few, what comes in the backoff, and a few lines that find the participant gone."""
+        rng = self.rng
+        if self.has_audience and self.model:
+            self.add_audience()
+            for _ in range(rng.randrange(4)):
+                self.add(self.line().encode())
+            if rng.randrange(6):
+                self.add_sending()
+        for _ in range(rng.randrange(1, 3)):
+            self.add(self.leave_line().encode())
+        if self.model and self.model.goodbyes is not None and rng.randrange(100) == 0:
+            self.add_flood()
+        for _ in range(choose(rng, (1, rng.randrange(10)), (3, rng.randrange(100)))):
+            if self.model is None or self.model.goodbyes is None or self.model.has_left:
+                break
+            self.add(self.backoff_line().encode())
+        for _ in range(rng.randrange(5)):
+            self.add(choose(rng, (4, self.line()), (1, self.leave_line())).encode())
+
     def make(self):
         rng = self.rng
         if self.has_crowd:
             self.add_crowd()
         for _ in range(choose(rng, (3, rng.randrange(20)), (3, rng.randrange(120)), (0.2, 500))):
             self.add(self.line().encode())
+        if self.leaves:
+            self.add_leaving()
         if rng.randrange(15) == 0:
             self.lines.insert(rng.randrange(len(self.lines) + 1), rng.choice(FAULTY_LINES))
         octets = b"".join(line + b"\n" for line in self.lines)
@@ -277,6 +358,30 @@ def many_leave(rng, sources, start):
     for _ in range(300):
         moment += rng.randrange(SECOND)
         yield f"tick {moment} {random_word(rng):08x} {random_word(rng):08x}"
+
+
+def many_say_goodbye(rng, sources, start):
+    """One to five BYE packets in a datagram, with a tick after each; then ticks that lie further and further apart."""
+    moment = start
+    while sources:
+        gone, sources = sources[:rng.randrange(1, 6)], sources[5:]
+        goodbyes = [packet(1, 203, participant.words(ssrc)) for ssrc in gone]
+        octets = packet(0, 201, participant.words(gone[0])) + b"".join(goodbyes)
+        yield f"rtcp {moment} {octets.hex()}"
+        yield f"tick {moment} {random_word(rng):08x} {random_word(rng):08x}"
+        moment += rng.randrange(SECOND // 10)
+    for step in range(30):
+        moment += 1000 * 2**step
+        yield f"tick {moment} {random_word(rng):08x} {random_word(rng):08x}"
+
+
+def ending_session(seed):
+    """More sources than a participant has room for, and then it leaves with all of them."""
+    rng = random.Random(seed)
+    sources, end = rng.sample(range(1000, 2**32), 1100), 11 * SECOND
+    lines = [*many_join(rng, sources), f"sent {end} 0 160", f"leave {end} {random_word(rng):08x}"]
+    lines += many_say_goodbye(rng, sources, end)
+    return "".join(line + "\n" for line in lines).encode()
 
 
 def large_session(seed):
