@@ -150,9 +150,21 @@ LEAVING = [
         (leave(1026036), LEFT),
         (leave(1026035), "refused E1 Left"),
     ], "", 0),
-    # An RTP packet of the host is enough for a BYE; a goodbye of many octets is within each limit.
+    # An RTP packet of the host is enough for a BYE, which has the CNAME alone, however long, and never an extra item.
     (PLAIN, [("sent 0 1000 160", ok(1, 1, 1026037)), (leave(0), ok(0, 0, "-", BYE))], "", 0),
     (LONG_NAME, [("sent 0 1000 160", ok(1, 1, 1026037)), (leave(0), ok(0, 0, "-", LONG_BYE))], "", 0),
+    (TOOL, [
+        (tick(1026037), ok(1, 0, 3078111, REPORT)),
+        (tick(3078111), ok(1, 0, 5130185, REPORT)),
+        (leave(3078111), ok(0, 0, "-", BYE)),
+    ], "", 0),
+    # The backoff goes by the word of the leave.
+    (PLAIN, REPORT_SENT + [
+        (named(10000000, 1, 50), ok(51, 0, 3078111)),
+        (leave(10000000, "ffffffff"), ok(1, 0, 13078111)),
+        (tick(13078110), ok(1, 0, 13078111)),
+        (tick(13078111, "ffffffff"), ok(0, 0, "-", BYE)),
+    ], "", 0),
     # BYE packets are counted, not identifiers, up to 65,535 members; from then on the average still moves.
     (PLAIN, BACKOFF + [
         ("rtcp 10000000 80c900010000000185cb00050000000100000002000000030000000400000005", ok(2, 0, 11026037)),
