@@ -7,9 +7,10 @@ use std::test::*;
 
 mod configs;
 mod host;
+mod leaving;
 mod list;
 mod rows;
 mod runs;
 mod session;
 
-use session::{REPORT, Session, config};
+use session::{REPORT, Session, config, fill_with_byes};

@@ -76,3 +76,73 @@ fn contributing(rt: HostRuntime) {
 fn largest(rt: HostRuntime) {
     rows::largest::<ListTable>(&rt);
 }
+
+#[test]
+fn leaves_few(rt: HostRuntime) {
+    leaving::few::<ListTable>(&rt);
+}
+
+#[test]
+fn leaves_many(rt: HostRuntime) {
+    leaving::many::<ListTable>(&rt);
+}
+
+#[test]
+fn longest_wait(rt: HostRuntime) {
+    leaving::longest_wait::<ListTable>(&rt);
+}
+
+#[test]
+fn left_twice(rt: HostRuntime) {
+    leaving::left_twice::<ListTable>(&rt);
+}
+
+#[test]
+fn leaves_silently(rt: HostRuntime) {
+    leaving::silently::<ListTable>(&rt);
+}
+
+#[test]
+fn leaves_silently_later(rt: HostRuntime) {
+    leaving::silently_later::<ListTable>(&rt);
+}
+
+#[test]
+fn leaves_after_a_tick(rt: HostRuntime) {
+    leaving::after_a_tick::<ListTable>(&rt);
+}
+
+#[test]
+fn leaves_after_a_packet(rt: HostRuntime) {
+    leaving::after_a_packet::<ListTable>(&rt);
+}
+
+#[test]
+fn leaves_after_an_old_packet(rt: HostRuntime) {
+    leaving::after_an_old_packet::<ListTable>(&rt);
+}
+
+#[test]
+fn leaves_unchecked(rt: HostRuntime) {
+    leaving::unchecked::<ListTable>(&rt);
+}
+
+#[test]
+fn most_leaving(rt: HostRuntime) {
+    leaving::most_leaving::<ListTable>(&rt);
+}
+
+#[test]
+fn passed_by(rt: HostRuntime) {
+    leaving::passed_by::<ListTable>(&rt);
+}
+
+#[test]
+fn refused_in_backoff(rt: HostRuntime) {
+    leaving::refused::<ListTable>(&rt);
+}
+
+#[test]
+fn bye_put_off(rt: HostRuntime) {
+    leaving::put_off::<ListTable>(&rt);
+}

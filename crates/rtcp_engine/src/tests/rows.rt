@@ -231,13 +231,7 @@ pub(crate) fn contributing<T: MemberTable + Drop>(rt: &impl Abort) {
 /// The largest compound, of 16,382 packets, is taken: a source that is heard, and goodbyes of nobody.
 pub(crate) fn largest<T: MemberTable + Drop>(rt: &impl Abort) {
     let mut bytes = [0; 65_532];
-    for (octets, packet) in bytes.chunks_exact_mut(4).zip(0..16_383) {
-        octets.copy_from_slice(match packet {
-            0 => &[0x80, 0xc9, 0, 1],
-            1 => &[0, 0, 0, 1],
-            _ => &[0x80, 0xcb, 0, 0],
-        });
-    }
+    fill_with_byes(&mut bytes);
     let mut session = Session::<T>::usual(rt);
     session.rtcp(0, &bytes).is(rt, 1, 0, 1_026_037);
     // The average is that of a compound of 65,532 octets for a sixteenth now, and so the report is put off.

@@ -8,6 +8,12 @@ pub(crate) const REPORT: [u8; 20] = [
     0x01, 0x01, 0x61, 0x00,
 ];
 
+/// The BYE of that participant: its report, and a BYE packet.
+pub(crate) const BYE: [u8; 28] = [
+    0x80, 0xc9, 0x00, 0x01, 0x00, 0x00, 0x00, 0xaa, 0x81, 0xca, 0x00, 0x02, 0x00, 0x00, 0x00, 0xaa,
+    0x01, 0x01, 0x61, 0x00, 0x81, 0xcb, 0x00, 0x01, 0x00, 0x00, 0x00, 0xaa,
+];
+
 /// A configuration with SSRC 000000aa, CNAME `a`, 400 octets of RTCP a second and a clock of 8,000 units a
 /// second.
 pub(crate) fn config() -> Config {
@@ -22,6 +28,17 @@ pub(crate) fn config() -> Config {
         rtcp_bw: 400,
         rate: 8_000,
         ntp_base: 0,
+    }
+}
+
+/// Makes a compound of an empty report of source 1, and of BYE packets of nobody up to the end.
+pub(crate) fn fill_with_byes(bytes: &mut [u8]) {
+    for (octets, packet) in bytes.chunks_exact_mut(4).zip(0..16_383) {
+        octets.copy_from_slice(match packet {
+            0 => &[0x80, 0xc9, 0, 1],
+            1 => &[0, 0, 0, 1],
+            _ => &[0x80, 0xcb, 0, 0],
+        });
     }
 }
 
@@ -50,6 +67,23 @@ impl<T: MemberTable> Session<T> {
         answered(self.participant.tick(now, w1, w2))
     }
 
+    /// A leave with a word.
+    pub(crate) fn leave(&mut self, now: u64, w: u32) -> Seen {
+        answered(self.participant.leave(now, w))
+    }
+
+    /// An RTP packet that the host sent, with 160 octets.
+    pub(crate) fn sent(&mut self, now: u64) -> Seen {
+        answered(self.participant.sent_rtp(now, 0, 160))
+    }
+
+    /// The participant has left for good.
+    pub(crate) fn is_gone(&self, rt: &impl Abort) {
+        assert_eq!(rt; self.participant.members(), 0);
+        assert_eq!(rt; self.participant.senders(), 0);
+        assert!(rt; self.participant.next().is_none());
+    }
+
     /// An RTCP datagram.
     pub(crate) fn rtcp(&mut self, now: u64, bytes: &[u8]) -> Seen {
         answered(self.participant.arrive_rtcp(now, bytes))
@@ -65,6 +99,15 @@ impl<T: MemberTable> Session<T> {
         let bytes = [
             0x80, 0xc9, 0x00, 0x01, 0x00, 0x00, 0x00, ssrc, 0x81, 0xca, 0x00, 0x02, 0x00, 0x00,
             0x00, ssrc, 0x01, 0x01, 0x61, 0x00,
+        ];
+        self.rtcp(now, &bytes)
+    }
+
+    /// A compound in which a source below 256 leaves.
+    pub(crate) fn goodbye(&mut self, now: u64, ssrc: u8) -> Seen {
+        let bytes = [
+            0x80, 0xc9, 0x00, 0x01, 0x00, 0x00, 0x00, ssrc, 0x81, 0xcb, 0x00, 0x01, 0x00, 0x00,
+            0x00, ssrc,
         ];
         self.rtcp(now, &bytes)
     }
@@ -100,7 +143,7 @@ impl Seen {
         }
     }
 
-    /// The call was taken, and these octets are to be sent.
+    /// The call was taken, and a report of these octets is to be sent.
     pub(crate) fn sends(
         self,
         rt: &impl Abort,
@@ -115,11 +158,48 @@ impl Seen {
                 assert_eq!(rt; step.senders, senders);
                 assert!(rt; step.next == Some(next));
                 match step.out {
-                    Some(out) => assert!(rt; out.bytes.as_slice() == octets),
+                    Some(out) => {
+                        assert!(rt; out.kind == OutKind::Report);
+                        assert!(rt; out.bytes.as_slice() == octets);
+                    }
                     None => panic!(rt; "there is nothing to send"),
                 }
             }
             Err(_) => panic!(rt; "the call is refused"),
+        }
+    }
+
+    /// The call was taken.
+    pub(crate) fn taken(self, rt: &impl Abort) {
+        assert!(rt; self.answer.is_ok());
+    }
+
+    /// The call was taken, and with it the participant is gone. What is to be sent then.
+    fn last(self, rt: &impl Abort) -> Option<Out> {
+        match self.answer {
+            Ok(step) => {
+                assert_eq!(rt; step.members, 0);
+                assert_eq!(rt; step.senders, 0);
+                assert!(rt; step.next.is_none());
+                step.out
+            }
+            Err(_) => panic!(rt; "the call is refused"),
+        }
+    }
+
+    /// The participant is gone, and has nothing to send.
+    pub(crate) fn leaves_silently(self, rt: &impl Abort) {
+        assert!(rt; self.last(rt).is_none());
+    }
+
+    /// The participant is gone, and its BYE is to be sent.
+    pub(crate) fn says_bye(self, rt: &impl Abort) {
+        match self.last(rt) {
+            Some(out) => {
+                assert!(rt; out.kind == OutKind::Bye);
+                assert!(rt; out.bytes.as_slice() == BYE.as_slice());
+            }
+            None => panic!(rt; "there is nothing to send"),
         }
     }
 
