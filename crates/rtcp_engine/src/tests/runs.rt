@@ -112,3 +112,23 @@ fn whole(rt: HostRuntime) {
         _ => panic!(&rt; "the last event is refused"),
     }
 }
+
+/// A leave among the events: the BYE goes out at once, and what follows is refused.
+#[test]
+fn left(rt: HostRuntime) {
+    let mut session = Session::<ListTable>::usual(&rt);
+    let mut sink = empty_sink(rt.alloc());
+    let leave = Event::Leave {
+        now: 1_026_037,
+        w: 0,
+    };
+    let events = [tick(1_026_037), leave, tick(1_026_037)];
+    let ran = run(&mut session.participant, &events, &mut sink);
+    assert_eq!(&rt; ran.taken, 3);
+    match sink.answers.get(1) {
+        Some(Ok(Step { out: Some(out), .. })) => assert!(&rt; out.kind == OutKind::Bye),
+        _ => panic!(&rt; "there is no BYE to send"),
+    }
+    assert!(&rt; matches!(sink.answers.get(2), Some(Err(Refusal::Left))));
+    session.is_gone(&rt);
+}
