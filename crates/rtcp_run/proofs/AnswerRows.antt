@@ -4,13 +4,21 @@ use Rattle.std.specs.Fmt.{digits}
 use Rattle.hex.specs.Hex.{encode_with}
 use Rattle.rtcp_wire.specs.declared.fault.FaultReason.TheVariants.{Short}
 use Rattle.rtcp_wire.specs.declared.rtp.fault.RtpFault.TheVariants.{PayloadType}
-use Rattle.rtcp_engine.specs.declared.refusal.Refusal.TheVariants.{Backwards, TooFar, TooMany, Wire, Rtp, OwnSsrc}
-use Rattle.rtcp_engine.specs.declared.step.OutKind.TheVariants.{Report}
+use Rattle.rtcp_engine.specs.declared.refusal.Refusal.TheVariants.{Left, Backwards, TooFar, TooMany, Wire, Rtp, OwnSsrc}
+use Rattle.rtcp_engine.specs.declared.step.OutKind.TheVariants.{Report, Bye}
+use Rattle.rtcp_engine.specs.Taken.{begun}
 use Rattle.rtcp_run.specs.AnswerText.{start_text, answer_text}
+use Rattle.rtcp_run.specs.Replay.{opening}
 
 start : start_text (Some 1026037) ≡ codes "start members=1 senders=0 next=1026037" ++ 10 ∷ []
 unfolding digits
 start = refl
+
+-- a participant with SSRC 0xaa and the CNAME `a`
+opens : opening (begun (record { ssrc = 170; cname = 97 ∷ []; extras = []; capacity = 1024; limit = 1472; rtcp_bw = 400; rate = 8000; ntp_base = 0 }) 0)
+    ≡ codes "start members=1 senders=0 next=1026037" ++ 10 ∷ []
+unfolding digits
+opens = refl
 
 nothing_sent : answer_text (Ok (record { out = None; members = 2; senders = 1; next = Some 1026037 }))
     ≡ codes "ok members=2 senders=1 next=1026037 out=-" ++ 10 ∷ []
@@ -22,10 +30,18 @@ report : answer_text (Ok (record { out = Some (record { kind = Report; octets = 
 unfolding digits encode_with
 report = refl
 
+bye : answer_text (Ok (record { out = Some (record { kind = Bye; octets = 129 ∷ 203 ∷ 0 ∷ 1 ∷ 0 ∷ 0 ∷ 0 ∷ 170 ∷ [] }); members = 0; senders = 0; next = None }))
+    ≡ codes "ok members=0 senders=0 next=- out=bye:81cb0001000000aa" ++ 10 ∷ []
+unfolding digits encode_with
+bye = refl
+
 no_next : answer_text (Ok (record { out = None; members = 0; senders = 0; next = None }))
     ≡ codes "ok members=0 senders=0 next=- out=-" ++ 10 ∷ []
 unfolding digits
 no_next = refl
+
+left : answer_text (Err Left) ≡ codes "refused E1 Left" ++ 10 ∷ []
+left = refl
 
 backwards : answer_text (Err Backwards) ≡ codes "refused E2 Backwards" ++ 10 ∷ []
 backwards = refl

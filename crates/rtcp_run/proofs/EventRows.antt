@@ -2,7 +2,7 @@
 use Rattle.std.proofs.Common.{◌≡◌, [], ◌∷◌, Ok, Err, refl, codes}
 use Rattle.hex.specs.Hex.{decode_pairs}
 use Rattle.rtcp_run.specs.declared.fault.LineFault.TheVariants.{Words, Hex, Number}
-use Rattle.rtcp_engine.specs.Acts.{rtcp_arrived, rtp_arrived, packet_sent, time_passed}
+use Rattle.rtcp_engine.specs.Acts.{rtcp_arrived, rtp_arrived, packet_sent, time_passed, leave_asked}
 use Rattle.rtcp_run.specs.EventLines.{event_in}
 
 -- The empty datagram.
@@ -54,6 +54,22 @@ no_digits : event_in (codes "tick 5 zz 00000000") ≡ Err Hex
 unfolding decode_pairs
 no_digits = refl
 
+leave : event_in (codes "leave 10000000 0000000A") ≡ Ok (leave_asked 10000000 10)
+unfolding decode_pairs
+leave = refl
+
+leave_without_word : event_in (codes "leave 0") ≡ Err Words
+unfolding decode_pairs
+leave_without_word = refl
+
+leave_with_two_words : event_in (codes "leave 0 00000000 00000000") ≡ Err Words
+unfolding decode_pairs
+leave_with_two_words = refl
+
+leave_with_seven_digits : event_in (codes "leave 0 0000000") ≡ Err Hex
+unfolding decode_pairs
+leave_with_seven_digits = refl
+
 -- The first faulty field counts,
 first_fault : event_in (codes "tick five zz 00000000") ≡ Err Number
 unfolding decode_pairs
@@ -68,7 +84,7 @@ empty_line : event_in (codes "") ≡ Err Words
 unfolding decode_pairs
 empty_line = refl
 
-unknown : event_in (codes "leave 0 00000000") ≡ Err Words
+unknown : event_in (codes "stay 0 00000000") ≡ Err Words
 unfolding decode_pairs
 unknown = refl
 

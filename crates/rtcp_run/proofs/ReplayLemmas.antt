@@ -1,12 +1,13 @@
 -- The text of a session: each line says one act or has one fault, and what holds a participant answers as its history does.
 use Rattle.std.proofs.Common.{◌≡◌, ℕ, zero, suc, ◌≤◌, ◌+◌, ◌-◌, ◌⊎◌, inl, inr, List, [], ◌∷◌, ◌++◌, map, take, Option, Some, Result, Ok, Err, refl, sym, ◌∙◌, ap, subst, append_assoc, arith}
 use Rattle.std.specs.Option.{option_to_list}
-use Rattle.rtcp_engine.specs.Acts.{Act, rtcp_came, rtp_came, rtp_sent, ticked, EventValue, rtcp_arrived, rtp_arrived, packet_sent, time_passed, IsActOfEvent}
+use Rattle.rtcp_engine.specs.Acts.{Act, rtcp_came, rtp_came, rtp_sent, ticked, left as asked_to_leave, EventValue, rtcp_arrived, rtp_arrived, packet_sent, time_passed, leave_asked, IsActOfEvent}
 use Rattle.rtcp_engine.specs.declared.refusal.Refusal.{Refusal}
 use Rattle.rtcp_engine.specs.declared.step.Step.{Step}
-use Rattle.rtcp_engine.specs.Answers.{AnswerValue, answer_of, answers_to, followed_by}
+use Rattle.rtcp_engine.specs.Steps.{AnswerValue}
+use Rattle.rtcp_engine.specs.Answers.{answer_of, answers_to, followed_by}
 use Rattle.rtcp_engine.specs.Histories.{History}
-use Rattle.rtcp_engine.specs.States.{State, StandsAt}
+use Rattle.rtcp_engine.specs.States.{ParticipantValue, StandsAt}
 use Rattle.rtcp_engine.specs.Views.{answer_value}
 use Rattle.rtcp_engine.proofs.LawLemmas.{one_reading-always, one_reading-once, one_reading-rtp_always, one_reading-rtp_once}
 use Rattle.rtcp_run.specs.AnswerText.{answer_text}
@@ -28,12 +29,14 @@ act_exists (rtcp_arrived moment octets) =
 act_exists (rtp_arrived moment octets) = let found = one_reading-rtp_always octets in (rtp_came moment found.0, (found.0, found.1, refl))
 act_exists (packet_sent moment timestamp octets) = (rtp_sent moment timestamp octets, refl)
 act_exists (time_passed moment first_word second_word) = (ticked moment first_word second_word, refl)
+act_exists (leave_asked moment word) = (asked_to_leave moment word, refl)
 
 one_act : (event : EventValue) (act act' : Act) → IsActOfEvent event act → IsActOfEvent event act' → act ≡ act'
 one_act (rtcp_arrived moment octets) act act' h k = h.2 ∙ ap (rtcp_came moment _) (one_reading-once octets h.0 k.0 h.1 k.1) ∙ sym k.2
 one_act (rtp_arrived moment octets) act act' h k = h.2 ∙ ap (rtp_came moment) (one_reading-rtp_once octets h.0 k.0 h.1 k.1) ∙ sym k.2
 one_act (packet_sent moment timestamp octets) act act' h k = h ∙ sym k
 one_act (time_passed moment first_word second_word) act act' h k = h ∙ sym k
+one_act (leave_asked moment word) act act' h k = h ∙ sym k
 
 -- ---- Each line has an answer or a fault, and only one
 
@@ -98,7 +101,7 @@ session_text_continues history lines others text texts = text_continues AnswersE
 
 -- ---- What holds a participant writes the text of its history
 
-module _ {S : Type 0} (participant_of : S → State) where
+module _ {S : Type 0} (participant_of : S → ParticipantValue) where
   shown_by_history : (state next : S) (history : History) (line text : List ℕ) → StandsAt (participant_of state) history → AnswersStanding participant_of state line text next
       → (history' : History) × StandsAt (participant_of next) history' × AnswersEvent history line text history'
   shown_by_history state next history line text stands (event, act, is, is_act, at) =

@@ -3,9 +3,9 @@ use Rattle.std.proofs.Common.{◌≡◌, ℕ, ◌↔◌, List, [], ◌++◌, Opt
 use Rattle.std.specs.Io.KnownBytes.{Appends}
 use Rattle.std.proofs.KnownBytes.{Appends-nil}
 use Rattle.rtcp_engine.specs.declared.config.ConfigError.{ConfigError}
-use Rattle.rtcp_engine.specs.Histories.{History, outcome_at}
-use Rattle.rtcp_engine.specs.Outcomes.{timing_of}
-use Rattle.rtcp_engine.specs.States.{State, StandsAt}
+use Rattle.rtcp_engine.specs.Histories.{History}
+use Rattle.rtcp_engine.specs.Lives.{life_at, next_in_life}
+use Rattle.rtcp_engine.specs.States.{ParticipantValue, StandsAt}
 use Rattle.rtcp_run.specs.AnswerText.{start_text}
 use Rattle.rtcp_run.specs.declared.fault.TextFault.{TextFault}
 use Rattle.rtcp_run.specs.declared.fault.TextFault.TheVariants.{Write}
@@ -18,7 +18,7 @@ use Rattle.rtcp_run.proofs.ReplayLemmas.{RunLeaves-standing, SessionLeaves-opene
 
 -- What is appended to nothing for the next moment is the line for the start.
 pub opening_shown : (history : History) (next : Option ℕ) (before start : List ℕ) → start ≡ before ++ start_text next → before ≡ []
-    → next ≡ Some (timing_of (outcome_at history)).next → start ≡ opening history
+    → next ≡ next_in_life (life_at history) → start ≡ opening history
 opening_shown history next before start parts none same = parts ∙ ap (λ b. b ++ start_text next) none ∙ ap start_text same
 
 -- What a writer held is known where it grew by a text.
@@ -42,7 +42,7 @@ Writes-start_cut A history fault remaining held holds left start prefix more ope
 )
 
 -- The line for the start is written, and then what the answers leave.
-module _ {S : Type 0} (participant_of : S → State) where
+module _ {S : Type 0} (participant_of : S → ParticipantValue) where
   pub Writes-session : {A : Type 0} (state : S) (history : History) → StandsAt (participant_of state) history
       → (r : Result A TextFault) (remaining held holds last left : Option (List ℕ)) (start prefix more : List ℕ)
       → start ≡ opening history → start ≡ prefix ++ more → more ≡ [] → Appends held holds prefix

@@ -5,10 +5,10 @@ use Rattle.hex.specs.Hex.{encode_lower}
 use Rattle.rtcp_wire.specs.declared.rtp.fault.RtpFault.{RtpFault}
 use Rattle.rtcp_wire.specs.declared.rtp.fault.RtpFault.TheVariants.{Short, Version, PayloadType, Extension, Padding}
 use Rattle.rtcp_engine.specs.declared.refusal.Refusal.{Refusal}
-use Rattle.rtcp_engine.specs.declared.refusal.Refusal.TheVariants.{Backwards, TooFar, TooMany, Wire, Rtp, OwnSsrc}
+use Rattle.rtcp_engine.specs.declared.refusal.Refusal.TheVariants.{Left, Backwards, TooFar, TooMany, Wire, Rtp, OwnSsrc}
 use Rattle.rtcp_engine.specs.declared.step.OutKind.{OutKind}
-use Rattle.rtcp_engine.specs.declared.step.OutKind.TheVariants.{Report}
-use Rattle.rtcp_engine.specs.Answers.{OutValue, StepValue, AnswerValue}
+use Rattle.rtcp_engine.specs.declared.step.OutKind.TheVariants.{Report, Bye}
+use Rattle.rtcp_engine.specs.Steps.{OutValue, StepValue, AnswerValue}
 use Rattle.rtcp_run.specs.Text.{fault_words}
 
 -- ---- Steps
@@ -25,6 +25,7 @@ counts_text members senders next =
 
 abbrev pub kind_text : OutKind → List ℕ
 kind_text Report = codes "report"
+kind_text Bye = codes "bye"
 
 -- kind:octets, if there is a compound to send
 abbrev pub out_text : Option OutValue → List ℕ
@@ -45,6 +46,7 @@ rtp_fault_text Extension = codes "G4 Extension"
 rtp_fault_text Padding = codes "G5 Padding"
 
 abbrev pub refusal_text : Refusal → List ℕ
+refusal_text Left = codes "E1 Left"
 refusal_text Backwards = codes "E2 Backwards"
 refusal_text TooFar = codes "E3 TooFar"
 refusal_text TooMany = codes "E4 TooMany"

@@ -5,9 +5,9 @@ use Rattle.std.specs.Int.{w32}
 use Rattle.std.specs.List.{slice_split}
 use Rattle.std.specs.Option.{ok_or}
 use Rattle.std.specs.Str.{bytes_eq}
-use Rattle.rtcp_engine.specs.Acts.{EventValue, rtcp_arrived, rtp_arrived, packet_sent, time_passed}
+use Rattle.rtcp_engine.specs.Acts.{EventValue, rtcp_arrived, rtp_arrived, packet_sent, time_passed, leave_asked}
 use Rattle.rtcp_run.specs.declared.event_line.LineKind.{LineKind}
-use Rattle.rtcp_run.specs.declared.event_line.LineKind.TheVariants.{Rtcp, Rtp, Sent, Ticked}
+use Rattle.rtcp_run.specs.declared.event_line.LineKind.TheVariants.{Rtcp, Rtp, Sent, Ticked, Left}
 use Rattle.rtcp_run.specs.declared.fault.LineFault.{LineFault}
 use Rattle.rtcp_run.specs.declared.fault.LineFault.TheVariants.{Words, Hex, Number}
 use Rattle.rtcp_run.specs.Numerals.{decimal_in, hex_in, datagram_in}
@@ -61,6 +61,13 @@ tick (moment ∷ first ∷ second ∷ []) = do
   Ok (time_passed now first_word second_word)
 tick _ = Err Words
 
+abbrev pub leave : List (List ℕ) → Result EventValue LineFault
+leave (moment ∷ word ∷ []) = do
+  now ← moment_in moment
+  random ← word_in word
+  Ok (leave_asked now random)
+leave _ = Err Words
+
 -- what the first field of a line names
 abbrev pub kind_named : List ℕ → Option LineKind
 kind_named name =
@@ -68,7 +75,8 @@ kind_named name =
     else (if bytes_eq name (codes "rtp") then Some Rtp
     else (if bytes_eq name (codes "sent") then Some Sent
     else (if bytes_eq name (codes "tick") then Some Ticked
-    else None)))
+    else (if bytes_eq name (codes "leave") then Some Left
+    else None))))
 
 -- by the kind of the line, with the fields after the first
 abbrev pub event_with : Option LineKind → List (List ℕ) → Result EventValue LineFault
@@ -77,6 +85,7 @@ event_with (Some Rtcp) fields = arrival rtcp_arrived fields
 event_with (Some Rtp) fields = arrival rtp_arrived fields
 event_with (Some Sent) fields = sending fields
 event_with (Some Ticked) fields = tick fields
+event_with (Some Left) fields = leave fields
 
 abbrev pub event_of : List (List ℕ) → Result EventValue LineFault
 event_of [] = Err Words

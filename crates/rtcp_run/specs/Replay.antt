@@ -1,10 +1,10 @@
 -- The text of a session: what a participant answers to the events that the lines of an input say.
 use Rattle.std.specs.Prelude.{◌≡◌, ℕ, ◌⊎◌, List, [], ◌++◌, Option, Some, None, Result, Ok, Err}
 use Rattle.rtcp_engine.specs.Acts.{Act, EventValue, IsActOfEvent}
-use Rattle.rtcp_engine.specs.Outcomes.{timing_of}
-use Rattle.rtcp_engine.specs.Histories.{History, outcome_at}
+use Rattle.rtcp_engine.specs.Histories.{History}
+use Rattle.rtcp_engine.specs.Lives.{life_at, next_in_life}
 use Rattle.rtcp_engine.specs.Answers.{answer_of, followed_by}
-use Rattle.rtcp_engine.specs.States.{State, StandsAt}
+use Rattle.rtcp_engine.specs.States.{ParticipantValue, StandsAt}
 use Rattle.rtcp_run.specs.declared.fault.LineFault.{LineFault}
 use Rattle.rtcp_run.specs.declared.fault.TextFault.{TextFault}
 use Rattle.rtcp_run.specs.declared.fault.TextFault.TheVariants.{Text, Read, Write, Memory}
@@ -21,7 +21,7 @@ AnswersEvent history line text next =
     × (text ≡ answer_text (answer_of history act)) × (next ≡ followed_by history act)
 
 -- The same of something that holds a participant, whichever history that stands at.
-abbrev pub AnswersStanding : {S : Type 0} → (S → State) → Answering S
+abbrev pub AnswersStanding : {S : Type 0} → (S → ParticipantValue) → Answering S
 AnswersStanding participant_of before line text after =
     (event : EventValue) × (act : Act) × (event_in line ≡ Ok event) × IsActOfEvent event act
     × ((history : History) → StandsAt (participant_of before) history
@@ -37,9 +37,9 @@ IsNoEvent line fault = event_in line ≡ Err fault
 abbrev pub IsSessionText : History → TextOfLines
 IsSessionText history lines text end = IsTextFrom AnswersEvent IsNoEvent 1 history lines text end
 
--- the line for the start, with the moment of the first tick
+-- the line for the start, with the moment of the first tick, if there is one
 abbrev pub opening : History → List ℕ
-opening history = start_text (Some (timing_of (outcome_at history)).next)
+opening history = start_text (next_in_life (life_at history))
 
 -- The text is the line for the start and then answers, of which P holds.
 abbrev pub Opens : History → (List ℕ → List ℕ → Type 0) → List ℕ → List ℕ → Type 0

@@ -3,7 +3,7 @@
 ghost use Rattle.std.specs.Prelude.{◌≡◌, ◌≢◌, ℕ, List, ◌∷◌, [], Ok, Err, IfOk, IfErr, IfSome, IfNone, length};
 ghost use Rattle.rtcp_engine.specs.Acts.{EventValue};
 ghost use Rattle.rtcp_engine.specs.Views.{event_value};
-ghost use Rattle.rtcp_run.specs.EventLines.{arrival, event_in, fields_left, fields_of, kind_named, moment_in, octets_in, sending, tick};
+ghost use Rattle.rtcp_run.specs.EventLines.{arrival, event_in, fields_left, fields_of, kind_named, leave, moment_in, octets_in, sending, tick};
 ghost use Rattle.rtcp_run.specs.declared.event_line.EventFault.TheVariants.{Line};
 ghost use Rattle.rtcp_run.specs.declared.fault.LineFault.{LineFault as Fault};
 
@@ -64,6 +64,7 @@ pub(crate) fn read_event<'a>(
         }
         LineKind::Sent => Ok(read_sending(fields)?),
         LineKind::Ticked => Ok(read_tick(fields)?),
+        LineKind::Left => Ok(read_leave(fields)?),
     }
 }
 
@@ -78,6 +79,8 @@ enum LineKind {
     Sent,
     /// Time passed.
     Ticked,
+    /// The participant is to leave.
+    Left,
 }
 
 /// What the first field of a line names.
@@ -89,6 +92,7 @@ fn kind_of(name: &[u8]) -> Option<LineKind>
         b"rtp" => Some(LineKind::Rtp),
         b"sent" => Some(LineKind::Sent),
         b"tick" => Some(LineKind::Ticked),
+        b"leave" => Some(LineKind::Left),
         _ => None,
     }
 }
@@ -132,6 +136,18 @@ fn read_tick(fields: Option<&[u8]>) -> Result<Event<'static>, LineFault>
         now: read_moment(moment)?,
         w1: read_word(first).ok_or(LineFault::Hex)?,
         w2: read_word(second).ok_or(LineFault::Hex)?,
+    })
+}
+
+/// The event of a leave.
+fn read_leave(fields: Option<&[u8]>) -> Result<Event<'static>, LineFault>
+    ensures event { IfOk result (λ event. leave (fields_left fields.entry) ≡ Ok (event_value event)) }
+    ensures fault { IfErr result (λ fault. leave (fields_left fields.entry) ≡ Err fault) }
+{
+    let (moment, word) = two_fields(fields).ok_or(LineFault::Words)?;
+    Ok(Event::Leave {
+        now: read_moment(moment)?,
+        w: read_word(word).ok_or(LineFault::Hex)?,
     })
 }
 

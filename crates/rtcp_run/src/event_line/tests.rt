@@ -5,7 +5,7 @@ use rtcp_engine::Event;
 use std::test::Fail;
 
 /// Lines, each with its first fault.
-static FAULTS: [(&str, LineFault); 35] = [
+static FAULTS: [(&str, LineFault); 42] = [
     ("rtcp 18446744073709551616 -", LineFault::Number),
     ("rtp 000000000000000000007 80", LineFault::Number),
     ("sent 5 4294967296 0", LineFault::Number),
@@ -15,7 +15,14 @@ static FAULTS: [(&str, LineFault); 35] = [
     ("tick five zz 00000000", LineFault::Number),
     ("tick five zz", LineFault::Words),
     ("", LineFault::Words),
-    ("leave 0 00000000", LineFault::Words),
+    ("stay 0 00000000", LineFault::Words),
+    ("leave", LineFault::Words),
+    ("leave 0", LineFault::Words),
+    ("leave 0 00000000 ", LineFault::Words),
+    ("leave 0 00000000 00000000", LineFault::Words),
+    ("leave 0 0000000", LineFault::Hex),
+    ("leave 0 000000000", LineFault::Hex),
+    ("leave 18446744073709551616 0000000", LineFault::Number),
     ("RTCP 0 -", LineFault::Words),
     ("rtcp 0", LineFault::Words),
     ("rtcp 0 - ", LineFault::Words),
@@ -87,6 +94,10 @@ fn numbers(rt: HostRuntime) -> Result<(), Fail> {
     match read_event(b"tick 1026037 0000000a fFfFfFfF", &mut datagram)? {
         Event::Tick { now, w1, w2 } => assert_eq!(rt; (now, w1, w2), (1_026_037, 10, u32::MAX)),
         _ => Err::<(), &str>("no tick")?,
+    }
+    match read_event(b"leave 10000000 0000000A", &mut datagram)? {
+        Event::Leave { now, w } => assert_eq!(rt; (now, w), (10_000_000, 10)),
+        _ => Err::<(), &str>("no leave")?,
     }
     Ok(())
 }

@@ -91,6 +91,7 @@ fn kind_name(kind: OutKind) -> &'static str
 {
     match kind {
         OutKind::Report => "report",
+        OutKind::Bye => "bye",
     }
 }
 
@@ -99,6 +100,7 @@ fn push_refusal(out: &mut Vec<u8>, refusal: &Refusal) -> Result<(), AllocError>
     ensures { OnOk result (out.new.items ≡ out.old.items ++ refusal_text refusal.now) }
 {
     match refusal {
+        Refusal::Left => out.extend_from_slice(b"E1 Left"),
         Refusal::Backwards => out.extend_from_slice(b"E2 Backwards"),
         Refusal::TooFar => out.extend_from_slice(b"E3 TooFar"),
         Refusal::TooMany => out.extend_from_slice(b"E4 TooMany"),

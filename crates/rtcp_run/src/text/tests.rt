@@ -283,6 +283,7 @@ fn refusals(rt: HostRuntime) -> Result<(), Fail> {
         place: 8,
     };
     let rows = [
+        (Refusal::Left, "refused E1 Left\n"),
         (Refusal::Backwards, "refused E2 Backwards\n"),
         (Refusal::TooFar, "refused E3 TooFar\n"),
         (Refusal::TooMany, "refused E4 TooMany\n"),
