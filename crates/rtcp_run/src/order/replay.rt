@@ -19,21 +19,25 @@ Pipe in one event a line, with its moment in microseconds since the session bega
     rtcp MOMENT HEX               an RTCP datagram came, in hex, - for the empty one
     rtp MOMENT HEX                an RTP datagram came
     sent MOMENT TIMESTAMP OCTETS  the host sent an RTP packet with so many octets of payload
-    tick MOMENT WORD WORD         the host asks whether a report is due, with two random words
+    tick MOMENT WORD WORD         the host asks what is due, with two random words
+    leave MOMENT WORD             the host asks the participant to leave, with a random word
 
 For instance:
 
     rtcp 0 80c900010000000781ca00020000000701016100
     tick 1026037 00000000 00000000
     rtcp 1026037 -
+    leave 2000000 00000000
 
 A line for the start comes out, and then one line for each line that goes in: the members and
-senders, the moment to tick next and the report to send now, or why the event was refused.
+senders, the moment to tick next, - once the participant has left, and the report or BYE to send
+now, or why the event was refused.
 
     start members=1 senders=0 next=1026037
     ok members=2 senders=0 next=1026037 out=-
     ok members=2 senders=0 next=3078111 out=report:80c90001000000aa81ca0002000000aa01016100
     refused E5 Wire: F1 Short at 0
+    ok members=0 senders=0 next=- out=bye:80c90001000000aa81ca0002000000aa0101610081cb0001000000aa
 
 These are the answers of --ssrc 000000aa --cname a.
 
