@@ -10,6 +10,7 @@ mod commands;
 mod conversation;
 mod ends;
 mod flushes;
+mod leaves;
 mod replay_ends;
 mod replays;
 mod rows;

@@ -40,8 +40,8 @@ pub(super) fn ends_with(rt: &impl Abort, ended: Ended, status: u8, text: &str, f
     same(rt, &faults, fault.as_bytes(), text);
 }
 
-/// A participant that is told of time alone.
-const PLAIN: [&str; 6] = ["rtcp", "replay", "--ssrc", "000000aa", "--cname", "a"];
+/// A participant with the least options.
+pub(super) const PLAIN: [&str; 6] = ["rtcp", "replay", "--ssrc", "000000aa", "--cname", "a"];
 
 /// The greatest word at the start.
 const LATE: [&str; 8] = [
