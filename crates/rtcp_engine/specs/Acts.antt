@@ -1,5 +1,5 @@
--- What a participant is told: what came, what was sent beside it, that time has passed, and that it is to leave. Moments are in
--- microseconds since the session began.
+-- What a participant is told: what came, what was sent beside it, that time has passed, and that it is to
+-- leave. Moments are in microseconds since the session began.
 use Rattle.std.specs.Prelude.{◌≡◌, ℕ, List, length, Result, Ok, Err}
 use Rattle.rtcp_wire.specs.declared.fault.WireFault.{WireFault}
 use Rattle.rtcp_wire.specs.declared.rtp.fault.RtpFault.{RtpFault}

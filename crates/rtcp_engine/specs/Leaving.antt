@@ -53,7 +53,8 @@ leaving_count backoff = min 65535 (1 + sum_by (λ farewell. farewell.byes) backo
 
 -- The average begins anew with the participant's own BYE, and BYE packets of others move it.
 abbrev pub leaving_average : Setup → List Farewell → ℕ
-leaving_average setup farewells = average_of (length (bye_octets setup)) (map (λ farewell. farewell.size) farewells)
+leaving_average setup farewells =
+    average_of (length (bye_octets setup)) (map (λ farewell. farewell.size) farewells)
 
 -- The participant counts as one that joins, and does not send.
 abbrev pub leaving_load : Setup → (members : ℕ) → List Farewell → Load

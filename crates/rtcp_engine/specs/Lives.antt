@@ -14,9 +14,12 @@ use Rattle.rtcp_engine.specs.Leaving.{Backoff, Life, present, backing_off, gone,
 -- ---- Acts
 
 abbrev pub while_present : Setup → Act → Outcome → Life
-while_present setup (rtcp_came moment size reading) outcome = present (after setup (rtcp_came moment size reading) outcome)
-while_present setup (rtp_came moment reading) outcome = present (after setup (rtp_came moment reading) outcome)
-while_present setup (rtp_sent moment timestamp octets) outcome = present (after setup (rtp_sent moment timestamp octets) outcome)
+while_present setup (rtcp_came moment size reading) outcome =
+    present (after setup (rtcp_came moment size reading) outcome)
+while_present setup (rtp_came moment reading) outcome =
+    present (after setup (rtp_came moment reading) outcome)
+while_present setup (rtp_sent moment timestamp octets) outcome =
+    present (after setup (rtp_sent moment timestamp octets) outcome)
 while_present setup (ticked moment first_word second_word) outcome =
     present (after setup (ticked moment first_word second_word) outcome)
 while_present setup (left moment word) outcome = left_at setup moment word outcome

@@ -71,6 +71,7 @@ AllFit limit sent = All (λ compound. length compound.out.octets ≤ limit) sent
 pub record KeepsBounds (history : History) : Type 0 where
   pub spaced : AreSpaced (reports_in (sent_at history))
   pub first : All (λ report. 1026037 ≤ report.moment) (reports_in (sent_at history))
-  pub window : (from width : ℕ) → count_within from width (reports_in (sent_at history)) ≤ 1 + width / 2052074
+  pub window : (from width : ℕ) →
+      count_within from width (reports_in (sent_at history)) ≤ 1 + width / 2052074
   pub leaves_once : EndsWithBye (first_leave history.acts) (sent_at history)
   pub limit : AllFit history.setup.limit (sent_at history)

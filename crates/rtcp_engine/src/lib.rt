@@ -1,6 +1,7 @@
 //! One RTCP participant of a session (RFC 3550, 6.2 to 6.5): it is told what datagrams come, what its host
 //! sends and what time it is, and it answers who is there, what to send, and when to ask again. It reads no
-//! clock, opens no socket, draws no random number and does not allocate.
+//! clock, opens no socket, draws no random number and does not allocate. What it answers is defined over all
+//! that it was told, and its reports never lie too close together, whatever comes ([`run`] has the promise).
 //!
 //! A host has two sockets, a clock and random words. It hands over what came, asks at `next`, and sends what
 //! comes out:
@@ -25,8 +26,11 @@
 //! }
 //! ```
 //!
+//! To leave, a host calls `leave`, sends what that gives, and goes on until `next` is `None`: in a large
+//! session the BYE comes later, from a tick (6.3.7).
+//!
 //! A call that is refused (`Refusal`) changes nothing. What each call answers is defined over all that the
-//! participant was told, in `specs/` (`Histories`, `Ticks`, `Answers`); `laws` has what holds of these
+//! participant was told, in `specs/` (`Histories`, `Ticks`, `Lives`, `Answers`); `laws` has what holds of these
 //! definitions. [`run`] makes the calls of a list of events, and hands on each answer.
 #![tactic(auto)]
 

@@ -19,7 +19,7 @@ ghost use Rattle.rtcp_engine.specs.Views.{setup_of, answer_value};
 use crate::config::{Config, ConfigError};
 use crate::presence::Presence;
 use crate::refusal::Refusal;
-use crate::step::{Answer, Out, OutKind, Step};
+use crate::step::Answer;
 use rtcp_members::MemberTable;
 use std::marker::Model;
 

@@ -27,6 +27,12 @@ pub struct Ran {
 
 /// Tells a participant events, one after the other, and hands each answer, step or refusal, to a sink. It ends
 /// with the last event, or where the sink takes no more.
+///
+/// Its contract is the promise of this library, for whatever the events are and whatever was told before: the
+/// answers are those defined over the whole history; the table never passes its capacity, and no compound the
+/// limit; two successive reports lie at least half the interval then computed, over 1.21828, apart, so that in
+/// any window at most one report more lies than 2.052 seconds fit into it; and there is at most one BYE, at the
+/// end (RFC 3550, 6.2, 6.3).
 pub fn run<T: MemberTable, S: Sink>(
     participant: &mut Participant<T>,
     events: &[Event<'_>],
