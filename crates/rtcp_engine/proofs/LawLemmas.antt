@@ -1,6 +1,6 @@
 -- The laws of this crate as lemmas, for the proofs of the crates above: each has the name of its law, and of the
 -- clause where the law has several.
-use Rattle.std.proofs.Common.{◌≡◌, ◌↔◌, All, map, ℕ, ◌+◌, ◌-◌, ◌*◌, ◌/◌, ◌%◌, ◌≤◌, Bool, List, [], ◌∷◌, ◌++◌, length, slice_get, Option, Some, None, Result, Ok, Err, if◌then◌else◌, refl, sym, ap, ◌∙◌, arith, inl, inr}
+use Rattle.std.proofs.Common.{◌≡◌, ◌↔◌, All, map, ℕ, ◌+◌, ◌-◌, ◌*◌, ◌/◌, ◌%◌, ◌≤◌, Bool, List, [], ◌∷◌, ◌++◌, length, slice_get, Option, Some, None, Result, Ok, Err, if◌then◌else◌, refl, sym, ap, ◌∙◌, arith, inl, inr, max}
 use Rattle.std.proofs.lemmas.Bool.{ne_eqb, eq-eqb, lt-ltb, le-ltb, cases_lt}
 use Rattle.rtcp_wire.specs.Values.{ItemValue, RtcpPacket}
 use Rattle.rtcp_wire.specs.RtpHeads.{RtpValue}
@@ -18,6 +18,10 @@ use Rattle.rtcp_engine.specs.Acts.{Act, moment_of, IsReading, IsRtpReading}
 use Rattle.rtcp_engine.specs.OwnStreams.{OwnStep, packet_sent, check_passed, sending_since}
 use Rattle.rtcp_engine.specs.OwnSending.{OutlastsChecks, IsSendingSince}
 use Rattle.rtcp_engine.specs.Reporting.{extra_item, last_reported_in}
+use Rattle.rtcp_timer.specs.Averages.{IsBetween}
+use Rattle.rtcp_timer.specs.Departures.{last_departure}
+use Rattle.rtcp_engine.specs.Outcomes.{Outcome, timing_of}
+use Rattle.rtcp_engine.specs.Leaving.{Backoff, present, backing_off, leaving_timing}
 use Rattle.rtcp_engine.specs.Histories.{History}
 use Rattle.rtcp_engine.specs.Presence.{with_act, last_moment}
 use Rattle.rtcp_engine.specs.Steps.{answer_unless}
@@ -25,11 +29,11 @@ use Rattle.rtcp_engine.specs.Lives.{life_at}
 use Rattle.rtcp_engine.specs.Answers.{step_by, refusal_after, answer_of, followed_by}
 use Rattle.rtcp_engine.specs.Taken.{IsHistory}
 use Rattle.rtcp_engine.specs.Sent.{reports_in, interval_by, sent_at, handed_out, reports_of, counted_report}
-use Rattle.rtcp_engine.specs.Spacing.{AreSpaced, count_within, first_leave, EndsWithBye, AllFit}
+use Rattle.rtcp_engine.specs.Spacing.{newest_moment, AreSpaced, count_within, first_leave, EndsWithBye, AllFit}
 use Rattle.rtcp_engine.proofs.Usable.{usable_of_unrefused, unrefused_of_usable}
 use Rattle.rtcp_engine.proofs.Counting.{reports_counted}
 use Rattle.rtcp_engine.proofs.Sending.{session_keeps_apart}
-use Rattle.rtcp_engine.proofs.Windows.{spaced_in, first_in, window_in, ends_in, limit_in}
+use Rattle.rtcp_engine.proofs.Windows.{last_in_present, last_in_backoff, spaced_in, first_in, window_in, ends_in, limit_in}
 
 -- ---- Readings
 
@@ -127,6 +131,18 @@ last_block_is_newest [] trace = refl
 last_block_is_newest (row ∷ rows) trace = last_block_is_newest rows (block_taken row.0 ∷ trace)
 
 -- ---- Distances, sizes and the BYE
+
+pub last_lies_after_what_was_sent-present : (history : History) (outcome : Outcome) → IsHistory history → life_at history ≡ present outcome
+    → IsBetween (newest_moment (sent_at history)) (max (newest_moment (sent_at history)) (last_departure outcome.happenings)) (timing_of outcome).last
+last_lies_after_what_was_sent-present history outcome is life =
+    last_in_present history.setup.limit (last_moment history.acts) (first_leave history.acts) (sent_at history) (life_at history) outcome
+    (session_keeps_apart history.setup history.word history.acts is.usable is.taken) life
+
+pub last_lies_after_what_was_sent-backing_off : (history : History) (outcome : Outcome) (backoff : Backoff) → IsHistory history → life_at history ≡ backing_off outcome backoff
+    → IsBetween backoff.since (max backoff.since (last_departure backoff.happenings)) (leaving_timing backoff).last
+last_lies_after_what_was_sent-backing_off history outcome backoff is life =
+    last_in_backoff history.setup.limit (last_moment history.acts) (first_leave history.acts) (sent_at history) (life_at history) outcome backoff
+    (session_keeps_apart history.setup history.word history.acts is.usable is.taken) life
 
 pub sent_compounds_keep_apart-spaced : (history : History) → IsHistory history → AreSpaced (reports_in (sent_at history))
 sent_compounds_keep_apart-spaced history is = spaced_in history.setup.limit (last_moment history.acts) (first_leave history.acts) (sent_at history) (life_at history) (session_keeps_apart history.setup history.word history.acts is.usable is.taken)

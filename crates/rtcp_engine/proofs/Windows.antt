@@ -1,12 +1,17 @@
 -- What follows for all that was sent: how far apart it lies, how much lies in a window, and what comes last.
-use Rattle.std.proofs.Common.{◌≡◌, ℕ, suc, ◌+◌, ◌-◌, ◌*◌, ◌/◌, ◌<◌, ◌≤◌, ◌&&◌, ◌⊎◌, inl, inr, nat_le, Bool, true, false, cond, List, [], ◌∷◌, length, filter, All, Option, refl, sym, ap, ◌∙◌, arith, subst}
+use Rattle.std.proofs.Common.{◌≡◌, ℕ, suc, ◌+◌, ◌-◌, ◌*◌, ◌/◌, ◌<◌, ◌≤◌, ◌&&◌, ◌⊎◌, inl, inr, nat_le, Bool, true, false, cond, List, [], ◌∷◌, length, filter, All, Option, refl, sym, ap, ◌∙◌, arith, subst, max}
 use Rattle.std.proofs.lemmas.Bool.{cases_lt, le-leb, lt-leb}
 use Rattle.std.proofs.lemmas.List.Elements.{All-nil, All-cons}
+use Rattle.rtcp_timer.specs.Averages.{IsBetween}
+use Rattle.rtcp_timer.specs.Departures.{last_departure}
 use Rattle.rtcp_timer.specs.Loads.{minimum_of}
-use Rattle.rtcp_engine.specs.Leaving.{Life, present, backing_off, gone}
+use Rattle.rtcp_timer.specs.Schedules.{Happening, IsInOrder, newest_transmission, schedule_at}
+use Rattle.rtcp_timer.proofs.LawLemmas.{last_lies_between-not_before_sent, last_lies_between-not_after_departure}
+use Rattle.rtcp_engine.specs.Outcomes.{Outcome, timing_of}
+use Rattle.rtcp_engine.specs.Leaving.{Backoff, Life, present, backing_off, gone, leaving_timing}
 use Rattle.rtcp_engine.specs.Sent.{Sent, is_report, reports_in}
 use Rattle.rtcp_engine.specs.Spacing.{newest_moment, AreSpaced, is_between, count_within, EndsWithBye, AllFit}
-use Rattle.rtcp_engine.proofs.Sending.{none_sent, AreReports, IsLast, EndsSo, KeepsApart}
+use Rattle.rtcp_engine.proofs.Sending.{none_sent, AreReports, IsLast, EndsSo, KeepsApart, TakesPart, BacksOff}
 
 -- ---- Reports alone
 
@@ -127,6 +132,26 @@ reports_fit limit (newest ∷ earlier) h = All-cons (λ (compound : Sent). lengt
 bye_fits : (limit : ℕ) (leave : Option ℕ) (sent : List Sent) → EndsSo limit leave sent → AllFit limit sent
 bye_fits limit leave [] h = absurd h
 bye_fits limit leave (bye ∷ earlier) h = All-cons (λ (compound : Sent). length compound.out.octets ≤ limit) bye earlier h.0.fits (reports_fit limit earlier h.1)
+
+-- ---- The last transmission
+
+between : (events : List Happening) (sent : ℕ) → IsInOrder events → newest_transmission events ≡ sent → IsBetween sent (max sent (last_departure events)) (schedule_at events).last
+between events sent in_order newest = (
+  subst (λ (n : ℕ). n ≤ (schedule_at events).last) newest (last_lies_between-not_before_sent events in_order),
+  subst (λ (n : ℕ). (schedule_at events).last ≤ max n (last_departure events)) newest (last_lies_between-not_after_departure events),
+)
+
+pub last_in_present : (limit t : ℕ) (leave : Option ℕ) (sent : List Sent) (life : Life) (outcome : Outcome) → KeepsApart limit t leave life sent → life ≡ present outcome
+    → IsBetween (newest_moment sent) (max (newest_moment sent) (last_departure outcome.happenings)) (timing_of outcome).last
+last_in_present limit t leave sent life outcome h is =
+    let part : TakesPart limit t leave outcome sent = subst (λ (l : Life). KeepsApart limit t leave l sent) is h in
+    between outcome.happenings (newest_moment sent) part.up_to.in_order part.newest
+
+pub last_in_backoff : (limit t : ℕ) (leave : Option ℕ) (sent : List Sent) (life : Life) (outcome : Outcome) (backoff : Backoff) → KeepsApart limit t leave life sent → life ≡ backing_off outcome backoff
+    → IsBetween backoff.since (max backoff.since (last_departure backoff.happenings)) (leaving_timing backoff).last
+last_in_backoff limit t leave sent life outcome backoff h is =
+    let waiting : BacksOff limit t leave backoff sent = subst (λ (l : Life). KeepsApart limit t leave l sent) is h in
+    between backoff.happenings backoff.since waiting.up_to.in_order waiting.newest
 
 -- ---- Of a life
 

@@ -1,7 +1,7 @@
 //! Laws of the definitions of a participant's answers. Each is an empty function whose postcondition is the
 //! law; `proofs/LawLemmas` has a lemma of its name, or one for each clause.
 
-ghost use Rattle.std.specs.Prelude.{◌≡◌, ◌↔◌, ◌≤◌, ℕ, ◌+◌, ◌*◌, ◌/◌, ◌%◌, All, map, List, [], ◌∷◌, ◌++◌, length, slice_get, Option, Some, None, Result};
+ghost use Rattle.std.specs.Prelude.{◌≡◌, ◌↔◌, ◌≤◌, max, ℕ, ◌+◌, ◌*◌, ◌/◌, ◌%◌, All, map, List, [], ◌∷◌, ◌++◌, length, slice_get, Option, Some, None, Result};
 ghost use Rattle.rtcp_wire.specs.Values.{ItemValue, RtcpPacket};
 ghost use Rattle.rtcp_wire.specs.RtpHeads.{RtpValue};
 ghost use Rattle.rtcp_wire.specs.declared.fault.WireFault.{WireFault};
@@ -15,13 +15,17 @@ ghost use Rattle.rtcp_engine.specs.Acts.{Act, IsReading, IsRtpReading, moment_of
 ghost use Rattle.rtcp_engine.specs.OwnStreams.{OwnStep, sending_since};
 ghost use Rattle.rtcp_engine.specs.OwnSending.{IsSendingSince};
 ghost use Rattle.rtcp_engine.specs.Reporting.{extra_item, last_reported_in};
+ghost use Rattle.rtcp_timer.specs.Averages.{IsBetween};
+ghost use Rattle.rtcp_timer.specs.Departures.{last_departure};
+ghost use Rattle.rtcp_engine.specs.Outcomes.{Outcome, timing_of};
 ghost use Rattle.rtcp_engine.specs.Histories.{History};
+ghost use Rattle.rtcp_engine.specs.Leaving.{Backoff, present, backing_off, leaving_timing};
 ghost use Rattle.rtcp_engine.specs.Presence.{with_act};
 ghost use Rattle.rtcp_engine.specs.Lives.{life_at};
 ghost use Rattle.rtcp_engine.specs.Answers.{refusal_after, answer_of, followed_by};
 ghost use Rattle.rtcp_engine.specs.Taken.{IsHistory};
 ghost use Rattle.rtcp_engine.specs.Sent.{reports_in, interval_by, sent_at, handed_out, reports_of, counted_report};
-ghost use Rattle.rtcp_engine.specs.Spacing.{AreSpaced, count_within, first_leave, EndsWithBye, AllFit};
+ghost use Rattle.rtcp_engine.specs.Spacing.{newest_moment, AreSpaced, count_within, first_leave, EndsWithBye, AllFit};
 ghost use Rattle.rtcp_engine.specs.declared.refusal.Refusal.{Refusal as Reason};
 
 /// The octets of a datagram have exactly one reading: packets, or a first fault.
@@ -68,6 +72,19 @@ pub fn answers_hand_out_compounds()
 pub fn sent_reports_are_counted()
     ensures { (history : History) →
         reports_of (life_at history) ≡ map counted_report (reports_in (sent_at history)) }
+{}
+
+/// The last transmission as the schedule knows it (tp) never lies before the last report, or before the leave
+/// into a backoff, and never after the later of that and the last departure (RFC 3550, 6.3.4, 6.3.7).
+pub fn last_lies_after_what_was_sent()
+    ensures present { (history : History) (outcome : Outcome) → IsHistory history →
+        life_at history ≡ present outcome →
+        IsBetween (newest_moment (sent_at history))
+        (max (newest_moment (sent_at history)) (last_departure outcome.happenings)) (timing_of outcome).last }
+    ensures backing_off { (history : History) (outcome : Outcome) (backoff : Backoff) → IsHistory history →
+        life_at history ≡ backing_off outcome backoff →
+        IsBetween backoff.since (max backoff.since (last_departure backoff.happenings))
+        (leaving_timing backoff).last }
 {}
 
 /// Whatever a participant is told, and whenever: two successive reports lie at least half the interval then

@@ -27,12 +27,13 @@ pub struct Out {
 pub struct Step {
     /// A compound to send now, if there is one. Only a tick and a leave hand one out.
     pub out: Option<Out>,
-    /// The members of the session, the participant included (RFC 3550, 6.2.1): 0 once it has left.
+    /// The members of the session, the participant included (RFC 3550, 6.2.1). In a backoff it and one for each
+    /// BYE packet that came, at most 65,535 (6.3.7); 0 once it has left.
     pub members: u32,
-    /// Those of them that send RTP packets, the participant included where it does.
+    /// Those of them that send RTP packets, the participant included where it does: 0 from a leave on.
     pub senders: u32,
     /// When to call `tick` next, in microseconds since the session began, or `None` once the participant has
-    /// left. It may lie before the moment of the call: then a report is overdue.
+    /// left. It may lie before the moment of the call: then a report or the BYE is overdue.
     pub next: Option<u64>,
 }
 

@@ -57,8 +57,8 @@ fn serve<T: MemberTable>(host: &mut Host<'_>, participant: &mut Participant<T>, 
     }
 }
 
-/// A report of a source comes in the first turn, and a packet of another. Then the participant reports once in
-/// the first five seconds, without a block.
+/// A report of a source comes in the first turn, and a packet of another. Then the participant reports once
+/// in the first five seconds, without a block.
 #[test]
 fn front_page(rt: HostRuntime) {
     let named = [
