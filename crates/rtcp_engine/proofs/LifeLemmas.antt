@@ -210,9 +210,6 @@ pub whole_refused : (p : ParticipantValue) (h : History) (act : Act) (reason : R
 whole_refused p h act reason is stands =
     subst (StandsAt p) (sym (ap (λ (r : Option Refusal). elim r [ None ↦ with_act h act | Some other ↦ h ]) is)) stands
 
-pub gone_answer : (p : ParticipantValue) (h : History) (act : Act) → StandsAt p h → p.phase ≡ over → Err Left ≡ answer_of h act
-gone_answer p h act stands phase = whole_refusal h act Left (gone_refuses p h act (life_at h) refl stands.life phase)
-
 pub gone_stands : (p : ParticipantValue) (h : History) (act : Act) → StandsAt p h → p.phase ≡ over → StandsAt p (followed_by h act)
 gone_stands p h act stands phase = whole_refused p h act Left (gone_refuses p h act (life_at h) refl stands.life phase) stands
 

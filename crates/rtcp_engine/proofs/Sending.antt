@@ -3,6 +3,7 @@ use Rattle.std.proofs.Common.{◌≡◌, ℕ, ◌+◌, ◌^◌, ◌<◌, ◌≤�
 use Rattle.std.proofs.lemmas.Bool.{leb-true, and_parts, cases_lt, lt-ltb}
 use Rattle.std.proofs.lemmas.Option.{slice_get_cases}
 use Rattle.std.specs.List.{slice_get}
+use Rattle.std.specs.Option.{option_or}
 use Rattle.rtcp_clock.specs.Intervals.{drawn_interval}
 use Rattle.rtcp_clock.proofs.LawLemmas.{draw_within_bounds}
 use Rattle.rtcp_report.specs.Sizes.{IsShort}
@@ -26,7 +27,7 @@ use Rattle.rtcp_engine.specs.Taken.{HasWords, AllTaken}
 use Rattle.rtcp_engine.specs.Leaving.{Farewell, Backoff, Life, present, backing_off, gone, backoff_from, bye_count, bye_octets, few_members, is_bye_due, is_unheard, after_wait, leaving_interval, leaving_timing}
 use Rattle.rtcp_engine.specs.Lives.{while_present, while_backing_off, lived, life_of, bye_out}
 use Rattle.rtcp_engine.specs.Sent.{Sent, is_report, sent_with, sent_by, sent_over}
-use Rattle.rtcp_engine.specs.Spacing.{HalfPasses, newest_moment, leave_moment, or_else, first_leave, IsLate}
+use Rattle.rtcp_engine.specs.Spacing.{HalfPasses, newest_moment, leave_moment, first_leave, IsLate}
 
 -- ---- Draws
 
@@ -129,12 +130,12 @@ one_more {t} {happenings} happening order h = record { in_order = (omega (arith,
 -- an act that brings nothing, and is no leave
 passes : {limit t : ℕ} {leave : Option ℕ} {outcome : Outcome} {sent : List Sent} → (act : Act) (new : Outcome) → TakesPart limit t leave outcome sent
     → leave_moment act ≡ None → AreUpTo (moment_of act) new.happenings → newest_transmission new.happenings ≡ newest_transmission outcome.happenings → new.reports ≡ outcome.reports
-    → TakesPart limit (moment_of act) (or_else leave (leave_moment act)) new sent
+    → TakesPart limit (moment_of act) (option_or leave (leave_moment act)) new sent
 passes {limit} {t} {leave} {outcome} {sent} act new h stays up_to newest reports = record {
   up_to = up_to;
   newest = newest ∙ h.newest;
   initial = ap is_initial reports ∙ h.initial;
-  stays = ap (λ (l : Option ℕ). or_else l (leave_moment act)) h.stays ∙ stays;
+  stays = ap (λ (l : Option ℕ). option_or l (leave_moment act)) h.stays ∙ stays;
   reports = h.reports;
 }
 
@@ -193,15 +194,15 @@ last_bye setup leave asked t interval usable is passed = record {
 }
 
 leave_by : (setup : Setup) (t u word : ℕ) (leave : Option ℕ) (outcome : Outcome) (sent : List Sent) (unheard few : Bool) → IsUsable setup → t ≤ u → TakesPart setup.limit t leave outcome sent
-    → KeepsApart setup.limit u (or_else leave (Some u)) (if unheard then gone outcome else (if few then gone outcome else backing_off outcome (backoff_from setup u word outcome)))
+    → KeepsApart setup.limit u (option_or leave (Some u)) (if unheard then gone outcome else (if few then gone outcome else backing_off outcome (backoff_from setup u word outcome)))
     (sent_with u 0 (option_map bye_out (if unheard then None else (if few then Some (bye_octets setup) else None))) ++ sent)
 leave_by setup t u word leave outcome sent true few usable order h = inl h.reports
 leave_by setup t u word leave outcome sent false true usable order h =
-    inr (last_bye setup (or_else leave (Some u)) u u 0 usable (ap (λ (l : Option ℕ). or_else l (Some u)) h.stays) (omega arith), h.reports)
+    inr (last_bye setup (option_or leave (Some u)) u u 0 usable (ap (λ (l : Option ℕ). option_or l (Some u)) h.stays) (omega arith), h.reports)
 leave_by setup t u word leave outcome sent false false usable order h = record {
   up_to = one_more (transmitted u _ 1) order h.up_to;
   newest = refl;
-  left_then = ap (λ (l : Option ℕ). or_else l (Some u)) h.stays;
+  left_then = ap (λ (l : Option ℕ). option_or l (Some u)) h.stays;
   reports = h.reports;
 }
 
@@ -209,7 +210,7 @@ stays_on : {limit t : ℕ} {leave other : Option ℕ} {outcome : Outcome} {sent 
 stays_on {limit} {t} {leave} {other} {outcome} {sent} same h = subst (λ (l : Option ℕ). TakesPart limit t l outcome sent) same h
 
 still_present : (setup : Setup) (t : ℕ) (leave : Option ℕ) (act : Act) (outcome : Outcome) (sent : List Sent) → IsUsable setup → t ≤ moment_of act → HasWords act → TakesPart setup.limit t leave outcome sent
-    → KeepsApart setup.limit (moment_of act) (or_else leave (leave_moment act)) (while_present setup act outcome) (sent_by setup act (present outcome) ++ sent)
+    → KeepsApart setup.limit (moment_of act) (option_or leave (leave_moment act)) (while_present setup act outcome) (sent_by setup act (present outcome) ++ sent)
 still_present setup t leave (rtcp_came moment size (Ok packets)) outcome sent usable order words h =
     passes (rtcp_came moment size (Ok packets)) _ h refl (one_more (recounted moment _) order h.up_to) refl refl
 still_present setup t leave (rtcp_came moment size (Err fault)) outcome sent usable order words h =
@@ -222,7 +223,7 @@ still_present setup t leave (rtp_sent moment timestamp octets) outcome sent usab
     passes (rtp_sent moment timestamp octets) _ h refl (later moment order h.up_to) refl refl
 still_present setup t leave (ticked moment first_word second_word) outcome sent usable order words h =
     let now = checked setup moment outcome in
-    stays_on (h.stays ∙ sym (ap (λ (l : Option ℕ). or_else l None) h.stays))
+    stays_on (h.stays ∙ sym (ap (λ (l : Option ℕ). option_or l None) h.stays))
     (tick_by setup moment first_word second_word leave now sent (has_come moment now) (has_passed setup moment first_word now) usable words.0
     (λ come passed. record { came = leb-true _ moment come; passed = leb-true _ moment passed }) (checks setup moment order h))
 still_present setup t leave (left moment word) outcome sent usable order words h =
@@ -232,35 +233,35 @@ still_present setup t leave (left moment word) outcome sent usable order words h
 
 waits : {limit t : ℕ} {leave : Option ℕ} {backoff : Backoff} {sent : List Sent} → (act : Act) (new : Backoff) → BacksOff limit t leave backoff sent
     → new.since ≡ backoff.since → AreUpTo (moment_of act) new.happenings → newest_transmission new.happenings ≡ newest_transmission backoff.happenings
-    → BacksOff limit (moment_of act) (or_else leave (leave_moment act)) new sent
+    → BacksOff limit (moment_of act) (option_or leave (leave_moment act)) new sent
 waits {limit} {t} {leave} {backoff} {sent} act new h since up_to newest = record {
   up_to = up_to;
   newest = newest ∙ h.newest ∙ sym since;
-  left_then = ap (λ (l : Option ℕ). or_else l (leave_moment act)) h.left_then ∙ ap Some (sym since);
+  left_then = ap (λ (l : Option ℕ). option_or l (leave_moment act)) h.left_then ∙ ap Some (sym since);
   reports = h.reports;
 }
 
 hears : {limit t : ℕ} {leave : Option ℕ} {backoff : Backoff} {sent : List Sent} → (act : Act) (none : Bool) (farewells : List Farewell) → t ≤ moment_of act → BacksOff limit t leave backoff sent
-    → BacksOff limit (moment_of act) (or_else leave (leave_moment act)) (if none then backoff else record backoff { farewells = farewells }) sent
+    → BacksOff limit (moment_of act) (option_or leave (leave_moment act)) (if none then backoff else record backoff { farewells = farewells }) sent
 hears {limit} {t} {leave} {backoff} {sent} act true farewells order h = waits act backoff h refl (later (moment_of act) order h.up_to) refl
 hears {limit} {t} {leave} {backoff} {sent} act false farewells order h = waits act (record backoff { farewells = farewells }) h refl (later (moment_of act) order h.up_to) refl
 
 waits_on : {limit t : ℕ} {leave : Option ℕ} {backoff : Backoff} {sent : List Sent} → (act : Act) (come : Bool) (interval members : ℕ) → t ≤ moment_of act → BacksOff limit t leave backoff sent
-    → BacksOff limit (moment_of act) (or_else leave (leave_moment act)) (if come then record backoff { happenings = tried (moment_of act) interval members ∷ backoff.happenings } else backoff) sent
+    → BacksOff limit (moment_of act) (option_or leave (leave_moment act)) (if come then record backoff { happenings = tried (moment_of act) interval members ∷ backoff.happenings } else backoff) sent
 waits_on {limit} {t} {leave} {backoff} {sent} act true interval members order h =
     waits act (record backoff { happenings = tried (moment_of act) interval members ∷ backoff.happenings }) h refl (one_more (tried (moment_of act) interval members) order h.up_to) refl
 waits_on {limit} {t} {leave} {backoff} {sent} act false interval members order h = waits act backoff h refl (later (moment_of act) order h.up_to) refl
 
 bye_by : (setup : Setup) (t : ℕ) (leave : Option ℕ) (act : Act) (word : ℕ) (outcome : Outcome) (backoff : Backoff) (sent : List Sent) (due : Bool) → IsUsable setup → t ≤ moment_of act → word < 2 ^ 32
     → (due ≡ true → IsDue (schedule_at backoff.happenings) (moment_of act) (drawn_interval (leaving_interval setup backoff) word)) → BacksOff setup.limit t leave backoff sent
-    → KeepsApart setup.limit (moment_of act) (or_else leave (leave_moment act)) (if due then gone outcome else backing_off outcome (after_wait setup (moment_of act) word backoff))
+    → KeepsApart setup.limit (moment_of act) (option_or leave (leave_moment act)) (if due then gone outcome else backing_off outcome (after_wait setup (moment_of act) word backoff))
     (sent_with (moment_of act) (leaving_interval setup backoff) (if due then Some (bye_out (bye_octets setup)) else None) ++ sent)
 bye_by setup t leave act word outcome backoff sent true usable order fits due h =
     let moment = moment_of act in
     let interval = leaving_interval setup backoff in
     let apart = never_due_too_soon backoff.happenings moment (drawn_interval interval word) h.up_to.in_order (due refl) in
     inr (
-      last_bye setup (or_else leave (leave_moment act)) backoff.since moment interval usable (ap (λ (l : Option ℕ). or_else l (leave_moment act)) h.left_then)
+      last_bye setup (option_or leave (leave_moment act)) backoff.since moment interval usable (ap (λ (l : Option ℕ). option_or l (leave_moment act)) h.left_then)
           (half_passes backoff.since moment interval word fits (subst (λ (from : ℕ). from + drawn_interval interval word ≤ moment) h.newest apart)),
       h.reports,
     )
@@ -268,7 +269,7 @@ bye_by setup t leave act word outcome backoff sent false usable order fits due h
     waits_on act (nat_le (leaving_timing backoff).next (moment_of act)) _ _ order h
 
 still_backing_off : (setup : Setup) (t : ℕ) (leave : Option ℕ) (act : Act) (outcome : Outcome) (backoff : Backoff) (sent : List Sent) → IsUsable setup → t ≤ moment_of act → HasWords act → BacksOff setup.limit t leave backoff sent
-    → KeepsApart setup.limit (moment_of act) (or_else leave (leave_moment act)) (while_backing_off setup act outcome backoff) (sent_by setup act (backing_off outcome backoff) ++ sent)
+    → KeepsApart setup.limit (moment_of act) (option_or leave (leave_moment act)) (while_backing_off setup act outcome backoff) (sent_by setup act (backing_off outcome backoff) ++ sent)
 still_backing_off setup t leave (rtcp_came moment size (Ok packets)) outcome backoff sent usable order words h =
     hears (rtcp_came moment size (Ok packets)) (bye_count packets == 0) _ order h
 still_backing_off setup t leave (rtcp_came moment size (Err fault)) outcome backoff sent usable order words h =
@@ -285,16 +286,16 @@ still_backing_off setup t leave (left moment word) outcome backoff sent usable o
 
 -- ---- Sessions
 
-still_late : (leave : Option ℕ) (act : Act) (bye : Sent) → IsLate leave bye → IsLate (or_else leave (leave_moment act)) bye
+still_late : (leave : Option ℕ) (act : Act) (bye : Sent) → IsLate leave bye → IsLate (option_or leave (leave_moment act)) bye
 still_late None act bye late = absurd late
 still_late (Some moment) act bye late = late
 
-still_ends : (limit : ℕ) (leave : Option ℕ) (act : Act) (sent : List Sent) → EndsSo limit leave sent → EndsSo limit (or_else leave (leave_moment act)) sent
+still_ends : (limit : ℕ) (leave : Option ℕ) (act : Act) (sent : List Sent) → EndsSo limit leave sent → EndsSo limit (option_or leave (leave_moment act)) sent
 still_ends limit leave act [] h = absurd h
 still_ends limit leave act (bye ∷ earlier) h = (record { kind = h.0.kind; late = still_late leave act bye h.0.late; fits = h.0.fits }, h.1)
 
 keeps_apart : (setup : Setup) (t : ℕ) (leave : Option ℕ) (act : Act) (life : Life) (sent : List Sent) → IsUsable setup → t ≤ moment_of act → HasWords act → KeepsApart setup.limit t leave life sent
-    → KeepsApart setup.limit (moment_of act) (or_else leave (leave_moment act)) (lived setup act life) (sent_by setup act life ++ sent)
+    → KeepsApart setup.limit (moment_of act) (option_or leave (leave_moment act)) (lived setup act life) (sent_by setup act life ++ sent)
 keeps_apart setup t leave act (present outcome) sent usable order words h = still_present setup t leave act outcome sent usable order words h
 keeps_apart setup t leave act (backing_off outcome backoff) sent usable order words h = still_backing_off setup t leave act outcome backoff sent usable order words h
 keeps_apart setup t leave act (gone outcome) sent usable order words (inl reports) = inl reports

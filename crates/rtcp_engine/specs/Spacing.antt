@@ -1,6 +1,8 @@
 -- How far apart the compounds of a participant lie, and how large they are. Lists are newest first, and moments
 -- and intervals are in microseconds.
-use Rattle.std.specs.Prelude.{ℕ, ◌≡◌, ◌+◌, ◌-◌, ◌*◌, ◌/◌, ◌≤◌, ◌&&◌, Bool, true, false, nat_le, List, [], ◌∷◌, length, filter, All, Option, Some, None}
+use Rattle.std.specs.Prelude.{ℕ, ◌≡◌, ◌+◌, ◌-◌, ◌*◌, ◌/◌, ◌≤◌, Bool, true, false, List, [], ◌∷◌, length, filter, All, Option, Some, None}
+use Rattle.std.specs.Option.{option_or}
+use Rattle.rtcp_engine.specs.Setups.{is_within}
 use Rattle.rtcp_engine.specs.Acts.{Act, rtcp_came, rtp_came, rtp_sent, ticked, left}
 use Rattle.rtcp_engine.specs.Histories.{History}
 use Rattle.rtcp_engine.specs.Sent.{Sent, is_report, reports_in, sent_at}
@@ -24,7 +26,7 @@ AreSpaced (report ∷ earlier) =
     HalfPasses (newest_moment earlier) report.moment report.interval × AreSpaced earlier
 
 abbrev pub is_between : (from until : ℕ) → Sent → Bool
-is_between from until report = nat_le from report.moment && nat_le report.moment until
+is_between from until report = is_within from until report.moment
 
 -- how many reports lie in a window of so many microseconds, its ends included
 abbrev pub count_within : (from width : ℕ) → List Sent → ℕ
@@ -39,14 +41,10 @@ leave_moment (rtp_sent moment timestamp octets) = None
 leave_moment (ticked moment first_word second_word) = None
 leave_moment (left moment word) = Some moment
 
-abbrev pub or_else : Option ℕ → Option ℕ → Option ℕ
-or_else None other = other
-or_else (Some moment) other = Some moment
-
 -- the moment of the first leave, if there was one
 abbrev pub first_leave : List Act → Option ℕ
 first_leave [] = None
-first_leave (act ∷ earlier) = or_else (first_leave earlier) (leave_moment act)
+first_leave (act ∷ earlier) = option_or (first_leave earlier) (leave_moment act)
 
 -- A BYE comes after a leave, at once or once half its interval over 1.21828 has passed.
 abbrev pub IsLate : (leave : Option ℕ) → Sent → Type 0
