@@ -4,7 +4,7 @@ ghost use Rattle.std.specs.Prelude.{◌≡◌};
 ghost use Rattle.rtcp_clock.specs.Moments.{ntp_moment, media_units, short_seconds, time_of_trip};
 
 /// Microseconds in a second.
-const SECOND: u128 = 1_000_000;
+const SECOND: u64 = 1_000_000;
 
 /// The NTP timestamp of the moment `t`, in microseconds, of a session that began at the NTP timestamp `base`:
 /// 64 bits, the upper 32 in seconds and the lower 32 in 1/2^32 of a second. It wraps around as NTP's seconds
@@ -12,7 +12,7 @@ const SECOND: u128 = 1_000_000;
 pub fn ntp_of(base: u64, t: u64) -> u64
     ensures { result ≡ ntp_moment base t }
 {
-    let fraction = (t as u128) * (1 << 32) / SECOND;
+    let fraction = (t as u128) * (1 << 32) / SECOND as u128;
     ((base as u128 + fraction) % (1 << 64)) as u64
 }
 
@@ -21,7 +21,10 @@ pub fn ntp_of(base: u64, t: u64) -> u64
 pub fn rtp_units(t: u64, rate: u32) -> u32
     ensures { result ≡ media_units t rate }
 {
-    ((t as u128) * (rate as u128) / SECOND % (1 << 32)) as u32
+    // Seconds and the rest apart, since a product of 128 bits is dear to divide.
+    let rate = rate as u64;
+    let of_rest = t % SECOND * rate / SECOND;
+    ((t / SECOND).wrapping_mul(rate).wrapping_add(of_rest) % (1 << 32)) as u32
 }
 
 /// A time of `us` microseconds in 1/65,536 of a second, capped at 2^32 - 1: the form of DLSR in a report
@@ -29,7 +32,7 @@ pub fn rtp_units(t: u64, rate: u32) -> u32
 pub fn short_delay(us: u64) -> u32
     ensures { result ≡ short_seconds us }
 {
-    let delay = (us as u128) * 65536 / SECOND;
+    let delay = (us as u128) * 65536 / SECOND as u128;
     if delay < 1 << 32 {
         delay as u32
     } else {
