@@ -39,16 +39,18 @@ no_room capacity rate entries fact t apart none gone full =
     let is = absent_place (table_of capacity rate entries) fact false false none gone (room_of capacity rate entries apart ∙ grind (arith, nat_tests, full)) in
     (sym is, sym (absent_after (table_of capacity rate entries) fact t NoRoom none is))
 
-pub admitted : (capacity rate : ℕ) (entries : List Entry) (fact : Fact) (t : ℕ) (e : Entry) → IsApart (rows_of entries) → finite.get (map_of entries) (subject fact) ≡ None → is_gone fact ≡ false → length entries < capacity
-    → e.ssrc ≡ subject fact → entry_value e ≡ entry_after rate fact t new_entry
-    → (Added ≡ placed (table_of capacity rate entries) fact) × (table_of capacity rate (entries ++ e ∷ []) ≡ after_fact fact t (table_of capacity rate entries))
-admitted capacity rate entries fact t e apart none gone room its_ssrc its_value =
+-- `next` is the list with an entry of the source added, at the end or in its gap
+pub admitted : (capacity rate : ℕ) (entries next : List Entry) (fact : Fact) (t : ℕ) → IsApart (rows_of entries) → finite.get (map_of entries) (subject fact) ≡ None → is_gone fact ≡ false → length entries < capacity
+    → map_of next ≡ finite.insert (map_of entries) (subject fact) (entry_after rate fact t new_entry)
+    → (Added ≡ placed (table_of capacity rate entries) fact) × (table_of capacity rate next ≡ after_fact fact t (table_of capacity rate entries))
+admitted capacity rate entries next fact t apart none gone room added =
     let is = absent_place (table_of capacity rate entries) fact false true none gone (room_of capacity rate entries apart ∙ grind (arith, nat_tests, room)) in
-    let its_none : finite.get (map_of entries) e.ssrc ≡ None = ap (finite.get (map_of entries)) its_ssrc ∙ none in (
-      sym is,
-      ap (λ m. record (table_of capacity rate entries) { entries = m }) (map_push entries e its_none ∙ (λ i. finite.insert (map_of entries) (its_ssrc i) (its_value i)))
-          ∙ sym (absent_after (table_of capacity rate entries) fact t Added none is),
-    )
+    (sym is, ap (λ m. record (table_of capacity rate entries) { entries = m }) added ∙ sym (absent_after (table_of capacity rate entries) fact t Added none is))
+
+pub map_pushed : (rate : ℕ) (entries : List Entry) (fact : Fact) (t : ℕ) (e : Entry) → finite.get (map_of entries) (subject fact) ≡ None → e.ssrc ≡ subject fact → entry_value e ≡ entry_after rate fact t new_entry
+    → map_of (entries ++ e ∷ []) ≡ finite.insert (map_of entries) (subject fact) (entry_after rate fact t new_entry)
+map_pushed rate entries fact t e none its_ssrc its_value =
+    map_push entries e (ap (finite.get (map_of entries)) its_ssrc ∙ none) ∙ (λ i. finite.insert (map_of entries) (its_ssrc i) (its_value i))
 
 pub listed_push : (capacity : ℕ) (entries : List Entry) (e : Entry) (ssrc : ℕ) → IsListed capacity entries → finite.get (map_of entries) ssrc ≡ None → e.ssrc ≡ ssrc → length entries < capacity → IsListed capacity (entries ++ e ∷ [])
 listed_push capacity entries e ssrc listed none is room =

@@ -36,22 +36,22 @@ first_or : (test : EntryRow → Bool) (row : EntryRow) (rows : List EntryRow) �
 first_or test row rows =
     elim (test row) as (λ b. first_ssrc (cond b (row ∷ filter test rows) (filter test rows)) ≡ (if b then Some row.0 else passing test rows)) [ true ↦ refl | false ↦ refl ]
 
-parts : (a b : Bool) → T (a && b) → T a × T b
+pub parts : (a b : Bool) → T (a && b) → T a × T b
 parts true b h = (tt, h)
 parts false b h = absurd h
 
-less_than : (a b : ℕ) → T (is_lt (nat_cmp a b)) → a < b
+pub less_than : (a b : ℕ) → T (is_lt (nat_cmp a b)) → a < b
 less_than a b below = elim (nat_cmp a b) as (λ o. o ≡ nat_cmp a b → T (is_lt o) → a < b) [
   | Less ↦ λ e t. ranked a b Less e
   | Equal ↦ λ e t. absurd t
   | Greater ↦ λ e t. absurd t
 ] refl below
 
-joined : (a b : Bool) → T a → T b → T (a && b)
+pub joined : (a b : Bool) → T a → T b → T (a && b)
 joined true b p q = q
 joined false b p q = p
 
-is_less : (a b : ℕ) → a < b → T (is_lt (nat_cmp a b))
+pub is_less : (a b : ℕ) → a < b → T (is_lt (nat_cmp a b))
 is_less a b less = subst (λ o. T (is_lt o)) (nat_cmp_is a b Less less) tt
 
 -- a key below all the others comes first
@@ -63,7 +63,7 @@ below_first test key (row ∷ rows) below =
     ∙ elim (test row) as (λ b. lesser_of (Some key) (if b then Some row.0 else passing test rows) ≡ Some key)
     [ true ↦ ap Some (omega (arith, less_than key row.0 halves.0)) | false ↦ below_first test key rows halves.1 ]
 
-below_more : (a b : ℕ) (rows : List EntryRow) → a < b → T (below_all nat_cmp b rows) → T (below_all nat_cmp a rows)
+pub below_more : (a b : ℕ) (rows : List EntryRow) → a < b → T (below_all nat_cmp b rows) → T (below_all nat_cmp a rows)
 below_more a b [] less below = tt
 below_more a b (row ∷ rows) less below =
     let halves = parts (is_lt (nat_cmp b row.0)) (below_all nat_cmp b rows) below in
@@ -116,7 +116,7 @@ first_is_least test (row ∷ rows) apart =
 
 -- ---- In turn
 
-filter_twice : (p q : EntryRow → Bool) (rows : List EntryRow) → filter q (filter p rows) ≡ filter (λ row. p row && q row) rows
+pub filter_twice : (p q : EntryRow → Bool) (rows : List EntryRow) → filter q (filter p rows) ≡ filter (λ row. p row && q row) rows
 filter_twice p q [] = refl
 filter_twice p q (row ∷ rows) =
     elim (p row) as (λ b. filter q (cond b (row ∷ filter p rows) (filter p rows)) ≡ cond (b && q row) (row ∷ filter (λ r. p r && q r) rows) (filter (λ r. p r && q r) rows)) [
@@ -124,7 +124,7 @@ filter_twice p q (row ∷ rows) =
       | false ↦ filter_twice p q rows
     ]
 
-none_first : (rows : List EntryRow) → first_ssrc rows ≡ None → rows ≡ []
+pub none_first : (rows : List EntryRow) → first_ssrc rows ≡ None → rows ≡ []
 none_first [] e = refl
 none_first (row ∷ rows) e = absurd cc
 
@@ -137,7 +137,7 @@ all_others test (row ∷ rows) e =
     ] e
 
 -- The first in turn is the first above the last one, and else the first of all.
-some_first : (xs ys : List EntryRow) (ssrc : ℕ) → Some ssrc ≡ first_ssrc xs → first_ssrc (xs ++ ys) ≡ Some ssrc
+pub some_first : (xs ys : List EntryRow) (ssrc : ℕ) → Some ssrc ≡ first_ssrc xs → first_ssrc (xs ++ ys) ≡ Some ssrc
 some_first [] ys ssrc e = absurd cc
 some_first (x ∷ xs) ys ssrc e = sym e
 

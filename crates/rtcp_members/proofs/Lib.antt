@@ -17,6 +17,13 @@ mod Blocking
 mod TurnsRows
 mod Turns
 mod NextDue
+mod Rising
+mod Searching
+mod Weights
+mod Placing
+mod Inserting
+mod Checking
+mod InCyclicTurn
 mod TurnsSamples
 mod TraceTables
 mod Rows

@@ -82,7 +82,7 @@ len_rows (row ∷ rows) apart =
 same_entry : (x e : Entry) → Some x ≡ Some e → x ≡ e
 same_entry x e is = ap (λ o. unwrap_or o e) is
 
-tied_itself : (key : ℕ) → eq_by_cmp nat_cmp key key ≡ true
+pub tied_itself : (key : ℕ) → eq_by_cmp nat_cmp key key ≡ true
 tied_itself key = unsigned_tied key key ∙ grind (arith, nat_tests)
 
 pub tied_key : (q key : ℕ) → eq_by_cmp nat_cmp q key ≡ true → q ≡ key

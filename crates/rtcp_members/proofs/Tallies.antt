@@ -13,7 +13,7 @@ use Rattle.rtcp_members.specs.ListViews.{entry_value, row_of, rows_of, map_of, t
 use Rattle.rtcp_members.proofs.Listing.{passing_rows, len_rows}
 use Rattle.rtcp_members.proofs.Changing.{map_checked, apart_checked}
 
-one_more : (test : EntryValue → Bool) (e : Entry) (entries : List Entry) → tally_of test (e ∷ entries) ≡ cond (test (entry_value e)) 1 0 + tally_of test entries
+pub one_more : (test : EntryValue → Bool) (e : Entry) (entries : List Entry) → tally_of test (e ∷ entries) ≡ cond (test (entry_value e)) 1 0 + tally_of test entries
 one_more test e entries =
     elim (test (entry_value e)) as (λ b. length (cond b (e ∷ filter (λ (x : Entry). test (entry_value x)) entries) (filter (λ (x : Entry). test (entry_value x)) entries)) ≡ cond b 1 0 + tally_of test entries)
     [ true ↦ omega arith | false ↦ omega arith ]

@@ -31,7 +31,7 @@ both_hold : (a b : Bool) → T (a && b) → T a × T b
 both_hold true b h = (tt, h)
 both_hold false b h = absurd h
 
-apart_where_sorted : (rows : List (ℕ × EntryValue)) → T (map.is_sorted nat_cmp rows) → IsApart rows
+pub apart_where_sorted : (rows : List (ℕ × EntryValue)) → T (map.is_sorted nat_cmp rows) → IsApart rows
 apart_where_sorted [] sorted = tt
 apart_where_sorted (row ∷ rows) sorted =
     let parts = both_hold (below_all nat_cmp row.0 rows) _ sorted in (none_where_above row.0 rows parts.0, apart_where_sorted rows parts.1)

@@ -7,3 +7,4 @@ pub mod News
 pub mod Least
 pub mod Codes
 pub mod ListViews
+pub mod SortedViews

@@ -1,10 +1,10 @@
 //! What a list table keeps of a source (RFC 3550, 6.2.1, 6.3.3 to 6.3.5 and 6.3.7).
 
-ghost use Rattle.std.specs.Prelude.{◌≡◌, ◌<◌, ◌^◌, None, Some, Bool, IsTrue, not};
-ghost use Rattle.rtcp_members.specs.ListViews.{entry_value, lapsed};
+ghost use Rattle.std.specs.Prelude.{◌≡◌, nat_lt, ◌||◌, ◌<◌, ◌^◌, None, Some, Bool, IsTrue, not};
+ghost use Rattle.rtcp_members.specs.ListViews.{entry_value, lapses, lapsed, outlasts, is_left};
 ghost use Rattle.rtcp_wire.specs.Facts.{is_media};
 ghost use Rattle.rtcp_members.specs.Traces.{horizons_at};
-ghost use Rattle.rtcp_members.specs.Stays.{is_removed};
+ghost use Rattle.rtcp_members.specs.Stays.{is_before, is_removed};
 ghost use Rattle.rtcp_members.specs.Entries.{is_member, is_sender, still_sending};
 ghost use Rattle.rtcp_wire.specs.Views.{block_value};
 ghost use Rattle.rtcp_wire.specs.Writing.{IsWritableBlock};
@@ -145,9 +145,30 @@ impl Entry {
             ≡ not (is_removed (horizons_at silent idle gone) self.old.sighting self.old.mark) }
         ensures entry { self.new ≡ lapsed idle self.old }
     {
-        if self.mark.is_none() && self.sending.is_some_and(|sent| sent < idle) {
+        if self.is_idle(idle) {
             self.sending = None;
         }
+        self.stays(silent, gone)
+    }
+
+    /// Whether a check with these horizons leaves the entry as it is.
+    pub(crate) fn is_left(&self, silent: u64, idle: u64, gone: u64) -> bool
+        ensures { result ≡ is_left (horizons_at silent idle gone) self.now }
+    {
+        !self.is_idle(idle) && self.stays(silent, gone)
+    }
+
+    /// Whether the source's last counted packet lies before `idle`.
+    fn is_idle(&self, idle: u64) -> bool
+        ensures { result ≡ lapses idle self.now }
+    {
+        self.mark.is_none() && self.sending.is_some_and(|sent| sent < idle)
+    }
+
+    /// Whether the source was seen lately, and did not leave too long ago.
+    fn stays(&self, silent: u64, gone: u64) -> bool
+        ensures { result ≡ not (nat_lt self.now.sighting silent || is_before self.now.mark gone) }
+    {
         silent <= self.sighting && self.mark.is_none_or(|mark| gone <= mark)
     }
 }

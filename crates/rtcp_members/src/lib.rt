@@ -1,9 +1,13 @@
 //! Who is in an RTP session, who sends, and who has gone (RFC 3550, 6.2.1, 6.3.3 to 6.3.5, 6.3.7): the trait
-//! `MemberTable`, and a table that keeps its entries in a list. It is deterministic, reads no clock, opens no
-//! socket, draws no random number and does not allocate.
+//! `MemberTable`, and two tables of up to 1,024 entries. They are deterministic, read no clock, open no
+//! socket, draw no random number and do not allocate.
+//!
+//! Take `SortedTable` for a session: it keeps its entries by rising SSRC with running counts, so a fact costs
+//! a binary search. `ListTable` keeps them in order of arrival and walks them in each call: it is the plain
+//! one, easy to believe. Both meet the contract of `MemberTable`, so they return the same in each call.
 //!
 //! ```
-//! let mut table = ListTable::empty(1_024, 8_000);
+//! let mut table = SortedTable::empty(1_024, 8_000);
 //! assert_eq!(rt; table.apply(Fact::Heard(7), 0).place, Place::Added);
 //! assert_eq!(rt; table.members(), 0);
 //! assert_eq!(rt; table.apply(Fact::Named(7), 0).place, Place::Kept);
@@ -18,14 +22,17 @@
 //! trace (`News`); `turn_laws` has what holds of these.
 #![tactic(auto)]
 
+mod counts;
 mod entry;
 pub mod laws;
 mod list_table;
+mod sorted_table;
 mod table;
 pub mod trace_laws;
 pub mod turn_laws;
 
 pub use list_table::ListTable;
+pub use sorted_table::SortedTable;
 pub use table::{Applied, Dropped, MemberTable, Place};
 
 #[cfg(test)]

@@ -1,6 +1,6 @@
 //! A table that keeps its entries in a list, in order of arrival, and walks it.
 
-ghost use Rattle.std.specs.Prelude.{◌≡◌, ℕ, ◌<◌, ◌≤◌, ◌^◌, true, List, length, filter, IfSome, MatchOption, IsTrue, Some, None};
+ghost use Rattle.std.specs.Prelude.{◌≡◌, ℕ, ◌<◌, ◌^◌, true, List, length, filter, IfSome, MatchOption, IsTrue, Some, None};
 ghost use Rattle.std.specs.FinMap as finite;
 ghost use Rattle.std.specs.List.{retain_mut};
 ghost use Rattle.rtcp_wire.specs.Facts.{subject, is_media};
@@ -13,14 +13,12 @@ ghost use Rattle.rtcp_members.specs.Pending.{is_due, block_at, after_block};
 ghost use Rattle.rtcp_members.specs.Least.{is_due_above, least, lesser_of};
 ghost use Rattle.rtcp_members.specs.Tables.{TableValue, IsApart, IsFew, no_members, placed, counted, after_fact, after_check, dropped_entries, dropped_senders, members_in, senders_in, count_in};
 
+use crate::counts::tally;
 use crate::entry::Entry;
-use crate::table::{Applied, Dropped, MemberTable, Place};
+use crate::table::{Applied, Dropped, MAX_CAPACITY, MemberTable, Place};
 use arrayvec::ArrayVec;
 use rtcp_wire::{Block, Fact};
 use std::marker::Model;
-
-/// The greatest capacity of a table.
-const MAX_CAPACITY: usize = 1024;
 
 /// A table of members as a list, in order of arrival. Each call walks it, and none allocates.
 #[derive(Drop)]
@@ -147,36 +145,16 @@ fn admit(
 }
 
 /// Drops the entries that do not outlast a check, and ends the sending of the idle ones.
-fn drop_silent(entries: &mut ArrayVec<Entry, MAX_CAPACITY>, silent: u64, idle: u64, gone: u64)
+pub(crate) fn drop_silent(
+    entries: &mut ArrayVec<Entry, MAX_CAPACITY>,
+    silent: u64,
+    idle: u64,
+    gone: u64,
+)
     ensures { entries.new.items
         ≡ retain_mut (outlasts (horizons_at silent idle gone)) (lapsed idle) entries.old.items }
 {
     entries.retain(|entry| entry.check(silent, idle, gone));
-}
-
-/// How many entries of a list are members and senders.
-#[derive(Clone, Copy)]
-struct Counts {
-    members: u32,
-    senders: u32,
-}
-
-fn tally(entries: &[Entry]) -> Counts
-    requires { length entries.now ≤ 1024 }
-    ensures members { result.members ≡ tally_of is_member entries.now }
-    ensures senders { result.senders ≡ tally_of is_sender entries.now }
-{
-    let mut members = 0;
-    let mut senders = 0;
-    'entries: for entry in entries {
-        if entry.is_member() {
-            members += 1;
-        }
-        if entry.is_sender() {
-            senders += 1;
-        }
-    }
-    Counts { members, senders }
 }
 
 /// The least SSRC above `above` of a source of which a block is due.

@@ -11,6 +11,9 @@ ghost use Rattle.rtcp_members.specs.Pending.{pending, first_ssrc, is_due_at, blo
 
 use rtcp_wire::{Block, Fact};
 
+/// The greatest capacity of a table.
+pub(crate) const MAX_CAPACITY: usize = 1024;
+
 /// What became of a fact.
 #[derive(Clone, Copy, Debug, PartialEq, Eq)]
 pub enum Place {

@@ -1,7 +1,7 @@
 -- What becomes of the fact is decided by whether it is a goodbye, and by the room that is left.
-use Rattle.std.proofs.Common.{rules, arith}
+use Rattle.std.proofs.Common.{rules, [], ◌∷◌, ◌++◌, arith}
 use Rattle.rtcp_wire.specs.Facts.{subject}
-use Rattle.rtcp_members.proofs.Admitting.{no_room, admitted, listed_push}
+use Rattle.rtcp_members.proofs.Admitting.{no_room, admitted, map_pushed, listed_push}
 use Rattle.rtcp_members.proofs.list_table.admit.Goals as goal
 
 pub returns-then-len-capacity-clause-place : goal.returns-then-len-capacity-clause-place
@@ -19,9 +19,11 @@ returns-clause-listed c =
 
 pub returns-clause-place : goal.returns-clause-place
 returns-clause-place c =
-    (admitted c.args.capacity c.args.rate c.args.entries.now.items c.args.fact c.args.t c.take.new.self c.requires.listed.apart c.requires.absent (search rules) (omega (arith, c.len.ensures.value, c.if-len-capacity.false)) (search rules) (search rules)).0
+    (admitted c.args.capacity c.args.rate c.args.entries.now.items (c.args.entries.now.items ++ c.take.new.self ∷ []) c.args.fact c.args.t c.requires.listed.apart c.requires.absent (search rules) (omega (arith, c.len.ensures.value, c.if-len-capacity.false))
+    (map_pushed c.args.rate c.args.entries.now.items c.args.fact c.args.t c.take.new.self c.requires.absent (search rules) (search rules))).0
 
 pub returns-clause-table : goal.returns-clause-table
 returns-clause-table c =
     rw c.push.ensures.items
-    ((admitted c.args.capacity c.args.rate c.args.entries.now.items c.args.fact c.args.t c.take.new.self c.requires.listed.apart c.requires.absent (search rules) (omega (arith, c.len.ensures.value, c.if-len-capacity.false)) (search rules) (search rules)).1)
+    ((admitted c.args.capacity c.args.rate c.args.entries.now.items (c.args.entries.now.items ++ c.take.new.self ∷ []) c.args.fact c.args.t c.requires.listed.apart c.requires.absent (search rules) (omega (arith, c.len.ensures.value, c.if-len-capacity.false))
+    (map_pushed c.args.rate c.args.entries.now.items c.args.fact c.args.t c.take.new.self c.requires.absent (search rules) (search rules))).1)

@@ -1,0 +1,105 @@
+-- The pending rows of a sorted list: those from a place on, and then those before it.
+use Rattle.std.proofs.Common.{◌≡◌, ◌<◌, ◌≤◌, ℕ, zero, suc, Bool, true, false, cond, not, ◌&&◌, List, [], ◌∷◌, ◌++◌, filter, length, take, drop, slice_index_or, leb, nat_lt, if◌then◌else◌, Option, Some, None, is_some, nat_cmp, inl, inr, arith, refl, sym, ap, subst, ◌∙◌, le_of_eq}
+use Rattle.std.specs.List.Sorted.{IsPartitionPoint, IsPartitionedBy, IsNonDecreasingBy}
+use Rattle.std.specs.Cmp.{nat_cmp_total}
+use Rattle.std.specs.FinMap as finite
+use Rattle.std.specs.FinMap.{nat_cmp-IsAntisymmetric}
+use Rattle.std.specs.FinMap.Entries.{same_entries}
+use Rattle.std.proofs.lemmas.Bool.{cases_lt}
+use Rattle.std.proofs.lemmas.Bool.Decides.{nat_tests}
+use Rattle.std.proofs.lemmas.List.Sorted.{IsPartitionedBy-leb}
+use Rattle.rtcp_members.specs.declared.entry.Entry.{Entry}
+use Rattle.rtcp_members.specs.Tables.{TableValue}
+use Rattle.rtcp_members.specs.ListViews.{row_of, rows_of, map_of, table_of}
+use Rattle.rtcp_members.specs.SortedViews.{IsRising}
+use Rattle.rtcp_members.specs.Pending.{EntryRow, first_ssrc, is_above, is_due, pending}
+use Rattle.rtcp_members.proofs.Listing.{get_rows}
+use Rattle.rtcp_members.proofs.LeastDue.{filter_twice, none_first, some_first}
+use Rattle.rtcp_members.proofs.Rising.{rises}
+
+-- ---- Cut in two
+
+-- Where the rows that pass a test are those from `n` on, the filters cut the list there.
+cut_at : (test : EntryRow → Bool) (entries : List Entry) (n : ℕ) → ((k : ℕ) (d : Entry) → k < n → k < length entries → test (row_of (slice_index_or entries k d)) ≡ false)
+    → ((k : ℕ) (d : Entry) → n ≤ k → k < length entries → test (row_of (slice_index_or entries k d)) ≡ true)
+    → (filter test (rows_of entries) ≡ rows_of (drop n entries)) × (filter (λ (row : EntryRow). not (test row)) (rows_of entries) ≡ rows_of (take n entries))
+cut_at test [] zero before from = (refl, refl)
+cut_at test [] (suc n) before from = (refl, refl)
+cut_at test (x ∷ xs) zero before from =
+    let here = from 0 x (omega arith) (omega arith) in
+    let rest = cut_at test xs zero (λ k d less within. absurd (omega arith)) (λ k d _ within. from (suc k) d (omega arith) (omega arith)) in (
+      λ i. cond (here i) (row_of x ∷ rest.0 i) (rest.0 i),
+      λ i. cond (not (here i)) (row_of x ∷ rest.1 i) (rest.1 i),
+    )
+cut_at test (x ∷ xs) (suc n) before from =
+    let here = before 0 x (omega arith) (omega arith) in
+    let rest = cut_at test xs n (λ k d less within. before (suc k) d (omega arith) (omega arith)) (λ k d least within. from (suc k) d (omega arith) (omega arith)) in (
+      λ i. cond (here i) (row_of x ∷ rest.0 i) (rest.0 i),
+      λ i. cond (not (here i)) (row_of x ∷ rest.1 i) (rest.1 i),
+    )
+
+not_less : (y a : ℕ) → leb y a ≡ true → nat_lt a y ≡ false
+not_less y a le = grind (arith, nat_tests)
+
+less : (y a : ℕ) → leb y a ≡ false → nat_lt a y ≡ true
+less y a le = grind (arith, nat_tests)
+
+never_falls : (entries : List Entry) → IsRising entries → IsNonDecreasingBy (λ (e : Entry). e.ssrc) entries
+never_falls entries rising i j d le within = elim (cases_lt i j) [
+  | inl before ↦ omega (arith, rises entries rising i j d before within)
+  | inr from ↦
+      let same : i ≡ j = omega arith in
+      le_of_eq (ap (λ k. (slice_index_or entries k d).ssrc) same)
+]
+
+pub parted : (entries : List Entry) (a : ℕ) → IsRising entries → IsPartitionedBy (λ (e : Entry). leb e.ssrc a) entries
+parted entries a rising = IsPartitionedBy-leb (λ (e : Entry). e.ssrc) entries a (never_falls entries rising)
+
+pub cut_above : (entries : List Entry) (a n : ℕ) (above : Option ℕ) → above ≡ Some a → IsPartitionPoint (λ (e : Entry). leb e.ssrc a ≡ true) (λ (e : Entry). leb e.ssrc a ≡ false) entries n
+    → (filter (is_above above) (rows_of entries) ≡ rows_of (drop n entries)) × (filter (λ (row : EntryRow). not (is_above above row)) (rows_of entries) ≡ rows_of (take n entries))
+cut_above entries a n above is point =
+    subst (λ o. (filter (is_above o) (rows_of entries) ≡ rows_of (drop n entries)) × (filter (λ (row : EntryRow). not (is_above o row)) (rows_of entries) ≡ rows_of (take n entries))) (sym is)
+    (cut_at (is_above (Some a)) entries n (λ k d before within. not_less _ a (point.0 k d (omega arith) before)) (λ k d from within. less _ a (point.1 k d from within)))
+
+pub cut_nowhere : (entries : List Entry) (above : Option ℕ) → above ≡ None
+    → (filter (is_above above) (rows_of entries) ≡ rows_of entries) × (filter (λ (row : EntryRow). not (is_above above row)) (rows_of entries) ≡ [])
+cut_nowhere entries above is =
+    subst (λ o. (filter (is_above o) (rows_of entries) ≡ rows_of entries) × (filter (λ (row : EntryRow). not (is_above o row)) (rows_of entries) ≡ [])) (sym is)
+    (cut_at (is_above None) entries 0 (λ k d before within. absurd (omega arith)) (λ k d from within. refl))
+
+-- ---- In turn
+
+entries_of_rising : (entries : List Entry) → IsRising entries → finite.entries (map_of entries) ≡ rows_of entries
+entries_of_rising entries rising =
+    same_entries nat_cmp nat_cmp_total nat_cmp-IsAntisymmetric (finite.entries (map_of entries)) (rows_of entries) (finite.entries_sorted (map_of entries)) rising
+    (λ q. sym (finite.get-entries (map_of entries) q) ∙ get_rows entries q)
+
+either_way : (a b : Bool) → (a && b) ≡ (b && a)
+either_way true true = refl
+either_way true false = refl
+either_way false true = refl
+either_way false false = refl
+
+filter_in_turn : (p q : EntryRow → Bool) (rows : List EntryRow) → filter q (filter p rows) ≡ filter p (filter q rows)
+filter_in_turn p q rows = filter_twice p q rows ∙ (λ i. filter (λ row. either_way (p row) (q row) i) rows) ∙ sym (filter_twice q p rows)
+
+first_of_both : (xs ys : List EntryRow) (first : Option ℕ) → first ≡ first_ssrc xs → (if is_some first then first else first_ssrc ys) ≡ first_ssrc (xs ++ ys)
+first_of_both xs ys (Some ssrc) is = sym (some_first xs ys ssrc is)
+first_of_both xs ys None is = ap (λ rows. first_ssrc (rows ++ ys)) (sym (none_first xs (sym is)))
+
+module _ (last : Option ℕ) (capacity rate : ℕ) (entries : List Entry) (n : ℕ) (table : TableValue) (is : table_of capacity rate entries ≡ table) (rising : IsRising entries)
+    (rest : filter (is_above last) (rows_of entries) ≡ rows_of (drop n entries)) (before : filter (λ (row : EntryRow). not (is_above last row)) (rows_of entries) ≡ rows_of (take n entries)) where
+  abbrev due_of : List Entry → List EntryRow
+  due_of xs = filter (λ (row : EntryRow). is_due row.1) (rows_of xs)
+
+  pending_in : due_of (drop n entries) ++ due_of (take n entries) ≡ pending last table
+  pending_in =
+      let due = λ (row : EntryRow). is_due row.1 in
+      (λ i. filter due (sym rest i) ++ filter due (sym before i))
+      ∙ (λ i. filter_in_turn (is_above last) due (rows_of entries) i ++ filter_in_turn (λ (row : EntryRow). not (is_above last row)) due (rows_of entries) i)
+      ∙ ap (λ rows. filter (is_above last) (filter due rows) ++ filter (λ (row : EntryRow). not (is_above last row)) (filter due rows)) (sym (entries_of_rising entries rising))
+      ∙ ap (pending last) is
+
+  pub first_pending : (first second : Option ℕ) → first ≡ first_ssrc (due_of (drop n entries)) → second ≡ first_ssrc (due_of (take n entries)) → (if is_some first then first else second) ≡ first_ssrc (pending last table)
+  first_pending first second finds finds_before =
+      ap (λ o. if is_some first then first else o) finds_before ∙ first_of_both (due_of (drop n entries)) (due_of (take n entries)) first finds ∙ ap first_ssrc pending_in

@@ -1,0 +1,93 @@
+-- Where a source stands in a list by rising SSRC.
+use Rattle.std.proofs.Common.{◌≡◌, ◌<◌, ◌+◌, ℕ, suc, true, false, cond, List, [], ◌∷◌, length, set, Some, None, slice_get, slice_index_or, Result, Ok, Err, IsOk, IfOk, IfErr, IsTrue, nat_cmp, is_lt, Less, Equal, Greater, inl, inr, arith, refl, sym, ap, ◌∙◌}
+use Rattle.std.specs.Ordering.{eq_by_cmp, ordering_index}
+use Rattle.std.specs.List.Sorted.{IsSearchInRange, IsBinarySearchResult, IsNonDecreasingBy}
+use Rattle.std.specs.Cmp.{nat_cmp_total, nat_cmp_is, ranked}
+use Rattle.std.specs.FinMap as finite
+use Rattle.std.proofs.lemmas.Bool.{cases_lt}
+use Rattle.std.proofs.lemmas.List.{set-get_or}
+use Rattle.std.proofs.lemmas.List.Sorted.{searchable_from_sorted}
+use Rattle.std.proofs.lemmas.Option.{slice_get-get_or, slice_get_read, get_or_from_slice_get}
+use Rattle.rtcp_members.specs.declared.entry.Entry.{Entry}
+use Rattle.rtcp_members.specs.Entries.{is_such}
+use Rattle.rtcp_members.specs.Tables.{TableValue, IsApart}
+use Rattle.rtcp_members.specs.Pending.{is_due, is_due_at}
+use Rattle.rtcp_members.specs.ListViews.{entry_value, rows_of, map_of, table_of, IsPlaceOf}
+use Rattle.rtcp_members.specs.SortedViews.{IsRising, IsGapFor}
+use Rattle.rtcp_members.proofs.Listing.{get_rows, find_set, tied_itself, tied_key}
+use Rattle.rtcp_members.proofs.Rising.{rising_apart, rises}
+
+-- ---- Found
+
+-- an entry of the source, which stands there, is the one that the map has
+pub stands_found : (ssrc : ℕ) (entries : List Entry) (at : ℕ) (e : Entry) → IsApart (rows_of entries) → slice_get entries at ≡ Some e → e.ssrc ≡ ssrc → IsPlaceOf ssrc entries at
+stands_found ssrc entries at e apart is same =
+    let as_it_was : set entries at e ≡ entries = ap (set entries at) (sym (get_or_from_slice_get entries at e e is)) ∙ set-get_or entries at e in
+    record {
+      entry = e;
+      stands = is;
+      its_ssrc = same;
+      found = get_rows entries ssrc
+          ∙ ap (λ k. finite.find nat_cmp k (rows_of entries)) (sym same)
+          ∙ ap (λ (xs : List Entry). finite.find nat_cmp e.ssrc (rows_of xs)) (sym as_it_was)
+          ∙ find_set entries at e e e.ssrc apart is refl
+          ∙ ap (λ b. cond b (Some (entry_value e)) (finite.find nat_cmp e.ssrc (rows_of entries))) (tied_itself e.ssrc);
+    }
+
+-- what was read at an index is the source's entry
+pub read_found : (ssrc : ℕ) (entries : List Entry) (at : ℕ) (e : Entry) → IsRising entries → at < length entries → e ≡ slice_index_or entries at e → e.ssrc ≡ ssrc → IsPlaceOf ssrc entries at
+read_found ssrc entries at e rising within read same = stands_found ssrc entries at e (rising_apart entries rising) (slice_get_read entries (length entries) at e refl within read) same
+
+-- ---- A binary search
+
+searchable : (entries : List Entry) → IsRising entries → (ssrc : ℕ) → IsNonDecreasingBy (λ (e : Entry). ordering_index (nat_cmp e.ssrc ssrc)) entries
+searchable entries rising ssrc =
+    searchable_from_sorted nat_cmp_total (λ (e : Entry). e.ssrc) entries ssrc
+    (λ k d _ within. ap is_lt (sym (nat_cmp_is (slice_index_or entries (k + 1) d).ssrc (slice_index_or entries k d).ssrc Greater (rises entries rising k (k + 1) d (omega arith) within))))
+
+stands_equal : (entries : List Entry) → IsRising entries → (ssrc at : ℕ) → at < length entries → ((d : Entry) → nat_cmp (slice_index_or entries at d).ssrc ssrc ≡ Equal) → IsPlaceOf ssrc entries at
+stands_equal [] rising ssrc at within equal = absurd (omega arith)
+stands_equal (x ∷ xs) rising ssrc at within equal =
+    let e : Entry = slice_index_or (x ∷ xs) at x in
+    stands_found ssrc (x ∷ xs) at e (rising_apart (x ∷ xs) rising) (slice_get-get_or (x ∷ xs) at x within) (ranked e.ssrc ssrc Equal (sym (equal x)))
+
+pub searched : (entries : List Entry) → IsRising entries → (ssrc : ℕ) → (r : Result ℕ ℕ) → IsSearchInRange r (length entries) → IsBinarySearchResult (λ (e : Entry). nat_cmp e.ssrc ssrc) entries r
+    → IfOk r (IsPlaceOf ssrc entries) × IfErr r (IsGapFor ssrc entries)
+searched entries rising ssrc (Ok at) within equal = (stands_equal entries rising ssrc at within equal, tt)
+searched entries rising ssrc (Err at) within parted =
+    let split = parted (searchable entries rising ssrc) in (
+      tt,
+      record {
+        in_range = within;
+        lesser = λ i d before. ranked _ ssrc Less (sym (split.0 i d (omega arith) before));
+        greater = λ i d from below. ranked _ ssrc Greater (sym (split.1 i d from below));
+      },
+    )
+
+-- ---- A gap
+
+missing : (ssrc : ℕ) (entries : List Entry) → ((k : ℕ) (d : Entry) → k < length entries → (slice_index_or entries k d).ssrc ≡ ssrc → ⊥) → finite.find nat_cmp ssrc (rows_of entries) ≡ None
+missing ssrc [] other = refl
+missing ssrc (x ∷ xs) other =
+    elim (eq_by_cmp nat_cmp ssrc x.ssrc) as (λ b. eq_by_cmp nat_cmp ssrc x.ssrc ≡ b → cond b (Some (entry_value x)) (finite.find nat_cmp ssrc (rows_of xs)) ≡ None) [
+      | true ↦ λ tied. absurd (other 0 x (omega arith) (sym (tied_key ssrc x.ssrc tied)))
+      | false ↦ λ tied. missing ssrc xs (λ k d within. other (suc k) d (omega arith))
+    ] refl
+
+-- no entry is of a source that has a gap
+pub none_in_gap : (ssrc : ℕ) (entries : List Entry) (at : ℕ) → IsGapFor ssrc entries at → finite.get (map_of entries) ssrc ≡ None
+none_in_gap ssrc entries at gap = get_rows entries ssrc ∙ missing ssrc entries apart_from
+  where
+    apart_from : (k : ℕ) (d : Entry) → k < length entries → (slice_index_or entries k d).ssrc ≡ ssrc → ⊥
+    apart_from k d within same = elim (cases_lt k at) [
+      | inl before ↦ omega (arith, gap.lesser k d before)
+      | inr from ↦ omega (arith, gap.greater k d from within)
+    ]
+
+-- A source of which a block is due is found.
+pub due_is_found : (ssrc capacity rate : ℕ) (entries : List Entry) (table : TableValue) (r : Result ℕ ℕ) → table_of capacity rate entries ≡ table → IsTrue (is_due_at ssrc table) → IfErr r (IsGapFor ssrc entries) → IsOk r
+due_is_found ssrc capacity rate entries table (Ok at) is due absent = refl
+due_is_found ssrc capacity rate entries table (Err at) is due absent = absurd (not_due (ap (is_such is_due) (sym (none_in_gap ssrc entries at absent)) ∙ ap (is_due_at ssrc) is ∙ due))
+  where
+    not_due : false ≡ true → ⊥
+    not_due e = absurd cc

@@ -1,0 +1,39 @@
+-- The entry at the place is the one that the map has; it leaves the counts, and what became of it joins them.
+use Rattle.std.proofs.Common.{arith}
+use Rattle.rtcp_wire.specs.Facts.{subject}
+use Rattle.rtcp_members.specs.Entries.{is_member, is_sender}
+use Rattle.rtcp_members.proofs.Applying.{place_applied, counted_applied, table_applied}
+use Rattle.rtcp_members.proofs.Rising.{rising_apart}
+use Rattle.rtcp_members.proofs.Weights.{tally_at_most}
+use Rattle.rtcp_members.proofs.Placing.{counted_there, few_there, ordered_set}
+use Rattle.rtcp_members.proofs.sorted_table.apply_at.Goals as goal
+
+pub remove-requires-clause-members : goal.remove-requires-clause-members
+remove-requires-clause-members c = omega (arith, counted_there (subject c.args.fact) c.args.entries.now c.args.at c.index-entries-at.result c.requires.place is_member, c.requires.ordered.its_members)
+
+pub remove-requires-clause-senders : goal.remove-requires-clause-senders
+remove-requires-clause-senders c = omega (arith, counted_there (subject c.args.fact) c.args.entries.now c.args.at c.index-entries-at.result c.requires.place is_sender, c.requires.ordered.its_senders)
+
+pub apply-applied-requires : goal.apply-applied-requires
+apply-applied-requires c = λ is_media. few_there (subject c.args.fact) c.args.entries.now c.args.at c.index-entries-at.result c.requires.place (c.requires.few is_media)
+
+pub add-requires-clause-members : goal.add-requires-clause-members
+add-requires-clause-members c = omega (arith, c.remove.ensures.members, c.requires.ordered.its_members, tally_at_most is_member c.args.entries.now, c.requires.within)
+
+pub add-requires-clause-senders : goal.add-requires-clause-senders
+add-requires-clause-senders c = omega (arith, c.remove.ensures.senders, c.requires.ordered.its_senders, tally_at_most is_sender c.args.entries.now, c.requires.within)
+
+pub returns-clause-ordered : goal.returns-clause-ordered
+returns-clause-ordered c =
+    ordered_set (subject c.args.fact) c.args.entries.now c.args.at c.index-entries-at.result c.requires.place c.apply-applied.new.self c.args.counts.now.members c.args.counts.now.senders c.remove.new.self.members c.remove.new.self.senders
+    c.add.new.self.members c.add.new.self.senders c.requires.ordered c.apply-applied.ensures.ssrc c.remove.ensures.members c.remove.ensures.senders c.add.ensures.members c.add.ensures.senders
+
+pub returns-clause-place : goal.returns-clause-place
+returns-clause-place c = place_applied c.args.entries.now c.args.at c.args.fact c.args.rate c.index-entries-at.result c.apply-applied.result.place c.requires.place c.apply-applied.ensures.place
+
+pub returns-clause-counted : goal.returns-clause-counted
+returns-clause-counted c = counted_applied c.args.entries.now c.args.at c.args.fact c.args.rate c.index-entries-at.result c.apply-applied.result.counted c.requires.place c.apply-applied.ensures.counted
+
+pub returns-clause-table : goal.returns-clause-table
+returns-clause-table c =
+    table_applied c.args.entries.now c.args.at c.args.fact c.args.t c.args.rate c.index-entries-at.result c.apply-applied.new.self (rising_apart c.args.entries.now c.requires.ordered.rising) c.requires.place c.apply-applied.ensures.ssrc c.apply-applied.ensures.value

@@ -1,0 +1,54 @@
+//! How many entries of a list are members and senders (RFC 3550, 6.2.1 and 6.3).
+
+ghost use Rattle.std.specs.Prelude.{◌≡◌, ◌+◌, ◌≤◌, ◌<◌, ◌^◌, length};
+ghost use Rattle.rtcp_members.specs.Entries.{is_member, is_sender};
+ghost use Rattle.rtcp_members.specs.ListViews.{entry_value, tally_of, weight_of};
+
+use crate::entry::Entry;
+
+/// How many members and senders there are.
+#[derive(Clone, Copy)]
+pub(crate) struct Counts {
+    pub(crate) members: u32,
+    pub(crate) senders: u32,
+}
+
+impl Counts {
+    /// Counts one entry more.
+    pub(crate) fn add(&mut self, entry: &Entry)
+        requires members { self.old.members + 1 < 2 ^ 32 }
+        requires senders { self.old.senders + 1 < 2 ^ 32 }
+        ensures members { self.new.members ≡ weight_of is_member entry.now + self.old.members }
+        ensures senders { self.new.senders ≡ weight_of is_sender entry.now + self.old.senders }
+    {
+        self.members += u32::from(entry.is_member());
+        self.senders += u32::from(entry.is_sender());
+    }
+
+    /// Counts an entry no more.
+    pub(crate) fn remove(&mut self, entry: &Entry)
+        requires members { weight_of is_member entry.now ≤ self.old.members }
+        requires senders { weight_of is_sender entry.now ≤ self.old.senders }
+        ensures members { self.old.members ≡ weight_of is_member entry.now + self.new.members }
+        ensures senders { self.old.senders ≡ weight_of is_sender entry.now + self.new.senders }
+    {
+        self.members -= u32::from(entry.is_member());
+        self.senders -= u32::from(entry.is_sender());
+    }
+}
+
+/// The counts of a list.
+pub(crate) fn tally(entries: &[Entry]) -> Counts
+    requires { length entries.now ≤ 1024 }
+    ensures members { result.members ≡ tally_of is_member entries.now }
+    ensures senders { result.senders ≡ tally_of is_sender entries.now }
+{
+    let mut counts = Counts {
+        members: 0,
+        senders: 0,
+    };
+    'entries: for entry in entries {
+        counts.add(entry);
+    }
+    counts
+}

@@ -1,0 +1,259 @@
+//! A table that keeps its entries by rising SSRC, with running counts.
+
+ghost use Rattle.std.specs.Prelude.{◌≡◌, ℕ, ◌<◌, ◌≤◌, ◌^◌, List, length, filter, take, drop, not, IfSome, IfOk, IfErr, IsTrue, Some};
+ghost use Rattle.std.specs.FinMap as finite;
+ghost use Rattle.std.specs.List.{list_all};
+ghost use Rattle.rtcp_wire.specs.Facts.{subject, is_media};
+ghost use Rattle.rtcp_members.specs.Traces.{horizons_at};
+ghost use Rattle.rtcp_members.specs.ListViews.{entry_value, rows_of, map_of, table_of, is_left, IsPlaceOf};
+ghost use Rattle.rtcp_members.specs.SortedViews.{IsRising, IsOrdered, IsSortedTable, IsGapFor};
+ghost use Rattle.rtcp_wire.specs.Views.{block_value};
+ghost use Rattle.rtcp_wire.specs.Writing.{IsWritableBlock};
+ghost use Rattle.rtcp_members.specs.Entries.{is_such};
+ghost use Rattle.rtcp_members.specs.Pending.{is_due, is_above, first_ssrc, block_at, after_block};
+ghost use Rattle.rtcp_members.specs.Tables.{IsFew, placed, counted, after_fact};
+
+use crate::counts::{Counts, tally};
+use crate::entry::Entry;
+use crate::list_table::drop_silent;
+use crate::table::{Applied, Dropped, MAX_CAPACITY, MemberTable, Place};
+use arrayvec::ArrayVec;
+use rtcp_wire::{Block, Fact};
+use std::marker::Model;
+
+/// A table of members by rising SSRC. It finds a source by binary search, and knows its counts without a
+/// walk. A check that drops nobody and ends no sending only reads. No call allocates.
+#[derive(Drop)]
+pub struct SortedTable {
+    capacity: u32,
+    rate: u32,
+    entries: ArrayVec<Entry, MAX_CAPACITY>,
+    counts: Counts,
+    /// Where the last source that was looked for stands, or would: the next fact is often of the same one.
+    last_place: usize,
+}
+
+impl Model for SortedTable {
+    ghost use Rattle.rtcp_members.specs.Tables.{TableValue};
+    ghost use Rattle.rtcp_members.specs.Codes.{table_code};
+    ghost use Rattle.rtcp_members.specs.ListViews.{table_of};
+    ghost use Rattle.rtcp_members.specs.SortedViews.{IsSortedTable};
+
+    ghost Value = { TableValue };
+
+    ghost coded = { table_code };
+
+    ghost view = { λ t. table_of t.capacity t.rate t.entries.items };
+
+    ghost invariant = { λ t. IsSortedTable t.capacity t.counts.members t.counts.senders t.entries.items };
+}
+
+impl MemberTable for SortedTable {
+    ghost content = { λ t. t };
+
+    fn empty(capacity: u32, rate: u32) -> SortedTable {
+        SortedTable {
+            capacity,
+            rate,
+            entries: ArrayVec::new(),
+            counts: Counts {
+                members: 0,
+                senders: 0,
+            },
+            last_place: 0,
+        }
+    }
+
+    fn apply(&mut self, fact: Fact, t: u64) -> Applied {
+        match search(self.entries.as_slice(), self.last_place, fact.ssrc()) {
+            Ok(at) => {
+                self.last_place = at;
+                let entries = self.entries.as_mut_slice();
+                apply_at(entries, &mut self.counts, at, fact, t, self.rate)
+            }
+            Err(gap) => {
+                self.last_place = gap;
+                let (entries, counts) = (&mut self.entries, &mut self.counts);
+                let place = admit(entries, counts, gap, self.capacity, fact, t, self.rate);
+                Applied {
+                    place,
+                    counted: false,
+                }
+            }
+        }
+    }
+
+    fn check(
+        &mut self,
+        _t: u64,
+        silent_before: u64,
+        data_before: u64,
+        gone_before: u64,
+    ) -> Dropped {
+        if changes_none(
+            self.entries.as_slice(),
+            silent_before,
+            data_before,
+            gone_before,
+        ) {
+            return Dropped {
+                entries: 0,
+                senders: 0,
+            };
+        }
+        let (entries, senders) = (self.entries.len(), self.counts.senders);
+        drop_silent(&mut self.entries, silent_before, data_before, gone_before);
+        self.counts = tally(self.entries.as_slice());
+        let removed = (entries - self.entries.len()) as u32;
+        let ended = senders - self.counts.senders;
+        Dropped {
+            entries: removed,
+            senders: ended,
+        }
+    }
+
+    fn members(&self) -> u32 {
+        self.counts.members
+    }
+
+    fn senders(&self) -> u32 {
+        self.counts.senders
+    }
+
+    fn next_with_news(&self, after: Option<u32>) -> Option<u32> {
+        let entries = self.entries.as_slice();
+        let (before, rest) = entries.split_at(first_above(entries, after));
+        match first_due(rest) {
+            Some(ssrc) => Some(ssrc),
+            None => first_due(before),
+        }
+    }
+
+    fn block_of(&mut self, ssrc: u32, t: u64) -> Block {
+        let at = search(self.entries.as_slice(), self.last_place, ssrc).unwrap();
+        self.last_place = at;
+        report_at(self.entries.as_mut_slice(), at, ssrc, t)
+    }
+}
+
+/// Where the entry of a source stands, or else the gap where it would. The last place is tried first.
+fn search(entries: &[Entry], last_place: usize, ssrc: u32) -> Result<usize, usize>
+    requires { IsRising entries.now }
+    ensures found { IfOk result (IsPlaceOf ssrc entries.now) }
+    ensures absent { IfErr result (IsGapFor ssrc entries.now) }
+{
+    if last_place < entries.len() && entries[last_place].ssrc == ssrc {
+        return Ok(last_place);
+    }
+    entries.binary_search_by_key(&ssrc, |entry| entry.ssrc)
+}
+
+/// A fact comes to the entry of its source, which stands at `at`.
+fn apply_at(
+    entries: &mut [Entry],
+    counts: &mut Counts,
+    at: usize,
+    fact: Fact,
+    t: u64,
+    rate: u32,
+) -> Applied
+    requires ordered { IsOrdered counts.old.members counts.old.senders entries.old }
+    requires within { length entries.old ≤ 1024 }
+    requires place { IsPlaceOf (subject fact) entries.old at }
+    requires few { IsTrue (is_media fact) → IfSome (finite.get (map_of entries.old) (subject fact)) IsFew }
+    ensures ordered { IsOrdered counts.new.members counts.new.senders entries.new }
+    ensures place { (capacity : ℕ) → result.place ≡ placed (table_of capacity rate entries.old) fact }
+    ensures counted { (capacity : ℕ) → result.counted ≡ counted (table_of capacity rate entries.old) fact }
+    ensures table { (capacity : ℕ) →
+        table_of capacity rate entries.new ≡ after_fact fact t (table_of capacity rate entries.old) }
+{
+    let entry = &mut entries[at];
+    counts.remove(entry);
+    let applied = entry.apply(fact, t, rate);
+    counts.add(entry);
+    applied
+}
+
+/// A fact comes whose source has no entry. Where it is added, its entry is put into the gap.
+fn admit(
+    entries: &mut ArrayVec<Entry, MAX_CAPACITY>,
+    counts: &mut Counts,
+    gap: usize,
+    capacity: u32,
+    fact: Fact,
+    t: u64,
+    rate: u32,
+) -> Place
+    requires sorted { IsSortedTable capacity counts.old.members counts.old.senders entries.old.items }
+    requires gap { IsGapFor (subject fact) entries.old.items gap }
+    ensures sorted { IsSortedTable capacity counts.new.members counts.new.senders entries.new.items }
+    ensures place { result ≡ placed (table_of capacity rate entries.old.items) fact }
+    ensures table { table_of capacity rate entries.new.items
+        ≡ after_fact fact t (table_of capacity rate entries.old.items) }
+{
+    if fact.is_goodbye() {
+        return Place::Ignored;
+    }
+    if entries.len() >= capacity as usize {
+        return Place::NoRoom;
+    }
+    let mut entry = Entry::new(fact.ssrc());
+    let _ = entry.take(fact, t, rate);
+    counts.add(&entry);
+    entries.insert(gap, entry);
+    Place::Added
+}
+
+/// Whether a check leaves each entry as it is.
+fn changes_none(entries: &[Entry], silent: u64, idle: u64, gone: u64) -> bool
+    ensures { result ≡ list_all (is_left (horizons_at silent idle gone)) entries.now }
+{
+    'entries: for entry in entries {
+        if !entry.is_left(silent, idle, gone) {
+            return false;
+        }
+    }
+    true
+}
+
+/// How many entries have no SSRC above `above`: where the others begin.
+fn first_above(entries: &[Entry], above: Option<u32>) -> usize
+    requires { IsRising entries.now }
+    ensures bound { result ≤ length entries.now }
+    ensures rest { filter (is_above above) (rows_of entries.now) ≡ rows_of (drop result entries.now) }
+    ensures before { filter (λ row. not (is_above above row)) (rows_of entries.now)
+        ≡ rows_of (take result entries.now) }
+{
+    match above {
+        Some(above) => entries.partition_point(|entry| entry.ssrc <= above),
+        None => 0,
+    }
+}
+
+/// The first source of which a block is due.
+fn first_due(entries: &[Entry]) -> Option<u32>
+    ensures { result ≡ first_ssrc (filter (λ row. is_due row.1) (rows_of entries.now)) }
+{
+    'entries: for entry in entries {
+        if entry.is_due() {
+            return Some(entry.ssrc);
+        }
+    }
+    None
+}
+
+/// The block of the source whose entry stands at `at`.
+fn report_at(entries: &mut [Entry], at: usize, ssrc: u32, t: u64) -> Block
+    requires rising { IsRising entries.old }
+    requires place { IsPlaceOf ssrc entries.old at }
+    requires due { IsTrue (is_such is_due (finite.get (map_of entries.old) ssrc)) }
+    ensures ordered { (members senders : ℕ) →
+        IsOrdered members senders entries.old → IsOrdered members senders entries.new }
+    ensures block { (capacity rate : ℕ) →
+        Some (block_value result) ≡ block_at ssrc t (table_of capacity rate entries.old) }
+    ensures table { (capacity rate : ℕ) →
+        table_of capacity rate entries.new ≡ after_block ssrc (table_of capacity rate entries.old) }
+    ensures writable { IsWritableBlock (block_value result) }
+{
+    entries[at].report(t)
+}
