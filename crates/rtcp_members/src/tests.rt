@@ -2,10 +2,12 @@ use super::*;
 use rtcp_wire::{Block, Fact};
 use std::test::*;
 
+mod histories;
 mod list;
 mod rooms;
 mod senders;
 mod session;
+mod sorted;
 mod turns;
 
 use session::Session;

@@ -3,7 +3,7 @@
 use super::*;
 use std::test::*;
 
-/// The example at the head of the crate.
+/// The example at the head of the crate, with the other table.
 #[test]
 fn example(rt: HostRuntime) {
     let mut table = ListTable::empty(1_024, 8_000);
@@ -23,6 +23,11 @@ fn room_for_two(rt: HostRuntime) {
 #[test]
 fn silence(rt: HostRuntime) {
     rooms::silence::<ListTable>(&rt);
+}
+
+#[test]
+fn full(rt: HostRuntime) {
+    rooms::full::<ListTable>(&rt);
 }
 
 #[test]

@@ -30,6 +30,20 @@ pub(crate) fn room_for_two<T: MemberTable + Drop>(rt: &impl Abort) {
     );
 }
 
+/// A table of 1,024, named in falling order, has no room for one source more.
+pub(crate) fn full<T: MemberTable + Drop>(rt: &impl Abort) {
+    let mut session: Session<T> = Session::new(1_024);
+    'ssrcs: for below in 0..1_024 {
+        let place = session.place(Fact::Named(2_000 - below), 0);
+        assert_eq!(rt; place, Some(Place::Added));
+    }
+    assert_eq!(rt; session.place(Fact::Named(976), 0), Some(Place::NoRoom));
+    assert_eq!(rt; session.place(Fact::Named(977), 0), Some(Place::Kept));
+    assert_eq!(rt; session.members(), 1_024);
+    assert_eq!(rt; session.place(Fact::Gone(1_500), 0), Some(Place::Left));
+    assert_eq!(rt; session.members(), 1_023);
+}
+
 /// A source is dropped where its last sighting lies before the horizon, and not at it. A goodbye is no
 /// sighting.
 pub(crate) fn silence<T: MemberTable + Drop>(rt: &impl Abort) {

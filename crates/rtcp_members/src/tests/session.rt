@@ -27,7 +27,7 @@ impl<T: MemberTable> Session<T> {
     }
 
     pub(crate) fn apply(&mut self, fact: Fact, t: u64) -> Applied
-        requires { self.old.facts < 1000 }
+        requires { self.old.facts < 100000 }
         ensures { self.new.facts ≡ self.old.facts + 1 }
     {
         let applied = self.table.apply(fact, t);
@@ -37,7 +37,7 @@ impl<T: MemberTable> Session<T> {
 
     /// Where a fact goes that is no counted packet.
     pub(crate) fn place(&mut self, fact: Fact, t: u64) -> Option<Place>
-        requires { self.old.facts < 1000 }
+        requires { self.old.facts < 100000 }
         ensures { self.new.facts ≡ self.old.facts + 1 }
     {
         let applied = self.apply(fact, t);
@@ -56,6 +56,10 @@ impl<T: MemberTable> Session<T> {
     {
         let ssrc = self.table.next_with_news(after)?;
         Some(self.table.block_of(ssrc, t))
+    }
+
+    pub(crate) fn next(&self, after: Option<u32>) -> Option<u32> {
+        self.table.next_with_news(after)
     }
 
     pub(crate) fn members(&self) -> u32 {
