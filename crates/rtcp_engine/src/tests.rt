@@ -1,6 +1,6 @@
 use super::*;
 use arrayvec::ArrayVec;
-use rtcp_members::{ListTable, MemberTable};
+use rtcp_members::{ListTable, MemberTable, SortedTable};
 use rtcp_wire::{FaultReason, RtpFault, WireFault};
 use std::process::Abort;
 use std::test::*;
@@ -12,5 +12,6 @@ mod list;
 mod rows;
 mod runs;
 mod session;
+mod sorted;
 
 use session::{REPORT, Session, config, fill_with_byes};

@@ -7,3 +7,4 @@ mod list;
 mod rows;
 mod session;
 mod sizes;
+mod sorted;

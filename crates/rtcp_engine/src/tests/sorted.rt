@@ -1,0 +1,148 @@
+//! Sessions over the table that keeps its entries sorted.
+
+use super::*;
+
+#[test]
+fn starts(rt: HostRuntime) {
+    rows::starts::<SortedTable>(&rt);
+}
+
+#[test]
+fn reports_once(rt: HostRuntime) {
+    rows::reports_once::<SortedTable>(&rt);
+}
+
+#[test]
+fn put_off(rt: HostRuntime) {
+    rows::put_off::<SortedTable>(&rt);
+}
+
+#[test]
+fn heard_and_named(rt: HostRuntime) {
+    rows::heard_and_named::<SortedTable>(&rt);
+}
+
+#[test]
+fn one_sender(rt: HostRuntime) {
+    rows::one_sender::<SortedTable>(&rt);
+}
+
+#[test]
+fn still_sender(rt: HostRuntime) {
+    rows::still_sender::<SortedTable>(&rt);
+}
+
+#[test]
+fn no_sender(rt: HostRuntime) {
+    rows::no_sender::<SortedTable>(&rt);
+}
+
+#[test]
+fn still_held(rt: HostRuntime) {
+    rows::still_held::<SortedTable>(&rt);
+}
+
+#[test]
+fn silent(rt: HostRuntime) {
+    rows::silent::<SortedTable>(&rt);
+}
+
+#[test]
+fn full(rt: HostRuntime) {
+    rows::full::<SortedTable>(&rt);
+}
+
+#[test]
+fn last_moments(rt: HostRuntime) {
+    rows::last_moments::<SortedTable>(&rt);
+}
+
+#[test]
+fn refused(rt: HostRuntime) {
+    rows::refused::<SortedTable>(&rt);
+}
+
+#[test]
+fn third_report(rt: HostRuntime) {
+    rows::third_report::<SortedTable>(&rt);
+}
+
+#[test]
+fn contributing(rt: HostRuntime) {
+    rows::contributing::<SortedTable>(&rt);
+}
+
+#[test]
+fn largest(rt: HostRuntime) {
+    rows::largest::<SortedTable>(&rt);
+}
+
+#[test]
+fn leaves_few(rt: HostRuntime) {
+    leaving::few::<SortedTable>(&rt);
+}
+
+#[test]
+fn leaves_many(rt: HostRuntime) {
+    leaving::many::<SortedTable>(&rt);
+}
+
+#[test]
+fn longest_wait(rt: HostRuntime) {
+    leaving::longest_wait::<SortedTable>(&rt);
+}
+
+#[test]
+fn left_twice(rt: HostRuntime) {
+    leaving::left_twice::<SortedTable>(&rt);
+}
+
+#[test]
+fn leaves_silently(rt: HostRuntime) {
+    leaving::silently::<SortedTable>(&rt);
+}
+
+#[test]
+fn leaves_silently_later(rt: HostRuntime) {
+    leaving::silently_later::<SortedTable>(&rt);
+}
+
+#[test]
+fn leaves_after_a_tick(rt: HostRuntime) {
+    leaving::after_a_tick::<SortedTable>(&rt);
+}
+
+#[test]
+fn leaves_after_a_packet(rt: HostRuntime) {
+    leaving::after_a_packet::<SortedTable>(&rt);
+}
+
+#[test]
+fn leaves_after_an_old_packet(rt: HostRuntime) {
+    leaving::after_an_old_packet::<SortedTable>(&rt);
+}
+
+#[test]
+fn leaves_unchecked(rt: HostRuntime) {
+    leaving::unchecked::<SortedTable>(&rt);
+}
+
+#[test]
+fn most_leaving(rt: HostRuntime) {
+    leaving::most_leaving::<SortedTable>(&rt);
+}
+
+#[test]
+fn passed_by(rt: HostRuntime) {
+    leaving::passed_by::<SortedTable>(&rt);
+}
+
+#[test]
+fn refused_in_backoff(rt: HostRuntime) {
+    leaving::refused::<SortedTable>(&rt);
+}
+
+#[test]
+fn bye_put_off(rt: HostRuntime) {
+    leaving::put_off::<SortedTable>(&rt);
+}
