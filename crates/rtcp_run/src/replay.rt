@@ -19,7 +19,7 @@ use crate::player::Player;
 use crate::text::push_start;
 use crate::writing::write_whole;
 use rtcp_engine::{Config, Participant};
-use rtcp_members::{ListTable, MemberTable};
+use rtcp_members::{MemberTable, SortedTable};
 use std::alloc::{AllocError, Global};
 use std::io::{Read, Write};
 
@@ -85,7 +85,7 @@ pub fn replay<R: Read, W: Write>(
     ensures read_once { failures_of reader.new ≤ 1 }
     ensures write_once { failures_of writer.new ≤ 1 }
 {
-    let participant = match Participant::<ListTable>::new(config, word) {
+    let participant = match Participant::<SortedTable>::new(config, word) {
         Ok(participant) => participant,
         Err(error) => return Err(ReplayFault::Config(error)),
     };
