@@ -1,6 +1,13 @@
 //! Sessions over the table that keeps its entries sorted.
 
 use super::*;
+use std::mem::size_of;
+
+/// What one participant takes, whoever is there: a conference server holds thousands.
+#[test]
+fn size(rt: HostRuntime) {
+    assert!(rt; size_of::<Participant<SortedTable>>() < 160_000);
+}
 
 #[test]
 fn starts(rt: HostRuntime) {
