@@ -1,0 +1,120 @@
+"""Holds `rtcp replay` against the plain model: whether they differ over a session, what is needed of it for a
+difference, and what kinds of answers there are."""
+import collections
+import re
+import shlex
+import subprocess
+import sys
+import tempfile
+from pathlib import Path
+
+import participant
+
+USAGE = participant.__doc__ + "\n"
+LONGEST_RUN = 600  # seconds, so that a run without an end is a difference too
+
+
+def output(command, octets):
+    """What a command writes to standard output and to standard error, and its status."""
+    try:
+        ran = subprocess.run(command, input=octets, capture_output=True, timeout=LONGEST_RUN)
+    except subprocess.TimeoutExpired:
+        return "", f"no end within {LONGEST_RUN} seconds\n", None
+    return ran.stdout.decode(errors="replace"), ran.stderr.decode(errors="replace"), ran.returncode
+
+
+def run(program, options, octets):
+    return output([program, "replay", *options], octets)
+
+
+def both(program, options, octets):
+    """What the program and the model give. The text of a usage is free."""
+    got, want = run(program, options, octets), participant.replay(options, octets)
+    if want[1] == USAGE and got[1] != "":
+        got = (got[0], USAGE, got[2])
+    return got, want
+
+
+def differs(program, options, octets):
+    """What the program and the model give where they differ, else none."""
+    got, want = both(program, options, octets)
+    return None if got == want else (got, want)
+
+
+def lines_of(octets):
+    return re.findall(b"[^\n]*\n|[^\n]+", octets)
+
+
+def shortest_prefix(program, options, octets):
+    """The fewest first lines over which the two differ."""
+    lines = lines_of(octets)
+    got = run(program, options, octets)[0].split("\n")
+    want = participant.replay(options, octets)[0].split("\n")
+    same = 0
+    while same < min(len(got), len(want)) - 1 and got[same] == want[same]:
+        same += 1
+    for count in [same, *range(len(lines))]:  # after a crash, answers before the difference may be missing too
+        if differs(program, options, b"".join(lines[:count])):
+            return b"".join(lines[:count])
+    return octets
+
+
+def thinned(parts, differs_over):
+    """The parts that are left where each that is not needed for a difference is taken out."""
+    for place in reversed(range(len(parts))):
+        fewer = parts[:place] + parts[place + 1:]
+        if differs_over(fewer):
+            parts = fewer
+    return parts
+
+
+def kept(name, octets):
+    """A file for what is too long to print."""
+    file = Path(tempfile.gettempdir()) / name
+    file.write_bytes(octets)
+    return file
+
+
+def show(name, program, options, octets):
+    """Ends the run with a difference."""
+    if not differs(program, options, octets):
+        sys.exit(f"{name}: the same answers")
+    prefix = shortest_prefix(program, options, octets)
+    file = kept("difference.replay", prefix)
+    print(f"{name}: {shlex.join(options)}")
+    print(f"The first {len(lines_of(prefix))} lines differ: {file}. What is needed of these:")
+    few = b"".join(thinned(lines_of(prefix), lambda lines: differs(program, options, b"".join(lines))))
+    print(few.decode(errors="backslashreplace"))
+    for who, (answers, fault, status) in zip(("program", "model"), differs(program, options, few)):
+        last = answers.splitlines()[-1:] or ["nothing"]
+        print(f"  {who:8} {last[0]}\n  {who:8} {len(answers.splitlines())} answers, status {status}, {fault!r}")
+    sys.exit(1)
+
+
+def ways_to_leave(octets, answers):
+    """What the leaves of a session came to."""
+    in_backoff = False
+    for line, answer in zip(lines_of(octets), answers.splitlines()[1:]):
+        is_leave = line.startswith(b"leave") and answer.startswith("ok")
+        if "next=-" in answer:
+            yield "BYE after a backoff" if in_backoff else "BYE at once" if "bye:" in answer else "left without a BYE"
+        elif is_leave:
+            yield "leave in a backoff" if in_backoff else "backoff"
+            in_backoff = True
+
+
+def kinds_of(octets, answers, fault):
+    """How many answers there are of each kind."""
+    kinds = re.findall("^(?:ok|refused E[0-9]+|start)", answers, re.M)
+    names = {"c8": "sender report", "c9": "receiver report"}
+    kinds += [names[kind] for kind in re.findall("report:..(c8|c9)", answers)]
+    kinds += ["report with 31 blocks in its first packet" for _ in re.findall("report:9f", answers)]
+    kinds += ways_to_leave(octets, answers)
+    if fault:
+        kinds.append("usage" if fault == USAGE else re.sub("line [0-9]+: ", "", fault).strip())
+    return collections.Counter(kinds)
+
+
+def listed(kinds):
+    """A line for each kind with its number."""
+    return "".join(f"  {kind}: {number}\n" for kind, number in sorted(kinds.items()))
