@@ -60,6 +60,11 @@ def with_moment(line, change):
     return b" ".join(fields)
 
 
+def moment_of(line):
+    found = re.match(b"[a-z]+ ([0-9]{1,20}) ", line)
+    return int(found[1]) if found else 0
+
+
 class Session:
     """A session while it grows: its options, its lines, and the changes to these."""
 
@@ -139,8 +144,7 @@ class Session:
         start, place = self.rng.randrange(len(others) + 1), self.place()
         some = others[start:start + self.rng.randrange(1, 20)]
         if some and self.rng.randrange(2):
-            first = re.match(b"[a-z]+ ([0-9]{1,20}) ", some[0])
-            later = self.moment(place) - (int(first[1]) if first else 0)
+            later = self.moment(place) - moment_of(some[0])
             some = [with_moment(line, lambda moment: moment + later) for line in some]
         self.lines[place:place] = some
 
@@ -347,7 +351,7 @@ class Session:
                 if later:
                     line = with_moment(line, lambda moment: moment + (later if moment < FURTHEST else 0))
                 if line.startswith(b"tick ") and rng.random() < chance and not model.has_left:
-                    missing = max(0, self.target(model, moments) - self.moment_of(line))
+                    missing = max(0, self.target(model, moments) - moment_of(line))
                     line, later = with_moment(line, lambda moment: moment + missing), later + missing
                 self.lines[place] = line
                 participant.answer(model, line)
@@ -361,10 +365,6 @@ class Session:
         near = choose(rng, (4, 0), (1, 1), (1, -1), (2, rng.randrange(SECOND)))
         edge = rng.choice(moments[-20:]) + rng.choice(histories.WAITS) + rng.choice([-1, 0, 1])
         return choose(rng, (3, max(model.next, model.last_call) + near), (1, edge))
-
-    def moment_of(self, line):
-        found = re.match(b"[a-z]+ ([0-9]{1,20}) ", line)
-        return int(found[1]) if found else 0
 
     def made(self):
         if self.is_flood:
