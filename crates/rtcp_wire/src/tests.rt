@@ -6,7 +6,9 @@ use std::test::*;
 mod about;
 mod body_faults;
 mod changes;
+mod damage;
 mod facts;
+mod samples;
 mod types;
 mod writing;
 

@@ -41,6 +41,41 @@ fn first_word(rt: HostRuntime) {
     }
 }
 
+/// With a length of five words the report reaches to the end, and the source description is its extension.
+#[test]
+fn longer_report(rt: HostRuntime) -> Result<(), Fail> {
+    let mut octets = NAMED;
+    octets[3] = 4;
+    match Compound::read(&octets)?.packets().next() {
+        Some(PacketView::Rr(report)) => assert_eq!(rt; report.extension, &NAMED[8..]),
+        _ => panic!(rt; "the first packet is a receiver report"),
+    }
+    Ok(())
+}
+
+/// The header of the source description: read as another type, its body of two words is too short for a
+/// report's block, and a goodbye has room for its source and a reason of one octet.
+#[test]
+fn second_header(rt: HostRuntime) {
+    let rows = [
+        (8, fault(FaultReason::Version, 8), 192),
+        (8, fault(FaultReason::Padding, 8), 32),
+        (8, fault(FaultReason::Body, 8), 31),
+        (8, None, 1),
+        (9, fault(FaultReason::Body, 8), 2),
+        (9, None, 254),
+        (10, fault(FaultReason::Length, 8), 255),
+        (10, None, 1),
+        (11, fault(FaultReason::Body, 8), 1),
+        (11, fault(FaultReason::Item, 8), 1),
+        (11, fault(FaultReason::Length, 8), 253),
+        (11, None, 1),
+    ];
+    for (place, expected, count) in rows {
+        assert_eq!(rt; counted(place, expected), count, "octet {place}");
+    }
+}
+
 /// Any SSRC is read, and so is any octet of the text.
 #[test]
 fn free_octets(rt: HostRuntime) {
