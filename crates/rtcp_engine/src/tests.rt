@@ -1,11 +1,12 @@
 use super::*;
 use arrayvec::ArrayVec;
 use rtcp_members::{ListTable, MemberTable, SortedTable};
-use rtcp_wire::{FaultReason, RtpFault, WireFault};
+use rtcp_wire::{Compound, FaultReason, RtpFault, WireFault};
 use std::process::Abort;
 use std::test::*;
 
 mod configs;
+mod damage;
 mod host;
 mod leaving;
 mod list;

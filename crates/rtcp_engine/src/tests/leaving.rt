@@ -25,7 +25,7 @@ fn reported<T: MemberTable + Drop>(rt: &impl Abort, others: u8) -> Session<T> {
 /// leaves needs 4,000,000 · 14,336 / (3 · 256 · 400) microseconds, less than 0.2 seconds, so that the
 /// interval is the initial minimum of 2,500,000, and the draw by the word 0 is 2,500,000 / (2 · 1.21828),
 /// rounded up, 1,026,037.
-fn backing_off<T: MemberTable + Drop>(rt: &impl Abort) -> Session<T> {
+pub(super) fn backing_off<T: MemberTable + Drop>(rt: &impl Abort) -> Session<T> {
     let mut session = reported::<T>(rt, 50);
     assert_eq!(rt; session.participant.members(), 51);
     session.leave(10_000_000, 0).is(rt, 1, 0, 11_026_037);

@@ -146,3 +146,13 @@ fn refused_in_backoff(rt: HostRuntime) {
 fn bye_put_off(rt: HostRuntime) {
     leaving::put_off::<ListTable>(&rt);
 }
+
+#[test]
+fn damaged(rt: HostRuntime) {
+    damage::present::<ListTable>(&rt);
+}
+
+#[test]
+fn damaged_in_backoff(rt: HostRuntime) {
+    damage::backing_off::<ListTable>(&rt);
+}

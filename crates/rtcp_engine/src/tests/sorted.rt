@@ -153,3 +153,13 @@ fn refused_in_backoff(rt: HostRuntime) {
 fn bye_put_off(rt: HostRuntime) {
     leaving::put_off::<SortedTable>(&rt);
 }
+
+#[test]
+fn damaged(rt: HostRuntime) {
+    damage::present::<SortedTable>(&rt);
+}
+
+#[test]
+fn damaged_in_backoff(rt: HostRuntime) {
+    damage::backing_off::<SortedTable>(&rt);
+}

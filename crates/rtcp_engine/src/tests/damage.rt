@@ -1,0 +1,347 @@
+//! Damage, over any table: two participants are told the same, but for what is refused, which only the first
+//! one is told. They answer the next event alike, octet for octet.
+
+use super::*;
+
+/// A receiver report of source 7, and its CNAME.
+const NAMED: &[u8] = &[
+    0x80, 0xc9, 0, 1, 0, 0, 0, 7, 0x81, 0xca, 0, 2, 0, 0, 0, 7, 1, 1, 0x61, 0,
+];
+
+/// An RTP packet of source 9.
+const PACKET: &[u8] = &[0x80, 0, 0, 10, 0, 0, 0, 0, 0, 0, 0, 9];
+
+/// A receiver report of the participant.
+const OURS: &[u8] = &[0x80, 0xc9, 0, 1, 0, 0, 0, 0xaa];
+
+/// An RTP packet of the participant.
+const OUR_PACKET: &[u8] = &[0x80, 0, 0, 1, 0, 0, 0, 0, 0, 0, 0, 0xaa];
+
+/// Datagrams to damage: some are read whole, and some have a fault already.
+static SAMPLES: [&[u8]; 17] = [
+    // a receiver report with no blocks
+    &[0x80, 0xc9, 0, 1, 0, 0, 0, 7],
+    // with a CNAME, and with an octet more
+    NAMED,
+    &[
+        0x80, 0xc9, 0, 1, 0, 0, 0, 7, 0x81, 0xca, 0, 2, 0, 0, 0, 7, 1, 1, 0x61, 0, 0,
+    ],
+    // padding: of the first packet, and of a goodbye
+    &[0xa0, 0xc9, 0, 2, 0, 0, 0, 7, 0, 0, 0, 4],
+    &[
+        0x80, 0xc9, 0, 1, 0, 0, 0, 7, 0xa1, 0xcb, 0, 2, 0, 0, 0, 7, 0, 0, 0, 4,
+    ],
+    // a report that lacks its last octet, and one that lacks its block
+    &[0x80, 0xc9, 0, 1, 0, 0, 0],
+    &[0x81, 0xc9, 0, 1, 0, 0, 0, 7],
+    // an item, and a reason, that run past their bodies
+    &[
+        0x80, 0xc9, 0, 1, 0, 0, 0, 7, 0x81, 0xca, 0, 2, 0, 0, 0, 7, 1, 5, 0x61, 0,
+    ],
+    &[
+        0x80, 0xc9, 0, 1, 0, 0, 0, 7, 0x81, 0xcb, 0, 2, 0, 0, 0, 7, 5, 0x61, 0x62, 0x63,
+    ],
+    // a sender report
+    &[
+        0x80, 0xc8, 0, 6, 0, 0, 0, 9, 0, 0, 0xb7, 5, 0x20, 0, 0, 0, 0, 0, 0, 10, 0, 0, 0, 3, 0, 0,
+        1, 0xe0,
+    ],
+    // two RTP packets
+    PACKET,
+    &[0x80, 0, 0, 11, 0, 0, 0, 0, 0, 0, 0, 9],
+    // a goodbye
+    &[0x80, 0xc9, 0, 1, 0, 0, 0, 1, 0x81, 0xcb, 0, 1, 0, 0, 0, 1],
+    // a packet of an application
+    &[
+        0x80, 0xc9, 0, 1, 0, 0, 0, 7, 0x85, 0xcc, 0, 3, 0, 0, 0, 7, 0x41, 0x42, 0x43, 0x44, 1, 2,
+        3, 4,
+    ],
+    // goodbyes with a reason, with an empty one, and of nobody
+    &[
+        0x80, 0xc9, 0, 1, 0, 0, 0, 7, 0x81, 0xcb, 0, 2, 0, 0, 0, 7, 2, 0x61, 0x62, 0,
+    ],
+    &[
+        0x80, 0xc9, 0, 1, 0, 0, 0, 7, 0x81, 0xcb, 0, 2, 0, 0, 0, 7, 0, 0, 0, 0,
+    ],
+    &[0x80, 0xc9, 0, 1, 0, 0, 0, 7, 0x80, 0xcb, 0, 0],
+];
+
+/// How many of the damaged samples are refused as RTCP, and how many as RTP, for a fault or for the own SSRC.
+/// These numbers, and that of the reports, are those of compare/damage, whose model is written from docs/
+/// alone.
+const REFUSED: (u32, u32) = (44_085, 63_401);
+
+/// Two participants that are told the same, but for what is refused.
+#[derive(Drop)]
+struct Pair<T: MemberTable> {
+    harmed: Session<T>,
+    spared: Session<T>,
+    /// whether some of the ticks are to be due
+    reports: bool,
+    /// the moment of the last event that was taken
+    now: u64,
+    /// how many events were refused
+    refused: u32,
+    /// how many damaged datagrams were refused as RTCP, and how many as RTP
+    damaged: (u32, u32),
+    /// how many compounds were handed out
+    sent: u32,
+}
+
+/// While a participant is present, and the table is often full.
+pub(crate) fn present<T: MemberTable + Drop>(rt: &impl Abort) {
+    let harmed = Session::new(rt, small());
+    let spared = Session::new(rt, small());
+    let mut pair = Pair::<T>::new(harmed, spared, 0, true);
+    pair.damage_samples(rt);
+    assert_eq!(rt; pair.damaged, REFUSED);
+    assert_eq!(rt; pair.sent, 1_063);
+}
+
+/// The usual configuration, but for a table of 60 sources.
+fn small() -> Config {
+    Config {
+        capacity: 60,
+        ..config()
+    }
+}
+
+/// While a participant backs off, until both say goodbye.
+pub(crate) fn backing_off<T: MemberTable + Drop>(rt: &impl Abort) {
+    let harmed = leaving::backing_off::<T>(rt);
+    let spared = leaving::backing_off::<T>(rt);
+    let mut pair = Pair::new(harmed, spared, 10_000_000, false);
+    pair.damage_samples(rt);
+    assert_eq!(rt; pair.damaged, REFUSED);
+    pair.wait(rt);
+    assert_eq!(rt; pair.sent, 1);
+    pair.harmed.is_gone(rt);
+}
+
+impl<T: MemberTable + Drop> Pair<T> {
+    fn new(harmed: Session<T>, spared: Session<T>, now: u64, reports: bool) -> Pair<T> {
+        Pair {
+            harmed,
+            spared,
+            reports,
+            now,
+            refused: 0,
+            damaged: (0, 0),
+            sent: 0,
+        }
+    }
+
+    /// Damages each sample. What is whole is a sample that is read, or else the named report.
+    fn damage_samples(&mut self, rt: &impl Abort) {
+        for octets in SAMPLES {
+            let whole = if Compound::read(octets).is_ok() {
+                octets
+            } else {
+                NAMED
+            };
+            self.refuse_own(rt, whole);
+            self.cut(rt, octets, whole);
+            self.change(rt, octets, whole);
+        }
+    }
+
+    /// Calls that are refused for their moment, or for the participant's own SSRC.
+    fn refuse_own(&mut self, rt: &impl Abort, whole: &[u8]) {
+        self.go_on(rt, whole);
+        let before = self.now.saturating_sub(1);
+        self.refuse_moment(rt, before, whole, Refusal::Backwards);
+        self.refuse_moment(rt, (1 << 50) + 1, whole, Refusal::TooFar);
+        let now = self.later();
+        let ours = self.harm(rt, Event::ArriveRtcp { now, bytes: OURS }, whole);
+        assert!(rt; ours == Some(Refusal::OwnSsrc));
+        let now = self.later();
+        let ours = self.harm(
+            rt,
+            Event::ArriveRtp {
+                now,
+                bytes: OUR_PACKET,
+            },
+            whole,
+        );
+        assert!(rt; ours == Some(Refusal::OwnSsrc));
+    }
+
+    /// Each call at a moment for which it is refused.
+    fn refuse_moment(&mut self, rt: &impl Abort, now: u64, whole: &[u8], refusal: Refusal) {
+        for event in [
+            Event::ArriveRtcp { now, bytes: NAMED },
+            Event::ArriveRtp { now, bytes: PACKET },
+            Event::SentRtp {
+                now,
+                rtp_ts: 0,
+                octets: 160,
+            },
+            Event::Tick { now, w1: 0, w2: 0 },
+            Event::Leave { now, w: 0 },
+        ] {
+            let found = self.harm(rt, event, whole);
+            assert!(rt; found == Some(refusal));
+        }
+    }
+
+    /// Each prefix of a sample comes.
+    fn cut(&mut self, rt: &impl Abort, octets: &[u8], whole: &[u8]) {
+        for size in 0..=octets.len() {
+            self.come(rt, octets.split_at(size).0, whole);
+        }
+    }
+
+    /// Each change of one octet of a sample comes.
+    fn change(&mut self, rt: &impl Abort, octets: &[u8], whole: &[u8]) {
+        for place in 0..octets.len() {
+            self.change_at(rt, octets, place, whole);
+        }
+    }
+
+    /// The sample comes with each of the other 255 values of an octet.
+    fn change_at(&mut self, rt: &impl Abort, octets: &[u8], place: usize, whole: &[u8]) {
+        for mask in 1..=255u8 {
+            let mut changed = ArrayVec::<u8, 28>::new();
+            let _ = changed.try_extend_from_slice(octets);
+            if let Some(octet) = changed.as_mut_slice().get_mut(place) {
+                *octet ^= mask;
+            }
+            self.come(rt, changed.as_slice(), whole);
+        }
+    }
+
+    /// A datagram comes as RTCP, and as RTP.
+    fn come(&mut self, rt: &impl Abort, bytes: &[u8], whole: &[u8]) {
+        let now = self.later();
+        if self
+            .harm(rt, Event::ArriveRtcp { now, bytes }, whole)
+            .is_some()
+        {
+            self.damaged.0 = self.damaged.0.saturating_add(1);
+        }
+        let now = self.later();
+        if self
+            .harm(rt, Event::ArriveRtp { now, bytes }, whole)
+            .is_some()
+        {
+            self.damaged.1 = self.damaged.1.saturating_add(1);
+        }
+    }
+
+    /// A moment after that of the next event: where it is refused, it is not to be the last one.
+    fn later(&self) -> u64 {
+        self.now.saturating_add(10)
+    }
+
+    /// Tells the first one an event. Where it refuses it, nothing of it is seen, and both go on; where it
+    /// takes it, the other one takes it too.
+    fn harm(&mut self, rt: &impl Abort, event: Event<'_>, whole: &[u8]) -> Option<Refusal> {
+        let before = counts(&self.harmed);
+        match tell(&mut self.harmed, event) {
+            Err(refusal) => {
+                assert!(rt; counts(&self.harmed) == before);
+                self.refused = self.refused.saturating_add(1);
+                self.go_on(rt, whole);
+                Some(refusal)
+            }
+            Ok(step) => {
+                self.now = self.later();
+                self.repeat(rt, step, event);
+                None
+            }
+        }
+    }
+
+    /// Tells both an event that they take: in turn the whole datagram, a packet that is sent, a packet that
+    /// comes, and a tick. One tick in 25 is due where reports are to be sent.
+    fn go_on(&mut self, rt: &impl Abort, whole: &[u8]) {
+        self.now = self.now.saturating_add(1);
+        if self.reports && self.refused % 100 == 99 {
+            self.now = self.now.max(self.spared.participant.next().unwrap_or(0));
+        }
+        let now = self.now;
+        let [high, low] = ((self.refused / 4 % 65_536) as u16).to_be_bytes();
+        let packet = [0x80, 0, high, low, 0, 0, 0, 0, 0, 0, 0, 9];
+        match self.refused % 4 {
+            0 => self.tell_both(rt, Event::ArriveRtcp { now, bytes: whole }),
+            1 => self.tell_both(
+                rt,
+                Event::SentRtp {
+                    now,
+                    rtp_ts: 0,
+                    octets: 160,
+                },
+            ),
+            2 => self.tell_both(
+                rt,
+                Event::ArriveRtp {
+                    now,
+                    bytes: &packet,
+                },
+            ),
+            _ => self.tell_both(rt, Event::Tick { now, w1: 0, w2: 0 }),
+        }
+    }
+
+    /// Asks both when they want to be asked, until they are gone.
+    fn wait(&mut self, rt: &impl Abort) {
+        for _ in 0..100 {
+            if let Some(now) = self.spared.participant.next() {
+                self.tell_both(rt, Event::Tick { now, w1: 0, w2: 0 });
+            }
+        }
+    }
+
+    /// Tells both an event that they take.
+    fn tell_both(&mut self, rt: &impl Abort, event: Event<'_>) {
+        match tell(&mut self.harmed, event) {
+            Ok(step) => self.repeat(rt, step, event),
+            Err(_) => panic!(rt; "it is refused"),
+        }
+    }
+
+    /// Tells the second one the event too. Its answer is this step.
+    fn repeat(&mut self, rt: &impl Abort, step: Step, event: Event<'_>) {
+        let Ok(other) = tell(&mut self.spared, event) else {
+            panic!(rt; "the second one refuses it");
+        };
+        assert_eq!(rt; step.members, other.members);
+        assert_eq!(rt; step.senders, other.senders);
+        assert!(rt; step.next == other.next);
+        match (step.out, other.out) {
+            (Some(out), Some(other)) => {
+                assert!(rt; out.kind == other.kind);
+                assert!(rt; out.bytes.as_slice() == other.bytes.as_slice());
+                self.sent = self.sent.saturating_add(1);
+            }
+            (None, None) => {}
+            _ => panic!(rt; "one of them hands something out"),
+        }
+    }
+}
+
+/// What is to be seen of a participant between its calls.
+fn counts<T: MemberTable>(session: &Session<T>) -> (u32, u32, Option<u64>) {
+    let participant = &session.participant;
+    (
+        participant.members(),
+        participant.senders(),
+        participant.next(),
+    )
+}
+
+/// Tells a participant an event.
+fn tell<T: MemberTable>(session: &mut Session<T>, event: Event<'_>) -> Answer {
+    let participant = &mut session.participant;
+    match event {
+        Event::ArriveRtcp { now, bytes } => participant.arrive_rtcp(now, bytes),
+        Event::ArriveRtp { now, bytes } => participant.arrive_rtp(now, bytes),
+        Event::SentRtp {
+            now,
+            rtp_ts,
+            octets,
+        } => participant.sent_rtp(now, rtp_ts, octets),
+        Event::Tick { now, w1, w2 } => participant.tick(now, w1, w2),
+        Event::Leave { now, w } => participant.leave(now, w),
+    }
+}
