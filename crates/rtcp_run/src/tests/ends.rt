@@ -138,6 +138,27 @@ fn failed_writes(rt: HostRuntime) {
     }
 }
 
+/// A writer that takes a whole answer at each call holds exactly the answers to the lines before the failed one.
+#[test]
+fn failed_answers(rt: HostRuntime) {
+    for (calls, octets) in [(0, 0), (1, 21), (2, 35)] {
+        let writer = Narrow {
+            taken: Vec::new(rt.alloc()),
+            piece: TEXT.len(),
+            calls,
+            fails: true,
+        };
+        let (outcome, _, writer) = checked(rt.alloc(), LINES, writer);
+        assert_eq!(rt; outcome, Err(TextFault::Write), "{calls}");
+        same(
+            &rt,
+            &writer.taken,
+            TEXT.split_at(octets).0,
+            "the answers before",
+        );
+    }
+}
+
 /// A count of reads starts at 0, and a call that fails is passed on.
 #[test]
 fn counted_reads(rt: HostRuntime) {

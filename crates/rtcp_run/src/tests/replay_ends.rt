@@ -118,6 +118,28 @@ fn failed_writes(rt: HostRuntime) {
     }
 }
 
+/// A writer that takes a whole answer at each call holds exactly the start and the answers to the lines before
+/// the failed one.
+#[test]
+fn failed_answers(rt: HostRuntime) {
+    for (calls, octets) in [(0, 0), (1, 39), (2, 81), (3, 169)] {
+        let writer = Narrow {
+            taken: Vec::new(rt.alloc()),
+            piece: TEXT.len(),
+            calls,
+            fails: true,
+        };
+        let (outcome, _, writer) = replayed(rt.alloc(), LINES, writer);
+        assert_eq!(rt; outcome, WRITE, "{calls}");
+        same(
+            &rt,
+            &writer.taken,
+            TEXT.split_at(octets).0,
+            "the answers before",
+        );
+    }
+}
+
 /// A line and the first words of one, its other words, its line feed and a word, and the last octet.
 const BLOCKS: [&[u8]; 4] = [
     b"rtcp 0 80c900010000000781ca00020000000701016100\ntick 1026037 ",

@@ -105,6 +105,17 @@ fn texts(rt: HostRuntime) -> Result<(), Fail> {
     Ok(())
 }
 
+/// A line that is not too long, with a datagram that is.
+#[test]
+fn longest_datagram(rt: HostRuntime) -> Result<(), Fail> {
+    let zeros = "0".repeat(rt.alloc(), 131_072)?;
+    let line = format!(in rt.alloc(); "rtcp 0 {zeros}")?;
+    let text = "start members=1 senders=0 next=1026037\nrefused E5 Wire: F10 TooLong at 0\n";
+    let ended = ended(rt.alloc(), &PLAIN, line.as_bytes(), 100)?;
+    ends_with(&rt, ended, 0, text, "");
+    Ok(())
+}
+
 /// Configurations that are refused: the CNAME, an option, its value, and the fault line.
 static REFUSED: [(&str, &str, &str, &str); 6] = [
     ("", "--capacity", "0", "config C1 Cname\n"),
