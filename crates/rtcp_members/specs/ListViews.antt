@@ -31,16 +31,16 @@ tally_of test entries = length (filter (λ (e : Entry). test (entry_value e)) en
 abbrev pub weight_of : (EntryValue → Bool) → Entry → ℕ
 weight_of test e = if test (entry_value e) then 1 else 0
 
--- an entry that stays, after a check
-abbrev pub lapsed : (idle : ℕ) → Entry → Entry
-lapsed idle e = if is_none e.mark && is_before e.sending idle then record e { sending = None } else e
-
-abbrev pub outlasts : Horizons → Entry → Bool
-outlasts horizons e = not (is_removed horizons e.sighting e.mark)
-
 -- whether a check ends an entry's sending
 abbrev pub lapses : (idle : ℕ) → Entry → Bool
 lapses idle e = is_none e.mark && is_before e.sending idle
+
+-- an entry that stays, after a check
+abbrev pub lapsed : (idle : ℕ) → Entry → Entry
+lapsed idle e = if lapses idle e then record e { sending = None } else e
+
+abbrev pub outlasts : Horizons → Entry → Bool
+outlasts horizons e = not (is_removed horizons e.sighting e.mark)
 
 -- whether a check leaves an entry as it is
 abbrev pub is_left : Horizons → Entry → Bool

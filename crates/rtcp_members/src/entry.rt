@@ -1,4 +1,4 @@
-//! What a list table keeps of a source (RFC 3550, 6.2.1, 6.3.3 to 6.3.5 and 6.3.7).
+//! What a table keeps of a source (RFC 3550, 6.2.1, 6.3.3 to 6.3.5 and 6.3.7).
 
 ghost use Rattle.std.specs.Prelude.{◌≡◌, nat_lt, ◌||◌, ◌<◌, ◌^◌, None, Some, Bool, IsTrue, not};
 ghost use Rattle.rtcp_members.specs.ListViews.{entry_value, lapses, lapsed, outlasts, is_left};
