@@ -8,3 +8,6 @@ pub draw_within_bounds : (td : ℕ) (w : ℕ) → w < 2 ^ 32 →
 draw_within_bounds td w in_range =
     let greatest : td * w ≤ td * 0xffffffff = mul-le-mul_left td (omega arith) in
     (omega arith, omega arith)
+
+pub longest_never_falls : (td greater : ℕ) → td ≤ greater → longest_draw td ≤ longest_draw greater
+longest_never_falls td greater le = omega (arith, le)

@@ -9,3 +9,8 @@ pub fn draw_within_bounds()
     ensures { (td : ℕ) (w : ℕ) → w < 2 ^ 32 →
         (shortest_draw td ≤ drawn_interval td w) × (drawn_interval td w ≤ longest_draw td) }
 {}
+
+/// The longest draw never falls as the deterministic interval grows (RFC 3550, 6.3.1).
+pub fn longest_never_falls()
+    ensures { (td greater : ℕ) → td ≤ greater → longest_draw td ≤ longest_draw greater }
+{}
