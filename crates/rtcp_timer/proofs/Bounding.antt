@@ -1,8 +1,10 @@
 -- Bounds on a schedule's moments.
-use Rattle.std.proofs.Common.{◌≡◌, ℕ, ◌+◌, ◌-◌, ◌<◌, ◌≤◌, true, false, nat_lt, max, if◌then◌else◌, List, [], ◌∷◌, arith}
+use Rattle.std.proofs.Common.{◌≡◌, ℕ, ◌+◌, ◌-◌, ◌^◌, ◌<◌, ◌≤◌, true, false, nat_lt, nat_le, max, if◌then◌else◌, List, [], ◌∷◌, arith}
 use Rattle.std.proofs.lemmas.Bool.Decides.{nat_tests}
+use Rattle.rtcp_clock.specs.Intervals.{drawn_interval, longest_draw}
+use Rattle.rtcp_clock.proofs.LawLemmas.{draw_within_bounds, longest_never_falls}
 use Rattle.rtcp_timer.specs.Averages.{IsBetween}
-use Rattle.rtcp_timer.specs.Schedules.{Happening, transmitted, tried, recounted, Timing, IsDue, IsInOrder, after, after_departure, schedule_at, newest_moment, newest_transmission, greatest_draw}
+use Rattle.rtcp_timer.specs.Schedules.{Happening, transmitted, tried, recounted, Timing, IsDue, IsInOrder, IsWithin, after, after_departure, schedule_at, newest_moment, newest_transmission, greatest_draw}
 use Rattle.rtcp_timer.specs.Departures.{last_departure}
 use Rattle.rtcp_timer.proofs.Quotients.{scaled_down_shorter}
 use Rattle.rtcp_timer.proofs.Cases.{by_test}
@@ -63,6 +65,39 @@ next_near (tried moment interval members ∷ before) in_order =
 next_near (recounted moment members ∷ before) in_order =
     let last = last_between before in_order.1 in
     next_near_after moment members _ (schedule_at before) (omega (arith, last)) (next_near before in_order.1)
+
+-- a draw is at most the longest one from any interval that is as great
+draw_fits : (td greatest word : ℕ) → word < 2 ^ 32 → td ≤ greatest → drawn_interval td word ≤ longest_draw greatest
+draw_fits td greatest word fits most = omega (arith, (draw_within_bounds td word fits).1, longest_never_falls td greatest most)
+
+pub within_after_transmission : (timing : Timing) (moment td word members : ℕ) → word < 2 ^ 32 → IsWithin moment td (after (transmitted moment (drawn_interval td word) members) timing)
+within_after_transmission timing moment td word members fits =
+    record { last = omega arith; next = omega (arith, draw_fits td td word fits (omega arith)) }
+
+pub within_after_try : (timing : Timing) (newest greatest moment td word members : ℕ) → word < 2 ^ 32 → IsWithin newest greatest timing
+    → IsWithin newest (max td greatest) (after (tried moment (drawn_interval td word) members) timing)
+within_after_try timing newest greatest moment td word members fits h =
+    let drawn = draw_fits td (max td greatest) word fits (omega arith) in
+    let before = longest_never_falls greatest (max td greatest) (omega arith) in
+    record {
+      last = h.last;
+      next =
+          elim (nat_le (timing.last + drawn_interval td word) moment) as (λ t. (if t then timing.next else timing.last + drawn_interval td word) ≤ timing.last + longest_draw (max td greatest)) [
+            | true ↦ omega (arith, h.next, before)
+            | false ↦ omega (arith, drawn)
+          ];
+    }
+
+pub within_after_departure : (timing : Timing) (newest greatest moment members : ℕ) → timing.last ≤ moment → members < timing.known → IsWithin newest greatest timing
+    → IsWithin moment greatest (after (recounted moment members) timing)
+within_after_departure timing newest greatest moment members past fewer h =
+    record { last = (last_after moment members timing past).1; next = next_near_after moment members (longest_draw greatest) timing past h.next }
+
+pub within_after_count : (timing : Timing) (newest greatest moment members : ℕ) → timing.known ≤ members → IsWithin newest greatest timing → IsWithin newest greatest (after (recounted moment members) timing)
+within_after_count timing newest greatest moment members enough h =
+    by_test {X = Timing} (λ new. IsWithin newest greatest new) members timing.known _ _
+    (λ (fewer : members < timing.known). absurd (omega (arith, fewer, enough)))
+    (λ _. h)
 
 -- the last transmission after one more count, where `known` are the members that the schedule knows
 last_bounded_after : (moment members known sent departed : ℕ) (timing : Timing) → timing.known ≡ known →

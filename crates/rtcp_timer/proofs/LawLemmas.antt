@@ -1,9 +1,10 @@
 -- The laws of `laws.rt`, as lemmas that crates above can cite: LAW, or LAW-CLAUSE for a law with several clauses.
-use Rattle.std.proofs.Common.{◌≡◌, ℕ, ◌+◌, ◌*◌, ◌≤◌, max, List, All}
+use Rattle.std.proofs.Common.{◌≡◌, ℕ, ◌+◌, ◌*◌, ◌^◌, ◌<◌, ◌≤◌, max, List, All}
+use Rattle.rtcp_clock.specs.Intervals.{drawn_interval}
 use Rattle.rtcp_timer.specs.declared.load.Load.{Load}
 use Rattle.rtcp_timer.specs.Averages.{with_headers, average_of, IsBetween}
 use Rattle.rtcp_timer.specs.Loads.{minimum_of, interval_of, KeepsToShare}
-use Rattle.rtcp_timer.specs.Schedules.{Happening, recounted, Timing, IsDue, IsInOrder, after, schedule_at, newest_moment, newest_transmission, greatest_draw}
+use Rattle.rtcp_timer.specs.Schedules.{Happening, transmitted, tried, recounted, Timing, IsDue, IsInOrder, IsWithin, after, schedule_at, newest_moment, newest_transmission, greatest_draw}
 use Rattle.rtcp_timer.specs.Departures.{members_known, last_departure, last_moment, next_moment}
 use Rattle.rtcp_timer.proofs.Averaging
 use Rattle.rtcp_timer.proofs.Sharing
@@ -63,6 +64,22 @@ pub due_in_time : (events : List Happening) (moment interval : ℕ) → IsInOrde
     newest_transmission events + max interval (greatest_draw events) ≤ moment →
     last_departure events + max interval (greatest_draw events) ≤ moment → IsDue (schedule_at events) moment interval
 due_in_time = Bounding.due_in_time
+
+pub calls_keep_within_draws-transmitted : (timing : Timing) (moment td word members : ℕ) → word < 2 ^ 32 →
+    IsWithin moment td (after (transmitted moment (drawn_interval td word) members) timing)
+calls_keep_within_draws-transmitted = Bounding.within_after_transmission
+
+pub calls_keep_within_draws-tried : (timing : Timing) (newest greatest moment td word members : ℕ) → word < 2 ^ 32 →
+    IsWithin newest greatest timing → IsWithin newest (max td greatest) (after (tried moment (drawn_interval td word) members) timing)
+calls_keep_within_draws-tried = Bounding.within_after_try
+
+pub calls_keep_within_draws-departed : (timing : Timing) (newest greatest moment members : ℕ) → timing.last ≤ moment → members < timing.known →
+    IsWithin newest greatest timing → IsWithin moment greatest (after (recounted moment members) timing)
+calls_keep_within_draws-departed = Bounding.within_after_departure
+
+pub calls_keep_within_draws-stayed : (timing : Timing) (newest greatest moment members : ℕ) → timing.known ≤ members →
+    IsWithin newest greatest timing → IsWithin newest greatest (after (recounted moment members) timing)
+calls_keep_within_draws-stayed = Bounding.within_after_count
 
 pub departure_never_puts_later : (timing : Timing) (moment members : ℕ) →
     (after (recounted moment members) timing).next ≤ timing.next

@@ -1,7 +1,7 @@
 -- When the next report is due (RFC 3550, 6.3.2, 6.3.4 and 6.3.6; appendix A.7). Moments and intervals are
 -- in microseconds, `members` is a number of members, and lists of happenings are newest first.
 use Rattle.std.specs.Prelude.{ℕ, ◌+◌, ◌-◌, ◌≤◌, List, [], ◌∷◌, nat_lt, nat_le, max, if◌then◌else◌}
-use Rattle.rtcp_clock.specs.Intervals.{scaled_down}
+use Rattle.rtcp_clock.specs.Intervals.{scaled_down, longest_draw}
 
 -- what happens to a schedule
 pub data Happening : Type 0 where
@@ -91,3 +91,11 @@ greatest_draw (recounted moment members ∷ before) = greatest_draw before
 abbrev pub IsInOrder : List Happening → Type 0
 IsInOrder [] = Unit {0}
 IsInOrder (newest ∷ before) = (newest_moment before ≤ happening_moment newest) × IsInOrder before
+
+-- ---- Bounds on a schedule's numbers
+
+-- The last transmission lies at a moment or before it, and the next one within the longest draw from an interval after
+-- the last.
+pub record IsWithin (newest greatest : ℕ) (timing : Timing) : Type 0 where
+  pub last : timing.last ≤ newest
+  pub next : timing.next ≤ timing.last + longest_draw greatest

@@ -1,11 +1,12 @@
 //! Laws of the average, the interval and the schedule. Each is an empty function whose postcondition is the
 //! law.
 
-ghost use Rattle.std.specs.Prelude.{ℕ, ◌≡◌, ◌+◌, ◌*◌, ◌≤◌, max, List, All};
+ghost use Rattle.std.specs.Prelude.{ℕ, ◌≡◌, ◌+◌, ◌*◌, ◌^◌, ◌<◌, ◌≤◌, max, List, All};
+ghost use Rattle.rtcp_clock.specs.Intervals.{drawn_interval};
 ghost use Rattle.rtcp_timer.specs.Averages.{with_headers, average_of, IsBetween};
 ghost use Rattle.rtcp_timer.specs.declared.load.Load.{Load};
 ghost use Rattle.rtcp_timer.specs.Loads.{minimum_of, interval_of, KeepsToShare};
-ghost use Rattle.rtcp_timer.specs.Schedules.{Happening, recounted, Timing, IsDue, IsInOrder, after, schedule_at, newest_moment, newest_transmission, greatest_draw};
+ghost use Rattle.rtcp_timer.specs.Schedules.{Happening, transmitted, tried, recounted, Timing, IsDue, IsInOrder, IsWithin, after, schedule_at, newest_moment, newest_transmission, greatest_draw};
 ghost use Rattle.rtcp_timer.specs.Departures.{members_known, last_departure, last_moment, next_moment};
 
 /// Where all sizes lie between two numbers, so does their average, in 1/256 octet and with headers
@@ -80,6 +81,22 @@ pub fn due_in_time()
         newest_transmission events + max interval (greatest_draw events) ≤ moment →
         last_departure events + max interval (greatest_draw events) ≤ moment →
         IsDue (schedule_at events) moment interval }
+{}
+
+/// A transmission puts `last` at its moment, and each later call keeps it at the newest transmission or
+/// departure, or before. Each keeps `next` within the longest draw from the greatest deterministic interval that
+/// was drawn from at the transmission and the tries since (RFC 3550, 6.3.1, 6.3.4 and 6.3.6).
+pub fn calls_keep_within_draws()
+    ensures transmitted { (timing : Timing) (moment td word members : ℕ) → word < 2 ^ 32 →
+        IsWithin moment td (after (transmitted moment (drawn_interval td word) members) timing) }
+    ensures tried { (timing : Timing) (newest greatest moment td word members : ℕ) → word < 2 ^ 32 →
+        IsWithin newest greatest timing →
+        IsWithin newest (max td greatest) (after (tried moment (drawn_interval td word) members) timing) }
+    ensures departed { (timing : Timing) (newest greatest moment members : ℕ) → timing.last ≤ moment →
+        members < timing.known → IsWithin newest greatest timing →
+        IsWithin moment greatest (after (recounted moment members) timing) }
+    ensures stayed { (timing : Timing) (newest greatest moment members : ℕ) → timing.known ≤ members →
+        IsWithin newest greatest timing → IsWithin newest greatest (after (recounted moment members) timing) }
 {}
 
 /// A departure never puts the next transmission later (RFC 3550, 6.3.4).
