@@ -1,15 +1,53 @@
 -- What was sent keeps its bounds after one act more.
-use Rattle.std.proofs.Common.{◌≡◌, Option, Some, None, refl}
+use Rattle.std.proofs.Common.{◌≡◌, ℕ, false, true, IsTrue, is_some, Option, Some, None, option_map, Result, Ok, Err, IfOk, refl, ap, ◌∙◌}
 use Rattle.rtcp_engine.specs.declared.refusal.Refusal.{Refusal}
-use Rattle.rtcp_engine.specs.Acts.{Act}
+use Rattle.rtcp_engine.specs.declared.step.Out.{Out}
+use Rattle.rtcp_engine.specs.declared.step.Step.{Step}
+use Rattle.rtcp_engine.specs.Acts.{Act, ticked}
 use Rattle.rtcp_engine.specs.Histories.{History}
 use Rattle.rtcp_engine.specs.Presence.{refusal_of, with_act}
 use Rattle.rtcp_engine.specs.Leaving.{Life, present, backing_off, gone}
-use Rattle.rtcp_engine.specs.Lives.{life_at}
-use Rattle.rtcp_engine.specs.Answers.{refusal_in, refusal_after, followed_by}
+use Rattle.rtcp_engine.specs.Steps.{AnswerValue, OutValue, StepValue, answer_unless}
+use Rattle.rtcp_engine.specs.Lives.{life_at, out_by}
+use Rattle.rtcp_engine.specs.InTime.{IsOverdue}
+use Rattle.rtcp_engine.specs.Views.{answer_value, out_value, step_value}
+use Rattle.rtcp_engine.specs.Answers.{answer_of, refusal_in, refusal_after, followed_by, step_by}
 use Rattle.rtcp_engine.specs.Taken.{HasWords, IsHistory}
 use Rattle.rtcp_engine.specs.Spacing.{KeepsBounds}
+use Rattle.rtcp_engine.proofs.Waiting.{in_time_after}
 use Rattle.rtcp_engine.proofs.LawLemmas.{sent_compounds_keep_apart-spaced, sent_compounds_keep_apart-first, sent_compounds_keep_apart-window, sent_compounds_keep_apart-leaves_once, sent_compounds_keep_apart-limit}
+
+none_before : (life : Life) (refusal : Option Refusal) → refusal_in life refusal ≡ None → refusal ≡ None
+none_before (present outcome) refusal none = none
+none_before (backing_off outcome backoff) refusal none = none
+none_before (gone outcome) refusal none = absurd cc
+
+abbrev taken : StepValue → AnswerValue
+taken step = Ok step
+
+same_out : (one other : StepValue) → taken one ≡ taken other → one.out ≡ other.out
+same_out one other same = cc
+
+-- a tick that comes late is answered by a compound, if it is taken
+pub sends_if_late : (history : History) (moment first_word second_word : ℕ) (result : Result Step Refusal) → HasWords (ticked moment first_word second_word) → IsHistory history
+    → answer_value result ≡ answer_of history (ticked moment first_word second_word) → IsOverdue history (ticked moment first_word second_word) → IfOk result (λ step. IsTrue (is_some step.out))
+sends_if_late history moment first_word second_word (Err refusal) words is answer late = tt
+sends_if_late history moment first_word second_word (Ok step) words is answer late =
+    handed_out (refusal_after history (ticked moment first_word second_word)) refl answer
+  where
+    some_before : (out : Option Out) (found : Option OutValue) → option_map out_value out ≡ found → IsTrue (is_some found) → IsTrue (is_some out)
+    some_before (Some out) found same some = refl
+    some_before None found same some = absurd (none_is_no_some (ap is_some same ∙ some))
+      where
+        none_is_no_some : false ≡ true → ⊥
+        none_is_no_some e = cc
+
+    handed_out : (refusal : Option Refusal) → refusal_after history (ticked moment first_word second_word) ≡ refusal
+        → taken (step_value step) ≡ answer_unless refusal (step_by history.setup (ticked moment first_word second_word) (life_at history)) → IsTrue (is_some step.out)
+    handed_out None none same =
+        some_before step.out (out_by history.setup (ticked moment first_word second_word) (life_at history)) (same_out (step_value step) (step_by history.setup (ticked moment first_word second_word) (life_at history)) same)
+        (in_time_after history (ticked moment first_word second_word) is (none_before (life_at history) (refusal_of history.setup history.acts (ticked moment first_word second_word)) none) words late)
+    handed_out (Some refusal) some same = absurd cc
 
 pub bounds_of : (history : History) → IsHistory history → KeepsBounds history
 bounds_of history is = record {
@@ -19,11 +57,6 @@ bounds_of history is = record {
   leaves_once = sent_compounds_keep_apart-leaves_once history is;
   limit = sent_compounds_keep_apart-limit history is;
 }
-
-none_before : (life : Life) (refusal : Option Refusal) → refusal_in life refusal ≡ None → refusal ≡ None
-none_before (present outcome) refusal none = none
-none_before (backing_off outcome backoff) refusal none = none
-none_before (gone outcome) refusal none = absurd cc
 
 is_history_after : (history : History) (act : Act) (refusal : Option Refusal) → refusal_after history act ≡ refusal → HasWords act → IsHistory history
     → IsHistory (elim refusal [ None ↦ with_act history act | Some reason ↦ history ])

@@ -33,6 +33,8 @@ use Rattle.rtcp_engine.specs.Spacing.{newest_moment, AreSpaced, count_within, fi
 use Rattle.rtcp_engine.proofs.Usable.{usable_of_unrefused, unrefused_of_usable}
 use Rattle.rtcp_engine.proofs.Counting.{reports_counted}
 use Rattle.rtcp_engine.proofs.Sending.{session_keeps_apart}
+use Rattle.rtcp_engine.specs.InTime.{AllInTime}
+use Rattle.rtcp_engine.proofs.Waiting.{all_in_time}
 use Rattle.rtcp_engine.proofs.Windows.{last_in_present, last_in_backoff, spaced_in, first_in, window_in, ends_in, limit_in}
 
 -- ---- Readings
@@ -158,6 +160,9 @@ sent_compounds_keep_apart-leaves_once history is = ends_in history.setup.limit (
 
 pub sent_compounds_keep_apart-limit : (history : History) → IsHistory history → AllFit history.setup.limit (sent_at history)
 sent_compounds_keep_apart-limit history is = limit_in history.setup.limit (last_moment history.acts) (first_leave history.acts) (sent_at history) (life_at history) (session_keeps_apart history.setup history.word history.acts is.usable is.taken)
+
+pub sends_in_time : (history : History) → IsHistory history → AllInTime history.setup history.word history.acts
+sends_in_time history is = all_in_time history.setup history.word history.acts is.usable is.word is.taken
 
 -- ---- Extra items
 

@@ -4,6 +4,7 @@ mod Bounded
 mod Calls
 mod Counting
 mod Due
+mod LateRows
 mod LeavingRows
 mod LifeLemmas
 mod OneMore
@@ -12,5 +13,6 @@ mod Sending
 mod Soundness
 mod Standing
 mod Usable
+mod Waiting
 mod Windows
 pub mod LawLemmas

@@ -302,7 +302,7 @@ keeps_apart setup t leave act (gone outcome) sent usable order words (inl report
 keeps_apart setup t leave act (gone outcome) sent usable order words (inr ends) = inr (still_ends setup.limit leave act sent ends)
 
 -- an act that is taken does not lie before the last one
-in_time : (moment last : ℕ) (others : Option Refusal) → (if nat_lt moment last then Some Backwards else others) ≡ None → last ≤ moment
+pub in_time : (moment last : ℕ) (others : Option Refusal) → (if nat_lt moment last then Some Backwards else others) ≡ None → last ≤ moment
 in_time moment last others none =
     elim (cases_lt moment last) [
       | inl below ↦ absurd (some_is_none (sym (ap (λ (b : Bool). if b then Some Backwards else others) (lt-ltb moment last below)) ∙ none))

@@ -15,7 +15,7 @@ use Rattle.rtcp_engine.proofs.Sending.{none_sent, AreReports, IsLast, EndsSo, Ke
 
 -- ---- Reports alone
 
-all_reports : (limit : ℕ) (sent : List Sent) → AreReports limit sent → reports_in sent ≡ sent
+pub all_reports : (limit : ℕ) (sent : List Sent) → AreReports limit sent → reports_in sent ≡ sent
 all_reports limit [] h = refl
 all_reports limit (newest ∷ earlier) h =
     ap (λ (b : Bool). cond b (newest ∷ reports_in earlier) (reports_in earlier)) h.0.kind ∙ ap (λ (rest : List Sent). newest ∷ rest) (all_reports limit earlier h.1)

@@ -14,6 +14,7 @@ pub mod Lives
 pub mod Answers
 pub mod Sent
 pub mod Spacing
+pub mod InTime
 pub mod Views
 pub mod Taken
 pub mod OwnValues

@@ -26,6 +26,7 @@ ghost use Rattle.rtcp_engine.specs.Answers.{refusal_after, answer_of, followed_b
 ghost use Rattle.rtcp_engine.specs.Taken.{IsHistory};
 ghost use Rattle.rtcp_engine.specs.Sent.{reports_in, interval_by, sent_at, handed_out, reports_of, counted_report};
 ghost use Rattle.rtcp_engine.specs.Spacing.{newest_moment, AreSpaced, count_within, first_leave, EndsWithBye, AllFit};
+ghost use Rattle.rtcp_engine.specs.InTime.{AllInTime};
 ghost use Rattle.rtcp_engine.specs.declared.refusal.Refusal.{Refusal as Reason};
 
 /// The octets of a datagram have exactly one reading: packets, or a first fault.
@@ -101,6 +102,16 @@ pub fn sent_compounds_keep_apart()
     ensures leaves_once { (history : History) → IsHistory history →
         EndsWithBye (first_leave history.acts) (sent_at history) }
     ensures limit { (history : History) → IsHistory history → AllFit history.setup.limit (sent_at history) }
+{}
+
+/// Whatever a participant is told, a tick sends a report where it comes as long after the last report, or the
+/// start, and as long after the last fall of the members, as the longest draw from the greatest interval that
+/// was computed since that report. In a backoff it sends the BYE that long after the leave (RFC 3550, 6.3.4,
+/// 6.3.6, 6.3.7). So nothing puts a report off for longer but members that go on falling, and a host that does
+/// not tick.
+pub fn sends_in_time()
+    ensures { (history : History) → IsHistory history →
+        AllInTime history.setup history.word history.acts }
 {}
 
 /// The source that was reported last is that of the newest block, over any number of blocks.

@@ -1,6 +1,6 @@
 //! A participant of a session, up to its leave and through it (RFC 3550, 6.2, 6.3).
 
-ghost use Rattle.std.specs.Prelude.{◌≡◌, ◌↔◌, ◌≤◌, ◌<◌, List, Result, Some, Err, IfOk, OnErr, length, option_map};
+ghost use Rattle.std.specs.Prelude.{◌≡◌, ◌↔◌, ◌≤◌, ◌<◌, List, Result, Some, Err, IfOk, IsTrue, OnErr, is_some, length, option_map};
 ghost use Rattle.rtcp_wire.specs.declared.fault.WireFault.{WireFault as Fault};
 ghost use Rattle.rtcp_wire.specs.declared.rtp.fault.RtpFault.{RtpFault as HeadFault};
 ghost use Rattle.rtcp_wire.specs.Values.{RtcpPacket};
@@ -12,6 +12,7 @@ ghost use Rattle.rtcp_engine.specs.Histories.{History};
 ghost use Rattle.rtcp_engine.specs.Lives.{life_at, members_in_life, senders_in_life, next_in_life};
 ghost use Rattle.rtcp_engine.specs.Refused.{error_in};
 ghost use Rattle.rtcp_engine.specs.States.{KeepsCapacity, StandsAt};
+ghost use Rattle.rtcp_engine.specs.InTime.{IsOverdue};
 ghost use Rattle.rtcp_engine.specs.Spacing.{KeepsBounds};
 ghost use Rattle.rtcp_engine.specs.Taken.{begun};
 ghost use Rattle.rtcp_engine.specs.Views.{setup_of, answer_value};
@@ -193,6 +194,9 @@ impl<T: MemberTable> Participant<T> {
     /// random words: `w1` for the draw that decides it, and `w2` for that of the next interval. Each tick before
     /// a leave also drops those who are silent for too long (RFC 3550, 6.3.5).
     ///
+    /// A tick that comes late sends, whatever the words are (`not_too_late`): as long after the last report and
+    /// the last fall of the members as the longest draw from the greatest interval since that report.
+    ///
     /// # Errors
     ///
     /// The first of E1 to E4 that applies. Then the participant is unchanged.
@@ -203,6 +207,8 @@ impl<T: MemberTable> Participant<T> {
             StandsAt self.new (followed_by history (ticked now w1 w2)) }
         ensures bounded { (history : History) → StandsAt self.old history →
             KeepsBounds (followed_by history (ticked now w1 w2)) }
+        ensures not_too_late { (history : History) → StandsAt self.old history →
+            IsOverdue history (ticked now w1 w2) → IfOk result (λ step. IsTrue (is_some step.out)) }
         ensures within { KeepsCapacity self.new.presence }
         ensures refused { OnErr result (self.new ≡ self.old) }
     {

@@ -8,6 +8,7 @@ ghost use Rattle.rtcp_engine.specs.Answers.{answer_of, answers_to, followed_by, 
 ghost use Rattle.rtcp_engine.specs.Views.{answer_value, IsActOf, AreActsOf};
 ghost use Rattle.rtcp_engine.specs.Sent.{reports_in, sent_at};
 ghost use Rattle.rtcp_engine.specs.Spacing.{AllFit, AreSpaced, EndsWithBye, count_within, first_leave};
+ghost use Rattle.rtcp_engine.specs.InTime.{AllInTime};
 ghost use Rattle.rtcp_engine.specs.States.{KeepsCapacity, StandsAt};
 
 use crate::event::Event;
@@ -31,8 +32,9 @@ pub struct Ran {
 /// Its contract is the promise of this library, for whatever the events are and whatever was told before: the
 /// answers are those defined over the whole history; the table never passes its capacity, and no compound the
 /// limit; two successive reports lie at least half the interval then computed, over 1.21828, apart, so that in
-/// any window at most one report more lies than 2.052 seconds fit into it; and there is at most one BYE, at the
-/// end (RFC 3550, 6.2, 6.3).
+/// any window at most one report more lies than 2.052 seconds fit into it; a tick that comes late sends; and
+/// there is at most one BYE, at the end (RFC 3550, 6.2, 6.3). Members that keep falling can put a report off for
+/// longer, and never bring two closer together.
 pub fn run<T: MemberTable, S: Sink>(
     participant: &mut Participant<T>,
     events: &[Event<'_>],
@@ -77,6 +79,13 @@ pub fn run<T: MemberTable, S: Sink>(
         StandsAt participant.old history → AreActsOf events.now acts →
         let told = followed_by_all history (take result.taken acts) in
         count_within from width (reports_in (sent_at told)) ≤ 1 + width / 2052074 }
+
+    // Each tick of the whole history that came late sent a report, or in a backoff the BYE: late by the longest
+    // draw from the greatest interval computed since the last report, or the start, and as long after the last
+    // fall of the members; in a backoff, since the leave.
+    ensures not_too_late { (history : History) (acts : List Act) → StandsAt participant.old history →
+        AreActsOf events.now acts → let told = followed_by_all history (take result.taken acts) in
+        AllInTime told.setup told.word told.acts }
 
     // There is at most one BYE, nothing comes after it, and after a backoff it comes no sooner than half its
     // interval after the leave, over 1.21828.

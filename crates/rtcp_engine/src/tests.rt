@@ -7,6 +7,7 @@ use std::test::*;
 
 mod configs;
 mod damage;
+mod floods;
 mod host;
 mod leaving;
 mod list;

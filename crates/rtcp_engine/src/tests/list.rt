@@ -156,3 +156,18 @@ fn damaged(rt: HostRuntime) {
 fn damaged_in_backoff(rt: HostRuntime) {
     damage::backing_off::<ListTable>(&rt);
 }
+
+#[test]
+fn at_the_latest(rt: HostRuntime) {
+    floods::at_the_latest::<ListTable>(&rt);
+}
+
+#[test]
+fn after_a_fall(rt: HostRuntime) {
+    floods::after_a_fall::<ListTable>(&rt);
+}
+
+#[test]
+fn crowd_leaves(rt: HostRuntime) {
+    floods::crowd_leaves::<ListTable>(&rt);
+}

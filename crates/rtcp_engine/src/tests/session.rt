@@ -169,6 +169,14 @@ impl Seen {
         }
     }
 
+    /// The call was taken. Whether a report is to be sent.
+    pub(crate) fn reports(self, rt: &impl Abort) -> bool {
+        match self.answer {
+            Ok(step) => step.out.is_some_and(|out| out.kind == OutKind::Report),
+            Err(_) => panic!(rt; "the call is refused"),
+        }
+    }
+
     /// The call was taken.
     pub(crate) fn taken(self, rt: &impl Abort) {
         assert!(rt; self.answer.is_ok());

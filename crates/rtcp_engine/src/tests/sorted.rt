@@ -163,3 +163,18 @@ fn damaged(rt: HostRuntime) {
 fn damaged_in_backoff(rt: HostRuntime) {
     damage::backing_off::<SortedTable>(&rt);
 }
+
+#[test]
+fn at_the_latest(rt: HostRuntime) {
+    floods::at_the_latest::<SortedTable>(&rt);
+}
+
+#[test]
+fn after_a_fall(rt: HostRuntime) {
+    floods::after_a_fall::<SortedTable>(&rt);
+}
+
+#[test]
+fn crowd_leaves(rt: HostRuntime) {
+    floods::crowd_leaves::<SortedTable>(&rt);
+}

@@ -5,7 +5,7 @@ use Rattle.rtcp_engine.specs.Steps.{AnswerValue}
 use Rattle.rtcp_engine.specs.Answers.{answer_of, answers_to, followed_by_all}
 use Rattle.rtcp_engine.specs.Views.{answer_value}
 use Rattle.rtcp_engine.specs.States.{StandsAt}
-use Rattle.rtcp_engine.proofs.LawLemmas.{sent_compounds_keep_apart-spaced, sent_compounds_keep_apart-first, sent_compounds_keep_apart-window, sent_compounds_keep_apart-leaves_once, sent_compounds_keep_apart-limit}
+use Rattle.rtcp_engine.proofs.LawLemmas.{sent_compounds_keep_apart-spaced, sent_compounds_keep_apart-first, sent_compounds_keep_apart-window, sent_compounds_keep_apart-leaves_once, sent_compounds_keep_apart-limit, sends_in_time}
 use Rattle.rtcp_engine.proofs.OneMore.{answers_more, followed_more, next_act, of_no_error}
 use Rattle.rtcp_engine.proofs.runs.run.Goals as goal
 
@@ -25,6 +25,9 @@ returns-then-is_err-clause-first g c history acts h are = sent_compounds_keep_ap
 pub returns-then-is_err-clause-window : goal.returns-then-is_err-clause-window
 returns-then-is_err-clause-window g c history acts from width h are = sent_compounds_keep_apart-window _ from width (returns-then-is_err-clause-stands g c history acts h are).is_history
 
+pub returns-then-is_err-clause-not_too_late : goal.returns-then-is_err-clause-not_too_late
+returns-then-is_err-clause-not_too_late g c history acts h are = sends_in_time _ (returns-then-is_err-clause-stands g c history acts h are).is_history
+
 pub returns-then-is_err-clause-leaves_once : goal.returns-then-is_err-clause-leaves_once
 returns-then-is_err-clause-leaves_once g c history acts h are = sent_compounds_keep_apart-leaves_once _ (returns-then-is_err-clause-stands g c history acts h are).is_history
 
@@ -39,6 +42,9 @@ returns-clause-first g c history acts h are = sent_compounds_keep_apart-first _ 
 
 pub returns-clause-window : goal.returns-clause-window
 returns-clause-window g c history acts from width h are = sent_compounds_keep_apart-window _ from width (c.events.invariant.stands history acts h are).is_history
+
+pub returns-clause-not_too_late : goal.returns-clause-not_too_late
+returns-clause-not_too_late g c history acts h are = sends_in_time _ (c.events.invariant.stands history acts h are).is_history
 
 pub returns-clause-leaves_once : goal.returns-clause-leaves_once
 returns-clause-leaves_once g c history acts h are = sent_compounds_keep_apart-leaves_once _ (c.events.invariant.stands history acts h are).is_history

@@ -3,7 +3,7 @@ use Rattle.rtcp_engine.specs.Acts.{ticked}
 use Rattle.rtcp_engine.specs.States.{State, IsPresentAt, ParticipantValue}
 use Rattle.rtcp_engine.specs.Views.{phase_value}
 use Rattle.rtcp_engine.proofs.LifeLemmas.{taking_part_at, present_answers, present_stands, gone_stands}
-use Rattle.rtcp_engine.proofs.Bounded.{bounds_after}
+use Rattle.rtcp_engine.proofs.Bounded.{bounds_after, sends_if_late}
 use Rattle.rtcp_engine.proofs.participant.Participant.tick.Goals as goal
 
 pub returns-in-Present-clause-answer : goal.returns-in-Present-clause-answer
@@ -31,3 +31,11 @@ returns-in-BackingOff-clause-bounded g c history h = bounds_after history (ticke
 
 pub returns-in-Gone-clause-bounded : goal.returns-in-Gone-clause-bounded
 returns-in-Gone-clause-bounded g c history h = bounds_after history (ticked c.args.now c.args.w1 c.args.w2) (c.ranges.w1.fits, c.ranges.w2.fits) h.is_history
+
+pub returns-in-Present-clause-not_too_late : goal.returns-in-Present-clause-not_too_late
+returns-in-Present-clause-not_too_late g c history h late =
+    sends_if_late history c.args.now c.args.w1 c.args.w2 c.tick.result (c.ranges.w1.fits, c.ranges.w2.fits) h.is_history (returns-in-Present-clause-answer g c history h) late
+
+pub returns-in-BackingOff-clause-not_too_late : goal.returns-in-BackingOff-clause-not_too_late
+returns-in-BackingOff-clause-not_too_late g c history h late =
+    sends_if_late history c.args.now c.args.w1 c.args.w2 c.wait.result (c.ranges.w1.fits, c.ranges.w2.fits) h.is_history (c.wait.ensures.answer history c.args.w2 c.ranges.w2.fits h) late

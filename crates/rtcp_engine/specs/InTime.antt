@@ -1,0 +1,114 @@
+-- How late a participant sends at the latest, where it is asked. Lists are newest first; moments and intervals are in
+-- microseconds.
+use Rattle.std.specs.Prelude.{ℕ, ◌+◌, ◌≤◌, Bool, false, IsTrue, is_some, nat_lt, max, List, [], ◌∷◌, if◌then◌else◌}
+use Rattle.rtcp_clock.specs.Intervals.{longest_draw}
+use Rattle.rtcp_timer.specs.Loads.{interval_of}
+use Rattle.rtcp_engine.specs.Setups.{Setup}
+use Rattle.rtcp_engine.specs.Acts.{Act, rtcp_came, rtp_came, rtp_sent, ticked, left, moment_of}
+use Rattle.rtcp_engine.specs.Outcomes.{Outcome, interval_at, member_count, nothing_yet}
+use Rattle.rtcp_engine.specs.Ticks.{checked, is_report_due, with_report}
+use Rattle.rtcp_engine.specs.Histories.{History, with_reading}
+use Rattle.rtcp_engine.specs.Leaving.{Backoff, Life, present, backing_off, gone, leaving_interval, leaving_load}
+use Rattle.rtcp_engine.specs.Lives.{life_of, life_at, out_by}
+use Rattle.rtcp_engine.specs.Sent.{Sent, reports_in, interval_by, sent_at}
+use Rattle.rtcp_engine.specs.Spacing.{newest_moment}
+
+-- ---- Falls
+
+-- the session after a compound that came or the check of a tick: all that can lower the members
+abbrev pub recounted_by : Setup → Act → Outcome → Outcome
+recounted_by setup (rtcp_came moment size reading) outcome = with_reading setup moment size reading outcome
+recounted_by setup (rtp_came moment reading) outcome = outcome
+recounted_by setup (rtp_sent moment timestamp octets) outcome = outcome
+recounted_by setup (ticked moment first_word second_word) outcome = checked setup moment outcome
+recounted_by setup (left moment word) outcome = outcome
+
+-- A fall is a compound or a check after which there are fewer members than before it.
+abbrev pub is_fall : Setup → Act → Life → Bool
+is_fall setup act (present outcome) =
+    nat_lt (member_count setup (recounted_by setup act outcome)) (member_count setup outcome)
+is_fall setup act (backing_off outcome backoff) = false
+is_fall setup act (gone outcome) = false
+
+-- the moment of the newest fall, 0 if there was none
+abbrev pub last_fall : Setup → (word : ℕ) → List Act → ℕ
+last_fall setup word [] = 0
+last_fall setup word (act ∷ earlier) =
+    if is_fall setup act (life_of setup word earlier) then moment_of act else last_fall setup word earlier
+
+-- ---- The greatest interval
+
+abbrev pub greatest_while_present : Setup → Act → Outcome → (before : ℕ) → ℕ
+greatest_while_present setup (rtcp_came moment size reading) outcome before = before
+greatest_while_present setup (rtp_came moment reading) outcome before = before
+greatest_while_present setup (rtp_sent moment timestamp octets) outcome before = before
+greatest_while_present setup (ticked moment first_word second_word) outcome before =
+    let now = checked setup moment outcome in
+    if is_report_due setup moment first_word now
+    then interval_at setup (with_report setup moment now)
+    else max (interval_at setup now) before
+greatest_while_present setup (left moment word) outcome before = interval_of (leaving_load setup 1 [])
+
+abbrev pub greatest_while_backing_off : Setup → Act → Backoff → (before : ℕ) → ℕ
+greatest_while_backing_off setup (rtcp_came moment size reading) backoff before = before
+greatest_while_backing_off setup (rtp_came moment reading) backoff before = before
+greatest_while_backing_off setup (rtp_sent moment timestamp octets) backoff before = before
+greatest_while_backing_off setup (ticked moment first_word second_word) backoff before =
+    max (leaving_interval setup backoff) before
+greatest_while_backing_off setup (left moment word) backoff before = before
+
+-- one act more
+abbrev pub greatest_by : Setup → Act → Life → (before : ℕ) → ℕ
+greatest_by setup act (present outcome) before = greatest_while_present setup act outcome before
+greatest_by setup act (backing_off outcome backoff) before = greatest_while_backing_off setup act backoff before
+greatest_by setup act (gone outcome) before = before
+
+-- The greatest of the deterministic intervals computed since the newest report: for the draw that followed it, and at
+-- each tick since, after its check. Before the first report, since the start; after a leave, since that.
+abbrev pub greatest_interval : Setup → (word : ℕ) → List Act → ℕ
+greatest_interval setup word [] = interval_at setup nothing_yet
+greatest_interval setup word (act ∷ earlier) =
+    greatest_by setup act (life_of setup word earlier) (greatest_interval setup word earlier)
+
+-- ---- Overdue
+
+-- how long a tick may come after what it waits for, and bring nothing: the longest draw from the greatest interval, that
+-- of this tick included
+abbrev pub longest_wait : History → Act → ℕ
+longest_wait history act =
+    longest_draw (max (interval_by history.setup act (life_at history))
+    (greatest_interval history.setup history.word history.acts))
+
+-- Since the newest report, or moment 0, and since the newest fall, that of this tick included, so long has passed; in a
+-- backoff, since the leave.
+abbrev pub HasWaited : (wait moment fall : ℕ) → List Sent → Life → Type 0
+HasWaited wait moment fall sent (present outcome) =
+    (newest_moment (reports_in sent) + wait ≤ moment) × (fall + wait ≤ moment)
+HasWaited wait moment fall sent (backing_off outcome backoff) = backoff.since + wait ≤ moment
+HasWaited wait moment fall sent (gone outcome) = ⊥
+
+-- An act comes late.
+abbrev pub IsOverdue : History → Act → Type 0
+IsOverdue history act =
+    HasWaited (longest_wait history act) (moment_of act)
+    (last_fall history.setup history.word (act ∷ history.acts)) (sent_at history) (life_at history)
+
+-- ---- In time
+
+abbrev pub BringsOut : History → Act → Type 0
+BringsOut history act = IsTrue (is_some (out_by history.setup act (life_at history)))
+
+-- A tick that comes late sends a report, or in a backoff the BYE.
+abbrev pub IsInTime : History → Act → Type 0
+IsInTime history (rtcp_came moment size reading) = Unit {0}
+IsInTime history (rtp_came moment reading) = Unit {0}
+IsInTime history (rtp_sent moment timestamp octets) = Unit {0}
+IsInTime history (ticked moment first_word second_word) =
+    IsOverdue history (ticked moment first_word second_word) → BringsOut history (ticked moment first_word second_word)
+IsInTime history (left moment word) = Unit {0}
+
+-- Each tick that came late sent one.
+abbrev pub AllInTime : Setup → (word : ℕ) → List Act → Type 0
+AllInTime setup word [] = Unit {0}
+AllInTime setup word (act ∷ earlier) =
+    IsInTime (record { setup = setup; word = word; acts = earlier }) act × AllInTime setup word earlier
