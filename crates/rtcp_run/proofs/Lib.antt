@@ -3,6 +3,7 @@ mod CheckLemmas
 mod ClauseLemmas
 mod CountedLemmas
 mod DigitTable
+mod EndpointLemmas
 mod EventRows
 mod FieldLemmas
 mod Joined
@@ -13,6 +14,8 @@ mod OptionLemmas
 mod ProgressLemmas
 mod ReplayLemmas
 mod RunLemmas
+mod ServeLemmas
 mod SessionLemmas
 mod StatusLemmas
 mod TextLemmas
+mod TotalLemmas

@@ -12,7 +12,7 @@ use Rattle.std.proofs.lemmas.Str.{IsUtf8-from_ascii}
 use Rattle.std.proofs.lemmas.Str.Parse.{digit_at}
 use Rattle.rtcp_run.specs.Numerals.{is_decimal, decimal_in}
 
-AllDigits-from_test : (text : List ℕ) → list_all (λ digit. is_digit digit 10) text ≡ true → AllDigits 10 text
+pub AllDigits-from_test : (text : List ℕ) → list_all (λ digit. is_digit digit 10) text ≡ true → AllDigits 10 text
 AllDigits-from_test [] h = tt
 AllDigits-from_test (digit ∷ digits) h =
     let parts = and_parts (is_digit digit 10) (list_all (λ d. is_digit d 10) digits) h in

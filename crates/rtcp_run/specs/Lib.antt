@@ -1,9 +1,12 @@
 pub mod Text
 pub mod AnswerText
+pub mod EndText
 pub mod Numerals
 pub mod Results
 pub mod EventLines
 pub mod Options
+pub mod Endpoints
+pub mod Listening
 pub mod Lines
 pub mod Check
 pub mod Counted
@@ -11,3 +14,8 @@ pub mod Progress
 pub mod Replay
 pub mod Orders
 pub mod Status
+pub mod Links
+pub mod Tallies
+pub mod Serving
+pub mod Sessions
+pub mod Handing

@@ -1,4 +1,4 @@
--- What the options of `rtcp replay` say, and the first of them that is refused.
+-- What the options that configure a participant and those of `rtcp replay` say, and the first that is refused.
 use Rattle.std.specs.Prelude.{◌≡◌, ℕ, ◌/◌, ◌^◌, ◌-◌, nat_le, min, List, [], ◌∷◌, ◌++◌, length, if◌then◌else◌, Option, Some, None, option_map, unwrap_or, Result, Ok, Err, codes}
 use Rattle.std.specs.Borrow.{Bor}
 use Rattle.std.specs.Int.{w32, w64}
@@ -34,7 +34,6 @@ pub record OptionTexts : Type 0 where
   pub tool : Option (List ℕ)
   pub note : Option (List ℕ)
   pub private : Option (List ℕ)
-  pub word : List ℕ
 
 abbrev pub text_given : Option (Bor (List ℕ)) → Option (List ℕ)
 text_given given = option_map (λ text. text.now) given
@@ -55,19 +54,22 @@ texts_of options = record {
   tool = text_given options.tool;
   note = text_given options.note;
   private = text_given options.private;
-  word = options.word.now;
 }
 
--- the texts that a command line gives, by the options' names (an empty one where it gives none)
+-- the text that a command line gives an option, by the option's name (an empty one where it gives none)
+abbrev pub text_found : (List ℕ → Option (List ℕ)) → (name : List ℕ) → List ℕ
+text_found found name = unwrap_or (found name) []
+
+-- the texts that a command line gives
 abbrev pub texts_found : (List ℕ → Option (List ℕ)) → OptionTexts
 texts_found found = record {
-  ssrc = unwrap_or (found (codes "ssrc")) [];
-  cname = unwrap_or (found (codes "cname")) [];
-  capacity = unwrap_or (found (codes "capacity")) [];
-  limit = unwrap_or (found (codes "limit")) [];
-  session_bps = unwrap_or (found (codes "session-bps")) [];
-  rate = unwrap_or (found (codes "rate")) [];
-  ntp = unwrap_or (found (codes "ntp")) [];
+  ssrc = text_found found (codes "ssrc");
+  cname = text_found found (codes "cname");
+  capacity = text_found found (codes "capacity");
+  limit = text_found found (codes "limit");
+  session_bps = text_found found (codes "session-bps");
+  rate = text_found found (codes "rate");
+  ntp = text_found found (codes "ntp");
   name = found (codes "name");
   email = found (codes "email");
   phone = found (codes "phone");
@@ -75,7 +77,6 @@ texts_found found = record {
   tool = found (codes "tool");
   note = found (codes "note");
   private = found (codes "priv");
-  word = unwrap_or (found (codes "word")) [];
 }
 
 -- ---- Values
@@ -142,10 +143,10 @@ setup_in texts = do
   })
 
 -- The word of the start is looked at last.
-abbrev pub replay_in : OptionTexts → Result (Setup × ℕ) (List ℕ)
-replay_in texts = do
+abbrev pub replay_in : OptionTexts → (word : List ℕ) → Result (Setup × ℕ) (List ℕ)
+replay_in texts word = do
   setup ← setup_in texts
-  word ← ok_or (hex_in w32 texts.word) (codes "word")
+  word ← ok_or (hex_in w32 word) (codes "word")
   Ok (setup, word)
 
 -- ---- Orders

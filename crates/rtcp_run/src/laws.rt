@@ -1,8 +1,9 @@
 //! Laws of the program's texts. Each function is empty, and its postcondition is the law.
 
-ghost use Rattle.std.specs.Prelude.{◌≡◌, ℕ, List, Option};
+ghost use Rattle.std.specs.Prelude.{◌≡◌, ◌↔◌, ℕ, List, Option, Some};
 ghost use Rattle.rtcp_engine.specs.Histories.{History};
 ghost use Rattle.rtcp_run.specs.Check.{IsTextOf};
+ghost use Rattle.rtcp_run.specs.Endpoints.{Endpoint, IsEndpointText, endpoint_in};
 ghost use Rattle.rtcp_run.specs.Replay.{IsSessionOf};
 ghost use Rattle.rtcp_run.specs.declared.fault.LineFault.{LineFault as Fault};
 
@@ -21,4 +22,10 @@ pub fn one_session_text()
     ensures only { (history : History) (input text1 text2 : List ℕ) (end1 end2 : Option (ℕ × Fault))
         → IsSessionOf history end1 input text1 → IsSessionOf history end2 input text2
         → (text1 ≡ text2) × (end1 ≡ end2) }
+{}
+
+/// An endpoint is read from the text that `Display` writes of it, and from no other.
+pub fn one_endpoint_text()
+    ensures { (text : List ℕ) (endpoint : Endpoint)
+        → (endpoint_in text ≡ Some endpoint) ↔ IsEndpointText text endpoint }
 {}

@@ -1,9 +1,12 @@
-//! The program `rtcp`: it shows RTCP datagrams that are given in hex, or says what is wrong with them and
-//! where.
+//! The program `rtcp`: it shows what RTCP datagrams hold, replays the events of a participant, and takes part in
+//! a session over UDP.
 //!
-//! Only this file touches the process: its command line and its standard streams. All else works over any
-//! reader and writer.
+//! Only this file touches the process: its command line, its standard streams and its sockets. All else works
+//! over any reader, writer and link.
 #![tactic(auto)]
+
+ghost use Rattle.std.specs.Prelude.{IfOk, ◌≤◌};
+ghost use Rattle.rtcp_run.specs.Listening.{HasTurns};
 
 mod answer;
 mod answerer;
@@ -12,30 +15,58 @@ mod check;
 mod command;
 mod counted;
 mod digit_pairs;
+mod endpoint;
 mod event_line;
 mod fault;
 mod laws;
 mod lines;
+mod link;
+mod listen;
 mod numerals;
 mod options;
 mod order;
 mod orders;
 mod player;
 mod replay;
+mod serve_laws;
+mod serving;
 #[cfg(test)]
 mod tests;
 mod text;
+mod udp_link;
 mod writing;
 
+use fault::ListenFault;
 use order::refuse;
 use orders::{Order, OrderFault, TextOrder};
+use rand_core::{Rng, SeedableRng};
+use rand_pcg::Pcg32;
+use rtcp_engine::{Config, Participant};
+use rtcp_members::SortedTable;
+use serving::{End, serve};
 use std::env;
-use std::io::BufWriter;
+use std::io::{BufWriter, Write};
+use std::net::SocketAddrV4;
 use std::process::ExitCode;
+use text::end_line;
+use udp_link::UdpLink;
 
 fn main(rt: HostRuntime) -> ExitCode {
     let status = match asked(&rt) {
         Ok(Order::Text(order)) => run_text(&rt, order),
+        Ok(
+            Order::Listen {
+                config,
+                rtp,
+                rtcp,
+                peer,
+                seed,
+                turns,
+            },
+        ) => {
+            let outcome = run_listen(&rt, config, rtp, rtcp, peer, seed, turns);
+            listen::conclude(&outcome, &mut rt.stderr())
+        }
         Err(fault) => refuse(&fault, &mut rt.stderr()),
     };
     ExitCode::from(status)
@@ -46,7 +77,9 @@ fn main(rt: HostRuntime) -> ExitCode {
 /// # Errors
 ///
 /// Those of [`order::order`], and those of [`order::unreadable`] where the arguments cannot be read.
-fn asked(rt: &HostRuntime) -> Result<Order, OrderFault> {
+fn asked(rt: &HostRuntime) -> Result<Order, OrderFault>
+    ensures turns { IfOk result HasTurns }
+{
     let alloc = rt.alloc();
     let arguments = match env::args(rt) {
         Ok(arguments) => arguments,
@@ -75,4 +108,36 @@ fn run_text(rt: &HostRuntime, order: TextOrder) -> u8 {
         return refuse(&OrderFault::Memory, &mut faults);
     };
     command::command(alloc, order, rt.stdin(), writer, &mut faults)
+}
+
+/// Runs a session over UDP, between the ports of RTP and of RTCP and a peer, and writes its end to standard
+/// output.
+///
+/// # Errors
+///
+/// Each of [`ListenFault`]. A refused configuration is found before a port is bound.
+fn run_listen(
+    rt: &HostRuntime,
+    config: Config,
+    rtp: SocketAddrV4,
+    rtcp: SocketAddrV4,
+    peer: SocketAddrV4,
+    seed: u64,
+    turns: u32,
+) -> Result<End, ListenFault>
+    requires { (1 ≤ turns) × (turns ≤ 1000000) }
+{
+    let mut rng = Pcg32::seed_from_u64(seed);
+    let word = rng.next_u32();
+    let mut participant = Participant::<SortedTable>::new(config, word).map_err(
+        ListenFault::Config,
+    )?;
+    let mut link = UdpLink::bind(rt, rtp, rtcp, peer).map_err(|_| ListenFault::Link)?;
+    let mut buf = [0; 65_535];
+    let end = serve(&mut link, &mut participant, &mut rng, turns, &mut buf);
+    let line = end_line(rt.alloc(), &end).map_err(|_| ListenFault::Memory)?;
+    rt.stdout()
+        .write_all(&line)
+        .map_err(|_| ListenFault::Write)?;
+    Ok(end)
 }

@@ -1,15 +1,21 @@
-//! The options of `rtcp replay`.
+//! The options of `rtcp replay` and of `rtcp listen`.
 
-ghost use Rattle.std.specs.Prelude.{◌≡◌, ◌≤◌, ◌<◌, ◌+◌, ◌++◌, List, Ok, Err, OnOk, IfOk, IfErr, [], length, option_map, codes};
+ghost use Rattle.std.specs.Prelude.{◌≡◌, ◌≤◌, ◌<◌, ◌+◌, ◌++◌, List, Ok, Err, OnOk, IfOk, IfErr, IfSome, [], length, option_map, codes};
 ghost use Rattle.rtcp_wire.specs.Values.{ItemValue};
 ghost use Rattle.rtcp_engine.specs.Views.{setup_of};
+ghost use Rattle.rtcp_run.specs.Listening.{HasTurns, IsListening, link_texts_of, listen_in, turns_in};
 ghost use Rattle.rtcp_run.specs.Options.{bandwidth_of as bandwidth_by, extras_in, hex_text_in, item_in, replay_in, setup_in, text_given, text_in, texts_of, with_extras};
 
+use crate::endpoint::read_endpoint;
 use crate::numerals::{read_decimal, read_long, read_short_decimal, read_word};
+use crate::orders::Order;
 use arrayvec::ArrayVec;
 use rtcp_engine::{Config, Item, rtcp_bw_of};
 
-/// The texts of the options, as a command line or their defaults give them.
+/// The most turns of a session.
+const MAX_TURNS: u32 = 1_000_000;
+
+/// The texts of the options that configure a participant, as a command line or their defaults give them.
 #[derive(Clone, Copy, Debug)]
 pub(crate) struct Options<'a> {
     pub(crate) ssrc: &'a str,
@@ -26,22 +32,79 @@ pub(crate) struct Options<'a> {
     pub(crate) tool: Option<&'a str>,
     pub(crate) note: Option<&'a str>,
     pub(crate) private: Option<&'a str>,
-    pub(crate) word: &'a str,
 }
 
-/// The configuration and the word of the start that options say. Whether a participant takes the
-/// configuration is not tested here.
+/// The texts of the options that `listen` takes after those of the participant.
+#[derive(Clone, Copy, Debug)]
+pub(crate) struct LinkOptions<'a> {
+    pub(crate) rtp: &'a str,
+    pub(crate) rtcp: &'a str,
+    pub(crate) peer: &'a str,
+    pub(crate) seed: &'a str,
+    pub(crate) turns: &'a str,
+}
+
+/// The configuration and the word of the start that the options of `replay` say. Whether a participant takes
+/// the configuration is not tested here.
 ///
 /// # Errors
 ///
-/// The name of the first option that is refused, in the order of the fields above, without its dashes.
-pub(crate) fn read_options(options: Options<'_>) -> Result<(Config, u32), &'static str>
-    ensures read { IfOk result (λ read. replay_in (texts_of options.entry) ≡ Ok (setup_of read.0, read.1)) }
-    ensures refused { IfErr result (λ name. replay_in (texts_of options.entry) ≡ Err name.now) }
+/// The name of the first option that is refused, in the order of the fields above and then `word`, without its
+/// dashes.
+pub(crate) fn read_replay(options: Options<'_>, word: &str) -> Result<(Config, u32), &'static str>
+    ensures read { IfOk result (λ read.
+        replay_in (texts_of options.entry) word.now ≡ Ok (setup_of read.0, read.1)) }
+    ensures refused { IfErr result (λ name. replay_in (texts_of options.entry) word.now ≡ Err name.now) }
 {
     let config = read_config(options)?;
-    let word = read_word(options.word.as_bytes()).ok_or("word")?;
+    let word = read_word(word.as_bytes()).ok_or("word")?;
     Ok((config, word))
+}
+
+/// The session over UDP that the options of `listen` say. Whether a participant takes the configuration is not
+/// tested here.
+///
+/// # Errors
+///
+/// The name of the first option that is refused, in the order of the fields of both structs above, without its
+/// dashes.
+pub(crate) fn read_listen(
+    options: Options<'_>,
+    link: LinkOptions<'_>,
+) -> Result<Order, &'static str>
+    ensures read { IfOk result (λ order.
+        IsListening order (listen_in (texts_of options.entry) (link_texts_of link.entry))) }
+    ensures turns { IfOk result HasTurns }
+    ensures refused { IfErr result (λ name.
+        listen_in (texts_of options.entry) (link_texts_of link.entry) ≡ Err name.now) }
+{
+    let config = read_config(options)?;
+    let rtp = read_endpoint(link.rtp).ok_or("rtp")?;
+    let rtcp = read_endpoint(link.rtcp).ok_or("rtcp")?;
+    let peer = read_endpoint(link.peer).ok_or("peer")?;
+    let seed = read_decimal(link.seed.as_bytes()).ok_or("seed")?;
+    let turns = read_turns(link.turns).ok_or("turns")?;
+    Ok(Order::Listen {
+        config,
+        rtp,
+        rtcp,
+        peer,
+        seed,
+        turns,
+    })
+}
+
+/// How many turns a session has: 1 to 1,000,000.
+fn read_turns(text: &str) -> Option<u32>
+    ensures read { result ≡ turns_in text.now }
+    ensures within { IfSome result (λ turns. (1 ≤ turns) × (turns ≤ 1000000)) }
+{
+    let turns = read_short_decimal(text.as_bytes())?;
+    if (1..=MAX_TURNS).contains(&turns) {
+        Some(turns)
+    } else {
+        None
+    }
 }
 
 fn read_config(options: Options<'_>) -> Result<Config, &'static str>

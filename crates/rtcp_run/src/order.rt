@@ -1,8 +1,11 @@
 //! The command line.
 
-ghost use Rattle.std.specs.Prelude.{◌≡◌};
+ghost use Rattle.std.specs.Prelude.{◌≡◌, IfOk};
+ghost use Rattle.rtcp_run.specs.Listening.{HasTurns};
 ghost use Rattle.rtcp_run.specs.Status.{order_status};
 
+mod listen;
+mod options;
 mod replay;
 #[cfg(test)]
 mod tests;
@@ -16,7 +19,8 @@ use std::io::{ErrorKind, Write};
 const ABOUT: &str = "The control half of an RTP participant (RFC 3550)";
 
 const AFTER_HELP: &str = "\
-Run `rtcp check --help` or `rtcp replay --help` for what to pipe in and what comes out.";
+Run `rtcp check --help` or `rtcp replay --help` for what to pipe in and what comes out, and
+`rtcp listen --help` for a session over UDP.";
 
 const CHECK_ABOUT: &str = "Show what RTCP datagrams are, or why they are refused";
 
@@ -55,7 +59,9 @@ For more information, try '--help'.
 /// - [`OrderFault::Option`] where the value of an option is refused: the first one, in the order in which
 ///   docs/FORMATS.md has them.
 /// - [`OrderFault::Memory`] where memory is refused.
-pub fn order<'a>(alloc: Global, words: &'a [&'a str]) -> Result<Order, OrderFault> {
+pub fn order<'a>(alloc: Global, words: &'a [&'a str]) -> Result<Order, OrderFault>
+    ensures turns { IfOk result HasTurns }
+{
     let Ok(mut program) = program(alloc) else {
         return Err(OrderFault::Memory);
     };
@@ -63,6 +69,7 @@ pub fn order<'a>(alloc: Global, words: &'a [&'a str]) -> Result<Order, OrderFaul
         Ok(matches) => match matches.subcommand() {
             Some(("check", _)) => Ok(Order::Text(TextOrder::Check)),
             Some(("replay", matches)) => Ok(Order::Text(replay::order(matches)?)),
+            Some(("listen", matches)) => listen::order(matches),
             _ => Err(shown(program.render_help())),
         },
         Err(error) if error.kind() == ClapErrorKind::OutOfMemory => Err(OrderFault::Memory),
@@ -112,7 +119,8 @@ fn program<'a>(alloc: Global) -> Result<Command<'a>, AllocError> {
         .disable_help_subcommand(true)
         .subcommand_required(true)
         .subcommand(check)?
-        .subcommand(replay::subcommand(alloc)?)
+        .subcommand(replay::subcommand(alloc)?)?
+        .subcommand(listen::subcommand(alloc)?)
 }
 
 /// The fault that shows a text, unless there was no memory for the text.

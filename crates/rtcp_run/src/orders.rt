@@ -1,12 +1,28 @@
 //! What a command line may ask for, and what is wrong with one.
 
 use rtcp_engine::Config;
+use std::net::SocketAddrV4;
 
 /// What the program is asked to do.
 #[derive(Debug, Drop)]
 pub enum Order {
     /// A run over text.
     Text(TextOrder),
+    /// A session over UDP.
+    Listen {
+        /// How the participant is configured. Nothing of it was tested against the ranges of a configuration.
+        config: Config,
+        /// Where RTP comes in.
+        rtp: SocketAddrV4,
+        /// Where RTCP comes in.
+        rtcp: SocketAddrV4,
+        /// Where RTCP goes.
+        peer: SocketAddrV4,
+        /// The seed of the random words.
+        seed: u64,
+        /// How many turns are made before the participant leaves, 1 to 1,000,000.
+        turns: u32,
+    },
 }
 
 /// A run from standard input to standard output.

@@ -1,4 +1,4 @@
-//! The text of packets, faults and answers, as `rtcp check` and `rtcp replay` show them.
+//! The text of packets, faults, answers and ends, as `rtcp check`, `rtcp replay` and `rtcp listen` show them.
 //!
 //! # Errors
 //!
@@ -12,6 +12,7 @@ ghost use Rattle.rtcp_run.specs.Text.{packet_text, accepted_text, reason_text, f
 mod answers;
 mod descriptions;
 mod digits;
+mod ends;
 mod goodbyes;
 mod joined;
 mod others;
@@ -22,6 +23,7 @@ mod tests;
 pub(crate) use answers::{push_answer, push_start};
 use descriptions::push_description;
 use digits::push_decimal;
+pub(crate) use ends::end_line;
 use goodbyes::push_goodbye;
 use others::{push_application, push_other};
 use reports::{push_receiver_report, push_sender_report};

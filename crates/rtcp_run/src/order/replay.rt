@@ -1,12 +1,13 @@
 //! The subcommand `replay` of the command line.
 
-ghost use Rattle.std.specs.Prelude.{◌≡◌, [], unwrap_or};
+ghost use Rattle.std.specs.Prelude.{codes};
 ghost use Rattle.clap.specs.Matches.{found_of, first_value};
-ghost use Rattle.rtcp_run.specs.Options.{IsReplayOrder, replay_in, texts_found, texts_of};
+ghost use Rattle.rtcp_run.specs.Options.{IsReplayOrder, replay_in, text_found, texts_found};
 
-use crate::options::{Options, read_options};
+use super::options::{Absent, PARTICIPANT, Row, given, participant, with_options};
+use crate::options::read_replay;
 use crate::orders::{OrderFault, TextOrder};
-use clap::{Arg, ArgAction, ArgMatches, Command};
+use clap::{ArgMatches, Command};
 use std::alloc::{AllocError, Global};
 
 const ABOUT: &str = "Show what a participant answers to the events of a session";
@@ -47,88 +48,19 @@ above end the run: the number of the line and its fault are written to standard 
 The status is 0 if every line was answered, 2 if the command line, an option, the configuration
 or a line of the text was refused, and 1 if reading, writing or memory failed.";
 
-/// What stands for an option that is not given.
-#[derive(Clone, Copy)]
-enum Absent {
-    /// It has to be given.
-    Refused,
-    /// This text.
-    Is(&'static str),
-    /// Nothing.
-    Nothing,
-}
-
-/// The options: the name, the value, what stands for it, and the help, in the order in which they are looked
-/// at.
-const OPTIONS: [(&str, &str, Absent, &str); 15] = [
-    ("ssrc", "HEX", Absent::Refused, "SSRC, 8 hex digits"),
-    ("cname", "TEXT", Absent::Refused, "CNAME, 1 to 255 octets"),
-    (
-        "capacity",
-        "N",
-        Absent::Is("1024"),
-        "Other sources that are kept track of, 1 to 1024",
-    ),
-    (
-        "limit",
-        "N",
-        Absent::Is("1472"),
-        "Most octets of a report, a multiple of 4 from 576 to 1472",
-    ),
-    (
-        "session-bps",
-        "N",
-        Absent::Is("64000"),
-        "Bandwidth of the session in bits a second, from 2560",
-    ),
-    (
-        "rate",
-        "N",
-        Absent::Is("8000"),
-        "Units a second of the media's clock, 1 to 1048576",
-    ),
-    (
-        "ntp",
-        "HEX",
-        Absent::Is("0000000000000000"),
-        "NTP timestamp of moment 0, 16 hex digits",
-    ),
-    (
-        "name",
-        "TEXT",
-        Absent::Nothing,
-        "NAME, told in every third report, in turn with the others below",
-    ),
-    ("email", "TEXT", Absent::Nothing, "EMAIL"),
-    ("phone", "TEXT", Absent::Nothing, "PHONE"),
-    ("loc", "TEXT", Absent::Nothing, "LOC"),
-    ("tool", "TEXT", Absent::Nothing, "TOOL"),
-    ("note", "TEXT", Absent::Nothing, "NOTE"),
-    ("priv", "HEX", Absent::Nothing, "PRIV, its octets in hex"),
-    (
-        "word",
-        "HEX",
-        Absent::Is("00000000"),
-        "Random word of the start, 8 hex digits",
-    ),
-];
+/// The option after those of the participant.
+const OWN: [Row; 1] = [(
+    "word",
+    "HEX",
+    Absent::Is("00000000"),
+    "Random word of the start, 8 hex digits",
+)];
 
 /// The subcommand, as `clap` reads it.
 pub(super) fn subcommand<'a>(alloc: Global) -> Result<Command<'a>, AllocError> {
-    let mut command = Command::new(alloc, "replay").about(ABOUT).long_about(LONG);
-    for (name, value, absent, help) in OPTIONS {
-        let option = Arg::new(alloc, name)
-            .long(name)
-            .value_name(value)
-            .help(help)
-            .action(ArgAction::Set);
-        command = command.arg(match absent {
-            Absent::Refused => option.required(true),
-            Absent::Is(text) => option.default_value(text),
-            Absent::Nothing => option,
-        })?;
-    }
-    Ok(command)
+    let command = Command::new(alloc, "replay").about(ABOUT).long_about(LONG);
+    let command = with_options(alloc, command, &PARTICIPANT)?;
+    with_options(alloc, command, &OWN)
 }
 
 /// What the words after `replay` ask for.
@@ -137,40 +69,11 @@ pub(super) fn subcommand<'a>(alloc: Global) -> Result<Command<'a>, AllocError> {
 ///
 /// [`OrderFault::Option`] with the first option whose value is refused.
 pub(super) fn order(matches: &ArgMatches<'_>) -> Result<TextOrder, OrderFault>
-    ensures { IsReplayOrder result (replay_in (texts_found (first_value (found_of matches.now)))) }
+    ensures { IsReplayOrder result (replay_in (texts_found (first_value (found_of matches.now)))
+        (text_found (first_value (found_of matches.now)) (codes "word"))) }
 {
-    match read_options(options(matches)) {
+    match read_replay(participant(matches), given(matches, "word")) {
         Ok((config, word)) => Ok(TextOrder::Replay { config, word }),
         Err(name) => Err(OrderFault::Option(name)),
     }
-}
-
-/// The texts of the options.
-fn options<'a>(matches: &ArgMatches<'a>) -> Options<'a>
-    ensures { texts_of result ≡ texts_found (first_value (found_of matches.now)) }
-{
-    Options {
-        ssrc: given(matches, "ssrc"),
-        cname: given(matches, "cname"),
-        capacity: given(matches, "capacity"),
-        limit: given(matches, "limit"),
-        session_bps: given(matches, "session-bps"),
-        rate: given(matches, "rate"),
-        ntp: given(matches, "ntp"),
-        name: matches.get_str("name"),
-        email: matches.get_str("email"),
-        phone: matches.get_str("phone"),
-        loc: matches.get_str("loc"),
-        tool: matches.get_str("tool"),
-        note: matches.get_str("note"),
-        private: matches.get_str("priv"),
-        word: given(matches, "word"),
-    }
-}
-
-/// The text of an option that is required or has a default.
-fn given<'a>(matches: &ArgMatches<'a>, name: &str) -> &'a str
-    ensures { result.now ≡ unwrap_or (first_value (found_of matches.now) name.now) [] }
-{
-    matches.get_str(name).unwrap_or("")
 }

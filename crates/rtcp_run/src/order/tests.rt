@@ -1,5 +1,7 @@
 //! The options of `replay`.
 
+mod listen;
+
 use super::order;
 use crate::orders::{Order, TextOrder};
 use crate::tests::{refused, same};

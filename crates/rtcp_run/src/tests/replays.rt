@@ -20,7 +20,9 @@ pub(super) fn ended<'a>(
     rest: &'a [u8],
     calls: u32,
 ) -> Result<Ended, Fail> {
-    let Order::Text(asked) = order(alloc, words).ok().ok_or("the options are refused")?;
+    let Ok(Order::Text(asked)) = order(alloc, words) else {
+        return Err("the options are refused")?;
+    };
     let reader = Pieces {
         rest,
         piece: rest.len(),
