@@ -33,8 +33,8 @@ pub struct Ran {
 /// answers are those defined over the whole history; the table never passes its capacity, and no compound the
 /// limit; two successive reports lie at least half the interval then computed, over 1.21828, apart, so that in
 /// any window at most one report more lies than 2.052 seconds fit into it; a tick that comes late sends; and
-/// there is at most one BYE, at the end (RFC 3550, 6.2, 6.3). Members that keep falling can put a report off for
-/// longer, and never bring two closer together.
+/// there is at most one BYE, at the end (RFC 3550, 6.2, 6.3). Members that keep falling can put a report off, or
+/// bring it sooner, but never sooner than that.
 pub fn run<T: MemberTable, S: Sink>(
     participant: &mut Participant<T>,
     events: &[Event<'_>],

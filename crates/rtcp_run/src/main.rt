@@ -1,8 +1,8 @@
 //! The program `rtcp`: it shows what RTCP datagrams hold, replays the events of a participant, and takes part in
 //! a session over UDP.
 //!
-//! Only this file touches the process: its command line, its standard streams and its sockets. All else works
-//! over any reader, writer and link.
+//! Only this file touches the process: its command line and its standard streams. It lends its runtime to
+//! `udp_link`, for a clock and sockets. All else works over any reader, writer and link.
 #![tactic(auto)]
 
 ghost use Rattle.std.specs.Prelude.{IfOk, ◌≤◌};

@@ -18,8 +18,9 @@ Take part in a session over UDP.
 
 RTP and RTCP come in at a port each, and reports go from the port of RTCP to the peer. In a turn
 the participant waits for RTCP and then for RTP, at most 20 milliseconds each, and sends what is
-due. After the last turn it leaves: with a BYE if it has sent a report, and without a word if it
-has not. It sends no RTP, and nothing is written before the end.
+due. After the last turn it leaves: without a word if it has sent no report, else with a BYE. Where
+more than 50 are known that BYE waits for its turn, in at most as many turns again, and may not go
+out. It sends no RTP, and nothing is written before the end.
 
 A turn takes at most one RTP packet, and may wait 20 milliseconds for RTCP before. So media of 50
 packets a second or more outruns it, and what the socket then drops is reported as lost. Moments
