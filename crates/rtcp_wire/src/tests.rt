@@ -66,30 +66,30 @@ fn named_report(rt: HostRuntime) -> Result<(), Fail> {
     let compound = Compound::read(&NAMED)?;
     let mut packets = compound.packets();
     match packets.next() {
-        Some(PacketView::Rr(report)) => {
-            assert_eq!(rt; report.ssrc, 7);
-            assert_eq!(rt; report.blocks().next(), None);
-            assert_eq!(rt; report.extension, [].as_slice());
-        }
+        Some(PacketView::Rr(report)) => assert_eq!(rt;
+            (report.ssrc, report.blocks().next(), report.extension),
+            (7, None, [].as_slice())
+        ),
         _ => panic!(rt; "the first packet is a receiver report"),
     }
     match packets.next() {
-        Some(PacketView::Sdes(description)) => {
-            let mut chunks = description.chunks();
-            let chunk = chunks.next().ok_or("no chunk")?;
-            assert_eq!(rt; chunk.id(), 7);
-            let mut items = chunk.items();
-            let item = items.next().ok_or("no item")?;
-            assert_eq!(rt; item.kind, 1);
-            assert_eq!(rt; item.text, b"a".as_slice());
-            assert!(rt; items.next().is_none());
-            assert!(rt; items.next().is_none());
-            assert!(rt; chunks.next().is_none());
-        }
+        Some(PacketView::Sdes(description)) => check_cname(&rt, &description)?,
         _ => panic!(rt; "the second packet is a source description"),
     }
-    assert!(rt; packets.next().is_none());
-    assert!(rt; packets.next().is_none());
+    let ends = (packets.next().is_none(), packets.next().is_none());
+    assert_eq!(rt; ends, (true, true));
+    Ok(())
+}
+
+/// A description has one chunk, of source 7, with one item, the CNAME `a`.
+fn check_cname(rt: &impl Abort, description: &SourceDescription<'_>) -> Result<(), Fail> {
+    let mut chunks = description.chunks();
+    let chunk = chunks.next().ok_or("no chunk")?;
+    let mut items = chunk.items();
+    let item = items.next().ok_or("no item")?;
+    assert_eq!(rt; (chunk.id(), item.kind, item.text), (7, 1, b"a".as_slice()));
+    let ends = (items.next().is_none(), items.next().is_none());
+    assert_eq!(rt; (ends, chunks.next().is_none()), ((true, true), true));
     Ok(())
 }
 
@@ -122,8 +122,10 @@ fn block_and_extension(rt: HostRuntime) -> Result<(), Fail> {
     match packets.next() {
         Some(PacketView::Rr(report)) => {
             let blocks: Vec<Block> = report.blocks().collect(rt.alloc())?;
-            assert_eq!(rt; blocks.as_slice(), [block].as_slice());
-            assert_eq!(rt; report.extension, [1, 2, 3, 4].as_slice());
+            assert_eq!(rt;
+                (blocks.as_slice(), report.extension),
+                ([block].as_slice(), [1, 2, 3, 4].as_slice())
+            );
         }
         _ => panic!(rt; "it is a receiver report"),
     }
@@ -133,50 +135,42 @@ fn block_and_extension(rt: HostRuntime) -> Result<(), Fail> {
 
 #[test]
 fn first_faults(rt: HostRuntime) {
-    assert_eq!(rt; Compound::read(&[]).err(), fault(FaultReason::Short, 0));
-    assert_eq!(rt;
-        Compound::read(&[0x40, 0xc9, 0, 1, 0, 0, 0, 7]).err(),
-        fault(FaultReason::Version, 0)
-    );
-    assert_eq!(rt;
-        Compound::read(&[0x80, 0xca, 0, 0]).err(),
-        fault(FaultReason::FirstType, 0)
-    );
-    assert_eq!(rt;
-        Compound::read(&[0xa0, 0xc9, 0, 2, 0, 0, 0, 7, 0, 0, 0, 4]).err(),
-        fault(FaultReason::FirstPadding, 0)
-    );
-    assert_eq!(rt;
-        Compound::read(&[0x80, 0xc9, 0, 1, 0, 0, 0]).err(),
-        fault(FaultReason::Length, 0)
-    );
-    assert_eq!(rt;
-        Compound::read(&[0x81, 0xc9, 0, 1, 0, 0, 0, 7]).err(),
-        fault(FaultReason::Body, 0)
-    );
-    assert_eq!(rt;
-        Compound::read(&[
+    for (octets, reason, place) in [
+        ([].as_slice(), FaultReason::Short, 0),
+        (&[0x40, 0xc9, 0, 1, 0, 0, 0, 7], FaultReason::Version, 0),
+        (&[0x80, 0xca, 0, 0], FaultReason::FirstType, 0),
+        (
+            &[0xa0, 0xc9, 0, 2, 0, 0, 0, 7, 0, 0, 0, 4],
+            FaultReason::FirstPadding,
+            0,
+        ),
+        (&[0x80, 0xc9, 0, 1, 0, 0, 0], FaultReason::Length, 0),
+        (&[0x81, 0xc9, 0, 1, 0, 0, 0, 7], FaultReason::Body, 0),
+        (
+            &[
                 0x80, 0xc9, 0, 1, // a receiver report of two words
                 0, 0, 0, 7, // its SSRC
                 0xa0, 0xcc, 0, 1, // an application's packet of two words, with padding
                 0, 0, 0, 8, // eight octets of padding, the header's among them
-            ]
-        )
-        .err(),
-        fault(FaultReason::Padding, 8)
-    );
-    assert_eq!(rt;
-        Compound::read(&[
+            ],
+            FaultReason::Padding,
+            8,
+        ),
+        (
+            &[
                 0x80, 0xc9, 0, 1, // a receiver report of two words
                 0, 0, 0, 7, // its SSRC
                 0x81, 0xca, 0, 2, // a source description of three words, with one chunk
                 0, 0, 0, 7, // the chunk's SSRC
                 1, 5, 0x61, 0, // a CNAME of five octets, but only two follow
-            ]
-        )
-        .err(),
-        fault(FaultReason::Item, 8)
-    );
+            ],
+            FaultReason::Item,
+            8,
+        ),
+    ] {
+        let found = Compound::read(octets).err();
+        assert_eq!(rt; found, fault(reason, place), "{octets:?}");
+    }
 }
 
 #[test]
@@ -206,7 +200,7 @@ fn prefixes(rt: HostRuntime) {
     }
 }
 
-/// What the errors say.
+/// What the errors say of a packet.
 #[test]
 fn messages(rt: HostRuntime) -> Result<(), Fail> {
     for (reason, message) in [
@@ -238,6 +232,12 @@ fn messages(rt: HostRuntime) -> Result<(), Fail> {
         let wire = WireFault { reason, place: 8 };
         assert_eq!(rt; wire.to_string(rt.alloc())?.as_str(), message);
     }
+    Ok(())
+}
+
+/// What they say without its place.
+#[test]
+fn reasons(rt: HostRuntime) -> Result<(), Fail> {
     for (reason, message) in [
         (
             FaultReason::Padding,

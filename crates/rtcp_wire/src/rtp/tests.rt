@@ -19,13 +19,18 @@ fn extension(rt: HostRuntime) -> Result<(), Fail> {
         1, 2, // payload
     ];
     let head = RtpHead::read(&octets)?;
-    assert_eq!(rt; head.payload_type(), 0);
-    assert!(rt; !head.marker());
-    assert_eq!(rt; head.sequence(), 1);
-    assert_eq!(rt; head.timestamp(), 2);
-    assert_eq!(rt; head.ssrc(), 3);
-    assert_eq!(rt; head.csrcs().count(), 0);
-    assert_eq!(rt; head.payload(), [1, 2].as_slice());
+    let fixed = (
+        head.payload_type(),
+        head.marker(),
+        head.sequence(),
+        head.timestamp(),
+        head.ssrc(),
+    );
+    assert_eq!(rt; fixed, (0, false, 1, 2, 3));
+    assert_eq!(rt;
+        (head.csrcs().count(), head.payload()),
+        (0, [1, 2].as_slice())
+    );
     Ok(())
 }
 
@@ -65,12 +70,16 @@ fn contributing_sources(rt: HostRuntime) -> Result<(), Fail> {
         0, 0, 0, 4, // CSRC
     ];
     let head = RtpHead::read(&octets)?;
+    let csrcs: Vec<u32> = head.csrcs().collect(rt.alloc())?;
     assert_eq!(rt;
-        head.csrcs().collect::<Vec<u32>>(rt.alloc())?.as_slice(),
-        [4].as_slice()
+        (csrcs.as_slice(), head.payload().len()),
+        ([4].as_slice(), 0)
     );
-    assert_eq!(rt; head.payload().len(), 0);
+    Ok(())
+}
 
+#[test]
+fn two_contributing_sources(rt: HostRuntime) -> Result<(), Fail> {
     let octets = [
         0x82, 0, 0, 1, // two CSRCs, payload type 0, sequence number 1
         0, 0, 0, 2, // timestamp
@@ -80,13 +89,20 @@ fn contributing_sources(rt: HostRuntime) -> Result<(), Fail> {
         9, // payload
     ];
     let head = RtpHead::read(&octets)?;
-    let mut found = Vec::new(rt.alloc());
+    let mut csrcs = Vec::new(rt.alloc());
     for csrc in head.csrcs() {
-        found.push(csrc)?;
+        csrcs.push(csrc)?;
     }
-    assert_eq!(rt; found.as_slice(), [4, 0xff00_0005].as_slice());
-    assert_eq!(rt; head.payload(), [9].as_slice());
+    assert_eq!(rt;
+        (csrcs.as_slice(), head.payload()),
+        ([4, 0xff00_0005].as_slice(), [9].as_slice())
+    );
+    Ok(())
+}
 
+/// Fewer CSRCs than the packet counts.
+#[test]
+fn short_contributing_sources(rt: HostRuntime) {
     let octets = [
         0x82, 0, 0, 1, // two CSRCs, payload type 0, sequence number 1
         0, 0, 0, 2, // timestamp
@@ -94,7 +110,6 @@ fn contributing_sources(rt: HostRuntime) -> Result<(), Fail> {
         0, 0, 0, 4, // the first CSRC
     ];
     assert_eq!(rt; RtpHead::read(&octets).err(), Some(RtpFault::Short));
-    Ok(())
 }
 
 /// The payload types beside the reserved ones are read, and the first and the last reserved one are not, with and
@@ -110,8 +125,10 @@ fn payload_types(rt: HostRuntime) -> Result<(), Fail> {
     ] {
         let octets = typed(second);
         let head = RtpHead::read(&octets)?;
-        assert_eq!(rt; head.payload_type(), payload_type);
-        assert_eq!(rt; head.marker(), marker);
+        assert_eq!(rt;
+            (head.payload_type(), head.marker()),
+            (payload_type, marker)
+        );
     }
     for second in [0x48, 0x4c, 0xc8, 0xcc] {
         assert_eq!(rt;
@@ -124,26 +141,23 @@ fn payload_types(rt: HostRuntime) -> Result<(), Fail> {
 
 #[test]
 fn other_faults(rt: HostRuntime) {
-    assert_eq!(rt; RtpHead::read(&[]).err(), Some(RtpFault::Short));
-    assert_eq!(rt;
-        RtpHead::read(&[0x40, 0, 0, 1, 0, 0, 0, 2, 0, 0, 0, 3]).err(),
-        Some(RtpFault::Version)
-    );
-    assert_eq!(rt;
-        RtpHead::read(&[
-            0x90, 0, 0, 1, // extension bit, payload type 0, sequence number 1
-            0, 0, 0, 2, // timestamp
-            0, 0, 0, 3, // SSRC
-            0, 5, 0, 1, // an extension of one word
-            0xaa, 0xbb, 0xcc, // three octets of that word
-        ])
-        .err(),
-        Some(RtpFault::Extension)
-    );
-    assert_eq!(rt;
-        RtpHead::read(&[0xa0, 0, 0, 1, 0, 0, 0, 2, 0, 0, 0, 3]).err(),
-        Some(RtpFault::Padding)
-    );
+    for (octets, fault) in [
+        ([].as_slice(), RtpFault::Short),
+        (&[0x40, 0, 0, 1, 0, 0, 0, 2, 0, 0, 0, 3], RtpFault::Version),
+        (
+            &[
+                0x90, 0, 0, 1, // extension bit, payload type 0, sequence number 1
+                0, 0, 0, 2, // timestamp
+                0, 0, 0, 3, // SSRC
+                0, 5, 0, 1, // an extension of one word
+                0xaa, 0xbb, 0xcc, // three octets of that word
+            ],
+            RtpFault::Extension,
+        ),
+        (&[0xa0, 0, 0, 1, 0, 0, 0, 2, 0, 0, 0, 3], RtpFault::Padding),
+    ] {
+        assert_eq!(rt; RtpHead::read(octets).err(), Some(fault), "{octets:?}");
+    }
 }
 
 /// What the errors say.

@@ -75,9 +75,8 @@ fn one_block(rt: HostRuntime) -> Result<(), Fail> {
         dlsr: 0x0005_4000,
     };
     let mut about = compound.about(0xaa);
-    assert_eq!(rt; about.next(), Some((7, block)));
-    assert_eq!(rt; about.next(), None);
-    assert_eq!(rt; about.next(), None);
+    let found = [about.next(), about.next(), about.next()];
+    assert_eq!(rt; found, [Some((7, block)), None, None]);
     // The source that reports is not one that it reports of.
     assert_eq!(rt; compound.about(7).next(), None);
     Ok(())
@@ -86,18 +85,14 @@ fn one_block(rt: HostRuntime) -> Result<(), Fail> {
 /// Blocks of two reports, in the order of the datagram, with others before and after them.
 #[test]
 fn two_reports(rt: HostRuntime) -> Result<(), Fail> {
-    assert_eq!(rt;
-        told_of(rt.alloc(), &TWO_REPORTS, 13)?.as_slice(),
-        [(9, 22), (11, 23)].as_slice()
-    );
-    assert_eq!(rt;
-        told_of(rt.alloc(), &TWO_REPORTS, 5)?.as_slice(),
-        [(9, 21), (11, 24)].as_slice()
-    );
-    assert_eq!(rt;
-        told_of(rt.alloc(), &TWO_REPORTS, 9)?.as_slice(),
-        [].as_slice()
-    );
+    for (ssrc, expected) in [
+        (13, [(9, 22), (11, 23)].as_slice()),
+        (5, &[(9, 21), (11, 24)]),
+        (9, &[]),
+    ] {
+        let told = told_of(rt.alloc(), &TWO_REPORTS, ssrc)?;
+        assert_eq!(rt; told.as_slice(), expected, "of source {ssrc}");
+    }
     Ok(())
 }
 

@@ -88,9 +88,14 @@ fn free_octets(rt: HostRuntime) {
 /// octets are left for the fill.
 #[test]
 fn item(rt: HostRuntime) {
-    assert_eq!(rt; counted(16, None), 256);
-    assert_eq!(rt; counted(17, None), 1);
-    assert_eq!(rt; counted(17, fault(FaultReason::Item, 8)), 255);
-    assert_eq!(rt; counted(19, None), 1);
-    assert_eq!(rt; counted(19, fault(FaultReason::Item, 8)), 255);
+    let rows = [
+        (16, None, 256),
+        (17, None, 1),
+        (17, fault(FaultReason::Item, 8), 255),
+        (19, None, 1),
+        (19, fault(FaultReason::Item, 8), 255),
+    ];
+    for (place, expected, count) in rows {
+        assert_eq!(rt; counted(place, expected), count, "octet {place}");
+    }
 }

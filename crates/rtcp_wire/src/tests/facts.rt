@@ -116,9 +116,9 @@ fn empty_packets(rt: HostRuntime) -> Result<(), Fail> {
     ];
     let compound = Compound::read(&octets)?;
     let mut left = crate::facts(&compound);
-    assert_eq!(rt; left.next(), Some(Fact::Heard(7)));
-    assert_eq!(rt; left.next(), Some(Fact::Heard(8)));
-    assert_eq!(rt; left.next(), None);
-    assert_eq!(rt; left.next(), None);
+    assert_eq!(rt;
+        [left.next(), left.next(), left.next(), left.next()],
+        [Some(Fact::Heard(7)), Some(Fact::Heard(8)), None, None]
+    );
     Ok(())
 }

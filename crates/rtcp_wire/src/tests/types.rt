@@ -2,12 +2,45 @@
 
 use super::*;
 
-/// The goodbye that these octets are, after a report.
-fn goodbye_in<'a>(rt: &impl Abort, datagram: &'a [u8]) -> Goodbye<'a> {
-    match second_packet(rt, datagram) {
-        PacketView::Bye(goodbye) => goodbye,
+/// A sender report with one block and an extension of one word.
+const REPORT_WITH_BLOCK: [u8; 56] = [
+    0x81, 0xc8, 0, 13, // a sender report of 14 words, with one block
+    0xde, 0xad, 0xbe, 0xef, // its SSRC
+    1, 2, 3, 4, // NTP timestamp, the upper word
+    5, 6, 7, 8, // NTP timestamp, the lower word
+    9, 10, 11, 12, // RTP timestamp
+    0, 0, 0, 1, // packets sent
+    0, 0, 0, 2, // octets sent
+    0, 0, 0, 9, // the block's SSRC
+    25, 0, 0, 1, // fraction lost 25, packets lost 1
+    0, 1, 0, 2, // highest sequence number: cycle 1, number 2
+    0, 0, 0, 10, // jitter
+    0xb7, 5, 0x20, 0, // LSR
+    0, 5, 0x40, 0, // DLSR
+    1, 2, 3, 4, // extension
+];
+
+/// These octets, after a report, are a goodbye of these sources with this reason.
+fn check_goodbye(
+    rt: &impl Abort,
+    alloc: Global,
+    octets: &[u8],
+    ids: &[u32],
+    reason: Option<&[u8]>,
+) -> Result<(), Fail> {
+    let datagram = after_report(alloc, octets)?;
+    match second_packet(rt, &datagram) {
+        PacketView::Bye(goodbye) => {
+            let found: Vec<u32> = goodbye.ids().collect(alloc)?;
+            assert_eq!(rt;
+                (found.as_slice(), goodbye.reason),
+                (ids, reason),
+                "{octets:?}"
+            );
+        }
         _ => panic!(rt; "it is a goodbye"),
     }
+    Ok(())
 }
 
 /// A sender report that comes first, with no blocks.
@@ -26,13 +59,17 @@ fn sender_report(rt: HostRuntime) -> Result<(), Fail> {
     let mut packets = compound.packets();
     match packets.next() {
         Some(PacketView::Sr(report)) => {
-            assert_eq!(rt; report.ssrc, 9);
-            assert_eq!(rt; report.ntp, 0x0000_b705_2000_0000);
-            assert_eq!(rt; report.rtp, 10);
-            assert_eq!(rt; report.packets, 3);
-            assert_eq!(rt; report.octets, 480);
-            assert_eq!(rt; report.blocks().next(), None);
-            assert_eq!(rt; report.extension.len(), 0);
+            assert_eq!(rt;
+                (
+                    report.ssrc,
+                    report.ntp,
+                    report.rtp,
+                    report.packets,
+                    report.octets
+                ),
+                (9, 0x0000_b705_2000_0000, 10, 3, 480)
+            );
+            assert_eq!(rt; (report.blocks().next(), report.extension.len()), (None, 0));
         }
         _ => panic!(rt; "it is a sender report"),
     }
@@ -40,34 +77,23 @@ fn sender_report(rt: HostRuntime) -> Result<(), Fail> {
     Ok(())
 }
 
-/// A sender report with one block and an extension of one word.
+/// Each field of a sender report with one block and an extension.
 #[test]
 fn sender_report_with_block(rt: HostRuntime) -> Result<(), Fail> {
-    let octets = [
-        0x81, 0xc8, 0, 13, // a sender report of 14 words, with one block
-        0xde, 0xad, 0xbe, 0xef, // its SSRC
-        1, 2, 3, 4, // NTP timestamp, the upper word
-        5, 6, 7, 8, // NTP timestamp, the lower word
-        9, 10, 11, 12, // RTP timestamp
-        0, 0, 0, 1, // packets sent
-        0, 0, 0, 2, // octets sent
-        0, 0, 0, 9, // the block's SSRC
-        25, 0, 0, 1, // fraction lost 25, packets lost 1
-        0, 1, 0, 2, // highest sequence number: cycle 1, number 2
-        0, 0, 0, 10, // jitter
-        0xb7, 5, 0x20, 0, // LSR
-        0, 5, 0x40, 0, // DLSR
-        1, 2, 3, 4, // extension
-    ];
-    let compound = Compound::read(&octets)?;
+    let compound = Compound::read(&REPORT_WITH_BLOCK)?;
     let mut packets = compound.packets();
     match packets.next() {
         Some(PacketView::Sr(report)) => {
-            assert_eq!(rt; report.ssrc, 0xdead_beef);
-            assert_eq!(rt; report.ntp, 0x0102_0304_0506_0708);
-            assert_eq!(rt; report.rtp, 0x090a_0b0c);
-            assert_eq!(rt; report.packets, 1);
-            assert_eq!(rt; report.octets, 2);
+            assert_eq!(rt;
+                (
+                    report.ssrc,
+                    report.ntp,
+                    report.rtp,
+                    report.packets,
+                    report.octets
+                ),
+                (0xdead_beef, 0x0102_0304_0506_0708, 0x090a_0b0c, 1, 2)
+            );
             let block = Block {
                 ssrc: 9,
                 fraction: 25,
@@ -78,8 +104,10 @@ fn sender_report_with_block(rt: HostRuntime) -> Result<(), Fail> {
                 dlsr: 0x0005_4000,
             };
             let blocks: Vec<Block> = report.blocks().collect(rt.alloc())?;
-            assert_eq!(rt; blocks.as_slice(), [block].as_slice());
-            assert_eq!(rt; report.extension, [1, 2, 3, 4].as_slice());
+            assert_eq!(rt;
+                (blocks.as_slice(), report.extension),
+                ([block].as_slice(), [1, 2, 3, 4].as_slice())
+            );
         }
         _ => panic!(rt; "it is a sender report"),
     }
@@ -96,28 +124,20 @@ fn goodbye_with_reason(rt: HostRuntime) -> Result<(), Fail> {
         0, 0, 1, 0, // the second
         2, 0x61, 0x62, 0, // a reason of two octets, and its fill
     ];
-    let datagram = after_report(rt.alloc(), &octets)?;
-    let goodbye = goodbye_in(&rt, &datagram);
-    let ids: Vec<u32> = goodbye.ids().collect(rt.alloc())?;
-    assert_eq!(rt; ids.as_slice(), [7, 256].as_slice());
-    assert_eq!(rt; goodbye.reason, Some(b"ab".as_slice()));
-    Ok(())
+    check_goodbye(&rt, rt.alloc(), &octets, &[7, 256], Some(b"ab"))
 }
 
 /// A reason that ends with its word, and one with three octets after it.
 #[test]
 fn filled_reasons(rt: HostRuntime) -> Result<(), Fail> {
     let full = [0x80, 0xcb, 0, 1, 3, 0x61, 0x62, 0x63];
-    let datagram = after_report(rt.alloc(), &full)?;
-    assert_eq!(rt; goodbye_in(&rt, &datagram).reason, Some(b"abc".as_slice()));
+    check_goodbye(&rt, rt.alloc(), &full, &[], Some(b"abc"))?;
     let filled = [
         0x80, 0xcb, 0, 2, // a goodbye of three words, of no source
         4, 0x61, 0x62, 0x63, // a reason of four octets
         0x64, 9, 9, 9, // its last octet, and the fill
     ];
-    let datagram = after_report(rt.alloc(), &filled)?;
-    assert_eq!(rt; goodbye_in(&rt, &datagram).reason, Some(b"abcd".as_slice()));
-    Ok(())
+    check_goodbye(&rt, rt.alloc(), &filled, &[], Some(b"abcd"))
 }
 
 /// A word of zeros is a reason without text.
@@ -128,12 +148,7 @@ fn goodbye_with_empty_reason(rt: HostRuntime) -> Result<(), Fail> {
         0, 0, 0, 7, // its SSRC
         0, 0, 0, 0, // a reason of no octets, and its fill
     ];
-    let datagram = after_report(rt.alloc(), &octets)?;
-    let goodbye = goodbye_in(&rt, &datagram);
-    let ids: Vec<u32> = goodbye.ids().collect(rt.alloc())?;
-    assert_eq!(rt; ids.as_slice(), [7].as_slice());
-    assert_eq!(rt; goodbye.reason, Some([].as_slice()));
-    Ok(())
+    check_goodbye(&rt, rt.alloc(), &octets, &[7], Some(b""))
 }
 
 #[test]
@@ -143,21 +158,12 @@ fn goodbye_without_reason(rt: HostRuntime) -> Result<(), Fail> {
         0, 0, 0, 7, // its SSRC
         0, 0, 0, 4, // four octets of padding
     ];
-    let datagram = after_report(rt.alloc(), &octets)?;
-    let goodbye = goodbye_in(&rt, &datagram);
-    let ids: Vec<u32> = goodbye.ids().collect(rt.alloc())?;
-    assert_eq!(rt; ids.as_slice(), [7].as_slice());
-    assert_eq!(rt; goodbye.reason, None);
-    Ok(())
+    check_goodbye(&rt, rt.alloc(), &octets, &[7], None)
 }
 
 #[test]
 fn goodbye_of_nobody(rt: HostRuntime) -> Result<(), Fail> {
-    let datagram = after_report(rt.alloc(), &[0x80, 0xcb, 0, 0])?;
-    let goodbye = goodbye_in(&rt, &datagram);
-    assert_eq!(rt; goodbye.ids().next(), None);
-    assert_eq!(rt; goodbye.reason, None);
-    Ok(())
+    check_goodbye(&rt, rt.alloc(), &[0x80, 0xcb, 0, 0], &[], None)
 }
 
 #[test]
@@ -171,10 +177,15 @@ fn application(rt: HostRuntime) -> Result<(), Fail> {
     let datagram = after_report(rt.alloc(), &octets)?;
     match second_packet(&rt, &datagram) {
         PacketView::App(packet) => {
-            assert_eq!(rt; packet.subtype, 5);
-            assert_eq!(rt; packet.ssrc, 7);
-            assert_eq!(rt; packet.name.as_slice(), b"ABCD".as_slice());
-            assert_eq!(rt; packet.data, [1, 2, 3, 4].as_slice());
+            assert_eq!(rt;
+                (
+                    packet.subtype,
+                    packet.ssrc,
+                    packet.name.as_slice(),
+                    packet.data
+                ),
+                (5, 7, b"ABCD".as_slice(), [1, 2, 3, 4].as_slice())
+            );
         }
         _ => panic!(rt; "it is an application's packet"),
     }
@@ -186,11 +197,10 @@ fn application(rt: HostRuntime) -> Result<(), Fail> {
 fn other_type(rt: HostRuntime) -> Result<(), Fail> {
     let datagram = after_report(rt.alloc(), &[0x83, 0xcd, 0, 1, 1, 2, 3, 4])?;
     match second_packet(&rt, &datagram) {
-        PacketView::Other(packet) => {
-            assert_eq!(rt; packet.kind, 205);
-            assert_eq!(rt; packet.count, 3);
-            assert_eq!(rt; packet.body, [1, 2, 3, 4].as_slice());
-        }
+        PacketView::Other(packet) => assert_eq!(rt;
+            (packet.kind, packet.count, packet.body),
+            (205, 3, [1, 2, 3, 4].as_slice())
+        ),
         _ => panic!(rt; "it is a packet of another type"),
     }
     Ok(())
