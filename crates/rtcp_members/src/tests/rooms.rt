@@ -7,27 +7,32 @@ use std::test::*;
 /// A full table of two, in which the first leaves.
 pub(crate) fn room_for_two<T: MemberTable + Drop>(rt: &impl Abort) {
     let mut session: Session<T> = Session::new(2);
-    assert_eq!(rt; session.place(Fact::Heard(1), 0), Some(Place::Added));
-    assert_eq!(rt; session.place(Fact::Named(1), 0), Some(Place::Kept));
-    assert_eq!(rt; session.place(Fact::Heard(2), 0), Some(Place::Added));
-    assert_eq!(rt; session.place(Fact::Heard(3), 0), Some(Place::NoRoom));
-    assert_eq!(rt; session.members(), 1);
-    assert_eq!(rt; session.place(Fact::Gone(9), 0), Some(Place::Ignored));
-    assert_eq!(rt; session.place(Fact::Gone(1), 1_000_000), Some(Place::Left));
-    assert_eq!(rt; session.members(), 0);
+    let seen = [
+        (session.place(Fact::Heard(1), 0), session.members()),
+        (session.place(Fact::Named(1), 0), session.members()),
+        (session.place(Fact::Heard(2), 0), session.members()),
+        (session.place(Fact::Heard(3), 0), session.members()),
+        (session.place(Fact::Gone(9), 0), session.members()),
+        (session.place(Fact::Gone(1), 1_000_000), session.members()),
+        (session.place(Fact::Heard(1), 1_000_001), session.members()),
+    ];
     assert_eq!(rt;
-        session.place(Fact::Heard(1), 1_000_001),
-        Some(Place::Ignored)
+        seen,
+        [
+            (Some(Place::Added), 0),
+            (Some(Place::Kept), 1),
+            (Some(Place::Added), 1),
+            (Some(Place::NoRoom), 1),
+            (Some(Place::Ignored), 1),
+            (Some(Place::Left), 0),
+            (Some(Place::Ignored), 0),
+        ]
     );
     let held = session.check(5_999_999, 0, 0, 1_000_000);
-    assert_eq!(rt; held.entries, 0);
     let dropped = session.check(6_000_000, 0, 0, 1_000_001);
-    assert_eq!(rt; dropped.entries, 1);
-    assert_eq!(rt; dropped.senders, 0);
-    assert_eq!(rt;
-        session.place(Fact::Heard(3), 6_000_000),
-        Some(Place::Added)
-    );
+    assert_eq!(rt; (held.entries, dropped.entries, dropped.senders), (0, 1, 0));
+    let place = session.place(Fact::Heard(3), 6_000_000);
+    assert_eq!(rt; place, Some(Place::Added));
 }
 
 /// A table of 1,024, named in falling order, has no room for one source more.
@@ -37,21 +42,34 @@ pub(crate) fn full<T: MemberTable + Drop>(rt: &impl Abort) {
         let place = session.place(Fact::Named(2_000 - below), 0);
         assert_eq!(rt; place, Some(Place::Added));
     }
-    assert_eq!(rt; session.place(Fact::Named(976), 0), Some(Place::NoRoom));
-    assert_eq!(rt; session.place(Fact::Named(977), 0), Some(Place::Kept));
-    assert_eq!(rt; session.members(), 1_024);
-    assert_eq!(rt; session.place(Fact::Gone(1_500), 0), Some(Place::Left));
-    assert_eq!(rt; session.members(), 1_023);
+    let seen = [
+        (session.place(Fact::Named(976), 0), session.members()),
+        (session.place(Fact::Named(977), 0), session.members()),
+        (session.place(Fact::Gone(1_500), 0), session.members()),
+    ];
+    assert_eq!(rt;
+        seen,
+        [
+            (Some(Place::NoRoom), 1_024),
+            (Some(Place::Kept), 1_024),
+            (Some(Place::Left), 1_023),
+        ]
+    );
 }
 
 /// A source is dropped where its last sighting lies before the horizon, and not at it. A goodbye is no
 /// sighting.
 pub(crate) fn silence<T: MemberTable + Drop>(rt: &impl Abort) {
     let mut session: Session<T> = Session::new(2);
-    assert_eq!(rt; session.place(Fact::Heard(7), 0), Some(Place::Added));
-    assert_eq!(rt; session.check(1, 0, 0, 0).entries, 0);
-    assert_eq!(rt; session.check(1, 1, 0, 0).entries, 1);
-    assert_eq!(rt; session.place(Fact::Heard(8), 10), Some(Place::Added));
-    assert_eq!(rt; session.place(Fact::Gone(8), 20), Some(Place::Left));
-    assert_eq!(rt; session.check(30, 11, 0, 0).entries, 1);
+    let place = session.place(Fact::Heard(7), 0);
+    let at = session.check(1, 0, 0, 0).entries;
+    let before = session.check(1, 1, 0, 0).entries;
+    assert_eq!(rt; (place, at, before), (Some(Place::Added), 0, 1));
+    let heard = session.place(Fact::Heard(8), 10);
+    let gone = session.place(Fact::Gone(8), 20);
+    let before = session.check(30, 11, 0, 0).entries;
+    assert_eq!(rt;
+        (heard, gone, before),
+        (Some(Place::Added), Some(Place::Left), 1)
+    );
 }

@@ -27,13 +27,17 @@ fn whose(block: Option<Block>) -> Option<u32> {
 /// Each is reported once, by rising SSRC, after the last one and from the lowest on again.
 pub(crate) fn in_turn<T: MemberTable + Drop>(rt: &impl Abort) {
     let mut session: Session<T> = three_senders();
-    assert_eq!(rt; whose(session.block(Some(1), 0)), Some(2));
-    assert_eq!(rt; whose(session.block(Some(2), 0)), Some(3));
-    assert_eq!(rt; whose(session.block(Some(3), 0)), Some(1));
-    assert_eq!(rt; whose(session.block(Some(1), 0)), None);
+    let found = [
+        whose(session.block(Some(1), 0)),
+        whose(session.block(Some(2), 0)),
+        whose(session.block(Some(3), 0)),
+        whose(session.block(Some(1), 0)),
+    ];
+    assert_eq!(rt; found, [Some(2), Some(3), Some(1), None]);
     let _ = session.apply(Fact::Media(2, 12, 0), 0);
-    assert_eq!(rt; whose(session.block(Some(2), 0)), Some(2));
-    assert_eq!(rt; whose(session.block(Some(2), 0)), None);
+    let again = whose(session.block(Some(2), 0));
+    let no_more = whose(session.block(Some(2), 0));
+    assert_eq!(rt; (again, no_more), (Some(2), None));
 }
 
 /// A source that said goodbye is not reported.
@@ -51,7 +55,8 @@ pub(crate) fn fractions<T: MemberTable + Drop>(rt: &impl Abort) {
     let _ = session.apply(Fact::Media(1, 12, 0), 0);
     let _ = session.apply(Fact::Media(1, 14, 0), 0);
     let second = session.block(Some(3), 0);
-    assert_eq!(rt; second.map(|block| block.fraction), Some(85));
-    assert_eq!(rt; second.map(|block| block.lost), Some(1));
-    assert_eq!(rt; second.map(|block| block.highest), Some(14));
+    assert_eq!(rt;
+        second.map(|block| (block.fraction, block.lost, block.highest)),
+        Some((85, 1, 14))
+    );
 }
