@@ -24,19 +24,30 @@ fn moments(rt: HostRuntime) {
 
 #[test]
 fn delays_have_a_cap(rt: HostRuntime) {
-    assert_eq!(rt; short_delay(5_250_000), 0x0005_4000);
-    assert_eq!(rt; short_delay(65_535_999_984), 0xffff_fffe);
-    assert_eq!(rt; short_delay(65_536_000_000), 0xffff_ffff);
-    assert_eq!(rt; short_delay(1 << 50), 0xffff_ffff);
+    for (delay, expected) in [
+        (5_250_000, 0x0005_4000),
+        (65_535_999_984, 0xffff_fffe),
+        (65_536_000_000, 0xffff_ffff),
+        (1 << 50, 0xffff_ffff),
+    ] {
+        assert_eq!(rt; short_delay(delay), expected, "after {delay} microseconds");
+    }
 }
 
 #[test]
 fn intervals(rt: HostRuntime) {
-    assert_eq!(rt; draw(2_500_000, 0), 1_026_037);
-    assert_eq!(rt; draw(2_500_000, 0xffff_ffff), 3_078_111);
-    assert_eq!(rt; draw(20_000_000, 0x8000_0000), 16_416_588);
-    assert_eq!(rt; longest(2_500_000), 3_078_111);
-    assert_eq!(rt; longest(5_000_000), 6_156_221);
-    assert_eq!(rt; scale_down(1_999_999, 3, 4), 1_499_999);
-    assert_eq!(rt; scale_down(2_000_003, 3, 4), 1_500_002);
+    let draws = [
+        draw(2_500_000, 0),
+        draw(2_500_000, 0xffff_ffff),
+        draw(20_000_000, 0x8000_0000),
+    ];
+    assert_eq!(rt; draws, [1_026_037, 3_078_111, 16_416_588]);
+    assert_eq!(rt;
+        [longest(2_500_000), longest(5_000_000)],
+        [3_078_111, 6_156_221]
+    );
+    assert_eq!(rt;
+        [scale_down(1_999_999, 3, 4), scale_down(2_000_003, 3, 4)],
+        [1_499_999, 1_500_002]
+    );
 }

@@ -15,14 +15,14 @@ fn example(rt: HostRuntime) {
 #[test]
 fn averages(rt: HostRuntime) {
     let mut average = Average::start(20);
-    assert_eq!(rt; average.value(), 12_288);
+    let before = average.value();
     average.add(8);
-    assert_eq!(rt; average.value(), 12_096);
+    assert_eq!(rt; (before, average.value()), (12_288, 12_096));
 
     let mut average = Average::start(28);
-    assert_eq!(rt; average.value(), 14_336);
+    let before = average.value();
     average.add(16);
-    assert_eq!(rt; average.value(), 14_144);
+    assert_eq!(rt; (before, average.value()), (14_336, 14_144));
 }
 
 /// An average with a part of an octet is rounded down.
@@ -87,20 +87,25 @@ fn starts(rt: HostRuntime) {
 fn session(rt: HostRuntime) {
     let mut schedule = Schedule::begin(2_500_000, 0);
     assert_eq!(rt; schedule.next(), 1_026_037);
-    assert_eq!(rt; schedule.expire(1_026_036, 2_500_000, 0, 4), Verdict::Early);
-    assert_eq!(rt; schedule.expire(1_026_037, 2_500_000, 0, 4), Verdict::Due);
+    let verdicts = [
+        schedule.expire(1_026_036, 2_500_000, 0, 4),
+        schedule.expire(1_026_037, 2_500_000, 0, 4),
+    ];
+    assert_eq!(rt; verdicts, [Verdict::Early, Verdict::Due]);
     schedule.sent(1_026_037, 5_000_000, 0, 4);
     assert_eq!(rt; schedule.next(), 3_078_111);
 
     schedule.departed(2_026_037, 3);
-    assert_eq!(rt; schedule.last(), 1_276_037);
-    assert_eq!(rt; schedule.next(), 2_815_092);
+    let once = (schedule.last(), schedule.next());
     // the second call finds no fewer members
     schedule.departed(2_026_037, 3);
-    assert_eq!(rt; schedule.last(), 1_276_037);
-    assert_eq!(rt; schedule.next(), 2_815_092);
-    assert_eq!(rt; schedule.expire(2_815_092, 5_000_000, 0, 3), Verdict::Later);
-    assert_eq!(rt; (schedule.last(), schedule.next()), (1_276_037, 3_328_111));
+    let twice = (schedule.last(), schedule.next());
+    assert_eq!(rt; [once, twice], [(1_276_037, 2_815_092); 2]);
+    let verdict = schedule.expire(2_815_092, 5_000_000, 0, 3);
+    assert_eq!(rt;
+        (verdict, schedule.last(), schedule.next()),
+        (Verdict::Later, 1_276_037, 3_328_111)
+    );
 }
 
 /// Each departure scales what the one before left.
@@ -154,18 +159,13 @@ fn leave_into_backoff(rt: HostRuntime) {
     let mut schedule = Schedule::begin(2_500_000, 0);
     schedule.sent(5_000_000, 5_000_000, 0, 51);
     schedule.leave(10_000_000, 2_500_000, 0);
-    assert_eq!(rt;
-        (schedule.last(), schedule.next()),
-        (10_000_000, 11_026_037)
-    );
+    let before = (schedule.last(), schedule.next());
     schedule.departed(10_000_001, 1);
-    assert_eq!(rt;
-        (schedule.last(), schedule.next()),
-        (10_000_000, 11_026_037)
-    );
-    assert_eq!(rt;
+    let after = (schedule.last(), schedule.next());
+    assert_eq!(rt; [before, after], [(10_000_000, 11_026_037); 2]);
+    let verdicts = [
         schedule.expire(11_026_036, 2_500_000, 0, 1),
-        Verdict::Early
-    );
-    assert_eq!(rt; schedule.expire(11_026_037, 2_500_000, 0, 1), Verdict::Due);
+        schedule.expire(11_026_037, 2_500_000, 0, 1),
+    ];
+    assert_eq!(rt; verdicts, [Verdict::Early, Verdict::Due]);
 }
