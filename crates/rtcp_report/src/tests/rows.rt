@@ -47,11 +47,19 @@ pub(crate) fn two_reports<T: MemberTable + Drop>(rt: &impl Abort) {
     let octets = session.report(&named_a(Some(SENT)), 1_472, None);
     assert_eq!(rt; octets.len(), 816);
     let octets = octets.as_slice();
-    assert_eq!(rt; &octets[..4], [0x9f, 0xc8, 0, 0xc0].as_slice());
-    assert_eq!(rt; &octets[772..776], [0x81, 0xc9, 0, 7].as_slice());
-    assert_eq!(rt; &octets[780..784], [0, 0, 0, 32].as_slice());
-    assert_eq!(rt; &octets[804..808], [0x81, 0xca, 0, 2].as_slice());
-    assert_eq!(rt; session.cursor, Some(32));
+    let headers = (&octets[..4], &octets[772..776], &octets[804..808]);
+    assert_eq!(rt;
+        headers,
+        (
+            [0x9f, 0xc8, 0, 0xc0].as_slice(),
+            [0x81, 0xc9, 0, 7].as_slice(),
+            [0x81, 0xca, 0, 2].as_slice(),
+        )
+    );
+    assert_eq!(rt;
+        (&octets[780..784], session.cursor),
+        ([0, 0, 0, 32].as_slice(), Some(32))
+    );
 }
 
 /// Where one block fits, three sources take turns.
@@ -75,9 +83,15 @@ pub(crate) fn one_at_a_time<T: MemberTable + Drop>(rt: &impl Abort) {
         let octets = session.report(&sender, 576, Some(&extra));
         assert_eq!(rt; octets.len(), 576);
         let expected = turn as u8 % 3 + 1;
-        assert_eq!(rt; &octets.as_slice()[..2], [0x81, 0xc8].as_slice());
-        assert_eq!(rt; &octets.as_slice()[28..32], [0, 0, 0, expected].as_slice());
-        assert_eq!(rt; session.cursor, Some(expected as u32));
+        let octets = octets.as_slice();
+        assert_eq!(rt;
+            (&octets[..2], &octets[28..32], session.cursor),
+            (
+                [0x81, 0xc8].as_slice(),
+                [0, 0, 0, expected].as_slice(),
+                Some(expected as u32),
+            )
+        );
     }
 }
 
@@ -108,8 +122,13 @@ pub(crate) fn forty<T: MemberTable + Drop>(rt: &impl Abort) {
     let octets = session.report(&named_a(None), 1_472, None);
     assert_eq!(rt; octets.len(), 988);
     let octets = octets.as_slice();
-    assert_eq!(rt; &octets[..4], [0x9f, 0xc9, 0, 0xbb].as_slice());
-    assert_eq!(rt; &octets[752..756], [0x89, 0xc9, 0, 0x37].as_slice());
+    assert_eq!(rt;
+        (&octets[..4], &octets[752..756]),
+        (
+            [0x9f, 0xc9, 0, 0xbb].as_slice(),
+            [0x89, 0xc9, 0, 0x37].as_slice(),
+        )
+    );
 }
 
 /// Of 70 sources 60 fit, and the next report has the others.
@@ -117,10 +136,11 @@ pub(crate) fn seventy<T: MemberTable + Drop>(rt: &impl Abort) {
     let mut session: Session<T> = Session::new();
     session.sources(rt, 70);
     let octets = session.report(&named_a(None), 1_472, None);
-    assert_eq!(rt; octets.len(), 1_468);
-    assert_eq!(rt; session.cursor, Some(60));
+    assert_eq!(rt; (octets.len(), session.cursor), (1_468, Some(60)));
     let octets = session.report(&named_a(None), 1_472, None);
     assert_eq!(rt; octets.len(), 260);
-    assert_eq!(rt; &octets.as_slice()[..2], [0x8a, 0xc9].as_slice());
-    assert_eq!(rt; session.cursor, Some(70));
+    assert_eq!(rt;
+        (&octets.as_slice()[..2], session.cursor),
+        ([0x8a, 0xc9].as_slice(), Some(70))
+    );
 }
