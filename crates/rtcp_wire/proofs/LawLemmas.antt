@@ -11,6 +11,7 @@ use Rattle.rtcp_wire.specs.Facts.{is_media, facts_of}
 use Rattle.rtcp_wire.specs.RtpHeads.{RtpValue, IsRtpHead, IsRtpFault}
 use Rattle.rtcp_wire.specs.Walks.{packets_in}
 use Rattle.rtcp_wire.specs.Writing.{written, written_all, IsWritable, IsInRange, BeginsWithReport, IsWritableBlock}
+use Rattle.rtcp_wire.proofs.FewFacts.{few_facts}
 use Rattle.rtcp_wire.proofs.NoMedia.{packets_give_none}
 use Rattle.rtcp_wire.proofs.Refusals as refusals
 use Rattle.rtcp_wire.proofs.Reports.{receiver_length, sender_length, receiver_writable, sender_writable}
@@ -42,6 +43,9 @@ accepted_or_faulty-always_one = always_one
 
 pub compounds_give_no_media : (packets : List RtcpPacket) → All (λ fact. is_media fact ≡ false) (facts_of packets)
 compounds_give_no_media = packets_give_none
+
+pub facts_are_few : (octets : List ℕ) (packets : List RtcpPacket) → IsAccepted octets packets → length (facts_of packets) ≤ length octets
+facts_are_few = few_facts
 
 pub walks_read_encodings : (octets : List ℕ) (packets : List RtcpPacket) → IsAccepted octets packets →
     packets_in octets ≡ packets

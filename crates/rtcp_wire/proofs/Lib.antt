@@ -22,6 +22,7 @@ mod ReadingPackets
 mod Passing
 mod PassingPackets
 mod FactRows
+mod FewFacts
 mod AboutLists
 mod AboutRows
 mod Appending

@@ -2,7 +2,7 @@
 //! is an empty function whose postcondition is the law; `proofs/LawLemmas` has a lemma of its name, or one
 //! for each clause.
 
-ghost use Rattle.std.specs.Prelude.{◌≡◌, ℕ, ◌++◌, ◌⊎◌, false, List, All};
+ghost use Rattle.std.specs.Prelude.{◌≡◌, ℕ, ◌≤◌, ◌++◌, ◌⊎◌, false, List, All, length};
 ghost use Rattle.rtcp_wire.specs.Grammar.{IsSpelling, IsAccepted};
 ghost use Rattle.rtcp_wire.specs.Faults.{IsFirstFault};
 ghost use Rattle.rtcp_wire.specs.Facts.{is_media, facts_of};
@@ -39,6 +39,12 @@ pub fn accepted_or_faulty()
 /// RTCP packets say nothing of RTP packets that came: no fact of a compound is `Media`.
 pub fn compounds_give_no_media()
     ensures { (packets : List RtcpPacket) → All (λ fact. is_media fact ≡ false) (facts_of packets) }
+{}
+
+/// An accepted datagram gives no more facts than it has octets.
+pub fn facts_are_few()
+    ensures { (octets : List ℕ) (packets : List RtcpPacket) → IsAccepted octets packets →
+        length (facts_of packets) ≤ length octets }
 {}
 
 /// Where a datagram is accepted as packets, a walk over its octets reads these (`packets_in`): what it holds
