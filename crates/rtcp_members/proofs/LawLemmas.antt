@@ -1,6 +1,6 @@
 -- The laws of this crate as lemmas, for the proofs of the crates above: each has the name of its law, and of the clause where the law has
 -- several. Nothing here names a representation.
-use Rattle.std.proofs.Common.{◌≡◌, ◌==◌, ◌<◌, ◌≤◌, ◌+◌, ◌^◌, ◌↔◌, ◌∙◌, ap, rules, if◌then◌else◌, true, false, All, IfSome, IsTrue, ℕ, List, [], ◌∷◌, Option, Some, map, count_by}
+use Rattle.std.proofs.Common.{◌≡◌, ◌==◌, ◌<◌, ◌≤◌, ◌+◌, ◌^◌, ◌↔◌, ◌∙◌, ap, rules, is_some, if◌then◌else◌, true, false, All, IfSome, IsTrue, ℕ, List, [], ◌∷◌, Option, Some, map, count_by}
 use Rattle.std.specs.FinMap as finite
 use Rattle.rtcp_wire.specs.declared.fact.Fact.{Fact}
 use Rattle.rtcp_wire.specs.Facts.{subject, is_gone, is_media}
@@ -13,6 +13,9 @@ use Rattle.rtcp_members.specs.Tables.{TableValue, StandsAt, KeepsBounds, table_a
 use Rattle.rtcp_members.proofs.Agreeing.{counted_agrees}
 use Rattle.rtcp_members.proofs.Blocking.{block_follows, block_keeps_capacity, blocks_keep_capacity, few_block}
 use Rattle.rtcp_members.proofs.Capacity.{fact_keeps_bounds, facts_keep_bounds, check_keeps_bounds, block_keeps_bounds, blocks_keep_bounds, none_within, fact_keeps_capacity, facts_keep_capacity, check_keeps_capacity, len_updated}
+use Rattle.rtcp_members.proofs.Crowding.{present_fit}
+use Rattle.rtcp_members.proofs.Naming.{present_is_named}
+use Rattle.std.specs.List.{list_any}
 use Rattle.rtcp_members.proofs.Following.{none_stands, fact_follows, facts_follow, check_follows, len_is_present, count_agrees}
 use Rattle.rtcp_members.proofs.Growing.{members_stay, senders_are_members, members_are_entries, check_adds_no_sender}
 use Rattle.rtcp_members.proofs.NewsOfTraces.{due_at_trace, pending_is_traced, pending_have_rows}
@@ -152,6 +155,13 @@ packets_are_few-apply = may_apply
 pub stays_are_prefixes : (capacity : ℕ) (trace : List TraceStep) (ssrc : ℕ) (stay : List TraceStep) →
     (stay_of capacity trace ssrc ≡ Some stay) ↔ IsStay capacity trace ssrc stay
 stays_are_prefixes = λ capacity trace ssrc stay. (stay_is_prefix capacity trace ssrc stay, prefix_is_stay capacity trace ssrc stay)
+
+pub present_were_named_and_fit-named : (capacity : ℕ) (trace : List TraceStep) (ssrc : ℕ) → is_some (stay_of capacity trace ssrc) ≡ true →
+    list_any (λ named. named == ssrc) (names trace) ≡ true
+present_were_named_and_fit-named = present_is_named
+
+pub present_were_named_and_fit-fit : (capacity : ℕ) (trace : List TraceStep) → present_among (names trace) (stay_of capacity trace) ≤ capacity
+present_were_named_and_fit-fit = present_fit
 
 pub senders_sent_lately-sending : (rate ssrc : ℕ) (own : List TraceStep) (moment : ℕ) →
     (sending_of rate ssrc own ≡ Some moment) ↔ IsSendingSince rate ssrc own moment

@@ -23,6 +23,7 @@ mod Weights
 mod Placing
 mod Inserting
 mod Checking
+mod Crowding
 mod InCyclicTurn
 mod TurnsSamples
 mod TraceTables

@@ -1,5 +1,5 @@
 -- Where a source stands in a list by rising SSRC.
-use Rattle.std.proofs.Common.{◌≡◌, ◌<◌, ◌+◌, ℕ, suc, true, false, cond, List, [], ◌∷◌, length, set, Some, None, slice_get, slice_index_or, Result, Ok, Err, IsOk, IfOk, IfErr, IsTrue, nat_cmp, is_lt, Less, Equal, Greater, inl, inr, arith, refl, sym, ap, ◌∙◌}
+use Rattle.std.proofs.Common.{◌≡◌, ◌<◌, ◌+◌, ℕ, suc, true, false, cond, List, [], ◌∷◌, length, set, Some, None, slice_get, slice_index_or, Result, Ok, Err, IsOk, is_ok, is_some, IfOk, IfErr, IsTrue, nat_cmp, is_lt, Less, Equal, Greater, inl, inr, arith, refl, sym, ap, ◌∙◌}
 use Rattle.std.specs.Ordering.{eq_by_cmp, ordering_index}
 use Rattle.std.specs.List.Sorted.{IsSearchInRange, IsBinarySearchResult, IsNonDecreasingBy}
 use Rattle.std.specs.Cmp.{nat_cmp_total, nat_cmp_is, ranked}
@@ -91,3 +91,10 @@ due_is_found ssrc capacity rate entries table (Err at) is due absent = absurd (n
   where
     not_due : false ≡ true → ⊥
     not_due e = absurd cc
+
+-- The search finds an entry exactly where the table has one.
+pub found_is_held : (ssrc capacity rate : ℕ) (entries : List Entry) (table : TableValue) (found : Result ℕ ℕ) → table_of capacity rate entries ≡ table → IfOk found (IsPlaceOf ssrc entries) → IfErr found (IsGapFor ssrc entries)
+    → is_ok found ≡ is_some (finite.get table.entries ssrc)
+found_is_held ssrc capacity rate entries table (Ok at) is place absent = sym (ap is_some place.found) ∙ ap (λ (t : TableValue). is_some (finite.get t.entries ssrc)) is
+found_is_held ssrc capacity rate entries table (Err at) is place absent =
+    sym (ap is_some (none_in_gap ssrc entries at absent)) ∙ ap (λ (t : TableValue). is_some (finite.get t.entries ssrc)) is

@@ -81,6 +81,10 @@ impl MemberTable for ListTable {
         }
     }
 
+    fn holds(&self, ssrc: u32) -> bool {
+        place_in(self.entries.as_slice(), ssrc).is_some()
+    }
+
     fn members(&self) -> u32 {
         tally(self.entries.as_slice()).members
     }

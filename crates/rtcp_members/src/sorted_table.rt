@@ -112,6 +112,10 @@ impl MemberTable for SortedTable {
         }
     }
 
+    fn holds(&self, ssrc: u32) -> bool {
+        search(self.entries.as_slice(), self.last_place, ssrc).is_ok()
+    }
+
     fn members(&self) -> u32 {
         self.counts.members
     }

@@ -1,6 +1,6 @@
 //! Tables of members (RFC 3550, 6.2.1, 6.3.3 to 6.3.5 and 6.3.7).
 
-ghost use Rattle.std.specs.Prelude.{◌≡◌, ◌≤◌, ◌^◌, IfSome, IsTrue, Some};
+ghost use Rattle.std.specs.Prelude.{◌≡◌, ◌≤◌, ◌^◌, IfSome, IsTrue, Some, is_some};
 ghost use Rattle.std.specs.FinMap as map;
 ghost use Rattle.rtcp_wire.specs.Facts.{subject, is_media};
 ghost use Rattle.rtcp_members.specs.Traces.{horizons_at};
@@ -83,6 +83,10 @@ pub trait MemberTable {
             ≡ dropped_senders (horizons_at silent_before data_before gone_before) (content self.old) }
         ensures content { content self.new
             ≡ after_check (horizons_at silent_before data_before gone_before) (content self.old) };
+
+    /// Whether the table has an entry of this source, marked or not.
+    fn holds(&self, ssrc: u32) -> bool
+        ensures { result ≡ is_some (map.get (content self.now).entries ssrc) };
 
     /// How many members are in the table: entries that are valid and did not leave. The participant itself is
     /// not counted.

@@ -1,9 +1,10 @@
 //! Laws of the trace of a session: stays and senders in other words. Each is an empty function whose
 //! postcondition is the law.
 
-ghost use Rattle.std.specs.Prelude.{◌≡◌, ◌↔◌, true, ℕ, List, Some};
-ghost use Rattle.rtcp_members.specs.Traces.{TraceStep};
-ghost use Rattle.rtcp_members.specs.Stays.{stay_of, IsStay};
+ghost use Rattle.std.specs.Prelude.{◌≡◌, ◌↔◌, ◌==◌, ◌≤◌, true, is_some, ℕ, List, Some};
+ghost use Rattle.std.specs.List.{list_any};
+ghost use Rattle.rtcp_members.specs.Traces.{TraceStep, names};
+ghost use Rattle.rtcp_members.specs.Stays.{present_among, stay_of, IsStay};
 ghost use Rattle.rtcp_members.specs.Entries.{sending_of, is_such, is_sender, entry_at, IsSendingSince, IsSenderAt};
 
 /// A stay is exactly a prefix of the trace, newest first, whose oldest step names the source at a moment when
@@ -11,6 +12,14 @@ ghost use Rattle.rtcp_members.specs.Entries.{sending_of, is_such, is_sender, ent
 pub fn stays_are_prefixes()
     ensures { (capacity : ℕ) (trace : List TraceStep) (ssrc : ℕ) (stay : List TraceStep) →
         (stay_of capacity trace ssrc ≡ Some stay) ↔ IsStay capacity trace ssrc stay }
+{}
+
+/// Who is present was named, and at most as many are present as there is room for (RFC 3550, 6.3.3).
+pub fn present_were_named_and_fit()
+    ensures named { (capacity : ℕ) (trace : List TraceStep) (ssrc : ℕ) →
+        is_some (stay_of capacity trace ssrc) ≡ true → list_any (λ named. named == ssrc) (names trace) ≡ true }
+    ensures fit { (capacity : ℕ) (trace : List TraceStep) →
+        present_among (names trace) (stay_of capacity trace) ≤ capacity }
 {}
 
 /// Among any steps, the moment since which a source sends is that of its newest counted packet, if no check

@@ -73,3 +73,21 @@ pub(crate) fn silence<T: MemberTable + Drop>(rt: &impl Abort) {
         (Some(Place::Added), Some(Place::Left), 1)
     );
 }
+
+/// Whoever was admitted is held until a check drops it, whether it was only heard or has left.
+pub(crate) fn held<T: MemberTable + Drop>(rt: &impl Abort) {
+    let mut session: Session<T> = Session::new(2);
+    assert!(rt; !session.holds(1));
+    session.place(Fact::Heard(1), 0);
+    session.place(Fact::Named(2), 0);
+    session.place(Fact::Heard(3), 0);
+    session.place(Fact::Gone(2), 10);
+    assert!(rt; session.holds(1));
+    assert!(rt; session.holds(2));
+    assert!(rt; !session.holds(3));
+    session.check(20, 0, 0, 11);
+    assert!(rt; session.holds(1));
+    assert!(rt; !session.holds(2));
+    session.check(20, 1, 0, 0);
+    assert!(rt; !session.holds(1));
+}

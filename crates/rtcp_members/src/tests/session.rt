@@ -62,6 +62,11 @@ impl<T: MemberTable> Session<T> {
         self.table.next_with_news(after)
     }
 
+    /// Whether the table has an entry of a source.
+    pub(crate) fn holds(&self, ssrc: u32) -> bool {
+        self.table.holds(ssrc)
+    }
+
     pub(crate) fn members(&self) -> u32 {
         self.table.members()
     }

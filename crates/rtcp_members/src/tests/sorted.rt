@@ -59,3 +59,8 @@ fn not_after_goodbye(rt: HostRuntime) {
 fn fractions(rt: HostRuntime) {
     turns::fractions::<SortedTable>(&rt);
 }
+
+#[test]
+fn held(rt: HostRuntime) {
+    rooms::held::<SortedTable>(&rt);
+}
