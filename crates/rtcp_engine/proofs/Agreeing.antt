@@ -23,8 +23,8 @@ use Rattle.rtcp_timer.specs.Averages.{moved_average}
 use Rattle.rtcp_timer.specs.Loads.{interval_of}
 use Rattle.rtcp_timer.specs.Schedules as schedules
 use Rattle.rtcp_engine.specs.Setups.{Setup}
-use Rattle.rtcp_engine.specs.OwnStreams.{OwnStep, packet_sent, check_passed, packets_sent, octets_sent, sending_since, timestamp_at, sent_at}
-use Rattle.rtcp_engine.specs.OwnValues.{OwnValue, own_of, last_packet, own_after_packet, timestamp_by, sent_by}
+use Rattle.rtcp_engine.specs.OwnStreams.{OwnStep, packet_sent, check_passed, report_sent, counts_anew, packets_sent, octets_sent, sending_since, timestamp_at, sent_at}
+use Rattle.rtcp_engine.specs.OwnValues.{OwnValue, own_of, last_packet, own_after_packet, own_after_report, timestamp_by, sent_by}
 use Rattle.rtcp_engine.specs.Outcomes.{Outcome, Report, one_if, member_count, sender_count, is_initial, load_of, interval_at, receiver_interval_at, timing_of}
 use Rattle.rtcp_engine.specs.Reporting.{extra_item, last_reported_in, reporter_at, reported_at, report_octets}
 use Rattle.rtcp_engine.specs.Ticks as ticks
@@ -82,13 +82,15 @@ pub packet_agrees : (own : List OwnStep) (moment timestamp octets : ℕ) → own
 packet_agrees own moment timestamp octets =
     let packets : (packets_sent own % 2 ^ 32 + 1) % 2 ^ 32 ≡ (packets_sent own + 1) % 2 ^ 32 = omega arith in
     let sizes : (octets_sent own % 2 ^ 32 + octets) % 2 ^ 32 ≡ (octets_sent own + octets) % 2 ^ 32 = omega arith in
-    let own_with : ℕ → ℕ → OwnValue = λ p q. record { sending = Some moment; last = Some (record { moment = moment; timestamp = timestamp }); packets = p; octets = q } in
+    let own_with : ℕ → ℕ → OwnValue = λ p q. record { sending = Some moment; last = Some (record { moment = moment; timestamp = timestamp }); packets = p; octets = q; heard = true } in
     ap (λ (p : ℕ). own_with p ((octets_sent own % 2 ^ 32 + octets) % 2 ^ 32)) packets ∙ ap (λ (q : ℕ). own_with ((packets_sent own + 1) % 2 ^ 32) q) sizes
 
 timestamps_agree : (rate t : ℕ) (own : List OwnStep) → timestamp_by rate t (last_packet own) ≡ timestamp_at rate t own
 timestamps_agree rate t [] = refl
 timestamps_agree rate t (packet_sent moment timestamp octets ∷ earlier) = refl
 timestamps_agree rate t (check_passed idle ∷ earlier) = timestamps_agree rate t earlier
+timestamps_agree rate t (report_sent ∷ earlier) = timestamps_agree rate t earlier
+timestamps_agree rate t (counts_anew ∷ earlier) = timestamps_agree rate t earlier
 
 pub sent_agrees : (setup : Setup) (t : ℕ) (own : List OwnStep) → sent_by setup.ntp_base setup.rate t (own_of own) ≡ sent_at setup t own
 sent_agrees setup t own =
@@ -245,7 +247,7 @@ sent_reports_agree s o t a =
       rate = kept.rate ∙ a.rate;
       timing = a.timing;
       average = ap (λ (n : ℕ). moved_average n (length (octets_in t s))) a.average ∙ ap (λ (octets : List ℕ). moved_average (Rattle.rtcp_engine.specs.Outcomes.average_size s.setup o) (length octets)) (octets_agree s o t a);
-      own = a.own;
+      own = ap own_after_report a.own;
       cursor = ap (λ (c : Option ℕ). last_reported c (rows_in t s)) a.cursor ∙ ap (last_reported (last_reported_in o.trace)) rows ∙ sym (last_block_is_newest (reported_at s.setup t o) o.trace);
       reports = omega (arith, a.reports);
     }

@@ -13,7 +13,7 @@ use Rattle.rtcp_timer.specs.Loads.{interval_of}
 use Rattle.rtcp_timer.specs.Schedules.{Timing, transmitted, schedule_at}
 use Rattle.rtcp_engine.specs.Setups.{Setup, IsUsable}
 use Rattle.rtcp_engine.specs.OwnValues.{OwnValue, no_packets}
-use Rattle.rtcp_engine.specs.Outcomes.{first_size_of}
+use Rattle.rtcp_engine.specs.Outcomes.{beginning, first_size_of}
 use Rattle.rtcp_engine.specs.Taken.{begun}
 use Rattle.rtcp_engine.specs.States.{state_with, IsSound, IsPresentAt}
 
@@ -48,6 +48,8 @@ start_stands setup word table timing average own usable word_fits start =
     record {
       is_history = record { usable = usable; word = word_fits; taken = tt };
       setup = refl;
+      outcome = beginning setup word;
+      life = refl;
       agrees = record {
         table = subst (λ (t : TableValue). Rattle.rtcp_members.specs.Tables.StandsAt t []) (sym start.is_table) (tables.tables_follow_traces-none setup.capacity setup.rate);
         capacity = ap (λ (t : TableValue). t.capacity) start.is_table;

@@ -17,16 +17,17 @@ use Rattle.rtcp_wire.specs.Values.{ItemValue}
 use Rattle.rtcp_engine.specs.declared.refusal.Refusal.{Refusal}
 use Rattle.rtcp_engine.specs.declared.refusal.Refusal.TheVariants.{Backwards}
 use Rattle.rtcp_engine.specs.Setups.{Setup, IsExtraItem, IsUsable}
-use Rattle.rtcp_engine.specs.Acts.{Act, rtcp_came, rtp_came, rtp_sent, ticked, left, moment_of}
+use Rattle.rtcp_engine.specs.Acts.{Act, rtcp_came, rtp_came, rtp_sent, ticked, left, renamed, moment_of}
+use Rattle.rtcp_engine.specs.Identities.{named, setup_now}
 use Rattle.rtcp_engine.specs.Outcomes.{Outcome, is_initial, interval_at, load_of, member_count}
 use Rattle.rtcp_engine.specs.Ticks.{checked, has_come, has_passed, reported, put_off}
-use Rattle.rtcp_engine.specs.OwnStreams.{sent_at}
-use Rattle.rtcp_engine.specs.Reporting.{report_octets, extra_item, reporter_at, last_reported_in}
+use Rattle.rtcp_engine.specs.OwnStreams.{has_sent, sent_at}
+use Rattle.rtcp_engine.specs.Reporting.{bye_octets, report_octets, extra_item, reporter_at, last_reported_in}
 use Rattle.rtcp_engine.specs.Presence.{report_out, last_moment}
-use Rattle.rtcp_engine.specs.Taken.{HasWords, AllTaken}
-use Rattle.rtcp_engine.specs.Leaving.{Farewell, Backoff, Life, present, backing_off, gone, backoff_from, bye_count, bye_octets, few_members, is_bye_due, is_unheard, after_wait, leaving_interval, leaving_timing}
+use Rattle.rtcp_engine.specs.Taken.{HasWords, WasTaken, AllTaken}
+use Rattle.rtcp_engine.specs.Leaving.{Farewell, Backoff, Life, present, backing_off, gone, backoff_from, bye_count, few_members, is_bye_due, is_unheard, after_wait, leaving_interval, leaving_timing}
 use Rattle.rtcp_engine.specs.Lives.{while_present, while_backing_off, lived, life_of, bye_out}
-use Rattle.rtcp_engine.specs.Sent.{Sent, is_report, sent_with, sent_by, sent_over}
+use Rattle.rtcp_engine.specs.Sent.{Sent, is_report, reports_in, sent_with, sent_by, sent_over}
 use Rattle.rtcp_engine.specs.Spacing.{HalfPasses, newest_moment, leave_moment, first_leave, IsLate}
 
 -- ---- Draws
@@ -54,15 +55,29 @@ abbrev pub AreReports : (limit : ℕ) → List Sent → Type 0
 AreReports limit [] = Unit {0}
 AreReports limit (report ∷ earlier) = IsNext limit report earlier × AreReports limit earlier
 
--- a BYE after the reports
+-- what a participant sends that stays: a report, or the BYE of an identifier that it gave up
+pub record Stays (limit : ℕ) (compound : Sent) : Type 0 where
+  pub kind : is_report compound ≡ false → compound.changes ≡ true
+  pub fits : length compound.out.octets ≤ limit
+
+abbrev pub AllStay : (limit : ℕ) → List Sent → Type 0
+AllStay limit [] = Unit {0}
+AllStay limit (newest ∷ earlier) = Stays limit newest × AllStay limit earlier
+
+pub record AreKept (limit : ℕ) (sent : List Sent) : Type 0 where
+  pub reports : AreReports limit (reports_in sent)
+  pub all : AllStay limit sent
+
+-- the BYE with which a participant leaves
 pub record IsLast (limit : ℕ) (leave : Option ℕ) (bye : Sent) : Type 0 where
   pub kind : is_report bye ≡ false
+  pub leaves : bye.changes ≡ false
   pub late : IsLate leave bye
   pub fits : length bye.out.octets ≤ limit
 
 abbrev pub EndsSo : (limit : ℕ) → (leave : Option ℕ) → List Sent → Type 0
 EndsSo limit leave [] = ⊥
-EndsSo limit leave (bye ∷ earlier) = IsLast limit leave bye × AreReports limit earlier
+EndsSo limit leave (bye ∷ earlier) = IsLast limit leave bye × AreKept limit earlier
 
 -- ---- Lives
 
@@ -73,22 +88,22 @@ pub record AreUpTo (t : ℕ) (happenings : List Happening) : Type 0 where
 
 pub record TakesPart (limit t : ℕ) (leave : Option ℕ) (outcome : Outcome) (sent : List Sent) : Type 0 where
   pub up_to : AreUpTo t outcome.happenings
-  pub newest : newest_transmission outcome.happenings ≡ newest_moment sent
-  pub initial : is_initial outcome.reports ≡ none_sent sent
+  pub newest : newest_transmission outcome.happenings ≡ newest_moment (reports_in sent)
+  pub initial : is_initial outcome.reports ≡ none_sent (reports_in sent)
   pub stays : leave ≡ None
-  pub reports : AreReports limit sent
+  pub kept : AreKept limit sent
 
 pub record BacksOff (limit t : ℕ) (leave : Option ℕ) (backoff : Backoff) (sent : List Sent) : Type 0 where
   pub up_to : AreUpTo t backoff.happenings
   pub newest : newest_transmission backoff.happenings ≡ backoff.since
   pub left_then : leave ≡ Some backoff.since
-  pub reports : AreReports limit sent
+  pub kept : AreKept limit sent
 
 -- what was sent in a life, up to a moment
 abbrev pub KeepsApart : (limit t : ℕ) → (leave : Option ℕ) → Life → List Sent → Type 0
 KeepsApart limit t leave (present outcome) sent = TakesPart limit t leave outcome sent
 KeepsApart limit t leave (backing_off outcome backoff) sent = BacksOff limit t leave backoff sent
-KeepsApart limit t leave (gone outcome) sent = AreReports limit sent ⊎ EndsSo limit leave sent
+KeepsApart limit t leave (gone outcome) sent = AreKept limit sent ⊎ EndsSo limit leave sent
 
 -- ---- Sizes
 
@@ -136,7 +151,7 @@ passes {limit} {t} {leave} {outcome} {sent} act new h stays up_to newest reports
   newest = newest ∙ h.newest;
   initial = ap is_initial reports ∙ h.initial;
   stays = ap (λ (l : Option ℕ). option_or l (leave_moment act)) h.stays ∙ stays;
-  reports = h.reports;
+  kept = h.kept;
 }
 
 -- a check that was made, in a tick
@@ -147,78 +162,102 @@ checks {limit} {t} {leave} {outcome} {sent} setup moment order h = record {
   newest = h.newest;
   initial = h.initial;
   stays = h.stays;
-  reports = h.reports;
+  kept = h.kept;
 }
 
 -- a report that is due keeps its distance from the one before it
 next_report : (setup : Setup) (t word : ℕ) (leave : Option ℕ) (now : Outcome) (sent : List Sent) → IsUsable setup → word < 2 ^ 32 → TakesPart setup.limit t leave now sent
     → IsDue (schedule_at now.happenings) t (drawn_interval (interval_at setup now) word)
-    → IsNext setup.limit (record { moment = t; interval = interval_at setup now; out = report_out (report_octets setup t now) }) sent
+    → IsNext setup.limit (record { moment = t; interval = interval_at setup now; out = report_out (report_octets setup t now); changes = false }) (reports_in sent)
 next_report setup t word leave now sent usable fits h due =
     let interval = interval_at setup now in
     let apart = never_due_too_soon now.happenings t (drawn_interval interval word) h.up_to.in_order due in
     record {
       kind = refl;
-      spaced = half_passes (newest_moment sent) t interval word fits (subst (λ (from : ℕ). from + drawn_interval interval word ≤ t) h.newest apart);
+      spaced = half_passes (newest_moment (reports_in sent)) t interval word fits (subst (λ (from : ℕ). from + drawn_interval interval word ≤ t) h.newest apart);
       least = subst (λ (initial : Bool). minimum_of initial ≤ interval) h.initial (interval_has_minimum (load_of setup now));
       fits = report_is_within setup t now usable;
     }
 
+true_is_false : true ≡ false → ⊥
+true_is_false e = cc
+
 tick_by : (setup : Setup) (t first_word second_word : ℕ) (leave : Option ℕ) (now : Outcome) (sent : List Sent) (come passed : Bool) → IsUsable setup → first_word < 2 ^ 32
     → (come ≡ true → passed ≡ true → IsDue (schedule_at now.happenings) t (drawn_interval (interval_at setup now) first_word)) → TakesPart setup.limit t leave now sent
     → TakesPart setup.limit t leave (if come then (if passed then reported setup t second_word now else put_off setup t first_word now) else now)
-    (sent_with t (interval_at setup now) (option_map report_out (if come && passed then Some (report_octets setup t now) else None)) ++ sent)
+    (sent_with t (interval_at setup now) false (option_map report_out (if come && passed then Some (report_octets setup t now) else None)) ++ sent)
 tick_by setup t first_word second_word leave now sent true true usable fits due h = record {
   up_to = one_more (transmitted t _ _) (omega arith) h.up_to;
   newest = refl;
   initial = refl;
   stays = h.stays;
-  reports = (next_report setup t first_word leave now sent usable fits h (due refl refl), h.reports);
+  kept =
+      let next = next_report setup t first_word leave now sent usable fits h (due refl refl) in
+      record {
+        reports = (next, h.kept.reports);
+        all = (record { kind = λ no. absurd (true_is_false no); fits = next.fits }, h.kept.all);
+      };
 }
 tick_by setup t first_word second_word leave now sent true false usable fits due h = record {
   up_to = one_more (tried t _ _) (omega arith) h.up_to;
   newest = h.newest;
   initial = h.initial;
   stays = h.stays;
-  reports = h.reports;
+  kept = h.kept;
 }
 tick_by setup t first_word second_word leave now sent false passed usable fits due h = h
 
 -- the BYE with which a participant is gone
 last_bye : (setup : Setup) (leave : Option ℕ) (asked t interval : ℕ) → IsUsable setup → leave ≡ Some asked → HalfPasses asked t interval
-    → IsLast setup.limit leave (record { moment = t; interval = interval; out = bye_out (bye_octets setup) })
+    → IsLast setup.limit leave (record { moment = t; interval = interval; out = bye_out (bye_octets setup); changes = false })
 last_bye setup leave asked t interval usable is passed = record {
   kind = refl;
-  late = subst (λ (l : Option ℕ). IsLate l (record { moment = t; interval = interval; out = bye_out (bye_octets setup) })) (sym is) passed;
+  leaves = refl;
+  late = subst (λ (l : Option ℕ). IsLate l (record { moment = t; interval = interval; out = bye_out (bye_octets setup); changes = false })) (sym is) passed;
   fits = bye_is_within setup usable;
 }
 
 leave_by : (setup : Setup) (t u word : ℕ) (leave : Option ℕ) (outcome : Outcome) (sent : List Sent) (unheard few : Bool) → IsUsable setup → t ≤ u → TakesPart setup.limit t leave outcome sent
     → KeepsApart setup.limit u (option_or leave (Some u)) (if unheard then gone outcome else (if few then gone outcome else backing_off outcome (backoff_from setup u word outcome)))
-    (sent_with u 0 (option_map bye_out (if unheard then None else (if few then Some (bye_octets setup) else None))) ++ sent)
-leave_by setup t u word leave outcome sent true few usable order h = inl h.reports
+    (sent_with u 0 false (option_map bye_out (if unheard then None else (if few then Some (bye_octets setup) else None))) ++ sent)
+leave_by setup t u word leave outcome sent true few usable order h = inl h.kept
 leave_by setup t u word leave outcome sent false true usable order h =
-    inr (last_bye setup (option_or leave (Some u)) u u 0 usable (ap (λ (l : Option ℕ). option_or l (Some u)) h.stays) (omega arith), h.reports)
+    inr (last_bye setup (option_or leave (Some u)) u u 0 usable (ap (λ (l : Option ℕ). option_or l (Some u)) h.stays) (omega arith), h.kept)
 leave_by setup t u word leave outcome sent false false usable order h = record {
   up_to = one_more (transmitted u _ 1) order h.up_to;
   newest = refl;
   left_then = ap (λ (l : Option ℕ). option_or l (Some u)) h.stays;
-  reports = h.reports;
+  kept = h.kept;
 }
+
+-- ---- A change of identifier
+
+-- the BYE of the old one, if it is handed out
+abbrev change_sent : (setup : Setup) (moment interval : ℕ) (heard : Bool) → List Sent
+change_sent setup moment interval heard = sent_with moment interval true (if heard then Some (bye_out (bye_octets setup)) else None)
+
+change_kept : (setup : Setup) (moment interval : ℕ) (heard : Bool) (sent : List Sent) → IsUsable setup → AreKept setup.limit sent → AreKept setup.limit (change_sent setup moment interval heard ++ sent)
+change_kept setup moment interval true sent usable h =
+    record { reports = h.reports; all = (record { kind = λ no. refl; fits = bye_is_within setup usable }, h.all) }
+change_kept setup moment interval false sent usable h = h
+
+change_reports : (setup : Setup) (moment interval : ℕ) (heard : Bool) (sent : List Sent) → reports_in (change_sent setup moment interval heard ++ sent) ≡ reports_in sent
+change_reports setup moment interval true sent = refl
+change_reports setup moment interval false sent = refl
 
 stays_on : {limit t : ℕ} {leave other : Option ℕ} {outcome : Outcome} {sent : List Sent} → leave ≡ other → TakesPart limit t leave outcome sent → TakesPart limit t other outcome sent
 stays_on {limit} {t} {leave} {other} {outcome} {sent} same h = subst (λ (l : Option ℕ). TakesPart limit t l outcome sent) same h
 
 still_present : (setup : Setup) (t : ℕ) (leave : Option ℕ) (act : Act) (outcome : Outcome) (sent : List Sent) → IsUsable setup → t ≤ moment_of act → HasWords act → TakesPart setup.limit t leave outcome sent
     → KeepsApart setup.limit (moment_of act) (option_or leave (leave_moment act)) (while_present setup act outcome) (sent_by setup act (present outcome) ++ sent)
-still_present setup t leave (rtcp_came moment size (Ok packets)) outcome sent usable order words h =
-    passes (rtcp_came moment size (Ok packets)) _ h refl (one_more (recounted moment _) order h.up_to) refl refl
-still_present setup t leave (rtcp_came moment size (Err fault)) outcome sent usable order words h =
-    passes (rtcp_came moment size (Err fault)) outcome h refl (later moment order h.up_to) refl refl
-still_present setup t leave (rtp_came moment (Ok head)) outcome sent usable order words h =
-    passes (rtp_came moment (Ok head)) _ h refl (later moment order h.up_to) refl refl
-still_present setup t leave (rtp_came moment (Err fault)) outcome sent usable order words h =
-    passes (rtp_came moment (Err fault)) outcome h refl (later moment order h.up_to) refl refl
+still_present setup t leave (rtcp_came moment peer drawn size (Ok packets)) outcome sent usable order words h =
+    passes (rtcp_came moment peer drawn size (Ok packets)) _ h refl (one_more (recounted moment _) order h.up_to) refl refl
+still_present setup t leave (rtcp_came moment peer drawn size (Err fault)) outcome sent usable order words h =
+    passes (rtcp_came moment peer drawn size (Err fault)) outcome h refl (later moment order h.up_to) refl refl
+still_present setup t leave (rtp_came moment peer drawn (Ok head)) outcome sent usable order words h =
+    passes (rtp_came moment peer drawn (Ok head)) _ h refl (later moment order h.up_to) refl refl
+still_present setup t leave (rtp_came moment peer drawn (Err fault)) outcome sent usable order words h =
+    passes (rtp_came moment peer drawn (Err fault)) outcome h refl (later moment order h.up_to) refl refl
 still_present setup t leave (rtp_sent moment timestamp octets) outcome sent usable order words h =
     passes (rtp_sent moment timestamp octets) _ h refl (later moment order h.up_to) refl refl
 still_present setup t leave (ticked moment first_word second_word) outcome sent usable order words h =
@@ -228,6 +267,13 @@ still_present setup t leave (ticked moment first_word second_word) outcome sent 
     (λ come passed. record { came = leb-true _ moment come; passed = leb-true _ moment passed }) (checks setup moment order h))
 still_present setup t leave (left moment word) outcome sent usable order words h =
     leave_by setup t moment word leave outcome sent (is_unheard outcome) (nat_le (member_count setup outcome) few_members) usable order h
+still_present setup t leave (renamed moment peer ssrc) outcome sent usable order words h = record {
+  up_to = later moment order h.up_to;
+  newest = h.newest ∙ sym (ap newest_moment (change_reports setup moment 0 (has_sent outcome.own) sent));
+  initial = h.initial ∙ sym (ap none_sent (change_reports setup moment 0 (has_sent outcome.own) sent));
+  stays = ap (λ (l : Option ℕ). option_or l None) h.stays;
+  kept = change_kept setup moment 0 (has_sent outcome.own) sent usable h.kept;
+}
 
 -- ---- Backing off
 
@@ -238,7 +284,7 @@ waits {limit} {t} {leave} {backoff} {sent} act new h since up_to newest = record
   up_to = up_to;
   newest = newest ∙ h.newest ∙ sym since;
   left_then = ap (λ (l : Option ℕ). option_or l (leave_moment act)) h.left_then ∙ ap Some (sym since);
-  reports = h.reports;
+  kept = h.kept;
 }
 
 hears : {limit t : ℕ} {leave : Option ℕ} {backoff : Backoff} {sent : List Sent} → (act : Act) (none : Bool) (farewells : List Farewell) → t ≤ moment_of act → BacksOff limit t leave backoff sent
@@ -255,7 +301,7 @@ waits_on {limit} {t} {leave} {backoff} {sent} act false interval members order h
 bye_by : (setup : Setup) (t : ℕ) (leave : Option ℕ) (act : Act) (word : ℕ) (outcome : Outcome) (backoff : Backoff) (sent : List Sent) (due : Bool) → IsUsable setup → t ≤ moment_of act → word < 2 ^ 32
     → (due ≡ true → IsDue (schedule_at backoff.happenings) (moment_of act) (drawn_interval (leaving_interval setup backoff) word)) → BacksOff setup.limit t leave backoff sent
     → KeepsApart setup.limit (moment_of act) (option_or leave (leave_moment act)) (if due then gone outcome else backing_off outcome (after_wait setup (moment_of act) word backoff))
-    (sent_with (moment_of act) (leaving_interval setup backoff) (if due then Some (bye_out (bye_octets setup)) else None) ++ sent)
+    (sent_with (moment_of act) (leaving_interval setup backoff) false (if due then Some (bye_out (bye_octets setup)) else None) ++ sent)
 bye_by setup t leave act word outcome backoff sent true usable order fits due h =
     let moment = moment_of act in
     let interval = leaving_interval setup backoff in
@@ -263,19 +309,25 @@ bye_by setup t leave act word outcome backoff sent true usable order fits due h 
     inr (
       last_bye setup (option_or leave (leave_moment act)) backoff.since moment interval usable (ap (λ (l : Option ℕ). option_or l (leave_moment act)) h.left_then)
           (half_passes backoff.since moment interval word fits (subst (λ (from : ℕ). from + drawn_interval interval word ≤ moment) h.newest apart)),
-      h.reports,
+      h.kept,
     )
 bye_by setup t leave act word outcome backoff sent false usable order fits due h =
     waits_on act (nat_le (leaving_timing backoff).next (moment_of act)) _ _ order h
 
+-- the BYE of an identifier that is given up counts as one that was heard, of nobody
+farewell_by : (setup : Setup) (t moment : ℕ) (leave : Option ℕ) (heard : Bool) (outcome : Outcome) (backoff : Backoff) (sent : List Sent) → t ≤ moment → BacksOff setup.limit t leave backoff sent
+    → BacksOff setup.limit moment leave (if heard then record backoff { farewells = record { byes = 0; size = length (bye_octets setup) } ∷ backoff.farewells } else backoff) sent
+farewell_by setup t moment leave true outcome backoff sent order h = record { up_to = later moment order h.up_to; newest = h.newest; left_then = h.left_then; kept = h.kept }
+farewell_by setup t moment leave false outcome backoff sent order h = record { up_to = later moment order h.up_to; newest = h.newest; left_then = h.left_then; kept = h.kept }
+
 still_backing_off : (setup : Setup) (t : ℕ) (leave : Option ℕ) (act : Act) (outcome : Outcome) (backoff : Backoff) (sent : List Sent) → IsUsable setup → t ≤ moment_of act → HasWords act → BacksOff setup.limit t leave backoff sent
     → KeepsApart setup.limit (moment_of act) (option_or leave (leave_moment act)) (while_backing_off setup act outcome backoff) (sent_by setup act (backing_off outcome backoff) ++ sent)
-still_backing_off setup t leave (rtcp_came moment size (Ok packets)) outcome backoff sent usable order words h =
-    hears (rtcp_came moment size (Ok packets)) (bye_count packets == 0) _ order h
-still_backing_off setup t leave (rtcp_came moment size (Err fault)) outcome backoff sent usable order words h =
-    waits (rtcp_came moment size (Err fault)) backoff h refl (later moment order h.up_to) refl
-still_backing_off setup t leave (rtp_came moment reading) outcome backoff sent usable order words h =
-    waits (rtp_came moment reading) backoff h refl (later moment order h.up_to) refl
+still_backing_off setup t leave (rtcp_came moment peer drawn size (Ok packets)) outcome backoff sent usable order words h =
+    hears (rtcp_came moment peer drawn size (Ok packets)) (bye_count packets == 0) _ order h
+still_backing_off setup t leave (rtcp_came moment peer drawn size (Err fault)) outcome backoff sent usable order words h =
+    waits (rtcp_came moment peer drawn size (Err fault)) backoff h refl (later moment order h.up_to) refl
+still_backing_off setup t leave (rtp_came moment peer drawn reading) outcome backoff sent usable order words h =
+    waits (rtp_came moment peer drawn reading) backoff h refl (later moment order h.up_to) refl
 still_backing_off setup t leave (rtp_sent moment timestamp octets) outcome backoff sent usable order words h =
     waits (rtp_sent moment timestamp octets) backoff h refl (later moment order h.up_to) refl
 still_backing_off setup t leave (ticked moment first_word second_word) outcome backoff sent usable order words h =
@@ -283,6 +335,14 @@ still_backing_off setup t leave (ticked moment first_word second_word) outcome b
     (λ due. let parts = and_parts _ _ due in record { came = leb-true _ moment parts.0; passed = leb-true _ moment parts.1 }) h
 still_backing_off setup t leave (left moment word) outcome backoff sent usable order words h =
     waits (left moment word) backoff h refl (later moment order h.up_to) refl
+still_backing_off setup t leave (renamed moment peer ssrc) outcome backoff sent usable order words h =
+    let waited = farewell_by setup t moment leave (has_sent outcome.own) outcome backoff sent order h in
+    record {
+      up_to = waited.up_to;
+      newest = waited.newest;
+      left_then = ap (λ (l : Option ℕ). option_or l None) waited.left_then;
+      kept = change_kept setup moment 0 (has_sent outcome.own) sent usable h.kept;
+    }
 
 -- ---- Sessions
 
@@ -292,13 +352,13 @@ still_late (Some moment) act bye late = late
 
 still_ends : (limit : ℕ) (leave : Option ℕ) (act : Act) (sent : List Sent) → EndsSo limit leave sent → EndsSo limit (option_or leave (leave_moment act)) sent
 still_ends limit leave act [] h = absurd h
-still_ends limit leave act (bye ∷ earlier) h = (record { kind = h.0.kind; late = still_late leave act bye h.0.late; fits = h.0.fits }, h.1)
+still_ends limit leave act (bye ∷ earlier) h = (record { kind = h.0.kind; leaves = h.0.leaves; late = still_late leave act bye h.0.late; fits = h.0.fits }, h.1)
 
 keeps_apart : (setup : Setup) (t : ℕ) (leave : Option ℕ) (act : Act) (life : Life) (sent : List Sent) → IsUsable setup → t ≤ moment_of act → HasWords act → KeepsApart setup.limit t leave life sent
     → KeepsApart setup.limit (moment_of act) (option_or leave (leave_moment act)) (lived setup act life) (sent_by setup act life ++ sent)
 keeps_apart setup t leave act (present outcome) sent usable order words h = still_present setup t leave act outcome sent usable order words h
 keeps_apart setup t leave act (backing_off outcome backoff) sent usable order words h = still_backing_off setup t leave act outcome backoff sent usable order words h
-keeps_apart setup t leave act (gone outcome) sent usable order words (inl reports) = inl reports
+keeps_apart setup t leave act (gone outcome) sent usable order words (inl kept) = inl kept
 keeps_apart setup t leave act (gone outcome) sent usable order words (inr ends) = inr (still_ends setup.limit leave act sent ends)
 
 -- an act that is taken does not lie before the last one
@@ -312,15 +372,36 @@ in_time moment last others none =
     some_is_none : Some Backwards ≡ None → ⊥
     some_is_none e = cc
 
-pub session_keeps_apart : (setup : Setup) (word : ℕ) (acts : List Act) → IsUsable setup → AllTaken setup acts
+-- A setup under another identifier is as usable.
+pub usable_named : (ssrc : ℕ) (setup : Setup) → IsUsable setup → IsUsable (named ssrc setup)
+usable_named ssrc setup u = record {
+  cname = u.cname;
+  capacity = u.capacity;
+  limit = u.limit;
+  words = u.words;
+  bandwidth = u.bandwidth;
+  rate = u.rate;
+  few_extras = u.few_extras;
+  extras = u.extras;
+}
+
+pub taken_in_order : (setup : Setup) (word : ℕ) (earlier : List Act) (act : Act) → WasTaken setup word earlier act → last_moment earlier ≤ moment_of act
+taken_in_order setup word earlier (rtcp_came moment peer drawn size reading) taken = in_time moment (last_moment earlier) _ taken
+taken_in_order setup word earlier (rtp_came moment peer drawn reading) taken = in_time moment (last_moment earlier) _ taken
+taken_in_order setup word earlier (rtp_sent moment timestamp octets) taken = in_time moment (last_moment earlier) _ taken
+taken_in_order setup word earlier (ticked moment first_word second_word) taken = in_time moment (last_moment earlier) _ taken
+taken_in_order setup word earlier (left moment drawn) taken = in_time moment (last_moment earlier) _ taken
+taken_in_order setup word earlier (renamed moment peer ssrc) taken = taken.order
+
+pub session_keeps_apart : (setup : Setup) (word : ℕ) (acts : List Act) → IsUsable setup → AllTaken setup word acts
     → KeepsApart setup.limit (last_moment acts) (first_leave acts) (life_of setup word acts) (sent_over setup word acts)
 session_keeps_apart setup word [] usable taken = record {
   up_to = record { in_order = (omega arith, tt); past = omega arith };
   newest = refl;
   initial = refl;
   stays = refl;
-  reports = tt;
+  kept = record { reports = tt; all = tt };
 }
 session_keeps_apart setup word (act ∷ earlier) usable taken =
-    keeps_apart setup (last_moment earlier) (first_leave earlier) act (life_of setup word earlier) (sent_over setup word earlier) usable
-    (in_time (moment_of act) (last_moment earlier) _ taken.0) taken.1 (session_keeps_apart setup word earlier usable taken.2)
+    keeps_apart (setup_now setup earlier) (last_moment earlier) (first_leave earlier) act (life_of setup word earlier) (sent_over setup word earlier) (usable_named _ setup usable)
+    (taken_in_order setup word earlier act taken.0) taken.1 (session_keeps_apart setup word earlier usable taken.2)

@@ -1,50 +1,27 @@
--- What a participant that stands at a history answers, and where it stands after an act.
-use Rattle.std.proofs.Common.{◌≡◌, ℕ, ◌+◌, ◌-◌, ◌^◌, Bool, true, false, nat_lt, nat_le, List, length, Option, Some, None, option_map, Ok, Err, if◌then◌else◌, refl, sym, ap, ◌∙◌, arith, subst}
+-- What a call comes to: whether it is refused, what is answered, and where the participant stands after it.
+use Rattle.std.proofs.Common.{◌≡◌, ℕ, ◌+◌, ◌-◌, ◌^◌, Bool, true, false, nat_lt, nat_le, List, ◌∷◌, Option, Some, None, Ok, Err, if◌then◌else◌, refl, sym, ap, ◌∙◌, subst}
+use Rattle.rtcp_engine.specs.declared.changes.Change.{Change}
 use Rattle.rtcp_engine.specs.declared.refusal.Refusal.{Refusal}
 use Rattle.rtcp_engine.specs.declared.refusal.Refusal.TheVariants.{Backwards, TooFar, TooMany}
 use Rattle.rtcp_engine.specs.Setups.{Setup}
-use Rattle.rtcp_engine.specs.Acts.{Act, moment_of}
-use Rattle.rtcp_engine.specs.Outcomes.{Outcome, member_count, sender_count}
-use Rattle.rtcp_engine.specs.Histories.{History, after, outcome_at}
-use Rattle.rtcp_engine.specs.Presence.{last_moment, refusal_of, refusal_of_datagram, report_by, report_out, step_with, step_of, with_act, present_answer, present_after}
-use Rattle.rtcp_engine.specs.Steps.{StepValue, answer_unless}
-use Rattle.rtcp_engine.specs.Taken.{HasWords}
-use Rattle.rtcp_engine.specs.States.{State, Agrees, IsPresentAt}
-use Rattle.rtcp_engine.specs.Moves.{members_of, senders_of, step_in, call_refusal}
-use Rattle.rtcp_engine.proofs.Agreeing.{members_agree, senders_agree}
-
--- ---- Counts
-
-pub members_stand : (s : State) (h : History) → IsPresentAt s h → members_of s ≡ member_count h.setup (outcome_at h)
-members_stand s h a = members_agree s (outcome_at h) a.agrees ∙ ap (λ (setup : Setup). member_count setup (outcome_at h)) a.setup
-
-pub senders_stand : (s : State) (h : History) → IsPresentAt s h → senders_of s ≡ sender_count h.setup (outcome_at h)
-senders_stand s h a = senders_agree s (outcome_at h) a.agrees ∙ ap (λ (setup : Setup). sender_count setup (outcome_at h)) a.setup
+use Rattle.rtcp_engine.specs.Acts.{Act, rtcp_came, rtp_came, rtp_sent, ticked, left, renamed, moment_of}
+use Rattle.rtcp_engine.specs.Identities.{call_count, identifiers, peers_listed, present_among, named, setup_now}
+use Rattle.rtcp_engine.specs.Histories.{History}
+use Rattle.rtcp_engine.specs.Presence.{last_moment, refusal_of, refusal_of_datagram, with_act}
+use Rattle.rtcp_engine.specs.Steps.{OutValue, StepValue, answer_unless}
+use Rattle.rtcp_engine.specs.Leaving.{Life}
+use Rattle.rtcp_engine.specs.Lives.{lived, life_at, out_by, members_in_life, senders_in_life, next_in_life}
+use Rattle.rtcp_engine.specs.Changes.{change_by}
+use Rattle.rtcp_engine.specs.Answers.{step_with, step_by, refusal_in, refusal_after, answer_of, followed_by, with_change_of}
+use Rattle.rtcp_engine.specs.Sent.{is_change}
+use Rattle.rtcp_engine.specs.Taken.{HasWords, WasTaken}
+use Rattle.rtcp_engine.specs.States.{State, ParticipantValue, IsAt, HasChanged, StandsAt}
+use Rattle.rtcp_engine.specs.Moves.{call_refusal, with_call}
 
 -- ---- Refusals
 
 abbrev chain : (backwards too_far too_many : Bool) → Option Refusal → Option Refusal
 chain backwards too_far too_many end = if backwards then Some Backwards else (if too_far then Some TooFar else (if too_many then Some TooMany else end))
-
-chain_some : (a b c : Bool) (end : Option Refusal) (refusal : Refusal) → chain a b c None ≡ Some refusal → chain a b c end ≡ Some refusal
-chain_some true b c end refusal h = h
-chain_some false true c end refusal h = h
-chain_some false false true end refusal h = h
-chain_some false false false end refusal h = absurd cc
-
-chain_none : (a b c : Bool) (end : Option Refusal) → chain a b c None ≡ None → chain a b c end ≡ end
-chain_none true b c end h = absurd cc
-chain_none false true c end h = absurd cc
-chain_none false false true end h = absurd cc
-chain_none false false false end h = refl
-
-tests_agree : (s : State) (h : History) (act : Act) (end : Option Refusal) → IsPresentAt s h →
-    chain (nat_lt (moment_of act) s.last) (nat_lt (2 ^ 50) (moment_of act)) (nat_le (2 ^ 40 - 1) s.calls) end
-    ≡ chain (nat_lt (moment_of act) (last_moment h.acts)) (nat_lt (2 ^ 50) (moment_of act)) (nat_le (2 ^ 40 - 1) (length h.acts)) end
-tests_agree s h act end a =
-    let far = nat_lt (2 ^ 50) (moment_of act) in
-    ap (λ (last : ℕ). chain (nat_lt (moment_of act) last) far (nat_le (2 ^ 40 - 1) s.calls) end) a.last
-    ∙ ap (λ (calls : ℕ). chain (nat_lt (moment_of act) (last_moment h.acts)) far (nat_le (2 ^ 40 - 1) calls) end) a.calls
 
 chain_is : (a b c : Bool) (end : Option Refusal) → chain a b c end ≡ elim (chain a b c None) [ None ↦ end | Some refusal ↦ Some refusal ]
 chain_is true b c end = refl
@@ -54,51 +31,69 @@ chain_is false false false end = refl
 
 -- the numbers that a call's refusal goes by
 pub record Numbers (s : State) (h : History) : Type 0 where
-  pub setup : s.setup ≡ h.setup
+  pub setup : s.setup ≡ setup_now h.setup h.acts
   pub last : s.last ≡ last_moment h.acts
-  pub calls : s.calls ≡ length h.acts
-
-pub numbers_of : (s : State) (h : History) → IsPresentAt s h → Numbers s h
-numbers_of s h a = record { setup = a.setup; last = a.last; calls = a.calls }
+  pub calls : s.calls ≡ call_count h.acts
 
 -- an act is refused as its call is, or else for its datagram
 pub refusal_stands : (s : State) (h : History) (act : Act) → Numbers s h →
-    elim (call_refusal (moment_of act) s) [ None ↦ refusal_of_datagram s.setup act | Some refusal ↦ Some refusal ] ≡ refusal_of h.setup h.acts act
+    elim (call_refusal (moment_of act) s) [ None ↦ refusal_of_datagram h.setup h.acts act | Some refusal ↦ Some refusal ] ≡ refusal_of h.setup h.acts act
 refusal_stands s h act n =
-    let end = refusal_of_datagram h.setup act in
+    let end = refusal_of_datagram h.setup h.acts act in
     let backwards = nat_lt (moment_of act) in
     let far = nat_lt (2 ^ 50) (moment_of act) in
-    ap (λ (setup : Setup). elim (call_refusal (moment_of act) s) [ None ↦ refusal_of_datagram setup act | Some refusal ↦ Some refusal ]) n.setup
-    ∙ sym (chain_is (backwards s.last) far (nat_le (2 ^ 40 - 1) s.calls) end)
+    sym (chain_is (backwards s.last) far (nat_le (2 ^ 40 - 1) s.calls) end)
     ∙ ap (λ (last : ℕ). chain (backwards last) far (nat_le (2 ^ 40 - 1) s.calls) end) n.last
     ∙ ap (λ (calls : ℕ). chain (backwards (last_moment h.acts)) far (nat_le (2 ^ 40 - 1) calls) end) n.calls
 
--- a call that is refused whatever it tells
-pub refused_call : (s : State) (h : History) (act : Act) (refusal : Refusal) → IsPresentAt s h → call_refusal (moment_of act) s ≡ Some refusal → refusal_of h.setup h.acts act ≡ Some refusal
-refused_call s h act refusal a is =
-    let end = refusal_of_datagram h.setup act in
-    sym (tests_agree s h act end a) ∙ chain_some (nat_lt (moment_of act) s.last) (nat_lt (2 ^ 50) (moment_of act)) (nat_le (2 ^ 40 - 1) s.calls) end refusal is
+pub refused_call : (s : State) (h : History) (act : Act) (reason : Refusal) → Numbers s h → call_refusal (moment_of act) s ≡ Some reason → refusal_of h.setup h.acts act ≡ Some reason
+refused_call s h act reason n is =
+    sym (refusal_stands s h act n) ∙ ap (λ (r : Option Refusal). elim r [ None ↦ refusal_of_datagram h.setup h.acts act | Some refusal ↦ Some refusal ]) is
 
 -- a call that is refused for its datagram alone, if it is
-pub admitted_call : (s : State) (h : History) (act : Act) → IsPresentAt s h → call_refusal (moment_of act) s ≡ None → refusal_of h.setup h.acts act ≡ refusal_of_datagram h.setup act
-admitted_call s h act a is =
-    let end = refusal_of_datagram h.setup act in
-    sym (tests_agree s h act end a) ∙ chain_none (nat_lt (moment_of act) s.last) (nat_lt (2 ^ 50) (moment_of act)) (nat_le (2 ^ 40 - 1) s.calls) end is
+pub admitted_call : (s : State) (h : History) (act : Act) (refusal : Option Refusal) → Numbers s h → call_refusal (moment_of act) s ≡ None → refusal_of_datagram h.setup h.acts act ≡ refusal → refusal_of h.setup h.acts act ≡ refusal
+admitted_call s h act refusal n is datagram =
+    sym (refusal_stands s h act n) ∙ ap (λ (r : Option Refusal). elim r [ None ↦ refusal_of_datagram h.setup h.acts act | Some reason ↦ Some reason ]) is ∙ datagram
 
-pub answered_refusal : (h : History) (act : Act) (refusal : Refusal) → refusal_of h.setup h.acts act ≡ Some refusal → Err refusal ≡ present_answer h act
-answered_refusal h act refusal is = sym (ap (λ (r : Option Refusal). answer_unless r (step_of h.setup act (outcome_at h))) is)
+-- one that is not gone refuses what it refuses while it takes part
+pub record IsThere (life : Life) : Type 0 where
+  pub refuses : (refusal : Option Refusal) → refusal_in life refusal ≡ refusal
 
--- an act that is refused changes nothing of a history without a leave, and one that is taken becomes its newest
-pub present_forgets : (h : History) (act : Act) (reason : Refusal) → refusal_of h.setup h.acts act ≡ Some reason → present_after h act ≡ h
-present_forgets h act reason is = ap (λ r. elim r [ None ↦ with_act h act | Some refusal ↦ h ]) is
+pub refusal_there : (h : History) (act : Act) (life : Life) (refusal : Option Refusal) → life_at h ≡ life → IsThere life → refusal_of h.setup h.acts act ≡ refusal → refusal_after h act ≡ refusal
+refusal_there h act life refusal is there same = ap (λ (l : Life). refusal_in l (refusal_of h.setup h.acts act)) is ∙ there.refuses (refusal_of h.setup h.acts act) ∙ same
 
-pub present_takes_in : (h : History) (act : Act) → refusal_of h.setup h.acts act ≡ None → present_after h act ≡ with_act h act
-present_takes_in h act is = ap (λ r. elim r [ None ↦ with_act h act | Some refusal ↦ h ]) is
+pub refused_answer : (h : History) (act : Act) (reason : Refusal) → refusal_after h act ≡ Some reason → Err reason ≡ answer_of h act
+refused_answer h act reason is = sym (ap (λ (r : Option Refusal). answer_unless r (step_by h act)) is)
 
-pub refused : (s : State) (h : History) (act : Act) (refusal : Refusal) → IsPresentAt s h → refusal_of h.setup h.acts act ≡ Some refusal → IsPresentAt s (present_after h act)
-refused s h act refusal a is = subst (IsPresentAt s) (sym (present_forgets h act refusal is)) a
+pub unfollowed : (h : History) (act : Act) (reason : Refusal) → refusal_after h act ≡ Some reason → h ≡ followed_by h act
+unfollowed h act reason is = sym (ap (λ (r : Option Refusal). elim r [ None ↦ with_act (with_change_of (change_by h act) h) act | Some other ↦ h ]) is)
+
+pub whole_refused : (p : ParticipantValue) (h : History) (act : Act) (reason : Refusal) → refusal_after h act ≡ Some reason → StandsAt p h → StandsAt p (followed_by h act)
+whole_refused p h act reason is stands = subst (StandsAt p) (unfollowed h act reason is) stands
 
 -- ---- Acts that are taken
+
+-- what is refused neither of one that is gone nor as a call nor for its datagram
+pub record IsTaken (h : History) (act : Act) : Type 0 where
+  pub after : refusal_after h act ≡ None
+  pub refusal : refusal_of h.setup h.acts act ≡ None
+
+-- A call of the host counts as one, and leaves the identifiers.
+pub record IsCall (act : Act) : Type 0 where
+  pub same_names : (setup : Setup) (earlier : List Act) → identifiers setup (act ∷ earlier) ≡ identifiers setup earlier
+  pub same_peers : (earlier : List Act) → peers_listed (act ∷ earlier) ≡ peers_listed earlier
+  pub counts : (earlier : List Act) → call_count (act ∷ earlier) ≡ call_count earlier + 1
+
+pub is_call : (act : Act) → is_change act ≡ false → IsCall act
+is_call (rtcp_came moment peer word size reading) told = record { same_names = λ setup earlier. refl; same_peers = λ earlier. refl; counts = λ earlier. refl }
+is_call (rtp_came moment peer word reading) told = record { same_names = λ setup earlier. refl; same_peers = λ earlier. refl; counts = λ earlier. refl }
+is_call (rtp_sent moment timestamp octets) told = record { same_names = λ setup earlier. refl; same_peers = λ earlier. refl; counts = λ earlier. refl }
+is_call (ticked moment first_word second_word) told = record { same_names = λ setup earlier. refl; same_peers = λ earlier. refl; counts = λ earlier. refl }
+is_call (left moment word) told = record { same_names = λ setup earlier. refl; same_peers = λ earlier. refl; counts = λ earlier. refl }
+is_call (renamed moment peer ssrc) told = absurd cc
+
+pub same_setup : (act : Act) → IsCall act → (setup : Setup) (earlier : List Act) → setup_now setup (act ∷ earlier) ≡ setup_now setup earlier
+same_setup act call setup earlier = ap (λ (names : List ℕ). named (present_among setup.ssrc names) setup) (call.same_names setup earlier)
 
 -- what a call keeps and counts
 pub record Counts (s t : State) (moment : ℕ) : Type 0 where
@@ -106,29 +101,53 @@ pub record Counts (s t : State) (moment : ℕ) : Type 0 where
   pub last : t.last ≡ moment
   pub calls : t.calls ≡ s.calls + 1
 
-pub taken : (s t : State) (h : History) (act : Act) → IsPresentAt s h → refusal_of h.setup h.acts act ≡ None → HasWords act → Counts s t (moment_of act) → Agrees t (after s.setup act (outcome_at h)) → IsPresentAt t (present_after h act)
-taken s t h act a none words counts agrees =
-    subst (IsPresentAt t) (sym (present_takes_in h act none)) (record {
-      is_history = record { usable = a.is_history.usable; word = a.is_history.word; taken = (none, words, a.is_history.taken) };
-      setup = counts.setup ∙ a.setup;
-      agrees = subst (λ (setup : Setup). Agrees t (after setup act (outcome_at h))) a.setup agrees;
-      last = counts.last;
-      calls = omega (arith, counts.calls, a.calls);
-    })
+pub counted_call : (s t : State) (moment : ℕ) → t ≡ with_call moment s → Counts s t moment
+counted_call s t moment same = record {
+  setup = ap (λ (x : State). x.setup) same;
+  last = ap (λ (x : State). x.last) same;
+  calls = ap (λ (x : State). x.calls) same;
+}
 
-steps_agree : (s : State) (o : Outcome) (report : Option (List ℕ)) → Agrees s o → step_in s (option_map report_out report) ≡ step_with s.setup o report
-steps_agree s o report a =
-    let step : ℕ → ℕ → ℕ → StepValue = λ members senders next. record { out = option_map report_out report; members = members; senders = senders; next = Some next } in
-    ap (λ (n : ℕ). step n (senders_of s) s.timing.next) (members_agree s o a)
-    ∙ ap (λ (n : ℕ). step (member_count s.setup o) n s.timing.next) (senders_agree s o a)
-    ∙ ap (λ (t : Rattle.rtcp_timer.specs.Schedules.Timing). step (member_count s.setup o) (sender_count s.setup o) t.next) a.timing
+pub same_changes : (act : Act) → IsCall act → (changes : List Change) (one other : ℕ) (h : History) → other ≡ one → HasChanged changes one h → HasChanged changes other (with_act h act)
+same_changes act call changes one other h same has = record {
+  peers = has.peers ∙ sym (call.same_peers h.acts);
+  identifiers_are = ap (λ (ssrc : ℕ). ssrc ∷ Rattle.std.specs.Prelude.map (λ (change : Change). change.former) changes) same ∙ has.identifiers_are ∙ sym (call.same_names h.setup h.acts);
+}
 
-pub answered : (s t : State) (h : History) (act : Act) (report : Option (List ℕ)) → IsPresentAt s h → refusal_of h.setup h.acts act ≡ None → t.setup ≡ s.setup → Agrees t (after s.setup act (outcome_at h)) → report ≡ report_by s.setup act (outcome_at h) →
-    Ok (step_in t (option_map report_out report)) ≡ present_answer h act
-answered s t h act report a none setup agrees reports =
-    let o = outcome_at h in
-    ap Ok (steps_agree t (after s.setup act o) report agrees)
-    ∙ ap (λ (st : Setup). Ok (step_with st (after s.setup act o) report)) setup
-    ∙ ap (λ (r : Option (List ℕ)). Ok (step_with s.setup (after s.setup act o) r)) reports
-    ∙ ap (λ (st : Setup). Ok (step_of st act o)) a.setup
-    ∙ sym (ap (λ (r : Option Refusal). answer_unless r (step_of h.setup act o)) none)
+-- where a participant stands after a call
+pub call_stands : (p q : ParticipantValue) (h : History) (act : Act) (life next : Life) → StandsAt p h → life_at h ≡ life → lived (setup_now h.setup h.acts) act life ≡ next → WasTaken h.setup h.word h.acts act → HasWords act
+    → IsCall act → Counts p.presence q.presence (moment_of act) → q.changes ≡ p.changes → IsAt q next → StandsAt q (with_act h act)
+call_stands p q h act life next stands is lives taken words call counts changes at = record {
+  is_history = record { usable = stands.is_history.usable; word = stands.is_history.word; taken = (taken, words, stands.is_history.taken) };
+  setup = counts.setup ∙ stands.setup ∙ sym (same_setup act call h.setup h.acts);
+  changes = subst (λ (list : List Change). HasChanged list q.presence.setup.ssrc (with_act h act)) (sym changes)
+      (same_changes act call p.changes p.presence.setup.ssrc q.presence.setup.ssrc h (ap (λ (s : Setup). s.ssrc) counts.setup) stands.changes);
+  life = subst (IsAt q) (sym (ap (lived (setup_now h.setup h.acts) act) is ∙ lives)) at;
+  last = counts.last;
+  calls = counts.calls ∙ ap (λ (n : ℕ). n + 1) stands.calls ∙ sym (call.counts h.acts);
+}
+
+-- what is answered where a life becomes another
+abbrev pub step_into : Setup → Option OutValue → Life → StepValue
+step_into setup out next = record { out = out; members = members_in_life setup next; senders = senders_in_life setup next; next = next_in_life next; changed = None }
+
+pub call_step : (h : History) (act : Act) (life next : Life) (out : Option OutValue) → life_at h ≡ life → lived (setup_now h.setup h.acts) act life ≡ next → out_by (setup_now h.setup h.acts) act life ≡ out
+    → step_into h.setup out next ≡ step_with None None h act
+call_step h act life next out is lives outs =
+    let comes = ap (lived (setup_now h.setup h.acts) act) is ∙ lives in
+    let brings = ap (out_by (setup_now h.setup h.acts) act) is ∙ outs in
+    λ i. step_into h.setup (sym brings i) (sym comes i)
+
+-- ---- Calls that bring no change
+
+abbrev pub step_changing : History → Act → Option Act → StepValue
+step_changing h act change = step_with (Rattle.std.specs.Prelude.option_map Rattle.rtcp_engine.specs.Answers.ssrc_of change) (Rattle.rtcp_engine.specs.Answers.out_of change h) (with_change_of change h) act
+
+pub plain_answer : (h : History) (act : Act) → change_by h act ≡ None → IsTaken h act → Ok (step_with None None h act) ≡ answer_of h act
+plain_answer h act none takes =
+    sym (ap (λ (c : Option Act). Ok (step_changing h act c)) none) ∙ sym (ap (λ (r : Option Refusal). answer_unless r (step_by h act)) takes.after)
+
+pub plain_history : (h : History) (act : Act) → change_by h act ≡ None → IsTaken h act → with_act h act ≡ followed_by h act
+plain_history h act none takes =
+    sym (ap (λ (c : Option Act). with_act (with_change_of c h) act) none)
+    ∙ sym (ap (λ (r : Option Refusal). elim r [ None ↦ with_act (with_change_of (change_by h act) h) act | Some other ↦ h ]) takes.after)

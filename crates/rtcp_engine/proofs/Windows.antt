@@ -1,5 +1,5 @@
 -- What follows for all that was sent: how far apart it lies, how much lies in a window, and what comes last.
-use Rattle.std.proofs.Common.{◌≡◌, ℕ, suc, ◌+◌, ◌-◌, ◌*◌, ◌/◌, ◌<◌, ◌≤◌, ◌&&◌, ◌⊎◌, inl, inr, nat_le, Bool, true, false, cond, List, [], ◌∷◌, length, filter, All, Option, refl, sym, ap, ◌∙◌, arith, subst, max}
+use Rattle.std.proofs.Common.{◌≡◌, ℕ, suc, ◌+◌, ◌-◌, ◌*◌, ◌/◌, ◌<◌, ◌≤◌, ◌&&◌, not, ◌⊎◌, inl, inr, nat_le, Bool, true, false, cond, List, [], ◌∷◌, length, filter, All, Option, refl, sym, ap, ◌∙◌, arith, subst, max}
 use Rattle.std.proofs.lemmas.Bool.{cases_lt, le-leb, lt-leb}
 use Rattle.std.proofs.lemmas.List.Elements.{All-nil, All-cons}
 use Rattle.rtcp_timer.specs.Averages.{IsBetween}
@@ -10,31 +10,22 @@ use Rattle.rtcp_timer.proofs.LawLemmas.{last_lies_between-not_before_sent, last_
 use Rattle.rtcp_engine.specs.Outcomes.{Outcome, timing_of}
 use Rattle.rtcp_engine.specs.Leaving.{Backoff, Life, present, backing_off, gone, leaving_timing}
 use Rattle.rtcp_engine.specs.Sent.{Sent, is_report, reports_in}
-use Rattle.rtcp_engine.specs.Spacing.{newest_moment, AreSpaced, is_between, count_within, EndsWithBye, AllFit}
-use Rattle.rtcp_engine.proofs.Sending.{none_sent, AreReports, IsLast, EndsSo, KeepsApart, TakesPart, BacksOff}
+use Rattle.rtcp_engine.specs.Spacing.{newest_moment, AreSpaced, is_between, is_last_bye, count_within, EndsWithBye, AllFit}
+use Rattle.rtcp_engine.proofs.Sending.{none_sent, AllStay, AreReports, EndsSo, IsLast, KeepsApart, Stays, TakesPart, BacksOff}
 
 -- ---- Reports alone
-
-pub all_reports : (limit : ℕ) (sent : List Sent) → AreReports limit sent → reports_in sent ≡ sent
-all_reports limit [] h = refl
-all_reports limit (newest ∷ earlier) h =
-    ap (λ (b : Bool). cond b (newest ∷ reports_in earlier) (reports_in earlier)) h.0.kind ∙ ap (λ (rest : List Sent). newest ∷ rest) (all_reports limit earlier h.1)
 
 last_is_none : (limit : ℕ) (leave : Option ℕ) (bye : Sent) (earlier : List Sent) → IsLast limit leave bye → reports_in (bye ∷ earlier) ≡ reports_in earlier
 last_is_none limit leave bye earlier h = ap (λ (b : Bool). cond b (bye ∷ reports_in earlier) (reports_in earlier)) h.kind
 
 ending_reports : (limit : ℕ) (leave : Option ℕ) (sent : List Sent) → EndsSo limit leave sent → AreReports limit (reports_in sent)
 ending_reports limit leave [] h = absurd h
-ending_reports limit leave (bye ∷ earlier) h =
-    subst (AreReports limit) (sym (last_is_none limit leave bye earlier h.0 ∙ all_reports limit earlier h.1)) h.1
-
-its_reports : (limit : ℕ) (sent : List Sent) → AreReports limit sent → AreReports limit (reports_in sent)
-its_reports limit sent h = subst (AreReports limit) (sym (all_reports limit sent h)) h
+ending_reports limit leave (bye ∷ earlier) h = subst (AreReports limit) (sym (last_is_none limit leave bye earlier h.0)) h.1.reports
 
 reports_apart : (limit t : ℕ) (leave : Option ℕ) (sent : List Sent) (life : Life) → KeepsApart limit t leave life sent → AreReports limit (reports_in sent)
-reports_apart limit t leave sent (present outcome) h = its_reports limit sent h.reports
-reports_apart limit t leave sent (backing_off outcome backoff) h = its_reports limit sent h.reports
-reports_apart limit t leave sent (gone outcome) (inl h) = its_reports limit sent h
+reports_apart limit t leave sent (present outcome) h = h.kept.reports
+reports_apart limit t leave sent (backing_off outcome backoff) h = h.kept.reports
+reports_apart limit t leave sent (gone outcome) (inl h) = h.reports
 reports_apart limit t leave sent (gone outcome) (inr h) = ending_reports limit leave sent h
 
 spaced : (limit : ℕ) (reports : List Sent) → AreReports limit reports → AreSpaced reports
@@ -113,25 +104,33 @@ few_fit from width newest count (inr some) = omega (arith, some.1, some.2)
 
 -- ---- Ends and sizes
 
-all_are_reports : (limit : ℕ) (sent : List Sent) → AreReports limit sent → All (λ compound. is_report compound ≡ true) sent
-all_are_reports limit [] h = All-nil (λ (compound : Sent). is_report compound ≡ true)
-all_are_reports limit (newest ∷ earlier) h = All-cons (λ (compound : Sent). is_report compound ≡ true) newest earlier h.0.kind (all_are_reports limit earlier h.1)
+-- Neither a report nor the BYE of an identifier that is given up is the one of leaving.
+no_last : (limit : ℕ) (compound : Sent) → Stays limit compound → is_last_bye compound ≡ false
+no_last limit compound h = by_kind (is_report compound) refl
+  where
+    by_kind : (reports : Bool) → is_report compound ≡ reports → (not reports && not compound.changes) ≡ false
+    by_kind true is = refl
+    by_kind false is = ap not (h.kind is)
 
-reports_end : (limit : ℕ) (leave : Option ℕ) (sent : List Sent) → AreReports limit sent → EndsWithBye leave sent
-reports_end limit leave [] h = tt
-reports_end limit leave (newest ∷ earlier) h = (all_are_reports limit earlier h.1, λ bye. absurd (cc (sym bye ∙ h.0.kind)))
+none_last : (limit : ℕ) (sent : List Sent) → AllStay limit sent → All (λ compound. is_last_bye compound ≡ false) sent
+none_last limit [] h = All-nil (λ (compound : Sent). is_last_bye compound ≡ false)
+none_last limit (newest ∷ earlier) h = All-cons (λ (compound : Sent). is_last_bye compound ≡ false) newest earlier (no_last limit newest h.0) (none_last limit earlier h.1)
+
+kept_end : (limit : ℕ) (leave : Option ℕ) (sent : List Sent) → AllStay limit sent → EndsWithBye leave sent
+kept_end limit leave [] h = tt
+kept_end limit leave (newest ∷ earlier) h = (none_last limit earlier h.1, λ last. absurd (cc (sym last ∙ no_last limit newest h.0)))
 
 bye_ends : (limit : ℕ) (leave : Option ℕ) (sent : List Sent) → EndsSo limit leave sent → EndsWithBye leave sent
 bye_ends limit leave [] h = absurd h
-bye_ends limit leave (bye ∷ earlier) h = (all_are_reports limit earlier h.1, λ is. h.0.late)
+bye_ends limit leave (bye ∷ earlier) h = (none_last limit earlier h.1.all, λ is. h.0.late)
 
-reports_fit : (limit : ℕ) (sent : List Sent) → AreReports limit sent → AllFit limit sent
-reports_fit limit [] h = All-nil (λ (compound : Sent). length compound.out.octets ≤ limit)
-reports_fit limit (newest ∷ earlier) h = All-cons (λ (compound : Sent). length compound.out.octets ≤ limit) newest earlier h.0.fits (reports_fit limit earlier h.1)
+kept_fit : (limit : ℕ) (sent : List Sent) → AllStay limit sent → AllFit limit sent
+kept_fit limit [] h = All-nil (λ (compound : Sent). length compound.out.octets ≤ limit)
+kept_fit limit (newest ∷ earlier) h = All-cons (λ (compound : Sent). length compound.out.octets ≤ limit) newest earlier h.0.fits (kept_fit limit earlier h.1)
 
 bye_fits : (limit : ℕ) (leave : Option ℕ) (sent : List Sent) → EndsSo limit leave sent → AllFit limit sent
 bye_fits limit leave [] h = absurd h
-bye_fits limit leave (bye ∷ earlier) h = All-cons (λ (compound : Sent). length compound.out.octets ≤ limit) bye earlier h.0.fits (reports_fit limit earlier h.1)
+bye_fits limit leave (bye ∷ earlier) h = All-cons (λ (compound : Sent). length compound.out.octets ≤ limit) bye earlier h.0.fits (kept_fit limit earlier h.1.all)
 
 -- ---- The last transmission
 
@@ -142,10 +141,10 @@ between events sent in_order newest = (
 )
 
 pub last_in_present : (limit t : ℕ) (leave : Option ℕ) (sent : List Sent) (life : Life) (outcome : Outcome) → KeepsApart limit t leave life sent → life ≡ present outcome
-    → IsBetween (newest_moment sent) (max (newest_moment sent) (last_departure outcome.happenings)) (timing_of outcome).last
+    → IsBetween (newest_moment (reports_in sent)) (max (newest_moment (reports_in sent)) (last_departure outcome.happenings)) (timing_of outcome).last
 last_in_present limit t leave sent life outcome h is =
     let part : TakesPart limit t leave outcome sent = subst (λ (l : Life). KeepsApart limit t leave l sent) is h in
-    between outcome.happenings (newest_moment sent) part.up_to.in_order part.newest
+    between outcome.happenings (newest_moment (reports_in sent)) part.up_to.in_order part.newest
 
 pub last_in_backoff : (limit t : ℕ) (leave : Option ℕ) (sent : List Sent) (life : Life) (outcome : Outcome) (backoff : Backoff) → KeepsApart limit t leave life sent → life ≡ backing_off outcome backoff
     → IsBetween backoff.since (max backoff.since (last_departure backoff.happenings)) (leaving_timing backoff).last
@@ -166,13 +165,13 @@ window_in limit t leave sent from width life h =
     few_fit from width (newest_moment (reports_in sent)) _ (fills limit from (from + width) (reports_in sent) (reports_apart limit t leave sent life h))
 
 pub ends_in : (limit t : ℕ) (leave : Option ℕ) (sent : List Sent) (life : Life) → KeepsApart limit t leave life sent → EndsWithBye leave sent
-ends_in limit t leave sent (present outcome) h = reports_end limit leave sent h.reports
-ends_in limit t leave sent (backing_off outcome backoff) h = reports_end limit leave sent h.reports
-ends_in limit t leave sent (gone outcome) (inl h) = reports_end limit leave sent h
+ends_in limit t leave sent (present outcome) h = kept_end limit leave sent h.kept.all
+ends_in limit t leave sent (backing_off outcome backoff) h = kept_end limit leave sent h.kept.all
+ends_in limit t leave sent (gone outcome) (inl h) = kept_end limit leave sent h.all
 ends_in limit t leave sent (gone outcome) (inr h) = bye_ends limit leave sent h
 
 pub limit_in : (limit t : ℕ) (leave : Option ℕ) (sent : List Sent) (life : Life) → KeepsApart limit t leave life sent → AllFit limit sent
-limit_in limit t leave sent (present outcome) h = reports_fit limit sent h.reports
-limit_in limit t leave sent (backing_off outcome backoff) h = reports_fit limit sent h.reports
-limit_in limit t leave sent (gone outcome) (inl h) = reports_fit limit sent h
+limit_in limit t leave sent (present outcome) h = kept_fit limit sent h.kept.all
+limit_in limit t leave sent (backing_off outcome backoff) h = kept_fit limit sent h.kept.all
+limit_in limit t leave sent (gone outcome) (inl h) = kept_fit limit sent h.all
 limit_in limit t leave sent (gone outcome) (inr h) = bye_fits limit leave sent h

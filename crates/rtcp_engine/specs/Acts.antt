@@ -9,23 +9,28 @@ use Rattle.rtcp_wire.specs.Faults.{IsFirstFault}
 use Rattle.rtcp_wire.specs.RtpHeads.{RtpValue, IsRtpHead, IsRtpFault}
 
 pub data Act : Type 0 where
-  -- an RTCP datagram of so many octets came: its packets, or its first fault
-  rtcp_came : (moment size : ℕ) (reading : Result (List RtcpPacket) WireFault) → Act
-  -- an RTP datagram came: what its head says, or its first fault
-  rtp_came : (moment : ℕ) (reading : Result RtpValue RtpFault) → Act
+  -- an RTCP datagram of so many octets came from a peer: its packets, or its first fault. The host gave a random word
+  -- for a new identifier.
+  rtcp_came : (moment peer word size : ℕ) (reading : Result (List RtcpPacket) WireFault) → Act
+  -- an RTP datagram came from a peer: what its head says, or its first fault, with a random word too
+  rtp_came : (moment peer word : ℕ) (reading : Result RtpValue RtpFault) → Act
   -- the participant's host sent an RTP packet with this timestamp and so many octets of payload
   rtp_sent : (moment timestamp octets : ℕ) → Act
   -- the host asked whether a report is due, and gave two random words for the draws of intervals
   ticked : (moment first_word second_word : ℕ) → Act
   -- the host asked the participant to leave, and gave a random word for the draw of a backoff
   left : (moment word : ℕ) → Act
+  -- the participant took another identifier, since a datagram of a peer named its own (RFC 3550, 8.2). It stands in a
+  -- history before the act of that datagram.
+  renamed : (moment peer ssrc : ℕ) → Act
 
 abbrev pub moment_of : Act → ℕ
-moment_of (rtcp_came moment size reading) = moment
-moment_of (rtp_came moment reading) = moment
+moment_of (rtcp_came moment peer word size reading) = moment
+moment_of (rtp_came moment peer word reading) = moment
 moment_of (rtp_sent moment timestamp octets) = moment
 moment_of (ticked moment first_word second_word) = moment
 moment_of (left moment word) = moment
+moment_of (renamed moment peer ssrc) = moment
 
 -- ---- Octets
 
@@ -45,9 +50,9 @@ IsRtpReading octets (Err fault) = IsRtpFault octets fault
 -- What a host tells a participant, with the octets of a datagram as they came.
 pub data EventValue : Type 0 where
   -- an RTCP datagram came
-  rtcp_arrived : (moment : ℕ) (octets : List ℕ) → EventValue
+  rtcp_arrived : (moment peer word : ℕ) (octets : List ℕ) → EventValue
   -- an RTP datagram came
-  rtp_arrived : (moment : ℕ) (octets : List ℕ) → EventValue
+  rtp_arrived : (moment peer word : ℕ) (octets : List ℕ) → EventValue
   -- the host sent an RTP packet with this timestamp and so many octets of payload
   packet_sent : (moment timestamp octets : ℕ) → EventValue
   -- the host asked whether a report is due, and gave two random words
@@ -57,11 +62,11 @@ pub data EventValue : Type 0 where
 
 -- The act of an event: what the octets of a datagram say stands in it.
 abbrev pub IsActOfEvent : EventValue → Act → Type 0
-IsActOfEvent (rtcp_arrived moment octets) act =
+IsActOfEvent (rtcp_arrived moment peer word octets) act =
     (reading : Result (List RtcpPacket) WireFault) × IsReading octets reading
-    × (act ≡ rtcp_came moment (length octets) reading)
-IsActOfEvent (rtp_arrived moment octets) act =
-    (reading : Result RtpValue RtpFault) × IsRtpReading octets reading × (act ≡ rtp_came moment reading)
+    × (act ≡ rtcp_came moment peer word (length octets) reading)
+IsActOfEvent (rtp_arrived moment peer word octets) act =
+    (reading : Result RtpValue RtpFault) × IsRtpReading octets reading × (act ≡ rtp_came moment peer word reading)
 IsActOfEvent (packet_sent moment timestamp octets) act = act ≡ rtp_sent moment timestamp octets
 IsActOfEvent (time_passed moment first_word second_word) act = act ≡ ticked moment first_word second_word
 IsActOfEvent (leave_asked moment word) act = act ≡ left moment word

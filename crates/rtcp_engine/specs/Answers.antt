@@ -1,25 +1,53 @@
 -- What a participant answers to an act, after the acts that it took before.
-use Rattle.std.specs.Prelude.{List, [], ◌∷◌, Option, Some, None}
+use Rattle.std.specs.Prelude.{ℕ, List, [], ◌∷◌, Option, Some, None, option_map}
+use Rattle.std.specs.Option.{option_or}
 use Rattle.rtcp_engine.specs.declared.refusal.Refusal.{Refusal}
 use Rattle.rtcp_engine.specs.declared.refusal.Refusal.TheVariants.{Left}
-use Rattle.rtcp_engine.specs.Setups.{Setup}
-use Rattle.rtcp_engine.specs.Acts.{Act}
+use Rattle.rtcp_engine.specs.Acts.{Act, rtcp_came, rtp_came, rtp_sent, ticked, left, renamed}
+use Rattle.rtcp_engine.specs.Identities.{setup_now}
+use Rattle.rtcp_engine.specs.Changes.{change_by}
 use Rattle.rtcp_engine.specs.Histories.{History}
-use Rattle.rtcp_engine.specs.Steps.{StepValue, AnswerValue, answer_unless}
+use Rattle.rtcp_engine.specs.Steps.{OutValue, StepValue, AnswerValue, answer_unless}
 use Rattle.rtcp_engine.specs.Presence.{refusal_of, with_act}
 use Rattle.rtcp_engine.specs.Leaving.{Life, present, backing_off, gone}
-use Rattle.rtcp_engine.specs.Lives.{lived, life_at, members_in_life, senders_in_life, next_in_life, out_by}
+use Rattle.rtcp_engine.specs.Lives.{life_at, members_in_life, senders_in_life, next_in_life, out_by}
 
 -- ---- Steps
 
--- what is answered to an act that is taken
-abbrev pub step_by : Setup → Act → Life → StepValue
-step_by setup act life = record {
-  out = out_by setup act life;
-  members = members_in_life setup (lived setup act life);
-  senders = senders_in_life setup (lived setup act life);
-  next = next_in_life (lived setup act life);
+-- the history with the change of identifier that an act brings
+abbrev pub with_change_of : Option Act → History → History
+with_change_of None history = history
+with_change_of (Some change) history = with_act history change
+
+abbrev pub out_at : History → Act → Option OutValue
+out_at history act = out_by (setup_now history.setup history.acts) act (life_at history)
+
+-- the BYE of the old identifier, if the change hands it out
+abbrev pub out_of : Option Act → History → Option OutValue
+out_of None history = None
+out_of (Some change) history = out_at history change
+
+-- what is answered to an act that is taken, after its change
+abbrev pub step_with : (changed : Option ℕ) → (farewell : Option OutValue) → History → Act → StepValue
+step_with changed farewell history act = let after = with_act history act in record {
+  out = option_or farewell (out_at history act);
+  members = members_in_life after.setup (life_at after);
+  senders = senders_in_life after.setup (life_at after);
+  next = next_in_life (life_at after);
+  changed = changed;
 }
+
+abbrev pub ssrc_of : Act → ℕ
+ssrc_of (rtcp_came moment peer word size reading) = 0
+ssrc_of (rtp_came moment peer word reading) = 0
+ssrc_of (rtp_sent moment timestamp octets) = 0
+ssrc_of (ticked moment first_word second_word) = 0
+ssrc_of (left moment word) = 0
+ssrc_of (renamed moment peer ssrc) = ssrc
+
+abbrev pub step_by : History → Act → StepValue
+step_by history act = let change = change_by history act in
+    step_with (option_map ssrc_of change) (out_of change history) (with_change_of change history) act
 
 -- ---- Refusals
 
@@ -37,12 +65,15 @@ refusal_after history act = refusal_in (life_at history) (refusal_of history.set
 
 -- What is answered to an act after a history.
 abbrev pub answer_of : History → Act → AnswerValue
-answer_of history act = answer_unless (refusal_after history act) (step_by history.setup act (life_at history))
+answer_of history act = answer_unless (refusal_after history act) (step_by history act)
 
 -- the history with one act more, if it is taken
 abbrev pub followed_by : History → Act → History
 followed_by history act =
-    elim (refusal_after history act) [ None ↦ with_act history act | Some refusal ↦ history ]
+    elim (refusal_after history act) [
+      | None ↦ with_act (with_change_of (change_by history act) history) act
+      | Some refusal ↦ history
+    ]
 
 -- The answers to acts, the first one first.
 abbrev pub answers_to : History → List Act → List AnswerValue

@@ -1,10 +1,11 @@
 -- Codes, by which a proof tells participants apart.
-use Rattle.std.specs.Prelude.{◌≡◌, ℕ, List, Option, Some, None, refl}
-use Rattle.std.specs.Coded.{Coded, code_by, coded×, coded_ℕ, coded_list, coded_option}
+use Rattle.std.specs.Prelude.{◌≡◌, ℕ, Bool, List, Option, Some, None, refl}
+use Rattle.std.specs.Coded.{Coded, code_by, coded×, coded_ℕ, coded_bool, coded_list, coded_option}
 use Rattle.rtcp_members.specs.Tables.{TableValue}
 use Rattle.rtcp_members.specs.Codes.{table_code}
 use Rattle.rtcp_timer.specs.Schedules.{Timing}
 use Rattle.rtcp_wire.specs.Values.{ItemValue}
+use Rattle.rtcp_engine.specs.declared.changes.Change.{Change}
 use Rattle.rtcp_engine.specs.Setups.{Setup}
 use Rattle.rtcp_engine.specs.OwnValues.{PacketValue, OwnValue}
 use Rattle.rtcp_engine.specs.States.{State, PhaseValue, taking_part, leaving, over, ParticipantValue}
@@ -30,9 +31,9 @@ packet_code =
 
 abbrev pub own_code : Coded OwnValue
 own_code =
-    code_by (Option ℕ × (Option PacketValue × (ℕ × ℕ))) (coded× (coded_option coded_ℕ) (coded× (coded_option packet_code) (coded× coded_ℕ coded_ℕ)))
-    (λ o. (o.sending, (o.last, (o.packets, o.octets))))
-    (λ p. record { sending = p.0; last = p.1.0; packets = p.1.1.0; octets = p.1.1.1 })
+    code_by (Option ℕ × (Option PacketValue × (ℕ × (ℕ × Bool)))) (coded× (coded_option coded_ℕ) (coded× (coded_option packet_code) (coded× coded_ℕ (coded× coded_ℕ coded_bool))))
+    (λ o. (o.sending, (o.last, (o.packets, (o.octets, o.heard)))))
+    (λ p. record { sending = p.0; last = p.1.0; packets = p.1.1.0; octets = p.1.1.1.0; heard = p.1.1.1.1 })
     (λ _. refl)
 
 abbrev pub state_code : Coded State
@@ -62,6 +63,10 @@ phase_again over = refl
 abbrev pub phase_code : Coded PhaseValue
 phase_code = code_by (Option (Option ℕ)) (coded_option (coded_option coded_ℕ)) phase_number phase_numbered phase_again
 
+abbrev pub change_code : Coded Change
+change_code =
+    code_by (ℕ × ℕ) (coded× coded_ℕ coded_ℕ) (λ c. (c.peer, c.former)) (λ p. record { peer = p.0; former = p.1 }) (λ _. refl)
+
 abbrev pub participant_code : Coded ParticipantValue
 participant_code =
-    code_by (State × PhaseValue) (coded× state_code phase_code) (λ p. (p.presence, p.phase)) (λ p. record { presence = p.0; phase = p.1 }) (λ _. refl)
+    code_by (State × (PhaseValue × List Change)) (coded× state_code (coded× phase_code (coded_list change_code))) (λ p. (p.presence, (p.phase, p.changes))) (λ p. record { presence = p.0; phase = p.1.0; changes = p.1.1 }) (λ _. refl)

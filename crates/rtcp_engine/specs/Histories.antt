@@ -1,5 +1,5 @@
 -- What the acts of a session come to, from its beginning on. A history is a list of acts, newest first.
-use Rattle.std.specs.Prelude.{ℕ, ◌==◌, not, List, [], ◌∷◌, map, filter, if◌then◌else◌, Result, Ok, Err}
+use Rattle.std.specs.Prelude.{ℕ, ◌==◌, not, List, [], ◌∷◌, map, filter, length, if◌then◌else◌, Result, Ok, Err}
 use Rattle.rtcp_wire.specs.declared.fact.Fact.{Fact}
 use Rattle.rtcp_wire.specs.declared.fact.Fact.TheVariants.{Heard, Media}
 use Rattle.rtcp_wire.specs.declared.fault.WireFault.{WireFault}
@@ -10,8 +10,10 @@ use Rattle.rtcp_wire.specs.RtpHeads.{RtpValue}
 use Rattle.rtcp_members.specs.Traces.{with_facts}
 use Rattle.rtcp_members.specs.Entries.{counted_at}
 use Rattle.rtcp_engine.specs.Setups.{Setup}
-use Rattle.rtcp_engine.specs.Acts.{Act, rtcp_came, rtp_came, rtp_sent, ticked, left}
-use Rattle.rtcp_engine.specs.OwnStreams.{packet_sent}
+use Rattle.rtcp_engine.specs.Acts.{Act, rtcp_came, rtp_came, rtp_sent, ticked, left, renamed}
+use Rattle.rtcp_engine.specs.OwnStreams.{packet_sent, counts_anew, has_sent}
+use Rattle.rtcp_engine.specs.Reporting.{bye_octets}
+use Rattle.rtcp_engine.specs.Identities.{setup_now}
 use Rattle.rtcp_engine.specs.Outcomes.{Outcome, beginning}
 use Rattle.rtcp_engine.specs.Ticks.{with_recount, after_tick}
 
@@ -55,22 +57,34 @@ abbrev pub with_rtp_reading : Setup → (t : ℕ) → Result RtpValue RtpFault �
 with_rtp_reading setup t (Ok head) outcome = with_media setup t head outcome
 with_rtp_reading setup t (Err fault) outcome = outcome
 
+-- ---- Changes of identifier
+
+-- The BYE of the old identifier is a compound that was sent, if something was sent under that one. The counts of the own
+-- stream begin anew.
+abbrev pub with_change : Setup → Outcome → Outcome
+with_change setup outcome =
+    record outcome {
+      own = counts_anew ∷ outcome.own;
+      sizes = if has_sent outcome.own then length (bye_octets setup) ∷ outcome.sizes else outcome.sizes;
+    }
+
 -- ---- Histories
 
 -- (A leave ends the participation whose outcome this is, and adds nothing to it.)
 abbrev pub after : Setup → Act → Outcome → Outcome
-after setup (rtcp_came moment size reading) outcome = with_reading setup moment size reading outcome
-after setup (rtp_came moment reading) outcome = with_rtp_reading setup moment reading outcome
+after setup (rtcp_came moment peer word size reading) outcome = with_reading setup moment size reading outcome
+after setup (rtp_came moment peer word reading) outcome = with_rtp_reading setup moment reading outcome
 after setup (rtp_sent moment timestamp octets) outcome =
     record outcome { own = packet_sent moment timestamp octets ∷ outcome.own }
 after setup (ticked moment first_word second_word) outcome =
     after_tick setup moment first_word second_word outcome
 after setup (left moment word) outcome = outcome
+after setup (renamed moment peer ssrc) outcome = with_change setup outcome
 
 -- What a session has come to, from its setup, its start word and all acts that were taken.
 abbrev pub outcome_of : Setup → (word : ℕ) → List Act → Outcome
 outcome_of setup word [] = beginning setup word
-outcome_of setup word (act ∷ earlier) = after setup act (outcome_of setup word earlier)
+outcome_of setup word (act ∷ earlier) = after (setup_now setup earlier) act (outcome_of setup word earlier)
 
 -- A session so far.
 pub record History : Type 0 where

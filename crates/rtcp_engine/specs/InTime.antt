@@ -4,7 +4,8 @@ use Rattle.std.specs.Prelude.{ℕ, ◌+◌, ◌≤◌, Bool, false, IsTrue, is_s
 use Rattle.rtcp_clock.specs.Intervals.{longest_draw}
 use Rattle.rtcp_timer.specs.Loads.{interval_of}
 use Rattle.rtcp_engine.specs.Setups.{Setup}
-use Rattle.rtcp_engine.specs.Acts.{Act, rtcp_came, rtp_came, rtp_sent, ticked, left, moment_of}
+use Rattle.rtcp_engine.specs.Acts.{Act, rtcp_came, rtp_came, rtp_sent, ticked, left, renamed, moment_of}
+use Rattle.rtcp_engine.specs.Identities.{setup_now}
 use Rattle.rtcp_engine.specs.Outcomes.{Outcome, interval_at, member_count, nothing_yet}
 use Rattle.rtcp_engine.specs.Ticks.{checked, is_report_due, with_report}
 use Rattle.rtcp_engine.specs.Histories.{History, with_reading}
@@ -17,11 +18,12 @@ use Rattle.rtcp_engine.specs.Spacing.{newest_moment}
 
 -- the session after a compound that came or the check of a tick: all that can lower the members
 abbrev pub recounted_by : Setup → Act → Outcome → Outcome
-recounted_by setup (rtcp_came moment size reading) outcome = with_reading setup moment size reading outcome
-recounted_by setup (rtp_came moment reading) outcome = outcome
+recounted_by setup (rtcp_came moment peer word size reading) outcome = with_reading setup moment size reading outcome
+recounted_by setup (rtp_came moment peer word reading) outcome = outcome
 recounted_by setup (rtp_sent moment timestamp octets) outcome = outcome
 recounted_by setup (ticked moment first_word second_word) outcome = checked setup moment outcome
 recounted_by setup (left moment word) outcome = outcome
+recounted_by setup (renamed moment peer ssrc) outcome = outcome
 
 -- A fall is a compound or a check after which there are fewer members than before it.
 abbrev pub is_fall : Setup → Act → Life → Bool
@@ -34,13 +36,13 @@ is_fall setup act (gone outcome) = false
 abbrev pub last_fall : Setup → (word : ℕ) → List Act → ℕ
 last_fall setup word [] = 0
 last_fall setup word (act ∷ earlier) =
-    if is_fall setup act (life_of setup word earlier) then moment_of act else last_fall setup word earlier
+    if is_fall (setup_now setup earlier) act (life_of setup word earlier) then moment_of act else last_fall setup word earlier
 
 -- ---- The greatest interval
 
 abbrev pub greatest_while_present : Setup → Act → Outcome → (before : ℕ) → ℕ
-greatest_while_present setup (rtcp_came moment size reading) outcome before = before
-greatest_while_present setup (rtp_came moment reading) outcome before = before
+greatest_while_present setup (rtcp_came moment peer word size reading) outcome before = before
+greatest_while_present setup (rtp_came moment peer word reading) outcome before = before
 greatest_while_present setup (rtp_sent moment timestamp octets) outcome before = before
 greatest_while_present setup (ticked moment first_word second_word) outcome before =
     let now = checked setup moment outcome in
@@ -48,14 +50,16 @@ greatest_while_present setup (ticked moment first_word second_word) outcome befo
     then interval_at setup (with_report setup moment now)
     else max (interval_at setup now) before
 greatest_while_present setup (left moment word) outcome before = interval_of (leaving_load setup 1 [])
+greatest_while_present setup (renamed moment peer ssrc) outcome before = before
 
 abbrev pub greatest_while_backing_off : Setup → Act → Backoff → (before : ℕ) → ℕ
-greatest_while_backing_off setup (rtcp_came moment size reading) backoff before = before
-greatest_while_backing_off setup (rtp_came moment reading) backoff before = before
+greatest_while_backing_off setup (rtcp_came moment peer word size reading) backoff before = before
+greatest_while_backing_off setup (rtp_came moment peer word reading) backoff before = before
 greatest_while_backing_off setup (rtp_sent moment timestamp octets) backoff before = before
 greatest_while_backing_off setup (ticked moment first_word second_word) backoff before =
     max (leaving_interval setup backoff) before
 greatest_while_backing_off setup (left moment word) backoff before = before
+greatest_while_backing_off setup (renamed moment peer ssrc) backoff before = before
 
 -- one act more
 abbrev pub greatest_by : Setup → Act → Life → (before : ℕ) → ℕ
@@ -68,7 +72,7 @@ greatest_by setup act (gone outcome) before = before
 abbrev pub greatest_interval : Setup → (word : ℕ) → List Act → ℕ
 greatest_interval setup word [] = interval_at setup nothing_yet
 greatest_interval setup word (act ∷ earlier) =
-    greatest_by setup act (life_of setup word earlier) (greatest_interval setup word earlier)
+    greatest_by (setup_now setup earlier) act (life_of setup word earlier) (greatest_interval setup word earlier)
 
 -- ---- Overdue
 
@@ -76,7 +80,7 @@ greatest_interval setup word (act ∷ earlier) =
 -- of this tick included
 abbrev pub longest_wait : History → Act → ℕ
 longest_wait history act =
-    longest_draw (max (interval_by history.setup act (life_at history))
+    longest_draw (max (interval_by (setup_now history.setup history.acts) act (life_at history))
     (greatest_interval history.setup history.word history.acts))
 
 -- Since the newest report, or moment 0, and since the newest fall, that of this tick included, so long has passed; in a
@@ -96,16 +100,17 @@ IsOverdue history act =
 -- ---- In time
 
 abbrev pub BringsOut : History → Act → Type 0
-BringsOut history act = IsTrue (is_some (out_by history.setup act (life_at history)))
+BringsOut history act = IsTrue (is_some (out_by (setup_now history.setup history.acts) act (life_at history)))
 
 -- A tick that comes late sends a report, or in a backoff the BYE.
 abbrev pub IsInTime : History → Act → Type 0
-IsInTime history (rtcp_came moment size reading) = Unit {0}
-IsInTime history (rtp_came moment reading) = Unit {0}
+IsInTime history (rtcp_came moment peer word size reading) = Unit {0}
+IsInTime history (rtp_came moment peer word reading) = Unit {0}
 IsInTime history (rtp_sent moment timestamp octets) = Unit {0}
 IsInTime history (ticked moment first_word second_word) =
     IsOverdue history (ticked moment first_word second_word) → BringsOut history (ticked moment first_word second_word)
 IsInTime history (left moment word) = Unit {0}
+IsInTime history (renamed moment peer ssrc) = Unit {0}
 
 -- Each tick that came late sent one.
 abbrev pub AllInTime : Setup → (word : ℕ) → List Act → Type 0

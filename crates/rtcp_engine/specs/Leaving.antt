@@ -1,23 +1,16 @@
 -- Leaving a session (RFC 3550, 6.3.7): silently, with a BYE at once, or with a BYE after a backoff in which
 -- nothing counts but the BYE packets of others. Lists are newest first.
-use Rattle.std.specs.Prelude.{ℕ, ◌+◌, ◌==◌, ◌&&◌, Bool, true, false, nat_le, min, List, [], ◌∷◌, length, map, filter, sum_by, if◌then◌else◌, Option, Some, None}
+use Rattle.std.specs.Prelude.{ℕ, ◌+◌, ◌==◌, ◌&&◌, not, Bool, true, false, nat_le, min, List, [], ◌∷◌, length, map, filter, sum_by, if◌then◌else◌, Option, Some, None}
 use Rattle.rtcp_clock.specs.Intervals.{drawn_interval}
 use Rattle.rtcp_wire.specs.Values.{RtcpPacket, sr, rr, sdes, bye, app, other}
-use Rattle.rtcp_wire.specs.Writing.{written_all}
-use Rattle.rtcp_report.specs.Reports.{bye_of}
 use Rattle.rtcp_timer.specs.declared.load.Load.{Load}
 use Rattle.rtcp_timer.specs.Averages.{average_of}
 use Rattle.rtcp_timer.specs.Loads.{interval_of}
 use Rattle.rtcp_timer.specs.Schedules.{Happening, transmitted, tried, Timing, schedule_at}
 use Rattle.rtcp_engine.specs.Setups.{Setup}
-use Rattle.rtcp_engine.specs.OwnStreams.{packets_sent}
-use Rattle.rtcp_engine.specs.Outcomes.{Outcome, is_initial, member_count}
-
--- ---- The last compound
-
--- the octets of the compound with the participant's BYE
-abbrev pub bye_octets : Setup → List ℕ
-bye_octets setup = written_all (bye_of setup.ssrc setup.cname)
+use Rattle.rtcp_engine.specs.OwnStreams.{has_sent, counts_anew}
+use Rattle.rtcp_engine.specs.Reporting.{bye_octets}
+use Rattle.rtcp_engine.specs.Outcomes.{Outcome, member_count}
 
 -- ---- Backing off
 
@@ -97,9 +90,9 @@ after_wait setup t word backoff =
 
 -- ---- A leave
 
--- nothing was sent, no report and no RTP packet
+-- nothing was sent under the present identifier, no report and no RTP packet
 abbrev pub is_unheard : Outcome → Bool
-is_unheard outcome = is_initial outcome.reports && packets_sent outcome.own == 0
+is_unheard outcome = not (has_sent outcome.own)
 
 -- The most members with which a BYE goes out at once.
 abbrev pub few_members : ℕ
@@ -141,3 +134,15 @@ abbrev pub after_waiting_tick : Setup → (t word : ℕ) → Outcome → Backoff
 after_waiting_tick setup t word outcome backoff =
     if is_bye_due setup t word backoff then gone outcome
     else backing_off outcome (after_wait setup t word backoff)
+
+-- ---- A change of identifier
+
+-- The old identifier's BYE moves the average, if something was sent under that one, and adds no member.
+abbrev pub after_own_bye : Setup → Outcome → Backoff → Backoff
+after_own_bye setup outcome backoff =
+    if has_sent outcome.own
+    then record backoff { farewells = record { byes = 0; size = length (bye_octets setup) } ∷ backoff.farewells }
+    else backoff
+
+abbrev pub counted_anew : Outcome → Outcome
+counted_anew outcome = record outcome { own = counts_anew ∷ outcome.own }

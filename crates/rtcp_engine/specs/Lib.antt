@@ -1,6 +1,7 @@
 pub mod Setups
 pub mod Refused
 pub mod Acts
+pub mod Identities
 pub mod OwnStreams
 pub mod OwnSending
 pub mod Outcomes
@@ -11,6 +12,7 @@ pub mod Steps
 pub mod Presence
 pub mod Leaving
 pub mod Lives
+pub mod Changes
 pub mod Answers
 pub mod Sent
 pub mod Spacing

@@ -4,39 +4,46 @@ use Rattle.rtcp_wire.specs.declared.fault.WireFault.{WireFault}
 use Rattle.rtcp_wire.specs.Values.{RtcpPacket}
 use Rattle.rtcp_engine.specs.declared.step.OutKind.TheVariants.{Bye}
 use Rattle.rtcp_engine.specs.Setups.{Setup}
-use Rattle.rtcp_engine.specs.Acts.{Act, rtcp_came, rtp_came, rtp_sent, ticked, left}
+use Rattle.rtcp_engine.specs.Acts.{Act, rtcp_came, rtp_came, rtp_sent, ticked, left, renamed}
+use Rattle.rtcp_engine.specs.Identities.{setup_now}
+use Rattle.rtcp_engine.specs.OwnStreams.{has_sent}
+use Rattle.rtcp_engine.specs.Reporting.{bye_octets}
 use Rattle.rtcp_engine.specs.Outcomes.{Outcome, beginning, member_count, sender_count, timing_of}
 use Rattle.rtcp_engine.specs.Histories.{after, History}
 use Rattle.rtcp_engine.specs.Steps.{OutValue}
 use Rattle.rtcp_engine.specs.Presence.{report_by, report_out}
-use Rattle.rtcp_engine.specs.Leaving.{Backoff, Life, present, backing_off, gone, bye_octets, bye_at_once, after_farewell, after_waiting_tick, is_bye_due, left_at, leaving_count, leaving_timing}
+use Rattle.rtcp_engine.specs.Leaving.{Backoff, Life, present, backing_off, gone, bye_at_once, after_farewell, after_own_bye, counted_anew, after_waiting_tick, is_bye_due, left_at, leaving_count, leaving_timing}
 
 -- ---- Acts
 
 abbrev pub while_present : Setup → Act → Outcome → Life
-while_present setup (rtcp_came moment size reading) outcome =
-    present (after setup (rtcp_came moment size reading) outcome)
-while_present setup (rtp_came moment reading) outcome =
-    present (after setup (rtp_came moment reading) outcome)
+while_present setup (rtcp_came moment peer word size reading) outcome =
+    present (after setup (rtcp_came moment peer word size reading) outcome)
+while_present setup (rtp_came moment peer word reading) outcome =
+    present (after setup (rtp_came moment peer word reading) outcome)
 while_present setup (rtp_sent moment timestamp octets) outcome =
     present (after setup (rtp_sent moment timestamp octets) outcome)
 while_present setup (ticked moment first_word second_word) outcome =
     present (after setup (ticked moment first_word second_word) outcome)
 while_present setup (left moment word) outcome = left_at setup moment word outcome
+while_present setup (renamed moment peer ssrc) outcome = present (after setup (renamed moment peer ssrc) outcome)
 
 abbrev pub with_farewell : (size : ℕ) → Result (List RtcpPacket) WireFault → Backoff → Backoff
 with_farewell size (Ok packets) backoff = after_farewell size packets backoff
 with_farewell size (Err fault) backoff = backoff
 
--- Nothing counts but compounds, and ticks, which make no check. A second leave begins nothing anew.
+-- Nothing counts but compounds, ticks, which make no check, and changes of identifier. A second leave begins nothing
+-- anew.
 abbrev pub while_backing_off : Setup → Act → Outcome → Backoff → Life
-while_backing_off setup (rtcp_came moment size reading) outcome backoff =
+while_backing_off setup (rtcp_came moment peer word size reading) outcome backoff =
     backing_off outcome (with_farewell size reading backoff)
-while_backing_off setup (rtp_came moment reading) outcome backoff = backing_off outcome backoff
+while_backing_off setup (rtp_came moment peer word reading) outcome backoff = backing_off outcome backoff
 while_backing_off setup (rtp_sent moment timestamp octets) outcome backoff = backing_off outcome backoff
 while_backing_off setup (ticked moment first_word second_word) outcome backoff =
     after_waiting_tick setup moment first_word outcome backoff
 while_backing_off setup (left moment word) outcome backoff = backing_off outcome backoff
+while_backing_off setup (renamed moment peer ssrc) outcome backoff =
+    backing_off (counted_anew outcome) (after_own_bye setup outcome backoff)
 
 abbrev pub lived : Setup → Act → Life → Life
 lived setup act (present outcome) = while_present setup act outcome
@@ -46,18 +53,19 @@ lived setup act (gone outcome) = gone outcome
 -- What a session has come to, from its setup, its start word and all acts that were taken.
 abbrev pub life_of : Setup → (word : ℕ) → List Act → Life
 life_of setup word [] = present (beginning setup word)
-life_of setup word (act ∷ earlier) = lived setup act (life_of setup word earlier)
+life_of setup word (act ∷ earlier) = lived (setup_now setup earlier) act (life_of setup word earlier)
 
 abbrev pub life_at : History → Life
 life_at history = life_of history.setup history.word history.acts
 
 -- An act that counts for nothing in a backoff.
 abbrev pub PassesBy : Act → Type 0
-PassesBy (rtcp_came moment size reading) = ⊥
-PassesBy (rtp_came moment reading) = ⊥
+PassesBy (rtcp_came moment peer word size reading) = ⊥
+PassesBy (rtp_came moment peer word reading) = ⊥
 PassesBy (rtp_sent moment timestamp octets) = Unit {0}
 PassesBy (ticked moment first_word second_word) = ⊥
 PassesBy (left moment word) = Unit {0}
+PassesBy (renamed moment peer ssrc) = ⊥
 
 -- ---- Counts, with the participant among them until it is gone
 
@@ -82,24 +90,30 @@ next_in_life (gone outcome) = None
 abbrev pub bye_out : List ℕ → OutValue
 bye_out octets = record { kind = Bye; octets = octets }
 
+-- the BYE of an identifier that is given up, if something was sent under it
+abbrev pub own_bye : Setup → Outcome → Option OutValue
+own_bye setup outcome = if has_sent outcome.own then Some (bye_out (bye_octets setup)) else None
+
 abbrev pub out_while_present : Setup → Act → Outcome → Option OutValue
-out_while_present setup (rtcp_came moment size reading) outcome = None
-out_while_present setup (rtp_came moment reading) outcome = None
+out_while_present setup (rtcp_came moment peer word size reading) outcome = None
+out_while_present setup (rtp_came moment peer word reading) outcome = None
 out_while_present setup (rtp_sent moment timestamp octets) outcome = None
 out_while_present setup (ticked moment first_word second_word) outcome =
     option_map report_out (report_by setup (ticked moment first_word second_word) outcome)
 out_while_present setup (left moment word) outcome = option_map bye_out (bye_at_once setup outcome)
+out_while_present setup (renamed moment peer ssrc) outcome = own_bye setup outcome
 
-abbrev pub out_while_backing_off : Setup → Act → Backoff → Option OutValue
-out_while_backing_off setup (rtcp_came moment size reading) backoff = None
-out_while_backing_off setup (rtp_came moment reading) backoff = None
-out_while_backing_off setup (rtp_sent moment timestamp octets) backoff = None
-out_while_backing_off setup (ticked moment first_word second_word) backoff =
+abbrev pub out_while_backing_off : Setup → Act → Outcome → Backoff → Option OutValue
+out_while_backing_off setup (rtcp_came moment peer word size reading) outcome backoff = None
+out_while_backing_off setup (rtp_came moment peer word reading) outcome backoff = None
+out_while_backing_off setup (rtp_sent moment timestamp octets) outcome backoff = None
+out_while_backing_off setup (ticked moment first_word second_word) outcome backoff =
     if is_bye_due setup moment first_word backoff then Some (bye_out (bye_octets setup)) else None
-out_while_backing_off setup (left moment word) backoff = None
+out_while_backing_off setup (left moment word) outcome backoff = None
+out_while_backing_off setup (renamed moment peer ssrc) outcome backoff = own_bye setup outcome
 
 -- the compound that an act brings, if it brings one
 abbrev pub out_by : Setup → Act → Life → Option OutValue
 out_by setup act (present outcome) = out_while_present setup act outcome
-out_by setup act (backing_off outcome backoff) = out_while_backing_off setup act backoff
+out_by setup act (backing_off outcome backoff) = out_while_backing_off setup act outcome backoff
 out_by setup act (gone outcome) = None

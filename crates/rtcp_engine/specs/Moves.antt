@@ -1,9 +1,7 @@
 -- How a table and the numbers of a participant move with each call.
-use Rattle.std.specs.Prelude.{ℕ, ◌+◌, ◌==◌, ◌&&◌, Bool, true, false, nat_lt, nat_le, ◌-◌, ◌^◌, not, List, [], ◌∷◌, length, map, filter, if◌then◌else◌, Option, Some, None, is_some, Result}
+use Rattle.std.specs.Prelude.{ℕ, ◌+◌, ◌==◌, ◌&&◌, Bool, true, false, nat_lt, nat_le, min, ◌-◌, ◌^◌, not, List, [], ◌∷◌, length, map, filter, if◌then◌else◌, Option, Some, None, is_some}
 use Rattle.rtcp_clock.specs.Intervals.{drawn_interval}
 use Rattle.rtcp_wire.specs.declared.fact.Fact.{Fact}
-use Rattle.rtcp_wire.specs.declared.fault.WireFault.{WireFault}
-use Rattle.rtcp_wire.specs.declared.rtp.fault.RtpFault.{RtpFault}
 use Rattle.rtcp_wire.specs.declared.fact.Fact.TheVariants.{Heard}
 use Rattle.rtcp_wire.specs.Values.{RtcpPacket}
 use Rattle.rtcp_wire.specs.Facts.{facts_of}
@@ -20,17 +18,19 @@ use Rattle.rtcp_timer.specs.Averages.{moved_average}
 use Rattle.rtcp_timer.specs.Loads.{interval_of}
 use Rattle.rtcp_timer.specs.Schedules as schedules
 use Rattle.rtcp_engine.specs.declared.refusal.Refusal.{Refusal}
-use Rattle.rtcp_engine.specs.declared.refusal.Refusal.TheVariants.{Backwards, TooFar, TooMany}
+use Rattle.rtcp_engine.specs.declared.refusal.Refusal.TheVariants.{Left, Backwards, TooFar, TooMany}
+use Rattle.rtcp_engine.specs.declared.arrival.Arrival.{Arrival}
+use Rattle.rtcp_engine.specs.declared.arrival.Arrival.TheVariants.{Rtcp, Rtp}
 use Rattle.rtcp_engine.specs.Setups.{Setup}
-use Rattle.rtcp_engine.specs.OwnValues.{OwnValue, own_after_packet, own_after_check, sent_by}
+use Rattle.rtcp_engine.specs.Identities.{named}
+use Rattle.rtcp_engine.specs.OwnValues.{OwnValue, own_after_packet, own_after_check, own_after_report, own_anew, sent_by}
 use Rattle.rtcp_engine.specs.Outcomes.{one_if}
-use Rattle.rtcp_engine.specs.Reporting.{extra_item}
+use Rattle.rtcp_engine.specs.Reporting.{bye_octets, extra_item}
 use Rattle.rtcp_engine.specs.Histories.{media_fact}
-use Rattle.rtcp_engine.specs.Presence.{refusal_of_compound, refusal_of_media}
-use Rattle.rtcp_engine.specs.Leaving.{leaving_load, leaving_average}
+use Rattle.rtcp_engine.specs.Leaving.{bye_count, leaving_load, leaving_average}
 use Rattle.rtcp_engine.specs.Ticks.{horizons_of}
 use Rattle.rtcp_engine.specs.Steps.{OutValue, StepValue}
-use Rattle.rtcp_engine.specs.States.{State}
+use Rattle.rtcp_engine.specs.States.{State, PhaseValue, taking_part, leaving, over, ParticipantValue}
 
 -- ---- Numbers
 
@@ -62,6 +62,7 @@ step_in state out = record {
   members = members_of state;
   senders = senders_of state;
   next = Some state.timing.next;
+  changed = None;
 }
 
 -- ---- Calls
@@ -109,6 +110,10 @@ abbrev pub after_packet : (t timestamp octets : ℕ) → State → State
 after_packet t timestamp octets state =
     record (with_call t state) { own = own_after_packet t timestamp octets state.own }
 
+abbrev pub after_arrival : (t : ℕ) → Arrival → State → State
+after_arrival t (Rtcp compound size) state = after_compound t size compound state
+after_arrival t (Rtp head) state = after_media t head state
+
 -- ---- Ticks
 
 abbrev pub with_check : Horizons → State → State
@@ -149,6 +154,7 @@ abbrev pub with_report : (t : ℕ) → State → State
 with_report t state =
     record state {
       table = after_blocks (rows_in t state) state.table;
+      own = own_after_report state.own;
       average = moved_average state.average (length (octets_in t state));
       cursor = last_reported state.cursor (rows_in t state);
       reports = state.reports + 1;
@@ -186,22 +192,20 @@ report_at t first_word state =
 -- ---- Leaving
 
 abbrev pub waiting_step_in : (members : ℕ) → State → StepValue
-waiting_step_in members state = record { out = None; members = members; senders = 0; next = Some state.timing.next }
+waiting_step_in members state = record {
+  out = None;
+  members = members;
+  senders = 0;
+  next = Some state.timing.next;
+  changed = None;
+}
 
 abbrev pub last_step_with : Option OutValue → StepValue
-last_step_with out = record { out = out; members = 0; senders = 0; next = None }
+last_step_with out = record { out = out; members = 0; senders = 0; next = None; changed = None }
 
--- why a compound is refused, if it is
-abbrev pub compound_refusal : (moment : ℕ) → Result (List RtcpPacket) WireFault → State → Option Refusal
-compound_refusal moment reading state =
-    elim (call_refusal moment state) [ None ↦ refusal_of_compound state.setup reading | Some refusal ↦ Some refusal ]
-
-abbrev pub media_refusal : (moment : ℕ) → Result RtpValue RtpFault → State → Option Refusal
-media_refusal moment reading state =
-    elim (call_refusal moment state) [ None ↦ refusal_of_media state.setup reading | Some refusal ↦ Some refusal ]
-
+-- nothing was sent under the present identifier
 abbrev pub is_unheard_in : State → Bool
-is_unheard_in state = state.reports == 0 && not (is_some state.own.last)
+is_unheard_in state = not state.own.heard
 
 -- The numbers of one that backs off from a moment on.
 abbrev pub backed_off : (t word : ℕ) → State → State
@@ -241,3 +245,45 @@ waited t word members state =
           (schedules.tried t (drawn_interval (backoff_interval members state) word) members) state.timing;
     }
     else state
+
+-- the members of a backoff with those that a compound adds
+abbrev pub members_with : List RtcpPacket → (members : ℕ) → ℕ
+members_with packets members = if bye_count packets == 0 then members else min 65535 (members + min 65535 (bye_count packets))
+
+abbrev pub with_farewell_in : List RtcpPacket → (size members : ℕ) → ParticipantValue → ParticipantValue
+with_farewell_in packets size members participant =
+    if bye_count packets == 0 then participant
+    else record participant {
+      presence = with_farewell_of size participant.presence;
+      phase = leaving (members_with packets members);
+    }
+
+-- ---- Changes of identifier
+
+-- The BYE of the identifier that is given up moves the average, if something was sent under it.
+abbrev pub with_own_bye : State → State
+with_own_bye state =
+    record state {
+      average =
+          if state.own.heard then moved_average state.average (length (bye_octets state.setup)) else state.average;
+    }
+
+-- The counts of the own stream begin anew.
+abbrev pub renamed : (t ssrc : ℕ) → State → State
+renamed t ssrc state =
+    record (with_own_bye state) { setup = named ssrc state.setup; own = own_anew state.own; last = t }
+
+-- that BYE, if it goes out
+abbrev pub own_bye_in : State → Option (List ℕ)
+own_bye_in state = if state.own.heard then Some (bye_octets state.setup) else None
+
+-- ---- The whole participant
+
+abbrev pub refusal_in_phase : (moment : ℕ) → State → PhaseValue → Option Refusal
+refusal_in_phase moment state taking_part = call_refusal moment state
+refusal_in_phase moment state (leaving members) = call_refusal moment state
+refusal_in_phase moment state over = Some Left
+
+-- why a call at a moment is refused, whatever it tells
+abbrev pub refusal_by : (moment : ℕ) → ParticipantValue → Option Refusal
+refusal_by moment participant = refusal_in_phase moment participant.presence participant.phase

@@ -1,10 +1,10 @@
 -- The few numbers that the participant's own stream comes to.
-use Rattle.std.specs.Prelude.{ℕ, ◌+◌, ◌-◌, ◌%◌, ◌^◌, List, [], ◌∷◌, if◌then◌else◌, Option, Some, None, is_some}
+use Rattle.std.specs.Prelude.{ℕ, ◌+◌, ◌-◌, ◌%◌, ◌^◌, Bool, true, false, List, [], ◌∷◌, if◌then◌else◌, Option, Some, None, is_some}
 use Rattle.rtcp_clock.specs.Moments.{ntp_moment, media_units}
 use Rattle.rtcp_members.specs.Stays.{is_before}
 use Rattle.rtcp_report.specs.Reports.{SentValue}
 use Rattle.rtcp_engine.specs.declared.own.LastPacket.{LastPacket}
-use Rattle.rtcp_engine.specs.OwnStreams.{OwnStep, packet_sent, check_passed, sending_since, packets_sent, octets_sent}
+use Rattle.rtcp_engine.specs.OwnStreams.{OwnStep, packet_sent, check_passed, report_sent, counts_anew, has_sent, sending_since, packets_sent, octets_sent}
 
 pub record PacketValue : Type 0 where
   pub moment : ℕ
@@ -18,6 +18,8 @@ pub record OwnValue : Type 0 where
   -- how many packets and octets of payload were sent, modulo 2^32
   pub packets : ℕ
   pub octets : ℕ
+  -- whether a report or a packet was sent under the present identifier
+  pub heard : Bool
 
 abbrev pub packet_value : LastPacket → PacketValue
 packet_value packet = record { moment = packet.moment; timestamp = packet.timestamp }
@@ -27,6 +29,8 @@ last_packet [] = None
 last_packet (packet_sent moment timestamp octets ∷ earlier) =
     Some (record { moment = moment; timestamp = timestamp })
 last_packet (check_passed idle ∷ earlier) = last_packet earlier
+last_packet (report_sent ∷ earlier) = last_packet earlier
+last_packet (counts_anew ∷ earlier) = last_packet earlier
 
 abbrev pub own_of : List OwnStep → OwnValue
 own_of own = record {
@@ -34,12 +38,13 @@ own_of own = record {
   last = last_packet own;
   packets = packets_sent own % 2 ^ 32;
   octets = octets_sent own % 2 ^ 32;
+  heard = has_sent own;
 }
 
 -- ---- How they move
 
 abbrev pub no_packets : OwnValue
-no_packets = record { sending = None; last = None; packets = 0; octets = 0 }
+no_packets = record { sending = None; last = None; packets = 0; octets = 0; heard = false }
 
 abbrev pub own_after_packet : (moment timestamp octets : ℕ) → OwnValue → OwnValue
 own_after_packet moment timestamp octets own = record {
@@ -47,11 +52,19 @@ own_after_packet moment timestamp octets own = record {
   last = Some (record { moment = moment; timestamp = timestamp });
   packets = (own.packets + 1) % 2 ^ 32;
   octets = (own.octets + octets) % 2 ^ 32;
+  heard = true;
 }
 
 abbrev pub own_after_check : (idle : ℕ) → OwnValue → OwnValue
 own_after_check idle own =
     record own { sending = if is_before own.sending idle then None else own.sending }
+
+abbrev pub own_after_report : OwnValue → OwnValue
+own_after_report own = record own { heard = true }
+
+-- after a change of identifier
+abbrev pub own_anew : OwnValue → OwnValue
+own_anew own = record own { packets = 0; octets = 0; heard = false }
 
 -- ---- What they say
 

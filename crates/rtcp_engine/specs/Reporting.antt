@@ -5,7 +5,7 @@ use Rattle.rtcp_wire.specs.Writing.{written_all}
 use Rattle.rtcp_members.specs.Traces.{TraceStep, fact_came, check_made, block_taken}
 use Rattle.rtcp_members.specs.Pending.{EntryRow, blocks_of}
 use Rattle.rtcp_members.specs.News.{pending_rows_at}
-use Rattle.rtcp_report.specs.Reports.{Reporter, packets_with}
+use Rattle.rtcp_report.specs.Reports.{Reporter, packets_with, bye_of}
 use Rattle.rtcp_report.specs.Sizes.{fitting}
 use Rattle.rtcp_report.specs.Views.{items_of}
 use Rattle.rtcp_engine.specs.Setups.{Setup}
@@ -49,3 +49,7 @@ report_packets setup t outcome =
 
 abbrev pub report_octets : Setup → (t : ℕ) → Outcome → List ℕ
 report_octets setup t outcome = written_all (report_packets setup t outcome)
+
+-- the octets of the compound with the participant's BYE
+abbrev pub bye_octets : Setup → List ℕ
+bye_octets setup = written_all (bye_of setup.ssrc setup.cname)

@@ -1,14 +1,16 @@
 -- The compounds that a participant sends over its session. Lists are newest first.
-use Rattle.std.specs.Prelude.{ℕ, List, [], ◌∷◌, ◌++◌, filter, Bool, true, false, Option, Some, None, Ok, Err}
+use Rattle.std.specs.Prelude.{ℕ, List, [], ◌∷◌, ◌++◌, filter, Bool, true, false, is_some, if◌then◌else◌, Option, Some, None, Ok, Err}
 use Rattle.rtcp_engine.specs.declared.step.OutKind.TheVariants.{Report as ReportKind, Bye as ByeKind}
 use Rattle.rtcp_engine.specs.Setups.{Setup}
-use Rattle.rtcp_engine.specs.Acts.{Act, rtcp_came, rtp_came, rtp_sent, ticked, left, moment_of}
+use Rattle.rtcp_engine.specs.Acts.{Act, rtcp_came, rtp_came, rtp_sent, ticked, left, renamed, moment_of}
+use Rattle.rtcp_engine.specs.Identities.{setup_now}
 use Rattle.rtcp_engine.specs.Outcomes.{Outcome, Report, interval_at}
 use Rattle.rtcp_engine.specs.Ticks.{checked}
 use Rattle.rtcp_engine.specs.Histories.{History}
 use Rattle.rtcp_engine.specs.Steps.{OutValue, AnswerValue}
 use Rattle.rtcp_engine.specs.Leaving.{Life, present, backing_off, gone, leaving_interval}
-use Rattle.rtcp_engine.specs.Lives.{life_of, out_by}
+use Rattle.rtcp_engine.specs.Lives.{life_at, life_of, out_by}
+use Rattle.rtcp_engine.specs.Changes.{change_by}
 
 -- ---- A compound
 
@@ -17,6 +19,8 @@ pub record Sent : Type 0 where
   -- the deterministic interval then computed, after the check of its tick: 0 for a BYE that waits for nothing
   pub interval : ℕ
   pub out : OutValue
+  -- whether it is the BYE of an identifier that was given up
+  pub changes : Bool
 
 abbrev pub is_report : Sent → Bool
 is_report sent = elim sent.out.kind [ ReportKind ↦ true | ByeKind ↦ false ]
@@ -26,42 +30,59 @@ reports_in sent = filter is_report sent
 
 -- ---- Intervals
 
+-- whether an act is a change of identifier, which the participant makes itself
+abbrev pub is_change : Act → Bool
+is_change (rtcp_came moment peer word size reading) = false
+is_change (rtp_came moment peer word reading) = false
+is_change (rtp_sent moment timestamp octets) = false
+is_change (ticked moment first_word second_word) = false
+is_change (left moment word) = false
+is_change (renamed moment peer ssrc) = true
+
 abbrev pub interval_while_present : Setup → Act → Outcome → ℕ
-interval_while_present setup (rtcp_came moment size reading) outcome = 0
-interval_while_present setup (rtp_came moment reading) outcome = 0
+interval_while_present setup (rtcp_came moment peer word size reading) outcome = 0
+interval_while_present setup (rtp_came moment peer word reading) outcome = 0
 interval_while_present setup (rtp_sent moment timestamp octets) outcome = 0
 interval_while_present setup (ticked moment first_word second_word) outcome =
     interval_at setup (checked setup moment outcome)
 interval_while_present setup (left moment word) outcome = 0
+interval_while_present setup (renamed moment peer ssrc) outcome = 0
 
 -- the deterministic interval that decides whether an act brings a compound (RFC 3550, 6.3.6, 6.3.7)
 abbrev pub interval_by : Setup → Act → Life → ℕ
 interval_by setup act (present outcome) = interval_while_present setup act outcome
-interval_by setup act (backing_off outcome backoff) = leaving_interval setup backoff
+interval_by setup act (backing_off outcome backoff) = if is_change act then 0 else leaving_interval setup backoff
 interval_by setup act (gone outcome) = 0
 
 -- ---- Sessions
 
-abbrev pub sent_with : (moment interval : ℕ) → Option OutValue → List Sent
-sent_with moment interval None = []
-sent_with moment interval (Some out) = record { moment = moment; interval = interval; out = out } ∷ []
+abbrev pub sent_with : (moment interval : ℕ) → (changes : Bool) → Option OutValue → List Sent
+sent_with moment interval changes None = []
+sent_with moment interval changes (Some out) =
+    record { moment = moment; interval = interval; out = out; changes = changes } ∷ []
 
 -- what an act brings
 abbrev pub sent_by : Setup → Act → Life → List Sent
-sent_by setup act life = sent_with (moment_of act) (interval_by setup act life) (out_by setup act life)
+sent_by setup act life = sent_with (moment_of act) (interval_by setup act life) (is_change act) (out_by setup act life)
 
 -- All that a session brought, from its setup, its start word and the acts that were taken.
 abbrev pub sent_over : Setup → (word : ℕ) → List Act → List Sent
 sent_over setup word [] = []
 sent_over setup word (act ∷ earlier) =
-    sent_by setup act (life_of setup word earlier) ++ sent_over setup word earlier
+    sent_by (setup_now setup earlier) act (life_of setup word earlier) ++ sent_over setup word earlier
 
 abbrev pub sent_at : History → List Sent
 sent_at history = sent_over history.setup history.word history.acts
 
+-- the interval that decides whether an act is answered by a compound: 0 where it brings a change
+abbrev pub deciding_interval : History → Act → ℕ
+deciding_interval history act =
+    if is_some (change_by history act) then 0
+    else interval_by (setup_now history.setup history.acts) act (life_at history)
+
 -- what an answer hands out
 abbrev pub handed_out : (moment interval : ℕ) → AnswerValue → List Sent
-handed_out moment interval (Ok step) = sent_with moment interval step.out
+handed_out moment interval (Ok step) = sent_with moment interval (is_some step.changed) step.out
 handed_out moment interval (Err refusal) = []
 
 -- ---- What a session counts

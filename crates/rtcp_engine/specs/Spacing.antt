@@ -1,9 +1,10 @@
 -- How far apart the compounds of a participant lie, and how large they are. Lists are newest first, and moments
 -- and intervals are in microseconds.
-use Rattle.std.specs.Prelude.{ℕ, ◌≡◌, ◌+◌, ◌-◌, ◌*◌, ◌/◌, ◌≤◌, Bool, true, false, List, [], ◌∷◌, length, filter, All, Option, Some, None}
+use Rattle.std.specs.Prelude.{ℕ, ◌≡◌, ◌+◌, ◌-◌, ◌*◌, ◌/◌, ◌≤◌, ◌&&◌, not, Bool, true, false, List, [], ◌∷◌, length, filter, All, Option, Some, None}
 use Rattle.std.specs.Option.{option_or}
 use Rattle.rtcp_engine.specs.Setups.{is_within}
-use Rattle.rtcp_engine.specs.Acts.{Act, rtcp_came, rtp_came, rtp_sent, ticked, left}
+use Rattle.rtcp_engine.specs.Acts.{Act, rtcp_came, rtp_came, rtp_sent, ticked, left, renamed}
+use Rattle.rtcp_engine.specs.Identities.{most_changes}
 use Rattle.rtcp_engine.specs.Histories.{History}
 use Rattle.rtcp_engine.specs.Sent.{Sent, is_report, reports_in, sent_at}
 
@@ -35,11 +36,12 @@ count_within from width reports = length (filter (is_between from (from + width)
 -- ---- Leaving
 
 abbrev pub leave_moment : Act → Option ℕ
-leave_moment (rtcp_came moment size reading) = None
-leave_moment (rtp_came moment reading) = None
+leave_moment (rtcp_came moment peer word size reading) = None
+leave_moment (rtp_came moment peer word reading) = None
 leave_moment (rtp_sent moment timestamp octets) = None
 leave_moment (ticked moment first_word second_word) = None
 leave_moment (left moment word) = Some moment
+leave_moment (renamed moment peer ssrc) = None
 
 -- the moment of the first leave, if there was one
 abbrev pub first_leave : List Act → Option ℕ
@@ -51,11 +53,23 @@ abbrev pub IsLate : (leave : Option ℕ) → Sent → Type 0
 IsLate None bye = ⊥
 IsLate (Some leave) bye = HalfPasses leave bye.moment bye.interval
 
--- Only the newest compound may be a BYE: there is at most one, and nothing comes after it.
+-- the BYE with which the participant leaves
+abbrev pub is_last_bye : Sent → Bool
+is_last_bye sent = not (is_report sent) && not sent.changes
+
+-- the BYE of an identifier that was given up
+abbrev pub is_change_bye : Sent → Bool
+is_change_bye sent = not (is_report sent) && sent.changes
+
+-- Only the newest compound may be the BYE of leaving: there is at most one, and nothing comes after it.
 abbrev pub EndsWithBye : (leave : Option ℕ) → List Sent → Type 0
 EndsWithBye leave [] = Unit {0}
 EndsWithBye leave (newest ∷ earlier) =
-    All (λ sent. is_report sent ≡ true) earlier × (is_report newest ≡ false → IsLate leave newest)
+    All (λ sent. is_last_bye sent ≡ false) earlier × (is_last_bye newest ≡ true → IsLate leave newest)
+
+-- At most eight identifiers are given up with a BYE.
+abbrev pub HasFewChanges : List Sent → Type 0
+HasFewChanges sent = length (filter is_change_bye sent) ≤ most_changes
 
 -- ---- Sizes
 
@@ -72,4 +86,5 @@ pub record KeepsBounds (history : History) : Type 0 where
   pub window : (from width : ℕ) →
       count_within from width (reports_in (sent_at history)) ≤ 1 + width / 2052074
   pub leaves_once : EndsWithBye (first_leave history.acts) (sent_at history)
+  pub few_changes : HasFewChanges (sent_at history)
   pub limit : AllFit history.setup.limit (sent_at history)

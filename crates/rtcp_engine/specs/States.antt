@@ -1,19 +1,22 @@
 -- What a participant keeps of its history: a table and a few numbers, and its phase.
-use Rattle.std.specs.Prelude.{ℕ, ◌≡◌, ◌≤◌, ◌<◌, ◌^◌, length, Option}
+use Rattle.std.specs.Prelude.{ℕ, ◌≡◌, ◌≤◌, ◌<◌, ◌^◌, List, ◌∷◌, length, map as map_list, Option}
 use Rattle.std.specs.FinMap as map
 use Rattle.rtcp_members.specs.Tables.{TableValue, HasFew, StandsAt as IsTableAt}
 use Rattle.rtcp_timer.specs.Schedules.{Timing}
+use Rattle.rtcp_engine.specs.declared.changes.Change.{Change}
 use Rattle.rtcp_engine.specs.Setups.{Setup, IsUsable}
+use Rattle.rtcp_engine.specs.Identities.{call_count, identifiers, peers_listed, setup_now}
 use Rattle.rtcp_engine.specs.OwnValues.{OwnValue, own_of}
 use Rattle.rtcp_engine.specs.Outcomes.{Outcome, average_size, timing_of}
 use Rattle.rtcp_engine.specs.Reporting.{last_reported_in}
-use Rattle.rtcp_engine.specs.Histories.{History, outcome_at}
+use Rattle.rtcp_engine.specs.Histories.{History}
 use Rattle.rtcp_engine.specs.Presence.{last_moment}
 use Rattle.rtcp_engine.specs.Leaving.{Life, present, backing_off, gone, leaving_count, leaving_timing, leaving_average}
 use Rattle.rtcp_engine.specs.Lives.{life_at}
 use Rattle.rtcp_engine.specs.Taken.{IsHistory}
 
 pub record State : Type 0 where
+  -- under the present identifier
   pub setup : Setup
   pub table : TableValue
   pub timing : Timing
@@ -52,13 +55,22 @@ pub record Agrees (state : State) (outcome : Outcome) : Type 0 where
   pub cursor : state.cursor ≡ last_reported_in outcome.trace
   pub reports : state.reports ≡ length outcome.reports
 
--- A participant that takes part equals the one computed from a history without a leave.
+-- A participant that takes part equals the one computed from its history.
 pub record IsPresentAt (state : State) (history : History) : Type 0 where
   pub is_history : IsHistory history
-  pub setup : state.setup ≡ history.setup
-  pub agrees : Agrees state (outcome_at history)
+  pub setup : state.setup ≡ setup_now history.setup history.acts
+  pub outcome : Outcome
+  pub life : life_at history ≡ present outcome
+  pub agrees : Agrees state outcome
   pub last : state.last ≡ last_moment history.acts
-  pub calls : state.calls ≡ length history.acts
+  pub calls : state.calls ≡ call_count history.acts
+
+-- In a backoff the table and the own stream stand still: they are those of the outcome at the leave.
+pub record StandsStill (state : State) (outcome : Outcome) : Type 0 where
+  pub table : IsTableAt state.table outcome.trace
+  pub capacity : state.table.capacity ≡ state.setup.capacity
+  pub rate : state.table.rate ≡ state.setup.rate
+  pub own : state.own ≡ own_of outcome.own
 
 -- What holds of every participant that takes part or did.
 pub record IsSound (state : State) : Type 0 where
@@ -88,6 +100,8 @@ pub data PhaseValue : Type 0 where
 pub record ParticipantValue : Type 0 where
   pub presence : State
   pub phase : PhaseValue
+  -- its changes of identifier, newest first
+  pub changes : List Change
 
 -- What holds of a phase: the number of those who leave has 16 bits.
 abbrev pub IsCounted : PhaseValue → Type 0
@@ -102,12 +116,20 @@ IsAt participant (backing_off outcome backoff) =
     (participant.phase ≡ leaving (leaving_count backoff))
     × (participant.presence.timing ≡ leaving_timing backoff)
     × (participant.presence.average ≡ leaving_average participant.presence.setup backoff.farewells)
+    × StandsStill participant.presence outcome
 IsAt participant (gone outcome) = participant.phase ≡ over
+
+-- The changes of identifier are those of the acts: whose datagrams brought them, and the identifiers that were given
+-- up for the present one.
+pub record HasChanged (changes : List Change) (ssrc : ℕ) (history : History) : Type 0 where
+  pub peers : map_list (λ change. change.peer) changes ≡ peers_listed history.acts
+  pub identifiers_are : ssrc ∷ map_list (λ change. change.former) changes ≡ identifiers history.setup history.acts
 
 -- A participant equals the one computed from a whole history, or *stands at* it.
 pub record StandsAt (participant : ParticipantValue) (history : History) : Type 0 where
   pub is_history : IsHistory history
-  pub setup : participant.presence.setup ≡ history.setup
+  pub setup : participant.presence.setup ≡ setup_now history.setup history.acts
+  pub changes : HasChanged participant.changes participant.presence.setup.ssrc history
   pub life : IsAt participant (life_at history)
   pub last : participant.presence.last ≡ last_moment history.acts
-  pub calls : participant.presence.calls ≡ length history.acts
+  pub calls : participant.presence.calls ≡ call_count history.acts

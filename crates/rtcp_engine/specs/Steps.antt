@@ -16,6 +16,8 @@ pub record StepValue : Type 0 where
   pub senders : ℕ
   -- the moment to ask again
   pub next : Option ℕ
+  -- the new identifier, where the call changed it
+  pub changed : Option ℕ
 
 abbrev pub AnswerValue : Type 0
 AnswerValue = Result StepValue Refusal

@@ -6,7 +6,7 @@ use Rattle.rtcp_members.specs.Traces.{Horizons, horizons_at, check_made}
 use Rattle.rtcp_report.specs.Traced.{with_blocks}
 use Rattle.rtcp_timer.specs.Schedules.{transmitted, tried, recounted}
 use Rattle.rtcp_engine.specs.Setups.{Setup}
-use Rattle.rtcp_engine.specs.OwnStreams.{check_passed}
+use Rattle.rtcp_engine.specs.OwnStreams.{check_passed, report_sent}
 use Rattle.rtcp_engine.specs.Outcomes.{Outcome, member_count, interval_at, receiver_interval_at, timing_of}
 use Rattle.rtcp_engine.specs.Reporting.{reported_at, report_octets}
 
@@ -51,6 +51,7 @@ abbrev pub with_report : Setup → (t : ℕ) → Outcome → Outcome
 with_report setup t outcome =
     record outcome {
       trace = with_blocks (reported_at setup t outcome) outcome.trace;
+      own = report_sent ∷ outcome.own;
       sizes = length (report_octets setup t outcome) ∷ outcome.sizes;
       reports = record {
         moment = t;

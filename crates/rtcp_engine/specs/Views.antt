@@ -1,5 +1,5 @@
 -- What the crate's types say, as values of the definitions.
-use Rattle.std.specs.Prelude.{List, [], ◌∷◌, map, option_map, Result, Ok, Err}
+use Rattle.std.specs.Prelude.{ℕ, ◌<◌, ◌^◌, length, List, [], ◌∷◌, map, option_map, Result, Ok, Err}
 use Rattle.rtcp_report.specs.Views.{item_value}
 use Rattle.rtcp_engine.specs.declared.config.Config.{Config}
 use Rattle.rtcp_engine.specs.declared.participant.Phase.{Phase}
@@ -7,10 +7,13 @@ use Rattle.rtcp_engine.specs.declared.participant.Phase.TheVariants.{Present, Ba
 use Rattle.rtcp_engine.specs.declared.refusal.Refusal.{Refusal}
 use Rattle.rtcp_engine.specs.declared.step.Out.{Out}
 use Rattle.rtcp_engine.specs.declared.step.Step.{Step}
+use Rattle.rtcp_engine.specs.declared.arrival.Arrival.{Arrival}
+use Rattle.rtcp_engine.specs.declared.arrival.Arrival.TheVariants.{Rtcp, Rtp}
 use Rattle.rtcp_engine.specs.declared.event.Event.{Event}
 use Rattle.rtcp_engine.specs.declared.event.Event.TheVariants.{ArriveRtcp, ArriveRtp, SentRtp, Tick, Leave}
 use Rattle.rtcp_engine.specs.Setups.{Setup}
-use Rattle.rtcp_engine.specs.Acts.{Act, EventValue, rtcp_arrived, rtp_arrived, packet_sent, time_passed, leave_asked, IsActOfEvent}
+use Rattle.rtcp_engine.specs.Acts.{Act, rtcp_came, rtp_came, EventValue, rtcp_arrived, rtp_arrived, packet_sent, time_passed, leave_asked, IsActOfEvent}
+use Rattle.rtcp_engine.specs.Changes.{named_by}
 use Rattle.rtcp_engine.specs.Steps.{OutValue, StepValue, AnswerValue}
 use Rattle.rtcp_engine.specs.States.{PhaseValue, taking_part, leaving, over}
 
@@ -31,6 +34,22 @@ setup_of config = record {
   ntp_base = config.ntp_base;
 }
 
+-- ---- Arrivals
+
+-- the octets of a compound that came
+abbrev pub size_of : Arrival → ℕ
+size_of (Rtcp compound size) = size
+size_of (Rtp head) = 0
+
+-- the act of a datagram that was read
+abbrev pub act_of : (moment peer word : ℕ) → Arrival → Act
+act_of moment peer word (Rtcp compound size) = rtcp_came moment peer word size (Ok compound)
+act_of moment peer word (Rtp head) = rtp_came moment peer word (Ok head)
+
+-- A datagram that was read names fewer than 2^16 sources, as it has fewer octets.
+abbrev pub NamesFewer : Arrival → Type 0
+NamesFewer arrival = (moment peer word : ℕ) → length (named_by (act_of moment peer word arrival)) < 2 ^ 16
+
 -- ---- Answers
 
 abbrev pub out_value : Out → OutValue
@@ -42,6 +61,7 @@ step_value step = record {
   members = step.members;
   senders = step.senders;
   next = step.next;
+  changed = step.changed;
 }
 
 abbrev pub answer_value : Result Step Refusal → AnswerValue
@@ -51,8 +71,8 @@ answer_value (Err refusal) = Err refusal
 -- ---- Events
 
 abbrev pub event_value : Event → EventValue
-event_value (ArriveRtcp now bytes) = rtcp_arrived now bytes.now
-event_value (ArriveRtp now bytes) = rtp_arrived now bytes.now
+event_value (ArriveRtcp now peer word bytes) = rtcp_arrived now peer word bytes.now
+event_value (ArriveRtp now peer word bytes) = rtp_arrived now peer word bytes.now
 event_value (SentRtp now timestamp octets) = packet_sent now timestamp octets
 event_value (Tick now first_word second_word) = time_passed now first_word second_word
 event_value (Leave now word) = leave_asked now word

@@ -7,6 +7,10 @@ pub enum Event<'a> {
     ArriveRtcp {
         /// When the datagram came.
         now: u64,
+        /// A number for where it came from, which two peers do not share.
+        peer: u64,
+        /// A random word, for a new SSRC.
+        w: u32,
         /// The octets of the datagram.
         bytes: &'a [u8],
     },
@@ -14,6 +18,10 @@ pub enum Event<'a> {
     ArriveRtp {
         /// When the datagram came.
         now: u64,
+        /// A number for where it came from, which two peers do not share.
+        peer: u64,
+        /// A random word, for a new SSRC.
+        w: u32,
         /// The octets of the datagram.
         bytes: &'a [u8],
     },

@@ -1,7 +1,7 @@
 //! Laws of the definitions of a participant's answers. Each is an empty function whose postcondition is the
 //! law; `proofs/LawLemmas` has a lemma of its name, or one for each clause.
 
-ghost use Rattle.std.specs.Prelude.{◌≡◌, ◌↔◌, ◌≤◌, max, ℕ, ◌+◌, ◌*◌, ◌/◌, ◌%◌, All, map, List, [], ◌∷◌, ◌++◌, length, slice_get, Option, Some, None, Result};
+ghost use Rattle.std.specs.Prelude.{◌≡◌, ◌↔◌, ◌≤◌, max, ℕ, ◌+◌, ◌*◌, ◌/◌, ◌%◌, All, map, List, [], ◌∷◌, ◌++◌, length, slice_get, Option, Some, None, Result, false};
 ghost use Rattle.rtcp_wire.specs.Values.{ItemValue, RtcpPacket};
 ghost use Rattle.rtcp_wire.specs.RtpHeads.{RtpValue};
 ghost use Rattle.rtcp_wire.specs.declared.fault.WireFault.{WireFault};
@@ -22,10 +22,11 @@ ghost use Rattle.rtcp_engine.specs.Histories.{History};
 ghost use Rattle.rtcp_engine.specs.Leaving.{Backoff, present, backing_off, leaving_timing};
 ghost use Rattle.rtcp_engine.specs.Presence.{with_act};
 ghost use Rattle.rtcp_engine.specs.Lives.{life_at};
-ghost use Rattle.rtcp_engine.specs.Answers.{refusal_after, answer_of, followed_by};
+ghost use Rattle.rtcp_engine.specs.Answers.{refusal_after, answer_of, followed_by, with_change_of};
+ghost use Rattle.rtcp_engine.specs.Changes.{change_by};
 ghost use Rattle.rtcp_engine.specs.Taken.{IsHistory};
-ghost use Rattle.rtcp_engine.specs.Sent.{reports_in, interval_by, sent_at, handed_out, reports_of, counted_report};
-ghost use Rattle.rtcp_engine.specs.Spacing.{newest_moment, AreSpaced, count_within, first_leave, EndsWithBye, AllFit};
+ghost use Rattle.rtcp_engine.specs.Sent.{reports_in, deciding_interval, is_change, sent_at, handed_out, reports_of, counted_report};
+ghost use Rattle.rtcp_engine.specs.Spacing.{newest_moment, AreSpaced, count_within, first_leave, EndsWithBye, HasFewChanges, AllFit};
 ghost use Rattle.rtcp_engine.specs.InTime.{AllInTime};
 ghost use Rattle.rtcp_engine.specs.declared.refusal.Refusal.{Refusal as Reason};
 
@@ -46,12 +47,14 @@ pub fn usable_is_unrefused()
     ensures { (setup : Setup) → IsUsable setup ↔ (error_in setup ≡ None) }
 {}
 
-/// An act that is refused changes nothing of a history, and one that is taken becomes its newest.
+/// An act that is refused changes nothing of a history, and one that is taken becomes its newest, after the change
+/// of identifier that it brings, if it does.
 pub fn refused_acts_are_forgotten()
     ensures refused { (history : History) (act : Act) (reason : Reason) →
         refusal_after history act ≡ Some reason → followed_by history act ≡ history }
     ensures taken { (history : History) (act : Act) →
-        refusal_after history act ≡ None → followed_by history act ≡ with_act history act }
+        refusal_after history act ≡ None →
+        followed_by history act ≡ with_act (with_change_of (change_by history act) history) act }
 {}
 
 /// The participant sends since a moment exactly where its newest packet was sent then, and no check since has
@@ -61,11 +64,11 @@ pub fn own_sending_lasts()
         (sending_since own ≡ Some moment) ↔ IsSendingSince own moment }
 {}
 
-/// What was sent over a session is what its answers handed out, each compound at the moment of its act.
+/// What was sent over a session is what its answers handed out, each compound at the moment of its act. (A change
+/// of identifier is no act of a host: it stands in the answer to the datagram that brought it.)
 pub fn answers_hand_out_compounds()
-    ensures { (history : History) (act : Act) → sent_at (followed_by history act)
-        ≡ handed_out (moment_of act) (interval_by history.setup act (life_at history)) (answer_of history act)
-        ++ sent_at history }
+    ensures { (history : History) (act : Act) → is_change act ≡ false → sent_at (followed_by history act)
+        ≡ handed_out (moment_of act) (deciding_interval history act) (answer_of history act) ++ sent_at history }
 {}
 
 /// The reports that a session counts, for its minimum interval and for the turns of its extra items, are those
@@ -80,8 +83,9 @@ pub fn sent_reports_are_counted()
 pub fn last_lies_after_what_was_sent()
     ensures present { (history : History) (outcome : Outcome) → IsHistory history →
         life_at history ≡ present outcome →
-        IsBetween (newest_moment (sent_at history))
-        (max (newest_moment (sent_at history)) (last_departure outcome.happenings)) (timing_of outcome).last }
+        IsBetween (newest_moment (reports_in (sent_at history)))
+        (max (newest_moment (reports_in (sent_at history))) (last_departure outcome.happenings))
+        (timing_of outcome).last }
     ensures backing_off { (history : History) (outcome : Outcome) (backoff : Backoff) → IsHistory history →
         life_at history ≡ backing_off outcome backoff →
         IsBetween backoff.since (max backoff.since (last_departure backoff.happenings))
@@ -91,8 +95,8 @@ pub fn last_lies_after_what_was_sent()
 /// Whatever a participant is told, and whenever: two successive reports lie at least half the interval then
 /// computed for the later one apart, over 1.21828, and none comes before 1,026,037 microseconds; so in a window
 /// of some width at most one report more lies than 2,052,074 microseconds fit into it (RFC 3550, 6.3.1, 6.3.6).
-/// A BYE is the last compound, and after a backoff it comes no sooner than half its interval after the leave,
-/// over 1.21828 (6.3.7). No compound passes the limit.
+/// The BYE of leaving is the last compound, and after a backoff it comes no sooner than half its interval after the leave,
+/// over 1.21828 (6.3.7). At most eight identifiers are given up with a BYE (8.2). No compound passes the limit.
 pub fn sent_compounds_keep_apart()
     ensures spaced { (history : History) → IsHistory history → AreSpaced (reports_in (sent_at history)) }
     ensures first { (history : History) → IsHistory history →
@@ -101,6 +105,7 @@ pub fn sent_compounds_keep_apart()
         count_within from width (reports_in (sent_at history)) ≤ 1 + width / 2052074 }
     ensures leaves_once { (history : History) → IsHistory history →
         EndsWithBye (first_leave history.acts) (sent_at history) }
+    ensures few_changes { (history : History) → IsHistory history → HasFewChanges (sent_at history) }
     ensures limit { (history : History) → IsHistory history → AllFit history.setup.limit (sent_at history) }
 {}
 

@@ -3,24 +3,24 @@
 //! clock, opens no socket, draws no random number and does not allocate. What it answers is defined over all
 //! that it was told, and its reports never lie too close together, whatever comes ([`run`] has the promise).
 //!
-//! A host has two sockets, a clock and random words. It hands over what came, asks at `next`, and sends what
-//! comes out:
+//! A host has two sockets, a clock and random words. It hands over what came and from whom, asks at `next`, and
+//! sends the compound of an answer that has one:
 //!
 //! ```
 //! fn serve<T: MemberTable>(host: &mut Host<'_>, participant: &mut Participant<T>, turns: u32) {
 //!     for _ in 0..turns {
 //!         let now = host.now();
-//!         if let Some(datagram) = host.rtcp() {
-//!             let _ = participant.arrive_rtcp(now, datagram);
+//!         if let Some((peer, datagram)) = host.rtcp() {
+//!             let answer = participant.arrive_rtcp(now, peer, host.word(), datagram);
+//!             host.send(answer);
 //!         }
-//!         if let Some(datagram) = host.rtp() {
-//!             let _ = participant.arrive_rtp(now, datagram);
+//!         if let Some((peer, datagram)) = host.rtp() {
+//!             let answer = participant.arrive_rtp(now, peer, host.word(), datagram);
+//!             host.send(answer);
 //!         }
 //!         if participant.next().is_some_and(|next| next <= now) {
 //!             let answer = participant.tick(now, host.word(), host.word());
-//!             if let Ok(Step { out: Some(out), .. }) = answer {
-//!                 host.send(out.bytes.as_slice());
-//!             }
+//!             host.send(answer);
 //!         }
 //!     }
 //! }
@@ -34,7 +34,9 @@
 //! definitions. [`run`] makes the calls of a list of events, and hands on each answer.
 #![tactic(auto)]
 
+mod arrival;
 mod byes;
+mod changes;
 mod config;
 mod event;
 mod extra;

@@ -2,7 +2,7 @@
 
 ghost use Rattle.std.specs.Prelude.{◌≡◌, is_some, option_map};
 ghost use Rattle.rtcp_report.specs.Views.{sent_value};
-ghost use Rattle.rtcp_engine.specs.OwnValues.{no_packets, own_after_packet, own_after_check, timestamp_by, packet_value, sent_by};
+ghost use Rattle.rtcp_engine.specs.OwnValues.{no_packets, own_after_packet, own_after_check, own_after_report, own_anew, timestamp_by, packet_value, sent_by};
 
 use rtcp_clock::{ntp_of, rtp_units};
 use rtcp_report::SrPart;
@@ -25,6 +25,8 @@ pub(crate) struct OwnStream {
     packets: u32,
     /// How many octets of payload were sent, modulo 2^32.
     octets: u32,
+    /// Whether a report or a packet was sent under the present identifier.
+    heard: bool,
 }
 
 impl Model for OwnStream {
@@ -38,6 +40,7 @@ impl Model for OwnStream {
       last = option_map packet_value own.last;
       packets = own.packets;
       octets = own.octets;
+      heard = own.heard;
     } };
 }
 
@@ -51,6 +54,7 @@ impl OwnStream {
             last: None,
             packets: 0,
             octets: 0,
+            heard: false,
         }
     }
 
@@ -62,6 +66,7 @@ impl OwnStream {
         self.last = Some(LastPacket { moment, timestamp });
         self.packets = self.packets.wrapping_add(1);
         self.octets = self.octets.wrapping_add(octets);
+        self.heard = true;
     }
 
     /// The participant is no sender any more if its last packet was sent before `idle`.
@@ -73,11 +78,27 @@ impl OwnStream {
         }
     }
 
-    /// Whether a packet was sent.
-    pub(crate) fn has_sent(&self) -> bool
-        ensures { result ≡ is_some self.now.last }
+    /// Records that a report was sent.
+    pub(crate) fn reported(&mut self)
+        ensures { self.new ≡ own_after_report self.old }
     {
-        self.last.is_some()
+        self.heard = true;
+    }
+
+    /// Begins to count anew, under another identifier. The stream goes on.
+    pub(crate) fn count_anew(&mut self)
+        ensures { self.new ≡ own_anew self.old }
+    {
+        self.packets = 0;
+        self.octets = 0;
+        self.heard = false;
+    }
+
+    /// Whether a report or a packet was sent under the present identifier.
+    pub(crate) fn is_heard(&self) -> bool
+        ensures { result ≡ self.now.heard }
+    {
+        self.heard
     }
 
     /// Whether the participant is a sender.

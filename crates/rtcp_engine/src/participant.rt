@@ -9,6 +9,7 @@ ghost use Rattle.rtcp_engine.specs.declared.config.ConfigError.{ConfigError as E
 ghost use Rattle.rtcp_engine.specs.Acts.{rtcp_came, rtp_came, rtp_sent, ticked, left, IsReading, IsRtpReading};
 ghost use Rattle.rtcp_engine.specs.Answers.{answer_of, followed_by};
 ghost use Rattle.rtcp_engine.specs.Histories.{History};
+ghost use Rattle.rtcp_engine.specs.Identities.{setup_now};
 ghost use Rattle.rtcp_engine.specs.Lives.{life_at, members_in_life, senders_in_life, next_in_life};
 ghost use Rattle.rtcp_engine.specs.Refused.{error_in};
 ghost use Rattle.rtcp_engine.specs.States.{KeepsCapacity, StandsAt};
@@ -17,13 +18,17 @@ ghost use Rattle.rtcp_engine.specs.Spacing.{KeepsBounds};
 ghost use Rattle.rtcp_engine.specs.Taken.{begun};
 ghost use Rattle.rtcp_engine.specs.Views.{setup_of, answer_value};
 
+use crate::arrival::Arrival;
+use crate::changes::Changes;
 use crate::config::{Config, ConfigError};
 use crate::presence::Presence;
 use crate::refusal::Refusal;
 use crate::step::Answer;
 use rtcp_members::MemberTable;
+use rtcp_wire::{Compound, RtpHead};
 use std::marker::Model;
 
+mod arriving;
 mod backoff;
 
 /// The most members with which a BYE goes out at once (RFC 3550, 6.3.7).
@@ -46,6 +51,7 @@ pub(crate) enum Phase {
 pub struct Participant<T: MemberTable> {
     presence: Presence<T>,
     phase: Phase,
+    changes: Changes,
 }
 
 impl<T: MemberTable> Model for Participant<T> {
@@ -57,7 +63,11 @@ impl<T: MemberTable> Model for Participant<T> {
 
     ghost coded = { participant_code };
 
-    ghost view = { λ p. record { presence = p.presence; phase = phase_value p.phase } };
+    ghost view = { λ p. record {
+      presence = p.presence;
+      phase = phase_value p.phase;
+      changes = p.changes.list.items;
+    } };
 
     ghost invariant = { λ p. KeepsCapacity p.presence × IsCounted (phase_value p.phase) };
 }
@@ -78,6 +88,7 @@ impl<T: MemberTable> Participant<T> {
             Ok(presence) => Ok(Participant {
                 presence,
                 phase: Phase::Present,
+                changes: Changes::new(),
             }),
             Err(error) => Err(error),
         }
@@ -86,10 +97,10 @@ impl<T: MemberTable> Participant<T> {
     /// The members of the session, this participant included (RFC 3550, 6.2.1): 0 once it has left.
     pub fn members(&self) -> u32
         ensures { (history : History) → StandsAt self.now history →
-            result ≡ members_in_life history.setup (life_at history) }
+            result ≡ members_in_life (setup_now history.setup history.acts) (life_at history) }
     {
         match self.phase {
-            Phase::Present => self.presence.members(),
+            Phase::Present => self.presence.member_count(),
             Phase::BackingOff(members) => members,
             Phase::Gone => 0,
         }
@@ -98,10 +109,10 @@ impl<T: MemberTable> Participant<T> {
     /// The members that send RTP packets, this participant included where it does.
     pub fn senders(&self) -> u32
         ensures { (history : History) → StandsAt self.now history →
-            result ≡ senders_in_life history.setup (life_at history) }
+            result ≡ senders_in_life (setup_now history.setup history.acts) (life_at history) }
     {
         match self.phase {
-            Phase::Present => self.presence.senders(),
+            Phase::Present => self.presence.sender_count(),
             Phase::BackingOff(_) | Phase::Gone => 0,
         }
     }
@@ -117,53 +128,71 @@ impl<T: MemberTable> Participant<T> {
         }
     }
 
-    /// An RTCP datagram came at the moment `now`, with the octets that UDP carried.
+    /// The SSRC under which the participant takes part, or did last.
+    pub fn ssrc(&self) -> u32
+        ensures { (history : History) → StandsAt self.now history →
+            result ≡ (setup_now history.setup history.acts).ssrc }
+    {
+        self.presence.ssrc()
+    }
+
+    /// An RTCP datagram came at the moment `now`, with the octets that UDP carried. `peer` is a number for where
+    /// it came from, which two peers do not share, and `w` a random word for a new SSRC.
+    ///
+    /// A datagram that names the participant's own SSRC changes it, the first time its peer sends such a one,
+    /// and at most eight times in a session (RFC 3550, 8.2): the answer has the new SSRC, and the BYE of the
+    /// old one, if something was sent under that. The datagram is taken after the change, as any other.
     ///
     /// # Errors
     ///
     /// The first of E1 to E5 and E7 that applies. Then the participant is unchanged.
-    pub fn arrive_rtcp(&mut self, now: u64, bytes: &[u8]) -> Answer
+    pub fn arrive_rtcp(&mut self, now: u64, peer: u64, w: u32, bytes: &[u8]) -> Answer
         ensures answer { (history : History) (reading : Result (List RtcpPacket) Fault) →
             StandsAt self.old history → IsReading bytes.now reading →
-            answer_value result ≡ answer_of history (rtcp_came now (length bytes.now) reading) }
+            answer_value result ≡ answer_of history (rtcp_came now peer w (length bytes.now) reading) }
         ensures stands { (history : History) (reading : Result (List RtcpPacket) Fault) →
             StandsAt self.old history → IsReading bytes.now reading →
-            StandsAt self.new (followed_by history (rtcp_came now (length bytes.now) reading)) }
+            StandsAt self.new (followed_by history (rtcp_came now peer w (length bytes.now) reading)) }
         ensures bounded { (history : History) (reading : Result (List RtcpPacket) Fault) →
             StandsAt self.old history → IsReading bytes.now reading →
-            KeepsBounds (followed_by history (rtcp_came now (length bytes.now) reading)) }
+            KeepsBounds (followed_by history (rtcp_came now peer w (length bytes.now) reading)) }
         ensures within { KeepsCapacity self.new.presence }
         ensures refused { OnErr result (self.new ≡ self.old) }
     {
-        match self.phase {
-            Phase::Present => self.presence.arrive_rtcp(now, bytes),
-            Phase::BackingOff(members) => self.hear_rtcp(now, bytes, members),
-            Phase::Gone => Err(Refusal::Left),
+        if let Some(refusal) = self.refusal(now) {
+            return Err(refusal);
+        }
+        match Compound::read(bytes) {
+            Ok(compound) => self.arrive(now, peer, w, &Arrival::Rtcp(compound, bytes.len())),
+            Err(fault) => Err(Refusal::Wire(fault)),
         }
     }
 
-    /// An RTP datagram came at the moment `now`, with the octets that UDP carried.
+    /// An RTP datagram came at the moment `now`, with the octets that UDP carried. `peer` and `w` are those of
+    /// `arrive_rtcp`, and a packet with the participant's own SSRC changes that as there.
     ///
     /// # Errors
     ///
     /// The first of E1 to E4, E6 and E7 that applies. Then the participant is unchanged.
-    pub fn arrive_rtp(&mut self, now: u64, bytes: &[u8]) -> Answer
+    pub fn arrive_rtp(&mut self, now: u64, peer: u64, w: u32, bytes: &[u8]) -> Answer
         ensures answer { (history : History) (reading : Result RtpValue HeadFault) →
             StandsAt self.old history → IsRtpReading bytes.now reading →
-            answer_value result ≡ answer_of history (rtp_came now reading) }
+            answer_value result ≡ answer_of history (rtp_came now peer w reading) }
         ensures stands { (history : History) (reading : Result RtpValue HeadFault) →
             StandsAt self.old history → IsRtpReading bytes.now reading →
-            StandsAt self.new (followed_by history (rtp_came now reading)) }
+            StandsAt self.new (followed_by history (rtp_came now peer w reading)) }
         ensures bounded { (history : History) (reading : Result RtpValue HeadFault) →
             StandsAt self.old history → IsRtpReading bytes.now reading →
-            KeepsBounds (followed_by history (rtp_came now reading)) }
+            KeepsBounds (followed_by history (rtp_came now peer w reading)) }
         ensures within { KeepsCapacity self.new.presence }
         ensures refused { OnErr result (self.new ≡ self.old) }
     {
-        match self.phase {
-            Phase::Present => self.presence.arrive_rtp(now, bytes),
-            Phase::BackingOff(members) => self.hear_rtp(now, bytes, members),
-            Phase::Gone => Err(Refusal::Left),
+        if let Some(refusal) = self.refusal(now) {
+            return Err(refusal);
+        }
+        match RtpHead::read(bytes) {
+            Ok(head) => self.arrive(now, peer, w, &Arrival::Rtp(head)),
+            Err(fault) => Err(Refusal::Rtp(fault)),
         }
     }
 
@@ -221,8 +250,8 @@ impl<T: MemberTable> Participant<T> {
 
     /// Leaves the session at the moment `now`, with a random word for the draw of a backoff (RFC 3550, 6.3.7).
     ///
-    /// One that sent neither a report nor an RTP packet leaves silently. Else, with at most 50 members, the BYE
-    /// goes out at once. With more the participant backs off, so that not all who leave say so at once: go on
+    /// One that sent neither a report nor an RTP packet under its present SSRC leaves silently. Else, with at
+    /// most 50 members, the BYE goes out at once. With more the participant backs off, so that not all who leave say so at once: go on
     /// with `tick` at `next` until that is `None`. The BYE comes from one of these ticks. A leave in a backoff
     /// changes nothing of it.
     ///

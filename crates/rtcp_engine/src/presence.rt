@@ -4,8 +4,7 @@ ghost use Rattle.std.specs.Prelude.{◌≡◌, ◌↔◌, ◌≤◌, ◌<◌, �
 ghost use Rattle.rtcp_engine.specs.declared.config.ConfigError.{ConfigError as Error};
 ghost use Rattle.rtcp_engine.specs.Refused.{error_in};
 ghost use Rattle.rtcp_engine.specs.Views.{setup_of, out_value, step_value};
-ghost use Rattle.rtcp_engine.specs.Outcomes.{one_if, member_count, sender_count, timing_of};
-ghost use Rattle.rtcp_engine.specs.Histories.{History, outcome_at};
+ghost use Rattle.rtcp_engine.specs.Outcomes.{one_if};
 ghost use Rattle.rtcp_engine.specs.Taken.{begun};
 ghost use Rattle.rtcp_engine.specs.States.{IsPresentAt, KeepsCapacity};
 ghost use Rattle.rtcp_engine.specs.Moves.{members_of, senders_of, load_in, interval_in, step_in, call_refusal};
@@ -22,6 +21,7 @@ use std::marker::Model;
 
 mod arrivals;
 mod leaving;
+mod renaming;
 mod ticks;
 
 /// The greatest moment, in microseconds since the session began: some 35 years.
@@ -31,7 +31,7 @@ const MAX_MOMENT: u64 = 1 << 50;
 const MAX_CALLS: u64 = (1 << 40) - 1;
 
 /// What a participant knows of its session, up to its leave. From then on the members and the own stream stand
-/// still, and average and schedule are those of the backoff.
+/// still, and average and schedule are those of the backoff. The SSRC of `config` is the present one.
 #[derive(Drop)]
 pub(crate) struct Presence<T: MemberTable> {
     config: Config,
@@ -105,21 +105,6 @@ impl<T: MemberTable> Presence<T> {
     }
 
     /// The members of the session, this participant included (RFC 3550, 6.2.1).
-    pub(crate) fn members(&self) -> u32
-        ensures { (history : History) → IsPresentAt self.now history →
-            result ≡ member_count history.setup (outcome_at history) }
-    {
-        self.member_count()
-    }
-
-    /// The members that send RTP packets, this participant included where it does.
-    pub(crate) fn senders(&self) -> u32
-        ensures { (history : History) → IsPresentAt self.now history →
-            result ≡ sender_count history.setup (outcome_at history) }
-    {
-        self.sender_count()
-    }
-
     pub(crate) fn member_count(&self) -> u32
         ensures exact { result ≡ members_of self.now }
         ensures few { result ≤ 1025 }
@@ -128,7 +113,8 @@ impl<T: MemberTable> Presence<T> {
         member_count(&self.table)
     }
 
-    fn sender_count(&self) -> u32
+    /// The members that send RTP packets, this participant included where it does.
+    pub(crate) fn sender_count(&self) -> u32
         ensures { result ≡ senders_of self.now }
     {
         self.table.senders() + one_if_sending(&self.own)
@@ -183,7 +169,7 @@ impl<T: MemberTable> Presence<T> {
     }
 
     /// The answer of a call that was taken.
-    fn step(&self, out: Option<Out>) -> Step
+    pub(crate) fn step(&self, out: Option<Out>) -> Step
         ensures exact { step_value result ≡ step_in self.now (option_map out_value out) }
         ensures within { KeepsCapacity self.now }
     {
@@ -192,6 +178,7 @@ impl<T: MemberTable> Presence<T> {
             members: self.member_count(),
             senders: self.sender_count(),
             next: Some(self.next_moment()),
+            changed: None,
         }
     }
 }

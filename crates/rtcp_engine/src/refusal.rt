@@ -25,7 +25,8 @@ pub enum Refusal {
     /// E6. The RTP datagram has no head that is read (RFC 3550, 5.1): this is its first fault.
     #[error("{0}")]
     Rtp(RtpFault),
-    /// E7. The datagram names the participant's own SSRC (RFC 3550, 8.2).
+    /// E7. The datagram names the participant's own SSRC (RFC 3550, 8.2), and changes it no more: its peer did
+    /// so before, or eight did.
     #[error("datagram names the participant's own SSRC (RFC 3550, 8.2)")]
     OwnSsrc,
 }

@@ -7,7 +7,7 @@ ghost use Rattle.rtcp_engine.specs.Histories.{History};
 ghost use Rattle.rtcp_engine.specs.Answers.{answer_of, answers_to, followed_by, followed_by_all};
 ghost use Rattle.rtcp_engine.specs.Views.{answer_value, IsActOf, AreActsOf};
 ghost use Rattle.rtcp_engine.specs.Sent.{reports_in, sent_at};
-ghost use Rattle.rtcp_engine.specs.Spacing.{AllFit, AreSpaced, EndsWithBye, count_within, first_leave};
+ghost use Rattle.rtcp_engine.specs.Spacing.{AllFit, AreSpaced, EndsWithBye, HasFewChanges, count_within, first_leave};
 ghost use Rattle.rtcp_engine.specs.InTime.{AllInTime};
 ghost use Rattle.rtcp_engine.specs.States.{KeepsCapacity, StandsAt};
 
@@ -33,8 +33,8 @@ pub struct Ran {
 /// answers are those defined over the whole history; the table never passes its capacity, and no compound the
 /// limit; two successive reports lie at least half the interval then computed, over 1.21828, apart, so that in
 /// any window at most one report more lies than 2.052 seconds fit into it; a tick that comes late sends; and
-/// there is at most one BYE, at the end (RFC 3550, 6.2, 6.3). Members that keep falling can put a report off, or
-/// bring it sooner, but never sooner than that.
+/// there is at most one BYE of leaving, at the end, and at most eight of identifiers that are given up (RFC 3550,
+/// 6.2, 6.3, 8.2). Members that keep falling can put a report off, or bring it sooner, but never sooner than that.
 pub fn run<T: MemberTable, S: Sink>(
     participant: &mut Participant<T>,
     events: &[Event<'_>],
@@ -87,11 +87,14 @@ pub fn run<T: MemberTable, S: Sink>(
         AreActsOf events.now acts → let told = followed_by_all history (take result.taken acts) in
         AllInTime told.setup told.word told.acts }
 
-    // There is at most one BYE, nothing comes after it, and after a backoff it comes no sooner than half its
-    // interval after the leave, over 1.21828.
+    // There is at most one BYE of leaving, nothing comes after it, and after a backoff it comes no sooner than half
+    // its interval after the leave, over 1.21828. At most eight identifiers are given up with a BYE.
     ensures leaves_once { (history : History) (acts : List Act) → StandsAt participant.old history →
         AreActsOf events.now acts → let told = followed_by_all history (take result.taken acts) in
         EndsWithBye (first_leave told.acts) (sent_at told) }
+    ensures few_changes { (history : History) (acts : List Act) → StandsAt participant.old history →
+        AreActsOf events.now acts → let told = followed_by_all history (take result.taken acts) in
+        HasFewChanges (sent_at told) }
 {
     let mut taken = 0;
     'events: for event in events {
@@ -120,8 +123,18 @@ fn tell<T: MemberTable>(participant: &mut Participant<T>, event: &Event<'_>) -> 
     ensures refused { OnErr result (participant.new ≡ participant.old) }
 {
     match *event {
-        Event::ArriveRtcp { now, bytes } => participant.arrive_rtcp(now, bytes),
-        Event::ArriveRtp { now, bytes } => participant.arrive_rtp(now, bytes),
+        Event::ArriveRtcp {
+            now,
+            peer,
+            w,
+            bytes,
+        } => participant.arrive_rtcp(now, peer, w, bytes),
+        Event::ArriveRtp {
+            now,
+            peer,
+            w,
+            bytes,
+        } => participant.arrive_rtp(now, peer, w, bytes),
         Event::SentRtp {
             now,
             rtp_ts,

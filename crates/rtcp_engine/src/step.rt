@@ -9,7 +9,8 @@ use rtcp_wire::MAX_COMPOUND;
 pub enum OutKind {
     /// A report (RFC 3550, 6.4).
     Report,
-    /// The participant's goodbye, with an empty report before it (RFC 3550, 6.3.7, 6.6).
+    /// A goodbye, with an empty report before it (RFC 3550, 6.3.7, 6.6): the participant's, or that of an SSRC
+    /// that it gives up (8.2).
     Bye,
 }
 
@@ -25,7 +26,8 @@ pub struct Out {
 /// What a call that was taken answers.
 #[derive(Debug, Drop)]
 pub struct Step {
-    /// A compound to send now, if there is one. Only a tick and a leave hand one out.
+    /// A compound to send now, if there is one. A datagram brings one where it changes the identifier
+    /// (`changed`): the BYE of the old one.
     pub out: Option<Out>,
     /// The members of the session, the participant included (RFC 3550, 6.2.1). In a backoff it and one for each
     /// BYE packet that came, at most 65,535 (6.3.7); 0 once it has left.
@@ -35,6 +37,8 @@ pub struct Step {
     /// When to call `tick` next, in microseconds since the session began, or `None` once the participant has
     /// left. It may lie before the moment of the call: then a report or the BYE is overdue.
     pub next: Option<u64>,
+    /// The participant's new SSRC, where the call changed it (RFC 3550, 8.2).
+    pub changed: Option<u32>,
 }
 
 /// A step, or why the call was refused.

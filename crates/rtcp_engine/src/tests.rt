@@ -5,6 +5,7 @@ use rtcp_wire::{Compound, FaultReason, RtpFault, WireFault};
 use std::process::Abort;
 use std::test::*;
 
+mod changes;
 mod configs;
 mod damage;
 mod floods;
@@ -16,4 +17,4 @@ mod runs;
 mod session;
 mod sorted;
 
-use session::{REPORT, Session, config, fill_with_byes};
+use session::{BYE, OURS, REPORT, Session, bye_of, config, fill_with_byes, report_of};

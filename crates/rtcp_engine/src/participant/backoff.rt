@@ -1,24 +1,23 @@
 //! A participant that leaves, and what it does until its BYE is sent (RFC 3550, 6.3.7).
 
-ghost use Rattle.std.specs.Prelude.{◌≡◌, ◌<◌, ◌^◌, ℕ, List, Result, Option, None, length, option_map, OnErr};
-ghost use Rattle.rtcp_wire.specs.declared.fault.WireFault.{WireFault as Fault};
-ghost use Rattle.rtcp_wire.specs.declared.rtp.fault.RtpFault.{RtpFault as HeadFault};
-ghost use Rattle.rtcp_wire.specs.Values.{RtcpPacket};
-ghost use Rattle.rtcp_wire.specs.RtpHeads.{RtpValue};
-ghost use Rattle.rtcp_engine.specs.Acts.{Act, rtcp_came, rtp_came, ticked, left, moment_of, IsReading, IsRtpReading};
-ghost use Rattle.rtcp_engine.specs.Answers.{answer_of, followed_by};
+ghost use Rattle.std.specs.Prelude.{◌≡◌, ◌≤◌, ◌<◌, ◌-◌, ◌^◌, ℕ, None, length, option_map, OnErr};
+ghost use Rattle.rtcp_engine.specs.Acts.{Act, ticked, left, moment_of};
+ghost use Rattle.rtcp_engine.specs.Answers.{answer_of, followed_by, step_with};
 ghost use Rattle.rtcp_engine.specs.Histories.{History};
-ghost use Rattle.rtcp_engine.specs.Leaving.{bye_octets};
+ghost use Rattle.rtcp_engine.specs.Reporting.{bye_octets};
 ghost use Rattle.rtcp_engine.specs.Lives.{bye_out, PassesBy};
-ghost use Rattle.rtcp_engine.specs.Moves.{last_step_with, waiting_step_in};
+ghost use Rattle.rtcp_engine.specs.Moves.{last_step_with, members_with, waiting_step_in, with_farewell_in};
+ghost use Rattle.rtcp_engine.specs.Presence.{with_act};
 ghost use Rattle.rtcp_engine.specs.States.{KeepsCapacity, StandsAt, taking_part, leaving};
-ghost use Rattle.rtcp_engine.specs.Taken.{HasWords};
-ghost use Rattle.rtcp_engine.specs.Views.{answer_value, out_value, step_value};
+ghost use Rattle.rtcp_engine.specs.Taken.{HasWords, WasTaken};
+ghost use Rattle.rtcp_engine.specs.Views.{act_of, answer_value, out_value, size_of, step_value};
 
 use super::{FEW_MEMBERS, Participant, Phase};
+use crate::arrival::Arrival;
 use crate::byes::{MAX_LEAVING, count_byes};
 use crate::step::{Answer, Out, OutKind, Step};
 use rtcp_members::MemberTable;
+use rtcp_wire::Compound;
 
 impl<T: MemberTable> Participant<T> {
     /// Leaves: silently, with a BYE at once, or into a backoff.
@@ -48,45 +47,46 @@ impl<T: MemberTable> Participant<T> {
         Ok(self.waiting_step(1))
     }
 
-    /// An RTCP datagram came: its BYE packets count, and nothing else.
-    pub(super) fn hear_rtcp(&mut self, now: u64, bytes: &[u8], members: u32) -> Answer
+    /// Takes a datagram: the BYE packets of a compound count, and nothing else.
+    pub(super) fn hear(&mut self, now: u64, arrival: &Arrival<'_>, members: u32) -> Step
         requires phase { self.old.phase ≡ leaving members }
-        ensures answer { (history : History) (reading : Result (List RtcpPacket) Fault) →
-            StandsAt self.old history → IsReading bytes.now reading →
-            answer_value result ≡ answer_of history (rtcp_came now (length bytes.now) reading) }
-        ensures stands { (history : History) (reading : Result (List RtcpPacket) Fault) →
-            StandsAt self.old history → IsReading bytes.now reading →
-            StandsAt self.new (followed_by history (rtcp_came now (length bytes.now) reading)) }
+        requires order { self.old.presence.last ≤ now }
+        requires moment { now ≤ 2 ^ 50 }
+        requires calls { self.old.presence.calls < 2 ^ 40 - 1 }
+        requires size { size_of arrival.now ≤ 65535 }
+        ensures step { (history : History) (peer word : ℕ) → StandsAt self.old history →
+            let act = act_of now peer word arrival.now in
+            WasTaken history.setup history.word history.acts act → HasWords act →
+            step_value result ≡ step_with None None history act }
+        ensures stands { (history : History) (peer word : ℕ) → StandsAt self.old history →
+            let act = act_of now peer word arrival.now in
+            WasTaken history.setup history.word history.acts act → HasWords act →
+            StandsAt self.new (with_act history act) }
         ensures within { KeepsCapacity self.new.presence }
-        ensures refused { OnErr result (self.new ≡ self.old) }
     {
-        let compound = self.presence.admit_compound(now, bytes)?;
         self.presence.take_call(now);
-        let byes = count_byes(compound.packets());
-        if byes == 0 {
-            return Ok(self.waiting_step(members));
-        }
-        self.presence.hear_farewell(bytes.len());
-        let members = MAX_LEAVING.min(members + byes);
-        self.phase = Phase::BackingOff(members);
-        Ok(self.waiting_step(members))
+        let members = match arrival {
+            Arrival::Rtcp(compound, size) => self.count_farewell(compound, *size, members),
+            Arrival::Rtp(_) => members,
+        };
+        self.waiting_step(members)
     }
 
-    /// An RTP datagram came: it counts for nothing.
-    pub(super) fn hear_rtp(&mut self, now: u64, bytes: &[u8], members: u32) -> Answer
+    /// Counts the BYE packets of a compound, which moves the average if it has some. With them, so many leave.
+    fn count_farewell(&mut self, compound: &Compound<'_>, size: usize, members: u32) -> u32
         requires phase { self.old.phase ≡ leaving members }
-        ensures answer { (history : History) (reading : Result RtpValue HeadFault) →
-            StandsAt self.old history → IsRtpReading bytes.now reading →
-            answer_value result ≡ answer_of history (rtp_came now reading) }
-        ensures stands { (history : History) (reading : Result RtpValue HeadFault) →
-            StandsAt self.old history → IsRtpReading bytes.now reading →
-            StandsAt self.new (followed_by history (rtp_came now reading)) }
-        ensures within { KeepsCapacity self.new.presence }
-        ensures refused { OnErr result (self.new ≡ self.old) }
+        requires size { size ≤ 65535 }
+        ensures members { result ≡ members_with compound.now members }
+        ensures new { self.new ≡ with_farewell_in compound.now size members self.old }
     {
-        let _head = self.presence.admit_head(now, bytes)?;
-        self.presence.take_call(now);
-        Ok(self.waiting_step(members))
+        let byes = count_byes(compound.packets());
+        if byes == 0 {
+            return members;
+        }
+        self.presence.hear_farewell(size);
+        let members = MAX_LEAVING.min(members + byes);
+        self.phase = Phase::BackingOff(members);
+        members
     }
 
     /// Takes a call that counts for nothing.
@@ -146,12 +146,13 @@ impl<T: MemberTable> Participant<T> {
             members,
             senders: 0,
             next: Some(self.presence.next_moment()),
+            changed: None,
         }
     }
 }
 
 /// The answer of the call with which the participant is gone.
-fn last_step(out: Option<Out>) -> Step
+pub(super) fn last_step(out: Option<Out>) -> Step
     ensures { step_value result ≡ last_step_with (option_map out_value out) }
 {
     Step {
@@ -159,5 +160,6 @@ fn last_step(out: Option<Out>) -> Step
         members: 0,
         senders: 0,
         next: None,
+        changed: None,
     }
 }

@@ -1,7 +1,7 @@
 //! What a participant does as it leaves (RFC 3550, 6.3.7).
 
 ghost use Rattle.std.specs.Prelude.{◌≡◌, ◌≤◌, ◌<◌, ◌-◌, ◌*◌, ◌^◌, length};
-ghost use Rattle.rtcp_engine.specs.Leaving.{bye_octets};
+ghost use Rattle.rtcp_engine.specs.Reporting.{bye_octets};
 ghost use Rattle.rtcp_engine.specs.Moves.{backed_off, backoff_interval, backoff_load, has_waited, is_unheard_in, waited, with_call, with_farewell_of};
 
 use super::Presence;
@@ -23,11 +23,11 @@ impl<T: MemberTable> Presence<T> {
         self.calls += 1;
     }
 
-    /// Whether neither a report nor an RTP packet was sent.
+    /// Whether neither a report nor an RTP packet was sent under the present SSRC.
     pub(crate) fn is_unheard(&self) -> bool
         ensures { result ≡ is_unheard_in self.now }
     {
-        self.reports == 0 && !self.own.has_sent()
+        !self.own.is_heard()
     }
 
     /// The compound with the participant's BYE.

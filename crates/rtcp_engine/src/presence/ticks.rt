@@ -7,7 +7,8 @@ ghost use Rattle.rtcp_report.specs.Sizes.{reported_rows, report_of};
 ghost use Rattle.rtcp_engine.specs.Setups.{IsUsable};
 ghost use Rattle.rtcp_engine.specs.Acts.{ticked};
 ghost use Rattle.rtcp_engine.specs.Histories.{History};
-ghost use Rattle.rtcp_engine.specs.Presence.{present_answer, present_after, report_out};
+ghost use Rattle.rtcp_engine.specs.Answers.{answer_of, followed_by};
+ghost use Rattle.rtcp_engine.specs.Presence.{report_out};
 ghost use Rattle.rtcp_engine.specs.Views.{setup_of, answer_value, out_value};
 ghost use Rattle.rtcp_engine.specs.States.{IsPresentAt, KeepsCapacity};
 ghost use Rattle.rtcp_engine.specs.Moves.{reporter_by, with_call, checked, with_report, octets_in, reported, after_check_at, report_at, receiver_interval_in};
@@ -37,9 +38,10 @@ impl<T: MemberTable> Presence<T> {
     /// The first of E2 to E4 that applies. Then the participant is unchanged.
     pub(crate) fn tick(&mut self, now: u64, w1: u32, w2: u32) -> Answer
         ensures answer { (history : History) → IsPresentAt self.old history →
-            answer_value result ≡ present_answer history (ticked now w1 w2) }
+            answer_value result ≡ answer_of history (ticked now w1 w2) }
         ensures stands { (history : History) → IsPresentAt self.old history →
-            IsPresentAt self.new (present_after history (ticked now w1 w2)) }
+            IsPresentAt self.new (followed_by history (ticked now w1 w2)) }
+        ensures identifier { self.new.setup ≡ self.old.setup }
         ensures within { KeepsCapacity self.new }
         ensures refused { OnErr result (self.new ≡ self.old) }
     {
@@ -134,6 +136,7 @@ impl<T: MemberTable> Presence<T> {
         );
         self.reports = number;
         self.average.add(bytes.len() as u32);
+        self.own.reported();
         bytes
     }
 }

@@ -11,11 +11,14 @@ const NAMED: &[u8] = &[
 /// An RTP packet of source 9.
 const PACKET: &[u8] = &[0x80, 0, 0, 10, 0, 0, 0, 0, 0, 0, 0, 9];
 
-/// A receiver report of the participant.
-const OURS: &[u8] = &[0x80, 0xc9, 0, 1, 0, 0, 0, 0xaa];
+/// A receiver report of the participant's first SSRC, which makes it 000000ab.
+const OURS_AT_FIRST: &[u8] = &[0x80, 0xc9, 0, 1, 0, 0, 0, 0xaa];
 
-/// An RTP packet of the participant.
-const OUR_PACKET: &[u8] = &[0x80, 0, 0, 1, 0, 0, 0, 0, 0, 0, 0, 0xaa];
+/// A receiver report of the participant from then on.
+const OURS: &[u8] = &[0x80, 0xc9, 0, 1, 0, 0, 0, 0xab];
+
+/// An RTP packet of it.
+const OUR_PACKET: &[u8] = &[0x80, 0, 0, 1, 0, 0, 0, 0, 0, 0, 0, 0xab];
 
 /// Datagrams to damage: some are read whole, and some have a fault already.
 static SAMPLES: [&[u8]; 17] = [
@@ -93,6 +96,7 @@ pub(crate) fn present<T: MemberTable + Drop>(rt: &impl Abort) {
     let harmed = Session::new(rt, small());
     let spared = Session::new(rt, small());
     let mut pair = Pair::<T>::new(harmed, spared, 0, true);
+    pair.change_ssrc(rt);
     pair.damage_samples(rt);
     assert_eq!(rt; pair.damaged, REFUSED);
     assert_eq!(rt; pair.sent, 1_049);
@@ -113,10 +117,12 @@ pub(crate) fn backing_off<T: MemberTable + Drop>(rt: &impl Abort) {
     let harmed = leaving::backing_off::<T>(rt);
     let spared = leaving::backing_off::<T>(rt);
     let mut pair = Pair::new(harmed, spared, 10_000_000, false);
+    pair.change_ssrc(rt);
+    assert_eq!(rt; pair.sent, 1);
     pair.damage_samples(rt);
     assert_eq!(rt; pair.damaged, REFUSED);
     pair.wait(rt);
-    assert_eq!(rt; pair.sent, 1);
+    assert_eq!(rt; pair.sent, 2);
     pair.harmed.is_gone(rt);
 }
 
@@ -131,6 +137,14 @@ impl<T: MemberTable + Drop> Pair<T> {
             damaged: (0, 0),
             sent: 0,
         }
+    }
+
+    /// Both change their SSRC, as the peer that sends all datagrams names it. So from now on what names it is
+    /// refused.
+    fn change_ssrc(&mut self, rt: &impl Abort) {
+        let now = self.now;
+        self.tell_both(rt, came(now, OURS_AT_FIRST));
+        assert_eq!(rt; self.harmed.participant.ssrc(), 0xab);
     }
 
     /// Damages each sample. What is whole is a sample that is read, or else the named report.
@@ -154,25 +168,18 @@ impl<T: MemberTable + Drop> Pair<T> {
         self.refuse_moment(rt, before, whole, Refusal::Backwards);
         self.refuse_moment(rt, (1 << 50) + 1, whole, Refusal::TooFar);
         let now = self.later();
-        let ours = self.harm(rt, Event::ArriveRtcp { now, bytes: OURS }, whole);
+        let ours = self.harm(rt, came(now, OURS), whole);
         assert!(rt; ours == Some(Refusal::OwnSsrc));
         let now = self.later();
-        let ours = self.harm(
-            rt,
-            Event::ArriveRtp {
-                now,
-                bytes: OUR_PACKET,
-            },
-            whole,
-        );
+        let ours = self.harm(rt, packet_came(now, OUR_PACKET), whole);
         assert!(rt; ours == Some(Refusal::OwnSsrc));
     }
 
     /// Each call at a moment for which it is refused.
     fn refuse_moment(&mut self, rt: &impl Abort, now: u64, whole: &[u8], refusal: Refusal) {
         for event in [
-            Event::ArriveRtcp { now, bytes: NAMED },
-            Event::ArriveRtp { now, bytes: PACKET },
+            came(now, NAMED),
+            packet_came(now, PACKET),
             Event::SentRtp {
                 now,
                 rtp_ts: 0,
@@ -215,17 +222,11 @@ impl<T: MemberTable + Drop> Pair<T> {
     /// A datagram comes as RTCP, and as RTP.
     fn come(&mut self, rt: &impl Abort, bytes: &[u8], whole: &[u8]) {
         let now = self.later();
-        if self
-            .harm(rt, Event::ArriveRtcp { now, bytes }, whole)
-            .is_some()
-        {
+        if self.harm(rt, came(now, bytes), whole).is_some() {
             self.damaged.0 = self.damaged.0.saturating_add(1);
         }
         let now = self.later();
-        if self
-            .harm(rt, Event::ArriveRtp { now, bytes }, whole)
-            .is_some()
-        {
+        if self.harm(rt, packet_came(now, bytes), whole).is_some() {
             self.damaged.1 = self.damaged.1.saturating_add(1);
         }
     }
@@ -265,7 +266,7 @@ impl<T: MemberTable + Drop> Pair<T> {
         let [high, low] = ((self.refused / 4 % 65_536) as u16).to_be_bytes();
         let packet = [0x80, 0, high, low, 0, 0, 0, 0, 0, 0, 0, 9];
         match self.refused % 4 {
-            0 => self.tell_both(rt, Event::ArriveRtcp { now, bytes: whole }),
+            0 => self.tell_both(rt, came(now, whole)),
             1 => self.tell_both(
                 rt,
                 Event::SentRtp {
@@ -274,13 +275,7 @@ impl<T: MemberTable + Drop> Pair<T> {
                     octets: 160,
                 },
             ),
-            2 => self.tell_both(
-                rt,
-                Event::ArriveRtp {
-                    now,
-                    bytes: &packet,
-                },
-            ),
+            2 => self.tell_both(rt, packet_came(now, &packet)),
             _ => self.tell_both(rt, Event::Tick { now, w1: 0, w2: 0 }),
         }
     }
@@ -310,6 +305,7 @@ impl<T: MemberTable + Drop> Pair<T> {
         assert_eq!(rt; step.members, other.members);
         assert_eq!(rt; step.senders, other.senders);
         assert!(rt; step.next == other.next);
+        assert!(rt; step.changed == other.changed);
         match (step.out, other.out) {
             (Some(out), Some(other)) => {
                 assert!(rt; out.kind == other.kind);
@@ -319,6 +315,26 @@ impl<T: MemberTable + Drop> Pair<T> {
             (None, None) => {}
             _ => panic!(rt; "one of them hands something out"),
         }
+    }
+}
+
+/// An RTCP datagram of the one peer.
+fn came(now: u64, bytes: &[u8]) -> Event<'_> {
+    Event::ArriveRtcp {
+        now,
+        peer: 1,
+        w: 0xab,
+        bytes,
+    }
+}
+
+/// An RTP datagram of that peer.
+fn packet_came(now: u64, bytes: &[u8]) -> Event<'_> {
+    Event::ArriveRtp {
+        now,
+        peer: 1,
+        w: 0xab,
+        bytes,
     }
 }
 
@@ -336,8 +352,18 @@ fn counts<T: MemberTable>(session: &Session<T>) -> (u32, u32, Option<u64>) {
 fn tell<T: MemberTable>(session: &mut Session<T>, event: Event<'_>) -> Answer {
     let participant = &mut session.participant;
     match event {
-        Event::ArriveRtcp { now, bytes } => participant.arrive_rtcp(now, bytes),
-        Event::ArriveRtp { now, bytes } => participant.arrive_rtp(now, bytes),
+        Event::ArriveRtcp {
+            now,
+            peer,
+            w,
+            bytes,
+        } => participant.arrive_rtcp(now, peer, w, bytes),
+        Event::ArriveRtp {
+            now,
+            peer,
+            w,
+            bytes,
+        } => participant.arrive_rtp(now, peer, w, bytes),
         Event::SentRtp {
             now,
             rtp_ts,

@@ -18,14 +18,14 @@ impl<'a> Host<'a> {
         self.now
     }
 
-    /// The next RTCP datagram.
-    fn rtcp(&mut self) -> Option<&'a [u8]> {
-        self.rtcp.take()
+    /// The next RTCP datagram, and its peer.
+    fn rtcp(&mut self) -> Option<(u64, &'a [u8])> {
+        self.rtcp.take().map(|datagram| (1, datagram))
     }
 
-    /// The next RTP datagram.
-    fn rtp(&mut self) -> Option<&'a [u8]> {
-        self.rtp.take()
+    /// The next RTP datagram, and its peer.
+    fn rtp(&mut self) -> Option<(u64, &'a [u8])> {
+        self.rtp.take().map(|datagram| (1, datagram))
     }
 
     /// A random word.
@@ -33,26 +33,28 @@ impl<'a> Host<'a> {
         1 << 31
     }
 
-    /// Sends a datagram to the other participants.
-    fn send(&mut self, datagram: &[u8]) {
-        let _ = self.sent.try_push(datagram.len());
+    /// Sends the compound of an answer, if it has one, to the other participants.
+    fn send(&mut self, answer: Answer) {
+        if let Ok(Step { out: Some(out), .. }) = answer {
+            let _ = self.sent.try_push(out.bytes.len());
+        }
     }
 }
 
 fn serve<T: MemberTable>(host: &mut Host<'_>, participant: &mut Participant<T>, turns: u32) {
     for _ in 0..turns {
         let now = host.now();
-        if let Some(datagram) = host.rtcp() {
-            let _ = participant.arrive_rtcp(now, datagram);
+        if let Some((peer, datagram)) = host.rtcp() {
+            let answer = participant.arrive_rtcp(now, peer, host.word(), datagram);
+            host.send(answer);
         }
-        if let Some(datagram) = host.rtp() {
-            let _ = participant.arrive_rtp(now, datagram);
+        if let Some((peer, datagram)) = host.rtp() {
+            let answer = participant.arrive_rtp(now, peer, host.word(), datagram);
+            host.send(answer);
         }
         if participant.next().is_some_and(|next| next <= now) {
             let answer = participant.tick(now, host.word(), host.word());
-            if let Ok(Step { out: Some(out), .. }) = answer {
-                host.send(out.bytes.as_slice());
-            }
+            host.send(answer);
         }
     }
 }

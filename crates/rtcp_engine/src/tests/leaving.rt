@@ -7,6 +7,11 @@ const GOODBYE_OF_OURS: [u8; 16] = [
     0x80, 0xc9, 0x00, 0x01, 0x00, 0x00, 0x00, 0x01, 0x81, 0xcb, 0x00, 0x01, 0x00, 0x00, 0x00, 0xaa,
 ];
 
+/// The same with SSRC 000000ab.
+const GOODBYE_OF_AB: [u8; 16] = [
+    0x80, 0xc9, 0x00, 0x01, 0x00, 0x00, 0x00, 0x01, 0x81, 0xcb, 0x00, 0x01, 0x00, 0x00, 0x00, 0xab,
+];
+
 /// A session in which the participant sent a report, and in which sources 1 to `others` give their names at
 /// 10,000,000.
 fn reported<T: MemberTable + Drop>(rt: &impl Abort, others: u8) -> Session<T> {
@@ -185,11 +190,15 @@ pub(crate) fn passed_by<T: MemberTable + Drop>(rt: &impl Abort) {
 /// What is refused in a backoff changes nothing of it.
 pub(crate) fn refused<T: MemberTable + Drop>(rt: &impl Abort) {
     let mut session = backing_off::<T>(rt);
+    let ours = [0x80, 0, 0, 1, 0, 0, 0, 0, 0, 0, 0, 0xaa];
     session
-        .rtcp(10_000_000, &GOODBYE_OF_OURS)
+        .rtp_from(10_000_000, 1, 0xab, &ours)
+        .changes(rt, 0xab, (1, 0, 11_026_037), &BYE);
+    session
+        .rtcp(10_000_000, &GOODBYE_OF_AB)
         .refused(rt, Refusal::OwnSsrc);
     session
-        .packet(10_000_000, 0xaa, 1)
+        .packet(10_000_000, 0xab, 1)
         .refused(rt, Refusal::OwnSsrc);
     session
         .goodbye(9_999_999, 1)
@@ -199,7 +208,9 @@ pub(crate) fn refused<T: MemberTable + Drop>(rt: &impl Abort) {
         .tick((1 << 50) + 1, 0, 0)
         .refused(rt, Refusal::TooFar);
     session.leave(9_999_999, 0).refused(rt, Refusal::Backwards);
-    session.tick(11_026_037, 0, 0).says_bye(rt);
+    session
+        .tick(11_026_037, 0, 0)
+        .says_bye_of(rt, &bye_of(0xab));
 }
 
 /// The average of a backoff is that of compounds with BYE packets: one of 404 octets with 99 of them moves it

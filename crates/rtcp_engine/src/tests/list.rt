@@ -171,3 +171,58 @@ fn after_a_fall(rt: HostRuntime) {
 fn crowd_leaves(rt: HostRuntime) {
     floods::crowd_leaves::<ListTable>(&rt);
 }
+
+#[test]
+fn once_a_peer(rt: HostRuntime) {
+    changes::once_a_peer::<ListTable>(&rt);
+}
+
+#[test]
+fn after_a_report(rt: HostRuntime) {
+    changes::after_a_report::<ListTable>(&rt);
+}
+
+#[test]
+fn silent_leave(rt: HostRuntime) {
+    changes::silent_leave::<ListTable>(&rt);
+}
+
+#[test]
+fn counts_anew(rt: HostRuntime) {
+    changes::counts_anew::<ListTable>(&rt);
+}
+
+#[test]
+fn eight(rt: HostRuntime) {
+    changes::eight::<ListTable>(&rt);
+}
+
+#[test]
+fn in_the_table(rt: HostRuntime) {
+    changes::in_the_table::<ListTable>(&rt);
+}
+
+#[test]
+fn in_the_datagram(rt: HostRuntime) {
+    changes::in_the_datagram::<ListTable>(&rt);
+}
+
+#[test]
+fn around(rt: HostRuntime) {
+    changes::around::<ListTable>(&rt);
+}
+
+#[test]
+fn moves_average(rt: HostRuntime) {
+    changes::moves_average::<ListTable>(&rt);
+}
+
+#[test]
+fn in_a_backoff(rt: HostRuntime) {
+    changes::in_a_backoff::<ListTable>(&rt);
+}
+
+#[test]
+fn counts_byes(rt: HostRuntime) {
+    changes::counts_byes::<ListTable>(&rt);
+}

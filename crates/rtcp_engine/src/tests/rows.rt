@@ -126,16 +126,20 @@ pub(crate) fn full<T: MemberTable + Drop>(rt: &impl Abort) {
     session.named(0, 2).is(rt, 3, 0, 1_026_037);
     session.named(0, 3).is(rt, 3, 0, 1_026_037);
     let goodbye = [0x80, 0xc9, 0, 1, 0, 0, 0, 1, 0x81, 0xcb, 0, 1, 0, 0, 0, 1];
-    let left = session.participant.arrive_rtcp(1_000_000, &goodbye);
+    let left = session.participant.arrive_rtcp(1_000_000, 1, 0, &goodbye);
     assert!(rt; left.is_ok());
     assert_eq!(rt; session.participant.members(), 2);
-    let late = session.participant.arrive_rtcp(1_000_000, &REPORT_OF_3);
+    let late = session
+        .participant
+        .arrive_rtcp(1_000_000, 1, 0, &REPORT_OF_3);
     assert!(rt; late.is_ok());
     assert_eq!(rt; session.participant.members(), 2);
     session
         .tick(6_000_000, 1 << 31, 1 << 31)
         .sends(rt, 2, 0, 10_104_147, &REPORT);
-    let back = session.participant.arrive_rtcp(6_000_000, &REPORT_OF_3);
+    let back = session
+        .participant
+        .arrive_rtcp(6_000_000, 1, 0, &REPORT_OF_3);
     assert!(rt; back.is_ok());
     assert_eq!(rt; session.participant.members(), 3);
 }
@@ -164,7 +168,10 @@ pub(crate) fn last_moments<T: MemberTable + Drop>(rt: &impl Abort) {
 /// What is refused changes nothing.
 pub(crate) fn refused<T: MemberTable + Drop>(rt: &impl Abort) {
     let mut session = Session::<T>::usual(rt);
-    let own = [0x80, 0xc9, 0, 1, 0, 0, 0, 0xaa];
+    session
+        .rtcp_from(0, 1, 0xab, &OURS)
+        .changes(rt, 0xab, (1, 0, 1_026_037), &[]);
+    let own = [0x80, 0xc9, 0, 1, 0, 0, 0, 0xab];
     session.rtcp(9, &own).refused(rt, Refusal::OwnSsrc);
     let short = WireFault {
         reason: FaultReason::Short,
@@ -175,12 +182,12 @@ pub(crate) fn refused<T: MemberTable + Drop>(rt: &impl Abort) {
     session
         .rtp(9, &reserved)
         .refused(rt, Refusal::Rtp(RtpFault::PayloadType));
-    session.packet(9, 0xaa, 1).refused(rt, Refusal::OwnSsrc);
+    session.packet(9, 0xab, 1).refused(rt, Refusal::OwnSsrc);
     // So the last moment is still 0, and the average that of the start.
     session.tick(0, 0, 0).is(rt, 1, 0, 1_026_037);
     session
         .tick(1_026_037, 0, 0)
-        .sends(rt, 1, 0, 3_078_111, &REPORT);
+        .sends(rt, 1, 0, 3_078_111, &report_of(0xab));
 }
 
 /// The third report carries the extra item.

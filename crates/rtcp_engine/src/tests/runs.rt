@@ -45,7 +45,10 @@ fn tick(now: u64) -> Event<'static> {
 #[test]
 fn every_kind(rt: HostRuntime) {
     let mut session = Session::<ListTable>::usual(&rt);
-    let own = [0x80, 0xc9, 0, 1, 0, 0, 0, 0xaa];
+    session
+        .rtcp_from(0, 1, 0xab, &OURS)
+        .changes(&rt, 0xab, (1, 0, 1_026_037), &[]);
+    let own = [0x80, 0xc9, 0, 1, 0, 0, 0, 0xab];
     let packet = [0x80, 0, 0, 1, 0, 0, 0, 0, 0, 0, 0, 9];
     let events = [
         Event::SentRtp {
@@ -55,10 +58,14 @@ fn every_kind(rt: HostRuntime) {
         },
         Event::ArriveRtcp {
             now: 5,
+            peer: 1,
+            w: 0,
             bytes: &own,
         },
         Event::ArriveRtp {
             now: 5,
+            peer: 1,
+            w: 0,
             bytes: &packet,
         },
         tick(6),

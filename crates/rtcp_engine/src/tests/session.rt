@@ -14,6 +14,25 @@ pub(crate) const BYE: [u8; 28] = [
     0x01, 0x01, 0x61, 0x00, 0x81, 0xcb, 0x00, 0x01, 0x00, 0x00, 0x00, 0xaa,
 ];
 
+/// A receiver report of that participant, without blocks and without a name.
+pub(crate) const OURS: [u8; 8] = [0x80, 0xc9, 0x00, 0x01, 0x00, 0x00, 0x00, 0xaa];
+
+/// The report of a participant whose SSRC is this one below 256, with CNAME `a` and no news.
+pub(crate) fn report_of(ssrc: u8) -> [u8; 20] {
+    [
+        0x80, 0xc9, 0x00, 0x01, 0x00, 0x00, 0x00, ssrc, 0x81, 0xca, 0x00, 0x02, 0x00, 0x00, 0x00,
+        ssrc, 0x01, 0x01, 0x61, 0x00,
+    ]
+}
+
+/// The BYE of that participant.
+pub(crate) fn bye_of(ssrc: u8) -> [u8; 28] {
+    [
+        0x80, 0xc9, 0x00, 0x01, 0x00, 0x00, 0x00, ssrc, 0x81, 0xca, 0x00, 0x02, 0x00, 0x00, 0x00,
+        ssrc, 0x01, 0x01, 0x61, 0x00, 0x81, 0xcb, 0x00, 0x01, 0x00, 0x00, 0x00, ssrc,
+    ]
+}
+
 /// A configuration with SSRC 000000aa, CNAME `a`, 400 octets of RTCP a second and a clock of 8,000 units a
 /// second.
 pub(crate) fn config() -> Config {
@@ -84,14 +103,24 @@ impl<T: MemberTable> Session<T> {
         assert!(rt; self.participant.next().is_none());
     }
 
-    /// An RTCP datagram.
+    /// An RTCP datagram of peer 1, with the word 0.
     pub(crate) fn rtcp(&mut self, now: u64, bytes: &[u8]) -> Seen {
-        answered(self.participant.arrive_rtcp(now, bytes))
+        self.rtcp_from(now, 1, 0, bytes)
     }
 
-    /// An RTP datagram.
+    /// An RTCP datagram of a peer, with a word.
+    pub(crate) fn rtcp_from(&mut self, now: u64, peer: u64, w: u32, bytes: &[u8]) -> Seen {
+        answered(self.participant.arrive_rtcp(now, peer, w, bytes))
+    }
+
+    /// An RTP datagram of peer 1, with the word 0.
     pub(crate) fn rtp(&mut self, now: u64, bytes: &[u8]) -> Seen {
-        answered(self.participant.arrive_rtp(now, bytes))
+        self.rtp_from(now, 1, 0, bytes)
+    }
+
+    /// An RTP datagram of a peer, with a word.
+    pub(crate) fn rtp_from(&mut self, now: u64, peer: u64, w: u32, bytes: &[u8]) -> Seen {
+        answered(self.participant.arrive_rtp(now, peer, w, bytes))
     }
 
     /// A named compound of a source below 256.
@@ -135,6 +164,7 @@ impl Seen {
         match self.answer {
             Ok(step) => {
                 assert!(rt; step.out.is_none());
+                assert!(rt; step.changed.is_none());
                 assert_eq!(rt; step.members, members);
                 assert_eq!(rt; step.senders, senders);
                 assert!(rt; step.next == Some(next));
@@ -154,6 +184,7 @@ impl Seen {
     ) {
         match self.answer {
             Ok(step) => {
+                assert!(rt; step.changed.is_none());
                 assert_eq!(rt; step.members, members);
                 assert_eq!(rt; step.senders, senders);
                 assert!(rt; step.next == Some(next));
@@ -163,6 +194,26 @@ impl Seen {
                         assert!(rt; out.bytes.as_slice() == octets);
                     }
                     None => panic!(rt; "there is nothing to send"),
+                }
+            }
+            Err(_) => panic!(rt; "the call is refused"),
+        }
+    }
+
+    /// The call was taken, and the participant has a new SSRC. These are the counts and the next moment, and the BYE
+    /// of the old one, if one is to be sent.
+    pub(crate) fn changes(self, rt: &impl Abort, ssrc: u32, counts: (u32, u32, u64), bye: &[u8]) {
+        match self.answer {
+            Ok(step) => {
+                assert!(rt; step.changed == Some(ssrc));
+                assert!(rt; (step.members, step.senders) == (counts.0, counts.1));
+                assert!(rt; step.next == Some(counts.2));
+                match step.out {
+                    Some(out) => {
+                        assert!(rt; out.kind == OutKind::Bye);
+                        assert!(rt; out.bytes.as_slice() == bye);
+                    }
+                    None => assert!(rt; bye.is_empty()),
                 }
             }
             Err(_) => panic!(rt; "the call is refused"),
@@ -186,6 +237,7 @@ impl Seen {
     fn last(self, rt: &impl Abort) -> Option<Out> {
         match self.answer {
             Ok(step) => {
+                assert!(rt; step.changed.is_none());
                 assert_eq!(rt; step.members, 0);
                 assert_eq!(rt; step.senders, 0);
                 assert!(rt; step.next.is_none());
@@ -202,10 +254,15 @@ impl Seen {
 
     /// The participant is gone, and its BYE is to be sent.
     pub(crate) fn says_bye(self, rt: &impl Abort) {
+        self.says_bye_of(rt, &BYE);
+    }
+
+    /// The participant is gone, and this BYE is to be sent.
+    pub(crate) fn says_bye_of(self, rt: &impl Abort, bye: &[u8]) {
         match self.last(rt) {
             Some(out) => {
                 assert!(rt; out.kind == OutKind::Bye);
-                assert!(rt; out.bytes.as_slice() == BYE.as_slice());
+                assert!(rt; out.bytes.as_slice() == bye);
             }
             None => panic!(rt; "there is nothing to send"),
         }

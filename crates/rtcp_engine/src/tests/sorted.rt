@@ -178,3 +178,58 @@ fn after_a_fall(rt: HostRuntime) {
 fn crowd_leaves(rt: HostRuntime) {
     floods::crowd_leaves::<SortedTable>(&rt);
 }
+
+#[test]
+fn once_a_peer(rt: HostRuntime) {
+    changes::once_a_peer::<SortedTable>(&rt);
+}
+
+#[test]
+fn after_a_report(rt: HostRuntime) {
+    changes::after_a_report::<SortedTable>(&rt);
+}
+
+#[test]
+fn silent_leave(rt: HostRuntime) {
+    changes::silent_leave::<SortedTable>(&rt);
+}
+
+#[test]
+fn counts_anew(rt: HostRuntime) {
+    changes::counts_anew::<SortedTable>(&rt);
+}
+
+#[test]
+fn eight(rt: HostRuntime) {
+    changes::eight::<SortedTable>(&rt);
+}
+
+#[test]
+fn in_the_table(rt: HostRuntime) {
+    changes::in_the_table::<SortedTable>(&rt);
+}
+
+#[test]
+fn in_the_datagram(rt: HostRuntime) {
+    changes::in_the_datagram::<SortedTable>(&rt);
+}
+
+#[test]
+fn around(rt: HostRuntime) {
+    changes::around::<SortedTable>(&rt);
+}
+
+#[test]
+fn moves_average(rt: HostRuntime) {
+    changes::moves_average::<SortedTable>(&rt);
+}
+
+#[test]
+fn in_a_backoff(rt: HostRuntime) {
+    changes::in_a_backoff::<SortedTable>(&rt);
+}
+
+#[test]
+fn counts_byes(rt: HostRuntime) {
+    changes::counts_byes::<SortedTable>(&rt);
+}

@@ -5,7 +5,7 @@ use Rattle.rtcp_engine.specs.Steps.{AnswerValue}
 use Rattle.rtcp_engine.specs.Answers.{answer_of, answers_to, followed_by_all}
 use Rattle.rtcp_engine.specs.Views.{answer_value}
 use Rattle.rtcp_engine.specs.States.{StandsAt}
-use Rattle.rtcp_engine.proofs.LawLemmas.{sent_compounds_keep_apart-spaced, sent_compounds_keep_apart-first, sent_compounds_keep_apart-window, sent_compounds_keep_apart-leaves_once, sent_compounds_keep_apart-limit, sends_in_time}
+use Rattle.rtcp_engine.proofs.LawLemmas.{sent_compounds_keep_apart-spaced, sent_compounds_keep_apart-first, sent_compounds_keep_apart-window, sent_compounds_keep_apart-leaves_once, sent_compounds_keep_apart-few_changes, sent_compounds_keep_apart-limit, sends_in_time}
 use Rattle.rtcp_engine.proofs.OneMore.{answers_more, followed_more, next_act, of_no_error}
 use Rattle.rtcp_engine.proofs.runs.run.Goals as goal
 
@@ -79,3 +79,9 @@ events-preserved g c =
           subst (λ (hs : History). StandsAt c.tell-answer.new.participant hs) (sym (ap (followed_by_all history) next.more ∙ followed_more history (take c.events.taken acts) next.act))
           (c.tell-answer.ensures.stands told next.act (c.events.invariant.stands history acts h are) (next.is_act _));
     }
+
+pub returns-then-is_err-clause-few_changes : goal.returns-then-is_err-clause-few_changes
+returns-then-is_err-clause-few_changes g c history acts h are = sent_compounds_keep_apart-few_changes _ (returns-then-is_err-clause-stands g c history acts h are).is_history
+
+pub returns-clause-few_changes : goal.returns-clause-few_changes
+returns-clause-few_changes g c history acts h are = sent_compounds_keep_apart-few_changes _ (c.events.invariant.stands history acts h are).is_history

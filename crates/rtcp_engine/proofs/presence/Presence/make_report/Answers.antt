@@ -20,4 +20,4 @@ invariant_of-self g c =
       fewer = fewer;
       few = c.self.invariant.calls;
     } in
-    kept c.self.invariant (content c.write_report-bytes.new.table) inside.schedule c.add.new.self inside.own c.write_report-bytes.new.cursor (inside.reports + 1) inside.last inside.calls is_kept in_step
+    kept c.self.invariant (content c.write_report-bytes.new.table) inside.schedule c.add.new.self c.reported.new.self c.write_report-bytes.new.cursor (inside.reports + 1) inside.last inside.calls is_kept in_step

@@ -1,9 +1,10 @@
 use Rattle.std.proofs.Common.{◌≡◌, ◌∙◌, ap, sym, subst, Ok, option_map}
 use Rattle.rtcp_engine.specs.States.{State, IsPresentAt}
 use Rattle.rtcp_engine.specs.Moves.{step_in, after_check_at, report_at}
-use Rattle.rtcp_engine.specs.Presence.{report_out, present_after}
+use Rattle.rtcp_engine.specs.Presence.{report_out}
+use Rattle.rtcp_engine.specs.Answers.{followed_by}
 use Rattle.rtcp_engine.specs.Acts.{ticked}
-use Rattle.rtcp_engine.proofs.Calls.{after_tick, tick_answer, tick_stands}
+use Rattle.rtcp_engine.proofs.Calls.{after_tick, tick_answer, tick_counts, tick_stands}
 use Rattle.rtcp_engine.proofs.presence.Presence.tick.Given as given
 use Rattle.rtcp_engine.proofs.presence.Presence.tick.Goals as goal
 
@@ -20,5 +21,8 @@ returns-clause-answer g c history h =
 
 pub returns-clause-stands : goal.returns-clause-stands
 returns-clause-stands g c history h =
-    subst (λ (s : State). IsPresentAt s (present_after history (ticked c.args.now c.args.w1 c.args.w2))) (sym (state_is g c))
+    subst (λ (s : State). IsPresentAt s (followed_by history (ticked c.args.now c.args.w1 c.args.w2))) (sym (state_is g c))
     (tick_stands c.args.self.now history c.args.now c.args.w1 c.args.w2 c.ranges.w1.fits c.ranges.w2.fits h (sym c.refusal.ensures.exact ∙ c.in_default.is))
+
+pub returns-clause-identifier : goal.returns-clause-identifier
+returns-clause-identifier g c = ap (λ (s : State). s.setup) (state_is g c) ∙ (tick_counts c.args.self.now c.args.now c.args.w1 c.args.w2).setup

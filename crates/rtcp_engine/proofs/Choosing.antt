@@ -1,0 +1,276 @@
+-- The number of changes, and that a new identifier is a new one.
+use Rattle.std.proofs.Common.{◌≡◌, ℕ, suc, zero, ◌+◌, ◌%◌, ◌^◌, ◌<◌, ◌≤◌, ◌&&◌, ◌||◌, ◌==◌, not, nat_lt, Bool, true, false, cond, List, [], ◌∷◌, ◌++◌, length, filter, is_some, option_map, Option, Some, None, if◌then◌else◌, refl, sym, ap, ◌∙◌, arith}
+use Rattle.std.proofs.lemmas.Bool.{and_parts, eqb-true, ltb-true, ne_eqb, or_right}
+use Rattle.std.proofs.lemmas.List.{length-append}
+use Rattle.std.proofs.lemmas.Map.Made.{length-le_from_is_member}
+use Rattle.std.proofs.lemmas.Cmp.{nat_eq_equiv}
+use Rattle.std.specs.Cmp.{IsEquivalence}
+use Rattle.std.specs.List.{AllByRecursion, IsDistinct, list_any}
+use Rattle.std.specs.Set.{is_member}
+use Rattle.rtcp_members.specs.Traces.{TraceStep, names}
+use Rattle.rtcp_members.specs.Stays.{stay_of}
+use Rattle.rtcp_members.specs.Entries.{entry_at, entry_of}
+use Rattle.rtcp_members.proofs.LawLemmas.{present_were_named_and_fit-named, present_were_named_and_fit-fit}
+use Rattle.rtcp_engine.specs.Setups.{Setup}
+use Rattle.rtcp_engine.specs.Acts.{Act, rtcp_came, rtp_came, rtp_sent, ticked, left, renamed, moment_of}
+use Rattle.rtcp_engine.specs.Identities.{first_free, identifiers, is_among, most_changes, peers_listed, setup_now}
+use Rattle.rtcp_engine.specs.Lives.{life_at, life_of, out_by}
+use Rattle.rtcp_engine.specs.Histories.{History}
+use Rattle.rtcp_engine.specs.Leaving.{Life, present, backing_off, gone}
+use Rattle.rtcp_engine.specs.Changes.{is_in_table, is_taken, most_taken, named_by, new_identifier}
+use Rattle.rtcp_engine.specs.Taken.{WasTaken, AllTaken, IsHistory}
+use Rattle.rtcp_engine.specs.Steps.{OutValue}
+use Rattle.rtcp_engine.specs.Sent.{Sent, interval_by, is_change, is_report, sent_over, sent_with}
+use Rattle.rtcp_engine.specs.Spacing.{is_change_bye}
+
+-- ---- Few changes
+
+few_listed_after : (setup : Setup) (word : ℕ) (earlier : List Act) (act : Act) → WasTaken setup word earlier act → length (peers_listed earlier) ≤ most_changes → length (peers_listed (act ∷ earlier)) ≤ most_changes
+few_listed_after setup word earlier (rtcp_came moment peer drawn size reading) taken few = few
+few_listed_after setup word earlier (rtp_came moment peer drawn reading) taken few = few
+few_listed_after setup word earlier (rtp_sent moment timestamp octets) taken few = few
+few_listed_after setup word earlier (ticked moment first_word second_word) taken few = few
+few_listed_after setup word earlier (left moment drawn) taken few = few
+few_listed_after setup word earlier (renamed moment peer ssrc) taken few =
+    let room = (and_parts (not (is_among (peers_listed earlier) peer)) (nat_lt (length (peers_listed earlier)) most_changes) taken.may).1 in
+    let below = ltb-true (length (peers_listed earlier)) most_changes room in
+    omega (arith, below)
+
+pub few_listed : (setup : Setup) (word : ℕ) (acts : List Act) → AllTaken setup word acts → length (peers_listed acts) ≤ most_changes
+few_listed setup word [] taken = omega arith
+few_listed setup word (act ∷ earlier) taken = few_listed_after setup word earlier act taken.0 (few_listed setup word earlier taken.2)
+
+-- how many peers an act lists
+abbrev listed : (changes : Bool) → ℕ
+listed changes = cond changes 1 0
+
+-- An act sends a BYE of an old identifier only where it is a change.
+one_more : (kept : Bool) (sent : Sent) (others : List Sent) → length (cond kept (sent ∷ others) others) ≤ 1 + length others
+one_more true sent others = omega arith
+one_more false sent others = omega arith
+
+no_more : (kept : Bool) (sent : Sent) (others : List Sent) → kept ≡ false → length (cond kept (sent ∷ others) others) ≤ 0 + length others
+no_more true sent others none = absurd cc
+no_more false sent others none = omega arith
+
+never_both : (b : Bool) → (b && false) ≡ false
+never_both true = refl
+never_both false = refl
+
+few_sent_with : (moment interval : ℕ) (changes : Bool) (out : Option OutValue) (sent : List Sent) → length (filter is_change_bye (sent_with moment interval changes out ++ sent)) ≤ listed changes + length (filter is_change_bye sent)
+few_sent_with moment interval changes None sent = omega arith
+few_sent_with moment interval true (Some out) sent =
+    let bye : Sent = record { moment = moment; interval = interval; out = out; changes = true } in
+    one_more (is_change_bye bye) bye (filter is_change_bye sent)
+few_sent_with moment interval false (Some out) sent =
+    let report : Sent = record { moment = moment; interval = interval; out = out; changes = false } in
+    no_more (is_change_bye report) report (filter is_change_bye sent) (never_both (not (is_report report)))
+
+lists_by : (act : Act) (earlier : List Act) → listed (is_change act) + length (peers_listed earlier) ≡ length (peers_listed (act ∷ earlier))
+lists_by (rtcp_came moment peer drawn size reading) earlier = omega arith
+lists_by (rtp_came moment peer drawn reading) earlier = omega arith
+lists_by (rtp_sent moment timestamp octets) earlier = omega arith
+lists_by (ticked moment first_word second_word) earlier = omega arith
+lists_by (left moment drawn) earlier = omega arith
+lists_by (renamed moment peer ssrc) earlier = omega arith
+
+changes_are_listed : (setup : Setup) (word : ℕ) (acts : List Act) → length (filter is_change_bye (sent_over setup word acts)) ≤ length (peers_listed acts)
+changes_are_listed setup word [] = omega arith
+changes_are_listed setup word (act ∷ earlier) =
+    let now = setup_now setup earlier in
+    let life = life_of setup word earlier in
+    let more = few_sent_with (moment_of act) (interval_by now act life) (is_change act) (out_by now act life) (sent_over setup word earlier) in
+    omega (arith, more, lists_by act earlier, changes_are_listed setup word earlier)
+
+pub few_changes : (setup : Setup) (word : ℕ) (acts : List Act) → AllTaken setup word acts → length (filter is_change_bye (sent_over setup word acts)) ≤ most_changes
+few_changes setup word acts taken = omega (arith, changes_are_listed setup word acts, few_listed setup word acts taken)
+
+-- ---- A new identifier
+
+-- a number and those that follow it, modulo 2^32
+abbrev run_from : (ssrc count : ℕ) → List ℕ
+run_from ssrc zero = []
+run_from ssrc (suc count) = ssrc ∷ run_from ((ssrc + 1) % 2 ^ 32) count
+
+length_run : (ssrc count : ℕ) → length (run_from ssrc count) ≡ count
+length_run ssrc zero = refl
+length_run ssrc (suc count) = ap suc (length_run ((ssrc + 1) % 2 ^ 32) count)
+
+-- none of those that follow a number by less than 2^32 is that number
+others_follow : (first distance ssrc count : ℕ) → first < 2 ^ 32 → ssrc ≡ (first + distance) % 2 ^ 32 → 1 ≤ distance → distance + count ≤ 2 ^ 32
+    → AllByRecursion (λ other. (first == other) ≡ false) (run_from ssrc count)
+others_follow first distance ssrc zero fits is some few = tt
+others_follow first distance ssrc (suc count) fits is some few = (
+  ne_eqb first ssrc (λ same. omega (arith, fits, is, some, few, same)),
+  others_follow first (distance + 1) ((ssrc + 1) % 2 ^ 32) count fits (omega (arith, is)) (omega arith) (omega (arith, few)),
+)
+
+run_is_distinct : (ssrc count : ℕ) → ssrc < 2 ^ 32 → count ≤ 2 ^ 32 → IsDistinct (λ (a b : ℕ). a == b) (run_from ssrc count)
+unfolding IsDistinct
+run_is_distinct ssrc zero fits few = tt
+run_is_distinct ssrc (suc count) fits few = (
+  others_follow ssrc 1 ((ssrc + 1) % 2 ^ 32) count fits refl (omega arith) (omega (arith, few)),
+  run_is_distinct ((ssrc + 1) % 2 ^ 32) count (omega arith) (omega (arith, few)),
+)
+
+-- if what was chosen is taken, all that were tried are
+all_taken : (most : ℕ) (is_taken : ℕ → Bool) (ssrc : ℕ) → is_taken (first_free most is_taken ssrc) ≡ true → AllByRecursion (λ tried. is_taken tried ≡ true) (run_from ssrc (suc most))
+all_taken zero is_taken ssrc taken = (taken, tt)
+all_taken (suc most) is_taken ssrc taken = by_test (is_taken ssrc) refl (all_taken most is_taken ((ssrc + 1) % 2 ^ 32))
+  where
+    false_is_true : false ≡ true → ⊥
+    false_is_true e = cc
+
+    by_test : (b : Bool) → is_taken ssrc ≡ b → (is_taken (first_free most is_taken ((ssrc + 1) % 2 ^ 32)) ≡ true → AllByRecursion (λ tried. is_taken tried ≡ true) (run_from ((ssrc + 1) % 2 ^ 32) (suc most)))
+        → AllByRecursion (λ tried. is_taken tried ≡ true) (run_from ssrc (suc (suc most)))
+    by_test true is others = (is, others (sym (ap (λ (b : Bool). is_taken (if b then first_free most is_taken ((ssrc + 1) % 2 ^ 32) else ssrc)) is) ∙ taken))
+    by_test false is others = absurd (false_is_true (sym is ∙ sym (ap (λ (b : Bool). is_taken (if b then first_free most is_taken ((ssrc + 1) % 2 ^ 32) else ssrc)) is) ∙ taken))
+
+member_is_such : (test : ℕ → Bool) (numbers : List ℕ) (number : ℕ) → AllByRecursion (λ other. test other ≡ true) numbers → is_member (λ (a b : ℕ). a == b) numbers number ≡ true → test number ≡ true
+member_is_such test [] number all is = absurd cc
+member_is_such test (other ∷ others) number all is = by_test (number == other) refl (member_is_such test others number all.1)
+  where
+    by_test : (b : Bool) → (number == other) ≡ b → (is_member (λ (a b : ℕ). a == b) others number ≡ true → test number ≡ true) → test number ≡ true
+    by_test true same later = ap test (eqb-true number other same) ∙ all.0
+    by_test false apart later = later (sym (ap (λ (b : Bool). b || list_any (λ (y : ℕ). number == y) others) apart) ∙ is)
+
+number_equality : IsEquivalence (λ (a b : ℕ). a == b)
+number_equality = nat_eq_equiv
+
+-- Where fewer numbers are taken than are tried, what is chosen is not.
+pub chosen_is_free : (most : ℕ) (is_taken : ℕ → Bool) (ssrc : ℕ) (those : List ℕ) → ssrc < 2 ^ 32 → most < 2 ^ 32 → length those ≤ most
+    → ((number : ℕ) → is_taken number ≡ true → is_member (λ (a b : ℕ). a == b) those number ≡ true) → is_taken (first_free most is_taken ssrc) ≡ false
+chosen_is_free most is_taken ssrc those fits small few are = by_test (is_taken (first_free most is_taken ssrc)) refl
+  where
+    by_test : (b : Bool) → is_taken (first_free most is_taken ssrc) ≡ b → is_taken (first_free most is_taken ssrc) ≡ false
+    by_test false free = free
+    by_test true taken =
+        let all = all_taken most is_taken ssrc taken in
+        let within = length-le_from_is_member number_equality (run_from ssrc (suc most)) those (run_is_distinct ssrc (suc most) fits (omega (arith, small)))
+        (λ number tried. are number (member_is_such is_taken (run_from ssrc (suc most)) number all tried)) in
+        absurd (omega (arith, within, few, length_run ssrc (suc most)))
+
+-- ---- What may be taken
+
+-- the sources of a table
+abbrev held_at : (capacity : ℕ) → List TraceStep → List ℕ
+held_at capacity trace = filter (λ ssrc. is_some (stay_of capacity trace ssrc)) (names trace)
+
+abbrev held_in : Setup → Life → List ℕ
+held_in setup (present outcome) = held_at setup.capacity outcome.trace
+held_in setup (backing_off outcome backoff) = held_at setup.capacity outcome.trace
+held_in setup (gone outcome) = []
+
+few_held : (setup : Setup) (life : Life) → length (held_in setup life) ≤ setup.capacity
+few_held setup (present outcome) = present_were_named_and_fit-fit setup.capacity outcome.trace
+few_held setup (backing_off outcome backoff) = present_were_named_and_fit-fit setup.capacity outcome.trace
+few_held setup (gone outcome) = omega arith
+
+identifiers_counted : (setup : Setup) (acts : List Act) → length (identifiers setup acts) ≡ 1 + length (peers_listed acts)
+identifiers_counted setup [] = refl
+identifiers_counted setup (rtcp_came moment peer drawn size reading ∷ earlier) = identifiers_counted setup earlier
+identifiers_counted setup (rtp_came moment peer drawn reading ∷ earlier) = identifiers_counted setup earlier
+identifiers_counted setup (rtp_sent moment timestamp octets ∷ earlier) = identifiers_counted setup earlier
+identifiers_counted setup (ticked moment first_word second_word ∷ earlier) = identifiers_counted setup earlier
+identifiers_counted setup (left moment drawn ∷ earlier) = identifiers_counted setup earlier
+identifiers_counted setup (renamed moment peer ssrc ∷ earlier) = omega (arith, identifiers_counted setup earlier)
+
+abbrev those_taken : History → Act → List ℕ
+those_taken history act = identifiers history.setup history.acts ++ (held_in history.setup (life_at history) ++ named_by act)
+
+few_taken : (history : History) (act : Act) → AllTaken history.setup history.word history.acts → length (those_taken history act) ≤ most_taken history act
+few_taken history act taken =
+    let own = identifiers history.setup history.acts in
+    let held = held_in history.setup (life_at history) in
+    omega (
+      arith,
+      length-append own (held ++ named_by act),
+      length-append held (named_by act),
+      identifiers_counted history.setup history.acts,
+      few_listed history.setup history.word history.acts taken,
+      few_held history.setup (life_at history),
+    )
+
+-- a number that is among some is among these and others
+among_left : (ones others : List ℕ) (number : ℕ) → is_among ones number ≡ true → is_among (ones ++ others) number ≡ true
+among_left [] others number is = absurd cc
+among_left (one ∷ ones) others number is = by_test (one == number) refl (among_left ones others number)
+  where
+    by_test : (b : Bool) → (one == number) ≡ b → (is_among ones number ≡ true → is_among (ones ++ others) number ≡ true) → ((one == number) || is_among (ones ++ others) number) ≡ true
+    by_test true same later = ap (λ (b : Bool). b || is_among (ones ++ others) number) same
+    by_test false apart later =
+        ap (λ (b : Bool). b || is_among (ones ++ others) number) apart ∙ later (sym (ap (λ (b : Bool). b || is_among ones number) apart) ∙ is)
+
+among_right : (ones others : List ℕ) (number : ℕ) → is_among others number ≡ true → is_among (ones ++ others) number ≡ true
+among_right [] others number is = is
+among_right (one ∷ ones) others number is = or_right (one == number) _ (among_right ones others number is)
+
+held_is_among : (capacity : ℕ) (trace : List TraceStep) (named : List ℕ) (ssrc : ℕ) → is_some (stay_of capacity trace ssrc) ≡ true → is_among named ssrc ≡ true
+    → is_among (filter (λ other. is_some (stay_of capacity trace other)) named) ssrc ≡ true
+held_is_among capacity trace [] ssrc there is = absurd cc
+held_is_among capacity trace (other ∷ others) ssrc there is = by_test (other == ssrc) refl (held_is_among capacity trace others ssrc there)
+  where
+    rest : List ℕ
+    rest = filter (λ other. is_some (stay_of capacity trace other)) others
+
+    by_test : (b : Bool) → (other == ssrc) ≡ b → (is_among others ssrc ≡ true → is_among (filter (λ other. is_some (stay_of capacity trace other)) others) ssrc ≡ true)
+        → is_among (cond (is_some (stay_of capacity trace other)) (other ∷ filter (λ other. is_some (stay_of capacity trace other)) others) (filter (λ other. is_some (stay_of capacity trace other)) others)) ssrc ≡ true
+    by_test true same later =
+        let kept : is_some (stay_of capacity trace other) ≡ true = ap (λ (s : ℕ). is_some (stay_of capacity trace s)) (eqb-true other ssrc same) ∙ there in
+        ap (λ (b : Bool). is_among (cond b (other ∷ rest) rest) ssrc) kept ∙ ap (λ (b : Bool). b || is_among rest ssrc) same
+    by_test false apart later =
+        still (is_some (stay_of capacity trace other)) (later (sym (ap (λ (b : Bool). b || is_among others ssrc) apart) ∙ is))
+      where
+        still : (b : Bool) → is_among rest ssrc ≡ true → is_among (cond b (other ∷ rest) rest) ssrc ≡ true
+        still true is = or_right (other == ssrc) _ is
+        still false is = is
+
+abbrev entry_is_stay : (capacity rate : ℕ) (trace : List TraceStep) (ssrc : ℕ) → is_some (entry_at capacity rate trace ssrc) ≡ is_some (stay_of capacity trace ssrc)
+entry_is_stay capacity rate trace ssrc = mapped (stay_of capacity trace ssrc)
+  where
+    mapped : (stay : Option (List TraceStep)) → is_some (option_map (entry_of rate ssrc) stay) ≡ is_some stay
+    mapped None = refl
+    mapped (Some stay) = refl
+
+in_table_is_held : (setup : Setup) (life : Life) (ssrc : ℕ) → is_in_table setup life ssrc ≡ true → is_among (held_in setup life) ssrc ≡ true
+in_table_is_held setup (present outcome) ssrc is =
+    let there = sym (entry_is_stay setup.capacity setup.rate outcome.trace ssrc) ∙ is in
+    held_is_among setup.capacity outcome.trace (names outcome.trace) ssrc there (present_were_named_and_fit-named setup.capacity outcome.trace ssrc there)
+in_table_is_held setup (backing_off outcome backoff) ssrc is =
+    let there = sym (entry_is_stay setup.capacity setup.rate outcome.trace ssrc) ∙ is in
+    held_is_among setup.capacity outcome.trace (names outcome.trace) ssrc there (present_were_named_and_fit-named setup.capacity outcome.trace ssrc there)
+in_table_is_held setup (gone outcome) ssrc is = absurd cc
+
+taken_is_among : (history : History) (act : Act) (ssrc : ℕ) → is_taken history act ssrc ≡ true → is_among (those_taken history act) ssrc ≡ true
+taken_is_among history act ssrc is = by_own (is_among own ssrc) refl
+  where
+    own : List ℕ
+    own = identifiers history.setup history.acts
+
+    held : List ℕ
+    held = held_in history.setup (life_at history)
+
+    table : Bool
+    table = is_in_table history.setup (life_at history) ssrc
+
+    by_table : (b : Bool) → is_in_table history.setup (life_at history) ssrc ≡ b → (is_in_table history.setup (life_at history) ssrc || is_among (named_by act) ssrc) ≡ true → is_among (held_in history.setup (life_at history) ++ named_by act) ssrc ≡ true
+    by_table true there either = among_left held (named_by act) ssrc (in_table_is_held history.setup (life_at history) ssrc there)
+    by_table false absent either = among_right held (named_by act) ssrc (sym (ap (λ (b : Bool). b || is_among (named_by act) ssrc) absent) ∙ either)
+
+    by_own : (b : Bool) → is_among (identifiers history.setup history.acts) ssrc ≡ b → is_among (those_taken history act) ssrc ≡ true
+    by_own true ours = among_left own (held ++ named_by act) ssrc ours
+    by_own false other =
+        among_right own (held ++ named_by act) ssrc (by_table table refl (sym (ap (λ (b : Bool). b || (table || is_among (named_by act) ssrc)) other) ∙ is))
+
+among_is_member : (numbers : List ℕ) (number : ℕ) → is_among numbers number ≡ is_member (λ (a b : ℕ). a == b) numbers number
+among_is_member numbers number = λ i. list_any (λ (other : ℕ). number_equality.symm other number i) numbers
+
+-- A new identifier is none of the participant's, none of the table's, and none that the datagram names.
+pub new_is_free : (history : History) (act : Act) (word : ℕ) → IsHistory history → word < 2 ^ 32 → length (named_by act) < 2 ^ 31 → is_taken history act (new_identifier word history act) ≡ false
+new_is_free history act word is fits few =
+    chosen_is_free (most_taken history act) (is_taken history act) word (those_taken history act) fits (omega (arith, few, is.usable.capacity.1)) (few_taken history act is.taken)
+    (λ number taken. sym (among_is_member (those_taken history act) number) ∙ taken_is_among history act number taken)
+
+-- Fewer than 2^17 stand in the way, where a datagram names fewer than 2^16.
+pub few_are_taken : (history : History) (act : Act) → IsHistory history → length (named_by act) < 2 ^ 16 → most_taken history act < 2 ^ 17
+few_are_taken history act is few = omega (arith, few, is.usable.capacity.1)

@@ -1,0 +1,173 @@
+-- A change of identifier: what it hands out, and where the participant stands after it.
+use Rattle.std.proofs.Common.{◌≡◌, ℕ, ◌+◌, Bool, true, false, List, [], ◌∷◌, length, Some, None, option_map, is_some, if◌then◌else◌, refl, sym, ap, ◌∙◌, subst, map}
+use Rattle.std.proofs.lemmas.List.{length-append}
+use Rattle.std.proofs.lemmas.List.Concat.{flat_map-append}
+use Rattle.rtcp_wire.specs.Writing.{written, written_all}
+use Rattle.rtcp_report.specs.Reports.{packets_with, receiver_named, goodbye}
+use Rattle.rtcp_report.proofs.LawLemmas.{size_is_that_of_the_octets}
+use Rattle.std.specs.FinMap as finite
+use Rattle.rtcp_members.specs.Entries.{entry_at}
+use Rattle.rtcp_timer.specs.Averages.{average_of, moved_average}
+use Rattle.rtcp_engine.specs.declared.changes.Change.{Change}
+use Rattle.rtcp_engine.specs.Setups.{Setup}
+use Rattle.rtcp_engine.specs.Acts.{renamed}
+use Rattle.rtcp_engine.specs.Identities.{identifiers, named, present_among, setup_now}
+use Rattle.rtcp_engine.specs.OwnStreams.{has_sent, counts_anew}
+use Rattle.rtcp_engine.specs.OwnValues.{OwnValue, own_of, own_anew}
+use Rattle.rtcp_engine.specs.Outcomes.{Outcome}
+use Rattle.rtcp_engine.specs.Histories.{History, with_change}
+use Rattle.rtcp_engine.specs.Reporting.{bye_octets}
+use Rattle.rtcp_engine.specs.Leaving.{Farewell, Backoff, Life, present, backing_off, gone, after_own_bye, counted_anew, leaving_average, leaving_count, leaving_timing}
+use Rattle.rtcp_engine.specs.Lives.{lived, life_at, bye_out, out_by}
+use Rattle.rtcp_engine.specs.Presence.{with_act}
+use Rattle.rtcp_engine.specs.Answers.{out_at}
+use Rattle.rtcp_engine.specs.Changes.{is_in_table}
+use Rattle.rtcp_engine.specs.Taken.{HasWords, WasTaken}
+use Rattle.rtcp_engine.specs.States.{State, Agrees, StandsStill, ParticipantValue, IsAt, StandsAt, leaving, over}
+use Rattle.rtcp_engine.specs.Moves as moves
+use Rattle.rtcp_engine.specs.Moves.{own_bye_in}
+
+-- ---- Sizes
+
+-- A BYE is as long for any identifier.
+pub byes_are_of_one_size : (ssrc : ℕ) (setup : Setup) → length (bye_octets (named ssrc setup)) ≡ length (bye_octets setup)
+byes_are_of_one_size ssrc setup = parts ssrc ∙ sym (parts setup.ssrc)
+  where
+    report : ℕ → List ℕ
+    report id = written_all (packets_with (receiver_named id setup.cname) [])
+
+    parts : (id : ℕ) → length (bye_octets (named id setup)) ≡ Rattle.rtcp_report.specs.Sizes.report_size (receiver_named setup.ssrc setup.cname) 0 + 8
+    parts id =
+        ap length (flat_map-append written (packets_with (receiver_named id setup.cname) []) (goodbye id ∷ []))
+        ∙ length-append (report id) (written_all (goodbye id ∷ []))
+        ∙ ap (λ (n : ℕ). n + 8) (size_is_that_of_the_octets (receiver_named id setup.cname) [])
+
+-- ---- Numbers
+
+own_agrees : (s : State) (own : List Rattle.rtcp_engine.specs.OwnStreams.OwnStep) → s.own ≡ own_of own → own_anew s.own ≡ own_of (counts_anew ∷ own)
+own_agrees s own same = ap own_anew same
+
+heard_agrees : (s : State) (own : List Rattle.rtcp_engine.specs.OwnStreams.OwnStep) → s.own ≡ own_of own → s.own.heard ≡ has_sent own
+heard_agrees s own same = ap (λ (x : OwnValue). x.heard) same
+
+-- the average moves as the list of sizes grows
+sizes_by : (heard : Bool) (first size : ℕ) (sizes : List ℕ) → (if heard then moved_average (average_of first sizes) size else average_of first sizes) ≡ average_of first (if heard then size ∷ sizes else sizes)
+sizes_by true first size sizes = refl
+sizes_by false first size sizes = refl
+
+pub renamed_agrees : (s : State) (o : Outcome) (t ssrc : ℕ) → Agrees s o → Agrees (moves.renamed t ssrc s) (with_change s.setup o)
+renamed_agrees s o t ssrc a = record {
+  table = a.table;
+  capacity = a.capacity;
+  rate = a.rate;
+  timing = a.timing;
+  average = ap (λ (heard : Bool). if heard then moved_average s.average (length (bye_octets s.setup)) else s.average) (heard_agrees s o.own a.own)
+      ∙ ap (λ (n : ℕ). if has_sent o.own then moved_average n (length (bye_octets s.setup)) else n) a.average
+      ∙ sizes_by (has_sent o.own) _ (length (bye_octets s.setup)) o.sizes;
+  own = own_agrees s o.own a.own;
+  cursor = a.cursor;
+  reports = a.reports;
+}
+
+renamed_still : (s : State) (o : Outcome) (t ssrc : ℕ) → StandsStill s o → StandsStill (moves.renamed t ssrc s) (counted_anew o)
+renamed_still s o t ssrc still = record { table = still.table; capacity = still.capacity; rate = still.rate; own = own_agrees s o.own still.own }
+
+-- ---- Backoffs
+
+abbrev with_bye : (heard : Bool) (size : ℕ) → Backoff → Backoff
+with_bye heard size backoff = if heard then record backoff { farewells = record { byes = 0; size = size } ∷ backoff.farewells } else backoff
+
+bye_keeps_count : (heard : Bool) (size : ℕ) (backoff : Backoff) → leaving_count (with_bye heard size backoff) ≡ leaving_count backoff
+bye_keeps_count true size backoff = refl
+bye_keeps_count false size backoff = refl
+
+bye_keeps_timing : (heard : Bool) (size : ℕ) (backoff : Backoff) → leaving_timing (with_bye heard size backoff) ≡ leaving_timing backoff
+bye_keeps_timing true size backoff = refl
+bye_keeps_timing false size backoff = refl
+
+bye_moves_average : (heard : Bool) (size : ℕ) (setup : Setup) (backoff : Backoff)
+    → (if heard then moved_average (leaving_average setup backoff.farewells) size else leaving_average setup backoff.farewells) ≡ leaving_average setup (with_bye heard size backoff).farewells
+bye_moves_average true size setup backoff = refl
+bye_moves_average false size setup backoff = refl
+
+average_named : (ssrc : ℕ) (setup : Setup) (farewells : List Farewell) → leaving_average (named ssrc setup) farewells ≡ leaving_average setup farewells
+average_named ssrc setup farewells = ap (λ (n : ℕ). average_of n (map (λ (farewell : Farewell). farewell.size) farewells)) (byes_are_of_one_size ssrc setup)
+
+renamed_average : (s : State) (o : Outcome) (backoff : Backoff) (t ssrc : ℕ) → StandsStill s o → s.average ≡ leaving_average s.setup backoff.farewells
+    → (moves.renamed t ssrc s).average ≡ leaving_average (named ssrc s.setup) (after_own_bye s.setup o backoff).farewells
+renamed_average s o backoff t ssrc still average =
+    let size = length (bye_octets s.setup) in
+    ap (λ (heard : Bool). if heard then moved_average s.average size else s.average) (heard_agrees s o.own still.own)
+    ∙ ap (λ (n : ℕ). if has_sent o.own then moved_average n size else n) average
+    ∙ bye_moves_average (has_sent o.own) size s.setup backoff
+    ∙ sym (average_named ssrc s.setup (after_own_bye s.setup o backoff).farewells)
+
+-- ---- Where it stands
+
+renamed_is_at : (p q : ParticipantValue) (t peer ssrc : ℕ) (life : Life) → IsAt p life → (p.phase ≡ over → ⊥) → q.presence ≡ moves.renamed t ssrc p.presence → q.phase ≡ p.phase
+    → IsAt q (lived p.presence.setup (renamed t peer ssrc) life)
+renamed_is_at p q t peer ssrc (present outcome) at there same phase =
+    (phase ∙ at.0, subst (λ (s : State). Agrees s (with_change p.presence.setup outcome)) (sym same) (renamed_agrees p.presence outcome t ssrc at.1))
+renamed_is_at p q t peer ssrc (backing_off outcome backoff) at there same phase =
+    let heard = has_sent outcome.own in
+    let size = length (bye_octets p.presence.setup) in (
+      phase ∙ at.0 ∙ ap leaving (sym (bye_keeps_count heard size backoff)),
+      ap (λ (s : State). s.timing) same ∙ at.1 ∙ sym (bye_keeps_timing heard size backoff),
+      ap (λ (s : State). s.average) same ∙ renamed_average p.presence outcome backoff t ssrc at.3 at.2
+          ∙ sym (ap (λ (s : State). leaving_average s.setup (after_own_bye p.presence.setup outcome backoff).farewells) same),
+      subst (λ (s : State). StandsStill s (counted_anew outcome)) (sym same) (renamed_still p.presence outcome t ssrc at.3),
+    )
+renamed_is_at p q t peer ssrc (gone outcome) at there same phase = absurd (there at)
+
+pub renamed_stands : (p q : ParticipantValue) (h : History) (t peer ssrc : ℕ) → StandsAt p h → (p.phase ≡ over → ⊥) → WasTaken h.setup h.word h.acts (renamed t peer ssrc) → HasWords (renamed t peer ssrc)
+    → q.presence ≡ moves.renamed t ssrc p.presence → q.phase ≡ p.phase → q.changes ≡ record { peer = peer; former = p.presence.setup.ssrc } ∷ p.changes → StandsAt q (with_act h (renamed t peer ssrc))
+renamed_stands p q h t peer ssrc stands there was words same phase changes = record {
+  is_history = record { usable = stands.is_history.usable; word = stands.is_history.word; taken = (was, words, stands.is_history.taken) };
+  setup = ap (λ (s : State). s.setup) same ∙ ap (named ssrc) stands.setup;
+  changes = record {
+    peers = ap (map (λ (change : Change). change.peer)) changes ∙ ap (λ (list : List ℕ). peer ∷ list) stands.changes.peers;
+    identifiers_are = ap (λ (s : State). s.setup.ssrc ∷ map (λ (change : Change). change.former) q.changes) same
+        ∙ ap (λ (list : List Change). ssrc ∷ map (λ (change : Change). change.former) list) changes
+        ∙ ap (λ (list : List ℕ). ssrc ∷ list) stands.changes.identifiers_are;
+  };
+  life = subst (λ (setup : Setup). IsAt q (lived setup (renamed t peer ssrc) (life_at h))) stands.setup (renamed_is_at p q t peer ssrc (life_at h) stands.life there same phase);
+  last = ap (λ (s : State). s.last) same;
+  calls = ap (λ (s : State). s.calls) same ∙ stands.calls;
+}
+
+-- ---- What it hands out
+
+bye_by : (heard : Bool) (octets : List ℕ) → option_map bye_out (if heard then Some octets else None) ≡ (if heard then Some (bye_out octets) else None)
+bye_by true octets = refl
+bye_by false octets = refl
+
+bye_in_life : (p : ParticipantValue) (setup : Setup) (t peer ssrc : ℕ) (life : Life) → IsAt p life → (p.phase ≡ over → ⊥) → p.presence.setup ≡ setup → option_map bye_out (own_bye_in p.presence) ≡ out_by setup (renamed t peer ssrc) life
+bye_in_life p setup t peer ssrc (present outcome) at there same =
+    bye_by p.presence.own.heard (bye_octets p.presence.setup)
+    ∙ (λ i. if heard_agrees p.presence outcome.own at.1.own i then Some (bye_out (bye_octets (same i))) else None)
+bye_in_life p setup t peer ssrc (backing_off outcome backoff) at there same =
+    bye_by p.presence.own.heard (bye_octets p.presence.setup)
+    ∙ (λ i. if heard_agrees p.presence outcome.own at.3.own i then Some (bye_out (bye_octets (same i))) else None)
+bye_in_life p setup t peer ssrc (gone outcome) at there same = absurd (there at)
+
+pub renamed_out : (p : ParticipantValue) (h : History) (t peer ssrc : ℕ) → StandsAt p h → (p.phase ≡ over → ⊥) → option_map bye_out (own_bye_in p.presence) ≡ out_at h (renamed t peer ssrc)
+renamed_out p h t peer ssrc stands there = bye_in_life p (setup_now h.setup h.acts) t peer ssrc (life_at h) stands.life there stands.setup
+
+-- ---- Tables
+
+held_by : (p : ParticipantValue) (setup : Setup) (ssrc : ℕ) (life : Life) → IsAt p life → (p.phase ≡ over → ⊥) → p.presence.setup ≡ setup → is_some (finite.get p.presence.table.entries ssrc) ≡ is_in_table setup life ssrc
+held_by p setup ssrc (present outcome) at there same =
+    ap is_some (at.1.table ssrc) ∙ (λ i. is_some (entry_at ((at.1.capacity ∙ ap (λ (s : Setup). s.capacity) same) i) ((at.1.rate ∙ ap (λ (s : Setup). s.rate) same) i) outcome.trace ssrc))
+held_by p setup ssrc (backing_off outcome backoff) at there same =
+    ap is_some (at.3.table ssrc) ∙ (λ i. is_some (entry_at ((at.3.capacity ∙ ap (λ (s : Setup). s.capacity) same) i) ((at.3.rate ∙ ap (λ (s : Setup). s.rate) same) i) outcome.trace ssrc))
+held_by p setup ssrc (gone outcome) at there same = absurd (there at)
+
+same_table : (setup : Setup) (ssrc new : ℕ) (life : Life) → is_in_table (named new setup) life ssrc ≡ is_in_table setup life ssrc
+same_table setup ssrc new (present outcome) = refl
+same_table setup ssrc new (backing_off outcome backoff) = refl
+same_table setup ssrc new (gone outcome) = refl
+
+-- the table of a participant holds who is in the table of its history
+pub held_at : (p : ParticipantValue) (h : History) (ssrc : ℕ) → StandsAt p h → (p.phase ≡ over → ⊥) → is_some (finite.get p.presence.table.entries ssrc) ≡ is_in_table h.setup (life_at h) ssrc
+held_at p h ssrc stands there =
+    held_by p (setup_now h.setup h.acts) ssrc (life_at h) stands.life there stands.setup ∙ same_table h.setup ssrc (present_among h.setup.ssrc (identifiers h.setup h.acts)) (life_at h)

@@ -1,0 +1,40 @@
+//! A datagram that came, once it is read.
+
+ghost use Rattle.std.specs.Prelude.{◌≡◌, ℕ};
+ghost use Rattle.rtcp_engine.specs.Identities.{is_among};
+ghost use Rattle.rtcp_engine.specs.Changes.{names_own, named_by};
+ghost use Rattle.rtcp_engine.specs.Views.{act_of};
+
+use rtcp_wire::{Compound, RtpHead, facts};
+
+/// What a datagram says that came.
+#[derive(Drop)]
+pub(crate) enum Arrival<'a> {
+    /// An RTCP compound, of so many octets.
+    Rtcp(Compound<'a>, usize),
+    /// The head of an RTP packet.
+    Rtp(RtpHead<'a>),
+}
+
+impl Arrival<'_> {
+    /// Whether it is of this source: a fact of its compound is about it, or its RTP packet comes from it.
+    pub(crate) fn is_of(&self, ssrc: u32) -> bool
+        ensures { (moment peer word : ℕ) → result ≡ names_own ssrc (act_of moment peer word self.now) }
+    {
+        match self {
+            Arrival::Rtcp(compound, _) => facts(compound).any(|fact| fact.ssrc() == ssrc),
+            Arrival::Rtp(head) => head.ssrc() == ssrc,
+        }
+    }
+
+    /// Whether it names this source, a contributing source of a packet included.
+    pub(crate) fn names(&self, ssrc: u32) -> bool
+        ensures { (moment peer word : ℕ) →
+            result ≡ is_among (named_by (act_of moment peer word self.now)) ssrc }
+    {
+        match self {
+            Arrival::Rtcp(compound, _) => facts(compound).any(|fact| fact.ssrc() == ssrc),
+            Arrival::Rtp(head) => head.ssrc() == ssrc || head.csrcs().any(|csrc| csrc == ssrc),
+        }
+    }
+}

@@ -1,0 +1,151 @@
+//! What a participant does with a datagram that it takes: it may change its identifier first (RFC 3550, 8.2).
+
+ghost use Rattle.std.specs.Prelude.{◌≡◌, ◌≤◌, ◌<◌, ◌-◌, ◌^◌, ℕ, None, length, option_map, OnErr};
+ghost use Rattle.rtcp_engine.specs.Acts.{renamed};
+ghost use Rattle.rtcp_engine.specs.Answers.{answer_of, followed_by, out_at, step_with};
+ghost use Rattle.rtcp_engine.specs.Changes.{is_taken as is_taken_of, new_identifier};
+ghost use Rattle.rtcp_engine.specs.Histories.{History};
+ghost use Rattle.rtcp_engine.specs.Identities.{identifiers, is_among};
+ghost use Rattle.rtcp_engine.specs.Moves.{refusal_by};
+ghost use Rattle.rtcp_engine.specs.Presence.{with_act};
+ghost use Rattle.rtcp_engine.specs.States.{KeepsCapacity, StandsAt, over};
+ghost use Rattle.rtcp_engine.specs.Taken.{HasWords, WasTaken};
+ghost use Rattle.rtcp_engine.specs.Views.{NamesFewer, act_of, answer_value, out_value, size_of, step_value};
+
+use super::backoff::last_step;
+use super::{Participant, Phase};
+use crate::arrival::Arrival;
+use crate::refusal::Refusal;
+use crate::step::{Answer, Out, Step};
+use rtcp_members::MemberTable;
+
+/// More than can be taken of the identifiers that follow one another: at most nine are or were the participant's
+/// own, 1,024 are in its table, and fewer than 2^16 are in a datagram.
+const MAX_TRIES: u32 = 1 << 17;
+
+impl<T: MemberTable> Participant<T> {
+    /// Why a call at the moment `now` is refused, whatever it tells.
+    pub(super) fn refusal(&self, now: u64) -> Option<Refusal>
+        ensures exact { result ≡ refusal_by now self.now }
+        ensures order { result ≡ None → self.now.presence.last ≤ now }
+        ensures moment { result ≡ None → now ≤ 2 ^ 50 }
+        ensures calls { result ≡ None → self.now.presence.calls < 2 ^ 40 - 1 }
+        ensures within { KeepsCapacity self.now.presence }
+    {
+        match self.phase {
+            Phase::Present | Phase::BackingOff(_) => self.presence.refusal(now),
+            Phase::Gone => Some(Refusal::Left),
+        }
+    }
+
+    /// Takes a datagram, after a change of identifier if it brings one, or refuses it for its SSRC.
+    pub(super) fn arrive(&mut self, now: u64, peer: u64, w: u32, arrival: &Arrival<'_>) -> Answer
+        requires admitted { refusal_by now self.old ≡ None }
+        requires order { self.old.presence.last ≤ now }
+        requires moment { now ≤ 2 ^ 50 }
+        requires calls { self.old.presence.calls < 2 ^ 40 - 1 }
+        requires size { size_of arrival.now ≤ 65535 }
+        requires few { NamesFewer arrival.now }
+        ensures answer { (history : History) → StandsAt self.old history →
+            answer_value result ≡ answer_of history (act_of now peer w arrival.now) }
+        ensures stands { (history : History) → StandsAt self.old history →
+            StandsAt self.new (followed_by history (act_of now peer w arrival.now)) }
+        ensures within { KeepsCapacity self.new.presence }
+        ensures refused { OnErr result (self.new ≡ self.old) }
+    {
+        if !arrival.is_of(self.presence.ssrc()) {
+            return Ok(self.take(now, arrival));
+        }
+        if !self.changes.allows(peer) {
+            return Err(Refusal::OwnSsrc);
+        }
+        let ssrc = self.free_ssrc(w, arrival);
+        let out = self.change(now, peer, ssrc);
+        let mut step = self.take(now, arrival);
+        step.out = out;
+        step.changed = Some(ssrc);
+        Ok(step)
+    }
+
+    /// The first of `w`, the number after it, and so on that is not taken: neither by the participant, now or
+    /// before, nor by a source of its table, nor in the datagram.
+    fn free_ssrc(&self, w: u32, arrival: &Arrival<'_>) -> u32
+        requires few { NamesFewer arrival.now }
+        ensures { (history : History) (now peer : ℕ) → StandsAt self.now history →
+            (self.now.phase ≡ over → ⊥) →
+            result ≡ new_identifier w history (act_of now peer w arrival.now) }
+    {
+        'tries: for offset in 0..MAX_TRIES {
+            let ssrc = w.wrapping_add(offset);
+            if !self.is_taken(ssrc, arrival) {
+                return ssrc;
+            }
+        }
+        w
+    }
+
+    /// Whether a source has this SSRC, as far as the participant knows, or the datagram names it.
+    fn is_taken(&self, ssrc: u32, arrival: &Arrival<'_>) -> bool
+        ensures { (history : History) (now peer word : ℕ) → StandsAt self.now history →
+            (self.now.phase ≡ over → ⊥) →
+            result ≡ is_taken_of history (act_of now peer word arrival.now) ssrc }
+    {
+        self.is_own(ssrc) || self.presence.knows(ssrc) || arrival.names(ssrc)
+    }
+
+    /// Whether this SSRC is the participant's, or was.
+    fn is_own(&self, ssrc: u32) -> bool
+        ensures { (history : History) → StandsAt self.now history →
+            result ≡ is_among (identifiers history.setup history.acts) ssrc }
+    {
+        self.presence.ssrc() == ssrc || self.changes.gave_up(ssrc)
+    }
+
+    /// Takes another SSRC, as a datagram of this peer names the present one. The BYE of that one is to be sent,
+    /// if something was sent under it.
+    fn change(&mut self, now: u64, peer: u64, ssrc: u32) -> Option<Out>
+        requires order { self.old.presence.last ≤ now }
+        requires moment { now ≤ 2 ^ 50 }
+        requires room { length self.old.changes < 8 }
+        requires present { self.old.phase ≡ over → ⊥ }
+        ensures out { (history : History) → StandsAt self.old history →
+            option_map out_value result ≡ out_at history (renamed now peer ssrc) }
+        ensures stands { (history : History) → StandsAt self.old history →
+            WasTaken history.setup history.word history.acts (renamed now peer ssrc) →
+            StandsAt self.new (with_act history (renamed now peer ssrc)) }
+        ensures phase { self.new.phase ≡ self.old.phase }
+        ensures last { self.new.presence.last ≡ now }
+        ensures calls { self.new.presence.calls ≡ self.old.presence.calls }
+        ensures within { KeepsCapacity self.new.presence }
+    {
+        self.changes.add(peer, self.presence.ssrc());
+        self.presence.rename(now, ssrc)
+    }
+
+    /// Takes a datagram under the present SSRC: nothing of it counts in a backoff but BYE packets.
+    fn take(&mut self, now: u64, arrival: &Arrival<'_>) -> Step
+        requires order { self.old.presence.last ≤ now }
+        requires moment { now ≤ 2 ^ 50 }
+        requires calls { self.old.presence.calls < 2 ^ 40 - 1 }
+        requires size { size_of arrival.now ≤ 65535 }
+        requires present { self.old.phase ≡ over → ⊥ }
+        ensures step { (history : History) (peer word : ℕ) → StandsAt self.old history →
+            let act = act_of now peer word arrival.now in
+            WasTaken history.setup history.word history.acts act → HasWords act →
+            step_value result ≡ step_with None None history act }
+        ensures stands { (history : History) (peer word : ℕ) → StandsAt self.old history →
+            let act = act_of now peer word arrival.now in
+            WasTaken history.setup history.word history.acts act → HasWords act →
+            StandsAt self.new (with_act history act) }
+        ensures within { KeepsCapacity self.new.presence }
+    {
+        match self.phase {
+            Phase::Present => {
+                self.presence.take(now, arrival);
+                self.presence.step(None)
+            }
+            Phase::BackingOff(members) => self.hear(now, arrival, members),
+            Phase::Gone => last_step(None),
+        }
+    }
+}

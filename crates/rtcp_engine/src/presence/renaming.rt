@@ -1,0 +1,58 @@
+//! What a participant does as it changes its identifier (RFC 3550, 8.2).
+
+ghost use Rattle.std.specs.Prelude.{◌≡◌, ◌≤◌, ◌^◌, is_some, option_map};
+ghost use Rattle.std.specs.FinMap as map;
+ghost use Rattle.rtcp_engine.specs.Moves.{own_bye_in, renamed, with_own_bye};
+ghost use Rattle.rtcp_engine.specs.Lives.{bye_out};
+ghost use Rattle.rtcp_engine.specs.Views.{out_value};
+
+use super::Presence;
+use crate::step::{Out, OutKind};
+use rtcp_members::MemberTable;
+
+impl<T: MemberTable> Presence<T> {
+    /// The present SSRC.
+    pub(crate) fn ssrc(&self) -> u32
+        ensures { result ≡ self.now.setup.ssrc }
+    {
+        self.config.ssrc
+    }
+
+    /// Whether the table has an entry of this source, marked or not.
+    pub(crate) fn knows(&self, ssrc: u32) -> bool
+        ensures { result ≡ is_some (map.get self.now.table.entries ssrc) }
+    {
+        self.table.holds(ssrc)
+    }
+
+    /// Gives up the SSRC for another at the moment `now`. If something was sent under the old one, it hands out
+    /// a BYE of that, which moves the average. The own stream's counts begin anew, and nothing else does.
+    pub(crate) fn rename(&mut self, now: u64, ssrc: u32) -> Option<Out>
+        requires order { self.old.last ≤ now }
+        requires moment { now ≤ 2 ^ 50 }
+        ensures bye { option_map out_value result ≡ option_map bye_out (own_bye_in self.old) }
+        ensures new { self.new ≡ renamed now ssrc self.old }
+    {
+        let bye = self.bye_if_heard();
+        self.config.ssrc = ssrc;
+        self.own.count_anew();
+        self.last = now;
+        bye
+    }
+
+    /// The BYE of the present SSRC, if something was sent under it. It moves the average.
+    fn bye_if_heard(&mut self) -> Option<Out>
+        ensures bye { option_map out_value result ≡ option_map bye_out (own_bye_in self.old) }
+        ensures new { self.new ≡ with_own_bye self.old }
+    {
+        if !self.own.is_heard() {
+            return None;
+        }
+        let bytes = self.bye();
+        self.average.add(bytes.len() as u32);
+        Some(Out {
+            kind: OutKind::Bye,
+            bytes,
+        })
+    }
+}
