@@ -1,18 +1,19 @@
 -- Calls of a link, one after the other.
-use Rattle.std.proofs.Common.{◌≡◌, ◌≤◌, ℕ, suc, ◌+◌, IsTrue, is_some, Bool, true, false, Ok, List, [], ◌∷◌, ◌++◌, length, filter, Option, Some, None, ◌⊎◌, inl, inr, refl, sym, ap, ◌∙◌, subst, arith, if◌then◌else◌, append_assoc, length-append}
+use Rattle.std.proofs.Common.{◌≡◌, ◌≤◌, ◌<◌, ◌^◌, ℕ, suc, ◌+◌, IsTrue, is_some, Bool, true, false, Ok, Err, List, [], ◌∷◌, ◌++◌, length, filter, Option, Some, None, ◌⊎◌, inl, inr, refl, sym, ap, ◌∙◌, subst, arith, if◌then◌else◌, append_assoc, length-append}
 use Rattle.std.proofs.lemmas.List.{append_cancel_right}
 use Rattle.std.proofs.lemmas.List.Elements.{filter-append}
 use Rattle.rtcp_run.specs.declared.link.Port.{Port}
-use Rattle.rtcp_run.specs.declared.link.Port.TheVariants.{Rtcp as RtcpPort, Rtp as RtpPort}
+use Rattle.rtcp_run.specs.declared.link.Port.TheVariants.{Rtcp as RtcpPort}
 use Rattle.rtcp_run.specs.declared.serving.Cause.TheVariants.{Done}
-use Rattle.rtcp_run.specs.Links.{Call, LinkValue, GrowsBy, WereCalled, clock_read, port_heard, Heard, datagram, silence, failure, how_many, is_failed_receive, is_failed_send}
+use Rattle.rtcp_run.specs.Links.{Call, LinkValue, GrowsBy, WereCalled, clock_read, port_heard, Heard, datagram, how_many, is_failed_receive, is_failed_send}
 use Rattle.rand_core.specs.Stream.{Stream, next_u32}
-use Rattle.rtcp_engine.specs.Acts.{ticked, left as asked_to_leave}
+use Rattle.rtcp_engine.specs.Acts.{Act, ticked, left as asked_to_leave}
 use Rattle.rtcp_engine.specs.Answers.{answer_of, followed_by}
 use Rattle.rtcp_engine.specs.States.{ParticipantValue, StandsAt}
+use Rattle.rtcp_engine.specs.Steps.{AnswerValue}
 use Rattle.rtcp_run.specs.declared.serving.tally.Tally.{Tally}
-use Rattle.rtcp_run.specs.Tallies.{HasRoom, with_moment}
-use Rattle.rtcp_run.specs.Serving.{Reader, Stage, resting, beginning, hearing, deciding, sending, ended, Standing, rested, going, ReadsClock, Hears, Fits, at_stage, with_turns, turn_by, turn_or, after_turns, gone_on, left_with, heard_at, after_clock, after_call, after_calls, AllFit, stage_to_send, ticked_with, ticked_now, with_tally}
+use Rattle.rtcp_run.specs.Tallies.{HasRoom, is_limit, with_arrival, with_datagram, with_moment, with_refused}
+use Rattle.rtcp_run.specs.Serving.{Reader, Stage, resting, beginning, hearing, deciding, sending, ended, Standing, rested, going, ReadsClock, Hears, Fits, at_stage, with_turns, turn_by, turn_or, after_turns, gone_on, left_with, arrival_at, after_port, came_with, heard_at, after_clock, after_call, after_calls, AllFit, stage_to_send, ticked_with, ticked_now, with_tally}
 use Rattle.rtcp_run.specs.Sessions.{Leads, Comes, Holds, IsLeaveDue, HasTurn, ReachesBy, next_at}
 
 -- ---- Logs
@@ -90,7 +91,7 @@ IsUnderWay resting = ⊥
 IsUnderWay beginning = Unit {0}
 IsUnderWay (hearing port) = Unit {0}
 IsUnderWay deciding = Unit {0}
-IsUnderWay (sending out) = Unit {0}
+IsUnderWay (sending out changed next) = Unit {0}
 IsUnderWay (ended cause) = Unit {0}
 
 goes_on : (next s : Standing) (stage : Stage) → IsUnderWay stage → rested next stage s ≡ s
@@ -98,15 +99,15 @@ goes_on next s resting under_way = absurd under_way
 goes_on next s beginning under_way = refl
 goes_on next s (hearing port) under_way = refl
 goes_on next s deciding under_way = refl
-goes_on next s (sending out) under_way = refl
+goes_on next s (sending out changed after) under_way = refl
 goes_on next s (ended cause) under_way = refl
 
 pub going_under_way : (total : ℕ) (s : Standing) (stage : Stage) → s.stage ≡ stage → IsUnderWay stage → going total s ≡ s
 going_under_way total s stage is under_way = goes_on _ s s.stage (subst IsUnderWay (sym is) under_way)
 
-pub rests : (taken : Bool) (s : Standing) → ReachesBy resting resting (Ok taken) s → s.stage ≡ resting
-rests true s is = is
-rests false s is = is
+pub comes_either_way : (next : Stage) (taken : Bool) (s : Standing) → ReachesBy next next (Ok taken) s → s.stage ≡ next
+comes_either_way next true s is = is
+comes_either_way next false s is = is
 
 -- ---- Turns
 
@@ -120,7 +121,7 @@ pub tick_told : (reader : Reader) (total moment : ℕ) (s : Standing) (before af
     → WereCalled (clock_read moment ∷ []) x y → told ≡ with_moment moment counted → AreDrawn words first second rest
     → StandsAt after (followed_by s.history (ticked told.moment first second))
     → (t : Standing) × Leads reader total (clock_read moment ∷ []) s t x y × Holds t after rest told
-    × (t.stage ≡ stage_to_send resting (answer_of s.history (ticked told.moment first second)))
+    × (t.stage ≡ stage_to_send resting resting (answer_of s.history (ticked told.moment first second)))
     × (t.turns ≡ s.turns) × (t.leaving ≡ s.leaving)
 tick_told reader total moment s before after words rest first second counted told x y holds is called counts (mid, one, two) stands =
     let u = with_tally (with_moment moment s.tally) s in
@@ -139,7 +140,7 @@ tick_told reader total moment s before after words rest first second counted tol
         words = refl;
         tally = same;
       },
-      ap (λ act. stage_to_send resting (answer_of s.history act)) (sym same_act),
+      ap (λ act. stage_to_send resting resting (answer_of s.history act)) (sym same_act),
       refl,
       refl,
     )
@@ -175,20 +176,44 @@ turn_clocked reader total left moment s kept words counted told x y holds has ca
     )
 
 -- Then a port is listened to.
-pub port_listened : (reader : Reader) (total : ℕ) (port : Port) (what : Heard) (s : Standing) (x y : LinkValue) → s.stage ≡ hearing port
+port_listened : (reader : Reader) (total : ℕ) (port : Port) (what : Heard) (s : Standing) (x y : LinkValue) → s.stage ≡ hearing port
     → WereCalled (port_heard port 20000 what ∷ []) x y → Leads reader total (port_heard port 20000 what ∷ []) s (heard_at reader port what s) x y
 port_listened reader total port what s x y is called =
     leads_by reader total (port_heard port 20000 what) s s x y (going_under_way total s (hearing port) is (tt {0}))
     (subst (Hears port 20000) (sym is) (refl, refl)) called
 
-pub heard_turns : (reader : Reader) (port : Port) (what : Heard) (s : Standing)
-    → ((heard_at reader port what s).turns ≡ s.turns) × ((heard_at reader port what s).leaving ≡ s.leaving)
-heard_turns reader RtcpPort (datagram octets) s = (refl, refl)
-heard_turns reader RtcpPort silence s = (refl, refl)
-heard_turns reader RtcpPort failure s = (refl, refl)
-heard_turns reader RtpPort (datagram octets) s = (refl, refl)
-heard_turns reader RtpPort silence s = (refl, refl)
-heard_turns reader RtpPort failure s = (refl, refl)
+-- the octets of a datagram, under another name
+pub came_as : (port : Port) (wait peer : ℕ) (octets given : List ℕ) (x y : LinkValue) → octets ≡ given
+    → WereCalled (port_heard port wait (datagram peer given) ∷ []) x y → WereCalled (port_heard port wait (datagram peer octets) ∷ []) x y
+came_as port wait peer octets given x y same called = subst (λ o. WereCalled (port_heard port wait (datagram peer o) ∷ []) x y) (sym same) called
+
+-- A datagram came, a word is drawn, and the participant is told.
+pub datagram_told : (reader : Reader) (total : ℕ) (port : Port) (peer : ℕ) (octets : List ℕ) (s : Standing) (before after : ParticipantValue)
+    (words rest : Stream) (word : ℕ) (counted mid told : Tally) (answer : AnswerValue) (x y : LinkValue) → Holds s before words counted
+    → s.stage ≡ hearing port → WereCalled (port_heard port 20000 (datagram peer octets) ∷ []) x y → (word, rest) ≡ next_u32 words
+    → mid ≡ with_datagram counted → told ≡ with_arrival answer mid → answer ≡ answer_of s.history (arrival_at reader port mid.moment peer word octets)
+    → StandsAt after (followed_by s.history (arrival_at reader port mid.moment peer word octets))
+    → (t : Standing) × Leads reader total (port_heard port 20000 (datagram peer octets) ∷ []) s t x y × Holds t after rest told
+    × (t.stage ≡ stage_to_send (after_port port) (after_port port) answer) × (t.turns ≡ s.turns) × (t.leaving ≡ s.leaving)
+datagram_told reader total port peer octets s before after words rest word counted mid told answer x y holds is called drawn counts tells answers stands =
+    let act_by : ℕ → Act = λ w. arrival_at reader port s.tally.moment peer w octets in
+    let t = came_with act_by (after_port port) (word, rest) s in
+    let same : mid ≡ with_datagram s.tally = counts ∙ ap with_datagram holds.tally in
+    let same_act : arrival_at reader port mid.moment peer word octets ≡ act_by word = ap (λ c. arrival_at reader port c.moment peer word octets) same in
+    let draws : next_u32 s.words ≡ (word, rest) = ap next_u32 (sym holds.words) ∙ sym drawn in
+    let reached : heard_at reader port (datagram peer octets) s ≡ t = ap (λ p. came_with act_by (after_port port) p s) draws in
+    let answered : answer ≡ answer_of s.history (act_by word) = answers ∙ ap (answer_of s.history) same_act in (
+      t,
+      subst (λ t. Leads reader total (port_heard port 20000 (datagram peer octets) ∷ []) s t x y) reached (port_listened reader total port (datagram peer octets) s x y is called),
+      record {
+        participant = subst (λ act. StandsAt after (followed_by s.history act)) same_act stands;
+        words = refl;
+        tally = tells ∙ ap (with_arrival answer) same ∙ ap (λ a. with_arrival a (with_datagram s.tally)) answered;
+      },
+      ap (stage_to_send (after_port port) (after_port port)) (sym answered),
+      refl,
+      refl,
+    )
 
 pub none_left : (next : Option ℕ) → is_some next ≡ false → next ≡ None
 none_left None is = refl
@@ -245,7 +270,7 @@ leave_comes total s due = ap (λ stage. rested (turn_or (after_turns total s) s)
 pub leave_told : (total : ℕ) (s : Standing) (before after : ParticipantValue) (words rest : Stream) (word : ℕ) (counted : Tally)
     → Holds s before words counted → IsLeaveDue s → (word, rest) ≡ next_u32 words → StandsAt after (followed_by s.history (asked_to_leave counted.moment word))
     → (u : Standing) × (going total s ≡ going total u) × Holds u after rest counted
-    × (u.stage ≡ stage_to_send (ended Done) (answer_of s.history (asked_to_leave counted.moment word))) × (u.turns ≡ total) × (u.leaving ≡ true)
+    × (u.stage ≡ stage_to_send resting (ended Done) (answer_of s.history (asked_to_leave counted.moment word))) × (u.turns ≡ total) × (u.leaving ≡ true)
 leave_told total s before after words rest word counted holds due drawn stands =
     let same : next_u32 s.words ≡ (word, rest) = ap next_u32 (sym holds.words) ∙ sym drawn in
     let u = left_with total (word, rest) s in
@@ -257,7 +282,7 @@ leave_told total s before after words rest word counted holds due drawn stands =
         words = refl;
         tally = holds.tally;
       },
-      ap (λ act. stage_to_send (ended Done) (answer_of s.history act)) (sym same_act),
+      ap (λ act. stage_to_send resting (ended Done) (answer_of s.history act)) (sym same_act),
       refl,
       refl,
     )
@@ -303,3 +328,37 @@ less_room most least tally link le room = record {
   failed_receives = omega (arith, le, room.failed_receives);
   failed_sends = omega (arith, le, room.failed_sends);
 }
+
+limit_room : (limit : Bool) (more : ℕ) (tally : Tally) (link : LinkValue) → tally.refused + 1 + more < 2 ^ 64 → HasRoom more tally link
+    → HasRoom more (if limit then tally else with_refused (tally.refused + 1) tally) link
+limit_room true more tally link one_more room = room
+limit_room false more tally link one_more room = record {
+  received = room.received;
+  refused = one_more;
+  sent = room.sent;
+  send_failures = room.send_failures;
+  recv_failures = room.recv_failures;
+  failed_receives = room.failed_receives;
+  failed_sends = room.failed_sends;
+}
+
+arrival_room : (answer : AnswerValue) (more : ℕ) (tally : Tally) (link : LinkValue) → tally.refused + 1 + more < 2 ^ 64 → HasRoom more tally link
+    → HasRoom more (with_arrival answer tally) link
+arrival_room (Ok step) more tally link one_more room = room
+arrival_room (Err refusal) more tally link one_more room = limit_room (is_limit refusal) more tally link one_more room
+
+-- The room that is left once a datagram was counted, and the answer to it.
+pub datagram_room : (more : ℕ) (port : Port) (wait peer : ℕ) (octets : List ℕ) (answer : AnswerValue) (counted mid told : Tally) (x y : LinkValue)
+    → HasRoom (more + 2) counted x → mid ≡ with_datagram counted → told ≡ with_arrival answer mid
+    → WereCalled (port_heard port wait (datagram peer octets) ∷ []) x y → HasRoom (more + 1) told y
+datagram_room more port wait peer octets answer counted mid told x y room counts tells called =
+    let same : told ≡ with_arrival answer (with_datagram counted) = tells ∙ ap (with_arrival answer) counts in
+    subst (λ t. HasRoom (more + 1) t y) (sym same) (arrival_room answer (more + 1) (with_datagram counted) y (omega (arith, room.refused)) (record {
+      received = omega (arith, room.received);
+      refused = omega (arith, room.refused);
+      sent = omega (arith, room.sent);
+      send_failures = omega (arith, room.send_failures);
+      recv_failures = omega (arith, room.recv_failures);
+      failed_receives = omega (arith, room.failed_receives, called.failed_receives);
+      failed_sends = omega (arith, room.failed_sends, called.failed_sends);
+    }))

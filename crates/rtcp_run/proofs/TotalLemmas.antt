@@ -1,13 +1,11 @@
 -- What a session comes to, call by call: the compounds, and the totals.
-use Rattle.std.proofs.Common.{◌≡◌, ℕ, zero, suc, ◌+◌, Bool, true, false, List, [], ◌∷◌, ◌++◌, length, Option, Some, None, Ok, Err, if◌then◌else◌, refl, sym, ap, ◌∙◌, subst, arith}
+use Rattle.std.proofs.Common.{◌≡◌, ℕ, zero, suc, ◌+◌, Bool, true, false, List, [], ◌∷◌, ◌++◌, Option, Some, None, Ok, Err, if◌then◌else◌, refl, sym, ap, ◌∙◌, subst, arith, append_assoc}
 use Rattle.rand_core.specs.Stream.{Stream, next_u32}
-use Rattle.rtcp_engine.specs.declared.refusal.Refusal.{Refusal}
-use Rattle.rtcp_engine.specs.Acts.{Act, rtcp_came, rtp_came, left as asked_to_leave}
+use Rattle.rtcp_engine.specs.Acts.{Act, left as asked_to_leave}
 use Rattle.rtcp_engine.specs.Histories.{History}
-use Rattle.rtcp_engine.specs.Leaving.{Life, present, backing_off, gone}
 use Rattle.rtcp_engine.specs.Lives.{life_at, next_in_life}
-use Rattle.rtcp_engine.specs.Steps.{OutValue, AnswerValue, answer_unless}
-use Rattle.rtcp_engine.specs.Answers.{answer_of, followed_by, step_by, refusal_after}
+use Rattle.rtcp_engine.specs.Steps.{OutValue, AnswerValue}
+use Rattle.rtcp_engine.specs.Answers.{answer_of, followed_by}
 use Rattle.rtcp_run.specs.declared.link.Port.{Port}
 use Rattle.rtcp_run.specs.declared.link.Port.TheVariants.{Rtcp as RtcpPort, Rtp as RtpPort}
 use Rattle.rtcp_run.specs.declared.serving.Cause.TheVariants.{Done, LinkDown, Limit}
@@ -15,7 +13,7 @@ use Rattle.rtcp_run.specs.declared.serving.tally.Tally.{Tally}
 use Rattle.rtcp_run.specs.Sessions.{Comes}
 use Rattle.rtcp_run.specs.Tallies.{is_limit, with_arrival, with_datagram, with_refused}
 use Rattle.rtcp_run.specs.Links.{Call, LinkValue, Heard, how_many, is_datagram, is_failed_receive, is_failed_send, is_sent, datagram, silence, failure, clock_read, port_heard, compound_sent}
-use Rattle.rtcp_run.specs.Serving.{Reader, Stage, resting, beginning, hearing, deciding, sending, ended, Standing, at_stage, with_turns, with_tally, with_words, stage_to_send, stage_after_step, stage_after, asked, arrived, heard_at, turn_by, rested, gone_on, left_with, going, ReadsClock, Hears, Sends, Fits, after_clock, after_sending, after_call, after_calls, AllFit, at_the_start}
+use Rattle.rtcp_run.specs.Serving.{Reader, Stage, resting, beginning, hearing, deciding, sending, ended, Standing, at_stage, with_turns, with_tally, with_words, stage_to_send, stage_after_step, asked, arrived, after_port, heard_at, turn_by, rested, gone_on, left_with, going, ReadsClock, Hears, Sends, Fits, after_clock, after_sending, after_call, after_calls, AllFit, at_the_start}
 use Rattle.rtcp_run.specs.Handing.{octets_of, handed_by, history_after, handed_out, given, given_in}
 
 -- ---- Compounds
@@ -26,7 +24,8 @@ pending resting = []
 pending beginning = []
 pending (hearing port) = []
 pending deciding = []
-pending (sending out) = out.octets ∷ []
+-- after those of the next stage, if it has any
+pending (sending out changed next) = pending next ++ out.octets ∷ []
 pending (ended cause) = []
 
 -- The compounds that were handed out are those that the link was given, and the one that is to be sent next.
@@ -56,37 +55,18 @@ told_accounts start s t act stage sent accounts none history told at same = reco
       ∙ ap (λ p. p ++ sent) (sym same ∙ ap pending (sym at));
 }
 
-step_pends : (out : Option OutValue) → pending (stage_after_step out) ≡ octets_of out
-step_pends None = refl
-step_pends (Some out) = refl
+step_pends : (next : Stage) (changed : Option ℕ) (out : Option OutValue) → HasNone next → pending (stage_after_step next changed out) ≡ octets_of out
+step_pends next changed None none = none
+step_pends next changed (Some out) none = ap (λ p. p ++ out.octets ∷ []) none
 
 refusal_pends : (refused : Stage) (limit : Bool) → HasNone refused → HasNone (if limit then ended Limit else refused)
 refusal_pends refused true none = refl
 refusal_pends refused false none = none
 
--- what an asking leads to is pending
-asked_pends : (refused : Stage) (answer : AnswerValue) → HasNone refused → pending (stage_to_send refused answer) ≡ handed_by answer
-asked_pends refused (Ok step) none = step_pends step.out
-asked_pends refused (Err refusal) none = refusal_pends refused (is_limit refusal) none
-
--- An arrival hands out nothing.
-rtcp_hands_nothing : (history : History) (moment size : ℕ) (reading : _) (refusal : Option Refusal) (life : Life)
-    → handed_by (answer_unless refusal (step_by history.setup (rtcp_came moment size reading) life)) ≡ []
-rtcp_hands_nothing history moment size reading (Some refusal) life = refl
-rtcp_hands_nothing history moment size reading None (present outcome) = refl
-rtcp_hands_nothing history moment size reading None (backing_off outcome backoff) = refl
-rtcp_hands_nothing history moment size reading None (gone outcome) = refl
-
-rtp_hands_nothing : (history : History) (moment : ℕ) (reading : _) (refusal : Option Refusal) (life : Life)
-    → handed_by (answer_unless refusal (step_by history.setup (rtp_came moment reading) life)) ≡ []
-rtp_hands_nothing history moment reading (Some refusal) life = refl
-rtp_hands_nothing history moment reading None (present outcome) = refl
-rtp_hands_nothing history moment reading None (backing_off outcome backoff) = refl
-rtp_hands_nothing history moment reading None (gone outcome) = refl
-
-arrival_pends : (next : Stage) (answer : AnswerValue) → HasNone next → HasNone (stage_after next answer)
-arrival_pends next (Ok step) none = none
-arrival_pends next (Err refusal) none = refusal_pends next (is_limit refusal) none
+-- What an answer hands out is pending.
+answer_pends : (next refused : Stage) (answer : AnswerValue) → HasNone next → HasNone refused → pending (stage_to_send next refused answer) ≡ handed_by answer
+answer_pends next refused (Ok step) none refuses = step_pends next step.changed step.out none
+answer_pends next refused (Err refusal) none refuses = refusal_pends refused (is_limit refusal) refuses
 
 -- ---- Calls
 
@@ -96,12 +76,12 @@ none_at stage s is none = ap pending is ∙ none
 asked_accounts : (start : History) (refused : Stage) (act : Act) (s : Standing) (sent : List (List ℕ)) → Accounts start s sent → HasNone s.stage
     → HasNone refused → Accounts start (asked refused act s) sent
 asked_accounts start refused act s sent accounts none refuses =
-    told_accounts start s (asked refused act s) act _ sent accounts none refl refl refl (asked_pends refused (answer_of s.history act) refuses)
+    told_accounts start s (asked refused act s) act _ sent accounts none refl refl refl (answer_pends resting refused (answer_of s.history act) refl refuses)
 
 arrived_accounts : (start : History) (next : Stage) (act : Act) (s : Standing) (sent : List (List ℕ)) → Accounts start s sent → HasNone s.stage
-    → HasNone next → handed_by (answer_of s.history act) ≡ [] → Accounts start (arrived next act s) sent
-arrived_accounts start next act s sent accounts none comes nothing =
-    told_accounts start s (arrived next act s) act _ sent accounts none refl refl refl (arrival_pends next (answer_of s.history act) comes ∙ sym nothing)
+    → HasNone next → Accounts start (arrived next act s) sent
+arrived_accounts start next act s sent accounts none comes =
+    told_accounts start s (arrived next act s) act _ sent accounts none refl refl refl (answer_pends next next (answer_of s.history act) comes comes)
 
 -- counts, words and turns change nothing of it
 counted_accounts : (start : History) (s t : Standing) (sent : List (List ℕ)) → Accounts start s sent → t.history ≡ s.history → t.told ≡ s.told
@@ -119,31 +99,25 @@ clock_accounts start moment beginning s sent is fits accounts =
 clock_accounts start moment (hearing port) s sent is fits accounts = absurd fits
 clock_accounts start moment deciding s sent is fits accounts =
     asked_accounts start resting _ _ sent (counted_accounts start s _ sent accounts refl refl refl) (none_at deciding s is refl) refl
-clock_accounts start moment (sending out) s sent is fits accounts = absurd fits
+clock_accounts start moment (sending out changed next) s sent is fits accounts = absurd fits
 clock_accounts start moment (ended cause) s sent is fits accounts = absurd fits
 
 failed_stage : (next : Stage) (last : Bool) → HasNone next → HasNone (if last then ended LinkDown else next)
 failed_stage next true none = refl
 failed_stage next false none = none
 
+port_pends : (port : Port) → HasNone (after_port port)
+port_pends RtcpPort = refl
+port_pends RtpPort = refl
+
 heard_accounts : (start : History) (reader : Reader) (port : Port) (what : Heard) (s : Standing) (sent : List (List ℕ)) → HasNone s.stage
     → Accounts start s sent → Accounts start (heard_at reader port what s) sent
-heard_accounts start reader RtcpPort (datagram octets) s sent none accounts =
-    arrived_accounts start (hearing RtpPort) _ _ sent (counted_accounts start s _ sent accounts refl refl refl) none refl
-    (rtcp_hands_nothing s.history s.tally.moment (length octets) (reader.rtcp octets)
-    (refusal_after s.history (rtcp_came s.tally.moment (length octets) (reader.rtcp octets))) (life_at s.history))
-heard_accounts start reader RtcpPort silence s sent none accounts =
-    restaged start _ (hearing RtpPort) sent (counted_accounts start s _ sent accounts refl refl refl) none refl
-heard_accounts start reader RtcpPort failure s sent none accounts =
-    restaged start _ _ sent (counted_accounts start s _ sent accounts refl refl refl) none (failed_stage (hearing RtpPort) _ refl)
-heard_accounts start reader RtpPort (datagram octets) s sent none accounts =
-    arrived_accounts start deciding _ _ sent (counted_accounts start s _ sent accounts refl refl refl) none refl
-    (rtp_hands_nothing s.history s.tally.moment (reader.rtp octets)
-    (refusal_after s.history (rtp_came s.tally.moment (reader.rtp octets))) (life_at s.history))
-heard_accounts start reader RtpPort silence s sent none accounts =
-    restaged start _ deciding sent (counted_accounts start s _ sent accounts refl refl refl) none refl
-heard_accounts start reader RtpPort failure s sent none accounts =
-    restaged start _ _ sent (counted_accounts start s _ sent accounts refl refl refl) none (failed_stage deciding _ refl)
+heard_accounts start reader port (datagram peer octets) s sent none accounts =
+    arrived_accounts start (after_port port) _ _ sent (counted_accounts start s _ sent accounts refl refl refl) none (port_pends port)
+heard_accounts start reader port silence s sent none accounts =
+    restaged start _ (after_port port) sent (counted_accounts start s _ sent accounts refl refl refl) none (port_pends port)
+heard_accounts start reader port failure s sent none accounts =
+    restaged start _ _ sent (counted_accounts start s _ sent accounts refl refl refl) none (failed_stage (after_port port) _ (port_pends port))
 
 -- a port is listened to only where nothing is pending
 hears_none : (port : Port) (wait : ℕ) (stage : Stage) → Hears port wait stage → HasNone stage
@@ -151,7 +125,7 @@ hears_none port wait resting fits = refl
 hears_none port wait beginning fits = refl
 hears_none port wait (hearing next) fits = refl
 hears_none port wait deciding fits = refl
-hears_none port wait (sending out) fits = absurd fits
+hears_none port wait (sending out changed next) fits = absurd fits
 hears_none port wait (ended cause) fits = refl
 
 sent_accounts : (start : History) (octets : List ℕ) (failed : Bool) (stage : Stage) (s : Standing) (sent : List (List ℕ)) → s.stage ≡ stage
@@ -160,9 +134,10 @@ sent_accounts start octets failed resting s sent is fits accounts = absurd fits
 sent_accounts start octets failed beginning s sent is fits accounts = absurd fits
 sent_accounts start octets failed (hearing port) s sent is fits accounts = absurd fits
 sent_accounts start octets failed deciding s sent is fits accounts = absurd fits
-sent_accounts start octets failed (sending out) s sent is fits accounts = record {
+sent_accounts start octets failed (sending out changed next) s sent is fits accounts = record {
   history = accounts.history;
-  handed = accounts.handed ∙ ap (λ stage. pending stage ++ sent) is ∙ ap (λ o. o ∷ sent) (sym fits);
+  handed = accounts.handed ∙ ap (λ stage. pending stage ++ sent) is ∙ append_assoc (pending next) (out.octets ∷ []) sent
+      ∙ ap (λ o. pending next ++ o ∷ sent) (sym fits);
 }
 sent_accounts start octets failed (ended cause) s sent is fits accounts = absurd fits
 
@@ -181,7 +156,7 @@ rested_accounts start next s resting sent comes accounts = comes refl
 rested_accounts start next s beginning sent comes accounts = accounts
 rested_accounts start next s (hearing port) sent comes accounts = accounts
 rested_accounts start next s deciding sent comes accounts = accounts
-rested_accounts start next s (sending out) sent comes accounts = accounts
+rested_accounts start next s (sending out changed after) sent comes accounts = accounts
 rested_accounts start next s (ended cause) sent comes accounts = accounts
 
 turn_accounts : (start : History) (next : Option ℕ) (turns : ℕ) (otherwise s : Standing) (sent : List (List ℕ)) → HasNone s.stage
@@ -237,7 +212,7 @@ rested_counts next s resting same = same
 rested_counts next s beginning same = refl
 rested_counts next s (hearing port) same = refl
 rested_counts next s deciding same = refl
-rested_counts next s (sending out) same = refl
+rested_counts next s (sending out changed after) same = refl
 rested_counts next s (ended cause) same = refl
 
 turn_counts : (next : Option ℕ) (turns : ℕ) (otherwise s : Standing) → otherwise.tally ≡ s.tally → (turn_by next turns otherwise s).tally ≡ s.tally
@@ -266,7 +241,7 @@ clock_counts moment resting s calls totals = record { received = totals.received
 clock_counts moment beginning s calls totals = record { received = totals.received; recv_failures = totals.recv_failures; sent = totals.sent; send_failures = totals.send_failures }
 clock_counts moment (hearing port) s calls totals = record { received = totals.received; recv_failures = totals.recv_failures; sent = totals.sent; send_failures = totals.send_failures }
 clock_counts moment deciding s calls totals = record { received = totals.received; recv_failures = totals.recv_failures; sent = totals.sent; send_failures = totals.send_failures }
-clock_counts moment (sending out) s calls totals = record { received = totals.received; recv_failures = totals.recv_failures; sent = totals.sent; send_failures = totals.send_failures }
+clock_counts moment (sending out changed next) s calls totals = record { received = totals.received; recv_failures = totals.recv_failures; sent = totals.sent; send_failures = totals.send_failures }
 clock_counts moment (ended cause) s calls totals = record { received = totals.received; recv_failures = totals.recv_failures; sent = totals.sent; send_failures = totals.send_failures }
 
 limit_counts : (limit : Bool) (tally : Tally) (calls : List Call) → AreTotals tally calls
@@ -281,22 +256,14 @@ arrival_counts (Err refusal) tally calls totals = limit_counts (is_limit refusal
 
 heard_counts : (reader : Reader) (port : Port) (wait : ℕ) (what : Heard) (s : Standing) (calls : List Call) → AreTotals s.tally calls
     → AreTotals (heard_at reader port what s).tally (port_heard port wait what ∷ calls)
-heard_counts reader RtcpPort wait (datagram octets) s calls totals = arrival_counts _ (with_datagram s.tally) _ (record {
+heard_counts reader port wait (datagram peer octets) s calls totals = arrival_counts _ (with_datagram s.tally) _ (record {
   received = moved _ _ totals.received;
   recv_failures = totals.recv_failures;
   sent = totals.sent;
   send_failures = totals.send_failures;
 })
-heard_counts reader RtcpPort wait silence s calls totals = record { received = totals.received; recv_failures = totals.recv_failures; sent = totals.sent; send_failures = totals.send_failures }
-heard_counts reader RtcpPort wait failure s calls totals = record { received = totals.received; recv_failures = moved _ _ totals.recv_failures; sent = totals.sent; send_failures = totals.send_failures }
-heard_counts reader RtpPort wait (datagram octets) s calls totals = arrival_counts _ (with_datagram s.tally) _ (record {
-  received = moved _ _ totals.received;
-  recv_failures = totals.recv_failures;
-  sent = totals.sent;
-  send_failures = totals.send_failures;
-})
-heard_counts reader RtpPort wait silence s calls totals = record { received = totals.received; recv_failures = totals.recv_failures; sent = totals.sent; send_failures = totals.send_failures }
-heard_counts reader RtpPort wait failure s calls totals = record { received = totals.received; recv_failures = moved _ _ totals.recv_failures; sent = totals.sent; send_failures = totals.send_failures }
+heard_counts reader port wait silence s calls totals = record { received = totals.received; recv_failures = totals.recv_failures; sent = totals.sent; send_failures = totals.send_failures }
+heard_counts reader port wait failure s calls totals = record { received = totals.received; recv_failures = moved _ _ totals.recv_failures; sent = totals.sent; send_failures = totals.send_failures }
 
 sending_counts : (octets : List ℕ) (failed : Bool) (stage : Stage) (s : Standing) (calls : List Call) → Sends octets stage → AreTotals s.tally calls
     → AreTotals (after_sending failed stage s).tally (compound_sent octets failed ∷ calls)
@@ -304,13 +271,13 @@ sending_counts octets failed resting s calls fits totals = absurd fits
 sending_counts octets failed beginning s calls fits totals = absurd fits
 sending_counts octets failed (hearing port) s calls fits totals = absurd fits
 sending_counts octets failed deciding s calls fits totals = absurd fits
-sending_counts octets true (sending out) s calls fits totals = record {
+sending_counts octets true (sending out changed next) s calls fits totals = record {
   received = totals.received;
   recv_failures = totals.recv_failures;
   sent = moved _ _ totals.sent;
   send_failures = moved _ _ totals.send_failures;
 }
-sending_counts octets false (sending out) s calls fits totals = record {
+sending_counts octets false (sending out changed next) s calls fits totals = record {
   received = totals.received;
   recv_failures = totals.recv_failures;
   sent = moved _ _ totals.sent;

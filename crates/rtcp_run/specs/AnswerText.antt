@@ -9,7 +9,7 @@ use Rattle.rtcp_engine.specs.declared.refusal.Refusal.TheVariants.{Left, Backwar
 use Rattle.rtcp_engine.specs.declared.step.OutKind.{OutKind}
 use Rattle.rtcp_engine.specs.declared.step.OutKind.TheVariants.{Report, Bye}
 use Rattle.rtcp_engine.specs.Steps.{OutValue, StepValue, AnswerValue}
-use Rattle.rtcp_run.specs.Text.{fault_words}
+use Rattle.rtcp_run.specs.Text.{fault_words, hex_word}
 
 -- ---- Steps
 
@@ -32,9 +32,15 @@ abbrev pub out_text : Option OutValue → List ℕ
 out_text None = codes "-"
 out_text (Some out) = kind_text out.kind ++ codes ":" ++ encode_lower out.octets
 
+-- the new identifier, where there is one
+abbrev pub changed_text : Option ℕ → List ℕ
+changed_text None = []
+changed_text (Some ssrc) = codes " ssrc=" ++ hex_word ssrc
+
 abbrev pub step_text : StepValue → List ℕ
 step_text step =
     codes "ok " ++ counts_text step.members step.senders step.next ++ codes " out=" ++ out_text step.out
+    ++ changed_text step.changed
 
 -- ---- Refusals
 

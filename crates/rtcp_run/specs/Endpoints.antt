@@ -1,9 +1,11 @@
 -- An IPv4 address and a port, as options of a command line write them.
-use Rattle.std.specs.Prelude.{◌≡◌, ℕ, ◌^◌, ◌<◌, nat_lt, ◌==◌, List, [], ◌∷◌, ◌++◌, length, if◌then◌else◌, Option, Some, None, option_and_then, codes, decimal}
+use Rattle.std.specs.Prelude.{◌≡◌, ℕ, ◌+◌, ◌*◌, ◌^◌, ◌<◌, nat_lt, ◌==◌, List, [], ◌∷◌, ◌++◌, length, if◌then◌else◌, Option, Some, None, option_and_then, codes, decimal}
 use Rattle.std.specs.List.{after_first, before_first, position_or_len}
-use Rattle.std.specs.Net.Addr.{ipv4_octets}
-use Rattle.std.specs.Net.Socket.{v4_ip, v4_port}
+use Rattle.std.specs.Net.Addr.{ipv4_bits, ipv4_octets}
+use Rattle.std.specs.Net.Socket.{v4_ip, v4_port, v6_port}
 use Rattle.std.specs.Net.Text.{dotted_text}
+use Rattle.std.specs.declared.net.socket_addr.SocketAddr.{SocketAddr}
+use Rattle.std.specs.declared.net.socket_addr.SocketAddr.TheVariants.{V4, V6}
 use Rattle.std.specs.declared.net.socket_addr.SocketAddrV4.{SocketAddrV4}
 use Rattle.rtcp_run.specs.Numerals.{plain_decimal_in}
 
@@ -39,6 +41,12 @@ endpoint_in text = do
   d ← plain_decimal_in 8 fourth.0
   port ← plain_decimal_in 16 fourth.1
   Some (record { octets = a ∷ b ∷ c ∷ d ∷ []; port = port })
+
+-- A number for where a datagram came from, which no two endpoints share. A socket that is bound to an IPv4 address
+-- has no sender of IPv6.
+abbrev pub sender_number : SocketAddr → ℕ
+sender_number (V4 address) = ipv4_bits (v4_ip address) * 65536 + v4_port address
+sender_number (V6 address) = v6_port address
 
 -- ---- What the texts of endpoints are
 

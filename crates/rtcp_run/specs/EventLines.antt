@@ -27,6 +27,10 @@ fields_left (Some rest) = fields_of rest.now
 abbrev pub moment_in : List ℕ → Result ℕ LineFault
 moment_in field = ok_or (decimal_in 64 field) Number
 
+-- A peer is any number below 2^64.
+abbrev pub peer_in : List ℕ → Result ℕ LineFault
+peer_in field = ok_or (decimal_in 64 field) Number
+
 abbrev pub short_in : List ℕ → Result ℕ LineFault
 short_in field = ok_or (decimal_in 32 field) Number
 
@@ -38,11 +42,13 @@ octets_in field = ok_or (datagram_in field) Hex
 
 -- ---- Lines
 
-abbrev pub arrival : (ℕ → List ℕ → EventValue) → List (List ℕ) → Result EventValue LineFault
-arrival arrived (moment ∷ datagram ∷ []) = do
+abbrev pub arrival : ((moment peer word : ℕ) → List ℕ → EventValue) → List (List ℕ) → Result EventValue LineFault
+arrival arrived (moment ∷ peer ∷ word ∷ datagram ∷ []) = do
   now ← moment_in moment
+  from ← peer_in peer
+  random ← word_in word
   octets ← octets_in datagram
-  Ok (arrived now octets)
+  Ok (arrived now from random octets)
 arrival arrived _ = Err Words
 
 abbrev pub sending : List (List ℕ) → Result EventValue LineFault

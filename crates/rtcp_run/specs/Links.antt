@@ -8,7 +8,8 @@ use Rattle.rtcp_run.specs.declared.link.Received.TheVariants.{Got, Nothing, Fail
 
 -- what came while a port was listened to
 pub data Heard : Type 0 where
-  datagram : (octets : List ℕ) → Heard
+  -- It came from the peer of this number.
+  datagram : (peer : ℕ) (octets : List ℕ) → Heard
   silence : Heard
   failure : Heard
 
@@ -22,18 +23,18 @@ pub data Call : Type 0 where
 
 -- what a call of `recv` brought, with the octets of its buffer
 abbrev pub heard_in : (buffer : List ℕ) → Received → Heard
-heard_in buffer (Got count) = datagram (take count buffer)
+heard_in buffer (Got count peer) = datagram peer (take count buffer)
 heard_in buffer Nothing = silence
 heard_in buffer Failed = failure
 
 abbrev pub is_failure : Heard → Bool
-is_failure (datagram octets) = false
+is_failure (datagram peer octets) = false
 is_failure silence = false
 is_failure failure = true
 
 abbrev pub is_datagram : Call → Bool
 is_datagram (clock_read moment) = false
-is_datagram (port_heard port wait (datagram octets)) = true
+is_datagram (port_heard port wait (datagram peer octets)) = true
 is_datagram (port_heard port wait silence) = false
 is_datagram (port_heard port wait failure) = false
 is_datagram (compound_sent octets failed) = false
@@ -82,6 +83,6 @@ pub record WereCalled (calls : List Call) (before after : LinkValue) : Type 0 wh
 
 -- A datagram that came has no more octets than the buffer.
 abbrev pub IsWithin : Received → (buffer : List ℕ) → Type 0
-IsWithin (Got count) buffer = count ≤ length buffer
+IsWithin (Got count peer) buffer = count ≤ length buffer
 IsWithin Nothing buffer = Unit {0}
 IsWithin Failed buffer = Unit {0}

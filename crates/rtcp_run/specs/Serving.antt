@@ -44,8 +44,9 @@ pub data Stage : Type 0 where
   hearing : Port → Stage
   -- both ports were, and the moment of the tick comes next
   deciding : Stage
-  -- a compound is to be sent
-  sending : OutValue → Stage
+  -- A compound is to be sent, which an answer handed out that changed the identifier or did not. Then another stage
+  -- comes.
+  sending : (out : OutValue) (changed : Option ℕ) (next : Stage) → Stage
   ended : Cause → Stage
 
 pub record Standing : Type 0 where
@@ -119,42 +120,52 @@ told_act act s = record {
   stage = s.stage;
 }
 
--- ---- Arrivals
+-- ---- Answers
 
--- the stage after an answer to an arrival: a limit ends the session
-abbrev pub stage_after : (next : Stage) → AnswerValue → Stage
-stage_after next (Ok step) = next
-stage_after next (Err refusal) = if is_limit refusal then ended Limit else next
+abbrev pub stage_after_step : (next : Stage) → (changed : Option ℕ) → Option OutValue → Stage
+stage_after_step next changed None = next
+stage_after_step next changed (Some out) = sending out changed next
+
+-- The compound that an answer hands out goes out first, and then comes `next`. A limit ends the session, and another
+-- refusal leads to `refused`.
+abbrev pub stage_to_send : (next refused : Stage) → AnswerValue → Stage
+stage_to_send next refused (Ok step) = stage_after_step next step.changed step.out
+stage_to_send next refused (Err refusal) = if is_limit refusal then ended Limit else refused
+
+-- ---- Arrivals
 
 abbrev pub arrived : (next : Stage) → Act → Standing → Standing
 arrived next act s = let answer = answer_of s.history act in
-    at_stage (stage_after next answer) (with_tally (with_arrival answer s.tally) (told_act act s))
+    at_stage (stage_to_send next next answer) (with_tally (with_arrival answer s.tally) (told_act act s))
 
-abbrev pub heard : (act_of : List ℕ → Act) → (next : Stage) → Heard → Standing → Standing
-heard act_of next (datagram octets) s = arrived next (act_of octets) (with_tally (with_datagram s.tally) s)
+-- A word is drawn for a datagram, and the participant is told that it came.
+abbrev pub came_with : (act_of : (word : ℕ) → Act) → (next : Stage) → (word : ℕ × Stream) → Standing → Standing
+came_with act_of next word s = arrived next (act_of word.0) (with_words word.1 (with_tally (with_datagram s.tally) s))
+
+abbrev pub heard : (act_of : (peer word : ℕ) → List ℕ → Act) → (next : Stage) → Heard → Standing → Standing
+heard act_of next (datagram peer octets) s = came_with (λ word. act_of peer word octets) next (next_u32 s.words) s
 heard act_of next silence s = at_stage next (with_tally (with_silence s.tally) s)
 -- the 64th failed receive in a row ends the session
 heard act_of next failure s =
     at_stage (if suc s.tally.failures == 64 then ended LinkDown else next) (with_tally (with_failed_receive s.tally) s)
 
+-- the act of a datagram that came to a port
+abbrev pub arrival_at : Reader → Port → (moment peer word : ℕ) → List ℕ → Act
+arrival_at reader RtcpPort moment peer word octets = rtcp_came moment peer word (length octets) (reader.rtcp octets)
+arrival_at reader RtpPort moment peer word octets = rtp_came moment peer word (reader.rtp octets)
+
+-- what comes once a port was listened to
+abbrev pub after_port : Port → Stage
+after_port RtcpPort = hearing RtpPort
+after_port RtpPort = deciding
+
 abbrev pub heard_at : Reader → Port → Heard → Standing → Standing
-heard_at reader RtcpPort what s =
-    heard (λ octets. rtcp_came s.tally.moment (length octets) (reader.rtcp octets)) (hearing RtpPort) what s
-heard_at reader RtpPort what s = heard (λ octets. rtp_came s.tally.moment (reader.rtp octets)) deciding what s
+heard_at reader port what s = heard (arrival_at reader port s.tally.moment) (after_port port) what s
 
 -- ---- Ticks and the leave
 
-abbrev pub stage_after_step : Option OutValue → Stage
-stage_after_step None = resting
-stage_after_step (Some out) = sending out
-
--- The compound that an answer hands out goes out next; a refusal but for a limit leads to `refused`.
-abbrev pub stage_to_send : (refused : Stage) → AnswerValue → Stage
-stage_to_send refused (Ok step) = stage_after_step step.out
-stage_to_send refused (Err refusal) = if is_limit refusal then ended Limit else refused
-
 abbrev pub asked : (refused : Stage) → Act → Standing → Standing
-asked refused act s = at_stage (stage_to_send refused (answer_of s.history act)) (told_act act s)
+asked refused act s = at_stage (stage_to_send resting refused (answer_of s.history act)) (told_act act s)
 
 -- Two words are drawn, and the participant is told that time has passed.
 abbrev pub ticked_with : (first second : ℕ × Stream) → Standing → Standing
@@ -186,7 +197,7 @@ rested next resting s = next
 rested next beginning s = s
 rested next (hearing port) s = s
 rested next deciding s = s
-rested next (sending out) s = s
+rested next (sending out changed after) s = s
 rested next (ended cause) s = s
 
 -- What comes next, after the leave.
@@ -209,7 +220,7 @@ ReadsClock resting = ⊥
 ReadsClock beginning = Unit {0}
 ReadsClock (hearing port) = ⊥
 ReadsClock deciding = Unit {0}
-ReadsClock (sending out) = ⊥
+ReadsClock (sending out changed next) = ⊥
 ReadsClock (ended cause) = ⊥
 
 -- each port in its turn, for 20,000 microseconds at most
@@ -218,7 +229,7 @@ Hears port wait resting = ⊥
 Hears port wait beginning = ⊥
 Hears port wait (hearing next) = (port ≡ next) × (wait ≡ 20000)
 Hears port wait deciding = ⊥
-Hears port wait (sending out) = ⊥
+Hears port wait (sending out changed next) = ⊥
 Hears port wait (ended cause) = ⊥
 
 abbrev pub Sends : (octets : List ℕ) → Stage → Type 0
@@ -226,7 +237,7 @@ Sends octets resting = ⊥
 Sends octets beginning = ⊥
 Sends octets (hearing port) = ⊥
 Sends octets deciding = ⊥
-Sends octets (sending out) = octets ≡ out.octets
+Sends octets (sending out changed next) = octets ≡ out.octets
 Sends octets (ended cause) = ⊥
 
 -- a call is the one that comes at a stage
@@ -241,7 +252,7 @@ after_clock moment resting s = s
 after_clock moment beginning s = at_stage (hearing RtcpPort) (with_tally (with_moment moment s.tally) s)
 after_clock moment (hearing port) s = s
 after_clock moment deciding s = ticked_now (with_tally (with_moment moment s.tally) s)
-after_clock moment (sending out) s = s
+after_clock moment (sending out changed next) s = s
 after_clock moment (ended cause) s = s
 
 -- Whether or not sending it failed, a compound is sent once.
@@ -250,7 +261,8 @@ after_sending failed resting s = s
 after_sending failed beginning s = s
 after_sending failed (hearing port) s = s
 after_sending failed deciding s = s
-after_sending failed (sending out) s = at_stage resting (with_tally (with_send out.kind failed s.tally) s)
+after_sending failed (sending out changed next) s =
+    at_stage next (with_tally (with_send out.kind changed failed s.tally) s)
 after_sending failed (ended cause) s = s
 
 -- where a session stands after a call that fits

@@ -1,5 +1,5 @@
 -- The counts of a session over a link, event by event.
-use Rattle.std.specs.Prelude.{◌≡◌, ◌<◌, ◌^◌, ℕ, ◌+◌, ◌||◌, max, Bool, true, false, if◌then◌else◌, Result, Ok, Err}
+use Rattle.std.specs.Prelude.{◌≡◌, ◌<◌, ◌^◌, ℕ, ◌+◌, ◌||◌, max, not, is_some, Bool, true, false, if◌then◌else◌, Option, Result, Ok, Err}
 use Rattle.rtcp_engine.specs.declared.step.OutKind.{OutKind}
 use Rattle.rtcp_engine.specs.declared.step.OutKind.TheVariants.{Report, Bye}
 use Rattle.rtcp_engine.specs.declared.refusal.Refusal.{Refusal}
@@ -9,7 +9,7 @@ use Rattle.rtcp_engine.specs.Steps.{AnswerValue}
 use Rattle.rtcp_run.specs.Links.{LinkValue}
 use Rattle.rtcp_run.specs.declared.serving.Cause.{Cause}
 use Rattle.rtcp_run.specs.declared.serving.End.{End}
-use Rattle.rtcp_run.specs.declared.serving.Cause.TheVariants.{LinkDown, Limit}
+use Rattle.rtcp_run.specs.declared.serving.Cause.TheVariants.{LinkDown}
 use Rattle.rtcp_run.specs.declared.serving.tally.Tally.{Tally}
 
 -- the refusals that end a session: E3 and E4
@@ -102,8 +102,13 @@ abbrev pub with_arrival : AnswerValue → Tally → Tally
 with_arrival (Ok step) tally = tally
 with_arrival (Err refusal) tally = if is_limit refusal then tally else with_refused (tally.refused + 1) tally
 
-abbrev pub with_send : OutKind → (failed : Bool) → Tally → Tally
-with_send kind failed tally = record {
+-- whether a compound is the BYE of leaving: one that a change of identifier hands out is not
+abbrev pub is_leave_bye : OutKind → (changed : Option ℕ) → Bool
+is_leave_bye Report changed = false
+is_leave_bye Bye changed = not (is_some changed)
+
+abbrev pub with_send : OutKind → (changed : Option ℕ) → (failed : Bool) → Tally → Tally
+with_send kind changed failed tally = record {
   moment = tally.moment;
   failures = tally.failures;
   received = tally.received;
@@ -111,7 +116,7 @@ with_send kind failed tally = record {
   sent = tally.sent + 1;
   send_failures = tally.send_failures + one_if failed;
   recv_failures = tally.recv_failures;
-  bye = tally.bye || elim kind [ Report ↦ false | Bye ↦ true ];
+  bye = tally.bye || is_leave_bye kind changed;
 }
 
 -- ---- Ends
@@ -131,13 +136,6 @@ end_of cause tally = record {
 abbrev pub EndsRow : {A : Type 0} → (failures : ℕ) → Result A Cause → Type 0
 EndsRow failures (Ok done) = failures < 64
 EndsRow failures (Err cause) = (failures ≡ 64) × (cause ≡ LinkDown)
-
--- An answer to an arrival ends a session where it is a limit.
-abbrev pub EndsArrival : {A : Type 0} → AnswerValue → Result A Cause → Type 0
-EndsArrival (Ok step) (Ok done) = Unit {0}
-EndsArrival (Ok step) (Err cause) = ⊥
-EndsArrival (Err refusal) (Ok done) = is_limit refusal ≡ false
-EndsArrival (Err refusal) (Err cause) = (is_limit refusal ≡ true) × (cause ≡ Limit)
 
 -- ---- Room
 

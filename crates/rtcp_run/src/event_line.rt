@@ -55,12 +55,22 @@ pub(crate) fn read_event<'a>(
     let (name, fields) = split_field(line);
     match kind_of(name).ok_or(LineFault::Words)? {
         LineKind::Rtcp => {
-            let (now, bytes) = read_arrival(fields, datagram)?;
-            Ok(Event::ArriveRtcp { now, bytes })
+            let came = read_arrival(fields, datagram)?;
+            Ok(Event::ArriveRtcp {
+                now: came.now,
+                peer: came.peer,
+                w: came.word,
+                bytes: came.bytes,
+            })
         }
         LineKind::Rtp => {
-            let (now, bytes) = read_arrival(fields, datagram)?;
-            Ok(Event::ArriveRtp { now, bytes })
+            let came = read_arrival(fields, datagram)?;
+            Ok(Event::ArriveRtp {
+                now: came.now,
+                peer: came.peer,
+                w: came.word,
+                bytes: came.bytes,
+            })
         }
         LineKind::Sent => Ok(read_sending(fields)?),
         LineKind::Ticked => Ok(read_tick(fields)?),
@@ -97,20 +107,40 @@ fn kind_of(name: &[u8]) -> Option<LineKind>
     }
 }
 
-/// The moment and the octets of a datagram that came.
+/// A datagram that came.
+#[derive(Clone, Copy, Debug)]
+struct Came<'a> {
+    /// When, in microseconds since the session began.
+    now: u64,
+    /// A number for where it came from.
+    peer: u64,
+    /// A random word, for a new SSRC.
+    word: u32,
+    bytes: &'a [u8],
+}
+
+/// The datagram that a line says came.
 fn read_arrival<'a>(
     fields: Option<&[u8]>,
     datagram: &'a mut Vec<u8>,
-) -> Result<(u64, &'a [u8]), EventFault>
-    ensures arrival { IfOk result (λ came. (arrived : ℕ → List ℕ → EventValue) →
-        arrival arrived (fields_left fields.entry) ≡ Ok (arrived came.0 came.1.now)) }
+) -> Result<Came<'a>, EventFault>
+    ensures arrival { IfOk result (λ came. (arrived : (moment peer word : ℕ) → List ℕ → EventValue) →
+        arrival arrived (fields_left fields.entry) ≡ Ok (arrived came.now came.peer came.word came.bytes.now)) }
     ensures fault { (fault : Fault) → result ≡ Err (Line fault) →
-        (arrived : ℕ → List ℕ → EventValue) → arrival arrived (fields_left fields.entry) ≡ Err fault }
+        (arrived : (moment peer word : ℕ) → List ℕ → EventValue) →
+        arrival arrived (fields_left fields.entry) ≡ Err fault }
 {
-    let (moment, octets) = two_fields(fields).ok_or(LineFault::Words)?;
+    let (moment, peer, word, octets) = four_fields(fields).ok_or(LineFault::Words)?;
     let now = read_moment(moment)?;
+    let peer = read_decimal(peer).ok_or(LineFault::Number)?;
+    let word = read_word(word).ok_or(LineFault::Hex)?;
     let bytes = read_octets(octets, datagram)?;
-    Ok((now, bytes))
+    Ok(Came {
+        now,
+        peer,
+        word,
+        bytes,
+    })
 }
 
 /// The event of a packet that the host sent.
@@ -171,6 +201,17 @@ fn read_octets<'a>(field: &[u8], datagram: &'a mut Vec<u8>) -> Result<&'a [u8], 
             Err(DecodeFault::Memory) => Err(EventFault::Memory),
         },
     }
+}
+
+/// The four fields after a first one, if there are just four.
+fn four_fields(rest: Option<&[u8]>) -> Option<(&[u8], &[u8], &[u8], &[u8])>
+    ensures some { IfSome result (λ fields.
+        fields_left rest.entry ≡ fields.0.now ∷ fields.1.now ∷ fields.2.now ∷ fields.3.now ∷ []) }
+    ensures none { IfNone result (length (fields_left rest.entry) ≢ 4) }
+{
+    let (first, rest) = split_field(rest?);
+    let (second, third, fourth) = three_fields(rest)?;
+    Some((first, second, third, fourth))
 }
 
 /// The three fields after a first one, if there are just three.

@@ -17,8 +17,8 @@ pub enum Port {
 /// What came while a port was listened to.
 #[derive(Clone, Copy, Debug, PartialEq, Eq)]
 pub enum Received {
-    /// A datagram of so many octets, which are the first ones of the buffer.
-    Got(usize),
+    /// A datagram of so many octets, which are the first ones of the buffer, and a number for where it came from.
+    Got(usize, u64),
     /// Nothing came in time.
     Nothing,
     /// The call failed.

@@ -36,7 +36,8 @@ pub struct End {
     pub cause: Cause,
     /// How many datagrams came.
     pub received: u64,
-    /// How many of them the participant refused: not as a compound, by their head, or for naming its own SSRC.
+    /// How many of them the participant refused: not as a compound, by their head, or for naming its own SSRC where
+    /// they could not change it.
     pub refused: u64,
     /// How many compounds were handed to the link, those that it failed to send included.
     pub sent: u64,
@@ -44,7 +45,7 @@ pub struct End {
     pub send_failures: u64,
     /// How many receives failed.
     pub recv_failures: u64,
-    /// Whether a BYE was handed to the link.
+    /// Whether the BYE of leaving was handed to the link. The BYE of an SSRC that was given up does not count.
     pub bye: bool,
 }
 
@@ -52,10 +53,11 @@ pub struct End {
 /// backs off before its BYE.
 ///
 /// A turn reads the clock, listens to the port of RTCP and then to that of RTP, for 20 milliseconds each, reads
-/// the clock again, draws two words, asks the participant what is due, and sends what it answers. The moment is
-/// the greatest that the clock gave, and a compound goes to the link once, whether or not it failed to send it.
-/// After the last turn a word is drawn for the leave, at that moment. Once the participant has left, there is no
-/// further call.
+/// the clock again, draws two words, asks the participant what is due, and sends what it answers. For a datagram
+/// that came it draws a word too, before the participant is told. Where one changes the SSRC (RFC 3550, 8.2), the
+/// BYE of the old one goes out at once, before the turn goes on. The moment is the greatest that the clock gave,
+/// and a compound goes to the link once, whether or not it failed to send it. After the last turn a word is drawn
+/// for the leave, at that moment. Once the participant has left, there is no further call.
 ///
 /// It ends early where the 64th receive in a row failed, over both ports, and where the participant met a limit.
 pub fn serve<L: Link, T: MemberTable, R: Rng>(

@@ -1,11 +1,12 @@
 //! A link over two UDP sockets.
 
 ghost use Rattle.std.specs.Prelude.{◌≡◌, IfOk, None};
+ghost use Rattle.rtcp_run.specs.Endpoints.{sender_number};
 ghost use Rattle.rtcp_run.specs.Links.{LinkValue, IsWithin};
 
 use crate::link::{Link, LinkFault, Port, Received};
 use std::io::ErrorKind;
-use std::net::{Net, SocketAddrV4, UdpSocket};
+use std::net::{Net, SocketAddr, SocketAddrV4, UdpSocket};
 use std::time::{Clock, Duration, Instant};
 
 /// A link over UDP: RTP and RTCP come to a socket each, and compounds go to one peer, which may be a group. It
@@ -107,11 +108,21 @@ fn listen(socket: &UdpSocket, buf: &mut [u8], wait_us: u64) -> Received
         return Received::Failed;
     }
     match socket.recv_from(buf) {
-        Ok((count, _)) => Received::Got(count),
+        Ok((count, from)) => Received::Got(count, peer_number(from)),
         Err(error) => match error.kind() {
             ErrorKind::WouldBlock | ErrorKind::TimedOut | ErrorKind::Interrupted =>
                 Received::Nothing,
             _ => Received::Failed,
         },
+    }
+}
+
+/// A number for where a datagram came from: the IPv4 address times 65,536, plus the port.
+fn peer_number(from: SocketAddr) -> u64
+    ensures { result ≡ sender_number from }
+{
+    match from {
+        SocketAddr::V4(from) => u64::from(from.ip().to_bits()) * 65_536 + u64::from(from.port()),
+        SocketAddr::V6(from) => u64::from(from.port()),
     }
 }

@@ -5,9 +5,9 @@ use rtcp_engine::Event;
 use std::test::Fail;
 
 /// Lines, each with its first fault.
-static FAULTS: [(&str, LineFault); 42] = [
-    ("rtcp 18446744073709551616 -", LineFault::Number),
-    ("rtp 000000000000000000007 80", LineFault::Number),
+static FAULTS: [(&str, LineFault); 56] = [
+    ("rtcp 18446744073709551616 1 00000000 -", LineFault::Number),
+    ("rtp 000000000000000000007 1 00000000 80", LineFault::Number),
     ("sent 5 4294967296 0", LineFault::Number),
     ("tick 5 0000000 00000000", LineFault::Hex),
     ("tick 5 00000000 000000000", LineFault::Hex),
@@ -23,31 +23,47 @@ static FAULTS: [(&str, LineFault); 42] = [
     ("leave 0 0000000", LineFault::Hex),
     ("leave 0 000000000", LineFault::Hex),
     ("leave 18446744073709551616 0000000", LineFault::Number),
-    ("RTCP 0 -", LineFault::Words),
+    ("RTCP 0 1 00000000 -", LineFault::Words),
     ("rtcp 0", LineFault::Words),
-    ("rtcp 0 - ", LineFault::Words),
+    ("rtcp 0 1 00000000 - ", LineFault::Words),
     ("tick  5 00000000 00000000", LineFault::Words),
-    ("rtcp  -", LineFault::Number),
-    ("rtcp 0 ", LineFault::Hex),
-    ("rtcp 0 8", LineFault::Hex),
-    ("rtcp 0 80c", LineFault::Hex),
-    ("rtcp +1 -", LineFault::Number),
-    ("rtcp 0 80c9\r", LineFault::Hex),
+    ("rtcp  1 00000000 -", LineFault::Number),
+    ("rtcp 0 1 00000000 ", LineFault::Hex),
+    ("rtcp 0 1 00000000 8", LineFault::Hex),
+    ("rtcp 0 1 00000000 80c", LineFault::Hex),
+    ("rtcp +1 1 00000000 -", LineFault::Number),
+    ("rtcp 0 1 00000000 80c9\r", LineFault::Hex),
     ("sent 0 1 2\r", LineFault::Number),
     ("tick 0 00000000 0000000\r", LineFault::Hex),
-    ("rtp 0 -\t", LineFault::Hex),
-    ("rtcp 0 --", LineFault::Hex),
+    ("rtp 0 1 00000000 -\t", LineFault::Hex),
+    ("rtcp 0 1 00000000 --", LineFault::Hex),
     ("sent 0 1 2 3", LineFault::Words),
     ("sent 0 1", LineFault::Words),
     ("tick 0 00000000", LineFault::Words),
     ("tick 0 00000000 00000000 0", LineFault::Words),
-    (" rtcp 0 -", LineFault::Words),
-    ("rtp -1 -", LineFault::Number),
+    (" rtcp 0 1 00000000 -", LineFault::Words),
+    ("rtp -1 1 00000000 -", LineFault::Number),
     ("sent 0 1 -", LineFault::Number),
     ("sent 0 0x1 2", LineFault::Number),
     ("tick 0 00000000 0000000g", LineFault::Hex),
     ("sent 0 99999999999999999999 1", LineFault::Number),
-    ("rtcp 0 zz", LineFault::Hex),
+    ("rtcp 0 1 00000000 zz", LineFault::Hex),
+    // The shorter lines, without a peer or without a word.
+    ("rtcp 0 80c90001000000aa", LineFault::Words),
+    ("rtp 0 -", LineFault::Words),
+    ("rtp 0 1 -", LineFault::Words),
+    ("rtcp 0 00000000 -", LineFault::Words),
+    ("rtcp 0 1 00000000 - 0", LineFault::Words),
+    // Peers and words, and which fault comes first.
+    ("rtcp 0 18446744073709551616 00000000 -", LineFault::Number),
+    ("rtp 0 000000000000000000001 00000000 -", LineFault::Number),
+    ("rtp 0  00000000 -", LineFault::Number),
+    ("rtcp 0 -1 00000000 -", LineFault::Number),
+    ("rtcp 0 1 0000000 -", LineFault::Hex),
+    ("rtcp 0 1 000000000 -", LineFault::Hex),
+    ("rtcp 0 zz 0000000 zz", LineFault::Number),
+    ("rtcp zz 1 0000000 zz", LineFault::Number),
+    ("rtp 0 1  80", LineFault::Hex),
 ];
 
 #[test]
@@ -63,16 +79,32 @@ fn faults(rt: HostRuntime) -> Result<(), Fail> {
 #[test]
 fn datagrams(rt: HostRuntime) -> Result<(), Fail> {
     let mut datagram = Vec::new(rt.alloc());
-    match read_event(b"rtcp 18446744073709551615 80C9f0", &mut datagram)? {
-        Event::ArriveRtcp { now, bytes } => {
-            assert_eq!(rt; now, u64::MAX);
+    match read_event(
+        b"rtcp 18446744073709551615 18446744073709551615 0000000A 80C9f0",
+        &mut datagram,
+    )? {
+        Event::ArriveRtcp {
+            now,
+            peer,
+            w,
+            bytes,
+        } => {
+            assert_eq!(rt; (now, peer, w), (u64::MAX, u64::MAX, 10));
             same(&rt, bytes, &[0x80, 0xc9, 0xf0], "rtcp");
         }
         _ => Err::<(), &str>("no RTCP datagram")?,
     }
-    match read_event(b"rtp 00000000000000000007 -", &mut datagram)? {
-        Event::ArriveRtp { now, bytes } => {
-            assert_eq!(rt; now, 7);
+    match read_event(
+        b"rtp 00000000000000000007 00000000000000000008 fFfFfFfF -",
+        &mut datagram,
+    )? {
+        Event::ArriveRtp {
+            now,
+            peer,
+            w,
+            bytes,
+        } => {
+            assert_eq!(rt; (now, peer, w), (7, 8, u32::MAX));
             same(&rt, bytes, &[], "rtp");
         }
         _ => Err::<(), &str>("no RTP datagram")?,

@@ -22,6 +22,10 @@ due. After the last turn it leaves: without a word if it has sent no report, els
 more than 50 are known that BYE waits for its turn, in at most as many turns again, and may not go
 out. It sends no RTP, and nothing is written before the end.
 
+In a collision, where a datagram names the participant's own SSRC, it takes another one at random
+and sends a BYE for the old one if it has reported under it: once for each sender of such
+datagrams, and at most eight times; later ones are refused.
+
 A turn takes at most one RTP packet, and may wait 20 milliseconds for RTCP before. So media of 50
 packets a second or more outruns it, and what the socket then drops is reported as lost. Moments
 are those of the turn, so that jitter and the delay since a sender report are some 20 milliseconds
@@ -48,7 +52,7 @@ For either:
 One line comes out at the end: Done after the last turn, LinkDown where 64 receives in a row
 failed, or Limit where the participant met a limit of its own; how many datagrams came, how many
 of them were refused, how many compounds were sent, how many sends and receives failed, and
-whether a BYE was sent.
+whether the BYE of leaving was sent.
 
     end Done received=137 refused=0 sent=5 send-failures=0 recv-failures=0 bye=yes
 

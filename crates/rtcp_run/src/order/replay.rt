@@ -17,22 +17,25 @@ Show what a participant answers to the events of a session.
 
 Pipe in one event a line, with its moment in microseconds since the session began:
 
-    rtcp MOMENT HEX               an RTCP datagram came, in hex, - for the empty one
-    rtp MOMENT HEX                an RTP datagram came
+    rtcp MOMENT PEER WORD HEX     an RTCP datagram came, in hex, - for the empty one
+    rtp MOMENT PEER WORD HEX      an RTP datagram came
     sent MOMENT TIMESTAMP OCTETS  the host sent an RTP packet with so many octets of payload
     tick MOMENT WORD WORD         the host asks what is due, with two random words
     leave MOMENT WORD             the host asks the participant to leave, with a random word
 
+PEER is a number below 2^64 for where a datagram came from, and its random word is for a new SSRC.
+
 For instance:
 
-    rtcp 0 80c900010000000781ca00020000000701016100
+    rtcp 0 1 00000000 80c900010000000781ca00020000000701016100
     tick 1026037 00000000 00000000
-    rtcp 1026037 -
+    rtcp 1026037 1 00000000 -
     leave 2000000 00000000
 
 A line for the start comes out, and then one line for each line that goes in: the members and
 senders, the moment to tick next, - once the participant has left, and the report or BYE to send
-now, or why the event was refused.
+now, or why the event was refused. Where a datagram named the participant's own SSRC and so
+changed it, the line ends in ssrc= and the new one.
 
     start members=1 senders=0 next=1026037
     ok members=2 senders=0 next=1026037 out=-

@@ -2,7 +2,7 @@
 
 ghost use Rattle.std.specs.Prelude.{◌≡◌, ◌<◌, ◌+◌, ◌^◌};
 ghost use Rattle.rtcp_engine.specs.Views.{answer_value};
-ghost use Rattle.rtcp_run.specs.Tallies.{end_of, is_limit, no_calls, with_arrival, with_datagram, with_failed_receive, with_moment, with_send, with_silence, EndsArrival, EndsRow};
+ghost use Rattle.rtcp_run.specs.Tallies.{end_of, is_limit, no_calls, with_arrival, with_datagram, with_failed_receive, with_moment, with_send, with_silence, EndsRow};
 
 use crate::serving::{Cause, End};
 use rtcp_engine::{Answer, OutKind, Refusal};
@@ -84,35 +84,27 @@ impl Tally {
         Ok(())
     }
 
-    /// The participant answered an arrival.
-    ///
-    /// # Errors
-    ///
-    /// [`Cause::Limit`] where it met a limit.
-    pub(crate) fn arrival(&mut self, answer: Answer) -> Result<(), Cause>
+    /// The participant answered an arrival. A refusal counts, unless it is a limit.
+    pub(crate) fn arrival(&mut self, answer: &Answer)
         requires { self.old.refused + 1 < 2 ^ 64 }
-        ensures counted { self.new ≡ with_arrival (answer_value answer) self.old }
-        ensures ends { EndsArrival (answer_value answer) result }
+        ensures { self.new ≡ with_arrival (answer_value answer.now) self.old }
     {
-        match answer {
-            Ok(_) => Ok(()),
-            Err(refusal) if is_limit(refusal) => Err(Cause::Limit),
-            Err(_) => {
+        if let Err(refusal) = answer {
+            if !is_limit(*refusal) {
                 self.refused += 1;
-                Ok(())
             }
         }
     }
 
-    /// A compound was handed to the link.
-    pub(crate) fn send(&mut self, kind: OutKind, failed: bool)
+    /// A compound was handed to the link, of an answer that changed the SSRC or did not.
+    pub(crate) fn send(&mut self, kind: OutKind, changed: Option<u32>, failed: bool)
         requires sent { self.old.sent + 1 < 2 ^ 64 }
         requires failures { self.old.send_failures + 1 < 2 ^ 64 }
-        ensures { self.new ≡ with_send kind failed self.old }
+        ensures { self.new ≡ with_send kind changed failed self.old }
     {
         self.sent += 1;
         self.send_failures += u64::from(failed);
-        self.bye = self.bye || kind == OutKind::Bye;
+        self.bye = self.bye || (kind == OutKind::Bye && changed.is_none());
     }
 
     /// What the session came to.

@@ -9,6 +9,7 @@ use rtcp_members::SortedTable;
 use std::process::Abort;
 use std::test::*;
 
+mod collisions;
 mod log;
 mod logs;
 mod memory_link;

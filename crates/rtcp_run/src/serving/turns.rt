@@ -7,8 +7,8 @@ ghost use Rattle.rtcp_engine.specs.States.{ParticipantValue, StandsAt};
 ghost use Rattle.rtcp_engine.specs.Views.{answer_value};
 ghost use Rattle.rtcp_run.specs.declared.link.Port.TheVariants.{Rtcp as RtcpPort, Rtp as RtpPort};
 ghost use Rattle.rtcp_run.specs.declared.serving.Cause.TheVariants.{Done};
-ghost use Rattle.rtcp_run.specs.Links.{Call, Heard, WereCalled, clock_read, port_heard};
-ghost use Rattle.rtcp_run.specs.Serving.{IsReader, Reader, Stage, Standing, deciding, ended, going, hearing, resting, heard_at, stage_to_send};
+ghost use Rattle.rtcp_run.specs.Links.{Call, WereCalled, clock_read};
+ghost use Rattle.rtcp_run.specs.Serving.{IsReader, Reader, Stage, Standing, deciding, ended, going, hearing, resting, stage_to_send};
 ghost use Rattle.rtcp_run.specs.Sessions.{Comes, EndsAs, EndsTurns, IsLeaveDue, Holds, HasTurn, Leads, Reaches, ReachesBy};
 ghost use Rattle.rtcp_run.specs.Tallies.{HasRoom, with_moment};
 
@@ -32,29 +32,35 @@ fn read_clock<L: Link>(link: &mut L, tally: &mut Tally)
     tally.clock(link.now());
 }
 
-/// Listens to the RTCP port, and tells the participant what came.
-fn hear_rtcp<L: Link, T: MemberTable>(
+/// Listens to the RTCP port, and tells the participant what came, with a random word. Sends the BYE of an SSRC that
+/// it gives up for that.
+fn hear_rtcp<L: Link, T: MemberTable, R: Rng>(
     link: &mut L,
     participant: &mut Participant<T>,
+    rng: &mut R,
     tally: &mut Tally,
     buf: &mut [u8],
 ) -> Result<(), Cause>
     requires row { tally.old.failures < 64 }
-    requires room { HasRoom 1 tally.old (L.value link.old) }
-    ensures heard { (what : Heard)
-        × WereCalled (port_heard RtcpPort 20000 what ∷ []) (L.value link.old) (L.value link.new)
-        × ((reader : Reader) (words : Stream) (s : Standing) → IsReader reader →
-        Holds s participant.old words tally.old → Holds (heard_at reader RtcpPort what s) participant.new words tally.new
-        × Reaches (hearing RtpPort) result (heard_at reader RtcpPort what s)) }
+    requires room { HasRoom 2 tally.old (L.value link.old) }
+    ensures leads { (reader : Reader) (total : ℕ) (s : Standing) → IsReader reader →
+        Holds s participant.old (R.stream rng.old) tally.old → s.stage ≡ hearing RtcpPort →
+        (calls : List Call) × (t : Standing) × Leads reader total calls s t (L.value link.old) (L.value link.new)
+        × Holds t participant.new (R.stream rng.new) tally.new × Reaches (hearing RtpPort) result t
+        × (t.turns ≡ s.turns) × (t.leaving ≡ s.leaving) }
     ensures row { OnOk result (tally.new.failures < 64) }
-    ensures room { (more : ℕ) → HasRoom (more + 1) tally.old (L.value link.old) →
+    ensures room { (more : ℕ) → HasRoom (more + 2) tally.old (L.value link.old) →
         HasRoom more tally.new (L.value link.new) }
 {
     match link.recv(Port::Rtcp, buf, WAIT) {
-        Received::Got(count) => {
+        Received::Got(count, peer) => {
             tally.datagram();
             let (octets, _) = buf.split_at(count);
-            tally.arrival(participant.arrive_rtcp(tally.moment, octets))
+            let drawn = rng.next_u32();
+            let answer = participant.arrive_rtcp(tally.moment, peer, drawn, octets);
+            tally.arrival(&answer);
+            hand_over(link, tally, answer)?;
+            Ok(())
         }
         Received::Nothing => {
             tally.silence();
@@ -64,29 +70,34 @@ fn hear_rtcp<L: Link, T: MemberTable>(
     }
 }
 
-/// Listens to the RTP port, and tells the participant what came.
-fn hear_rtp<L: Link, T: MemberTable>(
+/// Listens to the RTP port, and tells the participant what came, as [`hear_rtcp`] does.
+fn hear_rtp<L: Link, T: MemberTable, R: Rng>(
     link: &mut L,
     participant: &mut Participant<T>,
+    rng: &mut R,
     tally: &mut Tally,
     buf: &mut [u8],
 ) -> Result<(), Cause>
     requires row { tally.old.failures < 64 }
-    requires room { HasRoom 1 tally.old (L.value link.old) }
-    ensures heard { (what : Heard)
-        × WereCalled (port_heard RtpPort 20000 what ∷ []) (L.value link.old) (L.value link.new)
-        × ((reader : Reader) (words : Stream) (s : Standing) → IsReader reader →
-        Holds s participant.old words tally.old → Holds (heard_at reader RtpPort what s) participant.new words tally.new
-        × Reaches deciding result (heard_at reader RtpPort what s)) }
+    requires room { HasRoom 2 tally.old (L.value link.old) }
+    ensures leads { (reader : Reader) (total : ℕ) (s : Standing) → IsReader reader →
+        Holds s participant.old (R.stream rng.old) tally.old → s.stage ≡ hearing RtpPort →
+        (calls : List Call) × (t : Standing) × Leads reader total calls s t (L.value link.old) (L.value link.new)
+        × Holds t participant.new (R.stream rng.new) tally.new × Reaches deciding result t
+        × (t.turns ≡ s.turns) × (t.leaving ≡ s.leaving) }
     ensures row { OnOk result (tally.new.failures < 64) }
-    ensures room { (more : ℕ) → HasRoom (more + 1) tally.old (L.value link.old) →
+    ensures room { (more : ℕ) → HasRoom (more + 2) tally.old (L.value link.old) →
         HasRoom more tally.new (L.value link.new) }
 {
     match link.recv(Port::Rtp, buf, WAIT) {
-        Received::Got(count) => {
+        Received::Got(count, peer) => {
             tally.datagram();
             let (octets, _) = buf.split_at(count);
-            tally.arrival(participant.arrive_rtp(tally.moment, octets))
+            let drawn = rng.next_u32();
+            let answer = participant.arrive_rtp(tally.moment, peer, drawn, octets);
+            tally.arrival(&answer);
+            hand_over(link, tally, answer)?;
+            Ok(())
         }
         Received::Nothing => {
             tally.silence();
@@ -103,10 +114,11 @@ fn hear_rtp<L: Link, T: MemberTable>(
 /// [`Cause::Limit`] where the participant met a limit.
 fn hand_over<L: Link>(link: &mut L, tally: &mut Tally, answer: Answer) -> Result<bool, Cause>
     requires room { HasRoom 1 tally.old (L.value link.old) }
-    ensures leads { (reader : Reader) (total : ℕ) (refused : Stage) (kept : ParticipantValue) (words : Stream)
-        (s : Standing) → Holds s kept words tally.old → s.stage ≡ stage_to_send refused (answer_value answer) →
+    ensures leads { (reader : Reader) (total : ℕ) (next refused : Stage) (kept : ParticipantValue) (words : Stream)
+        (s : Standing) → Holds s kept words tally.old →
+        s.stage ≡ stage_to_send next refused (answer_value answer) →
         (calls : List Call) × (t : Standing) × Leads reader total calls s t (L.value link.old) (L.value link.new)
-        × Holds t kept words tally.new × ReachesBy resting refused result t × (t.turns ≡ s.turns)
+        × Holds t kept words tally.new × ReachesBy next refused result t × (t.turns ≡ s.turns)
         × (t.leaving ≡ s.leaving) × (t.history ≡ s.history) }
     ensures row { tally.new.failures ≡ tally.old.failures }
     ensures room { (more : ℕ) → HasRoom (more + 1) tally.old (L.value link.old) →
@@ -114,10 +126,11 @@ fn hand_over<L: Link>(link: &mut L, tally: &mut Tally, answer: Answer) -> Result
 {
     match answer {
         Ok(step) => {
+            let changed = step.changed;
             match step.out {
                 Some(out) => {
                     let sent = link.send(out.bytes.as_slice());
-                    tally.send(out.kind, sent.is_err());
+                    tally.send(out.kind, changed, sent.is_err());
                 }
                 None => {}
             }
@@ -167,19 +180,19 @@ fn turn<L: Link, T: MemberTable, R: Rng>(
     buf: &mut [u8],
 ) -> Result<(), Cause>
     requires row { tally.old.failures < 64 }
-    requires room { HasRoom 3 tally.old (L.value link.old) }
+    requires room { HasRoom 5 tally.old (L.value link.old) }
     ensures leads { (reader : Reader) (total left : ℕ) (s : Standing) → IsReader reader →
         Holds s participant.old (R.stream rng.old) tally.old → HasTurn left s →
         (calls : List Call) × (t : Standing) × Leads reader total calls s t (L.value link.old) (L.value link.new)
         × Holds t participant.new (R.stream rng.new) tally.new × Reaches resting result t × (t.turns ≡ left)
         × (t.leaving ≡ s.leaving) }
     ensures row { OnOk result (tally.new.failures < 64) }
-    ensures room { (more : ℕ) → HasRoom (more + 3) tally.old (L.value link.old) →
+    ensures room { (more : ℕ) → HasRoom (more + 5) tally.old (L.value link.old) →
         HasRoom more tally.new (L.value link.new) }
 {
     read_clock(link, tally);
-    hear_rtcp(link, participant, tally, buf)?;
-    hear_rtp(link, participant, tally, buf)?;
+    hear_rtcp(link, participant, rng, tally, buf)?;
+    hear_rtp(link, participant, rng, tally, buf)?;
     tick(link, participant, rng, tally)
 }
 
@@ -193,13 +206,13 @@ fn make_turns<L: Link, T: MemberTable, R: Rng>(
     buf: &mut [u8],
 ) -> Result<(), Cause>
     requires row { tally.old.failures < 64 }
-    requires room { HasRoom (turns * 3) tally.old (L.value link.old) }
+    requires room { HasRoom (turns * 5) tally.old (L.value link.old) }
     ensures leads { (reader : Reader) (total : ℕ) (s : Standing) → IsReader reader →
         Holds s participant.old (R.stream rng.old) tally.old → s.stage ≡ resting → s.turns ≡ turns →
         (calls : List Call) × (t : Standing) × Leads reader total calls s t (L.value link.old) (L.value link.new)
         × Holds t participant.new (R.stream rng.new) tally.new × EndsTurns result t × (t.leaving ≡ s.leaving) }
     ensures row { OnOk result (tally.new.failures < 64) }
-    ensures room { (more : ℕ) → HasRoom (more + turns * 3) tally.old (L.value link.old) →
+    ensures room { (more : ℕ) → HasRoom (more + turns * 5) tally.old (L.value link.old) →
         HasRoom more tally.new (L.value link.new) }
 {
     'turns: for _ in 0..turns {
@@ -245,7 +258,7 @@ pub(crate) fn session<L: Link, T: MemberTable, R: Rng>(
     buf: &mut [u8],
 ) -> Result<(), Cause>
     requires row { tally.old.failures < 64 }
-    requires room { HasRoom (turns * 6 + 1) tally.old (L.value link.old) }
+    requires room { HasRoom (turns * 10 + 1) tally.old (L.value link.old) }
     ensures serves { (reader : Reader) (s : Standing) → IsReader reader →
         Holds s participant.old (R.stream rng.old) tally.old → s.stage ≡ resting → s.turns ≡ turns →
         s.leaving ≡ false → (calls : List Call) × (t : Standing)

@@ -17,9 +17,9 @@ static TEXTS: [(&str, &str); 4] = [
     // One that sent nothing leaves silently. Then each call is refused, for no other reason.
     (
         "leave 0 00000000\n\
-        rtcp 0 80c900010000000781ca00020000000701016100\n\
-        rtcp 0 -\n\
-        rtp 0 800000010000000000000007\n\
+        rtcp 0 1 00000000 80c900010000000781ca00020000000701016100\n\
+        rtcp 0 1 00000000 -\n\
+        rtp 0 1 00000000 800000010000000000000007\n\
         sent 0 0 0\n\
         tick 0 00000000 00000000\n\
         leave 0 00000000\n",
@@ -35,9 +35,9 @@ static TEXTS: [(&str, &str); 4] = [
         tick 6 00000000 00000000\n\
         leave 6 00000000\n\
         sent 18446744073709551615 0 0\n\
-        rtcp 0 80c90001000000aa\n\
-        rtcp 6 80\n\
-        rtp 6 -\n",
+        rtcp 0 1 00000000 80c90001000000aa\n\
+        rtcp 6 1 00000000 80\n\
+        rtp 6 1 00000000 -\n",
         "start members=1 senders=0 next=1026037\n\
         ok members=1 senders=0 next=1026037 out=-\n\
         ok members=0 senders=0 next=- out=-\n\
@@ -83,7 +83,7 @@ fn push_named(
     first: u8,
     end: u8,
 ) -> Result<(), AllocError> {
-    text.push_str("rtcp 9999999 80c9000100000001")?;
+    text.push_str("rtcp 9999999 1 00000000 80c9000100000001")?;
     text.push_str(header)?;
     for ssrc in first..end {
         text.push_str(&format!(in alloc; "{ssrc:08x}01016100")?)?;
@@ -134,18 +134,19 @@ static CROWDED: [(&str, u8, &str, &str); 3] = [
         refused E1 Left\n",
     ),
     // Until then BYE packets count, and nothing else: no RTP packet of its own or of others, no other source,
-    // no second leave. What is refused otherwise is refused so too.
+    // no second leave. What is refused otherwise is refused so too. A collision gives the old SSRC up, and the
+    // BYE of leaving is that of the new one.
     (
         "93ca0026",
         51,
         "leave 10000000 00000000\n\
-        rtcp 10000000 80c900010000000181cb000100000001\n\
+        rtcp 10000000 1 00000000 80c900010000000181cb000100000001\n\
         sent 10000000 0 0\n\
-        rtp 10000000 800000010000000000000007\n\
-        rtcp 10000000 80c900010000000781ca00020000000701016100\n\
+        rtp 10000000 1 00000000 800000010000000000000007\n\
+        rtcp 10000000 1 00000000 80c900010000000781ca00020000000701016100\n\
         leave 10000000 ffffffff\n\
         leave 9999999 00000000\n\
-        rtcp 10000000 80c90001000000aa\n\
+        rtcp 10000000 1 00000000 80c90001000000aa\n\
         tick 11026037 00000000 00000000\n",
         "start members=1 senders=0 next=1026037\n\
         ok members=1 senders=0 next=3078111 out=report:80c90001000000aa81ca0002000000aa01016100\n\
@@ -158,9 +159,10 @@ static CROWDED: [(&str, u8, &str, &str); 3] = [
         ok members=2 senders=0 next=11026037 out=-\n\
         ok members=2 senders=0 next=11026037 out=-\n\
         refused E2 Backwards\n\
-        refused E7 OwnSsrc\n\
+        ok members=2 senders=0 next=11026037 \
+        out=bye:80c90001000000aa81ca0002000000aa0101610081cb0001000000aa ssrc=00000000\n\
         ok members=0 senders=0 next=- \
-        out=bye:80c90001000000aa81ca0002000000aa0101610081cb0001000000aa\n",
+        out=bye:80c900010000000081ca0002000000000101610081cb000100000000\n",
     ),
 ];
 
@@ -178,7 +180,7 @@ fn crowds(rt: HostRuntime) -> Result<(), Fail> {
 fn most_byes(rt: HostRuntime) -> Result<(), Fail> {
     let alloc = rt.alloc();
     let byes = "80cb0000".repeat(alloc, 16_381)?;
-    let line = format!(in alloc; "rtcp 10000000 80c9000100000001{byes}\n")?;
+    let line = format!(in alloc; "rtcp 10000000 1 00000000 80c9000100000001{byes}\n")?;
     let lines = format!(in alloc; "leave 10000000 00000000\n{line}{line}{line}{line}{line}")?;
     let text = "start members=1 senders=0 next=1026037\n\
         ok members=1 senders=0 next=3078111 out=report:80c90001000000aa81ca0002000000aa01016100\n\

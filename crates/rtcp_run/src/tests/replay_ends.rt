@@ -12,9 +12,9 @@ use std::alloc::Global;
 use std::io::{Read, Write};
 
 /// The session of docs/FORMATS.md, whose last line lacks its line feed.
-const LINES: &[u8] = b"rtcp 0 80c900010000000781ca00020000000701016100\n\
+const LINES: &[u8] = b"rtcp 0 1 00000000 80c900010000000781ca00020000000701016100\n\
     tick 1026037 00000000 00000000\n\
-    rtcp 1026037 -";
+    rtcp 1026037 1 00000000 -";
 
 const TEXT: &[u8] = b"start members=1 senders=0 next=1026037\n\
     ok members=2 senders=0 next=1026037 out=-\n\
@@ -27,8 +27,8 @@ const WRITE: Result<(), ReplayFault> = Err(ReplayFault::Run(TextFault::Write));
 /// alone.
 fn answered(octets: u32) -> usize {
     match octets {
-        0..48 => 39,
-        48..79 => 81,
+        0..59 => 39,
+        59..90 => 81,
         _ => 169,
     }
 }
@@ -67,7 +67,7 @@ fn one_octet_at_a_time(rt: HostRuntime) {
     let reader = Pieces {
         rest: LINES,
         piece: 1,
-        calls: 94,
+        calls: 116,
     };
     let writer = Narrow {
         taken: Vec::new(rt.alloc()),
@@ -84,7 +84,7 @@ fn one_octet_at_a_time(rt: HostRuntime) {
 /// At each call of the reader, the end of the input included.
 #[test]
 fn failed_reads(rt: HostRuntime) {
-    for calls in 0u32..94 {
+    for calls in 0u32..116 {
         let reader = Pieces {
             rest: LINES,
             piece: 1,
@@ -142,9 +142,9 @@ fn failed_answers(rt: HostRuntime) {
 
 /// A line and the first words of one, its other words, its line feed and a word, and the last octet.
 const BLOCKS: [&[u8]; 4] = [
-    b"rtcp 0 80c900010000000781ca00020000000701016100\ntick 1026037 ",
+    b"rtcp 0 1 00000000 80c900010000000781ca00020000000701016100\ntick 1026037 ",
     b"00000000 00000000",
-    b"\nrtcp 1026037 ",
+    b"\nrtcp 1026037 1 00000000 ",
     b"-",
 ];
 

@@ -63,7 +63,7 @@ const NARROW: [&str; 8] = [
 ];
 
 /// Sessions, and a line that is no hex: the words, the lines, the status, the text and the fault line.
-static TEXTS: [(&[&str], &str, u8, &str, &str); 5] = [
+static TEXTS: [(&[&str], &str, u8, &str, &str); 8] = [
     (
         &PLAIN,
         "tick 1026036 00000000 00000000\ntick 1026037 00000000 00000000\n",
@@ -75,11 +75,56 @@ static TEXTS: [(&[&str], &str, u8, &str, &str); 5] = [
     ),
     (
         &PLAIN,
-        "rtcp 0 80c90001000000aa\nrtcp 0 -\nrtp 0 80480001000000000000000a\ntick 5 zz 00000000\n",
+        "rtcp 0 1 00000000 80c90001000000aa\nrtcp 0 1 00000000 -\n\
+        rtp 0 1 00000000 80480001000000000000000a\ntick 5 zz 00000000\n",
         2,
         "start members=1 senders=0 next=1026037\n\
-        refused E7 OwnSsrc\nrefused E5 Wire: F1 Short at 0\nrefused E6 Rtp: G3 PayloadType\n",
+        ok members=1 senders=0 next=1026037 out=- ssrc=00000000\n\
+        refused E5 Wire: F1 Short at 0\nrefused E6 Rtp: G3 PayloadType\n",
         "line 4: X4 Hex\n",
+    ),
+    // A datagram that names the own SSRC changes it to the random word, or to the next number that is free, once a
+    // peer. A line without a peer and a word is none.
+    (
+        &PLAIN,
+        "rtcp 0 7 000000bb 80c90001000000aa\nrtcp 0 7 000000bb 80c90001000000aa\n\
+        rtcp 0 7 000000cc 80c90001000000bb\nrtcp 0 8 000000aa 80c90001000000bb\n\
+        rtcp 0 80c90001000000aa\n",
+        2,
+        "start members=1 senders=0 next=1026037\n\
+        ok members=1 senders=0 next=1026037 out=- ssrc=000000bb\n\
+        ok members=1 senders=0 next=1026037 out=-\n\
+        refused E7 OwnSsrc\n\
+        ok members=1 senders=0 next=1026037 out=- ssrc=000000ab\n",
+        "line 5: X3 Words\n",
+    ),
+    // After a report the old SSRC is given up with a BYE. The next report comes from the new one,
+    (
+        &PLAIN,
+        "tick 1026037 00000000 00000000\n\
+        rtcp 1026037 7 000000bb 80c90001000000aa81ca0002000000aa01016100\n\
+        tick 3078111 00000000 00000000\n",
+        0,
+        "start members=1 senders=0 next=1026037\n\
+        ok members=1 senders=0 next=3078111 out=report:80c90001000000aa81ca0002000000aa01016100\n\
+        ok members=2 senders=0 next=3078111 \
+        out=bye:80c90001000000aa81ca0002000000aa0101610081cb0001000000aa ssrc=000000bb\n\
+        ok members=2 senders=0 next=5130185 out=report:80c90001000000bb81ca0002000000bb01016100\n",
+        "",
+    ),
+    // and a leave before it is silent.
+    (
+        &PLAIN,
+        "tick 1026037 00000000 00000000\n\
+        rtcp 1026037 7 000000bb 80c90001000000aa81ca0002000000aa01016100\n\
+        leave 3078111 00000000\n",
+        0,
+        "start members=1 senders=0 next=1026037\n\
+        ok members=1 senders=0 next=3078111 out=report:80c90001000000aa81ca0002000000aa01016100\n\
+        ok members=2 senders=0 next=3078111 \
+        out=bye:80c90001000000aa81ca0002000000aa0101610081cb0001000000aa ssrc=000000bb\n\
+        ok members=0 senders=0 next=- out=-\n",
+        "",
     ),
     (&LATE, "", 0, "start members=1 senders=0 next=3078111\n", ""),
     (
@@ -111,7 +156,7 @@ fn texts(rt: HostRuntime) -> Result<(), Fail> {
 #[test]
 fn longest_datagram(rt: HostRuntime) -> Result<(), Fail> {
     let zeros = "0".repeat(rt.alloc(), 131_072)?;
-    let line = format!(in rt.alloc(); "rtcp 0 {zeros}")?;
+    let line = format!(in rt.alloc(); "rtcp 0 1 00000000 {zeros}")?;
     let text = "start members=1 senders=0 next=1026037\nrefused E5 Wire: F10 TooLong at 0\n";
     let ended = ended(rt.alloc(), &PLAIN, line.as_bytes(), 100)?;
     ends_with(&rt, ended, 0, text, "");

@@ -2,9 +2,9 @@
 
 ghost use Rattle.std.specs.Prelude.{◌≡◌, ◌++◌, OnOk, option_map};
 ghost use Rattle.rtcp_engine.specs.Views.{answer_value, step_value, out_value};
-ghost use Rattle.rtcp_run.specs.AnswerText.{answer_text, counts_text, kind_text, next_text, out_text, refusal_text, rtp_fault_text, start_text, step_text};
+ghost use Rattle.rtcp_run.specs.AnswerText.{answer_text, changed_text, counts_text, kind_text, next_text, out_text, refusal_text, rtp_fault_text, start_text, step_text};
 
-use super::digits::{push_decimal, push_octets};
+use super::digits::{push_decimal, push_octets, push_word};
 use super::push_fault_words;
 use rtcp_engine::{Answer, Out, OutKind, Refusal, Step};
 use rtcp_wire::RtpFault;
@@ -42,7 +42,8 @@ fn push_step(out: &mut Vec<u8>, step: &Step) -> Result<(), AllocError>
     out.extend_from_slice(b"ok ")?;
     push_counts(out, step.members, step.senders, step.next)?;
     out.extend_from_slice(b" out=")?;
-    push_out(out, &step.out)
+    push_out(out, &step.out)?;
+    push_changed(out, step.changed)
 }
 
 /// Appends the members, the senders and the moment of the next tick.
@@ -84,6 +85,17 @@ fn push_out(out: &mut Vec<u8>, sent: &Option<Out>) -> Result<(), AllocError>
         }
         None => out.extend_from_slice(b"-"),
     }
+}
+
+/// Appends the new SSRC, where the call changed it.
+fn push_changed(out: &mut Vec<u8>, changed: Option<u32>) -> Result<(), AllocError>
+    ensures { OnOk result (out.new.items ≡ out.old.items ++ changed_text changed) }
+{
+    if let Some(ssrc) = changed {
+        out.extend_from_slice(b" ssrc=")?;
+        push_word(out, ssrc)?;
+    }
+    Ok(())
 }
 
 fn kind_name(kind: OutKind) -> &'static str

@@ -12,8 +12,8 @@ use std::alloc::Global;
 pub(crate) enum Made {
     /// The clock gave a moment.
     Clock(u64),
-    /// A datagram came to a port, which was listened to for so long at most.
-    Came(Port, u64, Vec<u8>),
+    /// A datagram came to a port, which was listened to for so long at most, from the peer of this number.
+    Came(Port, u64, u64, Vec<u8>),
     /// Nothing came to it.
     Silence(Port, u64),
     /// Listening to it failed.
@@ -39,7 +39,7 @@ pub(crate) struct Log {
 impl Told for Log {
     ghost calls = { λ log. if log.is_whole then Some (reverse (map (λ made. elim made [
       | Clock moment ↦ clock_read moment
-      | Came port wait octets ↦ port_heard port wait (datagram octets.items)
+      | Came port wait peer octets ↦ port_heard port wait (datagram peer octets.items)
       | Silence port wait ↦ port_heard port wait silence
       | Failure port wait ↦ port_heard port wait failure
       | Sent octets failed ↦ compound_sent octets.items failed
@@ -67,7 +67,7 @@ impl Log {
     fn note(&mut self, made: Made)
         ensures { GrowsBy (elim made [
           | Clock moment ↦ clock_read moment
-          | Came port wait octets ↦ port_heard port wait (datagram octets.items)
+          | Came port wait peer octets ↦ port_heard port wait (datagram peer octets.items)
           | Silence port wait ↦ port_heard port wait silence
           | Failure port wait ↦ port_heard port wait failure
           | Sent octets failed ↦ compound_sent octets.items failed
@@ -94,10 +94,10 @@ impl Log {
             (⟦<Log as Told>⟧.calls self.old) (⟦<Log as Told>⟧.calls self.new) }
     {
         match received {
-            Received::Got(count) => {
+            Received::Got(count, peer) => {
                 let (octets, _) = buf.split_at(count);
                 match Vec::from_slice(self.alloc, octets) {
-                    Ok(octets) => self.note(Made::Came(port, wait_us, octets)),
+                    Ok(octets) => self.note(Made::Came(port, wait_us, peer, octets)),
                     Err(_) => self.is_whole = false,
                 }
             }

@@ -24,14 +24,14 @@ fn in_order(rt: HostRuntime) -> Result<(), Fail> {
         Coming::Named(7),
         Coming::Nothing,
         Coming::Failure,
-        Coming::Datagram(&[0x80, 0, 0, 1, 0, 0, 0, 0, 0, 0, 0, 9]),
+        Coming::Datagram(1, &[0x80, 0, 0, 1, 0, 0, 0, 0, 0, 0, 0, 9]),
         Coming::Nothing,
-        Coming::Datagram(&[0x80, 0, 0, 2, 0, 0, 0, 0, 0, 0, 0, 9]),
+        Coming::Datagram(1, &[0x80, 0, 0, 2, 0, 0, 0, 0, 0, 0, 0, 9]),
     ];
     for failing in [[0, 1], [1, 2], [2, 3], [3, 4]] {
         let mut link = MemoryLink::new(rt.alloc(), &moments, &coming, &failing, 100)?;
         let (end, drawn) = served(&mut link, &mut sender(&rt), 5);
-        assert_eq!(rt; drawn, 11);
+        assert_eq!(rt; drawn, 14);
         assert_eq!(rt; end.sent, 4);
         Reader::new(link.log.calls.as_slice(), sender(&rt)).session(&rt, 5);
     }
@@ -66,7 +66,7 @@ fn backs_off(rt: HostRuntime) -> Result<(), Fail> {
         bye: true,
     };
     assert_eq!(rt; end, want);
-    assert_eq!(rt; drawn, 52 * 2 + 1 + 2 * 2);
+    assert_eq!(rt; drawn, 52 * 2 + 51 + 1 + 2 * 2);
     assert!(rt; leaving.next().is_none());
     assert_eq!(rt; link.log.calls.len(), 54 * 4 + 2);
     Reader::new(link.log.calls.as_slice(), participant(&rt)).session(&rt, 52);

@@ -11,8 +11,9 @@ use std::alloc::{AllocError, Global};
 /// What comes while a port is listened to.
 #[derive(Clone, Copy, PartialEq, Eq)]
 pub(crate) enum Coming {
-    Datagram(&'static [u8]),
-    /// The named compound of a source.
+    /// These octets, from the peer of this number.
+    Datagram(u64, &'static [u8]),
+    /// The named compound of a source, from the peer of the same number.
     Named(u8),
     Nothing,
     Failure,
@@ -124,18 +125,18 @@ fn deliver(coming: Coming, buf: &mut [u8]) -> Received
     ensures length { length buf.new ≡ length buf.old }
 {
     match coming {
-        Coming::Datagram(octets) => put(octets, buf),
-        Coming::Named(ssrc) => put(&named(ssrc), buf),
+        Coming::Datagram(peer, octets) => put(peer, octets, buf),
+        Coming::Named(ssrc) => put(u64::from(ssrc), &named(ssrc), buf),
         Coming::Nothing => Received::Nothing,
         Coming::Failure => Received::Failed,
     }
 }
 
-fn put(octets: &[u8], buf: &mut [u8]) -> Received
+fn put(peer: u64, octets: &[u8], buf: &mut [u8]) -> Received
     ensures within { IsWithin result buf.new }
     ensures length { length buf.new ≡ length buf.old }
 {
     let count = octets.len().min(buf.len());
     buf[..count].copy_from_slice(&octets[..count]);
-    Received::Got(count)
+    Received::Got(count, peer)
 }

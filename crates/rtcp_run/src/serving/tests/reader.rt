@@ -45,16 +45,27 @@ impl<'a> Reader<'a> {
 
     /// A port is listened to, for 20,000 microseconds.
     fn port(&mut self, rt: &impl Abort, port: Port) {
-        let (asked, wait, octets) = match self.next(rt) {
-            Made::Came(asked, wait, octets) => (asked, wait, octets.as_slice()),
-            Made::Silence(asked, wait) | Made::Failure(asked, wait) => (asked, wait, [].as_slice()),
+        match self.next(rt) {
+            Made::Came(asked, wait, peer, octets) => {
+                assert_eq!(rt; (*asked, *wait), (port, 20_000));
+                self.datagram(rt, port, *peer, octets.as_slice());
+            }
+            Made::Silence(asked, wait) | Made::Failure(asked, wait) => {
+                assert_eq!(rt; (*asked, *wait), (port, 20_000));
+            }
             made => panic!(rt; "{:?} in place of a port", made),
+        }
+    }
+
+    /// A datagram came, and the compound of its answer is sent, if there is one.
+    fn datagram(&mut self, rt: &impl Abort, port: Port, peer: u64, octets: &[u8]) {
+        let answer = match port {
+            Port::Rtcp => self.participant.arrive_rtcp(self.moment, peer, 0, octets),
+            Port::Rtp => self.participant.arrive_rtp(self.moment, peer, 0, octets),
         };
-        assert_eq!(rt; (*asked, *wait), (port, 20_000));
-        let _ = match port {
-            Port::Rtcp => self.participant.arrive_rtcp(self.moment, octets),
-            Port::Rtp => self.participant.arrive_rtp(self.moment, octets),
-        };
+        if answer.is_ok() {
+            self.compound(rt, answer);
+        }
     }
 
     /// The compound that an answer hands out is sent, if there is one.

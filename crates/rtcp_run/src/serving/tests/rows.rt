@@ -6,7 +6,7 @@ use super::session::{BYE, REPORT, participant, served};
 use super::*;
 
 /// What a session of an idle link comes to.
-const IDLE: End = End {
+pub(super) const IDLE: End = End {
     cause: Cause::Done,
     received: 0,
     refused: 0,
@@ -20,7 +20,7 @@ const IDLE: End = End {
 const PACKET: [u8; 65_535] = [0x80; 65_535];
 
 /// A compound of these octets was handed to the link, and sending it failed or not.
-fn is_sent(made: &Made, octets: &[u8], failed: bool) -> bool {
+pub(super) fn is_sent(made: &Made, octets: &[u8], failed: bool) -> bool {
     match made {
         Made::Sent(bytes, was) => bytes.as_slice() == octets && *was == failed,
         _ => false,
@@ -113,7 +113,7 @@ fn too_far(rt: HostRuntime) -> Result<(), Fail> {
 fn broken_rows(rt: HostRuntime) -> Result<(), Fail> {
     let breaks = [
         (
-            Coming::Datagram(&[0x80, 0, 0, 1, 0, 0, 0, 0, 0, 0, 0, 9]),
+            Coming::Datagram(1, &[0x80, 0, 0, 1, 0, 0, 0, 0, 0, 0, 0, 9]),
             1,
         ),
         (Coming::Nothing, 0),
@@ -171,12 +171,12 @@ fn later_row(rt: HostRuntime) -> Result<(), Fail> {
 fn arrivals(rt: HostRuntime) -> Result<(), Fail> {
     let coming = [
         Coming::Named(7),
-        Coming::Datagram(&[0x80]),
-        // The own SSRC.
-        Coming::Datagram(&REPORT),
-        Coming::Datagram(&PACKET),
+        Coming::Datagram(1, &[0x80]),
+        // The own SSRC: another one is taken, and none of the old one was heard.
+        Coming::Datagram(1, &REPORT),
+        Coming::Datagram(1, &PACKET),
         // No compound has an odd number of octets.
-        Coming::Datagram(&PACKET),
+        Coming::Datagram(1, &PACKET),
     ];
     let mut link = MemoryLink::new(rt.alloc(), &[0], &coming, &[], 100)?;
     let (end, drawn) = served(&mut link, &mut participant(&rt), 3);
@@ -184,11 +184,11 @@ fn arrivals(rt: HostRuntime) -> Result<(), Fail> {
         end,
         End {
             received: 5,
-            refused: 3,
+            refused: 2,
             ..IDLE
         }
     );
-    assert_eq!(rt; drawn, 7);
+    assert_eq!(rt; drawn, 12);
     let largest = link
         .log
         .calls
@@ -201,5 +201,5 @@ fn arrivals(rt: HostRuntime) -> Result<(), Fail> {
 
 /// A datagram of these octets came.
 fn is_whole(made: &Made, packet: &[u8]) -> bool {
-    matches!(made, Made::Came(_, _, octets) if octets.as_slice() == packet)
+    matches!(made, Made::Came(_, _, _, octets) if octets.as_slice() == packet)
 }

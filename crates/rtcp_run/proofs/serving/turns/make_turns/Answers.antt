@@ -20,10 +20,10 @@ returns-then-is_none-clause-leads g c = λ reader total s reads holds stage turn
 
 pub returns-then-is_none-clause-room : goal.returns-then-is_none-clause-room
 returns-then-is_none-clause-room g c = λ more room.
-    c.turns.invariant.room more (less_room (more + c.args.turns * 3) (more + c.turns.counter * 3) _ _ (omega (arith, c.turns-test.true)) room)
+    c.turns.invariant.room more (less_room (more + c.args.turns * 5) (more + c.turns.counter * 5) _ _ (omega (arith, c.turns-test.true)) room)
 
 pub turn-requires-clause-room : goal.turn-requires-clause-room
-turn-requires-clause-room g c = c.turns.invariant.room 3 (less_room (c.args.turns * 3) (3 + c.turns.counter * 3) _ _ (omega (arith, c.turns-test.true)) c.requires.room)
+turn-requires-clause-room g c = c.turns.invariant.room 5 (less_room (c.args.turns * 5) (5 + c.turns.counter * 5) _ _ (omega (arith, c.turns-test.true)) c.requires.room)
 
 pub returns-in_err-turn-clause-leads : goal.returns-in_err-turn-clause-leads
 returns-in_err-turn-clause-leads g c = λ reader total s reads holds stage turns.
@@ -37,13 +37,13 @@ returns-in_err-turn-clause-leads g c = λ reader total s reads holds stage turns
 
 pub returns-in_err-turn-clause-room : goal.returns-in_err-turn-clause-room
 returns-in_err-turn-clause-room g c = λ more room. c.turn.ensures.room more
-    (c.turns.invariant.room (more + 3) (less_room (more + c.args.turns * 3) (more + 3 + c.turns.counter * 3) _ _ (omega (arith, c.turns-test.true)) room))
+    (c.turns.invariant.room (more + 5) (less_room (more + c.args.turns * 5) (more + 5 + c.turns.counter * 5) _ _ (omega (arith, c.turns-test.true)) room))
 
 pub turns-preserved : goal.turns-preserved
 turns-preserved g c = record {
   row = c.in_ok-turn.ensures.row;
   room = λ more room. c.turn.ensures.room more
-      (c.turns.invariant.room (more + 3) (less_room (more + (c.turns.counter + 1) * 3) (more + 3 + c.turns.counter * 3) _ _ (omega (arith)) room));
+      (c.turns.invariant.room (more + 5) (less_room (more + (c.turns.counter + 1) * 5) (more + 5 + c.turns.counter * 5) _ _ (omega (arith)) room));
   leads = λ reader total s reads holds stage turns.
       let (calls, t, leads, held, stage', turns', leaving') = c.turns.invariant.leads reader total s reads holds stage turns in
       let left = c.args.turns - (c.turns.counter + 1) in
@@ -60,4 +60,4 @@ returns-clause-leads g c = λ reader total s reads holds stage turns.
 
 pub returns-clause-room : goal.returns-clause-room
 returns-clause-room g c = λ more room.
-    c.turns.invariant.room more (less_room (more + c.args.turns * 3) (more + c.turns.counter * 3) _ _ (omega (arith, c.turns.auto.counter-end)) room)
+    c.turns.invariant.room more (less_room (more + c.args.turns * 5) (more + c.turns.counter * 5) _ _ (omega (arith, c.turns.auto.counter-end)) room)

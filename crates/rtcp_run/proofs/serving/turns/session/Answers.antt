@@ -31,7 +31,7 @@ returns-then-is_none g c = record {
 }
 
 pub take_leave-requires : goal.take_leave-requires
-take_leave-requires g c = record { room = c.make_turns.ensures.room 1 (less_room (c.args.turns * 6 + 1) (1 + c.args.turns * 3) _ _ (omega (arith)) c.requires.room) }
+take_leave-requires g c = record { room = c.make_turns.ensures.room 1 (less_room (c.args.turns * 10 + 1) (1 + c.args.turns * 5) _ _ (omega (arith)) c.requires.room) }
 
 pub returns-in_err-take_leave : goal.returns-in_err-take_leave
 returns-in_err-take_leave g c = record {
@@ -53,8 +53,8 @@ returns-in_err-take_leave g c = record {
 }
 
 pub make_turns-requires-then-branch-clause-room : goal.make_turns-requires-then-branch-clause-room
-make_turns-requires-then-branch-clause-room g c = c.take_leave.ensures.room (c.args.turns * 3)
-    (c.make_turns.ensures.room (c.args.turns * 3 + 1) (less_room (c.args.turns * 6 + 1) (c.args.turns * 3 + 1 + c.args.turns * 3) _ _ (omega (arith)) c.requires.room))
+make_turns-requires-then-branch-clause-room g c = c.take_leave.ensures.room (c.args.turns * 5)
+    (c.make_turns.ensures.room (c.args.turns * 5 + 1) (less_room (c.args.turns * 10 + 1) (c.args.turns * 5 + 1 + c.args.turns * 5) _ _ (omega (arith)) c.requires.room))
 
 pub returns-in_err-make_turns-2 : goal.returns-in_err-make_turns-2
 returns-in_err-make_turns-2 g c = record {
