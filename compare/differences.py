@@ -11,6 +11,7 @@ from pathlib import Path
 import participant
 
 USAGE = participant.__doc__ + "\n"
+LEFT = "ok members=0 senders=0 next=- out=-"
 LONGEST_RUN = 600  # seconds, so that a run without an end is a difference too
 
 
@@ -103,6 +104,24 @@ def ways_to_leave(octets, answers):
             in_backoff = True
 
 
+def ways_to_change(octets, answers):
+    """What the changes of identifier of a session came to."""
+    in_backoff, number, has_changed = False, 0, False
+    for line, answer in zip(lines_of(octets), answers.splitlines()[1:]):
+        if answer == LEFT and has_changed:
+            yield "left without a BYE, at once after a change"
+        has_changed = " ssrc=" in answer
+        if has_changed:
+            number += 1
+            kind, word, ssrc = line.split(b" ")[0].decode(), line.split(b" ")[3].decode(), answer[-8:]
+            yield "change " + ("in a backoff" if in_backoff else "by " + kind) + (", with a BYE" * ("bye:" in answer))
+            if word.lower() != ssrc:
+                yield "change to another identifier than the word" + ", past ffffffff" * (ssrc < word.lower())
+        in_backoff |= line.startswith(b"leave") and answer.startswith("ok") and answer != LEFT
+    if number > 1:
+        yield f"session with {number} changes"
+
+
 def kinds_of(octets, answers, fault):
     """How many answers there are of each kind."""
     kinds = re.findall("^(?:ok|refused E[0-9]+|start)", answers, re.M)
@@ -110,6 +129,7 @@ def kinds_of(octets, answers, fault):
     kinds += [names[kind] for kind in re.findall("report:..(c8|c9)", answers)]
     kinds += ["report with 31 blocks in its first packet" for _ in re.findall("report:9f", answers)]
     kinds += ways_to_leave(octets, answers)
+    kinds += ways_to_change(octets, answers)
     if fault:
         kinds.append("usage" if fault == USAGE else re.sub("line [0-9]+: ", "", fault).strip())
     return collections.Counter(kinds)

@@ -1,11 +1,13 @@
 """Sessions made at random: command lines and lines of `rtcp replay`."""
 import random
 
+import decoder
 import participant
 
 SECOND, FURTHEST = 10**6, 2**50
 POOL = [0, 1, 2, 0xaa, 0xab, 0x7fffffff, 0x80000000, 0xffffffff]
 WORDS = [0, 0xffffffff, 0x80000000]
+PEERS = [0, 1, 2, 7, 8, 9, 5005, 2**32 - 1, 2**32, 139637976798093, 2**63, 2**64 - 2, 2**64 - 1]
 SEQUENCE_STEPS = [-65536, -101, -100, -99, -98, -2, -1, 0, 2, 3, 50, 2998, 2999, 3000, 3001, 32768]
 TEXT_SIZES = [0, 1, 2, 3, 4, 20, 254, 255]
 # A report's minimum intervals, the horizons that follow from these, and the stay of a goodbye.
@@ -25,7 +27,13 @@ FAULTY_LINES = [
     b" tick 1 00000000 00000000", b"tick 1 0000000 00000000", b"tick 1 00000000 0000000g", b"tick x zz zz",
     b"tick 1 00000000 00000000\r", b"TICK 1 0 0", b"tick 18446744073709551616 00000000 00000000",
     b"tick 000000000000000000001 00000000 00000000", b"tick +1 00000000 0", b"tick 1 00000000 0x000000",
-    b"rtcp 1 ", b"rtcp 1 0", b"rtcp 1 80c9000100000007 ", b"rtcp 1 --", b"rtcp 1", b"rtcp  -", b"rtp -1 -", b"rtp 1 8g",
+    b"rtcp 1 1 00000000 ", b"rtcp 1 1 00000000 0", b"rtcp 1 1 00000000 80c9000100000007 ", b"rtcp 1 1 00000000 --",
+    b"rtcp 1 1 00000000", b"rtcp  1 00000000 -", b"rtp -1 1 00000000 -", b"rtp 1 1 00000000 8g", b"rtcp 1 -",
+    b"rtp 1 8000000a0000000000000009", b"rtcp 1 1 -", b"rtp 1 00000000 -", b"rtcp 1 00000000 1 -", b"rtcp x 7 zz -",
+    b"rtcp 0 7 zz -", b"rtp 1 x 00000000 -", b"rtp 1  00000000 -", b"rtcp 1 1  -", b"rtcp 1 -1 00000000 -",
+    b"rtcp 1 18446744073709551616 00000000 -", b"rtp 1 18446744073709551616 zz zz", b"rtp 1 7 zz 0",
+    b"rtp 1 000000000000000000001 00000000 -", b"rtcp 1 1 0000000 -", b"rtcp 1 1 000000000 -", b"rtp 1 1 0x000000 -",
+    b"rtp 1 1 00000000 -\r", b"rtcp 1 +1 00000000 -", b"rtcp 1 0xa 00000000 -",
     b"sent 1 4294967296 0", b"sent 1 0 4294967296", b"sent 1 0", b"sent 1 0x0 0", b"sent 1 0 \xb2", b"check 1 -",
     b"\x00", b"tick 1 0000000\xc3\xa9 00000000", b"sent 1 1_0 0", b"leave", b"leave 1", b"leave 1 0000000",
     b"leave 1 0000000g", b"leave 1 00000000 00000000", b"leave 1 00000000 ", b"leave x 0", b"LEAVE 1 00000000",
@@ -40,6 +48,11 @@ def choose(rng, *chances):
 
 def number(rng, size):
     return rng.getrandbits(8 * size).to_bytes(size, "big")
+
+
+def came(kind, moment, octets, peer=1, word=0):
+    """The line of a datagram that came."""
+    return f"{kind} {moment} {peer} {word:08x} {octets.hex() or '-'}"
 
 
 # Options
@@ -140,6 +153,17 @@ def compound(rng, pool):
     return packet(count, kind, body) + b"".join(packets)
 
 
+def named_by(kind, octets):
+    """What a datagram that is accepted names, with the CSRCs of an RTP head."""
+    try:
+        if kind == "rtcp":
+            return [ssrc for _, ssrc, _ in decoder.facts(octets)]
+        _, _, ssrc, csrcs = participant.read_head(octets)
+        return [ssrc, *csrcs]
+    except decoder.Fault:
+        return []
+
+
 def damaged(rng, octets):
     octets = bytearray(octets)
     for _ in range(rng.randrange(3)):
@@ -154,6 +178,9 @@ class History:
         self.rng = rng
         self.own, *others = rng.sample(POOL, len(POOL))
         self.others = others[:rng.randrange(1, len(others) + 1)]
+        self.peers = rng.sample(PEERS, rng.randrange(1, len(PEERS) + 1))
+        self.own_share = choose(rng, (3, 0.08), (2, 0.3), (1, 0.7))  # of the datagrams that may name the own identifier
+        self.changes = rng.randrange(3) == 0
         self.has_crowd = rng.randrange(20) == 0
         self.leaves = rng.randrange(2) == 0
         self.has_audience = self.leaves and rng.randrange(2) == 0
@@ -168,9 +195,42 @@ class History:
         except (participant.Fault, participant.Usage):
             self.model = None
 
+    def identifier(self):
+        """The own identifier, as it is now."""
+        return self.model.ssrc if self.model else self.own
+
     def pool(self):
         """The sources that the next datagram may name; at times the own one too."""
-        return self.others + ([self.own] if self.rng.randrange(12) == 0 else [])
+        is_own = self.rng.random() < self.own_share
+        return self.others + ([self.identifier()] * self.rng.randrange(1, 4) if is_own else [])
+
+    def peer(self):
+        rng = self.rng
+        return choose(rng, (20, rng.choice(self.peers)), (1, rng.choice(PEERS)), (0.2, rng.getrandbits(64)))
+
+    def word(self, named):
+        """The word of a datagram that names these, in most cases near an identifier that must not be taken."""
+        rng, avoided = self.rng, [self.others, named, [self.identifier()], [2**32 - 1]]
+        if self.model:
+            avoided += [self.model.earlier, list(self.model.sources)]
+        near = rng.choice(rng.choice([some for some in avoided if some]))
+        return choose(rng, (2, random_word(rng)), (3, near), (2, near - rng.randrange(1, 4))) % 2**32
+
+    def datagram_line(self, kind, octets, peer=None):
+        rng = self.rng
+        if rng.randrange(20) == 0:
+            octets = damaged(rng, octets)
+        word = self.word(named_by(kind, octets))
+        line = came(kind, self.advance(), octets, self.peer() if peer is None else peer, word)
+        return line if rng.randrange(20) else kind + line[len(kind):].upper()
+
+    def colliding_line(self):
+        """A datagram that in most cases names the own identifier, and comes from a peer that is not listed."""
+        rng, listed = self.rng, self.model.listed if self.model else []
+        pool = [self.identifier()] * 3 + [rng.choice(self.others)]
+        kind, peers = rng.choice(["rtp", "rtcp"]), [peer for peer in PEERS if peer not in listed]
+        octets = self.rtp_packet(pool) if kind == "rtp" else compound(rng, pool)
+        return self.datagram_line(kind, octets, rng.choice(peers) if rng.randrange(8) else self.peer())
 
     def advance(self):
         rng = self.rng
@@ -193,8 +253,8 @@ class History:
                         (1, following + rng.randrange(10 * SECOND)), (0.3, following + rng.randrange(100 * SECOND)))
         return max(0, moment if moment >= self.moment or rng.randrange(20) == 0 else self.advance())
 
-    def rtp_packet(self):
-        rng, ssrc = self.rng, self.rng.choice(self.pool())
+    def rtp_packet(self, pool):
+        rng, ssrc = self.rng, self.rng.choice(pool)
         earlier = self.sequences.setdefault(ssrc, [rng.choice([0, 65533, 65535, rng.randrange(65536)])])
         sequence = choose(rng, (8, earlier[-1] + 1), (2, earlier[-1] + rng.choice(SEQUENCE_STEPS)),
                           (2, earlier[-2:][0] + 1), (1, rng.choice(earlier) + rng.randrange(2)),
@@ -202,7 +262,7 @@ class History:
         earlier.append(sequence)
         timestamp = choose(rng, (5, self.moment * 8000 // SECOND + rng.randrange(100)), (1, rng.getrandbits(32)))
         mixed = choose(rng, (5, 0), (2, rng.randrange(4)), (0.1, 15))
-        csrcs = [rng.choice(self.others + [self.own]) for _ in range(mixed)]
+        csrcs = [rng.choice(self.others + [self.identifier()]) for _ in range(mixed)]
         extension = choose(rng, (8, b""), (1, number(rng, 2) + b"\0\1" + number(rng, 4)), (1, number(rng, 2) + b"\0\0"))
         payload = number(rng, rng.randrange(6))
         is_padded = payload and 1 <= payload[-1] <= len(payload) or rng.randrange(40) == 0
@@ -216,30 +276,35 @@ class History:
         kind = choose(rng, (8, "rtp"), (5, "rtcp"), (2, "sent"), (8, "tick"))
         if kind == "tick":
             return f"tick {self.tick_moment()} {random_word(rng):08x} {random_word(rng):08x}"
-        moment = self.advance()
         if kind == "sent":
             octets = choose(rng, (5, 160), (1, rng.getrandbits(32)))
-            return f"sent {moment} {rng.getrandbits(32)} {octets}"
-        octets = self.rtp_packet() if kind == "rtp" else compound(rng, self.pool())
-        if rng.randrange(20) == 0:
-            octets = damaged(rng, octets)
-        text = octets.hex() if rng.randrange(20) else octets.hex().upper()
-        return f"{kind} {moment} {text or '-'}"
+            return f"sent {self.advance()} {rng.getrandbits(32)} {octets}"
+        return self.datagram_line(kind, self.rtp_packet(self.pool()) if kind == "rtp" else compound(rng, self.pool()))
 
     def add(self, line):
         self.lines.append(line)
         if self.model:
+            changes = len(self.model.earlier)
             participant.answer(self.model, line)
+            self.others += self.model.earlier[changes:]
             self.moment = self.model.last_call
             self.moments.append(self.moment)
+
+    def add_changes(self):
+        """Datagrams that change the identifier, up to more than it may be changed, with other lines between."""
+        rng = self.rng
+        between = rng.choice([0, 0.3, 2])
+        for _ in range(choose(rng, (3, rng.randrange(1, 4)), (2, rng.randrange(4, 14)))):
+            self.add(self.colliding_line().encode())
+            while rng.random() < between / (1 + between):
+                self.add(self.line().encode())
 
     def add_crowd(self):
         """So many senders that a report is full, or needs a second packet."""
         for ssrc in self.rng.sample(range(1000, 2000), self.rng.randrange(20, 80)):
             self.others.append(ssrc)
             for sequence in (5, 6):
-                octets = bytes([0x80, 0, 0, sequence]) + participant.words(0, ssrc)
-                self.add(f"rtp {self.moment} {octets.hex()}".encode())
+                self.add(media(self.moment, ssrc, sequence).encode())
 
     def add_audience(self):
         """So many sources that there are about 51 members, as a leave needs for a backoff."""
@@ -255,7 +320,7 @@ class History:
                 chunks = [participant.words(ssrc) + b"\x01\x01a\0" for ssrc in some[start:start + 31]]
                 octets += packet(len(chunks), 202, b"".join(chunks))
             self.others += some[:rng.randrange(3)]
-            self.add(f"rtcp {self.moment} {octets.hex()}".encode())
+            self.add(came("rtcp", self.moment, octets).encode())
 
     def add_sending(self):
         """A packet of the host or a report, without which a leave is silent."""
@@ -278,22 +343,22 @@ class History:
         packets += [further_packet(rng, pool) for _ in range(choose(rng, (3, 0), (2, 1), (1, 3)))]
         rng.shuffle(packets)
         octets = packet(0, 201, participant.words(rng.choice(pool))) + b"".join(packets)
-        if rng.randrange(20) == 0:
-            octets = damaged(rng, octets)
-        return f"rtcp {self.advance()} {octets.hex() or '-'}"
+        return self.datagram_line("rtcp", octets)
 
     def backoff_line(self):
         rng = self.rng
-        kind = choose(rng, (6, "farewell"), (4, "tick"), (1, "leave"), (3, "any"))
+        kind = choose(rng, (6, "farewell"), (4, "tick"), (1, "leave"), (3, "any"), (2, "colliding"))
         if kind == "tick":
             return f"tick {self.tick_moment()} {random_word(rng):08x} {random_word(rng):08x}"
-        return {"farewell": self.farewell_line, "leave": self.leave_line, "any": self.line}[kind]()
+        makers = {"farewell": self.farewell_line, "leave": self.leave_line, "any": self.line,
+                  "colliding": self.colliding_line}
+        return makers[kind]()
 
     def add_flood(self):
         """So many BYE packets that members in a backoff come to 65,535."""
         octets = packet(0, 201, participant.words(self.others[0])) + packet(0, 203, b"") * 16_381
         for _ in range(self.rng.randrange(4, 8)):
-            self.add(f"rtcp {self.moment} {octets.hex()}".encode())
+            self.add(came("rtcp", self.moment, octets).encode())
 
     def add_leaving(self):
         """A leave or a few, what comes in the backoff, and a few lines that find the participant gone."""
@@ -303,6 +368,10 @@ class History:
             for _ in range(rng.randrange(4)):
                 self.add(self.line().encode())
             if rng.randrange(6):
+                self.add_sending()
+        if rng.randrange(5) == 0:  # a leave with nothing sent since, or with little
+            self.add(self.colliding_line().encode())
+            if rng.randrange(3) == 0 and self.model:
                 self.add_sending()
         for _ in range(rng.randrange(1, 3)):
             self.add(self.leave_line().encode())
@@ -319,8 +388,13 @@ class History:
         rng = self.rng
         if self.has_crowd:
             self.add_crowd()
-        for _ in range(choose(rng, (3, rng.randrange(20)), (3, rng.randrange(120)), (0.2, 500))):
-            self.add(self.line().encode())
+        size = choose(rng, (3, rng.randrange(20)), (3, rng.randrange(120)), (0.2, 500))
+        changes_at = rng.randrange(size + 1) if self.changes else None
+        for place in range(size + 1):
+            if place == changes_at:
+                self.add_changes()
+            if place < size:
+                self.add(self.line().encode())
         if self.leaves:
             self.add_leaving()
         if rng.randrange(15) == 0:
@@ -330,7 +404,7 @@ class History:
 
 
 def media(moment, ssrc, sequence):
-    return f"rtp {moment} {(bytes([0x80, 0, 0, sequence]) + participant.words(0, ssrc)).hex()}"
+    return came("rtp", moment, bytes([0x80, 0, 0, sequence]) + participant.words(0, ssrc))
 
 
 def many_join(rng, sources):
@@ -341,7 +415,7 @@ def many_join(rng, sources):
             yield from (media(moment, ssrc, sequence) for sequence in (1, 2))
         else:
             name = participant.source_description(ssrc, [(1, b"name")])
-            yield f"rtcp {moment} {(packet(0, 201, participant.words(ssrc)) + name).hex()}"
+            yield came("rtcp", moment, packet(0, 201, participant.words(ssrc)) + name)
         if number % 20 == 0:
             yield f"tick {moment} {random_word(rng):08x} {random_word(rng):08x}"
 
@@ -352,7 +426,7 @@ def many_leave(rng, sources, start):
     while len(sources) > 100:
         gone, sources = sources[:rng.randrange(1, 32)], sources[31:]
         goodbyes = packet(len(gone), 203, participant.words(*gone))
-        yield f"rtcp {moment} {(packet(0, 201, participant.words(gone[0])) + goodbyes).hex()}"
+        yield came("rtcp", moment, packet(0, 201, participant.words(gone[0])) + goodbyes)
         yield f"tick {moment} {random_word(rng):08x} {random_word(rng):08x}"
         moment += rng.randrange(SECOND)
     for _ in range(300):
@@ -366,8 +440,7 @@ def many_say_goodbye(rng, sources, start):
     while sources:
         gone, sources = sources[:rng.randrange(1, 6)], sources[5:]
         goodbyes = [packet(1, 203, participant.words(ssrc)) for ssrc in gone]
-        octets = packet(0, 201, participant.words(gone[0])) + b"".join(goodbyes)
-        yield f"rtcp {moment} {octets.hex()}"
+        yield came("rtcp", moment, packet(0, 201, participant.words(gone[0])) + b"".join(goodbyes))
         yield f"tick {moment} {random_word(rng):08x} {random_word(rng):08x}"
         moment += rng.randrange(SECOND // 10)
     for step in range(30):
@@ -375,23 +448,38 @@ def many_say_goodbye(rng, sources, start):
         yield f"tick {moment} {random_word(rng):08x} {random_word(rng):08x}"
 
 
+def collision(moment, number, sources):
+    """What changes the identifier 000000aa, or changes it again: each from a peer of its own, with a word that is a
+    source which is there, so that the new identifier is the one after it."""
+    own = sources[number - 1] + 1 if number else 0xaa
+    goodbye = packet(1, 203, participant.words(own)) if number % 2 else b""
+    return came("rtcp", moment, packet(0, 201, participant.words(own)) + goodbye, number, sources[number])
+
+
 def ending_session(seed):
-    """More sources than a participant has room for, and then it leaves with all of them."""
+    """More sources than a participant has room for, and then it leaves with all of them. Its identifier changes before
+    that, and among those who say goodbye."""
     rng = random.Random(seed)
     sources, end = rng.sample(range(1000, 2**32), 1100), 11 * SECOND
-    lines = [*many_join(rng, sources), f"sent {end} 0 160", f"leave {end} {random_word(rng):08x}"]
-    lines += many_say_goodbye(rng, sources, end)
-    return "".join(line + "\n" for line in lines).encode()
+    lines = [*many_join(rng, sources), f"sent {end} 0 160", *(collision(end, number, sources) for number in range(3))]
+    lines += [f"sent {end} 0 160", f"leave {end} {random_word(rng):08x}", collision(end, 3, sources)]
+    farewells = list(many_say_goodbye(rng, sources, end))
+    for number in range(4, 10):
+        moment = int(farewells[40 * number].split(" ")[1])
+        farewells.insert(40 * number + 1, collision(moment, number, sources))
+    return "".join(line + "\n" for line in lines + farewells).encode()
 
 
 def large_session(seed):
-    """More sources than a participant has room for, who come, stay and go."""
+    """More sources than a participant has room for, who come, stay and go. Its identifier changes while they stay."""
     rng = random.Random(seed)
     sources = rng.sample(range(1000, 2**32), 1100)
     lines, moment = list(many_join(rng, sources)), 11 * SECOND
     for number in range(1000):
         moment += rng.randrange(SECOND // 10)
-        if number % 2:
+        if number % 100 == 50:
+            lines.append(collision(moment, number // 100, sources[:80:4]))
+        elif number % 2:
             lines.append(media(moment, sources[4 * rng.randrange(20)], rng.randrange(3, 100)))
         else:
             lines.append(f"tick {moment} {random_word(rng):08x} {random_word(rng):08x}")

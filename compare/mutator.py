@@ -24,14 +24,14 @@ def sample_events():
     """The lines of the sample sessions, and of the sessions worked by hand."""
     for file in sorted(SAMPLES.glob("*.replay")):
         yield file.read_text().splitlines()
-    yield [line for _, lines, _, _ in rows.SESSIONS + rows.LEAVING for line, _ in lines]
+    yield [line for _, lines, _, _ in rows.ALL for line, _ in lines]
 
 
 @functools.cache
 def good_rtcp():
     """The RTCP datagrams of the samples, of the program's example and of sessions worked by hand, file by file."""
     texts = [file.read_text().split() for file in [*sorted(SAMPLES.glob("*.hex")), TOP / "crates/rtcp_run/stdin"]]
-    texts += [[line.split(" ")[2] for line in lines if line.startswith("rtcp ")] for lines in sample_events()]
+    texts += [[line.split(" ")[-1] for line in lines if line.startswith("rtcp ")] for lines in sample_events()]
     return [[bytes.fromhex(text) for text in dict.fromkeys(some) if 8 <= len(text) <= 2 * USUAL] for some in texts]
 
 

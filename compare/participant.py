@@ -19,6 +19,7 @@ SHORT_MINIMUM, MINIMUM = 2_500_000, 5_000_000
 HEADERS = 28  # of UDP and IPv4
 BLOCKS_IN_A_PACKET = 31
 MOST_WITHOUT_BACKOFF, MOST_LEAVING = 50, 65_535
+MOST_CHANGES = 8  # of the identifier
 
 
 class Refusal(Exception):
@@ -187,7 +188,10 @@ class Participant:
     def __init__(self, options):
         """`options` has a value for each name of the table in docs/FORMATS.md, and `items`, the extra items."""
         self.options = options
-        self.ssrc, self.rate = options["ssrc"], options["rate"]
+        self.ssrc, self.rate = options["ssrc"], options["rate"]  # the SSRC is the present identifier
+        self.earlier = []  # the identifiers before it
+        self.listed = []  # the peers whose datagrams changed it
+        self.packets_before, self.reports_before = 0, 0  # how many were sent before the last change
         self.sources = {}  # those that are present, by SSRC
         self.sent_packets = []  # moments, timestamps and octets
         self.is_sender = False
@@ -230,10 +234,34 @@ class Participant:
         if self.calls >= MOST_CALLS:
             raise Refusal("E4 TooMany")
 
-    def end_call(self, moment, out="-"):
+    def end_call(self, moment, out="-", changed=""):
         self.calls, self.last_call = self.calls + 1, moment
         following = "-" if self.has_left else self.next
-        return f"members={self.members()} senders={self.senders()} next={following} out={out}"
+        return f"members={self.members()} senders={self.senders()} next={following} out={out}{changed}"
+
+    def has_sent(self):
+        """Whether something was sent under the present identifier."""
+        return len(self.sent_packets) > self.packets_before or self.reports > self.reports_before
+
+    def give_way(self, peer, word, named, csrcs):
+        """Changes the identifier if a datagram names it. What is handed out for that, and the end of the answer."""
+        if self.ssrc not in named:
+            return "-", ""
+        if peer in self.listed or len(self.earlier) >= MOST_CHANGES:
+            raise Refusal("E7 OwnSsrc")
+        self.listed.append(peer)
+        out = "-"
+        if self.has_sent():
+            goodbye = self.goodbye_compound()
+            self.move_average(len(goodbye))
+            out = "bye:" + goodbye.hex()
+        self.earlier.append(self.ssrc)
+        taken = {*self.earlier, *self.sources, *named, *csrcs}
+        while word in taken:
+            word = (word + 1) % 2**32
+        self.ssrc = word
+        self.packets_before, self.reports_before = len(self.sent_packets), self.reports
+        return out, f" ssrc={word:08x}"
 
     def seen(self, ssrc, moment):
         """A sighting: the source, admitted where there is room; or none, where its facts are ignored."""
@@ -270,39 +298,37 @@ class Participant:
             self.next = moment + (self.next - moment) * members // self.known
         self.known = members
 
-    def rtcp_came(self, moment, octets):
+    def rtcp_came(self, moment, peer, word, octets):
         self.begin_call(moment)
         text = decoder.answer(octets)
         if not text.startswith("ok"):
             raise Refusal("E5 Wire: " + text)
         facts = decoder.facts(octets)
-        if any(ssrc == self.ssrc for _, ssrc, _ in facts):
-            raise Refusal("E7 OwnSsrc")
+        change = self.give_way(peer, word, [ssrc for _, ssrc, _ in facts], [])
         if not self.is_present():
-            return self.hear_leaving(moment, octets)
+            return self.hear_leaving(moment, octets, change)
         for kind, ssrc, timestamp in facts:
             self.take_fact(kind, ssrc, timestamp, moment)
         self.move_average(len(octets))
         self.reconsider_departures(moment)
-        return self.end_call(moment)
+        return self.end_call(moment, *change)
 
-    def rtp_came(self, moment, octets):
+    def rtp_came(self, moment, peer, word, octets):
         self.begin_call(moment)
         try:
             sequence, timestamp, ssrc, csrcs = read_head(octets)
         except decoder.Fault as fault:
             raise Refusal(f"E6 Rtp: {fault}")
-        if ssrc == self.ssrc:
-            raise Refusal("E7 OwnSsrc")
+        change = self.give_way(peer, word, [ssrc], csrcs)
         if not self.is_present():
-            return self.end_call(moment)
+            return self.end_call(moment, *change)
         source = self.seen(ssrc, moment)
         transit = (media_units(moment, self.rate) - timestamp) % 2**32
         if source and source.take(sequence, transit, moment):
             for csrc in csrcs:
                 if csrc != self.ssrc:
                     self.seen(csrc, moment)
-        return self.end_call(moment)
+        return self.end_call(moment, *change)
 
     def packet_sent(self, moment, timestamp, octets):
         self.begin_call(moment)
@@ -352,7 +378,7 @@ class Participant:
         self.begin_call(moment)
         if not self.is_present():
             return self.end_call(moment)
-        if not self.reports and not self.sent_packets:
+        if not self.has_sent():
             self.has_left = True
             return self.end_call(moment)
         if self.members() <= MOST_WITHOUT_BACKOFF:
@@ -363,13 +389,13 @@ class Participant:
         self.next = moment + drawn_interval(self.interval(is_sender=False), word)
         return self.end_call(moment)
 
-    def hear_leaving(self, moment, octets):
+    def hear_leaving(self, moment, octets, change):
         """What a compound changes in backoff."""
         goodbyes = decoder.goodbyes(octets)
         if goodbyes:
             self.goodbyes.append(goodbyes)
             self.move_average(len(octets))
-        return self.end_call(moment)
+        return self.end_call(moment, *change)
 
     def say_goodbye(self, moment):
         self.has_left = True
@@ -400,9 +426,10 @@ class Participant:
             return b""
         newest, timestamp, _ = self.sent_packets[-1]
         ntp = ntp_timestamp(self.options["ntp"], moment)
-        octets = sum(octets for _, _, octets in self.sent_packets)
+        counted = self.sent_packets[self.packets_before:]
+        octets = sum(octets for _, _, octets in counted)
         units = media_units(moment - newest, self.rate)
-        return words(ntp >> 32, ntp, timestamp + units, len(self.sent_packets), octets)
+        return words(ntp >> 32, ntp, timestamp + units, len(counted), octets)
 
     def make_report(self, moment):
         description = self.description(self.extra_items())
@@ -460,13 +487,13 @@ OPTIONS = {
 ITEM_TYPES = {"name": 2, "email": 3, "phone": 4, "loc": 5, "tool": 6, "note": 7, "priv": 8}
 
 LINES = {
-    b"rtcp": (Participant.rtcp_came, ("number", datagram)),
-    b"rtp": (Participant.rtp_came, ("number", datagram)),
-    b"sent": (Participant.packet_sent, ("number", "timestamp", "octets")),
-    b"tick": (Participant.tick, ("number", hex_digits(8), hex_digits(8))),
-    b"leave": (Participant.leave, ("number", hex_digits(8))),
+    b"rtcp": (Participant.rtcp_came, ("moment", "peer", hex_digits(8), datagram)),
+    b"rtp": (Participant.rtp_came, ("moment", "peer", hex_digits(8), datagram)),
+    b"sent": (Participant.packet_sent, ("moment", "timestamp", "octets")),
+    b"tick": (Participant.tick, ("moment", hex_digits(8), hex_digits(8))),
+    b"leave": (Participant.leave, ("moment", hex_digits(8))),
 }
-NUMBERS = {"number": decimal(2**64), "timestamp": decimal(2**32), "octets": decimal(2**32)}
+NUMBERS = {"moment": decimal(2**64), "peer": decimal(2**64), "timestamp": decimal(2**32), "octets": decimal(2**32)}
 
 
 def given_options(arguments):

@@ -18,8 +18,14 @@ GOODBYE_OF_1 = "80c900010000000181cb000100000001"
 GOODBYES_OF_NONE = "80c9000100000001" + "80cb0000" * 16381
 
 
-def ok(members, senders, following, out="-"):
-    return f"ok members={members} senders={senders} next={following} out={out}"
+def ok(members, senders, following, out="-", ssrc=None):
+    changed = f" ssrc={ssrc}" if ssrc else ""
+    return f"ok members={members} senders={senders} next={following} out={out}{changed}"
+
+
+def under(ssrc, out):
+    """What the participant sends, under another identifier."""
+    return out.replace("000000aa", ssrc)
 
 
 def tick(moment, word="00000000"):
@@ -33,7 +39,7 @@ def named(moment, first, last):
         sources = range(start, min(start + 31, last + 1))
         octets += f"{0x80 | len(sources):02x}ca{2 * len(sources):04x}"
         octets += "".join(f"{ssrc:08x}01016100" for ssrc in sources)
-    return f"rtcp {moment} {octets}"
+    return f"rtcp {moment} 1 00000000 {octets}"
 
 
 def leave(moment, word="00000000"):
@@ -64,8 +70,8 @@ SESSIONS = [
     ], "", 0),
     (PLAIN, [(tick(1026037, "ffffffff"), ok(1, 0, 3078111))], "", 0),
     (PLAIN, [
-        ("rtp 0 8000000a0000000000000009", ok(1, 0, 1026037)),
-        ("rtp 0 8000000b0000000000000009", ok(2, 1, 1026037)),
+        ("rtp 0 1 00000000 8000000a0000000000000009", ok(1, 0, 1026037)),
+        ("rtp 0 1 00000000 8000000b0000000000000009", ok(2, 1, 1026037)),
         (tick(1026037), ok(2, 1, 3078111, REPORT_ON_9)),
     ], "", 0),
     (PLAIN, [
@@ -79,23 +85,24 @@ SESSIONS = [
         (tick(10000000), ok(1, 1, 12052074, LATER_SENDER_REPORT)),
     ], "", 0),
     (PLAIN, [
-        ("rtcp 1000000 80c900010000000781ca00020000000701016100", ok(2, 0, 1026037)),
+        ("rtcp 1000000 1 00000000 80c900010000000781ca00020000000701016100", ok(2, 0, 1026037)),
         (tick(13500000), ok(2, 0, 15552074, REPORT)),
     ], "", 0),
     (PLAIN, [
-        ("rtcp 1000000 80c900010000000781ca00020000000701016100", ok(2, 0, 1026037)),
+        ("rtcp 1000000 1 00000000 80c900010000000781ca00020000000701016100", ok(2, 0, 1026037)),
         (tick(13500001), ok(1, 0, 15552075, REPORT)),
     ], "", 0),
     (PLAIN, [
-        ("rtcp 0 80c90001000000aa", "refused E7 OwnSsrc"),
-        ("rtcp 0 -", "refused E5 Wire: F1 Short at 0"),
-        ("rtp 0 80480001000000000000000a", "refused E6 Rtp: G3 PayloadType"),
+        ("rtcp 0 1 00000000 80c90001000000aa", ok(1, 0, 1026037, ssrc="00000000")),
+        ("rtcp 0 1 00000000 80c9000100000000", "refused E7 OwnSsrc"),
+        ("rtcp 0 1 00000000 -", "refused E5 Wire: F1 Short at 0"),
+        ("rtp 0 1 00000000 80480001000000000000000a", "refused E6 Rtp: G3 PayloadType"),
         ("tick 5 zz 00000000", None),
-    ], "line 4: X4 Hex", 2),
+    ], "line 5: X4 Hex", 2),
     (PLAIN, [  # the example of docs/FORMATS.md
-        ("rtcp 0 80c900010000000781ca00020000000701016100", ok(2, 0, 1026037)),
+        ("rtcp 0 1 00000000 80c900010000000781ca00020000000701016100", ok(2, 0, 1026037)),
         (tick(1026037), ok(2, 0, 3078111, REPORT)),
-        ("rtcp 1026037 -", "refused E5 Wire: F1 Short at 0"),
+        ("rtcp 1026037 1 00000000 -", "refused E5 Wire: F1 Short at 0"),
         (leave(2000000), ok(0, 0, "-", BYE)),
         (tick(3078111), "refused E1 Left"),
     ], "", 0),
@@ -123,7 +130,7 @@ LEAVING = [
     ], "", 0),
     # A BYE packet that came counts, a second leave begins nothing, and the BYE follows.
     (PLAIN, BACKOFF + [
-        (f"rtcp 10000000 {GOODBYE_OF_1}", ok(2, 0, 11026037)),
+        (f"rtcp 10000000 1 00000000 {GOODBYE_OF_1}", ok(2, 0, 11026037)),
         (leave(10000000, "ffffffff"), ok(2, 0, 11026037)),
         (tick(11026037), ok(0, 0, "-", BYE)),
         (leave(11026037), "refused E1 Left"),
@@ -131,11 +138,11 @@ LEAVING = [
     # Who never sent leaves silently, also after a tick and among many; then E1 comes before all else.
     (PLAIN, [
         (leave(0), LEFT),
-        ("rtcp 0 80c9000100000007", "refused E1 Left"),
-        ("rtcp 0 -", "refused E1 Left"),
-        ("rtcp 0 80c90001000000aa", "refused E1 Left"),
-        ("rtp 0 8000000a0000000000000009", "refused E1 Left"),
-        ("rtp 0 -", "refused E1 Left"),
+        ("rtcp 0 1 00000000 80c9000100000007", "refused E1 Left"),
+        ("rtcp 0 1 00000000 -", "refused E1 Left"),
+        ("rtcp 0 1 00000000 80c90001000000aa", "refused E1 Left"),
+        ("rtp 0 1 00000000 8000000a0000000000000009", "refused E1 Left"),
+        ("rtp 0 1 00000000 -", "refused E1 Left"),
         ("sent 0 1000 160", "refused E1 Left"),
         (tick(0), "refused E1 Left"),
         (tick(2**50 + 1), "refused E1 Left"),
@@ -167,43 +174,46 @@ LEAVING = [
     ], "", 0),
     # BYE packets are counted, not identifiers, up to 65,535 members; from then on the average still moves.
     (PLAIN, BACKOFF + [
-        ("rtcp 10000000 80c900010000000185cb00050000000100000002000000030000000400000005", ok(2, 0, 11026037)),
-        ("rtcp 10000000 80c900010000000180cb0000", ok(3, 0, 11026037)),
-        (f"rtcp 10000000 {GOODBYE_OF_1}80cc0002000000016e616d6580cb0000", ok(5, 0, 11026037)),
+        ("rtcp 10000000 1 00000000 80c900010000000185cb00050000000100000002000000030000000400000005",
+         ok(2, 0, 11026037)),
+        ("rtcp 10000000 1 00000000 80c900010000000180cb0000", ok(3, 0, 11026037)),
+        (f"rtcp 10000000 1 00000000 {GOODBYE_OF_1}80cc0002000000016e616d6580cb0000", ok(5, 0, 11026037)),
     ], "", 0),
     (PLAIN, BACKOFF + [
-        (f"rtcp 10000000 {GOODBYES_OF_NONE}", ok(members, 0, 11026037))
+        (f"rtcp 10000000 1 00000000 {GOODBYES_OF_NONE}", ok(members, 0, 11026037))
         for members in (16382, 32763, 49144, 65525, 65535)
     ] + [
-        (f"rtcp 10000000 {GOODBYE_OF_1}", ok(65535, 0, 11026037)),
+        (f"rtcp 10000000 1 00000000 {GOODBYE_OF_1}", ok(65535, 0, 11026037)),
         (tick(11026037), ok(65535, 0, 1523460065744)),
     ], "", 0),
-    # Nothing else changes anything, nor does it move the average, and refusals are those of before.
+    # But for a change of identifier nothing else changes anything, nor does it move the average, and refusals are those
+    # of before.
     (PLAIN, BACKOFF + [
         ("sent 10000000 1000 160", ok(1, 0, 11026037)),
-        ("rtcp 10000000 80c900010000000781ca00020000000701016100", ok(1, 0, 11026037)),
-        ("rtp 10000000 8000000a0000000000000009", ok(1, 0, 11026037)),
-        ("rtp 10000000 8000000b0000000000000009", ok(1, 0, 11026037)),
-        ("rtcp 10000000 80c900010000000181cb0001000000aa", "refused E7 OwnSsrc"),
-        ("rtcp 10000000 80c90001000000aa81cb000100000001", "refused E7 OwnSsrc"),
-        ("rtp 10000000 8000000a00000000000000aa", "refused E7 OwnSsrc"),
-        ("rtcp 10000000 80c900010000000181cb0002", "refused E5 Wire: F5 Length at 8"),
-        ("rtp 10000000 -", "refused E6 Rtp: G1 Short"),
-        ("rtp 10000001 8000000c0000000000000009", ok(1, 0, 11026037)),
+        ("rtcp 10000000 1 00000000 80c900010000000781ca00020000000701016100", ok(1, 0, 11026037)),
+        ("rtp 10000000 1 00000000 8000000a0000000000000009", ok(1, 0, 11026037)),
+        ("rtp 10000000 1 00000000 8000000b0000000000000009", ok(1, 0, 11026037)),
+        ("rtp 10000000 1 00000000 8000000a00000000000000aa", ok(1, 0, 11026037, BYE, "00000000")),
+        ("rtcp 10000000 1 00000000 80c900010000000181cb000100000000", "refused E7 OwnSsrc"),
+        ("rtcp 10000000 1 00000000 80c900010000000081cb000100000001", "refused E7 OwnSsrc"),
+        ("rtp 10000000 1 00000000 8000000a0000000000000000", "refused E7 OwnSsrc"),
+        ("rtcp 10000000 1 00000000 80c900010000000181cb0002", "refused E5 Wire: F5 Length at 8"),
+        ("rtp 10000000 1 00000000 -", "refused E6 Rtp: G1 Short"),
+        ("rtp 10000001 1 00000000 8000000c0000000000000009", ok(1, 0, 11026037)),
         (leave(10000000), "refused E2 Backwards"),
         (tick(2**50 + 1), "refused E3 TooFar"),
-        (tick(11026037), ok(0, 0, "-", BYE)),
+        (tick(11026037), ok(0, 0, "-", under("00000000", BYE))),
     ], "", 0),
     (SLOW, SLOW_BACKOFF + [
         (named(0, 51, 60), ok(1, 0, 1915269)),
         (tick(1915269, "ffffffff"), ok(1, 0, 5745806)),
-        (f"rtcp 1915269 {GOODBYE_OF_1}", ok(2, 0, 5745806)),
+        (f"rtcp 1915269 1 00000000 {GOODBYE_OF_1}", ok(2, 0, 5745806)),
         (tick(5745806, "ffffffff"), ok(2, 0, 11337707)),
         (tick(11337707), ok(0, 0, "-", BYE)),
     ], "", 0),
     # A compound of two BYE packets moves the average once; the second word of a tick is not used.
     (SLOW, SLOW_BACKOFF + [
-        (f"rtcp 0 {GOODBYE_OF_1}80cb0000", ok(3, 0, 1915269)),
+        (f"rtcp 0 1 00000000 {GOODBYE_OF_1}80cb0000", ok(3, 0, 1915269)),
         ("tick 1915269 ffffffff ffffffff", ok(3, 0, 17083512)),
         ("tick 17083512 00000000 ffffffff", ok(0, 0, "-", BYE)),
     ], "", 0),
@@ -221,7 +231,7 @@ LEAVING = [
     ], "", 0),
     (PLAIN, REPORT_SENT + [
         (named(10000000, 1, 50), ok(51, 0, 3078111)),
-        (f"rtcp 10000000 {GOODBYE_OF_1}", ok(50, 0, 3078111)),
+        (f"rtcp 10000000 1 00000000 {GOODBYE_OF_1}", ok(50, 0, 3078111)),
         (leave(10000000), ok(0, 0, "-", BYE)),
     ], "", 0),
     # Lines that are not of their form.
@@ -229,6 +239,231 @@ LEAVING = [
     (PLAIN, [("leave 0 00000000 00000000", None)], "line 1: X3 Words", 2),
     (PLAIN, [("leave x 0", None)], "line 1: X5 Number", 2),
 ]
+
+R = REPORT.removeprefix("report:")
+NOTHING_SENT_REPORT = "report:80c80006000000aa0000000106aa5c5f000023f8000000000000000081ca0002000000aa01016100"
+ONE_SENT_REPORT = "report:80c80006000000aa0000000a00000000000032c800000001000000a081ca0002000000aa01016100"
+REPORT_OF_BD_ON_AA = ("report:81c90007000000bd000000aa000000000000000c0000000000000000"
+                      "0000000081ca0002000000bd01016100")
+FIRST_CHANGE = ("rtcp 0 7 000000bb 80c90001000000aa", ok(1, 0, 1026037, ssrc="000000bb"))
+SENT_AND_CHANGED = [
+    ("sent 0 1000 160", ok(1, 1, 1026037)),
+    ("rtcp 0 7 000000bb 80c90001000000aa", ok(1, 1, 1026037, BYE, "000000bb")),
+]
+REPORTED_AND_CHANGED = REPORT_SENT + [
+    (f"rtcp 1026037 7 000000bb {R}", ok(2, 0, 3078111, BYE, "000000bb")),
+]
+
+CHANGING = [
+    # Nothing was sent under aa, so no BYE goes out. Peer 7 may name aa again, but not bb; each other peer may.
+    (PLAIN, [
+        FIRST_CHANGE,
+        ("rtcp 0 7 000000bb 80c90001000000aa", ok(1, 0, 1026037)),
+        ("rtcp 0 7 000000cc 80c90001000000bb", "refused E7 OwnSsrc"),
+    ], "", 0),
+    (PLAIN, [  # the example of docs/FORMATS.md
+        FIRST_CHANGE,
+        ("rtcp 0 7 000000bb 80c90001000000aa", ok(1, 0, 1026037)),
+        ("rtcp 0 7 000000cc 80c90001000000bb", "refused E7 OwnSsrc"),
+        (tick(1026037), ok(1, 0, 3078111, under("000000bb", REPORT))),
+        ("rtcp 1026037 8 000000aa 80c90001000000bb", ok(1, 0, 3078111, under("000000bb", BYE), "000000ab")),
+        (leave(1026037), LEFT),
+    ], "", 0),
+    # An identifier that the participant had is not taken again.
+    (PLAIN, [FIRST_CHANGE, ("rtcp 0 8 000000aa 80c90001000000bb", ok(1, 0, 1026037, ssrc="000000ab"))], "", 0),
+    # After a report the BYE goes out, the old identifier is another member, and tn stays; then nothing was sent.
+    (PLAIN, REPORTED_AND_CHANGED + [(tick(3078111), ok(2, 0, 5130185, under("000000bb", REPORT)))], "", 0),
+    (PLAIN, REPORTED_AND_CHANGED + [(leave(1026037), LEFT)], "", 0),
+    # The participant stays a sender, of no packets since the change; timestamps go on from those before it.
+    (PLAIN, SENT_AND_CHANGED + [
+        (tick(1026037), ok(1, 1, 3078111, under("000000bb", NOTHING_SENT_REPORT))),
+    ], "", 0),
+    (PLAIN, SENT_AND_CHANGED + [
+        ("sent 9000000 5000 160", ok(1, 1, 1026037)),
+        (tick(10000000), ok(1, 1, 12052074, under("000000bb", ONE_SENT_REPORT))),
+        (leave(10000000), ok(0, 0, "-", under("000000bb", BYE))),
+    ], "", 0),
+    (PLAIN, SENT_AND_CHANGED + [(leave(0), LEFT)], "", 0),
+    (PLAIN, SENT_AND_CHANGED + [
+        ("sent 0 1000 160", ok(1, 1, 1026037)),
+        (leave(0), ok(0, 0, "-", under("000000bb", BYE))),
+    ], "", 0),
+    # Eight changes, and no ninth one. What refuses or takes a datagram lists no peer but at a change.
+    (PLAIN, [
+        ("rtcp 0 1 000000b1 80c90001000000aa", ok(1, 0, 1026037, ssrc="000000b1")),
+        ("rtcp 0 2 000000b2 80c90001000000b1", ok(1, 0, 1026037, ssrc="000000b2")),
+        ("rtcp 0 3 000000b3 80c90001000000b2", ok(1, 0, 1026037, ssrc="000000b3")),
+        ("rtp 0 4 000000b4 8000000a00000000000000b3", ok(1, 0, 1026037, ssrc="000000b4")),
+        ("rtcp 0 5 000000b5 80c90001000000b4", ok(1, 0, 1026037, ssrc="000000b5")),
+        ("rtcp 0 6 000000b6 80c90001000000b5", ok(1, 0, 1026037, ssrc="000000b6")),
+        ("rtcp 0 7 000000b7 80c90001000000b6", ok(1, 0, 1026037, ssrc="000000b7")),
+        ("rtcp 0 8 000000b8 80c90001000000b7", ok(1, 0, 1026037, ssrc="000000b8")),
+        ("rtcp 0 9 000000b9 80c90001000000b8", "refused E7 OwnSsrc"),
+        ("rtp 0 9 000000b9 8000000a00000000000000b8", "refused E7 OwnSsrc"),
+        ("rtcp 0 1 000000b9 80c90001000000aa", ok(1, 0, 1026037)),
+        ("rtcp 0 9 000000b9 80c90001000000b7", ok(1, 0, 1026037)),
+        (tick(1026037), ok(1, 0, 3078111, under("000000b8", REPORT))),
+        ("rtcp 1026037 9 000000b9 80c90001000000b8", "refused E7 OwnSsrc"),
+        (leave(1026037), ok(0, 0, "-", under("000000b8", BYE))),
+    ], "", 0),
+    (PLAIN, [
+        ("rtcp 5 8 00000000 80c9000100000001", ok(1, 0, 1026037)),
+        ("rtcp 4 7 000000bb 80c90001000000aa", "refused E2 Backwards"),
+        (f"rtcp {2**50 + 1} 7 000000bb 80c90001000000aa", "refused E3 TooFar"),
+        ("rtcp 5 7 000000bb 80c90001000000aa81cb0002000000aa", "refused E5 Wire: F5 Length at 8"),
+        ("rtp 5 7 000000bb 8048000000000000000000aa", "refused E6 Rtp: G3 PayloadType"),
+        ("rtp 5 7 000000bb 8000000a00000000000000aa", ok(1, 0, 1026037, ssrc="000000bb")),
+        ("rtcp 5 8 000000cc 80c90001000000bb", ok(1, 0, 1026037, ssrc="000000cc")),
+        ("rtcp 5 8 000000dd 80c90001000000cc81cb0002000000cc", "refused E5 Wire: F5 Length at 8"),
+        ("rtp 5 8 000000dd 8048000000000000000000cc", "refused E6 Rtp: G3 PayloadType"),
+        ("rtcp 5 8 000000dd 80c90001000000cc", "refused E7 OwnSsrc"),
+    ], "", 0),
+    # Not taken are SSRCs that are present, marked or not, and those that the datagram names; the search wraps.
+    (PLAIN, [
+        ("rtcp 0 1 00000000 80c90001ffffffff", ok(1, 0, 1026037)),
+        ("rtcp 0 0 ffffffff 80c900010000000081cb0001000000aa", ok(1, 0, 1026037, ssrc="00000001")),
+        ("rtcp 0 18446744073709551615 000000bb 80c900010000000282cb000200000001000000bb",
+         ok(1, 0, 1026037, ssrc="000000bc")),
+        ("rtcp 0 4294967296 ffffffff 80c90001000000bc", ok(1, 0, 1026037, ssrc="00000003")),
+        ("rtcp 0 0 000000bb 80c9000100000003", "refused E7 OwnSsrc"),
+    ], "", 0),
+    (PLAIN, [
+        ("rtcp 0 1 00000000 80c90001ffffffff", ok(1, 0, 1026037)),
+        ("rtcp 0 7 ffffffff 80c90001000000aa", ok(1, 0, 1026037, ssrc="00000000")),
+    ], "", 0),
+    (PLAIN, [
+        ("rtcp 0 1 00000000 80c90001000000bb81cb0001000000bb", ok(1, 0, 1026037)),
+        ("rtcp 0 7 000000bb 80c90001000000aa", ok(1, 0, 1026037, ssrc="000000bc")),
+    ], "", 0),
+    # The old identifier finds no room, and a goodbye of one that is not present is ignored.
+    (PLAIN + ["--capacity", "1"], [
+        ("rtcp 0 1 00000000 80c9000100000007", ok(1, 0, 1026037)),
+        (f"rtcp 0 7 00000007 {R}", ok(1, 0, 1026037, ssrc="00000008")),
+    ], "", 0),
+    (PLAIN, [
+        ("rtcp 0 7 000000bb 80c900010000000181cb0001000000aa", ok(1, 0, 1026037, ssrc="000000bb")),
+        (f"rtcp 0 7 000000bb {R}", ok(2, 0, 1026037)),
+    ], "", 0),
+    # One that says goodbye at once is marked: what comes late of it is ignored until a check drops it.
+    (PLAIN, [
+        ("rtcp 0 7 000000bb 80c90001000000aa81cb0001000000aa", ok(1, 0, 1026037, ssrc="000000bb")),
+        (f"rtcp 0 7 000000bb {R}", ok(1, 0, 1026037)),
+        (tick(5000000), ok(1, 0, 7052074, under("000000bb", REPORT))),
+        (f"rtcp 5000000 7 000000bb {R}", ok(2, 0, 7052074)),
+    ], "", 0),
+    # An RTP packet names its SSRC, counted or not, and no CSRC; but no CSRC is taken. Blocks name nothing.
+    (PLAIN, [
+        ("rtp 0 7 000000bb 8200000a00000000000000aa000000bb000000bc", ok(1, 0, 1026037, ssrc="000000bd")),
+        ("rtp 0 7 00000000 8100000b00000000000000aa000000bd", ok(2, 1, 1026037)),
+        ("rtp 0 8 00000000 8100000c00000000000000aa000000bd", ok(2, 1, 1026037)),
+        (f"rtcp 0 8 00000000 81c90007000000aa000000bd{'00' * 20}", ok(2, 1, 1026037)),
+        ("rtp 0 7 00000000 8000000a00000000000000bd", "refused E7 OwnSsrc"),
+        (tick(1026037), ok(2, 1, 3078111, REPORT_OF_BD_ON_AA)),
+    ], "", 0),
+    # The present identifier among CSRCs takes no room, and an old one does.
+    (PLAIN + ["--capacity", "2"], [
+        ("rtp 0 7 000000bb 8000000a00000000000000aa", ok(1, 0, 1026037, ssrc="000000bb")),
+        ("rtp 0 7 00000000 8100000b00000000000000aa000000bb", ok(2, 1, 1026037)),
+        ("rtcp 0 7 00000000 80c900010000000781ca00020000000701016100", ok(3, 1, 1026037)),
+        ("rtcp 0 7 00000000 80c900010000000881ca00020000000801016100", ok(3, 1, 1026037)),
+    ], "", 0),
+    (PLAIN + ["--capacity", "2"], [
+        ("rtcp 0 7 000000bb 80c900010000000781cb0001000000aa", ok(1, 0, 1026037, ssrc="000000bb")),
+        ("rtp 0 7 00000000 8000000a0000000000000007", ok(1, 0, 1026037)),
+        ("rtp 0 7 00000000 8100000b0000000000000007000000aa", ok(2, 1, 1026037)),
+        ("rtcp 0 7 00000000 80c900010000000881ca00020000000801016100", ok(2, 1, 1026037)),
+        (f"rtcp 0 7 00000000 {R}", ok(3, 1, 1026037)),
+    ], "", 0),
+    # A change does not bring the shorter minimum back, and tp and pmembers stay. Departures count as ever.
+    (PLAIN, REPORT_SENT + [
+        ("rtp 2000000 7 000000bb 8000000a00000000000000aa", ok(1, 0, 3078111, BYE, "000000bb")),
+        (tick(3078111, "ffffffff"), ok(1, 0, 7182258)),
+        (tick(7182258, "ffffffff"), ok(1, 0, 9234332, under("000000bb", REPORT))),
+    ], "", 0),
+    (PLAIN, REPORT_SENT + [
+        (named(1026037, 1, 3), ok(4, 0, 3078111)),
+        ("rtp 1026037 7 000000bb 8000000a00000000000000aa", ok(4, 0, 3078111, BYE, "000000bb")),
+        (f"rtcp 1026037 1 00000000 {GOODBYE_OF_1}", ok(3, 0, 3078111)),
+    ], "", 0),
+    (PLAIN, [
+        (named(0, 1, 3), ok(4, 0, 1026037)),
+        (tick(1026037), ok(4, 0, 3078111, REPORT)),
+        ("rtcp 1026037 7 000000bb 80c90001000000aa81cb000100000001", ok(3, 0, 2565092, BYE, "000000bb")),
+    ], "", 0),
+    # The turns of the extra items go on.
+    (TOOL, [
+        (tick(1026037), ok(1, 0, 3078111, REPORT)),
+        ("rtcp 1026037 7 000000bb 80c90001000000aa", ok(1, 0, 3078111, BYE, "000000bb")),
+        (tick(3078111), ok(1, 0, 5130185, under("000000bb", REPORT))),
+        ("rtcp 3078111 8 000000cc 80c90001000000bb", ok(1, 0, 5130185, under("000000bb", BYE), "000000cc")),
+        (tick(5130185), ok(1, 0, 7182259, under("000000cc", REPORT_WITH_TOOL))),
+    ], "", 0),
+    # The BYE of a change moves the average, before the datagram does; without one a change moves nothing.
+    (SLOW, [
+        ("sent 0 1000 160", ok(1, 1, 1641659)),
+        ("rtp 0 7 000000bb 8000000a00000000000000aa", ok(1, 1, 1641659, BYE, "000000bb")),
+        (tick(1641659, "ffffffff"), ok(1, 1, 3732209)),
+    ], "", 0),
+    (SLOW, [
+        ("sent 0 1000 160", ok(1, 1, 1641659)),
+        ("rtcp 0 7 000000bb 80c90001000000aa", ok(1, 1, 1641659, BYE, "000000bb")),
+        (tick(1641659, "ffffffff"), ok(1, 1, 3672090)),
+    ], "", 0),
+    (SLOW, [
+        ("rtp 0 7 000000bb 8000000a00000000000000aa", ok(1, 0, 1641659, ssrc="000000bb")),
+        (tick(1641659, "ffffffff"), ok(1, 0, 4924977)),
+    ], "", 0),
+    # The BYE of a change waits for nothing, also among 51 members; a leave after it is silent.
+    (PLAIN, REPORT_SENT + [
+        (named(10000000, 1, 50), ok(51, 0, 3078111)),
+        ("rtp 10000000 7 00000001 8000000a00000000000000aa", ok(51, 0, 3078111, BYE, "00000033")),
+        (leave(10000000), LEFT),
+    ], "", 0),
+    (PLAIN, REPORT_SENT + [
+        (named(10000000, 1, 50), ok(51, 0, 3078111)),
+        ("rtp 10000000 7 00000001 8000000a00000000000000aa", ok(51, 0, 3078111, BYE, "00000033")),
+        ("sent 10000000 1000 160", ok(51, 1, 3078111)),
+        (leave(10000000), ok(1, 0, 11026037)),
+        (tick(11026037), ok(0, 0, "-", under("00000033", BYE))),
+    ], "", 0),
+    # In backoff the table is that of the leave, nothing but the last BYE is sent under a new identifier, and BYE
+    # packets that name the own identifier count.
+    (PLAIN, BACKOFF + [
+        ("rtcp 10000000 7 00000000 80c9000100000100", ok(1, 0, 11026037)),
+        ("rtp 10000000 7 00000001 8000000a00000000000000aa", ok(1, 0, 11026037, BYE, "00000033")),
+        ("rtcp 10000000 7 00000000 80c9000100000033", "refused E7 OwnSsrc"),
+        ("sent 10000000 1000 160", ok(1, 0, 11026037)),
+        ("rtcp 10000000 8 00000100 80c900010000003381cb000100000033", ok(2, 0, 11026037, ssrc="00000100")),
+        ("rtcp 10000000 9 000000aa 80c9000100000100", ok(2, 0, 11026037, ssrc="000000ab")),
+        (tick(11026037), ok(0, 0, "-", under("000000ab", BYE))),
+        ("rtcp 11026037 10 00000000 80c90001000000ab", "refused E1 Left"),
+    ], "", 0),
+    (PLAIN, REPORT_SENT + [
+        (named(10000000, 1, 51), ok(52, 0, 3078111)),
+        (f"rtcp 10000000 1 00000000 {GOODBYE_OF_1}", ok(51, 0, 3078111)),
+        (leave(10000000), ok(1, 0, 11026037)),
+        ("rtp 10000000 7 00000001 8000000a00000000000000aa", ok(1, 0, 11026037, BYE, "00000034")),
+    ], "", 0),
+    (SLOW, SLOW_BACKOFF + [
+        (f"rtcp 0 1 00000000 {GOODBYE_OF_1}", ok(2, 0, 1915269)),
+        ("rtp 0 7 000000bb 8000000a00000000000000aa", ok(2, 0, 1915269, BYE, "000000bb")),
+        (tick(1915269, "ffffffff"), ok(2, 0, 11347325)),
+        (tick(11347325), ok(0, 0, "-", under("000000bb", BYE))),
+    ], "", 0),
+    (SLOW, SLOW_BACKOFF + [
+        (f"rtcp 0 1 00000000 {GOODBYE_OF_1}", ok(2, 0, 1915269)),
+        ("rtcp 0 7 000000bb 80c900010000000181cb0001000000aa", ok(3, 0, 1915269, BYE, "000000bb")),
+        (tick(1915269, "ffffffff"), ok(3, 0, 16803356)),
+    ], "", 0),
+    # Lines that are not of their form, or of that before there were peers.
+    (PLAIN, [("rtcp 0 80c9000100000007", None)], "line 1: X3 Words", 2),
+    (PLAIN, [("rtp 0 7 00000000", None)], "line 1: X3 Words", 2),
+    (PLAIN, [("rtcp x 7 zz -", None)], "line 1: X5 Number", 2),
+    (PLAIN, [("rtcp 0 7 zz -", None)], "line 1: X4 Hex", 2),
+    (PLAIN, [("rtp 0 18446744073709551616 zz -", None)], "line 1: X5 Number", 2),
+]
+
+ALL = SESSIONS + LEAVING + CHANGING
 
 
 def expected(options, rows):
@@ -239,12 +474,12 @@ def expected(options, rows):
 
 def run(replay):
     """Compares `replay`, which takes options and octets and gives what is written and the status. Returns a status."""
-    for number, (options, rows, fault, status) in enumerate(SESSIONS + LEAVING, 1):
+    for number, (options, rows, fault, status) in enumerate(ALL, 1):
         lines = "".join(line + "\n" for line, _ in rows)
         want = (expected(options, rows), fault + "\n" if fault else "", status)
         got = replay(options, lines.encode())
         if got != want:
             print(f"rows, session {number}: {' '.join(options)}\n{lines[:20_000]}  got:  {got}\n  want: {want}")
             return 1
-    print(f"rows: {len(SESSIONS + LEAVING)} sessions worked by hand: the same answers")
+    print(f"rows: {len(ALL)} sessions worked by hand: the same answers")
     return 0

@@ -10,7 +10,7 @@ import histories
 import mutator
 import participant
 import rows
-from histories import FURTHEST, SECOND, choose, packet, random_word
+from histories import FURTHEST, PEERS, SECOND, came, choose, packet, random_word
 
 BASES = 300  # histories made at random to grow sessions from
 LONGEST_BASE_LINE = 20_000
@@ -26,8 +26,7 @@ def samples():
     found = []
     for file in sorted(mutator.SAMPLES.glob("*.replay")):
         found.append((file.with_suffix(".options").read_text().split(), file.read_bytes().splitlines()))
-    worked = rows.SESSIONS + rows.LEAVING
-    found += [(options, [line.encode() for line, _ in lines]) for options, lines, _, _ in worked]
+    found += [(options, [line.encode() for line, _ in lines]) for options, lines, _, _ in rows.ALL]
     return [(options, short_ones(lines)) for options, lines in found]
 
 
@@ -63,6 +62,14 @@ def with_moment(line, change):
 def moment_of(line):
     found = re.match(b"[a-z]+ ([0-9]{1,20}) ", line)
     return int(found[1]) if found else 0
+
+
+def datagram_of(line):
+    """The fields of a line of a datagram, with its octets, where it is of its form."""
+    if not re.fullmatch(b"rtc?p [0-9]{1,20} [0-9]{1,20} [0-9a-fA-F]{8} ([0-9a-fA-F]{2})+", line):
+        return None
+    kind, moment, peer, word, text = line.split(b" ")
+    return kind, moment, peer, word, bytes.fromhex(text.decode())
 
 
 class Session:
@@ -117,8 +124,8 @@ class Session:
 
     def known(self):
         """SSRCs that datagrams of the session name first."""
-        found = re.findall(b"(?m)^rtcp [0-9]+ [0-9a-fA-F]{8}([0-9a-fA-F]{8})", b"\n".join(self.lines))
-        found += re.findall(b"(?m)^rtp [0-9]+ [0-9a-fA-F]{16}([0-9a-fA-F]{8})", b"\n".join(self.lines))
+        start, lines = b"(?m)^%b [0-9]+ [0-9]+ [0-9a-fA-F]{8} [0-9a-fA-F]{%d}([0-9a-fA-F]{8})", b"\n".join(self.lines)
+        found = re.findall(start % (b"rtcp", 8), lines) + re.findall(start % (b"rtp", 16), lines)
         return sorted({int(text, 16) for text in found}) or mutator.SSRCS
 
     # Lines
@@ -187,11 +194,15 @@ class Session:
         return self.rng.choice(places) if places else None
 
     def change_words(self):
-        """Other random words, or another timestamp and size of a packet sent."""
-        rng, place = self.rng, self.some_line(b"tick", b"leave", b"sent")
+        """Other random words, another timestamp and size of a packet sent, or another peer and word of a datagram."""
+        rng, place = self.rng, self.some_line(b"tick", b"leave", b"sent", b"rtcp", b"rtp")
         if place is None:
             return
         fields = self.lines[place].split(b" ")
+        if fields[0] in (b"rtcp", b"rtp"):
+            fields[2:4] = self.peer(), self.word()
+            self.lines[place] = b" ".join(fields)
+            return
         for at in range(2, len(fields)):
             if rng.randrange(3):
                 fields[at] = b"%08x" % random_word(rng) if fields[0] != b"sent" else b"%d" % random_word(rng)
@@ -203,12 +214,13 @@ class Session:
 
     def change_datagram(self):
         place = self.some_line(b"rtcp", b"rtp")
-        if place is None or not re.fullmatch(b"[a-z]+ [0-9]+ ([0-9a-fA-F]{2})+", self.lines[place]):
+        parts = None if place is None else datagram_of(self.lines[place])
+        if parts is None:
             return
-        kind, moment, text = self.lines[place].split(b" ")
-        octets = self.changed(kind, bytes.fromhex(text.decode()))
+        *start, octets = parts
+        octets = self.changed(start[0], octets)
         text = octets.hex() if self.rng.randrange(10) else octets.hex().upper()
-        self.lines[place] = b"%b %b %b" % (kind, moment, text.encode() or b"-")
+        self.lines[place] = b" ".join([*start, text.encode() or b"-"])
 
     def changed(self, kind, octets):
         """The octets with a word of theirs made an SSRC that is known, or with any other change."""
@@ -222,11 +234,22 @@ class Session:
         changes = mutator.RTP_CHANGES if kind == b"rtp" and rng.randrange(4) else mutator.CHANGES
         return mutator.mutated(rng, octets, changes)
 
+    def peer(self):
+        return b"%d" % choose(self.rng, (4, 1), (4, self.rng.choice(PEERS)), (1, self.rng.getrandbits(64)))
+
+    def word(self):
+        """A word, often that of a source that is known or of one a little below it."""
+        rng = self.rng
+        near = rng.choice(self.known() + mutator.SSRCS + [self.own]) - rng.randrange(3)
+        return b"%08x" % (choose(rng, (1, random_word(rng)), (2, near)) % 2**32)
+
     # What is put in
 
+    def put_datagram(self, place, kind, octets):
+        self.put(place, came(kind, self.moment(place), octets, int(self.peer()), int(self.word(), 16)))
+
     def add_datagram(self):
-        place = self.place()
-        self.put(place, f"rtcp {self.moment(place)} {mutator.datagram(self.rng).hex() or '-'}")
+        self.put_datagram(self.place(), "rtcp", mutator.datagram(self.rng))
 
     def add_goodbyes(self):
         """BYE packets of sources that are known: of one, of some in one packet, or of each in its own."""
@@ -235,8 +258,7 @@ class Session:
         packets = [packet(len(gone), 203, participant.words(*gone))]
         if rng.randrange(2):
             packets = [packet(1, 203, participant.words(ssrc)) for ssrc in gone]
-        octets = packet(0, 201, participant.words(gone[0])) + b"".join(packets)
-        self.put(place, f"rtcp {self.moment(place)} {octets.hex()}")
+        self.put_datagram(place, "rtcp", packet(0, 201, participant.words(gone[0])) + b"".join(packets))
 
     def add_audience(self):
         """Sources that are named at once, often about so many that a leave needs a backoff."""
@@ -256,7 +278,7 @@ class Session:
             csrcs = rng.choices([*known, *[self.own] * 3], k=choose(rng, (4, 0), (1, rng.randrange(1, 5))))
             head = bytes([0x80 | len(csrcs), 0]) + (runs[which] % 65536).to_bytes(2, "big")
             octets = head + participant.words(160 * number + rng.randrange(2) * rng.getrandbits(8), ssrc, *csrcs)
-            self.put(place + number, f"rtp {self.moment(place)} {octets.hex()}")
+            self.put(place + number, came("rtp", self.moment(place), octets))
 
     def add_crowd(self):
         """So many senders that a report may need a second packet, mostly with a limit near such a report's size."""
@@ -280,7 +302,8 @@ class Session:
         for _ in range(rng.randrange(8)):
             moment += rng.randrange(SECOND)
             goodbyes = packet(1, 203, participant.words(rng.choice(mutator.SSRCS))) * rng.randrange(4)
-            lines.append(f"rtcp {moment} {(packet(0, 201, participant.words(1)) + goodbyes).hex()}")
+            octets = packet(0, 201, participant.words(rng.choice([1, 1, self.own]))) + goodbyes
+            lines.append(came("rtcp", moment, octets, int(self.peer()), int(self.word(), 16)))
             lines.append(f"{rng.choice(['tick', 'tick', 'tick', 'leave'])} {moment} {random_word(rng):08x}")
             lines[-1] += f" {random_word(rng):08x}" if lines[-1].startswith("tick") else ""
         self.lines += [line.encode() for line in lines]
@@ -294,15 +317,16 @@ class Session:
         self.move_moments(place, None, lambda moment: moment + 5 * SECOND + 1)
         self.put(place, rows.named(later, ssrc, ssrc))
         self.put(place, f"tick {later} {random_word(rng):08x} {random_word(rng):08x}")
-        self.put(place, f"rtcp {moment} {goodbye.hex()}")
+        self.put(place, came("rtcp", moment, goodbye))
 
     def flood(self):
         """A leave among many, and so many BYE packets that members come to 65,535."""
         rng = self.rng
         octets = packet(0, 201, participant.words(1)) + packet(0, 203, b"") * 16_381
         self.lines = [rows.named(0, 1, rng.choice([50, 51, 60])).encode(), b"sent 0 0 160", b"leave 0 00000000"]
-        self.lines += [b"rtcp 0 " + octets.hex().encode()] * rng.randrange(4, 6)
-        self.lines += [rows.named(1, 1, 1).encode(), f"rtcp 2 {rows.GOODBYE_OF_1}".encode()] * rng.randrange(20)
+        self.lines += [came("rtcp", 0, octets).encode()] * rng.randrange(4, 6)
+        goodbye = bytes.fromhex(rows.GOODBYE_OF_1)
+        self.lines += [rows.named(1, 1, 1).encode(), came("rtcp", 2, goodbye).encode()] * rng.randrange(20)
         self.lines += [f"tick {2**step} {random_word(rng):08x} 00000000".encode() for step in range(20, 50, 3)]
 
     def add_ticks(self):
@@ -342,9 +366,10 @@ class Session:
             self.break_line()
 
     def aim(self):
-        """Puts some ticks near the moment that the model gives as the next, and what follows as much later."""
+        """Puts some ticks near the moment that the model gives as the next, and what follows as much later. Makes some
+        datagrams name the identifier that the participant then has."""
         rng, later, moments = self.rng, 0, [0]
-        chance = rng.choice([0, 0.3, 0.9])
+        chance, collisions = rng.choice([0, 0.3, 0.9]), rng.choice([0, 0.02, 0.2])
         try:
             model = participant.Participant(participant.configuration(self.options))
             for place, line in enumerate(self.lines):
@@ -353,11 +378,29 @@ class Session:
                 if line.startswith(b"tick ") and rng.random() < chance and not model.has_left:
                     missing = max(0, self.target(model, moments) - moment_of(line))
                     line, later = with_moment(line, lambda moment: moment + missing), later + missing
+                if rng.random() < collisions:
+                    line = self.colliding(line, model)
                 self.lines[place] = line
                 participant.answer(model, line)
                 moments.append(model.last_call)
         except (participant.Fault, participant.Usage):
             pass  # the lines after a fault are not looked at
+
+    def colliding(self, line, model):
+        """The line of a datagram with the present identifier as its source or in a BYE packet, mostly from a new peer,
+        and with a word near an identifier that must not be taken."""
+        rng, parts = self.rng, datagram_of(line)
+        if parts is None:
+            return line
+        kind, moment, _, _, octets = parts
+        own, first = participant.words(model.ssrc), 4 if kind == b"rtcp" else 8
+        if kind == b"rtcp" and rng.randrange(4) == 0:
+            octets += packet(1, 203, own)
+        else:
+            octets = octets[:first] + own + octets[first + 4:]
+        avoided = [*histories.named_by(kind.decode(), octets), *model.earlier, *model.sources, model.ssrc]
+        word = choose(rng, (1, random_word(rng)), (4, rng.choice(avoided) - rng.randrange(3))) % 2**32
+        return came(kind.decode(), int(moment), octets, int(self.peer()), word).encode()
 
     def target(self, model, moments):
         """About the next moment, or where some of what came before is just so long ago that a check notices it."""
