@@ -1,4 +1,4 @@
-//! One RTCP participant of a session (RFC 3550, 6.2 to 6.5): it is told what datagrams come, what its host
+//! One RTCP participant of a session (RFC 3550, 6.2 to 6.5, 8.2): it is told what datagrams come, what its host
 //! sends and what time it is, and it answers who is there, what to send, and when to ask again. It reads no
 //! clock, opens no socket, draws no random number and does not allocate. What it answers is defined over all
 //! that it was told, and its reports never lie too close together, whatever comes ([`run`] has the promise).
