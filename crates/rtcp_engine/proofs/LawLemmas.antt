@@ -1,6 +1,6 @@
 -- The laws of this crate as lemmas, for the proofs of the crates above: each has the name of its law, and of the
 -- clause where the law has several.
-use Rattle.std.proofs.Common.{◌≡◌, ◌↔◌, All, map, ℕ, ◌+◌, ◌-◌, ◌*◌, ◌/◌, ◌%◌, ◌≤◌, Bool, true, false, is_some, option_map, List, [], ◌∷◌, ◌++◌, length, slice_get, Option, Some, None, Result, Ok, Err, if◌then◌else◌, refl, sym, ap, ◌∙◌, arith, inl, inr, max}
+use Rattle.std.proofs.Common.{◌≡◌, ◌↔◌, All, map, ℕ, ◌+◌, ◌-◌, ◌*◌, ◌/◌, ◌%◌, ◌≤◌, ◌^◌, ◌<◌, Bool, true, false, is_some, option_map, List, [], ◌∷◌, ◌++◌, length, slice_get, Option, Some, None, Result, Ok, Err, if◌then◌else◌, refl, sym, ap, ◌∙◌, arith, inl, inr, max}
 use Rattle.std.proofs.lemmas.Bool.{ne_eqb, eq-eqb, lt-ltb, le-ltb, cases_lt}
 use Rattle.rtcp_wire.specs.Values.{ItemValue, RtcpPacket}
 use Rattle.rtcp_wire.specs.RtpHeads.{RtpValue}
@@ -15,7 +15,7 @@ use Rattle.rtcp_engine.specs.declared.refusal.Refusal.{Refusal}
 use Rattle.rtcp_engine.specs.Setups.{Setup, IsUsable}
 use Rattle.rtcp_engine.specs.Refused.{error_in}
 use Rattle.rtcp_engine.specs.Acts.{Act, rtcp_came, rtp_came, rtp_sent, ticked, left, renamed, moment_of, IsReading, IsRtpReading}
-use Rattle.rtcp_engine.specs.Changes.{change_by}
+use Rattle.rtcp_engine.specs.Changes.{change_by, is_taken, new_identifier}
 use Rattle.rtcp_engine.specs.OwnStreams.{OwnStep, packet_sent, check_passed, report_sent, counts_anew, sending_since}
 use Rattle.rtcp_engine.specs.OwnSending.{OutlastsChecks, IsSendingSince}
 use Rattle.rtcp_engine.specs.Reporting.{extra_item, last_reported_in}
@@ -30,10 +30,10 @@ use Rattle.rtcp_engine.specs.Lives.{life_at, out_by}
 use Rattle.rtcp_engine.specs.Answers.{step_by, out_at, out_of, refusal_after, answer_of, followed_by, ssrc_of, with_change_of}
 use Rattle.rtcp_engine.specs.Identities.{setup_now}
 use Rattle.std.specs.Option.{option_or}
-use Rattle.rtcp_engine.specs.Taken.{IsHistory}
+use Rattle.rtcp_engine.specs.Taken.{IsHistory, NamesFew}
 use Rattle.rtcp_engine.specs.Sent.{Sent, reports_in, deciding_interval, interval_by, is_change, sent_at, sent_with, handed_out, reports_of, counted_report}
 use Rattle.rtcp_engine.specs.Spacing.{newest_moment, AreSpaced, count_within, first_leave, EndsWithBye, AllFit, HasFewChanges}
-use Rattle.rtcp_engine.proofs.Choosing.{few_changes}
+use Rattle.rtcp_engine.proofs.Choosing.{few_changes, new_is_free}
 use Rattle.rtcp_engine.proofs.Usable.{usable_of_unrefused, unrefused_of_usable}
 use Rattle.rtcp_engine.proofs.Counting.{reports_counted}
 use Rattle.rtcp_engine.proofs.Sending.{session_keeps_apart}
@@ -248,6 +248,9 @@ sent_compounds_keep_apart-limit history is = limit_in history.setup.limit (last_
 
 pub sends_in_time : (history : History) → IsHistory history → AllInTime history.setup history.word history.acts
 sends_in_time history is = all_in_time history.setup history.word history.acts is.usable is.word is.taken
+
+pub new_identifiers_are_free : (history : History) (act : Act) (word : ℕ) → IsHistory history → word < 2 ^ 32 → NamesFew act → is_taken history act (new_identifier word history act) ≡ false
+new_identifiers_are_free history act word is fits few = new_is_free history act word is fits few
 
 pub sent_compounds_keep_apart-few_changes : (history : History) → IsHistory history → HasFewChanges (sent_at history)
 sent_compounds_keep_apart-few_changes history is = few_changes history.setup history.word history.acts is.taken

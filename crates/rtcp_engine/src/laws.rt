@@ -1,7 +1,7 @@
 //! Laws of the definitions of a participant's answers. Each is an empty function whose postcondition is the
 //! law; `proofs/LawLemmas` has a lemma of its name, or one for each clause.
 
-ghost use Rattle.std.specs.Prelude.{◌≡◌, ◌↔◌, ◌≤◌, max, ℕ, ◌+◌, ◌*◌, ◌/◌, ◌%◌, All, map, List, [], ◌∷◌, ◌++◌, length, slice_get, Option, Some, None, Result, false};
+ghost use Rattle.std.specs.Prelude.{◌≡◌, ◌↔◌, ◌≤◌, ◌^◌, ◌<◌, max, ℕ, ◌+◌, ◌*◌, ◌/◌, ◌%◌, All, map, List, [], ◌∷◌, ◌++◌, length, slice_get, Option, Some, None, Result, false};
 ghost use Rattle.rtcp_wire.specs.Values.{ItemValue, RtcpPacket};
 ghost use Rattle.rtcp_wire.specs.RtpHeads.{RtpValue};
 ghost use Rattle.rtcp_wire.specs.declared.fault.WireFault.{WireFault};
@@ -23,8 +23,8 @@ ghost use Rattle.rtcp_engine.specs.Leaving.{Backoff, present, backing_off, leavi
 ghost use Rattle.rtcp_engine.specs.Presence.{with_act};
 ghost use Rattle.rtcp_engine.specs.Lives.{life_at};
 ghost use Rattle.rtcp_engine.specs.Answers.{refusal_after, answer_of, followed_by, with_change_of};
-ghost use Rattle.rtcp_engine.specs.Changes.{change_by};
-ghost use Rattle.rtcp_engine.specs.Taken.{IsHistory};
+ghost use Rattle.rtcp_engine.specs.Changes.{change_by, is_taken, new_identifier};
+ghost use Rattle.rtcp_engine.specs.Taken.{IsHistory, NamesFew};
 ghost use Rattle.rtcp_engine.specs.Sent.{reports_in, deciding_interval, is_change, sent_at, handed_out, reports_of, counted_report};
 ghost use Rattle.rtcp_engine.specs.Spacing.{newest_moment, AreSpaced, count_within, first_leave, EndsWithBye, HasFewChanges, AllFit};
 ghost use Rattle.rtcp_engine.specs.InTime.{AllInTime};
@@ -55,6 +55,13 @@ pub fn refused_acts_are_forgotten()
     ensures taken { (history : History) (act : Act) →
         refusal_after history act ≡ None →
         followed_by history act ≡ with_act (with_change_of (change_by history act) history) act }
+{}
+
+/// The identifier that a change takes is free, as far as the participant can tell: it is none of its own so far, no
+/// source of its table has it, and the datagram that brings the change does not name it (RFC 3550, 8.2).
+pub fn new_identifiers_are_free()
+    ensures { (history : History) (act : Act) (word : ℕ) → IsHistory history → word < 2 ^ 32 → NamesFew act →
+        is_taken history act (new_identifier word history act) ≡ false }
 {}
 
 /// The participant sends since a moment exactly where its newest packet was sent then, and no check since has
