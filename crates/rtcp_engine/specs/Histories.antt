@@ -13,8 +13,7 @@ use Rattle.rtcp_engine.specs.Setups.{Setup}
 use Rattle.rtcp_engine.specs.Acts.{Act, rtcp_came, rtp_came, rtp_sent, ticked, left, renamed}
 use Rattle.rtcp_engine.specs.OwnStreams.{packet_sent, counts_anew, has_sent}
 use Rattle.rtcp_engine.specs.Reporting.{bye_octets}
-use Rattle.rtcp_engine.specs.Identities.{setup_now}
-use Rattle.rtcp_engine.specs.Outcomes.{Outcome, beginning}
+use Rattle.rtcp_engine.specs.Outcomes.{Outcome}
 use Rattle.rtcp_engine.specs.Ticks.{with_recount, after_tick}
 
 -- ---- Arrivals
@@ -81,11 +80,6 @@ after setup (ticked moment first_word second_word) outcome =
 after setup (left moment word) outcome = outcome
 after setup (renamed moment peer ssrc) outcome = with_change setup outcome
 
--- What a session has come to, from its setup, its start word and all acts that were taken.
-abbrev pub outcome_of : Setup → (word : ℕ) → List Act → Outcome
-outcome_of setup word [] = beginning setup word
-outcome_of setup word (act ∷ earlier) = after (setup_now setup earlier) act (outcome_of setup word earlier)
-
 -- A session so far.
 pub record History : Type 0 where
   pub setup : Setup
@@ -93,6 +87,3 @@ pub record History : Type 0 where
   pub word : ℕ
   -- the acts that were taken, newest first
   pub acts : List Act
-
-abbrev pub outcome_at : History → Outcome
-outcome_at history = outcome_of history.setup history.word history.acts
