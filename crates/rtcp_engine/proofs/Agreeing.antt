@@ -54,8 +54,8 @@ pub none_yet : (sent : List Report) → (length sent == 0) ≡ is_initial sent
 none_yet [] = refl
 none_yet (report ∷ earlier) = ne_eqb (length (report ∷ earlier)) 0 (λ h. absurd cc)
 
-abbrev load : (members senders : ℕ) (we_sent initial : Bool) (avg rtcp_bw : ℕ) → Load
-load members senders we_sent initial avg rtcp_bw = record { members = members; senders = senders; we_sent = we_sent; initial = initial; avg = avg; rtcp_bw = rtcp_bw }
+abbrev load : (members senders : ℕ) (we_sent initial : Bool) (avg sender_bw receiver_bw : ℕ) → Load
+load members senders we_sent initial avg sender_bw receiver_bw = record { members = members; senders = senders; we_sent = we_sent; initial = initial; avg = avg; sender_bw = sender_bw; receiver_bw = receiver_bw }
 
 pub loads_agree : (s : State) (o : Outcome) → Agrees s o → load_in s ≡ load_of s.setup o
 loads_agree s o a =
@@ -63,12 +63,13 @@ loads_agree s o a =
     let senders = senders_agree s o a in
     let sent = we_sent_agrees s o a in
     let initial : (s.reports == 0) ≡ is_initial o.reports = ap (λ (n : ℕ). n == 0) a.reports ∙ none_yet o.reports in
-    let bw = s.setup.rtcp_bw in
-    ap (λ (m : ℕ). load m (senders_of s) (is_some s.own.sending) (s.reports == 0) s.average bw) members
-    ∙ ap (λ (n : ℕ). load (member_count s.setup o) n (is_some s.own.sending) (s.reports == 0) s.average bw) senders
-    ∙ ap (λ (b : Bool). load (member_count s.setup o) (sender_count s.setup o) b (s.reports == 0) s.average bw) sent
-    ∙ ap (λ (b : Bool). load (member_count s.setup o) (sender_count s.setup o) (is_some (sending_since o.own)) b s.average bw) initial
-    ∙ ap (λ (n : ℕ). load (member_count s.setup o) (sender_count s.setup o) (is_some (sending_since o.own)) (is_initial o.reports) n bw) a.average
+    let for_senders = s.setup.sender_bw in
+    let for_others = s.setup.receiver_bw in
+    ap (λ (m : ℕ). load m (senders_of s) (is_some s.own.sending) (s.reports == 0) s.average for_senders for_others) members
+    ∙ ap (λ (n : ℕ). load (member_count s.setup o) n (is_some s.own.sending) (s.reports == 0) s.average for_senders for_others) senders
+    ∙ ap (λ (b : Bool). load (member_count s.setup o) (sender_count s.setup o) b (s.reports == 0) s.average for_senders for_others) sent
+    ∙ ap (λ (b : Bool). load (member_count s.setup o) (sender_count s.setup o) (is_some (sending_since o.own)) b s.average for_senders for_others) initial
+    ∙ ap (λ (n : ℕ). load (member_count s.setup o) (sender_count s.setup o) (is_some (sending_since o.own)) (is_initial o.reports) n for_senders for_others) a.average
 
 pub intervals_agree : (s : State) (o : Outcome) → Agrees s o → interval_in s ≡ interval_at s.setup o
 intervals_agree s o a = ap interval_of (loads_agree s o a)

@@ -17,14 +17,14 @@ use Rattle.rtcp_engine.specs.Outcomes.{beginning, first_size_of}
 use Rattle.rtcp_engine.specs.Taken.{begun}
 use Rattle.rtcp_engine.specs.States.{state_with, IsSound, IsPresentAt}
 
-abbrev pub first_load : (average rtcp_bw : ℕ) → Load
-first_load average rtcp_bw = record { members = 1; senders = 0; we_sent = false; initial = true; avg = average; rtcp_bw = rtcp_bw }
+abbrev pub first_load : (average sender_bw receiver_bw : ℕ) → Load
+first_load average sender_bw receiver_bw = record { members = 1; senders = 0; we_sent = false; initial = true; avg = average; sender_bw = sender_bw; receiver_bw = receiver_bw }
 
 -- a table and numbers as they are before any act
 pub record IsStart (setup : Setup) (word : ℕ) (table : TableValue) (timing : Timing) (average : ℕ) (own : OwnValue) : Type 0 where
   pub is_table : table ≡ no_members setup.capacity setup.rate
   pub is_average : average ≡ average_of (first_size_of setup) []
-  pub is_timing : timing ≡ schedule_at (transmitted 0 (drawn_interval (interval_of (first_load average setup.rtcp_bw)) word) 1 ∷ [])
+  pub is_timing : timing ≡ schedule_at (transmitted 0 (drawn_interval (interval_of (first_load average setup.sender_bw setup.receiver_bw)) word) 1 ∷ [])
   pub is_own : own ≡ no_packets
 
 pub start_is_sound : (setup : Setup) (word : ℕ) (table : TableValue) (timing : Timing) (average : ℕ) (own : OwnValue) → IsUsable setup →
@@ -44,7 +44,8 @@ start_is_sound setup word table timing average own usable start = record {
 pub start_stands : (setup : Setup) (word : ℕ) (table : TableValue) (timing : Timing) (average : ℕ) (own : OwnValue) → IsUsable setup → word < 2 ^ 32 →
     IsStart setup word table timing average own → IsPresentAt (state_with setup table timing average own None 0 0 0) (begun setup word)
 start_stands setup word table timing average own usable word_fits start =
-    let bw = setup.rtcp_bw in
+    let for_senders = setup.sender_bw in
+    let for_others = setup.receiver_bw in
     record {
       is_history = record { usable = usable; word = word_fits; taken = tt };
       setup = refl;
@@ -54,7 +55,7 @@ start_stands setup word table timing average own usable word_fits start =
         table = subst (λ (t : TableValue). Rattle.rtcp_members.specs.Tables.StandsAt t []) (sym start.is_table) (tables.tables_follow_traces-none setup.capacity setup.rate);
         capacity = ap (λ (t : TableValue). t.capacity) start.is_table;
         rate = ap (λ (t : TableValue). t.rate) start.is_table;
-        timing = start.is_timing ∙ ap (λ (a : ℕ). schedule_at (transmitted 0 (drawn_interval (interval_of (first_load a bw)) word) 1 ∷ [])) start.is_average;
+        timing = start.is_timing ∙ ap (λ (a : ℕ). schedule_at (transmitted 0 (drawn_interval (interval_of (first_load a for_senders for_others)) word) 1 ∷ [])) start.is_average;
         average = start.is_average;
         own = start.is_own;
         cursor = refl;

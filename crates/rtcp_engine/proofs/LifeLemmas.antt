@@ -238,7 +238,8 @@ loads_agree s setup b members same average count = λ i. record {
   we_sent = false;
   initial = true;
   avg = (average ∙ ap (λ (st : Setup). leaving_average st b.farewells) same) i;
-  rtcp_bw = ap (λ (st : Setup). st.rtcp_bw) same i;
+  sender_bw = ap (λ (st : Setup). st.sender_bw) same i;
+  receiver_bw = ap (λ (st : Setup). st.receiver_bw) same i;
 }
 
 -- the numbers of a participant are those of a backoff

@@ -8,13 +8,13 @@ use Rattle.rtcp_engine.specs.declared.refusal.Refusal.TheVariants.{Backwards, To
 use Rattle.rtcp_engine.specs.declared.step.OutKind.TheVariants.{Report}
 use Rattle.rtcp_engine.specs.Setups.{Setup}
 use Rattle.rtcp_engine.specs.Acts.{Act, rtcp_came, rtp_came, rtp_sent, ticked}
-use Rattle.rtcp_engine.specs.Outcomes.{timing_of}
-use Rattle.rtcp_engine.specs.Histories.{History, outcome_of}
+use Rattle.rtcp_engine.specs.Outcomes.{timing_of, beginning}
+use Rattle.rtcp_engine.specs.Histories.{History}
 use Rattle.rtcp_engine.specs.Steps.{AnswerValue}
 use Rattle.rtcp_engine.specs.Answers.{answers_to}
 
 abbrev pub setup : Setup
-setup = record { ssrc = 170; cname = 97 ∷ []; extras = []; capacity = 1024; limit = 1472; rtcp_bw = 400; rate = 8000; ntp_base = 0 }
+setup = record { ssrc = 170; cname = 97 ∷ []; extras = []; capacity = 1024; limit = 1472; sender_bw = 100; receiver_bw = 300; rate = 8000; ntp_base = 0 }
 
 abbrev pub start_of : Setup → History
 start_of setup = record { setup = setup; word = 0; acts = [] }
@@ -60,10 +60,10 @@ packet_came moment ssrc seq = rtp_came moment 1 0 (Ok (packet_of ssrc seq))
 
 -- ---- Rows
 
-start_least : (timing_of (outcome_of setup 0 [])).next ≡ 1026037
+start_least : (timing_of (beginning setup 0)).next ≡ 1026037
 start_least = refl
 
-start_greatest : (timing_of (outcome_of setup 4294967295 [])).next ≡ 3078111
+start_greatest : (timing_of (beginning setup 4294967295)).next ≡ 3078111
 start_greatest = refl
 
 -- A report goes out when its moment has come and no sooner, and only one.

@@ -1,5 +1,5 @@
 -- A setup is usable exactly where it is not refused.
-use Rattle.std.proofs.Common.{◌≡◌, ℕ, ◌^◌, ◌%◌, ◌==◌, Bool, true, false, not, List, [], ◌∷◌, length, All, Option, Some, None, if◌then◌else◌, nat_le, refl}
+use Rattle.std.proofs.Common.{◌≡◌, ℕ, ◌^◌, ◌%◌, ◌==◌, ◌&&◌, Bool, true, false, not, List, [], ◌∷◌, length, All, Option, Some, None, if◌then◌else◌, nat_le, refl}
 use Rattle.std.specs.List.{list_all}
 use Rattle.std.specs.Cmp.Derive.{both_true}
 use Rattle.std.proofs.lemmas.Bool.{leb-true, le-leb, eqb-true, eq-eqb, and_parts, false≢true}
@@ -8,7 +8,7 @@ use Rattle.rtcp_wire.specs.Values.{ItemValue}
 use Rattle.rtcp_engine.specs.declared.config.ConfigError.{ConfigError}
 use Rattle.rtcp_engine.specs.declared.config.ConfigError.TheVariants.{Cname, Capacity, Limit, Bandwidth, Rate, Item}
 use Rattle.rtcp_engine.specs.Setups.{Setup, is_within, IsWithin, is_extra_item, IsExtraItem, IsUsable}
-use Rattle.rtcp_engine.specs.Refused.{are_extras, is_limit, error_in}
+use Rattle.rtcp_engine.specs.Refused.{are_extras, is_bandwidth, is_limit, error_in}
 
 -- a test that was passed
 passed : (test : Bool) (error : ConfigError) (others : Option ConfigError) → (if not test then Some error else others) ≡ None → (test ≡ true) × (others ≡ None)
@@ -36,9 +36,10 @@ usable_of_unrefused setup h =
     let cname = passed (is_within 1 255 (length setup.cname)) Cname _ h in
     let capacity = passed (is_within 1 1024 setup.capacity) Capacity _ cname.1 in
     let limit = passed (is_limit setup.limit) Limit _ capacity.1 in
-    let bandwidth = passed (is_within 16 (2 ^ 30) setup.rtcp_bw) Bandwidth _ limit.1 in
+    let bandwidth = passed (is_bandwidth setup.sender_bw && is_bandwidth setup.receiver_bw) Bandwidth _ limit.1 in
     let rate = passed (is_within 1 (2 ^ 20) setup.rate) Rate _ bandwidth.1 in
     let extras = passed (are_extras setup.extras) Item _ rate.1 in
+    let bandwidths = and_parts (is_bandwidth setup.sender_bw) (is_bandwidth setup.receiver_bw) bandwidth.0 in
     let limits = and_parts (is_within 576 1472 setup.limit) (setup.limit % 4 == 0) limit.0 in
     let items = and_parts (nat_le (length setup.extras) 7) (list_all is_extra_item setup.extras) extras.0 in
     record {
@@ -46,7 +47,8 @@ usable_of_unrefused setup h =
       capacity = within 1 1024 setup.capacity capacity.0;
       limit = within 576 1472 setup.limit limits.0;
       words = eqb-true (setup.limit % 4) 0 limits.1;
-      bandwidth = within 16 (2 ^ 30) setup.rtcp_bw bandwidth.0;
+      for_senders = within 16 (2 ^ 30) setup.sender_bw bandwidths.0;
+      for_others = within 16 (2 ^ 30) setup.receiver_bw bandwidths.1;
       rate = within 1 (2 ^ 20) setup.rate rate.0;
       few_extras = leb-true (length setup.extras) 7 items.0;
       extras = all_extras setup.extras items.1;
@@ -73,6 +75,6 @@ unrefused_of_usable setup h =
     passes (is_within 1 255 (length setup.cname)) Cname _ (is_within_of 1 255 (length setup.cname) h.cname)
     (passes (is_within 1 1024 setup.capacity) Capacity _ (is_within_of 1 1024 setup.capacity h.capacity)
     (passes (is_limit setup.limit) Limit _ (both_true (is_within_of 576 1472 setup.limit h.limit) (eq-eqb (setup.limit % 4) 0 h.words))
-    (passes (is_within 16 (2 ^ 30) setup.rtcp_bw) Bandwidth _ (is_within_of 16 (2 ^ 30) setup.rtcp_bw h.bandwidth)
+    (passes (is_bandwidth setup.sender_bw && is_bandwidth setup.receiver_bw) Bandwidth _ (both_true (is_within_of 16 (2 ^ 30) setup.sender_bw h.for_senders) (is_within_of 16 (2 ^ 30) setup.receiver_bw h.for_others))
     (passes (is_within 1 (2 ^ 20) setup.rate) Rate _ (is_within_of 1 (2 ^ 20) setup.rate h.rate)
     (passes (are_extras setup.extras) Item None (both_true (le-leb (length setup.extras) 7 h.few_extras) (are_extra_of setup.extras h.extras)) refl)))))

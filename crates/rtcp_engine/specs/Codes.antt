@@ -16,9 +16,9 @@ item_code =
 
 abbrev pub setup_code : Coded Setup
 setup_code =
-    code_by (ℕ × (List ℕ × (List ItemValue × (ℕ × (ℕ × (ℕ × (ℕ × ℕ))))))) (coded× coded_ℕ (coded× (coded_list coded_ℕ) (coded× (coded_list item_code) (coded× coded_ℕ (coded× coded_ℕ (coded× coded_ℕ (coded× coded_ℕ coded_ℕ)))))))
-    (λ s. (s.ssrc, (s.cname, (s.extras, (s.capacity, (s.limit, (s.rtcp_bw, (s.rate, s.ntp_base))))))))
-    (λ p. record { ssrc = p.0; cname = p.1.0; extras = p.1.1.0; capacity = p.1.1.1.0; limit = p.1.1.1.1.0; rtcp_bw = p.1.1.1.1.1.0; rate = p.1.1.1.1.1.1.0; ntp_base = p.1.1.1.1.1.1.1 })
+    code_by (ℕ × (List ℕ × (List ItemValue × (ℕ × (ℕ × (ℕ × (ℕ × (ℕ × ℕ)))))))) (coded× coded_ℕ (coded× (coded_list coded_ℕ) (coded× (coded_list item_code) (coded× coded_ℕ (coded× coded_ℕ (coded× coded_ℕ (coded× coded_ℕ (coded× coded_ℕ coded_ℕ))))))))
+    (λ s. (s.ssrc, (s.cname, (s.extras, (s.capacity, (s.limit, (s.sender_bw, (s.receiver_bw, (s.rate, s.ntp_base)))))))))
+    (λ p. record { ssrc = p.0; cname = p.1.0; extras = p.1.1.0; capacity = p.1.1.1.0; limit = p.1.1.1.1.0; sender_bw = p.1.1.1.1.1.0; receiver_bw = p.1.1.1.1.1.1.0; rate = p.1.1.1.1.1.1.1.0; ntp_base = p.1.1.1.1.1.1.1.1 })
     (λ _. refl)
 
 abbrev pub timing_code : Coded Timing

@@ -57,7 +57,8 @@ leaving_load setup members farewells = record {
   we_sent = false;
   initial = true;
   avg = leaving_average setup farewells;
-  rtcp_bw = setup.rtcp_bw;
+  sender_bw = setup.sender_bw;
+  receiver_bw = setup.receiver_bw;
 }
 
 abbrev pub leaving_interval : Setup → Backoff → ℕ

@@ -47,7 +47,8 @@ load_in state = record {
   we_sent = is_some state.own.sending;
   initial = state.reports == 0;
   avg = state.average;
-  rtcp_bw = state.setup.rtcp_bw;
+  sender_bw = state.setup.sender_bw;
+  receiver_bw = state.setup.receiver_bw;
 }
 
 abbrev pub interval_in : State → ℕ
@@ -223,7 +224,8 @@ backoff_load members state = record {
   we_sent = false;
   initial = true;
   avg = state.average;
-  rtcp_bw = state.setup.rtcp_bw;
+  sender_bw = state.setup.sender_bw;
+  receiver_bw = state.setup.receiver_bw;
 }
 
 abbrev pub backoff_interval : (members : ℕ) → State → ℕ

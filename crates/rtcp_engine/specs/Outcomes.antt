@@ -67,7 +67,8 @@ load_of setup outcome = record {
   we_sent = we_sent outcome.own;
   initial = is_initial outcome.reports;
   avg = average_size setup outcome;
-  rtcp_bw = setup.rtcp_bw;
+  sender_bw = setup.sender_bw;
+  receiver_bw = setup.receiver_bw;
 }
 
 -- The deterministic interval (6.3.1).

@@ -10,6 +10,9 @@ use Rattle.rtcp_engine.specs.Setups.{Setup, is_within, is_extra_item}
 abbrev pub are_extras : List ItemValue → Bool
 are_extras items = nat_le (length items) 7 && list_all is_extra_item items
 
+abbrev pub is_bandwidth : (bandwidth : ℕ) → Bool
+is_bandwidth bandwidth = is_within 16 (2 ^ 30) bandwidth
+
 abbrev pub is_limit : (limit : ℕ) → Bool
 is_limit limit = is_within 576 1472 limit && limit % 4 == 0
 
@@ -20,7 +23,7 @@ error_in setup =
     if not (is_within 1 255 (length setup.cname)) then Some Cname
     else (if not (is_within 1 1024 setup.capacity) then Some Capacity
     else (if not (is_limit setup.limit) then Some Limit
-    else (if not (is_within 16 (2 ^ 30) setup.rtcp_bw) then Some Bandwidth
+    else (if not (is_bandwidth setup.sender_bw && is_bandwidth setup.receiver_bw) then Some Bandwidth
     else (if not (is_within 1 (2 ^ 20) setup.rate) then Some Rate
     else (if not (are_extras setup.extras) then Some Item
     else None)))))

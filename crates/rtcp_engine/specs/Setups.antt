@@ -14,7 +14,8 @@ pub record Setup : Type 0 where
   -- the most octets of a compound that it sends
   pub limit : ℕ
   -- the RTCP bandwidth of the session, in octets a second
-  pub rtcp_bw : ℕ
+  pub sender_bw : ℕ
+  pub receiver_bw : ℕ
   -- units of the media's clock a second
   pub rate : ℕ
   -- the NTP timestamp of moment 0
@@ -39,7 +40,8 @@ pub record IsUsable (setup : Setup) : Type 0 where
   pub capacity : IsWithin 1 1024 setup.capacity
   pub limit : IsWithin 576 1472 setup.limit
   pub words : setup.limit % 4 ≡ 0
-  pub bandwidth : IsWithin 16 (2 ^ 30) setup.rtcp_bw
+  pub for_senders : IsWithin 16 (2 ^ 30) setup.sender_bw
+  pub for_others : IsWithin 16 (2 ^ 30) setup.receiver_bw
   pub rate : IsWithin 1 (2 ^ 20) setup.rate
   pub few_extras : length setup.extras ≤ 7
   pub extras : All IsExtraItem setup.extras

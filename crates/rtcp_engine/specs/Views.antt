@@ -29,7 +29,8 @@ setup_of config = record {
   extras = map item_value config.extras.items;
   capacity = config.capacity;
   limit = config.limit;
-  rtcp_bw = config.rtcp_bw;
+  sender_bw = config.sender_bw;
+  receiver_bw = config.receiver_bw;
   rate = config.rate;
   ntp_base = config.ntp_base;
 }

@@ -6,7 +6,7 @@ ghost use Rattle.rtcp_engine.specs.Identities.{is_among, may_change_after};
 use arrayvec::ArrayVec;
 
 /// The most changes of a session.
-pub(crate) const MAX_CHANGES: usize = 8;
+const MAX_CHANGES: usize = 8;
 
 /// A change of identifier.
 #[derive(Clone, Copy, Debug, Default)]

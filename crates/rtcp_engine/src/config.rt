@@ -1,9 +1,9 @@
 //! How a participant is configured.
 
-ghost use Rattle.std.specs.Prelude.{◌≡◌, ◌/◌, ℕ, List, map, Option, Some, None};
+ghost use Rattle.std.specs.Prelude.{◌≡◌, ◌-◌, ◌/◌, ℕ, List, map, Option, Some, None};
 ghost use Rattle.rtcp_report.specs.Views.{item_value};
 ghost use Rattle.rtcp_engine.specs.Setups.{is_within as within, is_extra_item};
-ghost use Rattle.rtcp_engine.specs.Refused.{error_in, is_limit as is_limit_for, are_extras as extras_are};
+ghost use Rattle.rtcp_engine.specs.Refused.{error_in, is_bandwidth as is_bandwidth_for, is_limit as is_limit_for, are_extras as extras_are};
 ghost use Rattle.rtcp_engine.specs.Views.{setup_of};
 
 use arrayvec::ArrayVec;
@@ -25,9 +25,11 @@ pub struct Config {
     /// The most octets of a compound that it sends, from 576 to 1,472 and a multiple of 4. The headers of UDP
     /// and IP are not counted.
     pub limit: u32,
-    /// The session's bandwidth for RTCP, in octets a second, from 16 to 2^30: [`rtcp_bw_of`] has the usual
-    /// part of the session's bandwidth.
-    pub rtcp_bw: u32,
+    /// The session's bandwidth for the RTCP of senders, in octets a second, from 16 to 2^30 (RFC 3556). The usual
+    /// shares are those that [`shares_of`] makes of the part that [`rtcp_bw_of`] has.
+    pub sender_bw: u32,
+    /// That for the RTCP of the others.
+    pub receiver_bw: u32,
     /// The units a second of the clock that RTP timestamps count in, from 1 to 2^20.
     pub rate: u32,
     /// The NTP timestamp of moment 0: seconds since 1900 in the upper 32 bits, their fraction in the lower.
@@ -46,8 +48,8 @@ pub enum ConfigError {
     /// C3. The limit is none of 576 to 1,472, or no multiple of 4.
     #[error("limit is no multiple of 4 from 576 to 1472")]
     Limit,
-    /// C4. The bandwidth is none of 16 to 2^30.
-    #[error("RTCP bandwidth is none of 16 to 2^30 octets a second")]
+    /// C4. One of the bandwidths is none of 16 to 2^30.
+    #[error("RTCP bandwidth of senders or of receivers is none of 16 to 2^30 octets a second")]
     Bandwidth,
     /// C5. The clock's rate is none of 1 to 2^20.
     #[error("clock rate is none of 1 to 2^20")]
@@ -65,6 +67,16 @@ pub fn rtcp_bw_of(session_bps: u64) -> u64
     session_bps / 160
 }
 
+/// The usual shares of a bandwidth for RTCP: a quarter of it for senders, rounded down, and the rest for the others
+/// (RFC 3550, 6.2).
+pub fn shares_of(rtcp_bw: u64) -> (u64, u64)
+    ensures senders { result.0 ≡ rtcp_bw / 4 }
+    ensures others { result.1 ≡ rtcp_bw - rtcp_bw / 4 }
+{
+    let senders = rtcp_bw / 4;
+    (senders, rtcp_bw - senders)
+}
+
 impl Config {
     /// Why this configuration is refused, if it is.
     pub(crate) fn error(&self) -> Option<ConfigError>
@@ -79,7 +91,7 @@ impl Config {
         if !is_limit(self.limit) {
             return Some(ConfigError::Limit);
         }
-        if !is_within(16, 1 << 30, self.rtcp_bw) {
+        if !is_bandwidth(self.sender_bw) || !is_bandwidth(self.receiver_bw) {
             return Some(ConfigError::Bandwidth);
         }
         if !is_within(1, 1 << 20, self.rate) {
@@ -97,6 +109,13 @@ fn is_within(least: u32, most: u32, number: u32) -> bool
     ensures { result ≡ within least most number }
 {
     least <= number && number <= most
+}
+
+/// Whether a bandwidth may be given.
+fn is_bandwidth(bandwidth: u32) -> bool
+    ensures { result ≡ is_bandwidth_for bandwidth }
+{
+    is_within(16, 1 << 30, bandwidth)
 }
 
 /// Whether a limit is one for compounds.

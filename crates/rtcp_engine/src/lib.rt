@@ -50,7 +50,7 @@ mod sink;
 mod step;
 mod table;
 
-pub use config::{Config, ConfigError, rtcp_bw_of};
+pub use config::{Config, ConfigError, rtcp_bw_of, shares_of};
 pub use event::Event;
 pub use participant::Participant;
 pub use refusal::Refusal;

@@ -89,7 +89,8 @@ impl<T: MemberTable> Presence<T> {
             we_sent: false,
             initial: true,
             avg: average.value(),
-            rtcp_bw: config.rtcp_bw,
+            sender_bw: config.sender_bw,
+            receiver_bw: config.receiver_bw,
         };
         Ok(Presence {
             table: T::empty(config.capacity, config.rate),
@@ -148,7 +149,8 @@ impl<T: MemberTable> Presence<T> {
         ensures exact { result ≡ load_in self.now }
         ensures members { result.members ≤ 65535 }
         ensures average { result.avg ≤ 256 * 65563 }
-        ensures bandwidth { 16 ≤ result.rtcp_bw }
+        ensures some_for_senders { 16 ≤ result.sender_bw }
+        ensures some_for_others { 16 ≤ result.receiver_bw }
     {
         Load {
             members: self.member_count(),
@@ -156,7 +158,8 @@ impl<T: MemberTable> Presence<T> {
             we_sent: self.own.is_sending(),
             initial: self.reports == 0,
             avg: self.average.value(),
-            rtcp_bw: self.config.rtcp_bw,
+            sender_bw: self.config.sender_bw,
+            receiver_bw: self.config.receiver_bw,
         }
     }
 

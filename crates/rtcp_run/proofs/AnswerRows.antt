@@ -15,7 +15,7 @@ unfolding digits
 start = refl
 
 -- a participant with SSRC 0xaa and the CNAME `a`
-opens : opening (begun (record { ssrc = 170; cname = 97 ∷ []; extras = []; capacity = 1024; limit = 1472; rtcp_bw = 400; rate = 8000; ntp_base = 0 }) 0)
+opens : opening (begun (record { ssrc = 170; cname = 97 ∷ []; extras = []; capacity = 1024; limit = 1472; sender_bw = 100; receiver_bw = 300; rate = 8000; ntp_base = 0 }) 0)
     ≡ codes "start members=1 senders=0 next=1026037" ++ 10 ∷ []
 unfolding digits
 opens = refl

@@ -25,6 +25,8 @@ pub record OptionTexts : Type 0 where
   pub capacity : List ℕ
   pub limit : List ℕ
   pub session_bps : List ℕ
+  pub sender_bw : Option (List ℕ)
+  pub receiver_bw : Option (List ℕ)
   pub rate : List ℕ
   pub ntp : List ℕ
   pub name : Option (List ℕ)
@@ -45,6 +47,8 @@ texts_of options = record {
   capacity = options.capacity.now;
   limit = options.limit.now;
   session_bps = options.session_bps.now;
+  sender_bw = text_given options.sender_bw;
+  receiver_bw = text_given options.receiver_bw;
   rate = options.rate.now;
   ntp = options.ntp.now;
   name = text_given options.name;
@@ -68,6 +72,8 @@ texts_found found = record {
   capacity = text_found found (codes "capacity");
   limit = text_found found (codes "limit");
   session_bps = text_found found (codes "session-bps");
+  sender_bw = found (codes "sender-bw");
+  receiver_bw = found (codes "receiver-bw");
   rate = text_found found (codes "rate");
   ntp = text_found found (codes "ntp");
   name = found (codes "name");
@@ -89,9 +95,24 @@ text_in text = if nat_le (length text) 255 then Some text else None
 abbrev pub hex_text_in : List ℕ → Option (List ℕ)
 hex_text_in text = if nat_le (length text) 510 then result_ok (decode_of text) else None
 
--- RTCP's bandwidth, 5 per cent of the session's, in octets a second, or the greatest number of 32 bits
-abbrev pub bandwidth_of : (session_bps : ℕ) → ℕ
-bandwidth_of session_bps = min (session_bps / 160) (2 ^ 32 - 1)
+-- RTCP's bandwidth, 5 per cent of the session's, in octets a second: a quarter of it is for senders, and the rest for
+-- the others
+abbrev pub share_of_senders : (session_bps : ℕ) → ℕ
+share_of_senders session_bps = session_bps / 160 / 4
+
+abbrev pub share_of_others : (session_bps : ℕ) → ℕ
+share_of_others session_bps = session_bps / 160 - session_bps / 160 / 4
+
+-- a bandwidth, or the greatest number of 32 bits
+abbrev pub fitted : (bandwidth : ℕ) → ℕ
+fitted bandwidth = min bandwidth (2 ^ 32 - 1)
+
+-- the bandwidth that an option gives, or the share where it is not given
+abbrev pub bandwidth_in : (name : List ℕ) → (share : ℕ) → Option (List ℕ) → Result ℕ (List ℕ)
+bandwidth_in name share None = Ok (fitted share)
+bandwidth_in name share (Some text) = do
+  bandwidth ← ok_or (decimal_in 64 text) name
+  Ok (fitted bandwidth)
 
 -- ---- Extra items
 
@@ -128,6 +149,8 @@ setup_in texts = do
   capacity ← ok_or (decimal_in 32 texts.capacity) (codes "capacity")
   limit ← ok_or (decimal_in 32 texts.limit) (codes "limit")
   session_bps ← ok_or (decimal_in 64 texts.session_bps) (codes "session-bps")
+  sender_bw ← bandwidth_in (codes "sender-bw") (share_of_senders session_bps) texts.sender_bw
+  receiver_bw ← bandwidth_in (codes "receiver-bw") (share_of_others session_bps) texts.receiver_bw
   rate ← ok_or (decimal_in 32 texts.rate) (codes "rate")
   ntp ← ok_or (hex_in w64 texts.ntp) (codes "ntp")
   extras ← extras_in texts
@@ -137,7 +160,8 @@ setup_in texts = do
     extras = extras;
     capacity = capacity;
     limit = limit;
-    rtcp_bw = bandwidth_of session_bps;
+    sender_bw = sender_bw;
+    receiver_bw = receiver_bw;
     rate = rate;
     ntp_base = ntp;
   })

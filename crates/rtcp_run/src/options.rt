@@ -4,13 +4,13 @@ ghost use Rattle.std.specs.Prelude.{◌≡◌, ◌≤◌, ◌<◌, ◌+◌, ◌+
 ghost use Rattle.rtcp_wire.specs.Values.{ItemValue};
 ghost use Rattle.rtcp_engine.specs.Views.{setup_of};
 ghost use Rattle.rtcp_run.specs.Listening.{HasTurns, IsListening, link_texts_of, listen_in, turns_in};
-ghost use Rattle.rtcp_run.specs.Options.{bandwidth_of as bandwidth_by, extras_in, hex_text_in, item_in, replay_in, setup_in, text_given, text_in, texts_of, with_extras};
+ghost use Rattle.rtcp_run.specs.Options.{bandwidth_in, extras_in, hex_text_in, item_in, replay_in, setup_in, text_given, text_in, texts_of, with_extras};
 
 use crate::endpoint::read_endpoint;
 use crate::numerals::{read_decimal, read_long, read_short_decimal, read_word};
 use crate::orders::Order;
 use arrayvec::ArrayVec;
-use rtcp_engine::{Config, Item, rtcp_bw_of};
+use rtcp_engine::{Config, Item, rtcp_bw_of, shares_of};
 
 /// The most turns of a session.
 const MAX_TURNS: u32 = 1_000_000;
@@ -23,6 +23,8 @@ pub(crate) struct Options<'a> {
     pub(crate) capacity: &'a str,
     pub(crate) limit: &'a str,
     pub(crate) session_bps: &'a str,
+    pub(crate) sender_bw: Option<&'a str>,
+    pub(crate) receiver_bw: Option<&'a str>,
     pub(crate) rate: &'a str,
     pub(crate) ntp: &'a str,
     pub(crate) name: Option<&'a str>,
@@ -116,6 +118,9 @@ fn read_config(options: Options<'_>) -> Result<Config, &'static str>
     let capacity = read_short_decimal(options.capacity.as_bytes()).ok_or("capacity")?;
     let limit = read_short_decimal(options.limit.as_bytes()).ok_or("limit")?;
     let session_bps = read_decimal(options.session_bps.as_bytes()).ok_or("session-bps")?;
+    let (senders, others) = shares_of(rtcp_bw_of(session_bps));
+    let sender_bw = read_bandwidth(options.sender_bw, "sender-bw", senders)?;
+    let receiver_bw = read_bandwidth(options.receiver_bw, "receiver-bw", others)?;
     let rate = read_short_decimal(options.rate.as_bytes()).ok_or("rate")?;
     let ntp_base = read_long(options.ntp.as_bytes()).ok_or("ntp")?;
     let mut config = Config {
@@ -124,7 +129,8 @@ fn read_config(options: Options<'_>) -> Result<Config, &'static str>
         extras: ArrayVec::new(),
         capacity,
         limit,
-        rtcp_bw: bandwidth_of(session_bps),
+        sender_bw,
+        receiver_bw,
         rate,
         ntp_base,
     };
@@ -132,12 +138,19 @@ fn read_config(options: Options<'_>) -> Result<Config, &'static str>
     Ok(config)
 }
 
-/// RTCP's part of a session's bandwidth, in octets a second, or the greatest number of 32 bits where it does
-/// not fit those.
-fn bandwidth_of(session_bps: u64) -> u32
-    ensures { result ≡ bandwidth_by session_bps }
+/// A bandwidth, in octets a second: what the option says, if it is given, or else this share. The greatest number
+/// of 32 bits stands for one that does not fit those.
+fn read_bandwidth(given: Option<&str>, name: &'static str, share: u64) -> Result<u32, &'static str>
+    ensures read { IfOk result (λ bandwidth.
+        bandwidth_in name.now share (text_given given.entry) ≡ Ok bandwidth) }
+    ensures refused { IfErr result (λ refused.
+        bandwidth_in name.now share (text_given given.entry) ≡ Err refused.now) }
 {
-    u32::try_from(rtcp_bw_of(session_bps)).unwrap_or(u32::MAX)
+    let bandwidth = match given {
+        Some(text) => read_decimal(text.as_bytes()).ok_or(name)?,
+        None => share,
+    };
+    Ok(u32::try_from(bandwidth).unwrap_or(u32::MAX))
 }
 
 /// Adds the extra items of the options that are given, in the order of their types.

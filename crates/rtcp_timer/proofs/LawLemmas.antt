@@ -4,9 +4,11 @@ use Rattle.rtcp_clock.specs.Intervals.{drawn_interval}
 use Rattle.rtcp_timer.specs.declared.load.Load.{Load}
 use Rattle.rtcp_timer.specs.Averages.{with_headers, average_of, IsBetween}
 use Rattle.rtcp_timer.specs.Loads.{minimum_of, interval_of, KeepsToShare}
+use Rattle.rtcp_timer.specs.Quarters.{quarterly_interval}
 use Rattle.rtcp_timer.specs.Schedules.{Happening, transmitted, tried, recounted, Timing, IsDue, IsInOrder, IsWithin, after, schedule_at, newest_moment, newest_transmission, greatest_draw}
 use Rattle.rtcp_timer.specs.Departures.{members_known, last_departure, last_moment, next_moment}
 use Rattle.rtcp_timer.proofs.Averaging
+use Rattle.rtcp_timer.proofs.Quarters.{by_quarters}
 use Rattle.rtcp_timer.proofs.Sharing
 use Rattle.rtcp_timer.proofs.Following
 use Rattle.rtcp_timer.proofs.Bounding
@@ -19,13 +21,16 @@ average_lies_between = Averaging.average_between
 
 -- ---- The interval
 
-pub interval_keeps_to_share : (load : Load) → 1 ≤ load.rtcp_bw → KeepsToShare load (interval_of load)
+pub interval_keeps_to_share : (load : Load) → 1 ≤ load.sender_bw → 1 ≤ load.receiver_bw → KeepsToShare load (interval_of load)
 interval_keeps_to_share = Sharing.keeps_to_share
 
 pub interval_has_minimum : (load : Load) → minimum_of load.initial ≤ interval_of load
 interval_has_minimum = Sharing.has_minimum
 
-pub interval_is_least : (load : Load) (interval : ℕ) → 1 ≤ load.rtcp_bw → minimum_of load.initial ≤ interval →
+pub quarters_are_shared : (load : Load) → load.receiver_bw ≡ 3 * load.sender_bw → 1 ≤ load.sender_bw → interval_of load ≡ quarterly_interval (4 * load.sender_bw) load
+quarters_are_shared = by_quarters
+
+pub interval_is_least : (load : Load) (interval : ℕ) → 1 ≤ load.sender_bw → 1 ≤ load.receiver_bw → minimum_of load.initial ≤ interval →
     KeepsToShare load interval → interval_of load ≤ interval
 interval_is_least = Sharing.is_least
 

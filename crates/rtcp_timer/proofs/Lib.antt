@@ -1,4 +1,5 @@
 mod Rows
+mod Quarters
 mod Quotients
 mod Averaging
 mod Sharing

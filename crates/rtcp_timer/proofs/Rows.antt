@@ -23,9 +23,12 @@ rounded_down = refl
 
 -- ---- The interval of a session of 60, not the initial one
 
+abbrev shared : (sender_bw receiver_bw senders : ℕ) (we_sent : Bool) → Load
+shared sender_bw receiver_bw senders we_sent =
+    record { members = 60; senders = senders; we_sent = we_sent; initial = false; avg = 25600; sender_bw = sender_bw; receiver_bw = receiver_bw }
+
 abbrev load : (senders : ℕ) (we_sent : Bool) → Load
-load senders we_sent =
-    record { members = 60; senders = senders; we_sent = we_sent; initial = false; avg = 25600; rtcp_bw = 400 }
+load senders we_sent = shared 100 300 senders we_sent
 
 no_senders : interval_of (load 0 false) ≡ 20000000
 no_senders = refl
@@ -44,6 +47,26 @@ many_senders = refl
 
 among_many_senders : interval_of (load 16 true) ≡ 15000000
 among_many_senders = refl
+
+-- with other bandwidths
+
+no_senders_in_800 : interval_of (shared 200 600 0 false) ≡ 10000000
+no_senders_in_800 = refl
+
+few_senders_in_800 : interval_of (shared 200 600 12 true) ≡ 6000000
+few_senders_in_800 = refl
+
+beside_few_senders_in_800 : interval_of (shared 200 600 12 false) ≡ 8000000
+beside_few_senders_in_800 = refl
+
+many_senders_in_800 : interval_of (shared 200 600 16 false) ≡ 7500000
+many_senders_in_800 = refl
+
+more_for_senders : interval_of (shared 300 100 16 true) ≡ 5333334
+more_for_senders = refl
+
+less_for_others : interval_of (shared 300 100 16 false) ≡ 44000000
+less_for_others = refl
 
 -- ---- A session's schedule, from its start
 

@@ -1,29 +1,29 @@
 -- The deterministic interval is the least that its minimum and the bandwidth allow.
-use Rattle.std.proofs.Common.{ℕ, ◌*◌, ◌<◌, ◌≤◌, arith}
+use Rattle.std.proofs.Common.{ℕ, ◌+◌, ◌*◌, ◌<◌, ◌≤◌, arith}
 use Rattle.std.proofs.Math.Nat.{le_trans, le-max_left, le-max_right, max-le, mul-le-mul_right}
 use Rattle.rtcp_timer.specs.declared.load.Load.{Load}
-use Rattle.rtcp_timer.specs.Loads.{Sharers, the_senders, the_others, everyone, sharers_of, count_of, quarters_of, interval_at_share, minimum_of, interval_of, KeepsToShare}
+use Rattle.rtcp_timer.specs.Loads.{Sharers, the_senders, the_others, everyone, sharers_of, count_of, bandwidth_of, interval_at_share, minimum_of, interval_of, KeepsToShare}
 use Rattle.rtcp_timer.proofs.Quotients.{div_ceil_covers, div_ceil_least}
 
-some_share : (sharers : Sharers) (bandwidth : ℕ) → 1 ≤ bandwidth → 0 < quarters_of sharers * 256 * bandwidth
-some_share the_senders bandwidth some = omega arith
-some_share the_others bandwidth some = omega arith
-some_share everyone bandwidth some = omega arith
+some_share : (sharers : Sharers) (load : Load) → 1 ≤ load.sender_bw → 1 ≤ load.receiver_bw → 0 < 256 * bandwidth_of sharers load
+some_share the_senders load senders others = omega (arith, senders)
+some_share the_others load senders others = omega (arith, others)
+some_share everyone load senders others = omega (arith, senders)
 
-pub keeps_to_share : (load : Load) → 1 ≤ load.rtcp_bw → KeepsToShare load (interval_of load)
-keeps_to_share load some =
+pub keeps_to_share : (load : Load) → 1 ≤ load.sender_bw → 1 ≤ load.receiver_bw → KeepsToShare load (interval_of load)
+keeps_to_share load senders others =
     let sharers = sharers_of load in
-    let room = quarters_of sharers * 256 * load.rtcp_bw in
+    let room = 256 * bandwidth_of sharers load in
     let by_share = interval_at_share sharers load in
-    let covered = div_ceil_covers (4 * 1000000 * count_of sharers load * load.avg) room (some_share sharers load.rtcp_bw some) in
+    let covered = div_ceil_covers (1000000 * count_of sharers load * load.avg) room (some_share sharers load senders others) in
     let longer = mul-le-mul_right room (le-max_right (minimum_of load.initial) by_share) in
     le_trans covered longer
 
-pub is_least : (load : Load) (interval : ℕ) → 1 ≤ load.rtcp_bw → minimum_of load.initial ≤ interval → KeepsToShare load interval → interval_of load ≤ interval
-is_least load interval some long_enough keeps =
+pub is_least : (load : Load) (interval : ℕ) → 1 ≤ load.sender_bw → 1 ≤ load.receiver_bw → minimum_of load.initial ≤ interval → KeepsToShare load interval → interval_of load ≤ interval
+is_least load interval senders others long_enough keeps =
     let sharers = sharers_of load in
-    let room = quarters_of sharers * 256 * load.rtcp_bw in
-    max-le long_enough (div_ceil_least _ room interval (some_share sharers load.rtcp_bw some) keeps)
+    let room = 256 * bandwidth_of sharers load in
+    max-le long_enough (div_ceil_least _ room interval (some_share sharers load senders others) keeps)
 
 pub has_minimum : (load : Load) → minimum_of load.initial ≤ interval_of load
 has_minimum load = le-max_left (minimum_of load.initial) (interval_at_share (sharers_of load) load)

@@ -1,4 +1,5 @@
 pub mod Averages
 pub mod Loads
+pub mod Quarters
 pub mod Schedules
 pub mod Departures

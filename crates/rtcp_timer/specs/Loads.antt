@@ -1,6 +1,6 @@
 -- The deterministic interval (RFC 3550, 6.3.1), in microseconds. The average is in 1/256 octet, and the
 -- bandwidth in octets a second.
-use Rattle.std.specs.Prelude.{ℕ, ◌-◌, ◌*◌, ◌≤◌, Bool, nat_le, max, if◌then◌else◌}
+use Rattle.std.specs.Prelude.{ℕ, ◌+◌, ◌-◌, ◌*◌, ◌≤◌, Bool, nat_le, max, if◌then◌else◌}
 use Rattle.std.specs.Int.{div_ceil}
 use Rattle.rtcp_timer.specs.declared.load.Load.{Load}
 
@@ -10,10 +10,11 @@ pub data Sharers : Type 0 where
   the_others : Sharers
   everyone : Sharers
 
--- Where senders are at most a quarter of the members, they share one part and the others another.
+-- Where senders are no more of the members than their part is of the bandwidth, they share that part and the others
+-- the other one.
 abbrev pub sharers_of : Load → Sharers
 sharers_of load =
-    if nat_le (4 * load.senders) load.members
+    if nat_le (load.senders * (load.sender_bw + load.receiver_bw)) (load.members * load.sender_bw)
     then (if load.we_sent then the_senders else the_others)
     else everyone
 
@@ -23,16 +24,16 @@ count_of the_senders load = load.senders
 count_of the_others load = load.members - load.senders
 count_of everyone load = load.members
 
--- how many quarters of the bandwidth their part is
-abbrev pub quarters_of : Sharers → ℕ
-quarters_of the_senders = 1
-quarters_of the_others = 3
-quarters_of everyone = 4
+-- the bandwidth that they share
+abbrev pub bandwidth_of : Sharers → Load → ℕ
+bandwidth_of the_senders load = load.sender_bw
+bandwidth_of the_others load = load.receiver_bw
+bandwidth_of everyone load = load.sender_bw + load.receiver_bw
 
 -- the interval in which their part of the bandwidth carries one compound of average size from each of them
 abbrev pub interval_at_share : Sharers → Load → ℕ
 interval_at_share sharers load =
-    div_ceil (4 * 1000000 * count_of sharers load * load.avg) (quarters_of sharers * 256 * load.rtcp_bw)
+    div_ceil (1000000 * count_of sharers load * load.avg) (256 * bandwidth_of sharers load)
 
 -- the minimum, which is half as long before the first report (6.2)
 abbrev pub minimum_of : (initial : Bool) → ℕ
@@ -47,4 +48,4 @@ interval_of load = max (minimum_of load.initial) (interval_at_share (sharers_of 
 abbrev pub KeepsToShare : Load → (interval : ℕ) → Type 0
 KeepsToShare load interval =
     let sharers = sharers_of load in
-    4 * 1000000 * count_of sharers load * load.avg ≤ interval * (quarters_of sharers * 256 * load.rtcp_bw)
+    1000000 * count_of sharers load * load.avg ≤ interval * (256 * bandwidth_of sharers load)

@@ -6,6 +6,7 @@ ghost use Rattle.rtcp_clock.specs.Intervals.{drawn_interval};
 ghost use Rattle.rtcp_timer.specs.Averages.{with_headers, average_of, IsBetween};
 ghost use Rattle.rtcp_timer.specs.declared.load.Load.{Load};
 ghost use Rattle.rtcp_timer.specs.Loads.{minimum_of, interval_of, KeepsToShare};
+ghost use Rattle.rtcp_timer.specs.Quarters.{quarterly_interval};
 ghost use Rattle.rtcp_timer.specs.Schedules.{Happening, transmitted, tried, recounted, Timing, IsDue, IsInOrder, IsWithin, after, schedule_at, newest_moment, newest_transmission, greatest_draw};
 ghost use Rattle.rtcp_timer.specs.Departures.{members_known, last_departure, last_moment, next_moment};
 
@@ -20,7 +21,14 @@ pub fn average_lies_between()
 /// If each of those who share a part of the bandwidth with the participant sends one compound of average size
 /// in each deterministic interval, they use at most that part (RFC 3550, 6.3.1).
 pub fn interval_keeps_to_share()
-    ensures { (load : Load) → 1 ≤ load.rtcp_bw → KeepsToShare load (interval_of load) }
+    ensures { (load : Load) → 1 ≤ load.sender_bw → 1 ≤ load.receiver_bw → KeepsToShare load (interval_of load) }
+{}
+
+/// Where the others have three times the bandwidth of the senders, senders share a quarter of it as long as they are
+/// at most a quarter of the members, and the others the rest (RFC 3550, 6.3.1).
+pub fn quarters_are_shared()
+    ensures { (load : Load) → load.receiver_bw ≡ 3 * load.sender_bw → 1 ≤ load.sender_bw →
+        interval_of load ≡ quarterly_interval (4 * load.sender_bw) load }
 {}
 
 /// The deterministic interval is never below the minimum, by its definition (RFC 3550, 6.2).
@@ -31,7 +39,7 @@ pub fn interval_has_minimum()
 /// The deterministic interval is the shortest in whole microseconds that keeps to the share and the minimum
 /// (RFC 3550, 6.3.1).
 pub fn interval_is_least()
-    ensures { (load : Load) (interval : ℕ) → 1 ≤ load.rtcp_bw → minimum_of load.initial ≤ interval →
+    ensures { (load : Load) (interval : ℕ) → 1 ≤ load.sender_bw → 1 ≤ load.receiver_bw → minimum_of load.initial ≤ interval →
         KeepsToShare load interval → interval_of load ≤ interval }
 {}
 

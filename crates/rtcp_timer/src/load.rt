@@ -1,7 +1,7 @@
 //! The deterministic interval (RFC 3550, 6.3.1).
 
 ghost use Rattle.std.specs.Prelude.{◌≡◌, ◌≤◌, ◌<◌, ◌*◌, ◌^◌};
-ghost use Rattle.rtcp_timer.specs.Loads.{sharers_of, count_of, quarters_of, interval_at_share, interval_of};
+ghost use Rattle.rtcp_timer.specs.Loads.{sharers_of, bandwidth_of, count_of, interval_at_share, interval_of};
 
 use crate::average::PARTS;
 
@@ -27,20 +27,23 @@ pub struct Load {
     pub initial: bool,
     /// The average size of compounds in 1/256 octet, as `Average::value` returns it.
     pub avg: u32,
-    /// The session's bandwidth for RTCP, in octets a second.
-    pub rtcp_bw: u32,
+    /// The session's bandwidth for the RTCP of senders, in octets a second (RFC 3556).
+    pub sender_bw: u32,
+    /// That for the RTCP of the others.
+    pub receiver_bw: u32,
 }
 
 /// The deterministic interval, in microseconds (RFC 3550, 6.3.1): the time in which all who share a part of
 /// the bandwidth with the participant can send one compound of average size each, rounded up, or the minimum
 /// where that is longer.
 ///
-/// There are at most 65,535 members, the average is at most that of compounds of 65,535 octets, and the
+/// There are at most 65,535 members, the average is at most that of compounds of 65,535 octets, and each
 /// bandwidth is at least 16 octets a second.
 pub fn interval(load: &Load) -> u64
     requires members_fit { load.now.members ≤ 65535 }
     requires average_fits { load.now.avg ≤ 256 * 65563 }
-    requires some_bandwidth { 16 ≤ load.now.rtcp_bw }
+    requires some_for_senders { 16 ≤ load.now.sender_bw }
+    requires some_for_others { 16 ≤ load.now.receiver_bw }
     ensures exact { result ≡ interval_of load.now }
     ensures bounded { result < 2 ^ 49 }
 {
@@ -56,13 +59,14 @@ pub fn interval(load: &Load) -> u64
 fn share_interval(load: &Load) -> u64
     requires members_fit { load.now.members ≤ 65535 }
     requires average_fits { load.now.avg ≤ 256 * 65563 }
-    requires some_bandwidth { 16 ≤ load.now.rtcp_bw }
+    requires some_for_senders { 16 ≤ load.now.sender_bw }
+    requires some_for_others { 16 ≤ load.now.receiver_bw }
     ensures exact { result ≡ interval_at_share (sharers_of load.now) load.now }
     ensures bounded { result < 2 ^ 49 }
 {
     let share = share_of(load);
-    let parts = 4 * SECOND * share.sharers * load.avg as u64;
-    parts.div_ceil(share.quarters * PARTS as u64 * load.rtcp_bw as u64)
+    let parts = SECOND * share.sharers * load.avg as u64;
+    parts.div_ceil(PARTS as u64 * share.bandwidth)
 }
 
 /// A part of the bandwidth.
@@ -70,24 +74,33 @@ fn share_interval(load: &Load) -> u64
 struct Share {
     /// How many members share it.
     sharers: u64,
-    /// How many quarters of the bandwidth it is.
-    quarters: u64,
+    /// How many octets a second it is.
+    bandwidth: u64,
 }
 
-/// The part of the bandwidth that the participant shares: senders share a quarter and the others the rest,
-/// unless more than a quarter of the members are senders; then everyone shares all of it (RFC 3550, 6.3.1).
+/// The part of the bandwidth that the participant shares: senders share theirs and the others the rest, unless
+/// senders are more of the members than their part is of the bandwidth; then everyone shares all of it (RFC 3550,
+/// 6.3.1).
 fn share_of(load: &Load) -> Share
+    requires members_fit { load.now.members ≤ 65535 }
+    requires some_for_senders { 16 ≤ load.now.sender_bw }
+    requires some_for_others { 16 ≤ load.now.receiver_bw }
     ensures sharers { result.sharers ≡ count_of (sharers_of load.now) load.now }
-    ensures quarters { result.quarters ≡ quarters_of (sharers_of load.now) }
+    ensures bandwidth { result.bandwidth ≡ bandwidth_of (sharers_of load.now) load.now }
+    ensures some { 16 ≤ result.bandwidth }
+    ensures few { result.sharers ≤ load.now.members }
 {
     let members = load.members as u64;
     let senders = load.senders as u64;
-    let (sharers, quarters) = if 4 * senders > members {
-        (members, 4)
+    let (for_senders, for_others) = (load.sender_bw as u64, load.receiver_bw as u64);
+    let all = for_senders + for_others;
+    // Nothing bounds the senders, so that this product may need 65 bits.
+    let (sharers, bandwidth) = if senders as u128 * all as u128 > (members * for_senders) as u128 {
+        (members, all)
     } else if load.we_sent {
-        (senders, 1)
+        (senders, for_senders)
     } else {
-        (members - senders, 3)
+        (members - senders, for_others)
     };
-    Share { sharers, quarters }
+    Share { sharers, bandwidth }
 }

@@ -39,19 +39,27 @@ fn average_is_rounded_down(rt: HostRuntime) {
 #[test]
 fn intervals(rt: HostRuntime) {
     let rows = [
-        (0, false, 20_000_000),
-        (12, true, 12_000_000),
-        (12, false, 16_000_000),
-        (16, false, 15_000_000),
+        (100, 300, 0, false, 20_000_000),
+        (100, 300, 12, true, 12_000_000),
+        (100, 300, 12, false, 16_000_000),
+        (100, 300, 16, false, 15_000_000),
+        (200, 600, 0, false, 10_000_000),
+        (200, 600, 12, true, 6_000_000),
+        (200, 600, 12, false, 8_000_000),
+        (200, 600, 16, true, 7_500_000),
+        (200, 600, 16, false, 7_500_000),
+        (300, 100, 16, true, 5_333_334),
+        (300, 100, 16, false, 44_000_000),
     ];
-    for (senders, we_sent, wanted) in rows {
+    for (sender_bw, receiver_bw, senders, we_sent, wanted) in rows {
         let load = Load {
             members: 60,
             senders,
             we_sent,
             initial: false,
             avg: 25_600,
-            rtcp_bw: 400,
+            sender_bw,
+            receiver_bw,
         };
         assert_eq!(rt; interval(&load), wanted, "{senders} senders");
     }
@@ -67,7 +75,8 @@ fn minimum(rt: HostRuntime) {
         we_sent: false,
         initial: true,
         avg: 12_288,
-        rtcp_bw: 400,
+        sender_bw: 100,
+        receiver_bw: 300,
     };
     assert_eq!(rt; interval(&load), 2_500_000);
     load.initial = false;

@@ -81,7 +81,8 @@ impl<T: MemberTable> Presence<T> {
     fn backoff_load(&self, members: u32) -> Load
         ensures exact { result ≡ backoff_load members self.now }
         ensures average { result.avg ≤ 256 * 65563 }
-        ensures bandwidth { 16 ≤ result.rtcp_bw }
+        ensures some_for_senders { 16 ≤ result.sender_bw }
+        ensures some_for_others { 16 ≤ result.receiver_bw }
     {
         Load {
             members,
@@ -89,7 +90,8 @@ impl<T: MemberTable> Presence<T> {
             we_sent: false,
             initial: true,
             avg: self.average.value(),
-            rtcp_bw: self.config.rtcp_bw,
+            sender_bw: self.config.sender_bw,
+            receiver_bw: self.config.receiver_bw,
         }
     }
 }

@@ -138,23 +138,24 @@ pub(crate) fn around<T: MemberTable + Drop>(rt: &impl Abort) {
 }
 
 /// The BYE of the old identifier moves the average: with 16 octets a second the draw at the second report is
-/// made from 2 members and an average of 12,408, which is 8,078,125 microseconds, so that the next moment is
-/// 1,641,659 + 3,315,382. Without that BYE the average would be 12,288, and the moment 4,924,977.
+/// made from 2 members and an average of 12,408, which is 6,058,594 microseconds, so that the next moment is
+/// 1,231,245 + 2,486,536. Without that BYE the average would be 12,288, and the moment 3,693,734.
 pub(crate) fn moves_average<T: MemberTable + Drop>(rt: &impl Abort) {
     let mut session = Session::<T>::new(
         rt,
         Config {
-            rtcp_bw: 16,
+            sender_bw: 16,
+            receiver_bw: 16,
             ..config()
         },
     );
     session
-        .tick(1_641_659, 0, 0)
-        .sends(rt, 1, 0, 3_693_733, &REPORT);
+        .tick(1_231_245, 0, 0)
+        .sends(rt, 1, 0, 3_283_319, &REPORT);
     session
-        .rtcp_from(1_641_659, 7, 0xbb, &REPORT)
-        .changes(rt, 0xbb, (2, 0, 3_693_733), &BYE);
-    session.tick(3_693_733, 0, 0).is(rt, 2, 0, 4_957_041);
+        .rtcp_from(1_231_245, 7, 0xbb, &REPORT)
+        .changes(rt, 0xbb, (2, 0, 3_283_319), &BYE);
+    session.tick(3_283_319, 0, 0).is(rt, 2, 0, 3_717_781);
 }
 
 /// In a backoff an RTP datagram changes the identifier too, and counts for nothing else. The table stands as it

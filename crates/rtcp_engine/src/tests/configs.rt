@@ -68,28 +68,35 @@ fn limits(rt: HostRuntime) {
     }
 }
 
+/// The usual part of a session's bandwidth, and its shares: a quarter is rounded down.
+#[test]
+fn shares(rt: HostRuntime) {
+    assert_eq!(&rt; (rtcp_bw_of(10_239), rtcp_bw_of(10_240)), (63, 64));
+    assert_eq!(&rt; [shares_of(63), shares_of(64)], [(15, 48), (16, 48)]);
+    assert_eq!(&rt; [shares_of(0), shares_of(400)], [(0, 0), (100, 300)]);
+}
+
 #[test]
 fn bandwidths(rt: HostRuntime) {
-    assert_eq!(&rt; rtcp_bw_of(2_559), 15);
-    assert_eq!(&rt; rtcp_bw_of(2_560), 16);
-    for rtcp_bw in [0, 15, (1 << 30) + 1] {
-        refuses(
-            &rt,
-            Config {
-                rtcp_bw,
-                ..config()
-            },
-            ConfigError::Bandwidth,
-        );
+    for bandwidth in [0, 15, (1 << 30) + 1] {
+        for (sender_bw, receiver_bw) in [(bandwidth, 300), (100, bandwidth)] {
+            let config = with_bandwidths(sender_bw, receiver_bw);
+            refuses(&rt, config, ConfigError::Bandwidth);
+        }
     }
-    for rtcp_bw in [16, 1 << 30] {
-        takes(
-            &rt,
-            Config {
-                rtcp_bw,
-                ..config()
-            },
-        );
+    for bandwidth in [16, 1 << 30] {
+        for (sender_bw, receiver_bw) in [(bandwidth, 300), (100, bandwidth)] {
+            takes(&rt, with_bandwidths(sender_bw, receiver_bw));
+        }
+    }
+}
+
+/// The usual configuration with these bandwidths.
+fn with_bandwidths(sender_bw: u32, receiver_bw: u32) -> Config {
+    Config {
+        sender_bw,
+        receiver_bw,
+        ..config()
     }
 }
 

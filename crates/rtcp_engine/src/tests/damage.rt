@@ -99,7 +99,7 @@ pub(crate) fn present<T: MemberTable + Drop>(rt: &impl Abort) {
     pair.change_ssrc(rt);
     pair.damage_samples(rt);
     assert_eq!(rt; pair.damaged, REFUSED);
-    assert_eq!(rt; pair.sent, 1_049);
+    assert_eq!(rt; pair.sent, 1_060);
 }
 
 /// The usual configuration, but for a table of 60 sources and the least bandwidth, so that the interval shows
@@ -107,7 +107,8 @@ pub(crate) fn present<T: MemberTable + Drop>(rt: &impl Abort) {
 fn small() -> Config {
     Config {
         capacity: 60,
-        rtcp_bw: 16,
+        sender_bw: 16,
+        receiver_bw: 16,
         ..config()
     }
 }

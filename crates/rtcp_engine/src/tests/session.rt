@@ -33,8 +33,8 @@ pub(crate) fn bye_of(ssrc: u8) -> [u8; 28] {
     ]
 }
 
-/// A configuration with SSRC 000000aa, CNAME `a`, 400 octets of RTCP a second and a clock of 8,000 units a
-/// second.
+/// A configuration with SSRC 000000aa, CNAME `a`, 100 and 300 octets a second of RTCP for senders and for
+/// others, and a clock of 8,000 units a second.
 pub(crate) fn config() -> Config {
     let mut cname = ArrayVec::new();
     let _ = cname.try_push(b'a');
@@ -44,7 +44,8 @@ pub(crate) fn config() -> Config {
         extras: ArrayVec::new(),
         capacity: 1_024,
         limit: 1_472,
-        rtcp_bw: 400,
+        sender_bw: 100,
+        receiver_bw: 300,
         rate: 8_000,
         ntp_base: 0,
     }

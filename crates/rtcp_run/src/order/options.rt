@@ -23,7 +23,7 @@ pub(super) enum Absent {
 pub(super) type Row = (&'static str, &'static str, Absent, &'static str);
 
 /// The options that configure a participant, in the order in which they are looked at.
-pub(super) const PARTICIPANT: [Row; 14] = [
+pub(super) const PARTICIPANT: [Row; 16] = [
     ("ssrc", "HEX", Absent::Refused, "SSRC, 8 hex digits"),
     ("cname", "TEXT", Absent::Refused, "CNAME, 1 to 255 octets"),
     (
@@ -42,7 +42,19 @@ pub(super) const PARTICIPANT: [Row; 14] = [
         "session-bps",
         "N",
         Absent::Is("64000"),
-        "Bandwidth of the session in bits a second, from 2560",
+        "Bandwidth of the session in bits a second, from 10240",
+    ),
+    (
+        "sender-bw",
+        "N",
+        Absent::Nothing,
+        "RTCP of senders in octets a second, 16 to 2^30, for a quarter of 5 per cent of the session",
+    ),
+    (
+        "receiver-bw",
+        "N",
+        Absent::Nothing,
+        "RTCP of the others in octets a second, 16 to 2^30, for the rest of these 5 per cent",
     ),
     (
         "rate",
@@ -101,6 +113,8 @@ pub(super) fn participant<'a>(matches: &ArgMatches<'a>) -> Options<'a>
         capacity: given(matches, "capacity"),
         limit: given(matches, "limit"),
         session_bps: given(matches, "session-bps"),
+        sender_bw: matches.get_str("sender-bw"),
+        receiver_bw: matches.get_str("receiver-bw"),
         rate: given(matches, "rate"),
         ntp: given(matches, "ntp"),
         name: matches.get_str("name"),

@@ -39,9 +39,14 @@ fn refused_at(rt: &impl Abort, alloc: Global, words: &[&str], name: &str) -> Res
     Ok(())
 }
 
-/// The capacity, the limit, RTCP's bandwidth and the rate.
+/// The capacity, the limit, the bandwidth of the others' RTCP and the rate.
 fn ranges(config: &Config) -> [u32; 4] {
-    [config.capacity, config.limit, config.rtcp_bw, config.rate]
+    [
+        config.capacity,
+        config.limit,
+        config.receiver_bw,
+        config.rate,
+    ]
 }
 
 #[test]
@@ -50,7 +55,7 @@ fn defaults(rt: HostRuntime) -> Result<(), Fail> {
     assert_eq!(rt; config.ssrc, 0xaa);
     same(&rt, &config.cname, b"a", "cname");
     assert!(rt; config.extras.is_empty());
-    assert_eq!(rt; ranges(&config), [1024, 1472, 400, 8000]);
+    assert_eq!(rt; ranges(&config), [1024, 1472, 300, 8000]);
     assert_eq!(rt; config.ntp_base, 0);
     assert_eq!(rt; word, 0);
     Ok(())
@@ -65,35 +70,47 @@ fn numbers(rt: HostRuntime) -> Result<(), Fail> {
         "0123456789abcDEF",
         "--rate=90000",
         "--session-bps",
-        "00000000000000002560",
+        "00000000000000010240",
         "--limit",
         "4294967295",
         "--capacity",
         "0",
     ];
     let (config, word) = replayed(rt.alloc(), &options)?;
-    assert_eq!(rt; ranges(&config), [0, u32::MAX, 16, 90_000]);
+    assert_eq!(rt; ranges(&config), [0, u32::MAX, 48, 90_000]);
     assert_eq!(rt; config.ntp_base, 0x0123_4567_89ab_cdef);
     assert_eq!(rt; word, u32::MAX);
     Ok(())
 }
 
-/// RTCP's bandwidth is the twentieth part of the session's, in octets, and the greatest number of 32 bits
-/// where it does not fit those.
+/// RTCP's bandwidth is the twentieth part of the session's, in octets. A quarter of it is for senders, and each
+/// share is the greatest number of 32 bits where it does not fit those.
 #[test]
 fn bandwidths(rt: HostRuntime) -> Result<(), Fail> {
     let rows = [
-        ("0", 0),
-        ("2559", 15),
-        ("2560", 16),
-        ("687194767359", 4_294_967_295),
-        ("687194767360", 4_294_967_295),
-        ("18446744073709551615", 4_294_967_295),
+        ("0", 0, 0),
+        ("2560", 4, 12),
+        ("10239", 15, 48),
+        ("10240", 16, 48),
+        ("2748779069439", 4_294_967_295, 4_294_967_295),
+        ("2748779069440", 4_294_967_295, 4_294_967_295),
+        ("18446744073709551615", 4_294_967_295, 4_294_967_295),
     ];
-    for (text, want) in rows {
+    for (text, senders, others) in rows {
         let (config, _) = replayed(rt.alloc(), &["--session-bps", text])?;
-        assert_eq!(rt; config.rtcp_bw, want, "{text}");
+        assert_eq!(rt; config.sender_bw, senders, "{text}");
+        assert_eq!(rt; config.receiver_bw, others, "{text}");
     }
+    Ok(())
+}
+
+/// Each of the two bandwidths that is given replaces the share of its name.
+#[test]
+fn given_bandwidths(rt: HostRuntime) -> Result<(), Fail> {
+    let (config, _) = replayed(rt.alloc(), &["--sender-bw", "17"])?;
+    assert!(rt; (config.sender_bw, config.receiver_bw) == (17, 300));
+    let (config, _) = replayed(rt.alloc(), &["--receiver-bw", "4294967296"])?;
+    assert!(rt; (config.sender_bw, config.receiver_bw) == (100, 4_294_967_295));
     Ok(())
 }
 
@@ -162,14 +179,16 @@ fn longest_texts(rt: HostRuntime) -> Result<(), Fail> {
 }
 
 /// Options after the required ones, and the one that is refused.
-static REFUSED: [(&[&str], &str); 19] = [
+static REFUSED: [(&[&str], &str); 21] = [
     (&["--capacity", "4294967296"], "capacity"),
     (&["--capacity", ""], "capacity"),
     (&["--capacity", "+1"], "capacity"),
     (&["--limit", "1472 "], "limit"),
     (&["--limit", "0x5c0"], "limit"),
     (&["--session-bps", "18446744073709551616"], "session-bps"),
-    (&["--session-bps", "000000000000000002560"], "session-bps"),
+    (&["--session-bps", "000000000000000010240"], "session-bps"),
+    (&["--sender-bw", "18446744073709551616"], "sender-bw"),
+    (&["--receiver-bw", "", "--sender-bw", "0"], "receiver-bw"),
     (&["--rate", "4294967296"], "rate"),
     (&["--ntp", "000000000000000"], "ntp"),
     (&["--ntp", "00000000000000000"], "ntp"),

@@ -43,7 +43,8 @@ fn config() -> Config {
         extras: ArrayVec::new(),
         capacity: 1024,
         limit: 1472,
-        rtcp_bw: 400,
+        sender_bw: 100,
+        receiver_bw: 300,
         rate: 8000,
         ntp_base: 0,
     }

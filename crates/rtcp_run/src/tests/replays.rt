@@ -50,7 +50,7 @@ const LATE: [&str; 8] = [
     "rtcp", "replay", "--ssrc", "000000aa", "--cname", "a", "--word", "ffffffff",
 ];
 
-/// The least bandwidth: Td is 4,000,000 at the start, by 48 octets a compound and 12 octets a second.
+/// The least bandwidth for the others: Td is 3,000,000 at the start, by 48 octets a compound and 16 octets a second.
 const NARROW: [&str; 8] = [
     "rtcp",
     "replay",
@@ -58,12 +58,24 @@ const NARROW: [&str; 8] = [
     "000000aa",
     "--cname",
     "a",
+    "--receiver-bw",
+    "16",
+];
+
+/// The least bandwidth of a session that gives both shares enough.
+const LEAST_SESSION: [&str; 8] = [
+    "rtcp",
+    "replay",
+    "--ssrc",
+    "000000aa",
+    "--cname",
+    "a",
     "--session-bps",
-    "2560",
+    "10240",
 ];
 
 /// Sessions, and a line that is no hex: the words, the lines, the status, the text and the fault line.
-static TEXTS: [(&[&str], &str, u8, &str, &str); 8] = [
+static TEXTS: [(&[&str], &str, u8, &str, &str); 9] = [
     (
         &PLAIN,
         "tick 1026036 00000000 00000000\ntick 1026037 00000000 00000000\n",
@@ -131,7 +143,14 @@ static TEXTS: [(&[&str], &str, u8, &str, &str); 8] = [
         &NARROW,
         "",
         0,
-        "start members=1 senders=0 next=1641659\n",
+        "start members=1 senders=0 next=1231245\n",
+        "",
+    ),
+    (
+        &LEAST_SESSION,
+        "",
+        0,
+        "start members=1 senders=0 next=1026037\n",
         "",
     ),
     (
@@ -164,12 +183,16 @@ fn longest_datagram(rt: HostRuntime) -> Result<(), Fail> {
 }
 
 /// Configurations that are refused: the CNAME, an option, its value, and the fault line.
-static REFUSED: [(&str, &str, &str, &str); 6] = [
+static REFUSED: [(&str, &str, &str, &str); 10] = [
     ("", "--capacity", "0", "config C1 Cname\n"),
     ("a", "--capacity", "0", "config C2 Capacity\n"),
     ("a", "--capacity", "1025", "config C2 Capacity\n"),
     ("a", "--limit", "578", "config C3 Limit\n"),
-    ("a", "--session-bps", "2559", "config C4 Bandwidth\n"),
+    ("a", "--session-bps", "10239", "config C4 Bandwidth\n"),
+    ("a", "--sender-bw", "15", "config C4 Bandwidth\n"),
+    ("a", "--sender-bw", "1073741825", "config C4 Bandwidth\n"),
+    ("a", "--receiver-bw", "15", "config C4 Bandwidth\n"),
+    ("a", "--receiver-bw", "4294967312", "config C4 Bandwidth\n"),
     ("a", "--rate", "0", "config C5 Rate\n"),
 ];
 

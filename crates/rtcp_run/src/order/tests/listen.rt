@@ -61,7 +61,7 @@ fn defaults(rt: HostRuntime) -> Result<(), Fail> {
         return Err("it was refused")?;
     };
     assert_eq!(rt; config.ssrc, 0xaa);
-    assert_eq!(rt; ranges(&config), [1024, 1472, 400, 8000]);
+    assert_eq!(rt; ranges(&config), [1024, 1472, 300, 8000]);
     assert_eq!(rt;
         [rtp, rtcp, peer],
         [local(1, 5004), local(2, 5005), local(3, 5007)]

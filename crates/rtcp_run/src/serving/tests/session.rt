@@ -37,7 +37,8 @@ pub(crate) fn participant(rt: &impl Abort) -> Participant<SortedTable> {
         extras: ArrayVec::new(),
         capacity: 1_024,
         limit: 1_472,
-        rtcp_bw: 400,
+        sender_bw: 100,
+        receiver_bw: 300,
         rate: 8_000,
         ntp_base: 0,
     };

@@ -20,7 +20,7 @@ started g c =
     let setup = setup_of c.args.config in
     let size : (ssrc : ℕ) → let reporter : Reporter = record { ssrc = ssrc; sent = None; items = items_of setup.cname None } in c.first_size.result ≡ length (written_all (packets_with reporter [])) =
     λ ssrc. c.first_size.ensures.exact ssrc ∙ ap (λ (cname : List ℕ). length (written_all (packets_with (record { ssrc = ssrc; sent = None; items = items_of cname None }) []))) c.deref.ensures.0 in
-    let interval : c.interval.result ≡ interval_of (first_load c.start-average.result setup.rtcp_bw) = c.interval.ensures.exact ∙ ap (λ (a : ℕ). interval_of (first_load a setup.rtcp_bw)) c.value.ensures.exact in
+    let interval : c.interval.result ≡ interval_of (first_load c.start-average.result setup.sender_bw setup.receiver_bw) = c.interval.ensures.exact ∙ ap (λ (a : ℕ). interval_of (first_load a setup.sender_bw setup.receiver_bw)) c.value.ensures.exact in
     record {
       is_table = c.empty.ensures;
       is_average = first_average setup c.first_size.result c.start-average.result size c.start-average.ensures;
