@@ -7,6 +7,10 @@ import participant
 SECOND, FURTHEST = 10**6, 2**50
 POOL = [0, 1, 2, 0xaa, 0xab, 0x7fffffff, 0x80000000, 0xffffffff]
 WORDS = [0, 0xffffffff, 0x80000000]
+SESSION_BANDWIDTHS = [10240, 10399, 10400, 12800, 16000, 64000, 10**6, 10**9, 229064922559]
+BANDWIDTHS = [16, 16, 17, 20, 30, 48, 64, 80, 100, 300, 1000, 10**6, 2**30]
+FAULTY_BANDWIDTHS = ["0", "15", "1073741825", "4294967295", "4294967312", "687194768000", "18446744073709551615",
+                     "18446744073709551616", "x", ""]
 PEERS = [0, 1, 2, 7, 8, 9, 5005, 2**32 - 1, 2**32, 139637976798093, 2**63, 2**64 - 2, 2**64 - 1]
 SEQUENCE_STEPS = [-65536, -101, -100, -99, -98, -2, -1, 0, 2, 3, 50, 2998, 2999, 3000, 3001, 32768]
 TEXT_SIZES = [0, 1, 2, 3, 4, 20, 254, 255]
@@ -14,10 +18,15 @@ TEXT_SIZES = [0, 1, 2, 3, 4, 20, 254, 255]
 WAITS = [2_500_000, 5_000_000, 10_000_000, 12_500_000, 25_000_000]
 FAULTY_OPTIONS = [
     ["--capacity", "0"], ["--capacity", "1025"], ["--capacity", "4294967296"], ["--capacity", ""], ["--limit", "572"],
-    ["--limit", "1474"], ["--limit", "1476"], ["--limit", "577"], ["--limit", "+600"], ["--session-bps", "2559"],
-    ["--session-bps", "0"], ["--session-bps", "171798692000"], ["--session-bps", "18446744073709551615"],
-    ["--session-bps", "18446744073709551616"], ["--session-bps", "687194767360"], ["--rate", "0"],
-    ["--rate", "1048577"], ["--rate", "-1"], ["--rate", "000000000000000000001"], ["--ntp", "0"],
+    ["--limit", "1474"], ["--limit", "1476"], ["--limit", "577"], ["--limit", "+600"], ["--session-bps", "10239"],
+    ["--session-bps", "0"], ["--session-bps", "229064922560"], ["--session-bps", "18446744073709551615"],
+    ["--session-bps", "18446744073709551616"], ["--session-bps", "687194767360"], ["--session-bps", "x"],
+    ["--sender-bw", "0"], ["--sender-bw", "15"], ["--sender-bw", "1073741825"], ["--sender-bw", "4294967296"],
+    ["--sender-bw", "18446744073709551615"], ["--sender-bw", "18446744073709551616"], ["--sender-bw", ""],
+    ["--sender-bw", "+16"], ["--receiver-bw", "0"], ["--receiver-bw", "15"], ["--receiver-bw", "1073741825"],
+    ["--receiver-bw", "4294967312"], ["--receiver-bw", "18446744073709551615"],
+    ["--receiver-bw", "18446744073709551616"], ["--receiver-bw", "000000000000000000016"], ["--receiver-bw", "x"],
+    ["--rate", "0"], ["--rate", "1048577"], ["--rate", "-1"], ["--rate", "000000000000000000001"], ["--ntp", "0"],
     ["--ntp", "000000000000000g"], ["--priv", "0"], ["--priv", "zz"], ["--priv", "00" * 256], ["--tool", "t" * 256],
     ["--note", "\u00e9" * 128], ["--word", "0000000"], ["--word", "0x000000"], ["--what", "1"], ["--tool"], ["word"],
     ["--ssrc", "00000000"], ["--cname", "a"], ["--help"],
@@ -63,8 +72,7 @@ def random_options(rng, own, capacities):
     options = [["--ssrc", ssrc], ["--cname", "c" * rng.choice([1, 2, 3, 4, 5, 20, 254, 255])]]
     options.append(["--capacity", str(rng.choice(capacities))])
     options.append(["--limit", str(rng.choice([576, 580, 600, 1000, 1468, 1472]))])
-    bandwidths = [2560, 2719, 2720, 5000, 16000, 64000, 10**6, 10**9, 160 * 2**30]
-    options.append(["--session-bps", str(rng.choice(bandwidths))])
+    options += random_bandwidths(rng)
     options.append(["--rate", str(rng.choice([1, 7, 8000, 48000, 90000, 2**20]))])
     options.append(["--ntp", number(rng, 8).hex()])
     options.append(["--word", f"{random_word(rng):08x}"])
@@ -80,6 +88,21 @@ def random_options(rng, own, capacities):
         kept[rng.randrange(2)] = rng.choice([["--cname", ""], ["--cname", "c" * 256], ["--ssrc", "0"], []])
     rng.shuffle(kept)
     return [word for option in kept for word in option]
+
+
+def random_bandwidths(rng):
+    """That of the session, of senders, of the others: none, one or more of these. That of senders is often near a third
+    of the others', and as often more or less."""
+    receiver = rng.choice(BANDWIDTHS)
+    sender = choose(rng, (4, rng.choice(BANDWIDTHS)), (2, receiver // 3 + rng.choice([-1, 0, 0, 1])),
+                    (2, receiver // rng.randrange(4, 7)), (1, receiver * rng.randrange(1, 5)))
+    sender = min(max(sender, 16), 2**30)
+    values = {"--session-bps": rng.choice(SESSION_BANDWIDTHS)}
+    values |= choose(rng, (2, {}), (1, {"--sender-bw": sender}), (1, {"--receiver-bw": receiver}),
+                     (4, {"--sender-bw": sender, "--receiver-bw": receiver}))
+    if rng.randrange(25) == 0:
+        values[rng.choice(list(values))] = rng.choice(FAULTY_BANDWIDTHS)
+    return [[option, str(value)] for option, value in values.items()]
 
 
 def full_packet_limit(rng):

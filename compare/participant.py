@@ -57,14 +57,14 @@ def short_delay(time):
     return min(time * 65536 // SECOND, 2**32 - 1)
 
 
-def deterministic_interval(members, senders, is_sender, average, bandwidth, minimum):
-    if 4 * senders > members:
-        sharers, quarters = members, 4
+def deterministic_interval(members, senders, is_sender, average, sender_bw, receiver_bw, minimum):
+    if senders * (sender_bw + receiver_bw) > members * sender_bw:
+        sharers, bandwidth = members, sender_bw + receiver_bw
     elif is_sender:
-        sharers, quarters = senders, 1
+        sharers, bandwidth = senders, sender_bw
     else:
-        sharers, quarters = members - senders, 3
-    return max(minimum, rounded_up(4 * SECOND * sharers * average, quarters * 256 * bandwidth))
+        sharers, bandwidth = members - senders, receiver_bw
+    return max(minimum, rounded_up(SECOND * sharers * average, 256 * bandwidth))
 
 
 def drawn_interval(deterministic, word):
@@ -221,8 +221,8 @@ class Participant:
 
     def interval(self, is_sender):
         minimum = MINIMUM if self.reports and self.is_present() else SHORT_MINIMUM
-        return deterministic_interval(
-            self.members(), self.senders(), is_sender, self.average, self.options["bandwidth"], minimum)
+        return deterministic_interval(self.members(), self.senders(), is_sender, self.average,
+                                      self.options["sender-bw"], self.options["receiver-bw"], minimum)
 
     def begin_call(self, moment):
         if self.has_left:
@@ -479,7 +479,8 @@ def datagram(text):
 
 OPTIONS = {
     "ssrc": (hex_digits(8), None), "cname": (text_value, None), "capacity": (decimal(2**32), b"1024"),
-    "limit": (decimal(2**32), b"1472"), "session-bps": (decimal(2**64), b"64000"), "rate": (decimal(2**32), b"8000"),
+    "limit": (decimal(2**32), b"1472"), "session-bps": (decimal(2**64), b"64000"),
+    "sender-bw": (decimal(2**64), None), "receiver-bw": (decimal(2**64), None), "rate": (decimal(2**32), b"8000"),
     "ntp": (hex_digits(16), b"0" * 16),
     **{name: (text_value, None) for name in ("name", "email", "phone", "loc", "tool", "note")},
     "priv": (private_value, None), "word": (hex_digits(8), b"0" * 8),
@@ -522,7 +523,9 @@ def configuration(arguments):
         options[name] = None if text is None else value_of(text)
         if text is not None and options[name] is None:
             raise Fault("option " + name)
-    options["bandwidth"] = min(options["session-bps"] // 160, 2**32 - 1)
+    rtcp_bw = options["session-bps"] // 160
+    for name, share in (("sender-bw", rtcp_bw // 4), ("receiver-bw", rtcp_bw - rtcp_bw // 4)):
+        options[name] = share if options[name] is None else options[name]
     options["items"] = [(kind, options[name]) for name, kind in ITEM_TYPES.items() if options[name] is not None]
     if not options["cname"]:
         raise Fault("config C1 Cname")
@@ -530,7 +533,7 @@ def configuration(arguments):
         raise Fault("config C2 Capacity")
     if not 576 <= options["limit"] <= 1472 or options["limit"] % 4:
         raise Fault("config C3 Limit")
-    if not 16 <= options["bandwidth"] <= 2**30:
+    if not all(16 <= options[name] <= 2**30 for name in ("sender-bw", "receiver-bw")):
         raise Fault("config C4 Bandwidth")
     if not 1 <= options["rate"] <= 2**20:
         raise Fault("config C5 Rate")

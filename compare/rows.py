@@ -3,9 +3,16 @@
 PLAIN = ["--ssrc", "000000aa", "--cname", "a"]
 TOOL = PLAIN + ["--tool", "t"]
 LATE_WORD = PLAIN + ["--word", "ffffffff"]
-SLOW = PLAIN + ["--session-bps", "2560"]
+SLOW = PLAIN + ["--sender-bw", "16", "--receiver-bw", "16"]
 LONG_NAME = ["--ssrc", "000000aa", "--cname", "a" * 255]
-FIRST_TICKS = [(LATE_WORD, 3078111), (SLOW, 1641659)]  # the others' is 1026037
+FOR_SENDERS = PLAIN + ["--sender-bw", "48", "--receiver-bw", "16"]
+FOR_OTHERS = PLAIN + ["--sender-bw", "16", "--receiver-bw", "64"]
+FEW_OTHERS = PLAIN + ["--session-bps", "12800", "--receiver-bw", "16"]
+FEW_SENDERS = PLAIN + ["--sender-bw", "16", "--session-bps", "12800"]
+NO_SESSION = SLOW + ["--session-bps", "0"]
+LEAST_REST = PLAIN + ["--session-bps", "3360", "--sender-bw", "16"]
+FIRST_TICKS = [(LATE_WORD, 3078111)] + [  # the others' is 1026037
+    (options, 1231245) for options in (SLOW, FOR_SENDERS, FEW_OTHERS, NO_SESSION, LEAST_REST)]
 REPORT = "report:80c90001000000aa81ca0002000000aa01016100"
 SENDER_REPORT = "report:80c80006000000aa0000000106aa5c5f000023f800000001000000a081ca0002000000aa01016100"
 LATER_SENDER_REPORT = "report:80c80006000000aa0000000a0000000000013c6800000001000000a081ca0002000000aa01016100"
@@ -53,9 +60,9 @@ BACKOFF = REPORT_SENT + [
     (leave(10000000), ok(1, 0, 11026037)),
 ]
 SLOW_BACKOFF = [
-    ("sent 0 1000 160", ok(1, 1, 1641659)),
-    (named(0, 1, 50), ok(51, 1, 1641659)),
-    (leave(0), ok(1, 0, 1915269)),
+    ("sent 0 1000 160", ok(1, 1, 1231245)),
+    (named(0, 1, 50), ok(51, 1, 1231245)),
+    (leave(0), ok(1, 0, 1436452)),
 ]
 
 
@@ -205,17 +212,17 @@ LEAVING = [
         (tick(11026037), ok(0, 0, "-", under("00000000", BYE))),
     ], "", 0),
     (SLOW, SLOW_BACKOFF + [
-        (named(0, 51, 60), ok(1, 0, 1915269)),
-        (tick(1915269, "ffffffff"), ok(1, 0, 5745806)),
-        (f"rtcp 1915269 1 00000000 {GOODBYE_OF_1}", ok(2, 0, 5745806)),
-        (tick(5745806, "ffffffff"), ok(2, 0, 11337707)),
-        (tick(11337707), ok(0, 0, "-", BYE)),
+        (named(0, 51, 60), ok(1, 0, 1436452)),
+        (tick(1436452, "ffffffff"), ok(1, 0, 4309355)),
+        (f"rtcp 1436452 1 00000000 {GOODBYE_OF_1}", ok(2, 0, 4309355)),
+        (tick(4309355, "ffffffff"), ok(2, 0, 8503280)),
+        (tick(8503280), ok(0, 0, "-", BYE)),
     ], "", 0),
     # A compound of two BYE packets moves the average once; the second word of a tick is not used.
     (SLOW, SLOW_BACKOFF + [
-        (f"rtcp 0 1 00000000 {GOODBYE_OF_1}80cb0000", ok(3, 0, 1915269)),
-        ("tick 1915269 ffffffff ffffffff", ok(3, 0, 17083512)),
-        ("tick 17083512 00000000 ffffffff", ok(0, 0, "-", BYE)),
+        (f"rtcp 0 1 00000000 {GOODBYE_OF_1}80cb0000", ok(3, 0, 1436452)),
+        ("tick 1436452 ffffffff ffffffff", ok(3, 0, 12812634)),
+        ("tick 12812634 00000000 ffffffff", ok(0, 0, "-", BYE)),
     ], "", 0),
     # A leave makes no check: members that a tick would drop are among the 51. One that said goodbye is not.
     (PLAIN, [
@@ -400,18 +407,20 @@ CHANGING = [
     ], "", 0),
     # The BYE of a change moves the average, before the datagram does; without one a change moves nothing.
     (SLOW, [
-        ("sent 0 1000 160", ok(1, 1, 1641659)),
-        ("rtp 0 7 000000bb 8000000a00000000000000aa", ok(1, 1, 1641659, BYE, "000000bb")),
-        (tick(1641659, "ffffffff"), ok(1, 1, 3732209)),
+        (named(0, 7, 7), ok(2, 0, 1231245)),
+        ("sent 0 1000 160", ok(2, 1, 1231245)),
+        ("rtp 0 7 000000bb 8000000a00000000000000aa", ok(2, 1, 1231245, BYE, "000000bb")),
+        (tick(1231245, "ffffffff"), ok(2, 1, 3732209)),
     ], "", 0),
     (SLOW, [
-        ("sent 0 1000 160", ok(1, 1, 1641659)),
-        ("rtcp 0 7 000000bb 80c90001000000aa", ok(1, 1, 1641659, BYE, "000000bb")),
-        (tick(1641659, "ffffffff"), ok(1, 1, 3672090)),
+        (named(0, 7, 7), ok(2, 0, 1231245)),
+        ("sent 0 1000 160", ok(2, 1, 1231245)),
+        ("rtcp 0 7 000000bb 80c90001000000aa", ok(2, 1, 1231245, BYE, "000000bb")),
+        (tick(1231245, "ffffffff"), ok(2, 1, 3672090)),
     ], "", 0),
     (SLOW, [
-        ("rtp 0 7 000000bb 8000000a00000000000000aa", ok(1, 0, 1641659, ssrc="000000bb")),
-        (tick(1641659, "ffffffff"), ok(1, 0, 4924977)),
+        ("rtp 0 7 000000bb 8000000a00000000000000aa", ok(1, 0, 1231245, ssrc="000000bb")),
+        (tick(1231245, "ffffffff"), ok(1, 0, 3693733)),
     ], "", 0),
     # The BYE of a change waits for nothing, also among 51 members; a leave after it is silent.
     (PLAIN, REPORT_SENT + [
@@ -445,15 +454,15 @@ CHANGING = [
         ("rtp 10000000 7 00000001 8000000a00000000000000aa", ok(1, 0, 11026037, BYE, "00000034")),
     ], "", 0),
     (SLOW, SLOW_BACKOFF + [
-        (f"rtcp 0 1 00000000 {GOODBYE_OF_1}", ok(2, 0, 1915269)),
-        ("rtp 0 7 000000bb 8000000a00000000000000aa", ok(2, 0, 1915269, BYE, "000000bb")),
-        (tick(1915269, "ffffffff"), ok(2, 0, 11347325)),
-        (tick(11347325), ok(0, 0, "-", under("000000bb", BYE))),
+        (f"rtcp 0 1 00000000 {GOODBYE_OF_1}", ok(2, 0, 1436452)),
+        ("rtp 0 7 000000bb 8000000a00000000000000aa", ok(2, 0, 1436452, BYE, "000000bb")),
+        (tick(1436452, "ffffffff"), ok(2, 0, 8510495)),
+        (tick(8510495), ok(0, 0, "-", under("000000bb", BYE))),
     ], "", 0),
     (SLOW, SLOW_BACKOFF + [
-        (f"rtcp 0 1 00000000 {GOODBYE_OF_1}", ok(2, 0, 1915269)),
-        ("rtcp 0 7 000000bb 80c900010000000181cb0001000000aa", ok(3, 0, 1915269, BYE, "000000bb")),
-        (tick(1915269, "ffffffff"), ok(3, 0, 16803356)),
+        (f"rtcp 0 1 00000000 {GOODBYE_OF_1}", ok(2, 0, 1436452)),
+        ("rtcp 0 7 000000bb 80c900010000000181cb0001000000aa", ok(3, 0, 1436452, BYE, "000000bb")),
+        (tick(1436452, "ffffffff"), ok(3, 0, 12602517)),
     ], "", 0),
     # Lines that are not of their form, or of that before there were peers.
     (PLAIN, [("rtcp 0 80c9000100000007", None)], "line 1: X3 Words", 2),
@@ -463,10 +472,107 @@ CHANGING = [
     (PLAIN, [("rtp 0 18446744073709551616 zz -", None)], "line 1: X5 Number", 2),
 ]
 
-ALL = SESSIONS + LEAVING + CHANGING
+
+def joined(following, has_sent, talkers, listeners):
+    """What comes at moment 0: the host sends or not, each of some sources sends two packets, and each of some others
+    gives its CNAME. The average stays, as these compounds are as long as the first report."""
+    own = int(has_sent)
+    rows = [("sent 0 1000 160", ok(1, 1, following))] * own
+    for ssrc in range(1, talkers + 1):
+        rows.append((f"rtp 0 1 00000000 8000000a00000000{ssrc:08x}", ok(ssrc, own + ssrc - 1, following)))
+        rows.append((f"rtp 0 1 00000000 8000000b00000000{ssrc:08x}", ok(ssrc + 1, own + ssrc, following)))
+    for ssrc in range(talkers + 1, talkers + listeners + 1):
+        rows.append((named(0, ssrc, ssrc), ok(ssrc + 1, own + talkers, following)))
+    return rows
 
 
-def expected(options, rows):
+C4 = "config C4 Bandwidth"
+LARGE = PLAIN + ["--sender-bw", "300", "--receiver-bw", "100"]
+SENDER_REPORT_ON_1 = ("report:81c8000c000000aa00000002800000000000520800000001000000a0"
+                      "00000001000000000000000b0000000000000000"
+                      "0000000081ca0002000000aa01016100")
+
+BANDWIDTHS = [
+    # The least session has 16 and 48 octets a second, the most one has 2^30 for the others.
+    (PLAIN + ["--session-bps", "10240"], joined(1026037, False, 0, 3) + [
+        (tick(1026037, "ffffffff"), ok(4, 0, 4924977)),
+    ], "", 0),
+    (PLAIN + ["--session-bps", "10240"], joined(1026037, True, 0, 3) + [
+        (tick(1026037, "ffffffff"), ok(4, 1, 3693733)),
+    ], "", 0),
+    (PLAIN + ["--session-bps", "229064922559"], [], "", 0),
+    (PLAIN + ["--sender-bw", "16"], [], "", 0),
+    (PLAIN + ["--sender-bw", "1073741824"], [], "", 0),
+    (PLAIN + ["--receiver-bw", "1073741824"], [], "", 0),
+    # A quarter is rounded down, and the others have the rest: 16 and 49 of 65.
+    (PLAIN + ["--session-bps", "10400"], joined(1026037, False, 0, 5) + [
+        (tick(1026037, "ffffffff"), ok(6, 0, 7236701)),
+    ], "", 0),
+    # An option replaces the share of its name, and not the other: 20 and 60 of 80 become 16 and 60, or 20 and 16.
+    (FEW_SENDERS, joined(1026037, True, 0, 4) + [(tick(1026037, "ffffffff"), ok(5, 1, 3693733))], "", 0),
+    (FEW_SENDERS, joined(1026037, False, 0, 3) + [(tick(1026037, "ffffffff"), ok(4, 0, 3939981))], "", 0),
+    (FEW_OTHERS, joined(1231245, True, 1, 2) + [(tick(1231245, "ffffffff"), ok(4, 2, 5909972))], "", 0),
+    (FEW_OTHERS, joined(1231245, False, 2, 1) + [(tick(1231245, "ffffffff"), ok(4, 2, 7387465))], "", 0),
+    # The share that is replaced does not matter: 15 of 63, 5 of 21, and nothing where both are.
+    (PLAIN + ["--session-bps", "10239", "--sender-bw", "16"], [], "", 0),
+    (LEAST_REST, [], "", 0),
+    (NO_SESSION, [(tick(1231244), ok(1, 0, 1231245)), (tick(1231245), ok(1, 0, 3283319, REPORT))], "", 0),
+    # Senders have three quarters, and are three of five members, or four.
+    (FOR_SENDERS, joined(1231245, True, 2, 2) + [(tick(1231245, "ffffffff"), ok(5, 3, 3693733))], "", 0),
+    (FOR_SENDERS, joined(1231245, False, 3, 1) + [(tick(1231245, "ffffffff"), ok(5, 3, 7387465))], "", 0),
+    (FOR_SENDERS, joined(1231245, True, 3, 1) + [(tick(1231245, "ffffffff"), ok(5, 4, 4617166))], "", 0),
+    (FOR_SENDERS, joined(1231245, False, 4, 0) + [(tick(1231245, "ffffffff"), ok(5, 4, 4617166))], "", 0),
+    # Senders have a fifth, and are one of six members, or two of eight.
+    (FOR_OTHERS, joined(1026037, True, 0, 5) + [(tick(1026037, "ffffffff"), ok(6, 1, 3693733))], "", 0),
+    (FOR_OTHERS, joined(1026037, False, 1, 4) + [(tick(1026037, "ffffffff"), ok(6, 1, 4617166))], "", 0),
+    (FOR_OTHERS, joined(1026037, True, 1, 6) + [(tick(1026037, "ffffffff"), ok(8, 2, 5909972))], "", 0),
+    (FOR_OTHERS, joined(1026037, False, 2, 5) + [(tick(1026037, "ffffffff"), ok(8, 2, 5909972))], "", 0),
+    # A long compound makes the intervals long.
+    (LARGE, [
+        ("sent 0 1000 160", ok(1, 1, 1026037)),
+        (f"rtcp 0 1 00000000 {GOODBYES_OF_NONE}", ok(1, 1, 1026037)),
+        (named(0, 1, 3), ok(4, 1, 1026037)),
+        (tick(1026037, "ffffffff"), ok(4, 1, 15955256)),
+    ], "", 0),
+    (LARGE, [
+        (f"rtcp 0 1 00000000 {GOODBYES_OF_NONE}", ok(1, 0, 1026037)),
+        (named(0, 1, 3), ok(4, 0, 1026037)),
+        (tick(1026037, "ffffffff"), ok(4, 0, 191463067)),
+    ], "", 0),
+    # After a report, too: two of five members send, and share a half.
+    (SLOW, joined(1231245, True, 1, 3) + [(tick(2500000), ok(5, 2, 5103569, SENDER_REPORT_ON_1))], "", 0),
+    (SLOW, joined(1231245, False, 0, 3) + [(tick(6000000), ok(4, 0, 10924977, REPORT))], "", 0),
+] + [(PLAIN + options, [(tick(0), None)], fault, 2) for options, fault in (
+    # One of the two is out of range.
+    (["--session-bps", "10239"], C4),
+    (["--session-bps", "229064922560"], C4),
+    (["--sender-bw", "15"], C4),
+    (["--sender-bw", "1073741825"], C4),
+    (["--sender-bw", "4294967312"], C4),
+    (["--receiver-bw", "15"], C4),
+    (["--receiver-bw", "1073741825"], C4),
+    (["--receiver-bw", "18446744073709551615"], C4),
+    (["--session-bps", "10239", "--receiver-bw", "16"], C4),
+    (["--session-bps", "3359", "--sender-bw", "16"], C4),
+    (["--session-bps", "0", "--sender-bw", "16"], C4),
+    (["--session-bps", "687194768000", "--receiver-bw", "16"], C4),
+    (["--sender-bw", "0", "--receiver-bw", "16", "--rate", "0"], C4),
+    (["--sender-bw", "15", "--limit", "577"], "config C3 Limit"),
+    # A value is not of its form, of several the first one of the table.
+    (["--session-bps", "x", "--sender-bw", "16", "--receiver-bw", "16"], "option session-bps"),
+    (["--receiver-bw", "x", "--sender-bw", "", "--session-bps", "+1"], "option session-bps"),
+    (["--receiver-bw", "x", "--sender-bw", ""], "option sender-bw"),
+    (["--rate", "x", "--receiver-bw", "18446744073709551616"], "option receiver-bw"),
+    (["--sender-bw", "0x10", "--limit", "x"], "option limit"),
+    (["--sender-bw", "000000000000000000016", "--receiver-bw", "15"], "option sender-bw"),
+)]
+
+ALL = SESSIONS + LEAVING + CHANGING + BANDWIDTHS
+
+
+def expected(options, rows, fault):
+    if fault.startswith(("option", "config")):
+        return ""
     following = next((moment for those, moment in FIRST_TICKS if those == options), 1026037)
     answers = [f"start members=1 senders=0 next={following}"] + [answer for _, answer in rows if answer is not None]
     return "".join(answer + "\n" for answer in answers)
@@ -476,7 +582,7 @@ def run(replay):
     """Compares `replay`, which takes options and octets and gives what is written and the status. Returns a status."""
     for number, (options, rows, fault, status) in enumerate(ALL, 1):
         lines = "".join(line + "\n" for line, _ in rows)
-        want = (expected(options, rows), fault + "\n" if fault else "", status)
+        want = (expected(options, rows, fault), fault + "\n" if fault else "", status)
         got = replay(options, lines.encode())
         if got != want:
             print(f"rows, session {number}: {' '.join(options)}\n{lines[:20_000]}  got:  {got}\n  want: {want}")
