@@ -1,3 +1,5 @@
+ghost use Rattle.std.specs.Prelude.{◌≤◌};
+
 use super::*;
 use rtcp_clock::draw;
 use std::test::*;
@@ -38,31 +40,32 @@ fn average_is_rounded_down(rt: HostRuntime) {
 
 #[test]
 fn intervals(rt: HostRuntime) {
-    let rows = [
-        (100, 300, 0, false, 20_000_000),
-        (100, 300, 12, true, 12_000_000),
-        (100, 300, 12, false, 16_000_000),
-        (100, 300, 16, false, 15_000_000),
-        (200, 600, 0, false, 10_000_000),
-        (200, 600, 12, true, 6_000_000),
-        (200, 600, 12, false, 8_000_000),
-        (200, 600, 16, true, 7_500_000),
-        (200, 600, 16, false, 7_500_000),
-        (300, 100, 16, true, 5_333_334),
-        (300, 100, 16, false, 44_000_000),
+    let quarters_of_400 = [
+        interval_of_60(100, 300, 0, false),
+        interval_of_60(100, 300, 12, true),
+        interval_of_60(100, 300, 12, false),
+        interval_of_60(100, 300, 16, false),
     ];
-    for (sender_bw, receiver_bw, senders, we_sent, wanted) in rows {
-        let load = Load {
-            members: 60,
-            senders,
-            we_sent,
-            initial: false,
-            avg: 25_600,
-            sender_bw,
-            receiver_bw,
-        };
-        assert_eq!(rt; interval(&load), wanted, "{senders} senders");
-    }
+    assert_eq!(rt;
+        quarters_of_400,
+        [20_000_000, 12_000_000, 16_000_000, 15_000_000]
+    );
+    let quarters_of_800 = [
+        interval_of_60(200, 600, 0, false),
+        interval_of_60(200, 600, 12, true),
+        interval_of_60(200, 600, 12, false),
+        interval_of_60(200, 600, 16, true),
+        interval_of_60(200, 600, 16, false),
+    ];
+    assert_eq!(rt;
+        quarters_of_800,
+        [10_000_000, 6_000_000, 8_000_000, 7_500_000, 7_500_000]
+    );
+    let most_for_senders = [
+        interval_of_60(300, 100, 16, true),
+        interval_of_60(300, 100, 16, false),
+    ];
+    assert_eq!(rt; most_for_senders, [5_333_334, 44_000_000]);
     assert_eq!(rt; draw(20_000_000, 0x8000_0000), 16_416_588);
 }
 
@@ -177,4 +180,20 @@ fn leave_into_backoff(rt: HostRuntime) {
         schedule.expire(11_026_037, 2_500_000, 0, 1),
     ];
     assert_eq!(rt; verdicts, [Verdict::Early, Verdict::Due]);
+}
+
+/// The interval of 60 members, so many of which send, where compounds have 100 octets on average.
+fn interval_of_60(sender_bw: u32, receiver_bw: u32, senders: u32, we_sent: bool) -> u64
+    requires some_for_senders { 16 ≤ sender_bw }
+    requires some_for_others { 16 ≤ receiver_bw }
+{
+    interval(&Load {
+        members: 60,
+        senders,
+        we_sent,
+        initial: false,
+        avg: 25_600,
+        sender_bw,
+        receiver_bw,
+    })
 }
