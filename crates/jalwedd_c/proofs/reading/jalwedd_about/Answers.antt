@@ -1,0 +1,34 @@
+-- The block at the index is that of the list of all blocks that name the source.
+use Rattle.std.proofs.Common.{◌≡◌, Some, None, refl, sym, ap, ◌∙◌, subst, slice_get}
+use Rattle.std.proofs.lemmas.Iterator.Consumers.{nth_from_yields_List, YieldsList-from_first}
+use Rattle.rtcp_wire.specs.About.{blocks_about}
+use Rattle.rtcp_wire.specs.Views.{block_value, reported_value}
+use Rattle.jalwedd_c.specs.Readings.{ShowsBlock}
+use Rattle.jalwedd_c.proofs.reading.jalwedd_about.Goals as goal
+
+some_same : {A : Type 0} (a b : A) → Some a ≡ Some b → a ≡ b
+some_same a b is = ap (λ o. elim o [ None ↦ a | Some x ↦ x ]) is
+
+pub returns-in-Some-clause-found : goal.returns-in-Some-clause-found
+returns-in-Some-clause-found c packets block accepted at =
+    let first = nth_from_yields_List (Some (c.in-Some.reporter, c.in-Some.block)) _ c.args.index c.in-Some.ensures.ran (YieldsList-from_first reported_value (λ about. about) _ c.about.ensures) in
+    let same = ap (λ packets. slice_get (blocks_about c.args.ssrc packets) c.args.index) (c.in-Ok.ensures.reads packets accepted) in
+    (refl, subst (ShowsBlock c.shown.result) (some_same (reported_value (c.in-Some.reporter, c.in-Some.block)) block (first ∙ same ∙ at)) c.shown.ensures)
+
+pub returns-in-Some-clause-none : goal.returns-in-Some-clause-none
+returns-in-Some-clause-none c packets accepted at =
+    let first = nth_from_yields_List (Some (c.in-Some.reporter, c.in-Some.block)) _ c.args.index c.in-Some.ensures.ran (YieldsList-from_first reported_value (λ about. about) _ c.about.ensures) in
+    let same = ap (λ packets. slice_get (blocks_about c.args.ssrc packets) c.args.index) (c.in-Ok.ensures.reads packets accepted) in
+    absurd (cc (first ∙ same ∙ at))
+
+pub returns-in-Some-clause-refused : goal.returns-in-Some-clause-refused
+returns-in-Some-clause-refused c first is = absurd (cc (c.in-Ok.ensures.finds first is))
+
+pub returns-in-None-clause-found : goal.returns-in-None-clause-found
+returns-in-None-clause-found c packets block accepted at =
+    let first = nth_from_yields_List None _ c.args.index c.in-None.ensures.ran (YieldsList-from_first reported_value (λ about. about) _ c.about.ensures) in
+    let same = ap (λ packets. slice_get (blocks_about c.args.ssrc packets) c.args.index) (c.in-Ok.ensures.reads packets accepted) in
+    absurd (cc (first ∙ same ∙ at))
+
+pub returns-in-None-clause-refused : goal.returns-in-None-clause-refused
+returns-in-None-clause-refused c first is = absurd (cc (c.in-Ok.ensures.finds first is))

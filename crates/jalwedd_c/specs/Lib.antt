@@ -1,0 +1,6 @@
+-- What the library promises to a host in C.
+pub mod Handles
+pub mod Owned
+pub mod Answers
+pub mod Configs
+pub mod Readings

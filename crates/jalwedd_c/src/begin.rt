@@ -1,0 +1,116 @@
+//! The begin of a participant, and its end.
+
+ghost use Rattle.std.specs.Prelude.{◌≡◌, ◌≢◌, ◌≤◌, ◌⊎◌, ℕ, Some, None, IfErr, IfOk};
+ghost use Rattle.rtcp_engine.specs.Histories.{History};
+ghost use Rattle.rtcp_engine.specs.States.{KeepsCapacity, StandsAt};
+ghost use Rattle.rtcp_engine.specs.Taken.{begun};
+ghost use Rattle.jalwedd_c.specs.Answers.{IsBlank, Shows};
+ghost use Rattle.jalwedd_c.specs.Configs.{refusal_of, setup_given};
+ghost use Rattle.jalwedd_c.specs.Handles.{KeepsWithin, LeadsTo};
+
+use crate::config::{Config, Item, config_of};
+use crate::handle::Handle;
+use crate::session::Session;
+use crate::showing::Handed;
+use crate::status::{EMPTY, LIVE, NO_MEMORY, TAKEN, of_error};
+use crate::step::Step;
+use rtcp_engine::Participant;
+use rtcp_members::SortedTable;
+use std::alloc::Global;
+
+/// Puts a participant of a session that begins now, at moment 0, into an empty handle. `word` is a random word, for the
+/// draw of the first interval. Call `jalwedd_tick` at the step's `next`. This call alone takes memory, once: some
+/// 160 KB, whatever the configuration.
+///
+/// Statuses: 0; 21 where the handle holds a participant, which is then the one that the step tells of; 11 to 16 by the
+/// first of C1 to C6 that applies, where a CNAME of more than 255 octets and more than 7 items are tested before the
+/// others; 22.
+#[unsafe(no_mangle)]
+pub extern "C" fn jalwedd_new(
+    alloc: Global,
+    handle: &mut Handle,
+    config: &Config,
+    cname: &[u8],
+    items: &[Item],
+    word: u32,
+    step: &mut Step,
+) -> u32
+    ensures begins { result ≡ 0 →
+        LeadsTo handle.new.owned.held (begun (setup_given config.now cname.now items.now) word) }
+    ensures shows { result ≡ 0 → Shows step.new (begun (setup_given config.now cname.now items.now) word) }
+    ensures within { handle.old.owned.held ≡ None → KeepsWithin handle.new.owned.held }
+    ensures refused { (status : ℕ) → handle.old.owned.held ≡ None →
+        refusal_of config.now cname.now items.now ≡ Some status → result ≡ status }
+    ensures taken { handle.old.owned.held ≡ None → refusal_of config.now cname.now items.now ≡ None →
+        (result ≡ 0) ⊎ (result ≡ 22) }
+    ensures live { (session : Session) → handle.old.owned.held ≡ Some session → result ≡ 21 }
+    ensures kept { result ≢ 0 → handle.new.owned.held ≡ handle.old.owned.held }
+{
+    if let Some(session) = handle.take(alloc) {
+        *step = session.step(Handed::nothing(LIVE));
+        handle.put(session);
+        return LIVE;
+    }
+    *step = Step::blank();
+    match participant_of(config, cname, items, word) {
+        Ok(participant) => begin(alloc, handle, Session { participant }, step),
+        Err(status) => status,
+    }
+}
+
+/// Frees the participant of a handle, which is empty then: it is told nothing of it, and nothing goes out.
+///
+/// Statuses: 0; 20 where the handle is empty.
+#[unsafe(no_mangle)]
+pub extern "C" fn jalwedd_free(alloc: Global, handle: &mut Handle) -> u32
+    ensures freed { handle.new.owned.held ≡ None }
+    ensures empty { handle.old.owned.held ≡ None → result ≡ 20 }
+    ensures live { (session : Session) → handle.old.owned.held ≡ Some session → result ≡ 0 }
+{
+    match handle.take(alloc) {
+        Some(_) => TAKEN,
+        None => EMPTY,
+    }
+}
+
+/// The participant of a configuration, or the status of one that is refused.
+fn participant_of(
+    config: &Config,
+    cname: &[u8],
+    items: &[Item],
+    word: u32,
+) -> Result<Participant<SortedTable>, u32>
+    ensures begins { IfOk result (λ participant.
+        StandsAt participant (begun (setup_given config.now cname.now items.now) word)) }
+    ensures within { IfOk result (λ participant. KeepsCapacity participant.presence) }
+    ensures usable { IfOk result (λ participant. refusal_of config.now cname.now items.now ≡ None) }
+    ensures refused { IfErr result (λ status. refusal_of config.now cname.now items.now ≡ Some status) }
+    ensures numbered { IfErr result (λ status. 11 ≤ status) }
+{
+    let config = match config_of(config, cname, items) {
+        Ok(config) => config,
+        Err(status) => return Err(status),
+    };
+    match Participant::new(config, word) {
+        Ok(participant) => Ok(participant),
+        Err(error) => Err(of_error(error)),
+    }
+}
+
+/// Puts a session into an empty handle.
+fn begin(alloc: Global, handle: &mut Handle, session: Session, step: &mut Step) -> u32
+    requires { handle.old.owned.held ≡ None }
+    ensures begun { result ≡ 0 → handle.new.owned.held ≡ Some session }
+    ensures shows { (history : History) → StandsAt session.participant history → result ≡ 0 → Shows step.new history }
+    ensures status { (result ≡ 0) ⊎ (result ≡ 22) }
+    ensures kept { result ≢ 0 → handle.new.owned.held ≡ None }
+{
+    match Box::new(alloc, session) {
+        Ok(session) => {
+            *step = session.step(Handed::nothing(TAKEN));
+            handle.put(session);
+            TAKEN
+        }
+        Err(_) => NO_MEMORY,
+    }
+}

@@ -1,0 +1,242 @@
+//! The calls of a session: what came, what was sent, what time it is, and the leave.
+
+ghost use Rattle.std.specs.Prelude.{◌≡◌, ◌≢◌, List, None, Result, length};
+ghost use Rattle.rtcp_wire.specs.declared.fault.WireFault.{WireFault as FirstFault};
+ghost use Rattle.rtcp_wire.specs.declared.rtp.fault.RtpFault.{RtpFault as HeadFault};
+ghost use Rattle.rtcp_wire.specs.Values.{RtcpPacket};
+ghost use Rattle.rtcp_wire.specs.RtpHeads.{RtpValue};
+ghost use Rattle.rtcp_engine.specs.Acts.{rtcp_came, rtp_came, rtp_sent, ticked, left, IsReading, IsRtpReading};
+ghost use Rattle.rtcp_engine.specs.Answers.{answer_of, followed_by};
+ghost use Rattle.rtcp_engine.specs.Histories.{History};
+ghost use Rattle.rtcp_engine.specs.InTime.{IsOverdue};
+ghost use Rattle.rtcp_engine.specs.Spacing.{KeepsBounds};
+ghost use Rattle.jalwedd_c.specs.Answers.{HandsOut, IsBlank, Shows, status_of};
+ghost use Rattle.jalwedd_c.specs.Handles.{KeepsWithin, LeadsTo};
+
+use crate::handle::Handle;
+use crate::status::EMPTY;
+use crate::step::Step;
+use std::alloc::Global;
+
+/// An RTCP datagram came at the moment `now`, in microseconds since the session began, with the octets that UDP
+/// carried, at most 65,535. `peer` is a number for where it came from, which two peers do not share, and `word` a random
+/// word for a new SSRC (RFC 3550, 8.2).
+///
+/// Statuses: 0; 1 to 5 and 7, by the first of E1 to E5 and E7 that applies; 20 where the handle is empty.
+#[unsafe(no_mangle)]
+pub extern "C" fn jalwedd_arrive_rtcp(
+    alloc: Global,
+    handle: &mut Handle,
+    now: u64,
+    peer: u64,
+    word: u32,
+    datagram: &[u8],
+    step: &mut Step,
+    octets: &mut [u8; 1472],
+) -> u32
+    ensures status { (history : History) (reading : Result (List RtcpPacket) FirstFault) →
+        LeadsTo handle.old.owned.held history → IsReading datagram.now reading →
+        result ≡ status_of (answer_of history (rtcp_came now peer word (length datagram.now) reading)) }
+    ensures handed { (history : History) (reading : Result (List RtcpPacket) FirstFault) →
+        LeadsTo handle.old.owned.held history → IsReading datagram.now reading →
+        HandsOut step.new octets.old octets.new (answer_of history (rtcp_came now peer word (length datagram.now) reading)) }
+    ensures stands { (history : History) (reading : Result (List RtcpPacket) FirstFault) →
+        LeadsTo handle.old.owned.held history → IsReading datagram.now reading →
+        LeadsTo handle.new.owned.held (followed_by history (rtcp_came now peer word (length datagram.now) reading)) }
+    ensures shows { (history : History) (reading : Result (List RtcpPacket) FirstFault) →
+        LeadsTo handle.old.owned.held history → IsReading datagram.now reading →
+        Shows step.new (followed_by history (rtcp_came now peer word (length datagram.now) reading)) }
+    ensures bounded { (history : History) (reading : Result (List RtcpPacket) FirstFault) →
+        LeadsTo handle.old.owned.held history → IsReading datagram.now reading →
+        KeepsBounds (followed_by history (rtcp_came now peer word (length datagram.now) reading)) }
+    ensures within { KeepsWithin handle.old.owned.held → KeepsWithin handle.new.owned.held }
+    ensures refused { result ≢ 0 → handle.new.owned.held ≡ handle.old.owned.held }
+    ensures empty { handle.old.owned.held ≡ None → (result ≡ 20) × IsBlank step.new × (octets.new ≡ octets.old) }
+{
+    match handle.take(alloc) {
+        Some(mut session) => {
+            let answer = session.participant.arrive_rtcp(now, peer, word, datagram);
+            let status = session.tell(&answer, step, octets);
+            handle.put(session);
+            status
+        }
+        None => {
+            *step = Step::blank();
+            EMPTY
+        }
+    }
+}
+
+/// An RTP datagram came, with the octets that UDP carried: as `jalwedd_arrive_rtcp`.
+///
+/// Statuses: 0; 1 to 4, 6 and 7, by the first of E1 to E4, E6 and E7 that applies; 20 where the handle is empty.
+#[unsafe(no_mangle)]
+pub extern "C" fn jalwedd_arrive_rtp(
+    alloc: Global,
+    handle: &mut Handle,
+    now: u64,
+    peer: u64,
+    word: u32,
+    datagram: &[u8],
+    step: &mut Step,
+    octets: &mut [u8; 1472],
+) -> u32
+    ensures status { (history : History) (reading : Result RtpValue HeadFault) →
+        LeadsTo handle.old.owned.held history → IsRtpReading datagram.now reading →
+        result ≡ status_of (answer_of history (rtp_came now peer word reading)) }
+    ensures handed { (history : History) (reading : Result RtpValue HeadFault) →
+        LeadsTo handle.old.owned.held history → IsRtpReading datagram.now reading →
+        HandsOut step.new octets.old octets.new (answer_of history (rtp_came now peer word reading)) }
+    ensures stands { (history : History) (reading : Result RtpValue HeadFault) →
+        LeadsTo handle.old.owned.held history → IsRtpReading datagram.now reading →
+        LeadsTo handle.new.owned.held (followed_by history (rtp_came now peer word reading)) }
+    ensures shows { (history : History) (reading : Result RtpValue HeadFault) →
+        LeadsTo handle.old.owned.held history → IsRtpReading datagram.now reading →
+        Shows step.new (followed_by history (rtp_came now peer word reading)) }
+    ensures bounded { (history : History) (reading : Result RtpValue HeadFault) →
+        LeadsTo handle.old.owned.held history → IsRtpReading datagram.now reading →
+        KeepsBounds (followed_by history (rtp_came now peer word reading)) }
+    ensures within { KeepsWithin handle.old.owned.held → KeepsWithin handle.new.owned.held }
+    ensures refused { result ≢ 0 → handle.new.owned.held ≡ handle.old.owned.held }
+    ensures empty { handle.old.owned.held ≡ None → (result ≡ 20) × IsBlank step.new × (octets.new ≡ octets.old) }
+{
+    match handle.take(alloc) {
+        Some(mut session) => {
+            let answer = session.participant.arrive_rtp(now, peer, word, datagram);
+            let status = session.tell(&answer, step, octets);
+            handle.put(session);
+            status
+        }
+        None => {
+            *step = Step::blank();
+            EMPTY
+        }
+    }
+}
+
+/// The host sent an RTP packet at the moment `now`, with this RTP timestamp and so many octets of payload, without
+/// padding (RFC 3550, 6.3.8, 6.4.1).
+///
+/// Statuses: 0; 1 to 4, by the first of E1 to E4 that applies; 20 where the handle is empty.
+#[unsafe(no_mangle)]
+pub extern "C" fn jalwedd_sent_rtp(
+    alloc: Global,
+    handle: &mut Handle,
+    now: u64,
+    timestamp: u32,
+    size: u32,
+    step: &mut Step,
+    octets: &mut [u8; 1472],
+) -> u32
+    ensures status { (history : History) → LeadsTo handle.old.owned.held history →
+        result ≡ status_of (answer_of history (rtp_sent now timestamp size)) }
+    ensures handed { (history : History) → LeadsTo handle.old.owned.held history →
+        HandsOut step.new octets.old octets.new (answer_of history (rtp_sent now timestamp size)) }
+    ensures stands { (history : History) → LeadsTo handle.old.owned.held history →
+        LeadsTo handle.new.owned.held (followed_by history (rtp_sent now timestamp size)) }
+    ensures shows { (history : History) → LeadsTo handle.old.owned.held history →
+        Shows step.new (followed_by history (rtp_sent now timestamp size)) }
+    ensures bounded { (history : History) → LeadsTo handle.old.owned.held history →
+        KeepsBounds (followed_by history (rtp_sent now timestamp size)) }
+    ensures within { KeepsWithin handle.old.owned.held → KeepsWithin handle.new.owned.held }
+    ensures refused { result ≢ 0 → handle.new.owned.held ≡ handle.old.owned.held }
+    ensures empty { handle.old.owned.held ≡ None → (result ≡ 20) × IsBlank step.new × (octets.new ≡ octets.old) }
+{
+    match handle.take(alloc) {
+        Some(mut session) => {
+            let answer = session.participant.sent_rtp(now, timestamp, size);
+            let status = session.tell(&answer, step, octets);
+            handle.put(session);
+            status
+        }
+        None => {
+            *step = Step::blank();
+            EMPTY
+        }
+    }
+}
+
+/// Asks at the moment `now` whether a report is due, or the BYE of a participant that backs off, with two random words:
+/// one for the draw that decides it, and one for that of the next interval (RFC 3550, 6.3.5, 6.3.6).
+///
+/// Statuses: 0; 1 to 4, by the first of E1 to E4 that applies; 20 where the handle is empty.
+#[unsafe(no_mangle)]
+pub extern "C" fn jalwedd_tick(
+    alloc: Global,
+    handle: &mut Handle,
+    now: u64,
+    first_word: u32,
+    second_word: u32,
+    step: &mut Step,
+    octets: &mut [u8; 1472],
+) -> u32
+    ensures status { (history : History) → LeadsTo handle.old.owned.held history →
+        result ≡ status_of (answer_of history (ticked now first_word second_word)) }
+    ensures handed { (history : History) → LeadsTo handle.old.owned.held history →
+        HandsOut step.new octets.old octets.new (answer_of history (ticked now first_word second_word)) }
+    ensures stands { (history : History) → LeadsTo handle.old.owned.held history →
+        LeadsTo handle.new.owned.held (followed_by history (ticked now first_word second_word)) }
+    ensures shows { (history : History) → LeadsTo handle.old.owned.held history →
+        Shows step.new (followed_by history (ticked now first_word second_word)) }
+    ensures bounded { (history : History) → LeadsTo handle.old.owned.held history →
+        KeepsBounds (followed_by history (ticked now first_word second_word)) }
+    ensures not_too_late { (history : History) → LeadsTo handle.old.owned.held history →
+        IsOverdue history (ticked now first_word second_word) → result ≡ 0 → step.new.kind ≢ 0 }
+    ensures within { KeepsWithin handle.old.owned.held → KeepsWithin handle.new.owned.held }
+    ensures refused { result ≢ 0 → handle.new.owned.held ≡ handle.old.owned.held }
+    ensures empty { handle.old.owned.held ≡ None → (result ≡ 20) × IsBlank step.new × (octets.new ≡ octets.old) }
+{
+    match handle.take(alloc) {
+        Some(mut session) => {
+            let answer = session.participant.tick(now, first_word, second_word);
+            let status = session.tell(&answer, step, octets);
+            handle.put(session);
+            status
+        }
+        None => {
+            *step = Step::blank();
+            EMPTY
+        }
+    }
+}
+
+/// Leaves the session at the moment `now`, with a random word for the draw of a backoff (RFC 3550, 6.3.7). The BYE goes
+/// out at once, or from a tick: go on until the step's `next` is 2^64 - 1.
+///
+/// Statuses: 0; 1 to 4, by the first of E1 to E4 that applies; 20 where the handle is empty.
+#[unsafe(no_mangle)]
+pub extern "C" fn jalwedd_leave(
+    alloc: Global,
+    handle: &mut Handle,
+    now: u64,
+    word: u32,
+    step: &mut Step,
+    octets: &mut [u8; 1472],
+) -> u32
+    ensures status { (history : History) → LeadsTo handle.old.owned.held history →
+        result ≡ status_of (answer_of history (left now word)) }
+    ensures handed { (history : History) → LeadsTo handle.old.owned.held history →
+        HandsOut step.new octets.old octets.new (answer_of history (left now word)) }
+    ensures stands { (history : History) → LeadsTo handle.old.owned.held history →
+        LeadsTo handle.new.owned.held (followed_by history (left now word)) }
+    ensures shows { (history : History) → LeadsTo handle.old.owned.held history →
+        Shows step.new (followed_by history (left now word)) }
+    ensures bounded { (history : History) → LeadsTo handle.old.owned.held history →
+        KeepsBounds (followed_by history (left now word)) }
+    ensures within { KeepsWithin handle.old.owned.held → KeepsWithin handle.new.owned.held }
+    ensures refused { result ≢ 0 → handle.new.owned.held ≡ handle.old.owned.held }
+    ensures empty { handle.old.owned.held ≡ None → (result ≡ 20) × IsBlank step.new × (octets.new ≡ octets.old) }
+{
+    match handle.take(alloc) {
+        Some(mut session) => {
+            let answer = session.participant.leave(now, word);
+            let status = session.tell(&answer, step, octets);
+            handle.put(session);
+            status
+        }
+        None => {
+            *step = Step::blank();
+            EMPTY
+        }
+    }
+}

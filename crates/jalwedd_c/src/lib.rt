@@ -1,0 +1,33 @@
+//! The participant of `rtcp_engine` for hosts in C, C++ and Rust: a static library, whose header is
+//! include/jalwedd.h. A host has a [`Handle`], zeros at first, and gives it to each call; a call answers a status,
+//! and writes a [`Step`] whatever that is. docs/EMBEDDING.md shows a host.
+//!
+//! Statuses: 0 taken; 1 to 7 a call that the participant refused, by E1 to E7, of which 5 is also a datagram that is
+//! no compound; 8 no such block; 11 to 16 a configuration that is refused, by C1 to C6; 20 a handle that holds no
+//! participant; 21 one that holds one already; 22 no memory.
+//!
+//! Nobody proves a C caller, so no call asks for anything of values: moments out of order, too many calls and bad
+//! configurations are statuses. What a caller has to keep, and nothing tests: that pointers are valid for the sizes
+//! given, that what is written lies apart from all else that the call is given, that a handle is used by one call at a
+//! time, and is neither copied nor changed.
+//!
+//! Memory comes from three functions that the host may replace (package/memory.c). No call but `jalwedd_new` takes any.
+#![tactic(auto)]
+
+mod begin;
+mod calls;
+mod config;
+mod handle;
+mod owned;
+mod reading;
+mod session;
+mod showing;
+mod status;
+mod step;
+mod views;
+
+pub use config::{Config, Item};
+pub use handle::Handle;
+pub use owned::Owned;
+pub use reading::{Fault, Report};
+pub use step::Step;

@@ -1,0 +1,60 @@
+//! Statuses: what a call answers.
+
+ghost use Rattle.std.specs.Prelude.{◌≡◌};
+ghost use Rattle.jalwedd_c.specs.Answers.{status_of_refusal};
+ghost use Rattle.jalwedd_c.specs.Configs.{status_of_error};
+
+use rtcp_engine::{ConfigError, Refusal};
+
+/// The call was taken.
+pub(crate) const TAKEN: u32 = 0;
+
+/// The datagram is not a compound.
+pub(crate) const NO_COMPOUND: u32 = 5;
+
+/// There is no such block.
+pub(crate) const NO_BLOCK: u32 = 8;
+
+/// The CNAME is refused (C1).
+pub(crate) const CNAME: u32 = 11;
+
+/// An item is refused (C6), or there are too many.
+pub(crate) const ITEM: u32 = 16;
+
+/// The handle holds no participant.
+pub(crate) const EMPTY: u32 = 20;
+
+/// The handle holds a participant already.
+pub(crate) const LIVE: u32 = 21;
+
+/// There is no memory for a participant.
+pub(crate) const NO_MEMORY: u32 = 22;
+
+/// The status of a call that the participant refused.
+pub(crate) fn of_refusal(refusal: &Refusal) -> u32
+    ensures { result ≡ status_of_refusal refusal.now }
+{
+    match refusal {
+        Refusal::Left => 1,
+        Refusal::Backwards => 2,
+        Refusal::TooFar => 3,
+        Refusal::TooMany => 4,
+        Refusal::Wire(_) => NO_COMPOUND,
+        Refusal::Rtp(_) => 6,
+        Refusal::OwnSsrc => 7,
+    }
+}
+
+/// The status of a configuration that is refused.
+pub(crate) fn of_error(error: ConfigError) -> u32
+    ensures { result ≡ status_of_error error }
+{
+    match error {
+        ConfigError::Cname => CNAME,
+        ConfigError::Capacity => 12,
+        ConfigError::Limit => 13,
+        ConfigError::Bandwidth => 14,
+        ConfigError::Rate => 15,
+        ConfigError::Item => ITEM,
+    }
+}

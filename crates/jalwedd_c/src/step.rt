@@ -1,0 +1,44 @@
+//! What a call tells of the participant.
+
+ghost use Rattle.jalwedd_c.specs.Answers.{IsBlank};
+
+/// What `next` is where there is no moment to tick at.
+pub(crate) const NEVER: u64 = u64::MAX;
+
+/// What a call tells of the participant, whether or not it was taken.
+#[repr(C)]
+#[derive(Clone, Copy, Debug, PartialEq, Eq)]
+pub struct Step {
+    /// When to call `jalwedd_tick` next, in microseconds since the session began, or 2^64 - 1 once the participant has
+    /// left. It may lie before the moment of the call: then a report or the BYE is overdue.
+    pub next: u64,
+    /// The members of the session, the participant included (RFC 3550, 6.2.1): 0 once it has left.
+    pub members: u32,
+    /// Those of them that send RTP packets.
+    pub senders: u32,
+    /// The participant's SSRC.
+    pub ssrc: u32,
+    /// 1 if the call changed that (8.2), else 0.
+    pub changed: u32,
+    /// What the call hands out to be sent: 0 nothing, 1 a report, 2 a BYE.
+    pub kind: u32,
+    /// The octets of it.
+    pub size: u32,
+}
+
+impl Step {
+    /// That of no participant.
+    pub(crate) fn blank() -> Step
+        ensures { IsBlank result }
+    {
+        Step {
+            next: NEVER,
+            members: 0,
+            senders: 0,
+            ssrc: 0,
+            changed: 0,
+            kind: 0,
+            size: 0,
+        }
+    }
+}

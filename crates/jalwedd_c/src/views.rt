@@ -1,0 +1,85 @@
+//! What a handle tells at any time.
+
+ghost use Rattle.std.specs.Prelude.{◌≡◌, ◌^◌, ◌-◌, None};
+ghost use Rattle.rtcp_engine.specs.Histories.{History};
+ghost use Rattle.rtcp_engine.specs.Identities.{setup_now};
+ghost use Rattle.rtcp_engine.specs.Lives.{life_at, members_in_life, senders_in_life, next_in_life};
+ghost use Rattle.jalwedd_c.specs.Answers.{moment_shown};
+ghost use Rattle.jalwedd_c.specs.Handles.{LeadsTo};
+
+use crate::handle::Handle;
+use crate::step::NEVER;
+use std::alloc::Global;
+
+/// The members of the session, the participant included (RFC 3550, 6.2.1): 0 once it has left, and for an empty handle.
+#[unsafe(no_mangle)]
+pub extern "C" fn jalwedd_members(alloc: Global, handle: &mut Handle) -> u32
+    ensures members { (history : History) → LeadsTo handle.old.owned.held history →
+        result ≡ members_in_life (setup_now history.setup history.acts) (life_at history) }
+    ensures empty { handle.old.owned.held ≡ None → result ≡ 0 }
+    ensures kept { handle.new.owned.held ≡ handle.old.owned.held }
+{
+    match handle.take(alloc) {
+        Some(session) => {
+            let members = session.participant.members();
+            handle.put(session);
+            members
+        }
+        None => 0,
+    }
+}
+
+/// The members that send RTP packets: 0 once the participant leaves, and for an empty handle.
+#[unsafe(no_mangle)]
+pub extern "C" fn jalwedd_senders(alloc: Global, handle: &mut Handle) -> u32
+    ensures senders { (history : History) → LeadsTo handle.old.owned.held history →
+        result ≡ senders_in_life (setup_now history.setup history.acts) (life_at history) }
+    ensures empty { handle.old.owned.held ≡ None → result ≡ 0 }
+    ensures kept { handle.new.owned.held ≡ handle.old.owned.held }
+{
+    match handle.take(alloc) {
+        Some(session) => {
+            let senders = session.participant.senders();
+            handle.put(session);
+            senders
+        }
+        None => 0,
+    }
+}
+
+/// When to call `jalwedd_tick` next, in microseconds since the session began: 2^64 - 1 once the participant has left,
+/// and for an empty handle.
+#[unsafe(no_mangle)]
+pub extern "C" fn jalwedd_next(alloc: Global, handle: &mut Handle) -> u64
+    ensures next { (history : History) → LeadsTo handle.old.owned.held history →
+        result ≡ moment_shown (next_in_life (life_at history)) }
+    ensures empty { handle.old.owned.held ≡ None → result ≡ 2 ^ 64 - 1 }
+    ensures kept { handle.new.owned.held ≡ handle.old.owned.held }
+{
+    match handle.take(alloc) {
+        Some(session) => {
+            let next = session.participant.next().unwrap_or(NEVER);
+            handle.put(session);
+            next
+        }
+        None => NEVER,
+    }
+}
+
+/// The SSRC under which the participant takes part, or did last: 0 for an empty handle.
+#[unsafe(no_mangle)]
+pub extern "C" fn jalwedd_ssrc(alloc: Global, handle: &mut Handle) -> u32
+    ensures ssrc { (history : History) → LeadsTo handle.old.owned.held history →
+        result ≡ (setup_now history.setup history.acts).ssrc }
+    ensures empty { handle.old.owned.held ≡ None → result ≡ 0 }
+    ensures kept { handle.new.owned.held ≡ handle.old.owned.held }
+{
+    match handle.take(alloc) {
+        Some(session) => {
+            let ssrc = session.participant.ssrc();
+            handle.put(session);
+            ssrc
+        }
+        None => 0,
+    }
+}

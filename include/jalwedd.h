@@ -1,0 +1,209 @@
+/* The control half of an RTP participant (RFC 3550), proved: what arrives, what is sent and what time it is go in, and
+ * the reports to send, the members and the next moment come out. It opens no socket, reads no clock, draws no random
+ * number, starts no thread, and takes memory in jalwedd_new alone.
+ *
+ * A host keeps two sockets, a clock that does not go back, and random words:
+ *
+ *     jalwedd_handle session = JALWEDD_EMPTY;
+ *     jalwedd_new(&session, &config, cname, cname_size, items, item_count, random_word(), &step);
+ *     for (;;) {
+ *         wait until step.next, or until a datagram comes
+ *         jalwedd_arrive_rtcp(&session, now, peer, random_word(), datagram, size, &step, octets);    what came, or
+ *         jalwedd_tick(&session, now, random_word(), random_word(), &step, octets);                  at step.next
+ *         if (step.kind) send step.size of the octets to the others
+ *     }
+ *
+ * WHAT THE HOST HAS TO KEEP, and nothing tests:
+ * - Each pointer is valid, aligned, and not NULL, also one whose size is 0.
+ * - What a call writes (handle, step, octets, fault, report) lies apart from all else that it is given.
+ * - One call at a time uses a handle. Several handles may be used side by side.
+ * - A handle is neither copied nor changed, and is freed before it goes away.
+ *
+ * Everything else is tested: whatever a datagram holds, whatever the numbers are and in whatever order the calls come,
+ * each call returns, with a status. A call whose status is not JALWEDD_TAKEN changes nothing of the participant, and
+ * hands out nothing. The step is written whatever the status is, so its next can always be waited for.
+ *
+ * Moments are microseconds since the session began, from 0 to 2^50, and never go back. Words are random, from 0 to
+ * 2^32 - 1, each used once.
+ */
+#ifndef JALWEDD_H
+#define JALWEDD_H
+
+#include <stddef.h>
+#include <stdint.h>
+
+#ifdef __cplusplus
+extern "C" {
+#endif
+
+/* ---- Statuses */
+
+enum {
+    JALWEDD_TAKEN = 0,
+
+    /* A call that the participant refused: the first of these that applies. */
+    JALWEDD_LEFT = 1,           /* E1: it has left the session (RFC 3550, 6.3.7) */
+    JALWEDD_BACKWARDS = 2,      /* E2: the moment lies before that of the last call that was taken */
+    JALWEDD_TOO_FAR = 3,        /* E3: the moment lies beyond 2^50 */
+    JALWEDD_TOO_MANY = 4,       /* E4: a session has fewer than 2^40 calls, and so many were taken */
+    JALWEDD_NO_COMPOUND = 5,    /* E5: the RTCP datagram is not a compound (6.1): jalwedd_check says why */
+    JALWEDD_NO_RTP = 6,         /* E6: the RTP datagram has no head that is read (5.1) */
+    JALWEDD_OWN_SSRC = 7,       /* E7: the datagram names the own SSRC, and changes it no more (8.2) */
+
+    JALWEDD_NO_BLOCK = 8,       /* jalwedd_about: there is no such block */
+
+    /* A configuration that is refused: the first of these that applies, but that a CNAME of more than 255 octets and
+     * more than 7 items come before the others. */
+    JALWEDD_CNAME = 11,         /* C1: the CNAME has 0 octets, or more than 255 */
+    JALWEDD_CAPACITY = 12,      /* C2: the capacity is none of 1 to 1,024 */
+    JALWEDD_LIMIT = 13,         /* C3: the limit is none of 576 to 1,472, or no multiple of 4 */
+    JALWEDD_BANDWIDTH = 14,     /* C4: one of the bandwidths is none of 16 to 2^30 */
+    JALWEDD_RATE = 15,          /* C5: the rate is none of 1 to 2^20 */
+    JALWEDD_ITEM = 16,          /* C6: the type of an item is none of 2 to 8, or there are more than 7 items */
+
+    JALWEDD_IS_EMPTY = 20,      /* the handle holds no participant */
+    JALWEDD_IS_LIVE = 21,       /* jalwedd_new: the handle holds a participant already */
+    JALWEDD_NO_MEMORY = 22      /* jalwedd_new: there is no memory */
+};
+
+/* ---- Values */
+
+/* A participant, or none: zeros at first, and again after jalwedd_free. Its fields are not the host's. */
+typedef struct jalwedd_handle {
+    uint32_t live;
+    void *at;
+} jalwedd_handle;
+
+#define JALWEDD_EMPTY {0, NULL}
+
+/* The session as its host knows it. */
+typedef struct jalwedd_config {
+    uint64_t ntp_base;      /* the NTP timestamp of moment 0: seconds since 1900 in the upper 32 bits, their fraction
+                               in the lower */
+    uint32_t ssrc;          /* the SSRC, to be chosen at random (8.1) */
+    uint32_t capacity;      /* how many other sources are kept track of, 1 to 1,024 */
+    uint32_t limit;         /* the most octets of a compound, without the headers of UDP and IP: 576 to 1,472, a
+                               multiple of 4 */
+    uint32_t sender_bw;     /* the bandwidth for the RTCP of senders, octets a second, 16 to 2^30 (RFC 3556): usually
+                               1.25 per cent of the session's */
+    uint32_t receiver_bw;   /* that for the RTCP of the others: usually 3.75 per cent */
+    uint32_t rate;          /* the units a second of the clock of RTP timestamps, 1 to 2^20 */
+} jalwedd_config;
+
+/* What a participant says of itself beside its CNAME, one in every third report (RFC 3550, 6.5.2 to 6.5.8). */
+typedef struct jalwedd_item {
+    uint8_t kind;           /* NAME 2, EMAIL 3, PHONE 4, LOC 5, TOOL 6, NOTE 7, PRIV 8 */
+    uint8_t size;           /* the octets of the text */
+    uint8_t text[255];      /* the text in UTF-8, which nothing tests, and anything after it */
+} jalwedd_item;
+
+/* The room for a compound. */
+#define JALWEDD_OCTETS 1472
+
+/* step.next where there is no moment to tick at. */
+#define JALWEDD_NEVER UINT64_MAX
+
+/* What a call hands out. */
+enum { JALWEDD_NOTHING = 0, JALWEDD_REPORT = 1, JALWEDD_BYE = 2 };
+
+/* What a call tells. Of a handle that is empty, next is JALWEDD_NEVER and all else 0. */
+typedef struct jalwedd_step {
+    uint64_t next;          /* when to call jalwedd_tick, or JALWEDD_NEVER once the participant has left. It may lie
+                               before the moment of the call: then tick at once */
+    uint32_t members;       /* the members of the session, the participant included (6.2.1): 0 once it has left */
+    uint32_t senders;       /* those of them that send RTP packets: 0 from a leave on */
+    uint32_t ssrc;          /* the participant's SSRC */
+    uint32_t changed;       /* 1 if the call changed that (8.2): media goes on under the new one. Else 0 */
+    uint32_t kind;          /* what the call hands out: send it now, in one datagram, to the other participants */
+    uint32_t size;          /* its octets */
+} jalwedd_step;
+
+/* Why a datagram is not a compound. */
+typedef struct jalwedd_fault {
+    uint64_t offset;        /* where the packet at fault begins, in octets */
+    uint32_t reason;        /* 1 header cut short, 2 version, 3 first packet no report, 4 first packet padded, 5 length,
+                               6 padding, 7 body, 8 SDES item, 9 BYE reason, 10 more than 65,535 octets */
+} jalwedd_fault;
+
+/* What a report says of one source (6.4.1). */
+typedef struct jalwedd_report {
+    uint32_t reporter;      /* the SSRC of the source that sent it */
+    uint32_t ssrc;          /* the SSRC of the source that it speaks of */
+    uint32_t fraction;      /* the part of its packets that was lost since the last report, in 1/256 */
+    int32_t lost;           /* how many were lost since the beginning: negative where packets came twice */
+    uint32_t highest;       /* the highest sequence number in the low 16 bits, and above them how often they wrapped */
+    uint32_t jitter;        /* the jitter of their arrival, in units of their RTP timestamps */
+    uint32_t lsr;           /* the middle 32 bits of the NTP timestamp of the source's last sender report, or 0 */
+    uint32_t dlsr;          /* the time since that report, in 1/65,536 of a second, or 0 */
+} jalwedd_report;
+
+/* ---- A participant */
+
+/* Puts a participant of a session that begins now, at moment 0, into an empty handle. `word` is for the draw of the
+ * first interval. Takes one block of memory, of some 160 KB.
+ * Statuses: TAKEN; IS_LIVE, and the step is that of the participant that is there; CNAME to ITEM; NO_MEMORY. */
+uint32_t jalwedd_new(jalwedd_handle *handle, const jalwedd_config *config, const uint8_t *cname, size_t cname_size,
+                     const jalwedd_item *items, size_t item_count, uint32_t word, jalwedd_step *step);
+
+/* Frees the participant of a handle, which is empty then. Nothing goes out: jalwedd_leave comes before.
+ * Statuses: TAKEN; IS_EMPTY. */
+uint32_t jalwedd_free(jalwedd_handle *handle);
+
+/* An RTCP datagram came at the moment `now`, with the octets that UDP carried (RFC 3550, 6.1). `peer` is a number for
+ * where it came from, another one for each address and port; `word` is for a new SSRC, should it come to that (8.2).
+ * Statuses: TAKEN; LEFT to NO_COMPOUND; OWN_SSRC; IS_EMPTY. */
+uint32_t jalwedd_arrive_rtcp(jalwedd_handle *handle, uint64_t now, uint64_t peer, uint32_t word,
+                             const uint8_t *datagram, size_t size, jalwedd_step *step, uint8_t octets[JALWEDD_OCTETS]);
+
+/* An RTP datagram came: as jalwedd_arrive_rtcp.
+ * Statuses: TAKEN; LEFT to TOO_MANY; NO_RTP; OWN_SSRC; IS_EMPTY. */
+uint32_t jalwedd_arrive_rtp(jalwedd_handle *handle, uint64_t now, uint64_t peer, uint32_t word,
+                            const uint8_t *datagram, size_t size, jalwedd_step *step, uint8_t octets[JALWEDD_OCTETS]);
+
+/* The host sent an RTP packet at the moment `now`, with this RTP timestamp and so many octets of payload without
+ * padding (6.3.8, 6.4.1).
+ * Statuses: TAKEN; LEFT to TOO_MANY; IS_EMPTY. */
+uint32_t jalwedd_sent_rtp(jalwedd_handle *handle, uint64_t now, uint32_t timestamp, uint32_t payload,
+                          jalwedd_step *step, uint8_t octets[JALWEDD_OCTETS]);
+
+/* Asks at the moment `now` what is due, and drops those who are silent for too long (6.3.5, 6.3.6). Call it at
+ * step.next; a call before that sends nothing.
+ * Statuses: TAKEN; LEFT to TOO_MANY; IS_EMPTY. */
+uint32_t jalwedd_tick(jalwedd_handle *handle, uint64_t now, uint32_t first_word, uint32_t second_word,
+                      jalwedd_step *step, uint8_t octets[JALWEDD_OCTETS]);
+
+/* Leaves the session at the moment `now` (6.3.7). The BYE goes out at once, or, in a session of more than 50, from a
+ * tick: go on until step.next is JALWEDD_NEVER. One that sent nothing leaves silently.
+ * Statuses: TAKEN; LEFT to TOO_MANY; IS_EMPTY. */
+uint32_t jalwedd_leave(jalwedd_handle *handle, uint64_t now, uint32_t word, jalwedd_step *step,
+                       uint8_t octets[JALWEDD_OCTETS]);
+
+/* What step.members, .senders, .next and .ssrc would be. Of an empty handle: 0, and JALWEDD_NEVER. */
+uint32_t jalwedd_members(jalwedd_handle *handle);
+uint32_t jalwedd_senders(jalwedd_handle *handle);
+uint64_t jalwedd_next(jalwedd_handle *handle);
+uint32_t jalwedd_ssrc(jalwedd_handle *handle);
+
+/* ---- Datagrams */
+
+/* Tells whether a datagram is a compound (6.1). Where it is, `fault` is left as it is.
+ * Statuses: TAKEN; NO_COMPOUND. */
+uint32_t jalwedd_check(const uint8_t *datagram, size_t size, jalwedd_fault *fault);
+
+/* Tells what the reports of a datagram say of the source `ssrc`: of the blocks that name it, in their order, the one at
+ * `index`, from 0 on. Ask until the status is not TAKEN; then `report` is left as it is.
+ * Statuses: TAKEN; NO_COMPOUND; NO_BLOCK. */
+uint32_t jalwedd_about(const uint8_t *datagram, size_t size, uint32_t ssrc, uint32_t index, jalwedd_report *report);
+
+/* The round-trip time by a report, in 1/65,536 of a second: `arrival` is the middle 32 bits of the NTP timestamp of the
+ * moment at which it came, (uint32_t)(jalwedd_ntp_of(ntp_base, now) >> 16). A report whose lsr is 0 tells none. */
+uint32_t jalwedd_round_trip(uint32_t arrival, uint32_t lsr, uint32_t dlsr);
+
+/* The NTP timestamp of the moment `now` (section 4), in a session whose moment 0 has the timestamp `ntp_base`. */
+uint64_t jalwedd_ntp_of(uint64_t ntp_base, uint64_t now);
+
+#ifdef __cplusplus
+}
+#endif
+
+#endif
