@@ -1,0 +1,128 @@
+/* Calls of the library at their edges: empty handles, handles that were freed, lengths of 0 and of 65,535, memory that
+ * is refused, and what a refused call leaves. Ends with 0, or says the line that does not hold. (compare/embedding) */
+#include "jalwedd.h"
+
+#include <stdio.h>
+#include <stdlib.h>
+#include <string.h>
+
+#define HOLDS(what)                                                                                                    \
+    do {                                                                                                               \
+        if (!(what)) {                                                                                                 \
+            printf("line %d: %s\n", __LINE__, #what);                                                                  \
+            return 1;                                                                                                  \
+        }                                                                                                              \
+    } while (0)
+
+static const jalwedd_config CONFIG = {0, 0xaa, 1024, 1472, 100, 300, 8000};
+
+/* an RR of 7 without blocks, and its SDES with the CNAME "a" */
+static const uint8_t OF_SEVEN[] = {0x80, 0xc9, 0, 1, 0, 0, 0, 7, 0x81, 0xca, 0, 2, 0, 0, 0, 7, 1, 1, 0x61, 0};
+
+static int is_blank(const jalwedd_step *step)
+{
+    const jalwedd_step blank = {.next = JALWEDD_NEVER};
+    return memcmp(step, &blank, sizeof blank) == 0;
+}
+
+static int empty(void)
+{
+    jalwedd_handle handle = JALWEDD_EMPTY;
+    jalwedd_step step;
+    uint8_t octets[JALWEDD_OCTETS] = {0};
+    HOLDS(jalwedd_arrive_rtcp(&handle, 0, 1, 0, OF_SEVEN, sizeof OF_SEVEN, &step, octets) == JALWEDD_IS_EMPTY);
+    HOLDS(is_blank(&step));
+    HOLDS(jalwedd_arrive_rtp(&handle, 0, 1, 0, OF_SEVEN, sizeof OF_SEVEN, &step, octets) == JALWEDD_IS_EMPTY);
+    HOLDS(jalwedd_sent_rtp(&handle, 0, 0, 0, &step, octets) == JALWEDD_IS_EMPTY);
+    HOLDS(jalwedd_tick(&handle, 0, 0, 0, &step, octets) == JALWEDD_IS_EMPTY);
+    HOLDS(jalwedd_leave(&handle, 0, 0, &step, octets) == JALWEDD_IS_EMPTY);
+    HOLDS(jalwedd_members(&handle) == 0 && jalwedd_senders(&handle) == 0 && jalwedd_ssrc(&handle) == 0);
+    HOLDS(jalwedd_next(&handle) == JALWEDD_NEVER);
+    HOLDS(jalwedd_free(&handle) == JALWEDD_IS_EMPTY && handle.live == 0 && handle.at == NULL);
+    return 0;
+}
+
+static int begun(void)
+{
+    jalwedd_handle handle = JALWEDD_EMPTY;
+    jalwedd_config config = CONFIG;
+    jalwedd_step step;
+    static const jalwedd_item items[8] = {{2, 1, "n"}, {3, 0, ""}, {9, 0, ""}};
+    static const uint8_t cname[256] = {'a'};
+    HOLDS(jalwedd_new(&handle, &config, cname, 0, items, 0, 0, &step) == JALWEDD_CNAME && is_blank(&step));
+    HOLDS(jalwedd_new(&handle, &config, cname, 256, items, 8, 0, &step) == JALWEDD_CNAME);
+    HOLDS(jalwedd_new(&handle, &config, cname, 255, items, 8, 0, &step) == JALWEDD_ITEM);
+    HOLDS(jalwedd_new(&handle, &config, cname, 1, items, 3, 0, &step) == JALWEDD_ITEM);
+    config.capacity = 1025;
+    HOLDS(jalwedd_new(&handle, &config, cname, 1, items, 3, 0, &step) == JALWEDD_CAPACITY);
+    config = CONFIG;
+    config.limit = 574;
+    HOLDS(jalwedd_new(&handle, &config, cname, 1, items, 2, 0, &step) == JALWEDD_LIMIT);
+    config = CONFIG;
+    config.receiver_bw = 15;
+    HOLDS(jalwedd_new(&handle, &config, cname, 1, items, 2, 0, &step) == JALWEDD_BANDWIDTH);
+    config = CONFIG;
+    config.rate = 0;
+    HOLDS(jalwedd_new(&handle, &config, cname, 1, items, 2, 0, &step) == JALWEDD_RATE && handle.live == 0);
+    HOLDS(jalwedd_new(&handle, &CONFIG, cname, 255, items, 2, 0, &step) == JALWEDD_TAKEN);
+    HOLDS(step.members == 1 && step.senders == 0 && step.next == 1026037 && step.ssrc == 0xaa && step.kind == 0);
+    HOLDS(jalwedd_new(&handle, &CONFIG, cname, 1, items, 2, 7, &step) == JALWEDD_IS_LIVE && step.next == 1026037);
+    HOLDS(jalwedd_free(&handle) == JALWEDD_TAKEN && jalwedd_free(&handle) == JALWEDD_IS_EMPTY);
+    HOLDS(handle.live == 0 && handle.at == NULL);
+    return 0;
+}
+
+static int lengths(void)
+{
+    jalwedd_handle handle = JALWEDD_EMPTY;
+    jalwedd_step step;
+    jalwedd_fault fault = {99, 99};
+    jalwedd_report report;
+    uint8_t octets[JALWEDD_OCTETS] = {0};
+    const jalwedd_item no_item = {0, 0, ""};
+    uint8_t *longest = calloc(1, 65536), *none = calloc(1, 1);
+    /* an RR and BYEs of nobody: 65,532 octets, so that 65,535 end within a header */
+    memcpy(longest, OF_SEVEN, 8);
+    for (size_t at = 8; at + 4 <= 65536; at += 4)
+        memcpy(longest + at, "\x80\xcb\0\0", 4);
+    HOLDS(jalwedd_new(&handle, &CONFIG, OF_SEVEN + 18, 1, &no_item, 0, 0, &step) == JALWEDD_TAKEN);
+    HOLDS(jalwedd_arrive_rtcp(&handle, 0, 1, 0, none, 0, &step, octets) == JALWEDD_NO_COMPOUND && step.members == 1);
+    HOLDS(jalwedd_arrive_rtp(&handle, 0, 1, 0, none, 0, &step, octets) == JALWEDD_NO_RTP && step.next == 1026037);
+    HOLDS(jalwedd_arrive_rtcp(&handle, 0, 1, 0, longest, 65535, &step, octets) == JALWEDD_NO_COMPOUND);
+    HOLDS(jalwedd_arrive_rtcp(&handle, 0, 1, 0, longest, 65532, &step, octets) == JALWEDD_TAKEN && step.kind == 0);
+    HOLDS(jalwedd_arrive_rtp(&handle, 0, 1, 0, longest, 65535, &step, octets) == JALWEDD_NO_RTP);
+    HOLDS(jalwedd_check(longest, 65532, &fault) == JALWEDD_TAKEN && fault.reason == 99 && fault.offset == 99);
+    HOLDS(jalwedd_check(longest, 65535, &fault) == JALWEDD_NO_COMPOUND && fault.reason == 1 && fault.offset == 65532);
+    HOLDS(jalwedd_check(longest, 65536, &fault) == JALWEDD_NO_COMPOUND && fault.reason == 10 && fault.offset == 0);
+    HOLDS(jalwedd_check(none, 0, &fault) == JALWEDD_NO_COMPOUND && fault.reason == 1 && fault.offset == 0);
+    HOLDS(jalwedd_about(none, 0, 7, 0, &report) == JALWEDD_NO_COMPOUND);
+    HOLDS(jalwedd_about(longest, 65532, 7, 0, &report) == JALWEDD_NO_BLOCK);
+    HOLDS(jalwedd_free(&handle) == JALWEDD_TAKEN);
+    free(longest);
+    free(none);
+    return 0;
+}
+
+static int reports(void)
+{
+    /* an RR of 7 with two blocks that name a1 */
+    static const uint8_t datagram[] = {
+        0x82, 0xc9, 0, 13, 0, 0, 0, 7,
+        0, 0, 0, 0xa1, 64, 0xff, 0xff, 0xfe, 0, 1, 0, 2, 0, 0, 0, 3, 0, 1, 0, 0, 0, 0, 0x80, 0,
+        0, 0, 0, 0xa1, 0, 0, 0, 5, 0, 0, 0, 9, 0, 0, 0, 8, 0, 0, 0, 0, 0, 0, 0, 0};
+    jalwedd_report report;
+    HOLDS(jalwedd_about(datagram, sizeof datagram, 0xa1, 0, &report) == JALWEDD_TAKEN);
+    HOLDS(report.reporter == 7 && report.ssrc == 0xa1 && report.fraction == 64 && report.lost == -2);
+    HOLDS(report.highest == 65538 && report.jitter == 3 && report.lsr == 65536 && report.dlsr == 32768);
+    HOLDS(jalwedd_about(datagram, sizeof datagram, 0xa1, 1, &report) == JALWEDD_TAKEN && report.lost == 5);
+    HOLDS(jalwedd_about(datagram, sizeof datagram, 0xa1, 2, &report) == JALWEDD_NO_BLOCK && report.lost == 5);
+    HOLDS(jalwedd_about(datagram, sizeof datagram, 0xa2, 0, &report) == JALWEDD_NO_BLOCK);
+    HOLDS(jalwedd_round_trip(0x30000, 0x10000, 0x8000) == 0x18000);
+    HOLDS(jalwedd_ntp_of(5ull << 32, 1500000) == (6ull << 32) + (1ull << 31));
+    return 0;
+}
+
+int main(void)
+{
+    return empty() || begun() || lengths() || reports();
+}

@@ -1,0 +1,199 @@
+/* A host in C that plays `rtcp replay`: it is given the options, reads events, a line each, and writes the answers of
+ * the library behind jalwedd.h. It takes options and lines that are right, and does not look for faults of text; where
+ * the configuration is refused it writes the status. Of a refused RTP datagram the library does not say the fault.
+ * usage: host replay OPTION.. < EVENTS        (compare/embedding) */
+#include "jalwedd.h"
+
+#include <inttypes.h>
+#include <stdio.h>
+#include <stdlib.h>
+#include <string.h>
+
+enum { MOST_OCTETS = 65600, MOST_ITEMS = 7 };
+
+struct options {
+    jalwedd_config config;
+    const char *cname;
+    jalwedd_item items[MOST_ITEMS];
+    size_t item_count;
+    uint64_t session_bps;
+    const char *sender_bw, *receiver_bw;
+    uint32_t word;
+};
+
+static const char *const ITEMS[] = {"--name", "--email", "--phone", "--loc", "--tool", "--note"};
+
+static const char *const REASONS[] = {"",       "Short",   "Version", "FirstType", "FirstPadding", "Length",
+                                      "Padding", "Body",    "Item",    "Reason",    "TooLong"};
+
+static const char *const REFUSALS[] = {"", "Left", "Backwards", "TooFar", "TooMany", "Wire", "Rtp", "OwnSsrc"};
+
+/* Reads hex, `-` as nothing, into `octets`, and returns how many there are. */
+static size_t unhex(const char *text, uint8_t *octets, size_t room)
+{
+    size_t size = 0;
+    if (strcmp(text, "-") == 0)
+        return 0;
+    for (; text[0] != '\0' && text[1] != '\0' && size < room; text += 2) {
+        const char pair[3] = {text[0], text[1], '\0'};
+        octets[size++] = (uint8_t)strtoul(pair, NULL, 16);
+    }
+    return size;
+}
+
+static void add_item(struct options *options, uint8_t kind, const char *text, int is_hex)
+{
+    jalwedd_item *item = &options->items[options->item_count++];
+    item->kind = kind;
+    if (is_hex) {
+        item->size = (uint8_t)unhex(text, item->text, sizeof item->text);
+        return;
+    }
+    item->size = (uint8_t)strlen(text);
+    memcpy(item->text, text, item->size);
+}
+
+static uint32_t at_most_32_bits(uint64_t number)
+{
+    return number > UINT32_MAX ? UINT32_MAX : (uint32_t)number;
+}
+
+static void read_number(struct options *options, const char *name, const char *value)
+{
+    const uint64_t decimal = strtoull(value, NULL, 10);
+    if (strcmp(name, "--ssrc") == 0)
+        options->config.ssrc = (uint32_t)strtoul(value, NULL, 16);
+    else if (strcmp(name, "--ntp") == 0)
+        options->config.ntp_base = strtoull(value, NULL, 16);
+    else if (strcmp(name, "--word") == 0)
+        options->word = (uint32_t)strtoul(value, NULL, 16);
+    else if (strcmp(name, "--capacity") == 0)
+        options->config.capacity = (uint32_t)decimal;
+    else if (strcmp(name, "--limit") == 0)
+        options->config.limit = (uint32_t)decimal;
+    else if (strcmp(name, "--rate") == 0)
+        options->config.rate = (uint32_t)decimal;
+    else if (strcmp(name, "--session-bps") == 0)
+        options->session_bps = decimal;
+    else if (strcmp(name, "--sender-bw") == 0)
+        options->sender_bw = value;
+    else if (strcmp(name, "--receiver-bw") == 0)
+        options->receiver_bw = value;
+}
+
+/* Reads the options. Items go out in the order of their types, whatever the order of the options is. */
+static void read_options(struct options *options, int count, char **words)
+{
+    options->config = (jalwedd_config){.capacity = 1024, .limit = 1472, .rate = 8000};
+    options->session_bps = 64000;
+    options->cname = "";
+    for (int at = 0; at + 1 < count; at += 2) {
+        if (strcmp(words[at], "--cname") == 0)
+            options->cname = words[at + 1];
+        else
+            read_number(options, words[at], words[at + 1]);
+    }
+    for (uint8_t item = 0; item < 6; item++)
+        for (int at = 0; at + 1 < count; at += 2)
+            if (strcmp(words[at], ITEMS[item]) == 0)
+                add_item(options, item + 2, words[at + 1], 0);
+    for (int at = 0; at + 1 < count; at += 2)
+        if (strcmp(words[at], "--priv") == 0)
+            add_item(options, 8, words[at + 1], 1);
+    const uint64_t rtcp_bw = options->session_bps / 160;
+    const uint64_t for_senders = options->sender_bw ? strtoull(options->sender_bw, NULL, 10) : rtcp_bw / 4;
+    const uint64_t for_others = options->receiver_bw ? strtoull(options->receiver_bw, NULL, 10) : rtcp_bw - rtcp_bw / 4;
+    options->config.sender_bw = at_most_32_bits(for_senders);
+    options->config.receiver_bw = at_most_32_bits(for_others);
+}
+
+static void write_counts(const char *first, const jalwedd_step *step)
+{
+    printf("%s members=%" PRIu32 " senders=%" PRIu32 " next=", first, step->members, step->senders);
+    if (step->next == JALWEDD_NEVER)
+        printf("-");
+    else
+        printf("%" PRIu64, step->next);
+}
+
+static void write_answer(uint32_t status, const jalwedd_step *step, const uint8_t *octets, const jalwedd_fault *fault)
+{
+    if (status != JALWEDD_TAKEN) {
+        printf("refused E%" PRIu32 " %s", status, REFUSALS[status]);
+        if (status == JALWEDD_NO_COMPOUND)
+            printf(": F%" PRIu32 " %s at %" PRIu64, fault->reason, REASONS[fault->reason], fault->offset);
+        printf("\n");
+        return;
+    }
+    write_counts("ok", step);
+    printf(" out=%s", step->kind == JALWEDD_NOTHING ? "-" : step->kind == JALWEDD_REPORT ? "report:" : "bye:");
+    for (uint32_t at = 0; at < step->size; at++)
+        printf("%02x", octets[at]);
+    if (step->changed)
+        printf(" ssrc=%08" PRIx32, step->ssrc);
+    printf("\n");
+}
+
+/* Tells the participant the event of a line, of at most five fields. */
+static void tell(jalwedd_handle *session, char **fields)
+{
+    static uint8_t octets[JALWEDD_OCTETS];
+    jalwedd_step step;
+    jalwedd_fault fault = {0, 0};
+    uint32_t status;
+    const uint64_t now = strtoull(fields[1], NULL, 10);
+    if (strcmp(fields[0], "rtcp") == 0 || strcmp(fields[0], "rtp") == 0) {
+        /* a block of just its size, so that a sanitizer sees what is read past it */
+        uint8_t *room = malloc(MOST_OCTETS);
+        const size_t size = unhex(fields[4], room, MOST_OCTETS);
+        uint8_t *datagram = malloc(size > 0 ? size : 1);
+        memcpy(datagram, room, size);
+        const uint64_t peer = strtoull(fields[2], NULL, 10);
+        const uint32_t word = (uint32_t)strtoul(fields[3], NULL, 16);
+        if (fields[0][2] == 'c') {
+            status = jalwedd_arrive_rtcp(session, now, peer, word, datagram, size, &step, octets);
+            jalwedd_check(datagram, size, &fault);
+        } else {
+            status = jalwedd_arrive_rtp(session, now, peer, word, datagram, size, &step, octets);
+        }
+        free(datagram);
+        free(room);
+    } else if (strcmp(fields[0], "sent") == 0) {
+        const uint32_t timestamp = (uint32_t)strtoul(fields[2], NULL, 10);
+        status = jalwedd_sent_rtp(session, now, timestamp, (uint32_t)strtoul(fields[3], NULL, 10), &step, octets);
+    } else if (strcmp(fields[0], "tick") == 0) {
+        const uint32_t first = (uint32_t)strtoul(fields[2], NULL, 16);
+        status = jalwedd_tick(session, now, first, (uint32_t)strtoul(fields[3], NULL, 16), &step, octets);
+    } else {
+        status = jalwedd_leave(session, now, (uint32_t)strtoul(fields[2], NULL, 16), &step, octets);
+    }
+    write_answer(status, &step, octets, &fault);
+    if (step.members != jalwedd_members(session) || step.senders != jalwedd_senders(session)
+        || step.next != jalwedd_next(session) || step.ssrc != jalwedd_ssrc(session))
+        printf("the step does not say what the handle does\n");
+}
+
+int main(int count, char **words)
+{
+    static struct options options;
+    static char line[2 * MOST_OCTETS + 200];
+    jalwedd_handle session = JALWEDD_EMPTY;
+    jalwedd_step step;
+    read_options(&options, count - 2, words + 2);
+    const uint32_t status = jalwedd_new(&session, &options.config, (const uint8_t *)options.cname,
+                                        strlen(options.cname), options.items, options.item_count, options.word, &step);
+    if (status != JALWEDD_TAKEN) {
+        fprintf(stderr, "config C%" PRIu32 "\n", status - 10);
+        return 2;
+    }
+    write_counts("start", &step);
+    printf("\n");
+    while (fgets(line, sizeof line, stdin) != NULL) {
+        char *fields[5] = {"", "", "", "", ""};
+        size_t field = 0;
+        for (char *word = strtok(line, " \n"); word != NULL && field < 5; word = strtok(NULL, " \n"))
+            fields[field++] = word;
+        tell(&session, fields);
+    }
+    return jalwedd_free(&session) == JALWEDD_TAKEN ? 0 : 1;
+}
