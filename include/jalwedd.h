@@ -195,8 +195,9 @@ uint32_t jalwedd_check(const uint8_t *datagram, size_t size, jalwedd_fault *faul
  * Statuses: TAKEN; NO_COMPOUND; NO_BLOCK. */
 uint32_t jalwedd_about(const uint8_t *datagram, size_t size, uint32_t ssrc, uint32_t index, jalwedd_report *report);
 
-/* The round-trip time by a report, in 1/65,536 of a second: `arrival` is the middle 32 bits of the NTP timestamp of the
- * moment at which it came, (uint32_t)(jalwedd_ntp_of(ntp_base, now) >> 16). A report whose lsr is 0 tells none. */
+/* The round-trip time by a report, in 1/65,536 of a second and modulo 2^32: `arrival` is the middle 32 bits of the NTP
+ * timestamp of the moment at which it came, (uint32_t)(jalwedd_ntp_of(ntp_base, now) >> 16). A report whose lsr is 0
+ * tells none; one of a participant with a coarse clock may tell a time below 0, as an int32_t has it. */
 uint32_t jalwedd_round_trip(uint32_t arrival, uint32_t lsr, uint32_t dlsr);
 
 /* The NTP timestamp of the moment `now` (section 4), in a session whose moment 0 has the timestamp `ntp_base`. */

@@ -1,0 +1,196 @@
+/* A player that sends a stream of silence and takes part in its RTP session: two UDP sockets, `poll`, and the library.
+ * It prints each second what others report of its stream, and leaves with a BYE at ctrl-C.
+ *
+ *     player SEED RTP-PORT PEER-RTP-PORT      on 127.0.0.1, with RTCP at the ports one above
+ */
+#include "jalwedd.h"
+
+#include <arpa/inet.h>
+#include <netinet/in.h>
+#include <poll.h>
+#include <signal.h>
+#include <stdio.h>
+#include <stdlib.h>
+#include <string.h>
+#include <sys/socket.h>
+#include <time.h>
+#include <unistd.h>
+
+enum { PACKET = 160, PACKET_TIME = 20000, SECOND = 1000000, MOST_OCTETS = 65535 };
+
+struct player {
+    jalwedd_handle session;
+    jalwedd_config config;
+    jalwedd_step step;
+    int rtp, rtcp;
+    struct sockaddr_in to_rtp, to_rtcp;
+    uint64_t begin;
+    uint16_t sequence;
+    uint32_t timestamp;
+};
+
+static volatile sig_atomic_t is_over;
+
+static void stop(int signal)
+{
+    (void)signal;
+    is_over = 1;
+}
+
+/* A word for a draw; a player in use takes it from the system (getrandom). */
+static uint32_t random_word(void)
+{
+    return ((uint32_t)random() << 16) ^ (uint32_t)random();
+}
+
+static uint64_t microseconds(void)
+{
+    struct timespec now;
+    clock_gettime(CLOCK_MONOTONIC, &now);
+    return (uint64_t)now.tv_sec * SECOND + (uint64_t)now.tv_nsec / 1000;
+}
+
+/* The time of day as an NTP timestamp: seconds since 1900, and their fraction (RFC 3550, section 4). */
+static uint64_t ntp_now(void)
+{
+    struct timespec now;
+    clock_gettime(CLOCK_REALTIME, &now);
+    return ((uint64_t)now.tv_sec + 2208988800u) << 32 | ((uint64_t)now.tv_nsec << 32) / 1000000000u;
+}
+
+static struct sockaddr_in local(int port)
+{
+    return (struct sockaddr_in){.sin_family = AF_INET, .sin_port = htons((uint16_t)port),
+                                .sin_addr.s_addr = htonl(INADDR_LOOPBACK)};
+}
+
+static int bound(int port)
+{
+    const struct sockaddr_in at = local(port);
+    const int socket_of = socket(AF_INET, SOCK_DGRAM, 0);
+    if (socket_of < 0 || bind(socket_of, (const struct sockaddr *)&at, sizeof at) != 0) {
+        perror("bind");
+        exit(1);
+    }
+    return socket_of;
+}
+
+static void send_out(const struct player *player, const uint8_t *octets)
+{
+    if (player->step.kind != JALWEDD_NOTHING)
+        sendto(player->rtcp, octets, player->step.size, 0, (const struct sockaddr *)&player->to_rtcp,
+               sizeof player->to_rtcp);
+}
+
+static void send_packet(struct player *player, uint64_t now, uint8_t *octets)
+{
+    uint8_t packet[12 + PACKET] = {0x80, 0};
+    const uint32_t words[2] = {htonl(player->timestamp), htonl(player->step.ssrc)};
+    packet[2] = (uint8_t)(player->sequence >> 8);
+    packet[3] = (uint8_t)player->sequence;
+    memcpy(packet + 4, words, sizeof words);
+    memset(packet + 12, 0xff, PACKET);
+    sendto(player->rtp, packet, sizeof packet, 0, (const struct sockaddr *)&player->to_rtp, sizeof player->to_rtp);
+    jalwedd_sent_rtp(&player->session, now, player->timestamp, PACKET, &player->step, octets);
+    player->sequence++;
+    player->timestamp += PACKET;
+}
+
+/* Prints what a datagram says of the stream. */
+static void print_reports(const struct player *player, uint64_t now, const uint8_t *datagram, size_t size)
+{
+    jalwedd_report report;
+    for (uint32_t at = 0; jalwedd_about(datagram, size, player->step.ssrc, at, &report) == JALWEDD_TAKEN; at++) {
+        printf("%.1f s: %08x of %u members reports loss %.1f %%, %d packets in all, jitter %.1f ms", now / 1e6,
+               report.reporter, player->step.members, report.fraction / 2.56, report.lost,
+               report.jitter * 1e3 / player->config.rate);
+        if (report.lsr != 0) {
+            /* below 0 where the other's clock is coarser than the way is long */
+            const uint32_t arrival = (uint32_t)(jalwedd_ntp_of(player->config.ntp_base, now) >> 16);
+            const int32_t trip = (int32_t)jalwedd_round_trip(arrival, report.lsr, report.dlsr);
+            printf(", round trip %.2f ms", trip > 0 ? trip / 65.536 : 0.0);
+        }
+        printf("\n");
+    }
+}
+
+static void receive(struct player *player, int from, uint64_t now, uint8_t *octets)
+{
+    static uint8_t datagram[MOST_OCTETS];
+    struct sockaddr_in peer;
+    socklen_t length = sizeof peer;
+    const ssize_t size = recvfrom(from, datagram, sizeof datagram, 0, (struct sockaddr *)&peer, &length);
+    if (size < 0)
+        return;
+    const uint64_t number = (uint64_t)ntohl(peer.sin_addr.s_addr) << 16 | ntohs(peer.sin_port);
+    if (from == player->rtp) {
+        jalwedd_arrive_rtp(&player->session, now, number, random_word(), datagram, (size_t)size, &player->step, octets);
+    } else {
+        jalwedd_arrive_rtcp(&player->session, now, number, random_word(), datagram, (size_t)size, &player->step,
+                            octets);
+        print_reports(player, now, datagram, (size_t)size);
+    }
+    send_out(player, octets);
+}
+
+/* One turn: waits for a datagram until `next`, or until the next packet is to go out. */
+static void turn(struct player *player, uint64_t next_packet)
+{
+    static uint8_t octets[JALWEDD_OCTETS];
+    struct pollfd sockets[2] = {{player->rtcp, POLLIN, 0}, {player->rtp, POLLIN, 0}};
+    const uint64_t until = player->step.next < next_packet ? player->step.next : next_packet;
+    uint64_t now = microseconds() - player->begin;
+    const int came = poll(sockets, 2, until <= now ? 0 : (int)((until - now + 999) / 1000));
+    now = microseconds() - player->begin;
+    for (int at = 0; came > 0 && at < 2; at++)
+        if (sockets[at].revents & POLLIN)
+            receive(player, sockets[at].fd, now, octets);
+    if (player->step.next <= now) {
+        jalwedd_tick(&player->session, now, random_word(), random_word(), &player->step, octets);
+        send_out(player, octets);
+    }
+    if (next_packet <= now)
+        send_packet(player, now, octets);
+}
+
+static void play(struct player *player)
+{
+    uint8_t octets[JALWEDD_OCTETS];
+    for (uint64_t next_packet = 0; !is_over && player->step.next != JALWEDD_NEVER; fflush(stdout)) {
+        const uint16_t sent = player->sequence;
+        turn(player, next_packet);
+        if (player->sequence != sent)
+            next_packet += PACKET_TIME;
+    }
+    jalwedd_leave(&player->session, microseconds() - player->begin, random_word(), &player->step, octets);
+    send_out(player, octets);
+    while (player->step.next != JALWEDD_NEVER)
+        turn(player, UINT64_MAX);
+}
+
+int main(int count, char **words)
+{
+    static struct player player;
+    if (count != 4) {
+        fprintf(stderr, "usage: player SEED RTP-PORT PEER-RTP-PORT\n");
+        return 2;
+    }
+    srandom((unsigned)atoi(words[1]));
+    player.rtp = bound(atoi(words[2]));
+    player.rtcp = bound(atoi(words[2]) + 1);
+    player.to_rtp = local(atoi(words[3]));
+    player.to_rtcp = local(atoi(words[3]) + 1);
+    player.begin = microseconds();
+    /* of a session of 64,000 bits a second 5 per cent are for RTCP, and a quarter of that for senders */
+    player.config = (jalwedd_config){.ntp_base = ntp_now(), .ssrc = random_word(), .capacity = 1024, .limit = 1472,
+                                     .sender_bw = 100, .receiver_bw = 300, .rate = 8000};
+    const jalwedd_item tool = {.kind = 6, .size = 7, .text = "jalwedd"};
+    const uint8_t cname[] = "player@example.com";
+    if (jalwedd_new(&player.session, &player.config, cname, sizeof cname - 1, &tool, 1, random_word(), &player.step)
+        != JALWEDD_TAKEN)
+        return 1;
+    signal(SIGINT, stop);
+    play(&player);
+    jalwedd_free(&player.session);
+    return 0;
+}
