@@ -1,5 +1,5 @@
 -- How answers are told to a host in C: a status, a step, and the octets of a compound.
-use Rattle.std.specs.Prelude.{ℕ, ◌≡◌, ◌^◌, ◌-◌, ◌++◌, List, [], length, drop, Bool, true, false, Option, Some, None, Result, Ok, Err, is_some}
+use Rattle.std.specs.Prelude.{ℕ, ◌≡◌, ◌^◌, ◌-◌, ◌++◌, List, [], length, drop, Bool, true, false, Option, Some, None, Ok, Err, is_some}
 use Rattle.rtcp_engine.specs.declared.refusal.Refusal.{Refusal}
 use Rattle.rtcp_engine.specs.declared.refusal.Refusal.TheVariants.{Left, Backwards, TooFar, TooMany, Wire, Rtp, OwnSsrc}
 use Rattle.rtcp_engine.specs.declared.step.OutKind.{OutKind}

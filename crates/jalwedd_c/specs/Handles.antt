@@ -1,5 +1,5 @@
 -- What a handle holds: a participant, or nothing.
-use Rattle.std.specs.Prelude.{◌≡◌, Option, Some, None}
+use Rattle.std.specs.Prelude.{Option, Some, None}
 use Rattle.rtcp_engine.specs.Histories.{History}
 use Rattle.rtcp_engine.specs.States.{StandsAt, KeepsCapacity}
 use Rattle.jalwedd_c.specs.declared.session.Session.{Session}

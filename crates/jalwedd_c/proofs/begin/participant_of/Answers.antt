@@ -1,4 +1,4 @@
-use Rattle.std.proofs.Common.{◌≡◌, Some, None, refl, sym, ap, ◌∙◌}
+use Rattle.std.proofs.Common.{Some, None, refl, sym, ap, ◌∙◌}
 use Rattle.rtcp_engine.specs.Refused.{error_in}
 use Rattle.jalwedd_c.proofs.Refusals.{none_if, refused_by_setup}
 use Rattle.jalwedd_c.proofs.begin.participant_of.Goals as goal

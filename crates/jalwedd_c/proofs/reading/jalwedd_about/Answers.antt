@@ -1,8 +1,8 @@
 -- The block at the index is that of the list of all blocks that name the source.
-use Rattle.std.proofs.Common.{◌≡◌, Some, None, refl, sym, ap, ◌∙◌, subst, slice_get}
+use Rattle.std.proofs.Common.{◌≡◌, Some, None, refl, ap, ◌∙◌, subst, slice_get}
 use Rattle.std.proofs.lemmas.Iterator.Consumers.{nth_from_yields_List, YieldsList-from_first}
 use Rattle.rtcp_wire.specs.About.{blocks_about}
-use Rattle.rtcp_wire.specs.Views.{block_value, reported_value}
+use Rattle.rtcp_wire.specs.Views.{reported_value}
 use Rattle.jalwedd_c.specs.Readings.{ShowsBlock}
 use Rattle.jalwedd_c.proofs.reading.jalwedd_about.Goals as goal
 
