@@ -2,6 +2,7 @@
  * is refused, and what a refused call leaves. Ends with 0, or says the line that does not hold. (compare/embedding) */
 #include "jalwedd.h"
 
+#include <stddef.h>
 #include <stdio.h>
 #include <stdlib.h>
 #include <string.h>
@@ -13,6 +14,39 @@
             return 1;                                                                                                  \
         }                                                                                                              \
     } while (0)
+
+/* The library's memory, in place of package/memory.c: blocks are counted, and refused once none is left. */
+static int blocks_left = 100, blocks_asked, blocks_held;
+
+struct rattle_block {
+    uint8_t ok;
+    void *at;
+};
+
+struct rattle_block rattle_alloc(size_t size, size_t alignment)
+{
+    static max_align_t nothing;
+    blocks_asked++;
+    if (blocks_left == 0 || alignment > _Alignof(max_align_t))
+        return (struct rattle_block){0, &nothing};
+    blocks_left--;
+    blocks_held++;
+    return (struct rattle_block){1, malloc(size)};
+}
+
+struct rattle_block rattle_realloc(void *at, size_t old_size, size_t size, size_t alignment)
+{
+    (void)old_size, (void)size, (void)alignment;
+    blocks_asked++;
+    return (struct rattle_block){0, at};
+}
+
+void rattle_dealloc(void *at, size_t size, size_t alignment)
+{
+    (void)size, (void)alignment;
+    blocks_held--;
+    free(at);
+}
 
 static const jalwedd_config CONFIG = {0, 0xaa, 1024, 1472, 100, 300, 8000};
 
@@ -122,7 +156,29 @@ static int reports(void)
     return 0;
 }
 
+/* Memory is refused as a participant begins, and then there is just one block, which its end gives back. */
+static int memory(void)
+{
+    jalwedd_handle handle = JALWEDD_EMPTY;
+    jalwedd_step step;
+    uint8_t octets[JALWEDD_OCTETS] = {0};
+    const jalwedd_item no_item = {0, 0, ""};
+    HOLDS(blocks_held == 0);
+    blocks_left = blocks_asked = 0;
+    HOLDS(jalwedd_new(&handle, &CONFIG, OF_SEVEN + 18, 1, &no_item, 0, 0, &step) == JALWEDD_NO_MEMORY);
+    HOLDS(is_blank(&step) && handle.live == 0 && blocks_asked == 1);
+    HOLDS(jalwedd_free(&handle) == JALWEDD_IS_EMPTY);
+    blocks_left = 1;
+    HOLDS(jalwedd_new(&handle, &CONFIG, OF_SEVEN + 18, 1, &no_item, 0, 0, &step) == JALWEDD_TAKEN);
+    HOLDS(jalwedd_arrive_rtcp(&handle, 0, 1, 0, OF_SEVEN, sizeof OF_SEVEN, &step, octets) == JALWEDD_TAKEN);
+    HOLDS(step.members == 2);
+    HOLDS(jalwedd_tick(&handle, 1026037, 0, 0, &step, octets) == JALWEDD_TAKEN && step.kind == JALWEDD_REPORT);
+    HOLDS(jalwedd_leave(&handle, 1026037, 0, &step, octets) == JALWEDD_TAKEN && step.kind == JALWEDD_BYE);
+    HOLDS(jalwedd_free(&handle) == JALWEDD_TAKEN && blocks_asked == 2 && blocks_held == 0);
+    return 0;
+}
+
 int main(void)
 {
-    return empty() || begun() || lengths() || reports();
+    return empty() || begun() || lengths() || reports() || memory();
 }

@@ -1,6 +1,6 @@
 //! What a host keeps.
 
-ghost use Rattle.std.specs.Prelude.{◌≡◌, ◌↔◌, IsTrue, MatchOption, IsSome};
+ghost use Rattle.std.specs.Prelude.{◌≡◌, ◌↔◌, IsTrue, MatchOption, IsSome, None};
 ghost use Rattle.jalwedd_c.specs.Owned.{live_of};
 
 use crate::owned::Owned;
@@ -18,6 +18,17 @@ pub struct Handle {
 }
 
 impl Handle {
+    /// What a host begins with.
+    #[cfg(test)]
+    pub(crate) fn empty(alloc: Global) -> Handle
+        ensures { result.owned.held ≡ None }
+    {
+        Handle {
+            live: 0,
+            owned: Owned::vacant(alloc),
+        }
+    }
+
     pub(crate) fn is_live(&self) -> bool
         ensures { IsTrue result ↔ IsSome self.now.owned.held }
     {

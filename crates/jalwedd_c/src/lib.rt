@@ -24,6 +24,8 @@ mod session;
 mod showing;
 mod status;
 mod step;
+#[cfg(test)]
+mod tests;
 mod views;
 
 pub use config::{Config, Item};
