@@ -72,7 +72,7 @@ static int empty(void)
     HOLDS(jalwedd_leave(&handle, 0, 0, &step, octets) == JALWEDD_IS_EMPTY);
     HOLDS(jalwedd_members(&handle) == 0 && jalwedd_senders(&handle) == 0 && jalwedd_ssrc(&handle) == 0);
     HOLDS(jalwedd_next(&handle) == JALWEDD_NEVER);
-    HOLDS(jalwedd_free(&handle) == JALWEDD_IS_EMPTY && handle.live == 0 && handle.at == NULL);
+    HOLDS(jalwedd_free(&handle) == JALWEDD_IS_EMPTY && handle.at == NULL);
     return 0;
 }
 
@@ -97,12 +97,12 @@ static int begun(void)
     HOLDS(jalwedd_new(&handle, &config, cname, 1, items, 2, 0, &step) == JALWEDD_BANDWIDTH);
     config = CONFIG;
     config.rate = 0;
-    HOLDS(jalwedd_new(&handle, &config, cname, 1, items, 2, 0, &step) == JALWEDD_RATE && handle.live == 0);
+    HOLDS(jalwedd_new(&handle, &config, cname, 1, items, 2, 0, &step) == JALWEDD_RATE && handle.at == NULL);
     HOLDS(jalwedd_new(&handle, &CONFIG, cname, 255, items, 2, 0, &step) == JALWEDD_TAKEN);
     HOLDS(step.members == 1 && step.senders == 0 && step.next == 1026037 && step.ssrc == 0xaa && step.kind == 0);
     HOLDS(jalwedd_new(&handle, &CONFIG, cname, 1, items, 2, 7, &step) == JALWEDD_IS_LIVE && step.next == 1026037);
     HOLDS(jalwedd_free(&handle) == JALWEDD_TAKEN && jalwedd_free(&handle) == JALWEDD_IS_EMPTY);
-    HOLDS(handle.live == 0 && handle.at == NULL);
+    HOLDS(handle.at == NULL);
     return 0;
 }
 
@@ -166,7 +166,7 @@ static int memory(void)
     HOLDS(blocks_held == 0);
     blocks_left = blocks_asked = 0;
     HOLDS(jalwedd_new(&handle, &CONFIG, OF_SEVEN + 18, 1, &no_item, 0, 0, &step) == JALWEDD_NO_MEMORY);
-    HOLDS(is_blank(&step) && handle.live == 0 && blocks_asked == 1);
+    HOLDS(is_blank(&step) && handle.at == NULL && blocks_asked == 1);
     HOLDS(jalwedd_free(&handle) == JALWEDD_IS_EMPTY);
     blocks_left = 1;
     HOLDS(jalwedd_new(&handle, &CONFIG, OF_SEVEN + 18, 1, &no_item, 0, 0, &step) == JALWEDD_TAKEN);

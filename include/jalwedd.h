@@ -70,13 +70,12 @@ enum {
 
 /* ---- Values */
 
-/* A participant, or none: zeros at first, and again after jalwedd_free. Its fields are not the host's. */
+/* A participant, or none: NULL at first, and again after jalwedd_free. Its field is not the host's. */
 typedef struct jalwedd_handle {
-    uint32_t live;
     void *at;
 } jalwedd_handle;
 
-#define JALWEDD_EMPTY {0, NULL}
+#define JALWEDD_EMPTY {NULL}
 
 /* The session as its host knows it. */
 typedef struct jalwedd_config {

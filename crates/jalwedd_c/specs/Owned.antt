@@ -1,5 +1,5 @@
 -- What a host's handle owns: the box at the pointer, with its session as `held`, or nothing at null.
-use Rattle.std.specs.Prelude.{ℕ, Option, Some, None}
+use Rattle.std.specs.Prelude.{Option, Some, None}
 use base.Fml.{Fml, ftrue, ffalse}
 use base.Stored.{Coded}
 use denote.RattleType.{RattleType}
@@ -28,8 +28,3 @@ owned alloc null_ptr None = ftrue
 owned alloc null_ptr (Some x) = ffalse
 owned alloc (block_ptr b o) None = ffalse
 owned alloc (block_ptr b o) (Some x) = boxed alloc (block_ptr b o) x
-
--- 1 where there is a session
-abbrev pub live_of : Option Value → ℕ
-live_of None = 0
-live_of (Some x) = 1
