@@ -1,0 +1,103 @@
+//! What a datagram says, and the clock of its reports.
+
+use crate::errors::{Fault, FaultReason};
+use crate::sys;
+use std::time::Duration;
+
+/// Tells whether a datagram is a compound (RFC 3550, 6.1), or its first fault.
+pub fn check(datagram: &[u8]) -> Result<(), Fault> {
+    let mut fault = sys::jalwedd_fault::default();
+    // SAFETY: valid pointers: a slice's is not NULL, also where it is empty. `fault` lies apart from it.
+    let status = unsafe { sys::jalwedd_check(datagram.as_ptr(), datagram.len(), &mut fault) };
+    match status {
+        sys::JALWEDD_TAKEN => Ok(()),
+        _ => Err(Fault { offset: fault.offset as usize, reason: FaultReason::of(fault.reason) }),
+    }
+}
+
+/// What the reports of a datagram say of the source `ssrc`: the blocks that name it, in their order.
+pub fn about(datagram: &[u8], ssrc: u32) -> Result<Reports<'_>, Fault> {
+    check(datagram)?;
+    Ok(Reports { datagram, ssrc, index: 0 })
+}
+
+/// The reports of a datagram about one source.
+#[derive(Clone, Debug)]
+pub struct Reports<'a> {
+    datagram: &'a [u8],
+    ssrc: u32,
+    index: u32,
+}
+
+impl Iterator for Reports<'_> {
+    type Item = Report;
+
+    fn next(&mut self) -> Option<Report> {
+        let (octets, size) = (self.datagram.as_ptr(), self.datagram.len());
+        let mut report = sys::jalwedd_report::default();
+        // SAFETY: valid pointers: a slice's is not NULL, also where it is empty. `report` lies apart from it.
+        let status = unsafe { sys::jalwedd_about(octets, size, self.ssrc, self.index, &mut report) };
+        if status != sys::JALWEDD_TAKEN {
+            return None;
+        }
+        self.index += 1;
+        Some(Report::of(&report))
+    }
+}
+
+/// What a report says of one source (RFC 3550, 6.4.1).
+#[derive(Clone, Copy, Debug, PartialEq, Eq)]
+pub struct Report {
+    /// The SSRC of the source that sent it.
+    pub reporter: u32,
+    /// The SSRC of the source that it speaks of.
+    pub ssrc: u32,
+    /// The part of its packets that was lost since the last report, in 1/256.
+    pub fraction: u32,
+    /// How many were lost since the beginning: negative where packets came twice.
+    pub lost: i32,
+    /// The highest sequence number in the low 16 bits, and above them how often they wrapped.
+    pub highest: u32,
+    /// The jitter of their arrival, in units of their RTP timestamps.
+    pub jitter: u32,
+    /// The middle 32 bits of the NTP timestamp of the source's last sender report, or 0.
+    pub lsr: u32,
+    /// The time since that report, in 1/65,536 of a second, or 0.
+    pub dlsr: u32,
+}
+
+impl Report {
+    fn of(report: &sys::jalwedd_report) -> Report {
+        Report {
+            reporter: report.reporter,
+            ssrc: report.ssrc,
+            fraction: report.fraction,
+            lost: report.lost,
+            highest: report.highest,
+            jitter: report.jitter,
+            lsr: report.lsr,
+            dlsr: report.dlsr,
+        }
+    }
+
+    /// The time to the reporter and back, if the report came at the NTP timestamp `arrival` (see [`ntp_of`]):
+    /// none where its `lsr` is 0, and 0 where the reporter's clock is coarser than the way is long.
+    pub fn round_trip(&self, arrival: u64) -> Option<Duration> {
+        let trip = round_trip((arrival >> 16) as u32, self.lsr, self.dlsr) as i32;
+        let nanoseconds = u64::from(trip.max(0).unsigned_abs()) * 1_000_000_000 / 65_536;
+        (self.lsr != 0).then_some(Duration::from_nanos(nanoseconds))
+    }
+}
+
+/// The round-trip time by a report, in 1/65,536 of a second and modulo 2^32: `arrival` is the middle 32 bits
+/// of the NTP timestamp at which it came, `lsr` and `dlsr` are the report's. It may be below 0, as an `i32`
+/// has it: [`Report::round_trip`] minds that.
+pub fn round_trip(arrival: u32, lsr: u32, dlsr: u32) -> u32 {
+    sys::jalwedd_round_trip(arrival, lsr, dlsr)
+}
+
+/// The NTP timestamp of the moment `now`, in microseconds (RFC 3550, section 4), in a session whose moment 0
+/// has the timestamp `ntp_base`: seconds since 1900 in the upper 32 bits, their fraction in the lower.
+pub fn ntp_of(ntp_base: u64, now: u64) -> u64 {
+    sys::jalwedd_ntp_of(ntp_base, now)
+}

@@ -1,0 +1,183 @@
+//! The declarations of include/jalwedd.h, in its order. What each is, and what a host has to keep, stands
+//! there.
+#![allow(non_camel_case_types, missing_docs)]
+
+use std::ffi::c_void;
+use std::ptr::null_mut;
+
+// ---- Statuses
+
+pub const JALWEDD_TAKEN: u32 = 0;
+pub const JALWEDD_LEFT: u32 = 1;
+pub const JALWEDD_BACKWARDS: u32 = 2;
+pub const JALWEDD_TOO_FAR: u32 = 3;
+pub const JALWEDD_TOO_MANY: u32 = 4;
+pub const JALWEDD_NO_COMPOUND: u32 = 5;
+pub const JALWEDD_NO_RTP: u32 = 6;
+pub const JALWEDD_OWN_SSRC: u32 = 7;
+pub const JALWEDD_NO_BLOCK: u32 = 8;
+pub const JALWEDD_CNAME: u32 = 11;
+pub const JALWEDD_CAPACITY: u32 = 12;
+pub const JALWEDD_LIMIT: u32 = 13;
+pub const JALWEDD_BANDWIDTH: u32 = 14;
+pub const JALWEDD_RATE: u32 = 15;
+pub const JALWEDD_ITEM: u32 = 16;
+pub const JALWEDD_IS_EMPTY: u32 = 20;
+pub const JALWEDD_IS_LIVE: u32 = 21;
+pub const JALWEDD_NO_MEMORY: u32 = 22;
+
+// ---- Values
+
+#[repr(C)]
+pub struct jalwedd_handle {
+    pub live: u32,
+    pub at: *mut c_void,
+}
+
+pub const JALWEDD_EMPTY: jalwedd_handle = jalwedd_handle { live: 0, at: null_mut() };
+
+#[repr(C)]
+#[derive(Clone, Copy)]
+pub struct jalwedd_config {
+    pub ntp_base: u64,
+    pub ssrc: u32,
+    pub capacity: u32,
+    pub limit: u32,
+    pub sender_bw: u32,
+    pub receiver_bw: u32,
+    pub rate: u32,
+}
+
+#[repr(C)]
+#[derive(Clone, Copy)]
+pub struct jalwedd_item {
+    pub kind: u8,
+    pub size: u8,
+    pub text: [u8; 255],
+}
+
+pub const JALWEDD_OCTETS: usize = 1472;
+
+pub const JALWEDD_NEVER: u64 = u64::MAX;
+
+pub const JALWEDD_NOTHING: u32 = 0;
+pub const JALWEDD_REPORT: u32 = 1;
+pub const JALWEDD_BYE: u32 = 2;
+
+#[repr(C)]
+#[derive(Clone, Copy, Default)]
+pub struct jalwedd_step {
+    pub next: u64,
+    pub members: u32,
+    pub senders: u32,
+    pub ssrc: u32,
+    pub changed: u32,
+    pub kind: u32,
+    pub size: u32,
+}
+
+#[repr(C)]
+#[derive(Clone, Copy, Default)]
+pub struct jalwedd_fault {
+    pub offset: u64,
+    pub reason: u32,
+}
+
+#[repr(C)]
+#[derive(Clone, Copy, Default)]
+pub struct jalwedd_report {
+    pub reporter: u32,
+    pub ssrc: u32,
+    pub fraction: u32,
+    pub lost: i32,
+    pub highest: u32,
+    pub jitter: u32,
+    pub lsr: u32,
+    pub dlsr: u32,
+}
+
+unsafe extern "C" {
+    // ---- A participant
+
+    pub fn jalwedd_new(
+        handle: *mut jalwedd_handle,
+        config: *const jalwedd_config,
+        cname: *const u8,
+        cname_size: usize,
+        items: *const jalwedd_item,
+        item_count: usize,
+        word: u32,
+        step: *mut jalwedd_step,
+    ) -> u32;
+
+    pub fn jalwedd_free(handle: *mut jalwedd_handle) -> u32;
+
+    pub fn jalwedd_arrive_rtcp(
+        handle: *mut jalwedd_handle,
+        now: u64,
+        peer: u64,
+        word: u32,
+        datagram: *const u8,
+        size: usize,
+        step: *mut jalwedd_step,
+        octets: *mut [u8; JALWEDD_OCTETS],
+    ) -> u32;
+
+    pub fn jalwedd_arrive_rtp(
+        handle: *mut jalwedd_handle,
+        now: u64,
+        peer: u64,
+        word: u32,
+        datagram: *const u8,
+        size: usize,
+        step: *mut jalwedd_step,
+        octets: *mut [u8; JALWEDD_OCTETS],
+    ) -> u32;
+
+    pub fn jalwedd_sent_rtp(
+        handle: *mut jalwedd_handle,
+        now: u64,
+        timestamp: u32,
+        payload: u32,
+        step: *mut jalwedd_step,
+        octets: *mut [u8; JALWEDD_OCTETS],
+    ) -> u32;
+
+    pub fn jalwedd_tick(
+        handle: *mut jalwedd_handle,
+        now: u64,
+        first_word: u32,
+        second_word: u32,
+        step: *mut jalwedd_step,
+        octets: *mut [u8; JALWEDD_OCTETS],
+    ) -> u32;
+
+    pub fn jalwedd_leave(
+        handle: *mut jalwedd_handle,
+        now: u64,
+        word: u32,
+        step: *mut jalwedd_step,
+        octets: *mut [u8; JALWEDD_OCTETS],
+    ) -> u32;
+
+    pub fn jalwedd_members(handle: *mut jalwedd_handle) -> u32;
+    pub fn jalwedd_senders(handle: *mut jalwedd_handle) -> u32;
+    pub fn jalwedd_next(handle: *mut jalwedd_handle) -> u64;
+    pub fn jalwedd_ssrc(handle: *mut jalwedd_handle) -> u32;
+
+    // ---- Datagrams
+
+    pub fn jalwedd_check(datagram: *const u8, size: usize, fault: *mut jalwedd_fault) -> u32;
+
+    pub fn jalwedd_about(
+        datagram: *const u8,
+        size: usize,
+        ssrc: u32,
+        index: u32,
+        report: *mut jalwedd_report,
+    ) -> u32;
+
+    // these two take numbers alone, so that any call of them is safe
+    pub safe fn jalwedd_round_trip(arrival: u32, lsr: u32, dlsr: u32) -> u32;
+    pub safe fn jalwedd_ntp_of(ntp_base: u64, now: u64) -> u64;
+}

@@ -1,0 +1,72 @@
+//! What datagrams say, and the formulas of times.
+
+use jalwedd::{Fault, FaultReason, Report, about, check, ntp_of, round_trip};
+use std::time::Duration;
+
+/// An RR of 7 with two blocks about a1.
+const TWO_BLOCKS: [u8; 56] = [
+    0x82, 0xc9, 0, 13, 0, 0, 0, 7, // two blocks, 14 words
+    0, 0, 0, 0xa1, 64, 0xff, 0xff, 0xfe, // a quarter was lost, and two more came than were expected
+    0, 1, 0, 2, 0, 0, 0, 3, 0, 1, 0, 0, 0, 0, 0x80, 0, // highest, jitter, LSR, DLSR
+    0, 0, 0, 0xa1, 0, 0, 0, 5, // five were lost
+    0, 0, 0, 9, 0, 0, 0, 8, 0, 0, 0, 0, 0, 0, 0, 0, // and no sender report came
+];
+
+fn fault(reason: FaultReason, offset: usize) -> Result<(), Fault> {
+    Err(Fault { offset, reason })
+}
+
+#[test]
+fn a_datagram_is_a_compound_or_has_a_first_fault() {
+    assert_eq!(check(&TWO_BLOCKS), Ok(()));
+    assert_eq!(check(&[]), fault(FaultReason::Short, 0));
+    assert_eq!(check(&[0x40, 0xc9, 0, 1, 0, 0, 0, 7]), fault(FaultReason::Version, 0));
+    assert_eq!(check(&[0x80, 0xcb, 0, 0]), fault(FaultReason::FirstType, 0));
+    assert_eq!(check(&[0xa0, 0xc9, 0, 1, 0, 0, 0, 7]), fault(FaultReason::FirstPadding, 0));
+    assert_eq!(check(&TWO_BLOCKS[..52]), fault(FaultReason::Length, 0));
+    // after an RR without blocks: padding of 0 octets, a BYE of two in one word, an item and a reason that
+    // run past the end
+    let after = |second: &[u8]| check(&[&[0x80, 0xc9, 0, 1, 0, 0, 0, 7], second].concat());
+    assert_eq!(after(&[0xa0, 0xcb, 0, 1, 0, 0, 0, 0]), fault(FaultReason::Padding, 8));
+    assert_eq!(after(&[0x82, 0xcb, 0, 1, 0, 0, 0, 7]), fault(FaultReason::Body, 8));
+    assert_eq!(after(&[0x81, 0xca, 0, 2, 0, 0, 0, 7, 1, 9, 0x61, 0]), fault(FaultReason::Item, 8));
+    assert_eq!(after(&[0x81, 0xcb, 0, 2, 0, 0, 0, 7, 4, 0x61, 0x61, 0x61]), fault(FaultReason::Reason, 8));
+    assert_eq!(check(&[0; 65_536]), fault(FaultReason::TooLong, 0));
+}
+
+#[test]
+fn a_fault_is_told_in_words() {
+    let fault = check(&TWO_BLOCKS[..3]).unwrap_err();
+    assert_eq!(fault.to_string(), "fewer than 4 octets are left for a header, in the packet at octet 0");
+}
+
+#[test]
+fn reports_about_a_source() {
+    let first = Report {
+        reporter: 7,
+        ssrc: 0xa1,
+        fraction: 64,
+        lost: -2,
+        highest: 65_538,
+        jitter: 3,
+        lsr: 65_536,
+        dlsr: 32_768,
+    };
+    let second = Report { fraction: 0, lost: 5, highest: 9, jitter: 8, lsr: 0, dlsr: 0, ..first };
+    assert_eq!(about(&TWO_BLOCKS, 0xa1).unwrap().collect::<Vec<_>>(), [first, second]);
+    assert_eq!(about(&TWO_BLOCKS, 0xa2).unwrap().next(), None);
+    assert_eq!(about(&[], 0xa1).unwrap_err().reason, FaultReason::Short);
+    // it came at 3 seconds: two after the sender report, of which the reporter had it for a half
+    assert_eq!(first.round_trip(3 << 32), Some(Duration::from_millis(1500)));
+    assert_eq!(second.round_trip(3 << 32), None);
+    // its clock says that it had the report for longer than it was away
+    assert_eq!(first.round_trip((1 << 32) + (1 << 30)), Some(Duration::ZERO));
+}
+
+#[test]
+fn times() {
+    assert_eq!(round_trip(0xb710_8000, 0xb705_2000, 0x0005_4000), 0x0006_2000);
+    assert_eq!(round_trip(0, 1, 1), 0xffff_fffe);
+    assert_eq!(ntp_of(5 << 32, 1_500_000), (6 << 32) + (1 << 31));
+    assert_eq!(ntp_of(0xffff_ffff_8000_0000, 500_000), 0);
+}

@@ -1,0 +1,31 @@
+//! The layouts of `sys` are those of the header's C types, worked out by hand for x86-64: a field begins at a
+//! multiple of its size, and a structure ends at one of its greatest field's.
+
+use jalwedd::sys::*;
+use std::mem::{align_of, offset_of, size_of};
+
+/// Tells whether a structure has this size and alignment, and its fields these offsets.
+macro_rules! assert_layout {
+    ($name:ident, $size:literal, $align:literal, $($field:ident: $offset:literal),*) => {
+        assert_eq!((size_of::<$name>(), align_of::<$name>()), ($size, $align), stringify!($name));
+        $(assert_eq!(offset_of!($name, $field), $offset, stringify!($name.$field));)*
+    };
+}
+
+#[test]
+fn structures() {
+    assert_layout!(jalwedd_handle, 16, 8, live: 0, at: 8);
+    assert_layout!(jalwedd_config, 32, 8, ntp_base: 0, ssrc: 8, capacity: 12, limit: 16, sender_bw: 20,
+        receiver_bw: 24, rate: 28);
+    assert_layout!(jalwedd_item, 257, 1, kind: 0, size: 1, text: 2);
+    assert_layout!(jalwedd_step, 32, 8, next: 0, members: 8, senders: 12, ssrc: 16, changed: 20, kind: 24,
+        size: 28);
+    assert_layout!(jalwedd_fault, 16, 8, offset: 0, reason: 8);
+    assert_layout!(jalwedd_report, 32, 4, reporter: 0, ssrc: 4, fraction: 8, lost: 12, highest: 16,
+        jitter: 20, lsr: 24, dlsr: 28);
+}
+
+#[test]
+fn items_are_passed_as_they_are() {
+    assert_eq!((size_of::<jalwedd::Item>(), align_of::<jalwedd::Item>()), (257, 1));
+}

@@ -1,0 +1,209 @@
+//! Sessions of a participant 000000aa with the CNAME `a`, and its answers: some of those that were worked by
+//! hand in compare/rows.py.
+
+use jalwedd::{Answer, Config, Item, ItemKind, Kind, NewError, Participant, Refusal, Step, sys};
+use std::thread;
+
+const CONFIG: Config = Config {
+    ntp_base: 0,
+    ssrc: 0xaa,
+    capacity: 1024,
+    limit: 1472,
+    sender_bw: 100,
+    receiver_bw: 300,
+    rate: 8000,
+};
+
+const FIRST: u64 = 1_026_037;
+const SECOND: u64 = 3_078_111;
+
+const REPORT: &str = "80c90001000000aa81ca0002000000aa01016100";
+const BYE: &str = "80c90001000000aa81ca0002000000aa0101610081cb0001000000aa";
+
+fn begun(items: &[Item]) -> Participant {
+    Participant::new(&CONFIG, b"a", items, 0).unwrap().0
+}
+
+fn step(next: Option<u64>, members: u32, senders: u32) -> Step {
+    Step { next, members, senders, ssrc: 0xaa, changed: false }
+}
+
+fn hex(octets: &[u8]) -> String {
+    octets.iter().map(|octet| format!("{octet:02x}")).collect()
+}
+
+/// What an answer hands out, in hex.
+fn out(answer: Result<Answer<'_>, Refusal>) -> Option<(Kind, String)> {
+    answer.unwrap().out.map(|out| (out.kind, hex(out.octets)))
+}
+
+fn report(text: &str) -> Option<(Kind, String)> {
+    Some((Kind::Report, text.to_string()))
+}
+
+fn bye(text: &str) -> Option<(Kind, String)> {
+    Some((Kind::Bye, text.to_string()))
+}
+
+/// An RR without blocks, and an SDES with the CNAME `a`, of each source from 1 on.
+fn named(last: u8) -> impl Iterator<Item = [u8; 20]> {
+    (1..=last).map(|ssrc| [0x80, 0xc9, 0, 1, 0, 0, 0, ssrc, 0x81, 0xca, 0, 2, 0, 0, 0, ssrc, 1, 1, 0x61, 0])
+}
+
+/// An RTP packet without payload.
+fn rtp(sequence: u8, ssrc: u8) -> [u8; 12] {
+    [0x80, 0, 0, sequence, 0, 0, 0, 0, 0, 0, 0, ssrc]
+}
+
+#[test]
+fn a_session_from_its_begin_to_its_bye() {
+    let (mut session, first) = Participant::new(&CONFIG, b"a", &[], 0).unwrap();
+    assert_eq!(first, step(Some(FIRST), 1, 0));
+    let answer = session.arrive_rtcp(0, 1, 0, &named(1).next().unwrap()).unwrap();
+    assert_eq!(answer, Answer { step: step(Some(FIRST), 2, 0), out: None });
+    assert_eq!(out(session.tick(FIRST - 1, 0, 0)), None);
+    assert_eq!(out(session.tick(FIRST, 0, 0)), report(REPORT));
+    assert_eq!(session.step(), step(Some(SECOND), 2, 0));
+    assert_eq!(
+        (session.next(), session.members(), session.senders(), session.ssrc()),
+        (Some(SECOND), 2, 0, 0xaa)
+    );
+    assert_eq!(out(session.leave(2_000_000, 0)), bye(BYE));
+    assert_eq!(session.step(), step(None, 0, 0));
+    assert_eq!(session.tick(SECOND, 0, 0), Err(Refusal::Left));
+    assert_eq!(session.next(), None);
+}
+
+#[test]
+fn media_of_the_others_and_of_its_own() {
+    let mut session = begun(&[]);
+    session.arrive_rtp(0, 1, 0, &rtp(10, 9)).unwrap();
+    let answer = session.arrive_rtp(0, 1, 0, &rtp(11, 9)).unwrap();
+    assert_eq!(answer, Answer { step: step(Some(FIRST), 2, 1), out: None });
+    let on_9 = "00000009000000000000000b000000000000000000000000";
+    let report_on_9 = format!("81c90007000000aa{on_9}81ca0002000000aa01016100");
+    assert_eq!(out(session.tick(FIRST, 0, 0)), report(&report_on_9));
+
+    // the session begins at 5 seconds of 1900
+    let (mut session, _) = Participant::new(&Config { ntp_base: 5 << 32, ..CONFIG }, b"a", &[], 0).unwrap();
+    assert_eq!(session.sent_rtp(0, 1000, 160).unwrap().step, step(Some(FIRST), 1, 1));
+    let of_sender = "80c80006000000aa0000000606aa5c5f000023f800000001000000a081ca0002000000aa01016100";
+    assert_eq!(out(session.tick(FIRST, 0, 0)), report(of_sender));
+}
+
+#[test]
+fn one_that_does_not_send_waits_by_the_bandwidth_of_the_others() {
+    let first = |sender_bw, receiver_bw| {
+        let config = Config { sender_bw, receiver_bw, ..CONFIG };
+        Participant::new(&config, b"a", &[], 0).unwrap().1.next
+    };
+    assert_eq!(first(48, 16), Some(1_231_245));
+    assert_eq!(first(16, 64), Some(FIRST));
+}
+
+#[test]
+fn an_item_is_in_every_third_report() {
+    let mut session = begun(&[Item::new(ItemKind::Tool, b"t").unwrap()]);
+    assert_eq!(out(session.tick(FIRST, 0, 0)), report(REPORT));
+    assert_eq!(out(session.tick(SECOND, 0, 0)), report(REPORT));
+    let with_tool = "80c90001000000aa81ca0003000000aa0101610601740000";
+    assert_eq!(out(session.tick(5_130_185, 0, 0)), report(with_tool));
+    assert!(Item::new(ItemKind::Priv, &[0; 255]).is_some() && Item::new(ItemKind::Priv, &[0; 256]).is_none());
+}
+
+#[test]
+fn a_refused_call_changes_nothing() {
+    let mut session = begun(&[]);
+    assert_eq!(out(session.tick(1 << 50, 0, 0)), report(REPORT));
+    let after = session.step();
+    assert_eq!(after, step(Some(1_125_899_908_894_698), 1, 0));
+    assert_eq!(session.tick((1 << 50) + 1, 0, 0), Err(Refusal::TooFar));
+    assert_eq!(session.tick(0, 0, 0), Err(Refusal::Backwards));
+    assert_eq!(session.arrive_rtcp(1 << 50, 1, 0, &[]), Err(Refusal::NoCompound));
+    assert_eq!(session.arrive_rtp(1 << 50, 1, 0, &[]), Err(Refusal::NoRtp));
+    assert_eq!(session.step(), after);
+}
+
+#[test]
+fn its_ssrc_changes_once_for_a_peer() {
+    let of_aa = [0x80, 0xc9, 0, 1, 0, 0, 0, 0xaa];
+    let of_bb = [0x80, 0xc9, 0, 1, 0, 0, 0, 0xbb];
+    let mut session = begun(&[]);
+    assert_eq!(out(session.tick(FIRST, 0, 0)), report(REPORT));
+    let answer = session.arrive_rtcp(2_000_000, 7, 0xbb, &of_aa).unwrap();
+    assert_eq!((answer.step.ssrc, answer.step.changed), (0xbb, true));
+    assert_eq!(out(Ok(answer)), bye(BYE));
+    assert_eq!(session.arrive_rtcp(2_000_000, 7, 0xcc, &of_bb), Err(Refusal::OwnSsrc));
+    assert_eq!((session.ssrc(), session.step().changed), (0xbb, false));
+}
+
+#[test]
+fn among_51_the_bye_waits_for_its_turn() {
+    let mut session = begun(&[]);
+    assert_eq!(out(session.tick(FIRST, 0, 0)), report(REPORT));
+    for datagram in named(50) {
+        session.arrive_rtcp(10_000_000, 1, 0, &datagram).unwrap();
+    }
+    assert_eq!(session.members(), 51);
+    assert_eq!(session.leave(10_000_000, 0).unwrap().step, step(Some(11_026_037), 1, 0));
+    assert_eq!(out(session.tick(11_026_037, 0, 0)), bye(BYE));
+    assert_eq!(session.next(), None);
+}
+
+#[test]
+fn a_configuration_may_be_refused() {
+    let name = Item::new(ItemKind::Name, b"n").unwrap();
+    let refused = |config: Config, cname: &[u8], items: &[Item]| {
+        Participant::new(&config, cname, items, 0).unwrap_err()
+    };
+    assert_eq!(refused(CONFIG, b"", &[]), NewError::Cname);
+    assert_eq!(refused(CONFIG, &[b'a'; 256], &[name; 8]), NewError::Cname);
+    assert_eq!(refused(CONFIG, &[b'a'; 255], &[name; 8]), NewError::Item);
+    assert_eq!(refused(Config { capacity: 1025, ..CONFIG }, b"a", &[]), NewError::Capacity);
+    assert_eq!(refused(Config { limit: 574, ..CONFIG }, b"a", &[]), NewError::Limit);
+    assert_eq!(refused(Config { receiver_bw: 15, ..CONFIG }, b"a", &[]), NewError::Bandwidth);
+    assert_eq!(refused(Config { rate: 0, ..CONFIG }, b"a", &[]), NewError::Rate);
+    assert_eq!(NewError::Rate.to_string(), "the rate is none of 1 to 2^20 units a second");
+}
+
+#[test]
+fn a_participant_may_go_to_another_thread() {
+    let (mut first, mut second) = (begun(&[]), begun(&[]));
+    let there = thread::spawn(move || {
+        assert_eq!(out(first.tick(FIRST, 0, 0)), report(REPORT));
+        first
+    });
+    assert_eq!(out(second.tick(FIRST, 0, 0)), report(REPORT));
+    let mut first = there.join().unwrap();
+    std::mem::swap(&mut first, &mut second);
+    drop(first);
+    assert_eq!(out(second.leave(FIRST, 0)), bye(BYE));
+}
+
+#[test]
+fn the_library_says_what_the_step_does() {
+    let (mut handle, mut step) = (sys::JALWEDD_EMPTY, sys::jalwedd_step::default());
+    let config = sys::jalwedd_config {
+        ntp_base: 0,
+        ssrc: 0xaa,
+        capacity: 1,
+        limit: 576,
+        sender_bw: 100,
+        receiver_bw: 300,
+        rate: 8000,
+    };
+    let no_item = sys::jalwedd_item { kind: 0, size: 0, text: [0; 255] };
+    // SAFETY: all pointers are of local variables, and the handle is freed before it goes away
+    unsafe {
+        let new = sys::jalwedd_new(&mut handle, &config, b"a".as_ptr(), 1, &no_item, 0, 0, &mut step);
+        assert_eq!((new, step.next), (sys::JALWEDD_TAKEN, FIRST));
+        assert_eq!(sys::jalwedd_next(&mut handle), FIRST);
+        assert_eq!((sys::jalwedd_members(&mut handle), sys::jalwedd_senders(&mut handle)), (1, 0));
+        assert_eq!(sys::jalwedd_ssrc(&mut handle), 0xaa);
+        let again = sys::jalwedd_new(&mut handle, &config, b"a".as_ptr(), 1, &no_item, 0, 0, &mut step);
+        assert_eq!(again, sys::JALWEDD_IS_LIVE);
+        assert_eq!(sys::jalwedd_free(&mut handle), sys::JALWEDD_TAKEN);
+        assert_eq!(sys::jalwedd_free(&mut handle), sys::JALWEDD_IS_EMPTY);
+        assert_eq!(sys::jalwedd_next(&mut handle), sys::JALWEDD_NEVER);
+    }
+}
