@@ -1,0 +1,78 @@
+//! The two UDP sockets: what comes, by a thread for each, and what is sent.
+
+use jalwedd::{Answer, Refusal};
+use std::io;
+use std::net::{Ipv4Addr, SocketAddr, SocketAddrV4, UdpSocket};
+use std::sync::mpsc::{Receiver, SyncSender, sync_channel};
+use std::thread;
+use std::time::Duration;
+
+const MOST_OCTETS: usize = 65_535;
+
+/// How many datagrams are kept before the session has taken them: any more stay with the sockets.
+const KEPT: usize = 64;
+
+#[derive(Clone, Copy, PartialEq, Eq)]
+pub enum Port {
+    Rtp,
+    Rtcp,
+}
+
+/// A datagram that came.
+pub struct Arrival {
+    pub at: Port,
+    /// A number for where it came from, another one for each address and port.
+    pub peer: u64,
+    pub datagram: Vec<u8>,
+}
+
+pub struct Link {
+    rtp: UdpSocket,
+    rtcp: UdpSocket,
+    to_rtp: SocketAddrV4,
+    to_rtcp: SocketAddrV4,
+    arrivals: Receiver<Arrival>,
+}
+
+impl Link {
+    /// On 127.0.0.1, with RTCP at the ports one above.
+    pub fn open(port: u16, peer_port: u16) -> io::Result<Link> {
+        let local = |port| SocketAddrV4::new(Ipv4Addr::LOCALHOST, port);
+        let (rtp, rtcp) = (UdpSocket::bind(local(port))?, UdpSocket::bind(local(port + 1))?);
+        let (to_session, arrivals) = sync_channel(KEPT);
+        for (socket, at) in [(&rtp, Port::Rtp), (&rtcp, Port::Rtcp)] {
+            let (socket, to_session) = (socket.try_clone()?, to_session.clone());
+            thread::spawn(move || read(&socket, at, &to_session));
+        }
+        Ok(Link { rtp, rtcp, to_rtp: local(peer_port), to_rtcp: local(peer_port + 1), arrivals })
+    }
+
+    /// The next datagram, if one comes within the time.
+    pub fn wait(&self, time: Duration) -> Option<Arrival> {
+        self.arrivals.recv_timeout(time).ok()
+    }
+
+    /// Sends an RTP packet. One that cannot be sent is lost, as others are on their way.
+    pub fn send_packet(&self, packet: &[u8]) {
+        let _ = self.rtp.send_to(packet, self.to_rtp);
+    }
+
+    /// Sends what a call handed out, if anything. A refused call changed nothing, and hands out nothing.
+    pub fn send_out(&self, answer: Result<Answer<'_>, Refusal>) {
+        if let Ok(Answer { out: Some(out), .. }) = answer {
+            let _ = self.rtcp.send_to(out.octets, self.to_rtcp);
+        }
+    }
+}
+
+/// Hands on what comes at a socket, as long as there is a session.
+fn read(socket: &UdpSocket, at: Port, to_session: &SyncSender<Arrival>) {
+    let mut room = [0; MOST_OCTETS];
+    loop {
+        let Ok((size, SocketAddr::V4(from))) = socket.recv_from(&mut room) else { continue };
+        let peer = (u64::from(from.ip().to_bits()) << 16) | u64::from(from.port());
+        if to_session.send(Arrival { at, peer, datagram: room[..size].to_vec() }).is_err() {
+            return;
+        }
+    }
+}

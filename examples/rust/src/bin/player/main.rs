@@ -1,0 +1,138 @@
+//! A player that sends a stream of silence and takes part in its RTP session: two UDP sockets, a thread that
+//! reads each, and the participant. It prints what others report of its stream, and leaves with a BYE at
+//! ctrl-C. It is the sibling of examples/player.c.
+//!
+//!     player SEED RTP-PORT PEER-RTP-PORT      on 127.0.0.1, with RTCP at the ports one above
+#![deny(unsafe_code)]
+
+mod host;
+#[allow(unsafe_code)]
+mod interrupt;
+mod link;
+
+use host::{Clock, Words, ntp_now};
+use jalwedd::{Config, Item, ItemKind, Participant, about, ntp_of};
+use link::{Arrival, Link, Port};
+use std::env;
+use std::error::Error;
+use std::time::Duration;
+
+/// The octets of a packet's payload, and its units of the RTP clock.
+const PACKET: usize = 160;
+
+/// The microseconds from packet to packet.
+const PACKET_TIME: u64 = 20_000;
+
+struct Player {
+    session: Participant,
+    config: Config,
+    link: Link,
+    clock: Clock,
+    words: Words,
+    /// The moment of the next packet, until it leaves.
+    next_packet: Option<u64>,
+    sequence: u16,
+    timestamp: u32,
+}
+
+fn main() -> Result<(), Box<dyn Error>> {
+    let given: Vec<String> = env::args().skip(1).collect();
+    let [seed, port, peer_port] = &given[..] else {
+        return Err("usage: player SEED RTP-PORT PEER-RTP-PORT".into());
+    };
+    let mut player = begin(Words(seed.parse()?), Link::open(port.parse()?, peer_port.parse()?)?)?;
+    interrupt::catch();
+    player.play();
+    Ok(())
+}
+
+fn begin(mut words: Words, link: Link) -> Result<Player, Box<dyn Error>> {
+    // of a session of 64,000 bits a second 5 per cent are for RTCP, and a quarter of that for senders
+    let config = Config {
+        ntp_base: ntp_now(),
+        ssrc: words.draw(),
+        capacity: 1024,
+        limit: 1472,
+        sender_bw: 100,
+        receiver_bw: 300,
+        rate: 8000,
+    };
+    let clock = Clock::begin();
+    let tool = Item::new(ItemKind::Tool, b"jalwedd").ok_or("the item is too long")?;
+    let (session, _) = Participant::new(&config, b"player@example.com", &[tool], words.draw())?;
+    Ok(Player { session, config, link, clock, words, next_packet: Some(0), sequence: 0, timestamp: 0 })
+}
+
+impl Player {
+    /// Sends and takes part until an interrupt, and leaves.
+    fn play(&mut self) {
+        while !interrupt::came() && self.session.next().is_some() {
+            self.turn();
+        }
+        self.next_packet = None;
+        self.link.send_out(self.session.leave(self.clock.now(), self.words.draw()));
+        while self.session.next().is_some() {
+            self.turn();
+        }
+    }
+
+    /// One turn: waits for a datagram until something is to be done.
+    fn turn(&mut self) {
+        let until = self.session.next().into_iter().chain(self.next_packet).min().unwrap_or(0);
+        let came = self.link.wait(Duration::from_micros(until.saturating_sub(self.clock.now())));
+        let now = self.clock.now();
+        if let Some(arrival) = came {
+            self.receive(now, &arrival);
+        }
+        if self.session.next().is_some_and(|next| next <= now) {
+            self.link.send_out(self.session.tick(now, self.words.draw(), self.words.draw()));
+        }
+        if self.next_packet.is_some_and(|next| next <= now) {
+            self.send_packet(now);
+        }
+    }
+
+    fn receive(&mut self, now: u64, arrival: &Arrival) {
+        let (peer, word, datagram) = (arrival.peer, self.words.draw(), &arrival.datagram);
+        match arrival.at {
+            Port::Rtp => self.link.send_out(self.session.arrive_rtp(now, peer, word, datagram)),
+            Port::Rtcp => {
+                self.link.send_out(self.session.arrive_rtcp(now, peer, word, datagram));
+                self.print_reports(now, datagram);
+            }
+        }
+    }
+
+    /// Prints what a datagram says of the stream.
+    fn print_reports(&self, now: u64, datagram: &[u8]) {
+        for report in about(datagram, self.session.ssrc()).into_iter().flatten() {
+            print!(
+                "{:.1} s: {:08x} of {} members reports loss {:.1} %, {} packets in all, jitter {:.1} ms",
+                now as f64 / 1e6,
+                report.reporter,
+                self.session.members(),
+                f64::from(report.fraction) / 2.56,
+                report.lost,
+                f64::from(report.jitter) * 1e3 / f64::from(self.config.rate)
+            );
+            if let Some(trip) = report.round_trip(ntp_of(self.config.ntp_base, now)) {
+                print!(", round trip {:.2} ms", trip.as_secs_f64() * 1e3);
+            }
+            println!();
+        }
+    }
+
+    /// Sends a packet of mu-law silence, under the SSRC that the participant has now.
+    fn send_packet(&mut self, now: u64) {
+        let mut packet = [0xff; 12 + PACKET];
+        packet[..2].copy_from_slice(&[0x80, 0]);
+        packet[2..4].copy_from_slice(&self.sequence.to_be_bytes());
+        packet[4..8].copy_from_slice(&self.timestamp.to_be_bytes());
+        packet[8..12].copy_from_slice(&self.session.ssrc().to_be_bytes());
+        self.link.send_packet(&packet);
+        self.link.send_out(self.session.sent_rtp(now, self.timestamp, PACKET as u32));
+        self.sequence = self.sequence.wrapping_add(1);
+        self.timestamp = self.timestamp.wrapping_add(PACKET as u32);
+        self.next_packet = self.next_packet.map(|moment| moment + PACKET_TIME);
+    }
+}
