@@ -30,11 +30,10 @@ pub const JALWEDD_NO_MEMORY: u32 = 22;
 
 #[repr(C)]
 pub struct jalwedd_handle {
-    pub live: u32,
     pub at: *mut c_void,
 }
 
-pub const JALWEDD_EMPTY: jalwedd_handle = jalwedd_handle { live: 0, at: null_mut() };
+pub const JALWEDD_EMPTY: jalwedd_handle = jalwedd_handle { at: null_mut() };
 
 #[repr(C)]
 #[derive(Clone, Copy)]

@@ -14,7 +14,7 @@ macro_rules! assert_layout {
 
 #[test]
 fn structures() {
-    assert_layout!(jalwedd_handle, 16, 8, live: 0, at: 8);
+    assert_layout!(jalwedd_handle, 8, 8, at: 0);
     assert_layout!(jalwedd_config, 32, 8, ntp_base: 0, ssrc: 8, capacity: 12, limit: 16, sender_bw: 20,
         receiver_bw: 24, rate: 28);
     assert_layout!(jalwedd_item, 257, 1, kind: 0, size: 1, text: 2);
