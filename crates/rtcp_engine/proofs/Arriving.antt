@@ -8,7 +8,7 @@ use Rattle.rtcp_engine.specs.declared.refusal.Refusal.TheVariants.{OwnSsrc}
 use Rattle.rtcp_engine.specs.Acts.{Act, renamed, moment_of}
 use Rattle.rtcp_engine.specs.Identities.{may_change, setup_now}
 use Rattle.rtcp_engine.specs.Histories.{History}
-use Rattle.rtcp_engine.specs.Leaving.{backing_off, after_farewell}
+use Rattle.rtcp_engine.specs.Leaving.{backing_off, after_farewell, leaving_count}
 use Rattle.rtcp_engine.specs.Lives.{life_at}
 use Rattle.rtcp_engine.specs.Presence.{refusal_if, refusal_of, refusal_of_datagram, with_act}
 use Rattle.rtcp_engine.specs.Changes.{change_by, named_by, names_own, new_identifier}
@@ -16,7 +16,7 @@ use Rattle.rtcp_engine.specs.Steps.{OutValue, StepValue, answer_unless}
 use Rattle.rtcp_engine.specs.Answers.{answer_of, followed_by, out_at, refusal_after, step_by, step_with}
 use Rattle.rtcp_engine.specs.Taken.{HasWords, WasTaken}
 use Rattle.rtcp_engine.specs.States.{PhaseValue, taking_part, leaving, over, ParticipantValue, StandsAt}
-use Rattle.rtcp_engine.specs.Moves.{call_refusal, members_with, refusal_by, refusal_in_phase, waiting_step_in, with_farewell_in}
+use Rattle.rtcp_engine.specs.Moves.{call_refusal, refusal_by, refusal_in_phase, step_in_phase, step_of, waiting_step_in, with_farewell_in}
 use Rattle.rtcp_engine.specs.Views.{act_of}
 use Rattle.rtcp_engine.proofs.Calls.{moment_is}
 use Rattle.rtcp_engine.proofs.Following.{Brings, change_is_taken, compound_brings, media_brings, taken_again}
@@ -148,31 +148,37 @@ changed_history h act t peer ssrc changes =
 
 -- ---- Datagrams in a backoff
 
--- one that backs off and was told of a datagram, with those who leave then
-abbrev pub HeardAs : Arrival → (members new t : ℕ) (p q : ParticipantValue) → Type 0
-HeardAs (Rtcp compound size) members new t p q = (q ≡ with_farewell_in compound size members (called t p)) × (new ≡ members_with compound members)
-HeardAs (Rtp head) members new t p q = (q ≡ called t p) × (new ≡ members)
+-- one that backs off and was told of a datagram
+abbrev pub HeardAs : Arrival → (members t : ℕ) (p q : ParticipantValue) → Type 0
+HeardAs (Rtcp compound size) members t p q = q ≡ with_farewell_in compound size members (called t p)
+HeardAs (Rtp head) members t p q = q ≡ called t p
 
-pub heard_stands : (arrival : Arrival) (p q : ParticipantValue) (h : History) (members new t peer word : ℕ) → StandsAt p h → p.phase ≡ leaving members → HeardAs arrival members new t p q → WasTaken h.setup h.word h.acts (act_of t peer word arrival)
+pub heard_stands : (arrival : Arrival) (p q : ParticipantValue) (h : History) (members t peer word : ℕ) → StandsAt p h → p.phase ≡ leaving members → HeardAs arrival members t p q → WasTaken h.setup h.word h.acts (act_of t peer word arrival)
     → HasWords (act_of t peer word arrival) → StandsAt q (with_act h (act_of t peer word arrival))
-heard_stands (Rtcp compound size) p q h members new t peer word stands phase heard was words =
+heard_stands (Rtcp compound size) p q h members t peer word stands phase heard was words =
     let b = backing_off_at p h members stands phase in
-    let hear = hears p q h members t size compound b phase heard.0 in
+    let hear = hears p q h members t size compound b phase heard in
     call_stands p q h (act_of t peer word (Rtcp compound size)) (backing_off b.outcome b.backoff) _ stands b.life refl was words (is_call (act_of t peer word (Rtcp compound size)) refl) hear.counts hear.changes hear.at
-heard_stands (Rtp head) p q h members new t peer word stands phase heard was words =
+heard_stands (Rtp head) p q h members t peer word stands phase heard was words =
     let b = backing_off_at p h members stands phase in
-    let same = ap (λ (x : ParticipantValue). x.presence) heard.0 in
+    let same = ap (λ (x : ParticipantValue). x.presence) heard in
     call_stands p q h (act_of t peer word (Rtp head)) (backing_off b.outcome b.backoff) _ stands b.life refl was words (is_call (act_of t peer word (Rtp head)) refl) (counted_call p.presence q.presence t same)
-    (ap (λ (x : ParticipantValue). x.changes) heard.0) (still_backing_off p q h members t b (ap (λ (x : ParticipantValue). x.phase) heard.0 ∙ phase) same)
+    (ap (λ (x : ParticipantValue). x.changes) heard) (still_backing_off p q h members t b (ap (λ (x : ParticipantValue). x.phase) heard ∙ phase) same)
 
-pub heard_step : (arrival : Arrival) (p q : ParticipantValue) (h : History) (members new t peer word : ℕ) → StandsAt p h → p.phase ≡ leaving members → HeardAs arrival members new t p q
-    → waiting_step_in new q.presence ≡ step_with None None h (act_of t peer word arrival)
-heard_step (Rtcp compound size) p q h members new t peer word stands phase heard =
+waiting_is : (q : ParticipantValue) (members : ℕ) → q.phase ≡ leaving members → step_of q ≡ waiting_step_in members q.presence
+waiting_is q members phase = ap (step_in_phase q.presence) phase
+
+pub heard_step : (arrival : Arrival) (p q : ParticipantValue) (h : History) (members t peer word : ℕ) → StandsAt p h → p.phase ≡ leaving members → HeardAs arrival members t p q
+    → step_of q ≡ step_with None None h (act_of t peer word arrival)
+heard_step (Rtcp compound size) p q h members t peer word stands phase heard =
     let b = backing_off_at p h members stands phase in
-    let hear = hears p q h members t size compound b phase heard.0 in
-    waiting_step_agrees q.presence h.setup new b.outcome (after_farewell size compound b.backoff) (heard.1 ∙ hear.count) hear.at.1
+    let at = (hears p q h members t size compound b phase heard).at in
+    let next = after_farewell size compound b.backoff in
+    waiting_is q (leaving_count next) at.0
+    ∙ waiting_step_agrees q.presence h.setup (leaving_count next) b.outcome next refl at.1
     ∙ call_step h (act_of t peer word (Rtcp compound size)) (backing_off b.outcome b.backoff) _ None b.life refl refl
-heard_step (Rtp head) p q h members new t peer word stands phase heard =
+heard_step (Rtp head) p q h members t peer word stands phase heard =
     let b = backing_off_at p h members stands phase in
-    waiting_step_agrees q.presence h.setup new b.outcome b.backoff (heard.1 ∙ b.members_are) (ap (λ (x : ParticipantValue). x.presence.timing) heard.0 ∙ b.timing)
+    waiting_is q members (ap (λ (x : ParticipantValue). x.phase) heard ∙ phase)
+    ∙ waiting_step_agrees q.presence h.setup members b.outcome b.backoff b.members_are (ap (λ (x : ParticipantValue). x.presence.timing) heard ∙ b.timing)
     ∙ call_step h (act_of t peer word (Rtp head)) (backing_off b.outcome b.backoff) (backing_off b.outcome b.backoff) None b.life refl refl

@@ -26,7 +26,7 @@ use Rattle.rtcp_engine.specs.Answers.{refusal_in, refusal_after, answer_of, foll
 use Rattle.rtcp_engine.specs.Sent.{is_change}
 use Rattle.rtcp_engine.specs.Taken.{HasWords, WasTaken}
 use Rattle.rtcp_engine.specs.States.{State, Agrees, StandsStill, IsPresentAt, PhaseValue, taking_part, leaving, over, ParticipantValue, HasChanged, IsAt, StandsAt}
-use Rattle.rtcp_engine.specs.Moves.{call_refusal, with_call, is_unheard_in, backed_off, waiting_step_in, last_step_with, members_with, with_farewell_of, with_farewell_in, backoff_load, backoff_interval, has_waited, waited}
+use Rattle.rtcp_engine.specs.Moves.{call_refusal, with_call, is_unheard_in, backed_off, waiting_step_in, last_step_with, with_farewell_of, with_farewell_in, backoff_load, backoff_interval, has_waited, waited}
 use Rattle.rtcp_engine.proofs.Standing.{Numbers, refused_call, admitted_call, IsThere, refusal_there, whole_refused, IsTaken, IsCall, is_call, same_changes, Counts, counted_call, call_stands, step_into, call_step, plain_answer, plain_history}
 
 -- ---- Phases
@@ -385,10 +385,6 @@ heard_by true p q h members t size n b phase same =
 heard_by false p q h members t size n b phase same =
     farewell_is_at p q h members (min 65535 (members + min 65535 n)) t size n b (ap (λ (x : ParticipantValue). x.phase) same) (leaving_counts size n members _ b.backoff b.members_are refl) (ap (λ (x : ParticipantValue). x.presence) same)
 
-counts_by : (none : Bool) (size n members : ℕ) (b : Backoff) → members ≡ leaving_count b → (if none then members else min 65535 (members + min 65535 n)) ≡ leaving_count (farewelled none size n b)
-counts_by true size n members b count = count
-counts_by false size n members b count = leaving_counts size n members _ b count refl
-
 tells_by : (none : Bool) (p q : ParticipantValue) (members t size n : ℕ) → q ≡ told_farewell none size n members (called t p) → (q.changes ≡ p.changes) × Counts p.presence q.presence t
 tells_by true p q members t size n same = (ap (λ (x : ParticipantValue). x.changes) same, counted_call p.presence q.presence t (ap (λ (x : ParticipantValue). x.presence) same))
 tells_by false p q members t size n same = (
@@ -403,7 +399,6 @@ tells_by false p q members t size n same = (
 -- one that backs off and was told of a compound
 pub record Hears (p q : ParticipantValue) (h : History) (members t size : ℕ) (packets : List RtcpPacket) (b : BacksOff p h members) : Type 0 where
   pub at : IsAt q (backing_off b.outcome (Rattle.rtcp_engine.specs.Leaving.after_farewell size packets b.backoff))
-  pub count : members_with packets members ≡ leaving_count (Rattle.rtcp_engine.specs.Leaving.after_farewell size packets b.backoff)
   pub changes : q.changes ≡ p.changes
   pub counts : Counts p.presence q.presence t
 
@@ -413,7 +408,6 @@ hears p q h members t size packets b phase same =
     let n = bye_count packets in
     record {
       at = heard_by none p q h members t size n b phase same;
-      count = counts_by none size n members b.backoff b.members_are;
       changes = (tells_by none p q members t size n same).0;
       counts = (tells_by none p q members t size n same).1;
     }

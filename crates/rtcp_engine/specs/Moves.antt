@@ -289,3 +289,12 @@ refusal_in_phase moment state over = Some Left
 -- why a call at a moment is refused, whatever it tells
 abbrev pub refusal_by : (moment : ℕ) → ParticipantValue → Option Refusal
 refusal_by moment participant = refusal_in_phase moment participant.presence participant.phase
+
+abbrev pub step_in_phase : State → PhaseValue → StepValue
+step_in_phase state taking_part = step_in state None
+step_in_phase state (leaving members) = waiting_step_in members state
+step_in_phase state over = last_step_with None
+
+-- what is answered to a call that hands out nothing
+abbrev pub step_of : ParticipantValue → StepValue
+step_of participant = step_in_phase participant.presence participant.phase

@@ -24,11 +24,9 @@ pub struct Out {
 }
 
 /// What a call that was taken answers.
+// The compound is last: then a refusal lies over none of its octets, and an answer without one is made without them.
 #[derive(Debug, Drop)]
 pub struct Step {
-    /// A compound to send now, if there is one. A datagram brings one where it changes the identifier
-    /// (`changed`): the BYE of the old one.
-    pub out: Option<Out>,
     /// The members of the session, the participant included (RFC 3550, 6.2.1). In a backoff it and one for each
     /// BYE packet that came, at most 65,535 (6.3.7); 0 once it has left.
     pub members: u32,
@@ -39,6 +37,9 @@ pub struct Step {
     pub next: Option<u64>,
     /// The participant's new SSRC, where the call changed it (RFC 3550, 8.2).
     pub changed: Option<u32>,
+    /// A compound to send now, if there is one. A datagram brings one where it changes the identifier
+    /// (`changed`): the BYE of the old one.
+    pub out: Option<Out>,
 }
 
 /// A step, or why the call was refused.

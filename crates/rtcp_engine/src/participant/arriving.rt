@@ -1,12 +1,12 @@
 //! What a participant does with a datagram that it takes: it may change its identifier first (RFC 3550, 8.2).
 
-ghost use Rattle.std.specs.Prelude.{◌≡◌, ◌≤◌, ◌<◌, ◌-◌, ◌^◌, ℕ, None, length, option_map, OnErr};
+ghost use Rattle.std.specs.Prelude.{◌≡◌, ◌≤◌, ◌<◌, ◌-◌, ◌^◌, ℕ, None, length, option_map, true, OnErr};
 ghost use Rattle.rtcp_engine.specs.Acts.{renamed};
 ghost use Rattle.rtcp_engine.specs.Answers.{answer_of, followed_by, out_at, step_with};
-ghost use Rattle.rtcp_engine.specs.Changes.{is_taken as is_taken_of, new_identifier};
+ghost use Rattle.rtcp_engine.specs.Changes.{is_taken as is_taken_of, names_own, new_identifier};
 ghost use Rattle.rtcp_engine.specs.Histories.{History};
 ghost use Rattle.rtcp_engine.specs.Identities.{identifiers, is_among};
-ghost use Rattle.rtcp_engine.specs.Moves.{refusal_by};
+ghost use Rattle.rtcp_engine.specs.Moves.{refusal_by, step_of};
 ghost use Rattle.rtcp_engine.specs.Presence.{with_act};
 ghost use Rattle.rtcp_engine.specs.States.{KeepsCapacity, StandsAt, over};
 ghost use Rattle.rtcp_engine.specs.Taken.{HasWords, WasTaken};
@@ -39,6 +39,9 @@ impl<T: MemberTable> Participant<T> {
     }
 
     /// Takes a datagram, after a change of identifier if it brings one, or refuses it for its SSRC.
+    // Inlined, and a change kept out of line, so that any other answer is made where it goes: it has room for a
+    // compound, which else is cleared and copied in each call on its way.
+    #[inline(always)]
     pub(super) fn arrive(&mut self, now: u64, peer: u64, w: u32, arrival: &Arrival<'_>) -> Answer
         requires admitted { refusal_by now self.old ≡ None }
         requires order { self.old.presence.last ≤ now }
@@ -53,15 +56,37 @@ impl<T: MemberTable> Participant<T> {
         ensures within { KeepsCapacity self.new.presence }
         ensures refused { OnErr result (self.new ≡ self.old) }
     {
-        if !arrival.is_of(self.presence.ssrc()) {
-            return Ok(self.take(now, arrival));
+        if arrival.is_of(self.presence.ssrc()) {
+            return self.arrive_as_own(now, peer, w, arrival);
         }
+        self.take(now, arrival);
+        Ok(self.step())
+    }
+
+    /// Takes a datagram that names the participant's SSRC, after a change of that, or refuses it.
+    #[cold]
+    fn arrive_as_own(&mut self, now: u64, peer: u64, w: u32, arrival: &Arrival<'_>) -> Answer
+        requires own { names_own self.old.presence.setup.ssrc (act_of now peer w arrival.now) ≡ true }
+        requires admitted { refusal_by now self.old ≡ None }
+        requires order { self.old.presence.last ≤ now }
+        requires moment { now ≤ 2 ^ 50 }
+        requires calls { self.old.presence.calls < 2 ^ 40 - 1 }
+        requires size { size_of arrival.now ≤ 65535 }
+        requires few { NamesFewer arrival.now }
+        ensures answer { (history : History) → StandsAt self.old history →
+            answer_value result ≡ answer_of history (act_of now peer w arrival.now) }
+        ensures stands { (history : History) → StandsAt self.old history →
+            StandsAt self.new (followed_by history (act_of now peer w arrival.now)) }
+        ensures within { KeepsCapacity self.new.presence }
+        ensures refused { OnErr result (self.new ≡ self.old) }
+    {
         if !self.changes.allows(peer) {
             return Err(Refusal::OwnSsrc);
         }
         let ssrc = self.free_ssrc(w, arrival);
         let out = self.change(now, peer, ssrc);
-        let mut step = self.take(now, arrival);
+        self.take(now, arrival);
+        let mut step = self.step();
         step.out = out;
         step.changed = Some(ssrc);
         Ok(step)
@@ -123,7 +148,7 @@ impl<T: MemberTable> Participant<T> {
     }
 
     /// Takes a datagram under the present SSRC: nothing of it counts in a backoff but BYE packets.
-    fn take(&mut self, now: u64, arrival: &Arrival<'_>) -> Step
+    fn take(&mut self, now: u64, arrival: &Arrival<'_>)
         requires order { self.old.presence.last ≤ now }
         requires moment { now ≤ 2 ^ 50 }
         requires calls { self.old.presence.calls < 2 ^ 40 - 1 }
@@ -132,7 +157,7 @@ impl<T: MemberTable> Participant<T> {
         ensures step { (history : History) (peer word : ℕ) → StandsAt self.old history →
             let act = act_of now peer word arrival.now in
             WasTaken history.setup history.word history.acts act → HasWords act →
-            step_value result ≡ step_with None None history act }
+            step_of self.new ≡ step_with None None history act }
         ensures stands { (history : History) (peer word : ℕ) → StandsAt self.old history →
             let act = act_of now peer word arrival.now in
             WasTaken history.setup history.word history.acts act → HasWords act →
@@ -140,12 +165,34 @@ impl<T: MemberTable> Participant<T> {
         ensures within { KeepsCapacity self.new.presence }
     {
         match self.phase {
-            Phase::Present => {
-                self.presence.take(now, arrival);
-                self.presence.step(None)
-            }
+            Phase::Present => self.presence.take(now, arrival),
             Phase::BackingOff(members) => self.hear(now, arrival, members),
-            Phase::Gone => last_step(None),
+            Phase::Gone => {}
+        }
+    }
+
+    /// The answer of a call that was taken, and hands out nothing.
+    fn step(&self) -> Step
+        ensures { step_value result ≡ step_of self.now }
+    {
+        let (members, senders, next) = match self.phase {
+            Phase::Present => {
+                let presence = &self.presence;
+                (
+                    presence.member_count(),
+                    presence.sender_count(),
+                    Some(presence.next_moment()),
+                )
+            }
+            Phase::BackingOff(members) => (members, 0, Some(self.presence.next_moment())),
+            Phase::Gone => (0, 0, None),
+        };
+        Step {
+            out: None,
+            members,
+            senders,
+            next,
+            changed: None,
         }
     }
 }

@@ -6,7 +6,7 @@ ghost use Rattle.rtcp_engine.specs.Answers.{answer_of, followed_by, step_with};
 ghost use Rattle.rtcp_engine.specs.Histories.{History};
 ghost use Rattle.rtcp_engine.specs.Reporting.{bye_octets};
 ghost use Rattle.rtcp_engine.specs.Lives.{bye_out, PassesBy};
-ghost use Rattle.rtcp_engine.specs.Moves.{last_step_with, members_with, waiting_step_in, with_farewell_in};
+ghost use Rattle.rtcp_engine.specs.Moves.{last_step_with, step_of, waiting_step_in, with_farewell_in};
 ghost use Rattle.rtcp_engine.specs.Presence.{with_act};
 ghost use Rattle.rtcp_engine.specs.States.{KeepsCapacity, StandsAt, taking_part, leaving};
 ghost use Rattle.rtcp_engine.specs.Taken.{HasWords, WasTaken};
@@ -48,7 +48,7 @@ impl<T: MemberTable> Participant<T> {
     }
 
     /// Takes a datagram: the BYE packets of a compound count, and nothing else.
-    pub(super) fn hear(&mut self, now: u64, arrival: &Arrival<'_>, members: u32) -> Step
+    pub(super) fn hear(&mut self, now: u64, arrival: &Arrival<'_>, members: u32)
         requires phase { self.old.phase ≡ leaving members }
         requires order { self.old.presence.last ≤ now }
         requires moment { now ≤ 2 ^ 50 }
@@ -57,7 +57,7 @@ impl<T: MemberTable> Participant<T> {
         ensures step { (history : History) (peer word : ℕ) → StandsAt self.old history →
             let act = act_of now peer word arrival.now in
             WasTaken history.setup history.word history.acts act → HasWords act →
-            step_value result ≡ step_with None None history act }
+            step_of self.new ≡ step_with None None history act }
         ensures stands { (history : History) (peer word : ℕ) → StandsAt self.old history →
             let act = act_of now peer word arrival.now in
             WasTaken history.setup history.word history.acts act → HasWords act →
@@ -65,28 +65,23 @@ impl<T: MemberTable> Participant<T> {
         ensures within { KeepsCapacity self.new.presence }
     {
         self.presence.take_call(now);
-        let members = match arrival {
-            Arrival::Rtcp(compound, size) => self.count_farewell(compound, *size, members),
-            Arrival::Rtp(_) => members,
-        };
-        self.waiting_step(members)
+        if let Arrival::Rtcp(compound, size) = arrival {
+            self.count_farewell(compound, *size, members);
+        }
     }
 
-    /// Counts the BYE packets of a compound, which moves the average if it has some. With them, so many leave.
-    fn count_farewell(&mut self, compound: &Compound<'_>, size: usize, members: u32) -> u32
+    /// Counts the BYE packets of a compound, which moves the average if it has some.
+    fn count_farewell(&mut self, compound: &Compound<'_>, size: usize, members: u32)
         requires phase { self.old.phase ≡ leaving members }
         requires size { size ≤ 65535 }
-        ensures members { result ≡ members_with compound.now members }
-        ensures new { self.new ≡ with_farewell_in compound.now size members self.old }
+        ensures { self.new ≡ with_farewell_in compound.now size members self.old }
     {
         let byes = count_byes(compound.packets());
         if byes == 0 {
-            return members;
+            return;
         }
         self.presence.hear_farewell(size);
-        let members = MAX_LEAVING.min(members + byes);
-        self.phase = Phase::BackingOff(members);
-        members
+        self.phase = Phase::BackingOff(MAX_LEAVING.min(members + byes));
     }
 
     /// Takes a call that counts for nothing.
@@ -138,7 +133,7 @@ impl<T: MemberTable> Participant<T> {
     }
 
     /// The answer of a call that was taken in a backoff with so many members.
-    fn waiting_step(&self, members: u32) -> Step
+    pub(super) fn waiting_step(&self, members: u32) -> Step
         ensures { step_value result ≡ waiting_step_in members self.now.presence }
     {
         Step {

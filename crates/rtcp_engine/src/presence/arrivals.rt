@@ -44,7 +44,8 @@ impl<T: MemberTable> Presence<T> {
         requires moment { now ≤ 2 ^ 50 }
         requires calls { self.old.calls < 2 ^ 40 - 1 }
         requires size { size_of arrival.now ≤ 65535 }
-        ensures { self.new ≡ after_arrival now arrival.now self.old }
+        ensures exact { self.new ≡ after_arrival now arrival.now self.old }
+        ensures within { KeepsCapacity self.new }
     {
         match arrival {
             Arrival::Rtcp(compound, size) => self.take_compound(now, *size, compound),
@@ -58,7 +59,8 @@ impl<T: MemberTable> Presence<T> {
         requires moment { now ≤ 2 ^ 50 }
         requires calls { self.old.calls < 2 ^ 40 - 1 }
         requires size { size ≤ 65535 }
-        ensures { self.new ≡ after_compound now size compound.now self.old }
+        ensures exact { self.new ≡ after_compound now size compound.now self.old }
+        ensures within { KeepsCapacity self.new }
     {
         self.last = now;
         self.calls += 1;
@@ -72,7 +74,8 @@ impl<T: MemberTable> Presence<T> {
         requires order { self.old.last ≤ now }
         requires moment { now ≤ 2 ^ 50 }
         requires calls { self.old.calls < 2 ^ 40 - 1 }
-        ensures { self.new ≡ after_media now head.now self.old }
+        ensures exact { self.new ≡ after_media now head.now self.old }
+        ensures within { KeepsCapacity self.new }
     {
         self.last = now;
         self.calls += 1;

@@ -7,9 +7,8 @@ use Rattle.rtcp_engine.proofs.Arriving.{HeardAs, heard_stands, heard_step}
 use Rattle.rtcp_engine.proofs.LifeLemmas.{called}
 use Rattle.rtcp_engine.proofs.participant.Participant.hear.Given as given
 use Rattle.rtcp_engine.proofs.participant.Participant.hear.Goals as goal
-use Rattle.rtcp_engine.proofs.participant.Participant.hear.Goals.{in-Rtcp, in-Rtp}
 
-heard : (g : given.Over) (c : goal.After-waiting_step g) → HeardAs c.args.arrival.now c.args.members c.match-arrival.members c.args.now c.args.self.now c.match-arrival.self
+heard : (g : given.Over) (c : goal.After-count_farewell g) → HeardAs c.args.arrival.now c.args.members c.args.now c.args.self.now c.count_farewell.new.self
 heard g c =
     let own : ParticipantValue = record { presence = c.take_call.new.self; phase = phase_value c.self.inside.phase; changes = c.self.inside.changes.list.items } in
     let call : own ≡ called c.args.now c.args.self.now = λ i. record {
@@ -17,18 +16,13 @@ heard g c =
       phase = (c.self.view_is i).phase;
       changes = (c.self.view_is i).changes;
     } in
-    let told = λ (arrival : Arrival). HeardAs arrival c.args.members c.match-arrival.members c.args.now c.args.self.now c.match-arrival.self in
-    elim c.match-arrival.branch [
-      | in-Rtcp w ↦ subst told (sym w.in-Rtcp.is)
-          (w.self-is ∙ w.count_farewell-members.ensures.new ∙ ap (with_farewell_in w.in-Rtcp.compound w.in-Rtcp.size c.args.members) call, w.members-is ∙ w.count_farewell-members.ensures.members)
-      | in-Rtp w ↦ subst told (sym w.in-Rtp.is) (w.self-is ∙ call, w.members-is)
-    ]
+    subst (λ (arrival : Arrival). HeardAs arrival c.args.members c.args.now c.args.self.now c.count_farewell.new.self) (sym c.in-Rtcp.is)
+    (c.count_farewell.ensures ∙ ap (with_farewell_in c.in-Rtcp.compound c.in-Rtcp.size c.args.members) call)
 
-pub returns-clause-step : goal.returns-clause-step
-returns-clause-step g c history peer word h was words =
-    c.waiting_step.ensures
-    ∙ heard_step c.args.arrival.now c.args.self.now c.match-arrival.self history c.args.members c.match-arrival.members c.args.now peer word h c.requires.phase (heard g c)
+pub returns-in-Rtcp-clause-step : goal.returns-in-Rtcp-clause-step
+returns-in-Rtcp-clause-step g c history peer word h was words =
+    heard_step c.args.arrival.now c.args.self.now c.count_farewell.new.self history c.args.members c.args.now peer word h c.requires.phase (heard g c)
 
-pub returns-clause-stands : goal.returns-clause-stands
-returns-clause-stands g c history peer word h was words =
-    heard_stands c.args.arrival.now c.args.self.now c.match-arrival.self history c.args.members c.match-arrival.members c.args.now peer word h c.requires.phase (heard g c) was words
+pub returns-in-Rtcp-clause-stands : goal.returns-in-Rtcp-clause-stands
+returns-in-Rtcp-clause-stands g c history peer word h was words =
+    heard_stands c.args.arrival.now c.args.self.now c.count_farewell.new.self history c.args.members c.args.now peer word h c.requires.phase (heard g c) was words

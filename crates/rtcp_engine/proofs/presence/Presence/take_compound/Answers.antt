@@ -24,3 +24,6 @@ invariant_of-self g c =
     let timing = recounted_last c.args.now c.member_count.result c.self.inside.schedule c.departed.new.self c.departed.ensures.steps (past c.self.invariant c.args.self.now c.self.view_is c.args.now c.requires.order) in
     kept c.self.invariant (content c.apply_facts.new.table) c.departed.new.self c.add.new.self c.self.inside.own c.self.inside.cursor c.self.inside.reports c.args.now (c.self.inside.calls + 1)
     is_kept (one_call c.self.invariant c.args.self.now c.self.view_is c.args.now c.requires.moment c.requires.calls c.departed.new.self.last timing)
+
+pub returns-clause-within : goal.returns-clause-within
+returns-clause-within g c = (invariant_of-self g c).room

@@ -10,3 +10,6 @@ invariant_of-self g c =
     let timing = past c.self.invariant c.args.self.now c.self.view_is c.args.now c.requires.order in
     kept c.self.invariant (content c.apply_media.new.table) c.self.inside.schedule c.self.inside.average c.self.inside.own c.self.inside.cursor c.self.inside.reports c.args.now (c.self.inside.calls + 1)
     is_kept (one_call c.self.invariant c.args.self.now c.self.view_is c.args.now c.requires.moment c.requires.calls c.self.inside.schedule.last timing)
+
+pub returns-clause-within : goal.returns-clause-within
+returns-clause-within g c = (invariant_of-self g c).room
