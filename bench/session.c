@@ -14,10 +14,10 @@ static uint32_t random_word(void)
     return ((uint32_t)random() << 16) ^ (uint32_t)random();
 }
 
-/* Of a session of 64,000 bits a second, as rtpsession takes it to be. */
+/* Of a session of 64,000 bits a second, as rtpsession takes it to be, with reports of at most 31 blocks, as it makes. */
 void participant_begin(void)
 {
-    const jalwedd_config config = {.ssrc = random_word(), .capacity = 1024, .limit = 1472, .sender_bw = 100,
+    const jalwedd_config config = {.ssrc = random_word(), .capacity = 1024, .limit = 804, .sender_bw = 100,
                                    .receiver_bw = 300, .rate = 8000};
     const jalwedd_item none = {0};
     now = 0;
