@@ -24,7 +24,7 @@ pub struct Out {
 }
 
 /// What a call that was taken answers.
-// The compound is last: then a refusal lies over none of its octets, and an answer without one is made without them.
+// The compound is last: then a refusal lies over none of its octets, and the compiler copies no answer without one.
 #[derive(Debug, Drop)]
 pub struct Step {
     /// The members of the session, the participant included (RFC 3550, 6.2.1). In a backoff it and one for each

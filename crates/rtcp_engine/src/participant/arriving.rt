@@ -12,7 +12,6 @@ ghost use Rattle.rtcp_engine.specs.States.{KeepsCapacity, StandsAt, over};
 ghost use Rattle.rtcp_engine.specs.Taken.{HasWords, WasTaken};
 ghost use Rattle.rtcp_engine.specs.Views.{NamesFewer, act_of, answer_value, out_value, size_of, step_value};
 
-use super::backoff::last_step;
 use super::{Participant, Phase};
 use crate::arrival::Arrival;
 use crate::refusal::Refusal;

@@ -133,7 +133,7 @@ impl<T: MemberTable> Participant<T> {
     }
 
     /// The answer of a call that was taken in a backoff with so many members.
-    pub(super) fn waiting_step(&self, members: u32) -> Step
+    fn waiting_step(&self, members: u32) -> Step
         ensures { step_value result ≡ waiting_step_in members self.now.presence }
     {
         Step {
@@ -147,7 +147,7 @@ impl<T: MemberTable> Participant<T> {
 }
 
 /// The answer of the call with which the participant is gone.
-pub(super) fn last_step(out: Option<Out>) -> Step
+fn last_step(out: Option<Out>) -> Step
     ensures { step_value result ≡ last_step_with (option_map out_value out) }
 {
     Step {
