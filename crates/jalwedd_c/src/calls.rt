@@ -53,18 +53,11 @@ pub extern "C" fn jalwedd_arrive_rtcp(
     ensures refused { result ≢ 0 → handle.new.owned.held ≡ handle.old.owned.held }
     ensures empty { handle.old.owned.held ≡ None → (result ≡ 20) × IsBlank step.new × (octets.new ≡ octets.old) }
 {
-    match handle.take(alloc) {
-        Some(mut session) => {
-            let answer = session.participant.arrive_rtcp(now, peer, word, datagram);
-            let status = session.tell(&answer, step, octets);
-            handle.put(session);
-            status
-        }
-        None => {
-            *step = Step::blank();
-            EMPTY
-        }
-    }
+    let Some(mut session) = handle.take(alloc) else {
+        return empty(step);
+    };
+    let answer = session.participant.arrive_rtcp(now, peer, word, datagram);
+    handle.put_back(session, &answer, step, octets)
 }
 
 /// An RTP datagram came, with the octets that UDP carried: as `jalwedd_arrive_rtcp`.
@@ -100,18 +93,11 @@ pub extern "C" fn jalwedd_arrive_rtp(
     ensures refused { result ≢ 0 → handle.new.owned.held ≡ handle.old.owned.held }
     ensures empty { handle.old.owned.held ≡ None → (result ≡ 20) × IsBlank step.new × (octets.new ≡ octets.old) }
 {
-    match handle.take(alloc) {
-        Some(mut session) => {
-            let answer = session.participant.arrive_rtp(now, peer, word, datagram);
-            let status = session.tell(&answer, step, octets);
-            handle.put(session);
-            status
-        }
-        None => {
-            *step = Step::blank();
-            EMPTY
-        }
-    }
+    let Some(mut session) = handle.take(alloc) else {
+        return empty(step);
+    };
+    let answer = session.participant.arrive_rtp(now, peer, word, datagram);
+    handle.put_back(session, &answer, step, octets)
 }
 
 /// The host sent an RTP packet at the moment `now`, with this RTP timestamp and so many octets of payload, without
@@ -142,18 +128,11 @@ pub extern "C" fn jalwedd_sent_rtp(
     ensures refused { result ≢ 0 → handle.new.owned.held ≡ handle.old.owned.held }
     ensures empty { handle.old.owned.held ≡ None → (result ≡ 20) × IsBlank step.new × (octets.new ≡ octets.old) }
 {
-    match handle.take(alloc) {
-        Some(mut session) => {
-            let answer = session.participant.sent_rtp(now, timestamp, size);
-            let status = session.tell(&answer, step, octets);
-            handle.put(session);
-            status
-        }
-        None => {
-            *step = Step::blank();
-            EMPTY
-        }
-    }
+    let Some(mut session) = handle.take(alloc) else {
+        return empty(step);
+    };
+    let answer = session.participant.sent_rtp(now, timestamp, size);
+    handle.put_back(session, &answer, step, octets)
 }
 
 /// Asks at the moment `now` whether a report is due, or the BYE of a participant that backs off, with two random words:
@@ -186,18 +165,11 @@ pub extern "C" fn jalwedd_tick(
     ensures refused { result ≢ 0 → handle.new.owned.held ≡ handle.old.owned.held }
     ensures empty { handle.old.owned.held ≡ None → (result ≡ 20) × IsBlank step.new × (octets.new ≡ octets.old) }
 {
-    match handle.take(alloc) {
-        Some(mut session) => {
-            let answer = session.participant.tick(now, first_word, second_word);
-            let status = session.tell(&answer, step, octets);
-            handle.put(session);
-            status
-        }
-        None => {
-            *step = Step::blank();
-            EMPTY
-        }
-    }
+    let Some(mut session) = handle.take(alloc) else {
+        return empty(step);
+    };
+    let answer = session.participant.tick(now, first_word, second_word);
+    handle.put_back(session, &answer, step, octets)
 }
 
 /// Leaves the session at the moment `now`, with a random word for the draw of a backoff (RFC 3550, 6.3.7). The BYE goes
@@ -227,16 +199,17 @@ pub extern "C" fn jalwedd_leave(
     ensures refused { result ≢ 0 → handle.new.owned.held ≡ handle.old.owned.held }
     ensures empty { handle.old.owned.held ≡ None → (result ≡ 20) × IsBlank step.new × (octets.new ≡ octets.old) }
 {
-    match handle.take(alloc) {
-        Some(mut session) => {
-            let answer = session.participant.leave(now, word);
-            let status = session.tell(&answer, step, octets);
-            handle.put(session);
-            status
-        }
-        None => {
-            *step = Step::blank();
-            EMPTY
-        }
-    }
+    let Some(mut session) = handle.take(alloc) else {
+        return empty(step);
+    };
+    let answer = session.participant.leave(now, word);
+    handle.put_back(session, &answer, step, octets)
+}
+
+/// Tells that a handle holds no participant.
+fn empty(step: &mut Step) -> u32
+    ensures { (result ≡ 20) × IsBlank step.new }
+{
+    *step = Step::blank();
+    EMPTY
 }

@@ -1,10 +1,18 @@
 //! What a host keeps.
 
 ghost use Rattle.std.specs.Prelude.{◌≡◌, MatchOption, Some, None};
+ghost use Rattle.rtcp_engine.specs.Histories.{History};
+ghost use Rattle.rtcp_engine.specs.Views.{answer_value};
+ghost use Rattle.jalwedd_c.specs.Answers.{HandsOut, IsBlank, Shows, status_of};
+ghost use Rattle.jalwedd_c.specs.Handles.{LeadsTo};
 
 use crate::owned::Owned;
 use crate::owned::loose::Loose;
 use crate::session::Session;
+use crate::showing::Handed;
+use crate::status::TAKEN;
+use crate::step::Step;
+use rtcp_engine::Answer;
 use std::alloc::Global;
 use std::mem;
 
@@ -42,6 +50,41 @@ impl Handle {
         ensures { self.new.owned.held ≡ Some session.value }
     {
         self.owned = Owned::of_loose(Loose::of(session));
+    }
+
+    /// Puts back a session, tells what its participant answered, as which it stands now, and returns the status.
+    pub(crate) fn put_back(
+        &mut self,
+        session: Box<Session>,
+        answer: &Answer,
+        step: &mut Step,
+        octets: &mut [u8; 1472],
+    ) -> u32
+        requires { self.old.owned.held ≡ None }
+        ensures held { self.new.owned.held ≡ Some session.value }
+        ensures status { result ≡ status_of (answer_value answer.now) }
+        ensures handed { HandsOut step.new octets.old octets.new (answer_value answer.now) }
+        ensures shown { (history : History) → LeadsTo self.new.owned.held history → Shows step.new history }
+    {
+        let status = session.tell(answer, step, octets);
+        self.put(session);
+        status
+    }
+
+    /// What there is to tell at any time: a blank step where it is empty.
+    pub(crate) fn step(&mut self, alloc: Global) -> Step
+        ensures shown { (history : History) → LeadsTo self.old.owned.held history → Shows result history }
+        ensures blank { self.old.owned.held ≡ None → IsBlank result }
+        ensures kept { self.new.owned.held ≡ self.old.owned.held }
+    {
+        match self.take(alloc) {
+            Some(session) => {
+                let step = session.step(Handed::nothing(TAKEN));
+                self.put(session);
+                step
+            }
+            None => Step::blank(),
+        }
     }
 }
 

@@ -8,7 +8,6 @@ ghost use Rattle.jalwedd_c.specs.Answers.{moment_shown};
 ghost use Rattle.jalwedd_c.specs.Handles.{LeadsTo};
 
 use crate::handle::Handle;
-use crate::step::NEVER;
 use std::alloc::Global;
 
 /// The members of the session, the participant included (RFC 3550, 6.2.1): 0 once it has left, and for an empty handle.
@@ -19,14 +18,7 @@ pub extern "C" fn jalwedd_members(alloc: Global, handle: &mut Handle) -> u32
     ensures empty { handle.old.owned.held ≡ None → result ≡ 0 }
     ensures kept { handle.new.owned.held ≡ handle.old.owned.held }
 {
-    match handle.take(alloc) {
-        Some(session) => {
-            let members = session.participant.members();
-            handle.put(session);
-            members
-        }
-        None => 0,
-    }
+    handle.step(alloc).members
 }
 
 /// The members that send RTP packets: 0 once the participant leaves, and for an empty handle.
@@ -37,14 +29,7 @@ pub extern "C" fn jalwedd_senders(alloc: Global, handle: &mut Handle) -> u32
     ensures empty { handle.old.owned.held ≡ None → result ≡ 0 }
     ensures kept { handle.new.owned.held ≡ handle.old.owned.held }
 {
-    match handle.take(alloc) {
-        Some(session) => {
-            let senders = session.participant.senders();
-            handle.put(session);
-            senders
-        }
-        None => 0,
-    }
+    handle.step(alloc).senders
 }
 
 /// When to call `jalwedd_tick` next, in microseconds since the session began: 2^64 - 1 once the participant has left,
@@ -56,14 +41,7 @@ pub extern "C" fn jalwedd_next(alloc: Global, handle: &mut Handle) -> u64
     ensures empty { handle.old.owned.held ≡ None → result ≡ 2 ^ 64 - 1 }
     ensures kept { handle.new.owned.held ≡ handle.old.owned.held }
 {
-    match handle.take(alloc) {
-        Some(session) => {
-            let next = session.participant.next().unwrap_or(NEVER);
-            handle.put(session);
-            next
-        }
-        None => NEVER,
-    }
+    handle.step(alloc).next
 }
 
 /// The SSRC under which the participant takes part, or did last: 0 for an empty handle.
@@ -74,12 +52,5 @@ pub extern "C" fn jalwedd_ssrc(alloc: Global, handle: &mut Handle) -> u32
     ensures empty { handle.old.owned.held ≡ None → result ≡ 0 }
     ensures kept { handle.new.owned.held ≡ handle.old.owned.held }
 {
-    match handle.take(alloc) {
-        Some(session) => {
-            let ssrc = session.participant.ssrc();
-            handle.put(session);
-            ssrc
-        }
-        None => 0,
-    }
+    handle.step(alloc).ssrc
 }
