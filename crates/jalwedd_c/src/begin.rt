@@ -52,9 +52,13 @@ pub extern "C" fn jalwedd_new(
         return LIVE;
     }
     *step = Step::blank();
-    match participant_of(config, cname, items, word) {
-        Ok(participant) => begin(alloc, handle, Session { participant }, step),
-        Err(status) => status,
+    let given = match config_of(config, cname, items) {
+        Ok(given) => given,
+        Err(status) => return status,
+    };
+    match Participant::new(given, word) {
+        Ok(participant) => begin(alloc, handle, participant, step),
+        Err(error) => of_error(error),
     }
 }
 
@@ -73,39 +77,21 @@ pub extern "C" fn jalwedd_free(alloc: Global, handle: &mut Handle) -> u32
     }
 }
 
-/// The participant of a configuration, or the status of one that is refused.
-fn participant_of(
-    config: &Config,
-    cname: &[u8],
-    items: &[Item],
-    word: u32,
-) -> Result<Participant<SortedTable>, u32>
-    ensures begins { IfOk result (λ participant.
-        StandsAt participant (begun (setup_given config.now cname.now items.now) word)) }
-    ensures within { IfOk result (λ participant. KeepsCapacity participant.presence) }
-    ensures usable { IfOk result (λ participant. refusal_of config.now cname.now items.now ≡ None) }
-    ensures refused { IfErr result (λ status. refusal_of config.now cname.now items.now ≡ Some status) }
-    ensures numbered { IfErr result (λ status. 11 ≤ status) }
-{
-    let config = match config_of(config, cname, items) {
-        Ok(config) => config,
-        Err(status) => return Err(status),
-    };
-    match Participant::new(config, word) {
-        Ok(participant) => Ok(participant),
-        Err(error) => Err(of_error(error)),
-    }
-}
-
-/// Puts a session into an empty handle.
-fn begin(alloc: Global, handle: &mut Handle, session: Session, step: &mut Step) -> u32
+/// Puts a participant into an empty handle.
+fn begin(
+    alloc: Global,
+    handle: &mut Handle,
+    participant: Participant<SortedTable>,
+    step: &mut Step,
+) -> u32
     requires { handle.old.owned.held ≡ None }
-    ensures begun { result ≡ 0 → handle.new.owned.held ≡ Some session }
-    ensures shows { (history : History) → StandsAt session.participant history → result ≡ 0 → Shows step.new history }
+    ensures begun { (history : History) → StandsAt participant history → result ≡ 0 → LeadsTo handle.new.owned.held history }
+    ensures within { KeepsCapacity participant.presence → KeepsWithin handle.new.owned.held }
+    ensures shows { (history : History) → StandsAt participant history → result ≡ 0 → Shows step.new history }
     ensures status { (result ≡ 0) ⊎ (result ≡ 22) }
     ensures kept { result ≢ 0 → handle.new.owned.held ≡ None }
 {
-    match Box::new(alloc, session) {
+    match Box::new(alloc, Session { participant }) {
         Ok(session) => {
             *step = session.step(Handed::nothing(TAKEN));
             handle.put(session);
