@@ -1,10 +1,10 @@
 //! The begin of a participant, and its end.
 
-ghost use Rattle.std.specs.Prelude.{◌≡◌, ◌≢◌, ◌≤◌, ◌⊎◌, ℕ, Some, None, IfErr, IfOk};
+ghost use Rattle.std.specs.Prelude.{◌≡◌, ◌≢◌, ◌⊎◌, ℕ, Some, None};
 ghost use Rattle.rtcp_engine.specs.Histories.{History};
-ghost use Rattle.rtcp_engine.specs.States.{KeepsCapacity, StandsAt};
+ghost use Rattle.rtcp_engine.specs.States.{StandsAt};
 ghost use Rattle.rtcp_engine.specs.Taken.{begun};
-ghost use Rattle.jalwedd_c.specs.Answers.{IsBlank, Shows};
+ghost use Rattle.jalwedd_c.specs.Answers.{Shows};
 ghost use Rattle.jalwedd_c.specs.Configs.{refusal_of, setup_given};
 ghost use Rattle.jalwedd_c.specs.Handles.{KeepsWithin, LeadsTo};
 
@@ -85,8 +85,7 @@ fn begin(
     step: &mut Step,
 ) -> u32
     requires { handle.old.owned.held ≡ None }
-    ensures begun { (history : History) → StandsAt participant history → result ≡ 0 → LeadsTo handle.new.owned.held history }
-    ensures within { KeepsCapacity participant.presence → KeepsWithin handle.new.owned.held }
+    ensures begun { result ≡ 0 → handle.new.owned.held ≡ Some (record { participant = participant }) }
     ensures shows { (history : History) → StandsAt participant history → result ≡ 0 → Shows step.new history }
     ensures status { (result ≡ 0) ⊎ (result ≡ 22) }
     ensures kept { result ≢ 0 → handle.new.owned.held ≡ None }

@@ -9,7 +9,7 @@ ghost use Rattle.jalwedd_c.specs.Handles.{LeadsTo};
 use crate::owned::Owned;
 use crate::owned::loose::Loose;
 use crate::session::Session;
-use crate::showing::Handed;
+use crate::showing::{Handed, hand_out};
 use crate::status::TAKEN;
 use crate::step::Step;
 use rtcp_engine::Answer;
@@ -66,9 +66,10 @@ impl Handle {
         ensures handed { HandsOut step.new octets.old octets.new (answer_value answer.now) }
         ensures shown { (history : History) → LeadsTo self.new.owned.held history → Shows step.new history }
     {
-        let status = session.tell(answer, step, octets);
+        let handed = hand_out(answer, octets);
+        *step = session.step(handed);
         self.put(session);
-        status
+        handed.status
     }
 
     /// What there is to tell at any time: a blank step where it is empty.
