@@ -70,7 +70,7 @@ impl fmt::Display for ReplayFault {
 pub enum ListenFault {
     /// The configuration of the participant was refused.
     Config(ConfigError),
-    /// A port could not be bound, or the clock not be read.
+    /// A port could not be bound or waited for, or the clock not be read.
     Link,
     /// A call of the writer failed, or took nothing.
     Write,

@@ -132,7 +132,7 @@ fn run_listen(
     let mut participant = Participant::<SortedTable>::new(config, word).map_err(
         ListenFault::Config,
     )?;
-    let mut link = UdpLink::bind(rt, rtp, rtcp, peer).map_err(|_| ListenFault::Link)?;
+    let mut link = UdpLink::bind(rt, rt.alloc(), rtp, rtcp, peer)?;
     let mut buf = [0; 65_535];
     let end = serve(&mut link, &mut participant, &mut rng, turns, &mut buf);
     let line = end_line(rt.alloc(), &end).map_err(|_| ListenFault::Memory)?;

@@ -1,16 +1,25 @@
 //! A link over two UDP sockets.
 
-ghost use Rattle.std.specs.Prelude.{◌≡◌, IfOk, None};
+ghost use Rattle.std.specs.Prelude.{◌≡◌, IfOk, IfSome, None};
 ghost use Rattle.rtcp_run.specs.Endpoints.{sender_number};
 ghost use Rattle.rtcp_run.specs.Links.{LinkValue, IsWithin};
 
+use crate::fault::ListenFault;
 use crate::link::{Link, LinkFault, Port, Received};
-use std::io::ErrorKind;
-use std::net::{Net, SocketAddr, SocketAddrV4, UdpSocket};
+use mio::net::UdpSocket;
+use mio::{Events, Interest, Poll, Token};
+use std::alloc::Global;
+use std::io::{self, ErrorKind};
+use std::net::{Net, SocketAddr, SocketAddrV4};
+use std::thread;
 use std::time::{Clock, Duration, Instant};
 
 /// A link over UDP: RTP and RTCP come to a socket each, and compounds go to one peer, which may be a group. It
 /// tells no log: what a socket carried no contract knows.
+///
+/// A receive takes what is queued at its port, and returns at once. Only where both ports have nothing queued does that
+/// of the RTP port wait, until either has, and then it returns `Nothing` all the same. So its caller reads the clock
+/// between an arrival and the receive that takes it, and no wait comes between the two.
 #[derive(Drop)]
 pub struct UdpLink<'r, R> {
     runtime: &'r R,
@@ -20,7 +29,13 @@ pub struct UdpLink<'r, R> {
     last: u64,
     rtp: UdpSocket,
     rtcp: UdpSocket,
-    peer: SocketAddrV4,
+    peer: SocketAddr,
+    /// Waits for either port. It reports what comes to a port after a receive found nothing queued there.
+    poll: Poll,
+    /// What a wait reports. Nothing reads it: the receives that follow try both ports.
+    events: Events,
+    /// Whether the last receive was from the RTCP port, and found nothing queued.
+    is_rtcp_empty: bool,
     failed_receives: u64,
     failed_sends: u64,
 }
@@ -30,24 +45,29 @@ impl<'r, R: Net + Clock> UdpLink<'r, R> {
     ///
     /// # Errors
     ///
-    /// [`LinkFault`] where a port cannot be bound, or the clock cannot be read.
+    /// - [`ListenFault::Link`] where a port cannot be bound or waited for, or the clock cannot be read.
+    /// - [`ListenFault::Memory`] where memory is refused.
     pub fn bind(
         runtime: &'r R,
+        alloc: Global,
         rtp: SocketAddrV4,
         rtcp: SocketAddrV4,
         peer: SocketAddrV4,
-    ) -> Result<UdpLink<'r, R>, LinkFault>
+    ) -> Result<UdpLink<'r, R>, ListenFault>
         ensures receives { IfOk result (λ link. link.failed_receives ≡ 0) }
         ensures sends { IfOk result (λ link. link.failed_sends ≡ 0) }
     {
-        let (Ok(rtp), Ok(rtcp)) = (
-            UdpSocket::bind(runtime, rtp),
-            UdpSocket::bind(runtime, rtcp),
-        ) else {
-            return Err(LinkFault);
+        let Ok(events) = Events::with_capacity(alloc, 2) else {
+            return Err(ListenFault::Memory);
+        };
+        let Ok(poll) = Poll::new(runtime) else {
+            return Err(ListenFault::Link);
+        };
+        let (Ok(rtp), Ok(rtcp)) = (open(runtime, &poll, rtp), open(runtime, &poll, rtcp)) else {
+            return Err(ListenFault::Link);
         };
         let Ok(began) = Instant::now(runtime) else {
-            return Err(LinkFault);
+            return Err(ListenFault::Link);
         };
         Ok(UdpLink {
             runtime,
@@ -55,7 +75,10 @@ impl<'r, R: Net + Clock> UdpLink<'r, R> {
             last: 0,
             rtp,
             rtcp,
-            peer,
+            peer: SocketAddr::V4(peer),
+            poll,
+            events,
+            is_rtcp_empty: false,
             failed_receives: 0,
             failed_sends: 0,
         })
@@ -77,12 +100,22 @@ impl<'r, R: Net + Clock> Link for UdpLink<'r, R> {
     }
 
     fn recv(&mut self, port: Port, buf: &mut [u8], wait_us: u64) -> Received {
-        let socket = match port {
-            Port::Rtcp => &self.rtcp,
-            Port::Rtp => &self.rtp,
+        let wait = Duration::from_micros(wait_us);
+        let queued = match port {
+            Port::Rtcp => take_queued(&self.rtcp, buf),
+            Port::Rtp => take_queued(&self.rtp, buf),
         };
-        let received = listen(socket, buf, wait_us);
+        let waits = port == Port::Rtp && queued.is_none() && self.is_rtcp_empty;
+        self.is_rtcp_empty = port == Port::Rtcp && queued.is_none();
+        let received = match queued {
+            Some(received) => received,
+            None if waits && self.poll.poll(&mut self.events, Some(wait)).is_err() =>
+                Received::Failed,
+            None => Received::Nothing,
+        };
         if received == Received::Failed {
+            // A row of failures ends a session, so each takes its time.
+            thread::sleep(self.runtime, wait);
             self.failed_receives += 1;
         }
         received
@@ -99,20 +132,24 @@ impl<'r, R: Net + Clock> Link for UdpLink<'r, R> {
     }
 }
 
-/// What comes to a socket in time. A wait of 0 is one of a microsecond, as the system has no shorter one.
-fn listen(socket: &UdpSocket, buf: &mut [u8], wait_us: u64) -> Received
-    ensures { IsWithin result buf.new }
+/// A socket at an address, for whose datagrams `poll` waits.
+fn open<R: Net>(runtime: &R, poll: &Poll, address: SocketAddrV4) -> io::Result<UdpSocket> {
+    let mut socket = UdpSocket::bind(runtime, SocketAddr::V4(address))?;
+    poll.registry()
+        .register(&mut socket, Token(0), Interest::READABLE)?;
+    Ok(socket)
+}
+
+/// What is queued at a socket, or `None` where nothing is.
+fn take_queued(socket: &UdpSocket, buf: &mut [u8]) -> Option<Received>
+    ensures { IfSome result (λ received. IsWithin received buf.new) }
 {
-    let wait = Duration::from_micros(wait_us.max(1));
-    if socket.set_read_timeout(Some(wait)).is_err() {
-        return Received::Failed;
-    }
     match socket.recv_from(buf) {
-        Ok((count, from)) => Received::Got(count, peer_number(from)),
+        Ok((count, from)) => Some(Received::Got(count, peer_number(from))),
         Err(error) => match error.kind() {
-            ErrorKind::WouldBlock | ErrorKind::TimedOut | ErrorKind::Interrupted =>
-                Received::Nothing,
-            _ => Received::Failed,
+            ErrorKind::WouldBlock => None,
+            ErrorKind::Interrupted => Some(Received::Nothing),
+            _ => Some(Received::Failed),
         },
     }
 }

@@ -17,19 +17,20 @@ const LONG: &str = "\
 Take part in a session over UDP.
 
 RTP and RTCP come in at a port each, and reports go from the port of RTCP to the peer. In a turn
-the participant waits for RTCP and then for RTP, at most 20 milliseconds each, and sends what is
-due. After the last turn it leaves: without a word if it has sent no report, else with a BYE. Where
-more than 50 are known that BYE waits for its turn, in at most as many turns again, and may not go
-out. It sends no RTP, and nothing is written before the end.
+the participant takes at most one datagram from each port, and sends what is due; where neither
+has one it waits until one comes, for at most 20 milliseconds. After the last turn it leaves:
+without a word if it has sent no report, else with a BYE. Where more than 50 are known that BYE
+waits for its turn, in at most as many turns again, and may not go out. It sends no RTP, and
+nothing is written before the end.
 
 In a collision, where a datagram names the participant's own SSRC, it takes another one at random
 and sends a BYE for the old one if it has reported under it: once for each sender of such
 datagrams, and at most eight times; later ones are refused.
 
-A turn takes at most one RTP packet, and may wait 20 milliseconds for RTCP before. So media of 50
-packets a second or more outruns it, and what the socket then drops is reported as lost. Moments
-are those of the turn, so that jitter and the delay since a sender report are some 20 milliseconds
-coarse.
+So turns measure no time. 1000 of them last 20 seconds where nothing comes. A packet takes two or
+three where it comes alone, and less where packets come together, but never less than one. An hour
+of audio in packets of 20 milliseconds takes 360000 to 540000 turns. The most, 1000000, last for
+two to three hours of it, and for 14 to 25 minutes of video of 600 packets a second.
 
 To join a sender of GStreamer on this machine, which reads RTCP at port 5007:
 
