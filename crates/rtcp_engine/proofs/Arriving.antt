@@ -7,24 +7,42 @@ use Rattle.rtcp_engine.specs.declared.refusal.Refusal.{Refusal}
 use Rattle.rtcp_engine.specs.declared.refusal.Refusal.TheVariants.{OwnSsrc}
 use Rattle.rtcp_engine.specs.Acts.{Act, renamed, moment_of}
 use Rattle.rtcp_engine.specs.Identities.{may_change, setup_now}
-use Rattle.rtcp_engine.specs.Histories.{History}
-use Rattle.rtcp_engine.specs.Leaving.{backing_off, after_farewell, leaving_count}
-use Rattle.rtcp_engine.specs.Lives.{life_at}
+use Rattle.rtcp_engine.specs.Histories.{History, after}
+use Rattle.rtcp_engine.specs.Leaving.{Backoff, present}
+use Rattle.rtcp_engine.specs.Outcomes.{Outcome}
+use Rattle.rtcp_engine.specs.Sent.{is_change}
+use Rattle.rtcp_engine.specs.Setups.{Setup}
+use Rattle.rtcp_engine.specs.Lives.{life_at, while_present, out_while_present, out_while_backing_off}
 use Rattle.rtcp_engine.specs.Presence.{refusal_if, refusal_of, refusal_of_datagram, with_act}
 use Rattle.rtcp_engine.specs.Changes.{change_by, named_by, names_own, new_identifier}
 use Rattle.rtcp_engine.specs.Steps.{OutValue, StepValue, answer_unless}
 use Rattle.rtcp_engine.specs.Answers.{answer_of, followed_by, out_at, refusal_after, step_by, step_with}
 use Rattle.rtcp_engine.specs.Taken.{HasWords, WasTaken}
-use Rattle.rtcp_engine.specs.States.{PhaseValue, taking_part, leaving, over, ParticipantValue, StandsAt}
-use Rattle.rtcp_engine.specs.Moves.{call_refusal, refusal_by, refusal_in_phase, step_in_phase, step_of, waiting_step_in, with_farewell_in}
+use Rattle.rtcp_engine.specs.States.{ParticipantValue, StandsAt}
+use Rattle.rtcp_engine.specs.Moves.{call_refusal}
 use Rattle.rtcp_engine.specs.Views.{act_of}
-use Rattle.rtcp_engine.proofs.Calls.{moment_is}
 use Rattle.rtcp_engine.proofs.Following.{Brings, change_is_taken, compound_brings, media_brings, taken_again}
 use Rattle.rtcp_engine.proofs.LawLemmas.{nothing_more, or_none}
-use Rattle.rtcp_engine.proofs.LifeLemmas.{backing_off_at, called, hears, leaving_is_there, part_is_there, refuses_for_good, still_backing_off, there_refuses, there_refuses_datagram, there_takes, waiting_step_agrees}
-use Rattle.rtcp_engine.proofs.Standing.{IsTaken, is_call, call_stands, call_step, counted_call, step_changing}
+use Rattle.rtcp_engine.proofs.Acting.{TakesPlainly}
+use Rattle.rtcp_engine.proofs.LifeLemmas.{Admitted, there_refuses_datagram, there_takes}
+use Rattle.rtcp_engine.proofs.Standing.{IsTaken, step_changing}
 
 -- ---- Acts
+
+pub moment_is : (t peer word : ℕ) (arrival : Arrival) → moment_of (act_of t peer word arrival) ≡ t
+moment_is t peer word (Rtcp compound size) = refl
+moment_is t peer word (Rtp head) = refl
+
+-- what any datagram that was read does in a session
+pub record Comes (act : Act) : Type 0 where
+  pub told : is_change act ≡ false
+  pub stays : (setup : Setup) (outcome : Outcome) → while_present setup act outcome ≡ present (after setup act outcome)
+  pub brings : (setup : Setup) (outcome : Outcome) → out_while_present setup act outcome ≡ None
+  pub brings_none : (setup : Setup) (outcome : Outcome) (backoff : Backoff) → out_while_backing_off setup act outcome backoff ≡ None
+
+pub comes : (t peer word : ℕ) (arrival : Arrival) → Comes (act_of t peer word arrival)
+comes t peer word (Rtcp compound size) = record { told = refl; stays = λ setup outcome. refl; brings = λ setup outcome. refl; brings_none = λ setup outcome backoff. refl }
+comes t peer word (Rtp head) = record { told = refl; stays = λ setup outcome. refl; brings = λ setup outcome. refl; brings_none = λ setup outcome backoff. refl }
 
 pub was_taken : (h : History) (t peer word : ℕ) (arrival : Arrival) (earlier : List Act) → refusal_of h.setup earlier (act_of t peer word arrival) ≡ None → WasTaken h.setup h.word earlier (act_of t peer word arrival)
 was_taken h t peer word (Rtcp compound size) earlier none = none
@@ -48,31 +66,8 @@ change_is : (h : History) (t peer word : ℕ) (arrival : Arrival)
 change_is h t peer word (Rtcp compound size) = refl
 change_is h t peer word (Rtp head) = refl
 
--- ---- Calls
-
-pub record Admitted (t : ℕ) (p : ParticipantValue) : Type 0 where
-  pub there : p.phase ≡ over → ⊥
-  pub admitted : call_refusal t p.presence ≡ None
-
-admitted_in : (t : ℕ) (p : ParticipantValue) (phase : PhaseValue) → p.phase ≡ phase → refusal_in_phase t p.presence phase ≡ None → Admitted t p
-admitted_in t p taking_part is none = record { there = λ ended. absurd (part_is_there p.phase is ended); admitted = none }
-admitted_in t p (leaving members) is none = record { there = λ ended. absurd (leaving_is_there p.phase members is ended); admitted = none }
-admitted_in t p over is none = absurd cc
-
-pub admitted_call : (t : ℕ) (p : ParticipantValue) → refusal_by t p ≡ None → Admitted t p
-admitted_call t p none = admitted_in t p p.phase refl none
-
 admits : (t peer word : ℕ) (arrival : Arrival) (p : ParticipantValue) → Admitted t p → call_refusal (moment_of (act_of t peer word arrival)) p.presence ≡ None
 admits t peer word arrival p admitted = ap (λ (m : ℕ). call_refusal m p.presence) (moment_is t peer word arrival) ∙ admitted.admitted
-
-refused_in : (p : ParticipantValue) (h : History) (act : Act) (reason : Refusal) (phase : PhaseValue) → StandsAt p h → p.phase ≡ phase → refusal_in_phase (moment_of act) p.presence phase ≡ Some reason → refusal_after h act ≡ Some reason
-refused_in p h act reason taking_part stands is same = there_refuses p h act reason stands (part_is_there p.phase is) same
-refused_in p h act reason (leaving members) stands is same = there_refuses p h act reason stands (leaving_is_there p.phase members is) same
-refused_in p h act reason over stands is same = refuses_for_good p h act stands is ∙ same
-
--- a call that is refused whatever it tells
-pub call_refused : (p : ParticipantValue) (h : History) (act : Act) (reason : Refusal) → StandsAt p h → refusal_by (moment_of act) p ≡ Some reason → refusal_after h act ≡ Some reason
-call_refused p h act reason stands same = refused_in p h act reason p.phase stands refl same
 
 -- a datagram that is refused for its fault
 pub fault_refused : (p : ParticipantValue) (h : History) (t : ℕ) (act : Act) (reason : Refusal) → StandsAt p h → Admitted t p → moment_of act ≡ t → refusal_of_datagram h.setup h.acts act ≡ Some reason → refusal_after h act ≡ Some reason
@@ -81,16 +76,15 @@ fault_refused p h t act reason stands admitted moment fault =
 
 -- ---- Datagrams without a change
 
-pub record Plain (h : History) (act : Act) : Type 0 where
-  pub takes : IsTaken h act
-  pub unchanged : change_by h act ≡ None
-
-pub plain : (p : ParticipantValue) (h : History) (t peer word : ℕ) (arrival : Arrival) → StandsAt p h → Admitted t p → names_own (setup_now h.setup h.acts).ssrc (act_of t peer word arrival) ≡ false → Plain h (act_of t peer word arrival)
-plain p h t peer word arrival stands admitted named = record {
-  takes = there_takes p h (act_of t peer word arrival) stands admitted.there (admits t peer word arrival p admitted)
-      (datagram_is h t peer word arrival ∙ ap (λ (b : Bool). refusal_if (b && not (may_change peer h.acts)) OwnSsrc) named);
-  unchanged = change_is h t peer word arrival ∙ ap (λ (b : Bool). change_if b (renamed t peer (new_identifier word h (act_of t peer word arrival)))) named;
-}
+pub plain : (p : ParticipantValue) (h : History) (t peer word : ℕ) (arrival : Arrival) → StandsAt p h → Admitted t p → names_own (setup_now h.setup h.acts).ssrc (act_of t peer word arrival) ≡ false → TakesPlainly h (act_of t peer word arrival)
+plain p h t peer word arrival stands admitted named =
+    let taken = there_takes p h (act_of t peer word arrival) stands admitted.there (admits t peer word arrival p admitted)
+    (datagram_is h t peer word arrival ∙ ap (λ (b : Bool). refusal_if (b && not (may_change peer h.acts)) OwnSsrc) named) in
+    record {
+      taken = taken;
+      was = was_taken h t peer word arrival h.acts taken.refusal;
+      unchanged = change_is h t peer word arrival ∙ ap (λ (b : Bool). change_if b (renamed t peer (new_identifier word h (act_of t peer word arrival)))) named;
+    }
 
 -- ---- Refused datagrams
 
@@ -145,40 +139,3 @@ pub changed_history : (h : History) (act : Act) (t peer ssrc : ℕ) → Changing
 changed_history h act t peer ssrc changes =
     sym (ap (λ (c : Option Act). with_act (Rattle.rtcp_engine.specs.Answers.with_change_of c h) act) changes.changed)
     ∙ sym (ap (λ (r : Option Refusal). elim r [ None ↦ with_act (Rattle.rtcp_engine.specs.Answers.with_change_of (change_by h act) h) act | Some other ↦ h ]) changes.takes.after)
-
--- ---- Datagrams in a backoff
-
--- one that backs off and was told of a datagram
-abbrev pub HeardAs : Arrival → (members t : ℕ) (p q : ParticipantValue) → Type 0
-HeardAs (Rtcp compound size) members t p q = q ≡ with_farewell_in compound size members (called t p)
-HeardAs (Rtp head) members t p q = q ≡ called t p
-
-pub heard_stands : (arrival : Arrival) (p q : ParticipantValue) (h : History) (members t peer word : ℕ) → StandsAt p h → p.phase ≡ leaving members → HeardAs arrival members t p q → WasTaken h.setup h.word h.acts (act_of t peer word arrival)
-    → HasWords (act_of t peer word arrival) → StandsAt q (with_act h (act_of t peer word arrival))
-heard_stands (Rtcp compound size) p q h members t peer word stands phase heard was words =
-    let b = backing_off_at p h members stands phase in
-    let hear = hears p q h members t size compound b phase heard in
-    call_stands p q h (act_of t peer word (Rtcp compound size)) (backing_off b.outcome b.backoff) _ stands b.life refl was words (is_call (act_of t peer word (Rtcp compound size)) refl) hear.counts hear.changes hear.at
-heard_stands (Rtp head) p q h members t peer word stands phase heard was words =
-    let b = backing_off_at p h members stands phase in
-    let same = ap (λ (x : ParticipantValue). x.presence) heard in
-    call_stands p q h (act_of t peer word (Rtp head)) (backing_off b.outcome b.backoff) _ stands b.life refl was words (is_call (act_of t peer word (Rtp head)) refl) (counted_call p.presence q.presence t same)
-    (ap (λ (x : ParticipantValue). x.changes) heard) (still_backing_off p q h members t b (ap (λ (x : ParticipantValue). x.phase) heard ∙ phase) same)
-
-waiting_is : (q : ParticipantValue) (members : ℕ) → q.phase ≡ leaving members → step_of q ≡ waiting_step_in members q.presence
-waiting_is q members phase = ap (step_in_phase q.presence) phase
-
-pub heard_step : (arrival : Arrival) (p q : ParticipantValue) (h : History) (members t peer word : ℕ) → StandsAt p h → p.phase ≡ leaving members → HeardAs arrival members t p q
-    → step_of q ≡ step_with None None h (act_of t peer word arrival)
-heard_step (Rtcp compound size) p q h members t peer word stands phase heard =
-    let b = backing_off_at p h members stands phase in
-    let at = (hears p q h members t size compound b phase heard).at in
-    let next = after_farewell size compound b.backoff in
-    waiting_is q (leaving_count next) at.0
-    ∙ waiting_step_agrees q.presence h.setup (leaving_count next) b.outcome next refl at.1
-    ∙ call_step h (act_of t peer word (Rtcp compound size)) (backing_off b.outcome b.backoff) _ None b.life refl refl
-heard_step (Rtp head) p q h members t peer word stands phase heard =
-    let b = backing_off_at p h members stands phase in
-    waiting_is q members (ap (λ (x : ParticipantValue). x.phase) heard ∙ phase)
-    ∙ waiting_step_agrees q.presence h.setup members b.outcome b.backoff b.members_are (ap (λ (x : ParticipantValue). x.presence.timing) heard ∙ b.timing)
-    ∙ call_step h (act_of t peer word (Rtp head)) (backing_off b.outcome b.backoff) (backing_off b.outcome b.backoff) None b.life refl refl

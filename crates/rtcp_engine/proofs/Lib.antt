@@ -1,13 +1,13 @@
+mod Acting
 mod Agreeing
 mod Among
 mod Arriving
 mod Beginning
 mod Bounded
-mod Calls
 mod ChangeRows
 mod Choosing
 mod Counting
-mod Due
+mod Doing
 mod Following
 mod LateRows
 mod LeavingRows

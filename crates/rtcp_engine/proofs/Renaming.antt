@@ -23,7 +23,7 @@ use Rattle.rtcp_engine.specs.Presence.{with_act}
 use Rattle.rtcp_engine.specs.Answers.{out_at}
 use Rattle.rtcp_engine.specs.Changes.{is_in_table}
 use Rattle.rtcp_engine.specs.Taken.{HasWords, WasTaken}
-use Rattle.rtcp_engine.specs.States.{State, Agrees, StandsStill, ParticipantValue, IsAt, StandsAt, leaving, over}
+use Rattle.rtcp_engine.specs.States.{State, Agrees, StandsStill, Waits, ParticipantValue, IsAt, StandsAt, leaving, over}
 use Rattle.rtcp_engine.specs.Moves as moves
 use Rattle.rtcp_engine.specs.Moves.{own_bye_in}
 
@@ -110,12 +110,15 @@ renamed_is_at p q t peer ssrc (present outcome) at there same phase =
     (phase ∙ at.0, subst (λ (s : State). Agrees s (with_change p.presence.setup outcome)) (sym same) (renamed_agrees p.presence outcome t ssrc at.1))
 renamed_is_at p q t peer ssrc (backing_off outcome backoff) at there same phase =
     let heard = has_sent outcome.own in
-    let size = length (bye_octets p.presence.setup) in (
+    let size = length (bye_octets p.presence.setup) in
+    let next = after_own_bye p.presence.setup outcome backoff in (
       phase ∙ at.0 ∙ ap leaving (sym (bye_keeps_count heard size backoff)),
-      ap (λ (s : State). s.timing) same ∙ at.1 ∙ sym (bye_keeps_timing heard size backoff),
-      ap (λ (s : State). s.average) same ∙ renamed_average p.presence outcome backoff t ssrc at.3 at.2
-          ∙ sym (ap (λ (s : State). leaving_average s.setup (after_own_bye p.presence.setup outcome backoff).farewells) same),
-      subst (λ (s : State). StandsStill s (counted_anew outcome)) (sym same) (renamed_still p.presence outcome t ssrc at.3),
+      subst (λ (s : State). Waits s (counted_anew outcome) next) (sym same)
+          (record {
+            timing = at.1.timing ∙ sym (bye_keeps_timing heard size backoff);
+            average = renamed_average p.presence outcome backoff t ssrc at.1.still at.1.average;
+            still = renamed_still p.presence outcome t ssrc at.1.still;
+          }),
     )
 renamed_is_at p q t peer ssrc (gone outcome) at there same phase = absurd (there at)
 
@@ -147,7 +150,7 @@ bye_in_life p setup t peer ssrc (present outcome) at there same =
     ∙ (λ i. if heard_agrees p.presence outcome.own at.1.own i then Some (bye_out (bye_octets (same i))) else None)
 bye_in_life p setup t peer ssrc (backing_off outcome backoff) at there same =
     bye_by p.presence.own.heard (bye_octets p.presence.setup)
-    ∙ (λ i. if heard_agrees p.presence outcome.own at.3.own i then Some (bye_out (bye_octets (same i))) else None)
+    ∙ (λ i. if heard_agrees p.presence outcome.own at.1.still.own i then Some (bye_out (bye_octets (same i))) else None)
 bye_in_life p setup t peer ssrc (gone outcome) at there same = absurd (there at)
 
 pub renamed_out : (p : ParticipantValue) (h : History) (t peer ssrc : ℕ) → StandsAt p h → (p.phase ≡ over → ⊥) → option_map bye_out (own_bye_in p.presence) ≡ out_at h (renamed t peer ssrc)
@@ -159,7 +162,7 @@ held_by : (p : ParticipantValue) (setup : Setup) (ssrc : ℕ) (life : Life) → 
 held_by p setup ssrc (present outcome) at there same =
     ap is_some (at.1.table ssrc) ∙ (λ i. is_some (entry_at ((at.1.capacity ∙ ap (λ (s : Setup). s.capacity) same) i) ((at.1.rate ∙ ap (λ (s : Setup). s.rate) same) i) outcome.trace ssrc))
 held_by p setup ssrc (backing_off outcome backoff) at there same =
-    ap is_some (at.3.table ssrc) ∙ (λ i. is_some (entry_at ((at.3.capacity ∙ ap (λ (s : Setup). s.capacity) same) i) ((at.3.rate ∙ ap (λ (s : Setup). s.rate) same) i) outcome.trace ssrc))
+    ap is_some (at.1.still.table ssrc) ∙ (λ i. is_some (entry_at ((at.1.still.capacity ∙ ap (λ (s : Setup). s.capacity) same) i) ((at.1.still.rate ∙ ap (λ (s : Setup). s.rate) same) i) outcome.trace ssrc))
 held_by p setup ssrc (gone outcome) at there same = absurd (there at)
 
 same_table : (setup : Setup) (ssrc new : ℕ) (life : Life) → is_in_table (named new setup) life ssrc ≡ is_in_table setup life ssrc

@@ -1,5 +1,5 @@
 -- What holds of every participant is kept by each move.
-use Rattle.std.proofs.Common.{◌≡◌, ℕ, ◌+◌, ◌-◌, ◌^◌, ◌<◌, ◌≤◌, ◌==◌, Bool, true, false, not, nat_lt, List, [], ◌∷◌, map, filter, All, Option, if◌then◌else◌, arith, ◌∙◌, ap, refl, sym, subst}
+use Rattle.std.proofs.Common.{◌≡◌, ℕ, ◌+◌, ◌-◌, ◌^◌, ◌<◌, ◌≤◌, ◌==◌, Bool, true, false, not, List, [], ◌∷◌, map, filter, All, Option, if◌then◌else◌, arith, ◌∙◌, refl, sym, subst}
 use Rattle.std.specs.FinMap as finite
 use Rattle.std.proofs.lemmas.List.Elements.{All-nil, All-cons}
 use Rattle.rtcp_wire.specs.declared.fact.Fact.{Fact}
@@ -11,11 +11,10 @@ use Rattle.rtcp_members.specs.Tables.{TableValue, KeepsBounds, HasFew, counted, 
 use Rattle.rtcp_members.specs.Pending.{EntryRow, after_blocks}
 use Rattle.rtcp_members.proofs.LawLemmas as tables
 use Rattle.rtcp_report.proofs.LawLemmas.{tables_follow_reports-packets}
-use Rattle.rtcp_timer.specs.Schedules.{Timing, recounted, after_departure, after}
+use Rattle.rtcp_timer.specs.Schedules.{Timing}
 use Rattle.rtcp_engine.specs.OwnValues.{OwnValue}
-use Rattle.rtcp_engine.specs.Histories.{media_fact}
+use Rattle.rtcp_engine.specs.Histories.{media_fact, facts_of_csrcs, facts_of_media}
 use Rattle.rtcp_engine.specs.States.{State, state_with, IsSound}
-use Rattle.rtcp_engine.specs.Moves.{csrc_facts, media_facts_of}
 
 -- a table that another became, with its bounds and room, and few packets of each source
 pub record IsKept (old new : TableValue) (packets : ℕ) : Type 0 where
@@ -49,29 +48,18 @@ kept {s} sound table timing average own cursor reports last calls is_kept in_ste
 few_entries : {s : State} → IsSound s → finite.len s.table.entries ≤ s.table.capacity
 few_entries {s} sound = omega (arith, sound.room, sound.capacity)
 
--- a table of one more call has room for at most 1,024
-pub has_room : {s : State} → IsSound s → (table : TableValue) (packets : ℕ) → IsKept s.table table packets → finite.len table.entries ≤ 1024
-has_room {s} sound table packets is_kept = omega (arith, is_kept.room, sound.capacity, sound.usable.capacity.1)
-
-pub same_kept : {s : State} → IsSound s → IsKept s.table s.table (s.calls + 1)
-same_kept {s} sound = record {
-  bounds = record { capacity = refl; rate = refl };
-  room = few_entries sound;
-  few = tables.packets_are_few-more s.calls (s.calls + 1) s.table (omega arith) sound.few;
-}
-
-pub facts_kept : {s : State} → IsSound s → (facts : List Fact) (t : ℕ) → All (λ fact. is_media fact ≡ false) facts → IsKept s.table (after_facts facts t s.table) (s.calls + 1)
+pub facts_kept : {s : State} → IsSound s → (facts : List Fact) (t : ℕ) → All (λ fact. is_media fact ≡ false) facts → IsKept s.table (after_facts facts t s.table) s.calls
 facts_kept {s} sound facts t none = record {
   bounds = tables.bounds_are_kept-facts s.table facts t;
   room = tables.capacity_is_kept-facts s.table facts t (few_entries sound);
-  few = tables.packets_are_few-more s.calls (s.calls + 1) (after_facts facts t s.table) (omega arith) (tables.packets_are_few-facts s.calls s.table facts t none sound.few);
+  few = tables.packets_are_few-facts s.calls s.table facts t none sound.few;
 }
 
-pub check_kept : {s : State} → IsSound s → (horizons : Horizons) → IsKept s.table (after_check horizons s.table) (s.calls + 1)
+pub check_kept : {s : State} → IsSound s → (horizons : Horizons) → IsKept s.table (after_check horizons s.table) s.calls
 check_kept {s} sound horizons = record {
   bounds = tables.bounds_are_kept-check s.table horizons;
   room = tables.capacity_is_kept-check s.table horizons (few_entries sound);
-  few = tables.packets_are_few-more s.calls (s.calls + 1) (after_check horizons s.table) (omega arith) (tables.packets_are_few-check s.calls s.table horizons sound.few);
+  few = tables.packets_are_few-check s.calls s.table horizons sound.few;
 }
 
 pub blocks_kept : {s : State} → IsSound s → (rows : List EntryRow) → IsKept s.table (after_blocks rows s.table) s.calls
@@ -89,45 +77,33 @@ map_of_test : (other : Bool) (csrc : ℕ) (csrcs : List ℕ) → map Heard (if o
 map_of_test true csrc csrcs = refl
 map_of_test false csrc csrcs = refl
 
-heard_facts : (own : ℕ) (csrcs : List ℕ) → All (λ fact. is_media fact ≡ false) (csrc_facts own csrcs)
+heard_facts : (own : ℕ) (csrcs : List ℕ) → All (λ fact. is_media fact ≡ false) (facts_of_csrcs own csrcs)
 heard_facts own [] = All-nil (λ fact. is_media fact ≡ false)
 heard_facts own (csrc ∷ csrcs) =
     let other = not (csrc == own) in
     subst (λ (facts : List Fact). All (λ fact. is_media fact ≡ false) facts) (sym (map_of_test other csrc (filter (λ ssrc. not (ssrc == own)) csrcs)))
-    (one_heard other csrc (csrc_facts own csrcs) (heard_facts own csrcs))
+    (one_heard other csrc (facts_of_csrcs own csrcs) (heard_facts own csrcs))
 
 few_media : (own : ℕ) (head : RtpValue) (is_counted : Bool) (table : TableValue) (t packets : ℕ) → HasFew packets table →
-    HasFew (packets + 1) (after_facts (media_fact head ∷ (if is_counted then csrc_facts own head.csrcs else [])) t table)
+    HasFew (packets + 1) (after_facts (media_fact head ∷ (if is_counted then facts_of_csrcs own head.csrcs else [])) t table)
 few_media own head true table t packets few =
-    tables.packets_are_few-facts (packets + 1) (after_fact (media_fact head) t table) (csrc_facts own head.csrcs) t (heard_facts own head.csrcs)
+    tables.packets_are_few-facts (packets + 1) (after_fact (media_fact head) t table) (facts_of_csrcs own head.csrcs) t (heard_facts own head.csrcs)
     (tables.packets_are_few-fact packets table (media_fact head) t few)
 few_media own head false table t packets few = tables.packets_are_few-fact packets table (media_fact head) t few
 
-pub media_kept : {s : State} → IsSound s → (own : ℕ) (head : RtpValue) (t : ℕ) → IsKept s.table (after_facts (media_facts_of own head s.table) t s.table) (s.calls + 1)
-media_kept {s} sound own head t = record {
-  bounds = tables.bounds_are_kept-facts s.table (media_facts_of own head s.table) t;
-  room = tables.capacity_is_kept-facts s.table (media_facts_of own head s.table) t (few_entries sound);
-  few = few_media own head (counted s.table (media_fact head)) s.table t s.calls sound.few;
-}
+-- a source has a packet more, but still no more than there were calls
+pub media_kept : {s : State} → IsSound s → 0 < s.calls → HasFew (s.calls - 1) s.table → (head : RtpValue) (t : ℕ) →
+    IsKept s.table (after_facts (facts_of_media s.setup.ssrc head (counted s.table (media_fact head))) t s.table) s.calls
+media_kept {s} sound some few head t =
+    let facts = facts_of_media s.setup.ssrc head (counted s.table (media_fact head)) in
+    record {
+      bounds = tables.bounds_are_kept-facts s.table facts t;
+      room = tables.capacity_is_kept-facts s.table facts t (few_entries sound);
+      few = tables.packets_are_few-more (s.calls - 1 + 1) s.calls (after_facts facts t s.table) (omega (arith, some)) (few_media s.setup.ssrc head (counted s.table (media_fact head)) s.table t (s.calls - 1) few);
+    }
 
 -- ---- Schedules and calls
 
-recounted_by : (fewer : Bool) (t members : ℕ) (timing : Timing) → timing.last ≤ t → (if fewer then after_departure t members timing else timing).last ≤ t
-recounted_by true t members timing h = omega arith
-recounted_by false t members timing h = h
-
--- a count of members leaves the last transmission in the past
-pub recounted_last : (t members : ℕ) (timing new : Timing) → new ≡ after (recounted t members) timing → timing.last ≤ t → new.last ≤ t
-recounted_last t members timing new is h = subst (λ (n : Timing). n.last ≤ t) (sym is) (recounted_by (nat_lt members timing.known) t members timing h)
-
--- the last transmission of a participant that takes a call
-pub past : {s : State} → IsSound s → (w : State) → s ≡ w → (t : ℕ) → w.last ≤ t → s.timing.last ≤ t
-past {s} sound w is t order = omega (arith, sound.timing, order, ap (λ (x : State). x.last) is)
-
-pub one_call : {s : State} → IsSound s → (w : State) → s ≡ w → (t : ℕ) → t ≤ 2 ^ 50 → w.calls < 2 ^ 40 - 1 → (transmission : ℕ) → transmission ≤ t → IsInStep transmission s.reports t (s.calls + 1)
-one_call {s} sound w is t moment calls transmission h = record {
-  is_past = h;
-  in_range = moment;
-  fewer = omega (arith, sound.reports);
-  few = omega (arith, calls, ap (λ (x : State). x.calls) is);
-}
+-- no call is taken
+pub no_call : {s : State} → IsSound s → IsInStep s.timing.last s.reports s.last s.calls
+no_call {s} sound = record { is_past = sound.timing; in_range = sound.last; fewer = sound.reports; few = sound.calls }

@@ -10,13 +10,13 @@ use Rattle.rtcp_engine.specs.Histories.{History}
 use Rattle.rtcp_engine.specs.Presence.{last_moment, refusal_of, refusal_of_datagram, with_act}
 use Rattle.rtcp_engine.specs.Steps.{OutValue, StepValue, answer_unless}
 use Rattle.rtcp_engine.specs.Leaving.{Life}
-use Rattle.rtcp_engine.specs.Lives.{lived, life_at, out_by, members_in_life, senders_in_life, next_in_life}
+use Rattle.rtcp_engine.specs.Lives.{lived, life_at, members_in_life, senders_in_life, next_in_life}
 use Rattle.rtcp_engine.specs.Changes.{change_by}
 use Rattle.rtcp_engine.specs.Answers.{step_with, step_by, refusal_in, refusal_after, answer_of, followed_by, with_change_of}
 use Rattle.rtcp_engine.specs.Sent.{is_change}
 use Rattle.rtcp_engine.specs.Taken.{HasWords, WasTaken}
 use Rattle.rtcp_engine.specs.States.{State, ParticipantValue, IsAt, HasChanged, StandsAt}
-use Rattle.rtcp_engine.specs.Moves.{call_refusal, with_call}
+use Rattle.rtcp_engine.specs.Moves.{call_refusal}
 
 -- ---- Refusals
 
@@ -101,13 +101,6 @@ pub record Counts (s t : State) (moment : ℕ) : Type 0 where
   pub last : t.last ≡ moment
   pub calls : t.calls ≡ s.calls + 1
 
-pub counted_call : (s t : State) (moment : ℕ) → t ≡ with_call moment s → Counts s t moment
-counted_call s t moment same = record {
-  setup = ap (λ (x : State). x.setup) same;
-  last = ap (λ (x : State). x.last) same;
-  calls = ap (λ (x : State). x.calls) same;
-}
-
 pub same_changes : (act : Act) → IsCall act → (changes : List Change) (one other : ℕ) (h : History) → other ≡ one → HasChanged changes one h → HasChanged changes other (with_act h act)
 same_changes act call changes one other h same has = record {
   peers = has.peers ∙ sym (call.same_peers h.acts);
@@ -130,13 +123,6 @@ call_stands p q h act life next stands is lives taken words call counts changes 
 -- what is answered where a life becomes another
 abbrev pub step_into : Setup → Option OutValue → Life → StepValue
 step_into setup out next = record { out = out; members = members_in_life setup next; senders = senders_in_life setup next; next = next_in_life next; changed = None }
-
-pub call_step : (h : History) (act : Act) (life next : Life) (out : Option OutValue) → life_at h ≡ life → lived (setup_now h.setup h.acts) act life ≡ next → out_by (setup_now h.setup h.acts) act life ≡ out
-    → step_into h.setup out next ≡ step_with None None h act
-call_step h act life next out is lives outs =
-    let comes = ap (lived (setup_now h.setup h.acts) act) is ∙ lives in
-    let brings = ap (out_by (setup_now h.setup h.acts) act) is ∙ outs in
-    λ i. step_into h.setup (sym brings i) (sym comes i)
 
 -- ---- Calls that bring no change
 

@@ -1,5 +1,5 @@
 -- A participant that is asked late enough sends.
-use Rattle.std.proofs.Common.{◌≡◌, ℕ, ◌+◌, ◌^◌, ◌<◌, ◌≤◌, ◌&&◌, ◌==◌, nat_lt, nat_le, max, Bool, true, false, IsTrue, is_some, List, [], ◌∷◌, length, map, Option, Some, None, option_map, Ok, Err, if◌then◌else◌, refl, sym, arith, subst, inl, inr}
+use Rattle.std.proofs.Common.{◌≡◌, ℕ, ◌+◌, ◌^◌, ◌<◌, ◌≤◌, ◌&&◌, ◌==◌, nat_lt, nat_le, max, Bool, true, false, IsTrue, is_some, List, [], ◌∷◌, length, map, filter, not, Option, Some, None, option_map, Ok, Err, if◌then◌else◌, refl, sym, arith, subst, inl, inr}
 use Rattle.std.proofs.lemmas.Bool.{cases_lt, lt-ltb, le-ltb, le-leb}
 use Rattle.rtcp_clock.specs.Intervals.{drawn_interval, longest_draw}
 use Rattle.rtcp_clock.proofs.LawLemmas.{draw_within_bounds, longest_never_falls}
@@ -18,7 +18,7 @@ use Rattle.rtcp_engine.specs.Identities.{named, setup_now}
 use Rattle.rtcp_engine.specs.OwnStreams.{has_sent}
 use Rattle.rtcp_engine.specs.Outcomes.{Outcome, interval_at, member_count, nothing_yet}
 use Rattle.rtcp_engine.specs.Ticks.{checked, has_come, has_passed, is_report_due, put_off, reported, with_recount, with_report}
-use Rattle.rtcp_engine.specs.Histories.{History, other_csrcs, with_media}
+use Rattle.rtcp_engine.specs.Histories.{History, with_media}
 use Rattle.rtcp_engine.specs.Reporting.{bye_octets, report_octets}
 use Rattle.rtcp_engine.specs.Presence.{last_moment, report_out}
 use Rattle.rtcp_engine.specs.Taken.{HasWords, WasTaken, AllTaken, IsHistory}
@@ -61,7 +61,7 @@ media_keeps : (setup : Setup) (moment : ℕ) (head : RtpValue) (outcome : Outcom
 media_keeps setup moment head outcome =
     let media = Media head.ssrc head.sequence head.timestamp in
     let kept = facts_keep_members setup.capacity setup.rate outcome.trace media moment refl in
-    let others = csrcs_keep_if setup.capacity setup.rate moment (counted_at setup.capacity setup.rate outcome.trace media) (other_csrcs setup head) (fact_came media moment ∷ outcome.trace) in
+    let others = csrcs_keep_if setup.capacity setup.rate moment (counted_at setup.capacity setup.rate outcome.trace media) (filter (λ ssrc. not (ssrc == setup.ssrc)) head.csrcs) (fact_came media moment ∷ outcome.trace) in
     omega (arith, kept, others)
 
 -- ---- While the participant takes part

@@ -10,7 +10,7 @@ use Rattle.rtcp_engine.specs.Histories.{History}
 use Rattle.rtcp_engine.specs.Steps.{OutValue, StepValue, AnswerValue, answer_unless}
 use Rattle.rtcp_engine.specs.Presence.{refusal_of, with_act}
 use Rattle.rtcp_engine.specs.Leaving.{Life, present, backing_off, gone}
-use Rattle.rtcp_engine.specs.Lives.{life_at, members_in_life, senders_in_life, next_in_life, out_by}
+use Rattle.rtcp_engine.specs.Lives.{life_at, out_by, step_into}
 
 -- ---- Steps
 
@@ -29,13 +29,9 @@ out_of (Some change) history = out_at history change
 
 -- what is answered to an act that is taken, after its change
 abbrev pub step_with : (changed : Option ℕ) → (farewell : Option OutValue) → History → Act → StepValue
-step_with changed farewell history act = let after = with_act history act in record {
-  out = option_or farewell (out_at history act);
-  members = members_in_life after.setup (life_at after);
-  senders = senders_in_life after.setup (life_at after);
-  next = next_in_life (life_at after);
-  changed = changed;
-}
+step_with changed farewell history act =
+    let out = option_or farewell (out_at history act) in
+    record (step_into history.setup out (life_at (with_act history act))) { changed = changed }
 
 abbrev pub ssrc_of : Act → ℕ
 ssrc_of (rtcp_came moment peer word size reading) = 0

@@ -1,5 +1,5 @@
 -- What the acts of a session come to, from its beginning on. A history is a list of acts, newest first.
-use Rattle.std.specs.Prelude.{ℕ, ◌==◌, not, List, [], ◌∷◌, map, filter, length, if◌then◌else◌, Result, Ok, Err}
+use Rattle.std.specs.Prelude.{ℕ, ◌==◌, not, Bool, List, [], ◌∷◌, map, filter, length, if◌then◌else◌, Result, Ok, Err}
 use Rattle.rtcp_wire.specs.declared.fact.Fact.{Fact}
 use Rattle.rtcp_wire.specs.declared.fact.Fact.TheVariants.{Heard, Media}
 use Rattle.rtcp_wire.specs.declared.fault.WireFault.{WireFault}
@@ -20,32 +20,30 @@ use Rattle.rtcp_engine.specs.Ticks.{with_recount, after_tick}
 
 -- The facts of a compound that came (RFC 3550, 6.3.3, 6.3.7). It moves the average, and members may have
 -- departed.
+abbrev pub with_facts_of : (t size : ℕ) → List RtcpPacket → Outcome → Outcome
+with_facts_of t size packets outcome =
+    record outcome { trace = with_facts (facts_of packets) t outcome.trace; sizes = size ∷ outcome.sizes }
+
 abbrev pub with_compound : Setup → (t size : ℕ) → List RtcpPacket → Outcome → Outcome
-with_compound setup t size packets outcome =
-    with_recount setup t (record outcome {
-      trace = with_facts (facts_of packets) t outcome.trace;
-      sizes = size ∷ outcome.sizes;
-    })
+with_compound setup t size packets outcome = with_recount setup t (with_facts_of t size packets outcome)
 
 abbrev pub media_fact : RtpValue → Fact
 media_fact head = Media head.ssrc head.sequence head.timestamp
 
--- the contributing sources of a packet, but for the participant itself
-abbrev pub other_csrcs : Setup → RtpValue → List ℕ
-other_csrcs setup head = filter (λ ssrc. not (ssrc == setup.ssrc)) head.csrcs
+-- what the contributing sources give, but for the participant itself
+abbrev pub facts_of_csrcs : (own : ℕ) → (csrcs : List ℕ) → List Fact
+facts_of_csrcs own csrcs = map Heard (filter (λ ssrc. not (ssrc == own)) csrcs)
 
 -- The facts of an RTP packet that came (6.3.3): the packet, and if it is counted, its contributing sources
 -- too.
-abbrev pub facts_of_media : Setup → RtpValue → Outcome → List Fact
-facts_of_media setup head outcome =
-    media_fact head ∷
-    (if counted_at setup.capacity setup.rate outcome.trace (media_fact head)
-    then map Heard (other_csrcs setup head)
-    else [])
+abbrev pub facts_of_media : (own : ℕ) → RtpValue → (is_counted : Bool) → List Fact
+facts_of_media own head is_counted =
+    media_fact head ∷ (if is_counted then facts_of_csrcs own head.csrcs else [])
 
 abbrev pub with_media : Setup → (t : ℕ) → RtpValue → Outcome → Outcome
 with_media setup t head outcome =
-    record outcome { trace = with_facts (facts_of_media setup head outcome) t outcome.trace }
+    let is_counted = counted_at setup.capacity setup.rate outcome.trace (media_fact head) in
+    record outcome { trace = with_facts (facts_of_media setup.ssrc head is_counted) t outcome.trace }
 
 -- What a datagram with a fault would change is nothing, and so no history holds one.
 abbrev pub with_reading : Setup → (t size : ℕ) → Result (List RtcpPacket) WireFault → Outcome → Outcome
@@ -55,6 +53,11 @@ with_reading setup t size (Err fault) outcome = outcome
 abbrev pub with_rtp_reading : Setup → (t : ℕ) → Result RtpValue RtpFault → Outcome → Outcome
 with_rtp_reading setup t (Ok head) outcome = with_media setup t head outcome
 with_rtp_reading setup t (Err fault) outcome = outcome
+
+-- ---- Sent packets
+
+abbrev pub with_packet : (t timestamp octets : ℕ) → Outcome → Outcome
+with_packet t timestamp octets outcome = record outcome { own = packet_sent t timestamp octets ∷ outcome.own }
 
 -- ---- Changes of identifier
 
@@ -73,8 +76,7 @@ with_change setup outcome =
 abbrev pub after : Setup → Act → Outcome → Outcome
 after setup (rtcp_came moment peer word size reading) outcome = with_reading setup moment size reading outcome
 after setup (rtp_came moment peer word reading) outcome = with_rtp_reading setup moment reading outcome
-after setup (rtp_sent moment timestamp octets) outcome =
-    record outcome { own = packet_sent moment timestamp octets ∷ outcome.own }
+after setup (rtp_sent moment timestamp octets) outcome = with_packet moment timestamp octets outcome
 after setup (ticked moment first_word second_word) outcome =
     after_tick setup moment first_word second_word outcome
 after setup (left moment word) outcome = outcome

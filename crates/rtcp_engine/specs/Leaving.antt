@@ -67,11 +67,14 @@ leaving_interval setup backoff = interval_of (leaving_load setup (leaving_count 
 abbrev pub leaving_timing : Backoff → Timing
 leaving_timing backoff = schedule_at backoff.happenings
 
+abbrev pub with_farewell_of : (byes size : ℕ) → Backoff → Backoff
+with_farewell_of byes size backoff =
+    record backoff { farewells = record { byes = byes; size = size } ∷ backoff.farewells }
+
 -- A compound counts if it has a BYE packet.
 abbrev pub after_farewell : (size : ℕ) → List RtcpPacket → Backoff → Backoff
 after_farewell size packets backoff =
-    if bye_count packets == 0 then backoff
-    else record backoff { farewells = record { byes = bye_count packets; size = size } ∷ backoff.farewells }
+    if bye_count packets == 0 then backoff else with_farewell_of (bye_count packets) size backoff
 
 abbrev pub is_bye_due : Setup → (t word : ℕ) → Backoff → Bool
 is_bye_due setup t word backoff =
@@ -141,9 +144,7 @@ after_waiting_tick setup t word outcome backoff =
 -- The old identifier's BYE moves the average, if something was sent under that one, and adds no member.
 abbrev pub after_own_bye : Setup → Outcome → Backoff → Backoff
 after_own_bye setup outcome backoff =
-    if has_sent outcome.own
-    then record backoff { farewells = record { byes = 0; size = length (bye_octets setup) } ∷ backoff.farewells }
-    else backoff
+    if has_sent outcome.own then with_farewell_of 0 (length (bye_octets setup)) backoff else backoff
 
 abbrev pub counted_anew : Outcome → Outcome
 counted_anew outcome = record outcome { own = counts_anew ∷ outcome.own }

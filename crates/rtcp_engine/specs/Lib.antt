@@ -21,5 +21,6 @@ pub mod Views
 pub mod Taken
 pub mod OwnValues
 pub mod States
+pub mod Promises
 pub mod Moves
 pub mod Codes

@@ -10,7 +10,7 @@ use Rattle.rtcp_engine.specs.OwnStreams.{has_sent}
 use Rattle.rtcp_engine.specs.Reporting.{bye_octets}
 use Rattle.rtcp_engine.specs.Outcomes.{Outcome, beginning, member_count, sender_count, timing_of}
 use Rattle.rtcp_engine.specs.Histories.{after, History}
-use Rattle.rtcp_engine.specs.Steps.{OutValue}
+use Rattle.rtcp_engine.specs.Steps.{OutValue, StepValue}
 use Rattle.rtcp_engine.specs.Presence.{report_by, report_out}
 use Rattle.rtcp_engine.specs.Leaving.{Backoff, Life, present, backing_off, gone, bye_at_once, after_farewell, after_own_bye, counted_anew, after_waiting_tick, is_bye_due, left_at, leaving_count, leaving_timing}
 
@@ -57,15 +57,6 @@ life_of setup word (act ∷ earlier) = lived (setup_now setup earlier) act (life
 
 abbrev pub life_at : History → Life
 life_at history = life_of history.setup history.word history.acts
-
--- An act that counts for nothing in a backoff.
-abbrev pub PassesBy : Act → Type 0
-PassesBy (rtcp_came moment peer word size reading) = ⊥
-PassesBy (rtp_came moment peer word reading) = ⊥
-PassesBy (rtp_sent moment timestamp octets) = Unit {0}
-PassesBy (ticked moment first_word second_word) = ⊥
-PassesBy (left moment word) = Unit {0}
-PassesBy (renamed moment peer ssrc) = ⊥
 
 -- ---- Counts, with the participant among them until it is gone
 
@@ -117,3 +108,13 @@ abbrev pub out_by : Setup → Act → Life → Option OutValue
 out_by setup act (present outcome) = out_while_present setup act outcome
 out_by setup act (backing_off outcome backoff) = out_while_backing_off setup act outcome backoff
 out_by setup act (gone outcome) = None
+
+-- What is answered where a session has come to this.
+abbrev pub step_into : Setup → Option OutValue → Life → StepValue
+step_into setup out life = record {
+  out = out;
+  members = members_in_life setup life;
+  senders = senders_in_life setup life;
+  next = next_in_life life;
+  changed = None;
+}

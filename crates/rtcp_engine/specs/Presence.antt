@@ -13,8 +13,7 @@ use Rattle.rtcp_engine.specs.Setups.{Setup}
 use Rattle.rtcp_engine.specs.Acts.{Act, rtcp_came, rtp_came, rtp_sent, ticked, left, renamed, moment_of}
 use Rattle.rtcp_engine.specs.Identities.{call_count, may_change, setup_now}
 use Rattle.rtcp_engine.specs.Outcomes.{Outcome}
-use Rattle.rtcp_engine.specs.Reporting.{report_octets}
-use Rattle.rtcp_engine.specs.Ticks.{checked, is_report_due}
+use Rattle.rtcp_engine.specs.Ticks.{checked, report_due}
 use Rattle.rtcp_engine.specs.Histories.{History}
 use Rattle.rtcp_engine.specs.Steps.{OutValue}
 
@@ -68,8 +67,7 @@ report_by setup (rtp_sent moment timestamp octets) outcome = None
 report_by setup (left moment word) outcome = None
 report_by setup (renamed moment peer ssrc) outcome = None
 report_by setup (ticked moment first_word second_word) outcome =
-    let now = checked setup moment outcome in
-    if is_report_due setup moment first_word now then Some (report_octets setup moment now) else None
+    report_due setup moment first_word (checked setup moment outcome)
 
 abbrev pub report_out : List ℕ → OutValue
 report_out octets = record { kind = Report; octets = octets }

@@ -1,5 +1,5 @@
 -- What a participant keeps of its history: a table and a few numbers, and its phase.
-use Rattle.std.specs.Prelude.{ℕ, ◌≡◌, ◌≤◌, ◌<◌, ◌^◌, List, ◌∷◌, length, map as map_list, Option}
+use Rattle.std.specs.Prelude.{ℕ, ◌+◌, ◌≡◌, ◌≤◌, ◌<◌, ◌^◌, List, ◌∷◌, length, map as map_list, Option}
 use Rattle.std.specs.FinMap as map
 use Rattle.rtcp_members.specs.Tables.{TableValue, HasFew, StandsAt as IsTableAt}
 use Rattle.rtcp_timer.specs.Schedules.{Timing}
@@ -11,8 +11,10 @@ use Rattle.rtcp_engine.specs.Outcomes.{Outcome, average_size, timing_of}
 use Rattle.rtcp_engine.specs.Reporting.{last_reported_in}
 use Rattle.rtcp_engine.specs.Histories.{History}
 use Rattle.rtcp_engine.specs.Presence.{last_moment}
-use Rattle.rtcp_engine.specs.Leaving.{Life, present, backing_off, gone, leaving_count, leaving_timing, leaving_average}
-use Rattle.rtcp_engine.specs.Lives.{life_at}
+use Rattle.rtcp_engine.specs.Leaving.{Backoff, Life, present, backing_off, gone, leaving_count, leaving_timing, leaving_average}
+use Rattle.rtcp_engine.specs.Lives.{life_at, lived, out_by}
+use Rattle.rtcp_engine.specs.Steps.{OutValue}
+use Rattle.rtcp_engine.specs.Acts.{Act}
 use Rattle.rtcp_engine.specs.Taken.{IsHistory}
 
 pub record State : Type 0 where
@@ -55,6 +57,21 @@ pub record Agrees (state : State) (outcome : Outcome) : Type 0 where
   pub cursor : state.cursor ≡ last_reported_in outcome.trace
   pub reports : state.reports ≡ length outcome.reports
 
+-- One call more, at a moment.
+abbrev pub with_call : (moment : ℕ) → State → State
+with_call moment state = record state { last = moment; calls = state.calls + 1 }
+
+-- What is no call and no change of identifier.
+pub record Stays (old new : State) : Type 0 where
+  pub setup : new.setup ≡ old.setup
+  pub last : new.last ≡ old.last
+  pub calls : new.calls ≡ old.calls
+
+-- One step of a participant that takes part: what it does to an outcome it does to the table and the numbers.
+pub record Does (old new : State) (step : Setup → Outcome → Outcome) : Type 0 where
+  pub stays : Stays old new
+  pub follows : (outcome : Outcome) → Agrees old outcome → Agrees new (step old.setup outcome)
+
 -- A participant that takes part equals the one computed from its history.
 pub record IsPresentAt (state : State) (history : History) : Type 0 where
   pub is_history : IsHistory history
@@ -71,6 +88,18 @@ pub record StandsStill (state : State) (outcome : Outcome) : Type 0 where
   pub capacity : state.table.capacity ≡ state.setup.capacity
   pub rate : state.table.rate ≡ state.setup.rate
   pub own : state.own ≡ own_of outcome.own
+
+-- The numbers of one that backs off.
+pub record Waits (state : State) (outcome : Outcome) (backoff : Backoff) : Type 0 where
+  pub timing : state.timing ≡ leaving_timing backoff
+  pub average : state.average ≡ leaving_average state.setup backoff.farewells
+  pub still : StandsStill state outcome
+
+-- One step of a participant that backs off, with so many members.
+pub record DoesWaiting (members : ℕ) (old new : State) (step : Setup → Backoff → Backoff) : Type 0 where
+  pub stays : Stays old new
+  pub follows : (outcome : Outcome) (backoff : Backoff) → Waits old outcome backoff →
+      members ≡ leaving_count backoff → Waits new outcome (step old.setup backoff)
 
 -- What holds of every participant that takes part or did.
 pub record IsSound (state : State) : Type 0 where
@@ -103,6 +132,9 @@ pub record ParticipantValue : Type 0 where
   -- its changes of identifier, newest first
   pub changes : List Change
 
+abbrev pub called : (moment : ℕ) → ParticipantValue → ParticipantValue
+called moment participant = record participant { presence = with_call moment participant.presence }
+
 -- What holds of a phase: the number of those who leave has 16 bits.
 abbrev pub IsCounted : PhaseValue → Type 0
 IsCounted taking_part = Unit {0}
@@ -113,11 +145,15 @@ IsCounted over = Unit {0}
 abbrev pub IsAt : ParticipantValue → Life → Type 0
 IsAt participant (present outcome) = (participant.phase ≡ taking_part) × Agrees participant.presence outcome
 IsAt participant (backing_off outcome backoff) =
-    (participant.phase ≡ leaving (leaving_count backoff))
-    × (participant.presence.timing ≡ leaving_timing backoff)
-    × (participant.presence.average ≡ leaving_average participant.presence.setup backoff.farewells)
-    × StandsStill participant.presence outcome
+    (participant.phase ≡ leaving (leaving_count backoff)) × Waits participant.presence outcome backoff
 IsAt participant (gone outcome) = participant.phase ≡ over
+
+-- A participant whose call was counted does as its session does with an act, and hands this out.
+pub record Acts (old new : ParticipantValue) (act : Act) (out : Option OutValue) : Type 0 where
+  pub stays : Stays old.presence new.presence
+  pub changes : new.changes ≡ old.changes
+  pub lives : (life : Life) → IsAt old life → IsAt new (lived old.presence.setup act life)
+  pub hands_out : (life : Life) → IsAt old life → out ≡ out_by old.presence.setup act life
 
 -- The changes of identifier are those of the acts: whose datagrams brought them, and the identifiers that were given
 -- up for the present one.

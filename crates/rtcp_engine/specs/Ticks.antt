@@ -1,6 +1,6 @@
 -- What a tick makes of a session (RFC 3550, 6.3.4 to 6.3.6): a check of the members, and a report where one
 -- is due.
-use Rattle.std.specs.Prelude.{ℕ, ◌+◌, ◌-◌, ◌*◌, ◌&&◌, Bool, nat_le, ◌∷◌, if◌then◌else◌, length}
+use Rattle.std.specs.Prelude.{ℕ, ◌+◌, ◌-◌, ◌*◌, ◌&&◌, Bool, nat_le, List, ◌∷◌, if◌then◌else◌, length, Option, Some, None}
 use Rattle.rtcp_clock.specs.Intervals.{drawn_interval}
 use Rattle.rtcp_members.specs.Traces.{Horizons, horizons_at, check_made}
 use Rattle.rtcp_report.specs.Traced.{with_blocks}
@@ -29,9 +29,12 @@ with_check horizons outcome =
       own = check_passed horizons.idle ∷ outcome.own;
     }
 
+-- Those who are silent for too long are dropped.
+abbrev pub without_silent : Setup → (t : ℕ) → Outcome → Outcome
+without_silent setup t outcome = with_check (horizons_of t (receiver_interval_at setup outcome)) outcome
+
 abbrev pub checked : Setup → (t : ℕ) → Outcome → Outcome
-checked setup t outcome =
-    with_recount setup t (with_check (horizons_of t (receiver_interval_at setup outcome)) outcome)
+checked setup t outcome = with_recount setup t (without_silent setup t outcome)
 
 -- ---- Reports
 
@@ -47,6 +50,11 @@ has_passed setup t word outcome =
 abbrev pub is_report_due : Setup → (t word : ℕ) → Outcome → Bool
 is_report_due setup t word outcome = has_come t outcome && has_passed setup t word outcome
 
+-- the octets of the report, if one is due
+abbrev pub report_due : Setup → (t word : ℕ) → Outcome → Option (List ℕ)
+report_due setup t word outcome =
+    if is_report_due setup t word outcome then Some (report_octets setup t outcome) else None
+
 abbrev pub with_report : Setup → (t : ℕ) → Outcome → Outcome
 with_report setup t outcome =
     record outcome {
@@ -60,16 +68,19 @@ with_report setup t outcome =
       } ∷ outcome.reports;
     }
 
+-- The next interval is drawn.
+abbrev pub drawn_anew : Setup → (t word : ℕ) → Outcome → Outcome
+drawn_anew setup t word outcome =
+    record outcome {
+      happenings =
+          transmitted t (drawn_interval (interval_at setup outcome) word) (member_count setup outcome)
+          ∷ outcome.happenings;
+    }
+
 -- A report is sent, and then the next interval is drawn: by the average with this report in it, and by the
 -- minimum after the first report (6.3.6).
 abbrev pub reported : Setup → (t word : ℕ) → Outcome → Outcome
-reported setup t word outcome =
-    let sent = with_report setup t outcome in
-    record sent {
-      happenings =
-          transmitted t (drawn_interval (interval_at setup sent) word) (member_count setup sent)
-          ∷ sent.happenings;
-    }
+reported setup t word outcome = drawn_anew setup t word (with_report setup t outcome)
 
 -- It is not due yet, and the next moment to ask is later.
 abbrev pub put_off : Setup → (t word : ℕ) → Outcome → Outcome
@@ -79,6 +90,10 @@ put_off setup t word outcome =
           tried t (drawn_interval (interval_at setup outcome) word) (member_count setup outcome)
           ∷ outcome.happenings;
     }
+
+-- what asking whether a report is due leaves, if none is sent
+abbrev pub tried_at : Setup → (t word : ℕ) → Outcome → Outcome
+tried_at setup t word outcome = if has_come t outcome then put_off setup t word outcome else outcome
 
 -- ---- Ticks
 

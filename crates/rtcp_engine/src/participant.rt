@@ -1,20 +1,19 @@
 //! A participant of a session, up to its leave and through it (RFC 3550, 6.2, 6.3).
 
-ghost use Rattle.std.specs.Prelude.{◌≡◌, ◌↔◌, ◌≤◌, ◌<◌, List, Result, Some, Err, IfOk, IsTrue, OnErr, is_some, length, option_map};
+ghost use Rattle.std.specs.Prelude.{◌≡◌, ◌↔◌, ◌<◌, List, Result, Some, Err, IfOk, IsTrue, OnErr, is_some, length};
 ghost use Rattle.rtcp_wire.specs.declared.fault.WireFault.{WireFault as Fault};
 ghost use Rattle.rtcp_wire.specs.declared.rtp.fault.RtpFault.{RtpFault as HeadFault};
 ghost use Rattle.rtcp_wire.specs.Values.{RtcpPacket};
 ghost use Rattle.rtcp_wire.specs.RtpHeads.{RtpValue};
 ghost use Rattle.rtcp_engine.specs.declared.config.ConfigError.{ConfigError as Error};
 ghost use Rattle.rtcp_engine.specs.Acts.{rtcp_came, rtp_came, rtp_sent, ticked, left, IsReading, IsRtpReading};
-ghost use Rattle.rtcp_engine.specs.Answers.{answer_of, followed_by};
 ghost use Rattle.rtcp_engine.specs.Histories.{History};
 ghost use Rattle.rtcp_engine.specs.Identities.{setup_now};
 ghost use Rattle.rtcp_engine.specs.Lives.{life_at, members_in_life, senders_in_life, next_in_life};
 ghost use Rattle.rtcp_engine.specs.Refused.{error_in};
 ghost use Rattle.rtcp_engine.specs.States.{KeepsCapacity, StandsAt};
 ghost use Rattle.rtcp_engine.specs.InTime.{IsOverdue};
-ghost use Rattle.rtcp_engine.specs.Spacing.{KeepsBounds};
+ghost use Rattle.rtcp_engine.specs.Promises.{Takes};
 ghost use Rattle.rtcp_engine.specs.Taken.{begun};
 ghost use Rattle.rtcp_engine.specs.Views.{setup_of, answer_value};
 
@@ -147,15 +146,8 @@ impl<T: MemberTable> Participant<T> {
     ///
     /// The first of E1 to E5 and E7 that applies. Then the participant is unchanged.
     pub fn arrive_rtcp(&mut self, now: u64, peer: u64, w: u32, bytes: &[u8]) -> Answer
-        ensures answer { (history : History) (reading : Result (List RtcpPacket) Fault) →
-            StandsAt self.old history → IsReading bytes.now reading →
-            answer_value result ≡ answer_of history (rtcp_came now peer w (length bytes.now) reading) }
-        ensures stands { (history : History) (reading : Result (List RtcpPacket) Fault) →
-            StandsAt self.old history → IsReading bytes.now reading →
-            StandsAt self.new (followed_by history (rtcp_came now peer w (length bytes.now) reading)) }
-        ensures bounded { (history : History) (reading : Result (List RtcpPacket) Fault) →
-            StandsAt self.old history → IsReading bytes.now reading →
-            KeepsBounds (followed_by history (rtcp_came now peer w (length bytes.now) reading)) }
+        ensures takes { (reading : Result (List RtcpPacket) Fault) → IsReading bytes.now reading →
+            Takes self.old (rtcp_came now peer w (length bytes.now) reading) (answer_value result) self.new }
         ensures within { KeepsCapacity self.new.presence }
         ensures refused { OnErr result (self.new ≡ self.old) }
     {
@@ -175,15 +167,8 @@ impl<T: MemberTable> Participant<T> {
     ///
     /// The first of E1 to E4, E6 and E7 that applies. Then the participant is unchanged.
     pub fn arrive_rtp(&mut self, now: u64, peer: u64, w: u32, bytes: &[u8]) -> Answer
-        ensures answer { (history : History) (reading : Result RtpValue HeadFault) →
-            StandsAt self.old history → IsRtpReading bytes.now reading →
-            answer_value result ≡ answer_of history (rtp_came now peer w reading) }
-        ensures stands { (history : History) (reading : Result RtpValue HeadFault) →
-            StandsAt self.old history → IsRtpReading bytes.now reading →
-            StandsAt self.new (followed_by history (rtp_came now peer w reading)) }
-        ensures bounded { (history : History) (reading : Result RtpValue HeadFault) →
-            StandsAt self.old history → IsRtpReading bytes.now reading →
-            KeepsBounds (followed_by history (rtp_came now peer w reading)) }
+        ensures takes { (reading : Result RtpValue HeadFault) → IsRtpReading bytes.now reading →
+            Takes self.old (rtp_came now peer w reading) (answer_value result) self.new }
         ensures within { KeepsCapacity self.new.presence }
         ensures refused { OnErr result (self.new ≡ self.old) }
     {
@@ -203,20 +188,16 @@ impl<T: MemberTable> Participant<T> {
     ///
     /// The first of E1 to E4 that applies. Then the participant is unchanged.
     pub fn sent_rtp(&mut self, now: u64, rtp_ts: u32, octets: u32) -> Answer
-        ensures answer { (history : History) → StandsAt self.old history →
-            answer_value result ≡ answer_of history (rtp_sent now rtp_ts octets) }
-        ensures stands { (history : History) → StandsAt self.old history →
-            StandsAt self.new (followed_by history (rtp_sent now rtp_ts octets)) }
-        ensures bounded { (history : History) → StandsAt self.old history →
-            KeepsBounds (followed_by history (rtp_sent now rtp_ts octets)) }
+        ensures takes { Takes self.old (rtp_sent now rtp_ts octets) (answer_value result) self.new }
         ensures within { KeepsCapacity self.new.presence }
         ensures refused { OnErr result (self.new ≡ self.old) }
     {
-        match self.phase {
-            Phase::Present => self.presence.sent_rtp(now, rtp_ts, octets),
-            Phase::BackingOff(members) => self.pass(now, members),
-            Phase::Gone => Err(Refusal::Left),
+        if let Some(refusal) = self.refusal(now) {
+            return Err(refusal);
         }
+        self.take_call(now);
+        self.take_sent(now, rtp_ts, octets);
+        Ok(self.step(None))
     }
 
     /// Asks at the moment `now` whether a report is due, or the BYE of a participant that backs off, with two
@@ -230,22 +211,18 @@ impl<T: MemberTable> Participant<T> {
     ///
     /// The first of E1 to E4 that applies. Then the participant is unchanged.
     pub fn tick(&mut self, now: u64, w1: u32, w2: u32) -> Answer
-        ensures answer { (history : History) → StandsAt self.old history →
-            answer_value result ≡ answer_of history (ticked now w1 w2) }
-        ensures stands { (history : History) → StandsAt self.old history →
-            StandsAt self.new (followed_by history (ticked now w1 w2)) }
-        ensures bounded { (history : History) → StandsAt self.old history →
-            KeepsBounds (followed_by history (ticked now w1 w2)) }
+        ensures takes { Takes self.old (ticked now w1 w2) (answer_value result) self.new }
         ensures not_too_late { (history : History) → StandsAt self.old history →
             IsOverdue history (ticked now w1 w2) → IfOk result (λ step. IsTrue (is_some step.out)) }
         ensures within { KeepsCapacity self.new.presence }
         ensures refused { OnErr result (self.new ≡ self.old) }
     {
-        match self.phase {
-            Phase::Present => self.presence.tick(now, w1, w2),
-            Phase::BackingOff(members) => self.wait(now, w1, members),
-            Phase::Gone => Err(Refusal::Left),
+        if let Some(refusal) = self.refusal(now) {
+            return Err(refusal);
         }
+        self.take_call(now);
+        let out = self.take_tick(now, w1, w2);
+        Ok(self.step(out))
     }
 
     /// Leaves the session at the moment `now`, with a random word for the draw of a backoff (RFC 3550, 6.3.7).
@@ -259,19 +236,15 @@ impl<T: MemberTable> Participant<T> {
     ///
     /// The first of E1 to E4 that applies. Then the participant is unchanged.
     pub fn leave(&mut self, now: u64, w: u32) -> Answer
-        ensures answer { (history : History) → StandsAt self.old history →
-            answer_value result ≡ answer_of history (left now w) }
-        ensures stands { (history : History) → StandsAt self.old history →
-            StandsAt self.new (followed_by history (left now w)) }
-        ensures bounded { (history : History) → StandsAt self.old history →
-            KeepsBounds (followed_by history (left now w)) }
+        ensures takes { Takes self.old (left now w) (answer_value result) self.new }
         ensures within { KeepsCapacity self.new.presence }
         ensures refused { OnErr result (self.new ≡ self.old) }
     {
-        match self.phase {
-            Phase::Present => self.depart(now, w),
-            Phase::BackingOff(members) => self.pass(now, members),
-            Phase::Gone => Err(Refusal::Left),
+        if let Some(refusal) = self.refusal(now) {
+            return Err(refusal);
         }
+        self.take_call(now);
+        let out = self.take_leave(now, w);
+        Ok(self.step(out))
     }
 }

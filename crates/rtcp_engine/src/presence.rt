@@ -1,18 +1,17 @@
 //! A participant as long as it takes part in its session (RFC 3550, 6.2, 6.3).
 
-ghost use Rattle.std.specs.Prelude.{◌≡◌, ◌↔◌, ◌≤◌, ◌<◌, ◌*◌, ◌^◌, Option, Some, None, is_some, Err, IfOk, option_map};
+ghost use Rattle.std.specs.Prelude.{◌≡◌, ◌↔◌, ◌≤◌, ◌<◌, ◌*◌, ◌^◌, Option, Some, None, is_some, Err, IfOk};
 ghost use Rattle.rtcp_engine.specs.declared.config.ConfigError.{ConfigError as Error};
 ghost use Rattle.rtcp_engine.specs.Refused.{error_in};
-ghost use Rattle.rtcp_engine.specs.Views.{setup_of, out_value, step_value};
-ghost use Rattle.rtcp_engine.specs.Outcomes.{one_if};
+ghost use Rattle.rtcp_engine.specs.Views.{setup_of};
+ghost use Rattle.rtcp_engine.specs.Outcomes.{Outcome, one_if, member_count as member_count_of, sender_count as sender_count_of, load_of, interval_at};
 ghost use Rattle.rtcp_engine.specs.Taken.{begun};
-ghost use Rattle.rtcp_engine.specs.States.{IsPresentAt, KeepsCapacity};
-ghost use Rattle.rtcp_engine.specs.Moves.{members_of, senders_of, load_in, interval_in, step_in, call_refusal};
+ghost use Rattle.rtcp_engine.specs.States.{Agrees, IsPresentAt, KeepsCapacity};
+ghost use Rattle.rtcp_engine.specs.Moves.{call_refusal};
 
 use crate::config::{Config, ConfigError};
 use crate::own::OwnStream;
 use crate::refusal::Refusal;
-use crate::step::{Out, Step};
 use crate::table::member_count;
 use rtcp_members::MemberTable;
 use rtcp_report::first_size;
@@ -107,7 +106,8 @@ impl<T: MemberTable> Presence<T> {
 
     /// The members of the session, this participant included (RFC 3550, 6.2.1).
     pub(crate) fn member_count(&self) -> u32
-        ensures exact { result ≡ members_of self.now }
+        ensures exact { (outcome : Outcome) → Agrees self.now outcome →
+            result ≡ member_count_of self.now.setup outcome }
         ensures few { result ≤ 1025 }
         ensures within { KeepsCapacity self.now }
     {
@@ -116,7 +116,8 @@ impl<T: MemberTable> Presence<T> {
 
     /// The members that send RTP packets, this participant included where it does.
     pub(crate) fn sender_count(&self) -> u32
-        ensures { result ≡ senders_of self.now }
+        ensures { (outcome : Outcome) → Agrees self.now outcome →
+            result ≡ sender_count_of self.now.setup outcome }
     {
         self.table.senders() + one_if_sending(&self.own)
     }
@@ -129,8 +130,7 @@ impl<T: MemberTable> Presence<T> {
 
     /// Why a call at the moment `now` is refused, whatever it tells.
     pub(crate) fn refusal(&self, now: u64) -> Option<Refusal>
-        ensures exact { result ≡ call_refusal now self.now }
-        ensures within { KeepsCapacity self.now }
+        ensures { result ≡ call_refusal now self.now }
     {
         if now < self.last {
             return Some(Refusal::Backwards);
@@ -146,7 +146,8 @@ impl<T: MemberTable> Presence<T> {
 
     /// What the interval depends on.
     fn load(&self) -> Load
-        ensures exact { result ≡ load_in self.now }
+        ensures exact { (outcome : Outcome) → Agrees self.now outcome →
+            result ≡ load_of self.now.setup outcome }
         ensures members { result.members ≤ 65535 }
         ensures average { result.avg ≤ 256 * 65563 }
         ensures some_for_senders { 16 ≤ result.sender_bw }
@@ -165,24 +166,11 @@ impl<T: MemberTable> Presence<T> {
 
     /// The deterministic interval.
     fn interval(&self) -> u64
-        ensures exact { result ≡ interval_in self.now }
+        ensures exact { (outcome : Outcome) → Agrees self.now outcome →
+            result ≡ interval_at self.now.setup outcome }
         ensures bounded { result < 2 ^ 49 }
     {
         interval(&self.load())
-    }
-
-    /// The answer of a call that was taken.
-    pub(crate) fn step(&self, out: Option<Out>) -> Step
-        ensures exact { step_value result ≡ step_in self.now (option_map out_value out) }
-        ensures within { KeepsCapacity self.now }
-    {
-        Step {
-            out,
-            members: self.member_count(),
-            senders: self.sender_count(),
-            next: Some(self.next_moment()),
-            changed: None,
-        }
     }
 }
 

@@ -4,11 +4,12 @@ ghost use Rattle.std.specs.Prelude.{◌≡◌, ◌≤◌, ◌<◌, ◌+◌, ◌-
 ghost use Rattle.rtcp_engine.specs.Acts.{Act};
 ghost use Rattle.rtcp_engine.specs.Outcomes.{one_if};
 ghost use Rattle.rtcp_engine.specs.Histories.{History};
-ghost use Rattle.rtcp_engine.specs.Answers.{answer_of, answers_to, followed_by, followed_by_all};
+ghost use Rattle.rtcp_engine.specs.Answers.{answers_to, followed_by_all};
 ghost use Rattle.rtcp_engine.specs.Views.{answer_value, IsActOf, AreActsOf};
 ghost use Rattle.rtcp_engine.specs.Sent.{reports_in, sent_at};
 ghost use Rattle.rtcp_engine.specs.Spacing.{AllFit, AreSpaced, EndsWithBye, HasFewChanges, count_within, first_leave};
 ghost use Rattle.rtcp_engine.specs.InTime.{AllInTime};
+ghost use Rattle.rtcp_engine.specs.Promises.{Takes};
 ghost use Rattle.rtcp_engine.specs.States.{KeepsCapacity, StandsAt};
 
 use crate::event::Event;
@@ -115,10 +116,8 @@ pub fn run<T: MemberTable, S: Sink>(
 
 /// Tells a participant one event.
 fn tell<T: MemberTable>(participant: &mut Participant<T>, event: &Event<'_>) -> Answer
-    ensures answer { (history : History) (act : Act) → StandsAt participant.old history →
-        IsActOf event.now act → answer_value result ≡ answer_of history act }
-    ensures stands { (history : History) (act : Act) → StandsAt participant.old history →
-        IsActOf event.now act → StandsAt participant.new (followed_by history act) }
+    ensures takes { (act : Act) → IsActOf event.now act →
+        Takes participant.old act (answer_value result) participant.new }
     ensures within { KeepsCapacity participant.new.presence }
     ensures refused { OnErr result (participant.new ≡ participant.old) }
 {

@@ -3,8 +3,8 @@
 ghost use Rattle.std.specs.Prelude.{◌≡◌, ◌≤◌, ◌<◌, ◌+◌, ◌^◌, ℕ, All, false};
 ghost use Rattle.std.specs.FinMap as map;
 ghost use Rattle.rtcp_wire.specs.Facts.{is_media};
-ghost use Rattle.rtcp_members.specs.Tables.{HasFew, after_facts, members_in};
-ghost use Rattle.rtcp_engine.specs.Moves.{csrc_facts, media_facts_of};
+ghost use Rattle.rtcp_members.specs.Tables.{HasFew, after_facts, counted, members_in};
+ghost use Rattle.rtcp_engine.specs.Histories.{facts_of_csrcs, facts_of_media, media_fact};
 
 use rtcp_members::MemberTable;
 use rtcp_wire::{Fact, Facts, RtpHead};
@@ -31,8 +31,8 @@ pub(crate) fn apply_facts<T: MemberTable>(table: &mut T, facts: Facts<'_>, t: u6
 /// Applies an RTP packet, and its contributing sources but for the participant itself, `own`, if it is counted.
 pub(crate) fn apply_media<T: MemberTable>(table: &mut T, head: &RtpHead<'_>, own: u32, t: u64)
     requires { (packets : ℕ) × (packets < 2 ^ 40) × HasFew packets (T.content table.old) }
-    ensures { T.content table.new
-        ≡ after_facts (media_facts_of own head.now (T.content table.old)) t (T.content table.old) }
+    ensures { T.content table.new ≡ after_facts
+        (facts_of_media own head.now (counted (T.content table.old) (media_fact head.now))) t (T.content table.old) }
 {
     let packet = Fact::Media(head.ssrc(), head.sequence(), head.timestamp());
     if table.apply(packet, t).counted {
@@ -42,7 +42,7 @@ pub(crate) fn apply_media<T: MemberTable>(table: &mut T, head: &RtpHead<'_>, own
 
 /// Applies the contributing sources of a packet but for the participant itself, `own`.
 fn apply_csrcs<T: MemberTable>(table: &mut T, head: &RtpHead<'_>, own: u32, t: u64)
-    ensures { T.content table.new ≡ after_facts (csrc_facts own head.now.csrcs) t (T.content table.old) }
+    ensures { T.content table.new ≡ after_facts (facts_of_csrcs own head.now.csrcs) t (T.content table.old) }
 {
     'csrcs: for csrc in head.csrcs() {
         if csrc != own {

@@ -2,15 +2,19 @@
 
 ghost use Rattle.std.specs.Prelude.{◌≡◌, ◌≤◌, ◌<◌, ◌-◌, ◌^◌, ℕ, None, length, option_map, true, OnErr};
 ghost use Rattle.rtcp_engine.specs.Acts.{renamed};
-ghost use Rattle.rtcp_engine.specs.Answers.{answer_of, followed_by, out_at, step_with};
+ghost use Rattle.rtcp_engine.specs.Answers.{out_at};
 ghost use Rattle.rtcp_engine.specs.Changes.{is_taken as is_taken_of, names_own, new_identifier};
 ghost use Rattle.rtcp_engine.specs.Histories.{History};
 ghost use Rattle.rtcp_engine.specs.Identities.{identifiers, is_among};
-ghost use Rattle.rtcp_engine.specs.Moves.{refusal_by, step_of};
+ghost use Rattle.rtcp_engine.specs.Leaving.{Life};
+ghost use Rattle.rtcp_engine.specs.Lives.{step_into};
+ghost use Rattle.rtcp_engine.specs.Moves.{refusal_by};
 ghost use Rattle.rtcp_engine.specs.Presence.{with_act};
-ghost use Rattle.rtcp_engine.specs.States.{KeepsCapacity, StandsAt, over};
-ghost use Rattle.rtcp_engine.specs.Taken.{HasWords, WasTaken};
+ghost use Rattle.rtcp_engine.specs.Promises.{Takes};
+ghost use Rattle.rtcp_engine.specs.States.{Acts, IsAt, KeepsCapacity, StandsAt, over};
+ghost use Rattle.rtcp_engine.specs.Taken.{WasTaken};
 ghost use Rattle.rtcp_engine.specs.Views.{NamesFewer, act_of, answer_value, out_value, size_of, step_value};
+ghost use Rattle.rtcp_members.specs.Tables.{HasFew};
 
 use super::{Participant, Phase};
 use crate::arrival::Arrival;
@@ -48,18 +52,16 @@ impl<T: MemberTable> Participant<T> {
         requires calls { self.old.presence.calls < 2 ^ 40 - 1 }
         requires size { size_of arrival.now ≤ 65535 }
         requires few { NamesFewer arrival.now }
-        ensures answer { (history : History) → StandsAt self.old history →
-            answer_value result ≡ answer_of history (act_of now peer w arrival.now) }
-        ensures stands { (history : History) → StandsAt self.old history →
-            StandsAt self.new (followed_by history (act_of now peer w arrival.now)) }
+        ensures takes { Takes self.old (act_of now peer w arrival.now) (answer_value result) self.new }
         ensures within { KeepsCapacity self.new.presence }
         ensures refused { OnErr result (self.new ≡ self.old) }
     {
         if arrival.is_of(self.presence.ssrc()) {
             return self.arrive_as_own(now, peer, w, arrival);
         }
+        self.take_call(now);
         self.take(now, arrival);
-        Ok(self.step())
+        Ok(self.step(None))
     }
 
     /// Takes a datagram that names the participant's SSRC, after a change of that, or refuses it.
@@ -72,10 +74,7 @@ impl<T: MemberTable> Participant<T> {
         requires calls { self.old.presence.calls < 2 ^ 40 - 1 }
         requires size { size_of arrival.now ≤ 65535 }
         requires few { NamesFewer arrival.now }
-        ensures answer { (history : History) → StandsAt self.old history →
-            answer_value result ≡ answer_of history (act_of now peer w arrival.now) }
-        ensures stands { (history : History) → StandsAt self.old history →
-            StandsAt self.new (followed_by history (act_of now peer w arrival.now)) }
+        ensures takes { Takes self.old (act_of now peer w arrival.now) (answer_value result) self.new }
         ensures within { KeepsCapacity self.new.presence }
         ensures refused { OnErr result (self.new ≡ self.old) }
     {
@@ -84,9 +83,9 @@ impl<T: MemberTable> Participant<T> {
         }
         let ssrc = self.free_ssrc(w, arrival);
         let out = self.change(now, peer, ssrc);
+        self.take_call(now);
         self.take(now, arrival);
-        let mut step = self.step();
-        step.out = out;
+        let mut step = self.step(out);
         step.changed = Some(ssrc);
         Ok(step)
     }
@@ -148,31 +147,27 @@ impl<T: MemberTable> Participant<T> {
 
     /// Takes a datagram under the present SSRC: nothing of it counts in a backoff but BYE packets.
     fn take(&mut self, now: u64, arrival: &Arrival<'_>)
-        requires order { self.old.presence.last ≤ now }
-        requires moment { now ≤ 2 ^ 50 }
-        requires calls { self.old.presence.calls < 2 ^ 40 - 1 }
+        requires order { self.old.presence.last ≡ now }
         requires size { size_of arrival.now ≤ 65535 }
-        requires present { self.old.phase ≡ over → ⊥ }
-        ensures step { (history : History) (peer word : ℕ) → StandsAt self.old history →
-            let act = act_of now peer word arrival.now in
-            WasTaken history.setup history.word history.acts act → HasWords act →
-            step_of self.new ≡ step_with None None history act }
-        ensures stands { (history : History) (peer word : ℕ) → StandsAt self.old history →
-            let act = act_of now peer word arrival.now in
-            WasTaken history.setup history.word history.acts act → HasWords act →
-            StandsAt self.new (with_act history act) }
+        requires reports { self.old.presence.reports < self.old.presence.calls }
+        requires few { HasFew (self.old.presence.calls - 1) self.old.presence.table }
+        ensures new { (peer word : ℕ) → Acts self.old self.new (act_of now peer word arrival.now) None }
         ensures within { KeepsCapacity self.new.presence }
     {
         match self.phase {
             Phase::Present => self.presence.take(now, arrival),
-            Phase::BackingOff(members) => self.hear(now, arrival, members),
+            Phase::BackingOff(members) => match arrival {
+                Arrival::Rtcp(compound, size) => self.count_farewell(compound, *size, members),
+                Arrival::Rtp(_) => {}
+            },
             Phase::Gone => {}
         }
     }
 
-    /// The answer of a call that was taken, and hands out nothing.
-    fn step(&self) -> Step
-        ensures { step_value result ≡ step_of self.now }
+    /// The answer of a call that was taken.
+    pub(super) fn step(&self, out: Option<Out>) -> Step
+        ensures { (life : Life) → IsAt self.now life →
+            step_value result ≡ step_into self.now.presence.setup (option_map out_value out) life }
     {
         let (members, senders, next) = match self.phase {
             Phase::Present => {
@@ -187,7 +182,7 @@ impl<T: MemberTable> Participant<T> {
             Phase::Gone => (0, 0, None),
         };
         Step {
-            out: None,
+            out,
             members,
             senders,
             next,

@@ -1,50 +1,48 @@
 //! What a participant is told of: datagrams that come, and packets that its host sends.
 
-ghost use Rattle.std.specs.Prelude.{◌≡◌, ◌≤◌, ◌<◌, ◌-◌, ◌^◌, OnErr};
-ghost use Rattle.rtcp_engine.specs.Acts.{rtp_sent};
-ghost use Rattle.rtcp_engine.specs.Answers.{answer_of, followed_by};
-ghost use Rattle.rtcp_engine.specs.Histories.{History};
-ghost use Rattle.rtcp_engine.specs.Views.{answer_value, size_of};
-ghost use Rattle.rtcp_engine.specs.States.{IsPresentAt, KeepsCapacity};
-ghost use Rattle.rtcp_engine.specs.Moves.{after_arrival, after_compound, after_media, after_packet};
+ghost use Rattle.std.specs.Prelude.{◌≡◌, ◌≤◌, ◌<◌, ◌-◌, ◌^◌, ℕ};
+ghost use Rattle.rtcp_members.specs.Tables.{HasFew};
+ghost use Rattle.rtcp_engine.specs.Histories.{after, with_compound, with_facts_of, with_media, with_packet};
+ghost use Rattle.rtcp_engine.specs.States.{Does, KeepsCapacity, with_call};
+ghost use Rattle.rtcp_engine.specs.Views.{act_of, size_of};
 
 use super::Presence;
 use crate::arrival::Arrival;
-use crate::step::Answer;
-use crate::table::{apply_facts, apply_media, member_count};
+use crate::table::{apply_facts, apply_media};
 use rtcp_members::MemberTable;
 use rtcp_wire::{Compound, RtpHead, facts};
 
 impl<T: MemberTable> Presence<T> {
-    /// The host sent an RTP packet at the moment `now`, with the RTP timestamp `rtp_ts` and so many octets of
-    /// payload, without padding (RFC 3550, 6.3.8, 6.4.1).
-    ///
-    /// # Errors
-    ///
-    /// The first of E2 to E4 that applies. Then the participant is unchanged.
-    pub(crate) fn sent_rtp(&mut self, now: u64, rtp_ts: u32, octets: u32) -> Answer
-        ensures answer { (history : History) → IsPresentAt self.old history →
-            answer_value result ≡ answer_of history (rtp_sent now rtp_ts octets) }
-        ensures stands { (history : History) → IsPresentAt self.old history →
-            IsPresentAt self.new (followed_by history (rtp_sent now rtp_ts octets)) }
-        ensures identifier { self.new.setup ≡ self.old.setup }
-        ensures within { KeepsCapacity self.new }
-        ensures refused { OnErr result (self.new ≡ self.old) }
-    {
-        if let Some(refusal) = self.refusal(now) {
-            return Err(refusal);
-        }
-        self.take_sent(now, rtp_ts, octets);
-        Ok(self.step(None))
-    }
-
-    /// Takes a datagram that came at the moment `now`.
-    pub(crate) fn take(&mut self, now: u64, arrival: &Arrival<'_>)
+    /// Takes a call.
+    pub(crate) fn take_call(&mut self, now: u64)
         requires order { self.old.last ≤ now }
         requires moment { now ≤ 2 ^ 50 }
         requires calls { self.old.calls < 2 ^ 40 - 1 }
+        ensures new { self.new ≡ with_call now self.old }
+        ensures reports { self.new.reports < self.new.calls }
+        ensures few { HasFew (self.new.calls - 1) self.new.table }
+        ensures within { KeepsCapacity self.new }
+    {
+        self.last = now;
+        self.calls += 1;
+    }
+
+    /// Takes a packet that the host sent.
+    pub(crate) fn take_sent(&mut self, now: u64, rtp_ts: u32, octets: u32)
+        ensures new { Does self.old self.new (λ setup. with_packet now rtp_ts octets) }
+        ensures within { KeepsCapacity self.new }
+    {
+        self.own.sent(now, rtp_ts, octets);
+    }
+
+    /// Takes a datagram that came at the moment of the last call.
+    pub(crate) fn take(&mut self, now: u64, arrival: &Arrival<'_>)
+        requires order { self.old.last ≡ now }
         requires size { size_of arrival.now ≤ 65535 }
-        ensures exact { self.new ≡ after_arrival now arrival.now self.old }
+        requires reports { self.old.reports < self.old.calls }
+        requires few { HasFew (self.old.calls - 1) self.old.table }
+        ensures new { (peer word : ℕ) →
+            Does self.old self.new (λ setup. after setup (act_of now peer word arrival.now)) }
         ensures within { KeepsCapacity self.new }
     {
         match arrival {
@@ -53,44 +51,33 @@ impl<T: MemberTable> Presence<T> {
         }
     }
 
-    /// Takes the facts of a compound of `size` octets. It moves the average, and members may have departed.
+    /// Takes a compound of `size` octets, and counts the members again, as some may have departed.
     fn take_compound(&mut self, now: u64, size: usize, compound: &Compound<'_>)
-        requires order { self.old.last ≤ now }
-        requires moment { now ≤ 2 ^ 50 }
-        requires calls { self.old.calls < 2 ^ 40 - 1 }
+        requires order { self.old.last ≡ now }
         requires size { size ≤ 65535 }
-        ensures exact { self.new ≡ after_compound now size compound.now self.old }
+        ensures new { Does self.old self.new (λ setup. with_compound setup now size compound.now) }
         ensures within { KeepsCapacity self.new }
     {
-        self.last = now;
-        self.calls += 1;
+        self.take_facts(now, size, compound);
+        self.recount(now);
+    }
+
+    /// Takes the facts of a compound of `size` octets, which moves the average.
+    fn take_facts(&mut self, now: u64, size: usize, compound: &Compound<'_>)
+        requires size { size ≤ 65535 }
+        ensures { Does self.old self.new (λ setup. with_facts_of now size compound.now) }
+    {
         apply_facts(&mut self.table, facts(compound), now);
         self.average.add(size as u32);
-        self.schedule.departed(now, member_count(&self.table));
     }
 
     /// Takes an RTP packet, and its contributing sources if it is counted.
     fn take_media(&mut self, now: u64, head: &RtpHead<'_>)
-        requires order { self.old.last ≤ now }
-        requires moment { now ≤ 2 ^ 50 }
-        requires calls { self.old.calls < 2 ^ 40 - 1 }
-        ensures exact { self.new ≡ after_media now head.now self.old }
+        requires reports { self.old.reports < self.old.calls }
+        requires few { HasFew (self.old.calls - 1) self.old.table }
+        ensures new { Does self.old self.new (λ setup. with_media setup now head.now) }
         ensures within { KeepsCapacity self.new }
     {
-        self.last = now;
-        self.calls += 1;
         apply_media(&mut self.table, head, self.config.ssrc, now);
-    }
-
-    /// Takes a packet that was sent.
-    fn take_sent(&mut self, now: u64, rtp_ts: u32, octets: u32)
-        requires order { self.old.last ≤ now }
-        requires moment { now ≤ 2 ^ 50 }
-        requires calls { self.old.calls < 2 ^ 40 - 1 }
-        ensures { self.new ≡ after_packet now rtp_ts octets self.old }
-    {
-        self.last = now;
-        self.calls += 1;
-        self.own.sent(now, rtp_ts, octets);
     }
 }

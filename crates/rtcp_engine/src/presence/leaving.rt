@@ -1,8 +1,10 @@
 //! What a participant does as it leaves (RFC 3550, 6.3.7).
 
-ghost use Rattle.std.specs.Prelude.{◌≡◌, ◌≤◌, ◌<◌, ◌-◌, ◌*◌, ◌^◌, length};
+ghost use Rattle.std.specs.Prelude.{◌≡◌, ◌≤◌, ◌<◌, ◌*◌, ◌^◌, ℕ, length};
+ghost use Rattle.rtcp_engine.specs.Leaving.{Backoff, after_wait, backoff_from, is_bye_due, is_unheard, leaving_count, leaving_interval, leaving_load, with_farewell_of};
+ghost use Rattle.rtcp_engine.specs.Outcomes.{Outcome};
 ghost use Rattle.rtcp_engine.specs.Reporting.{bye_octets};
-ghost use Rattle.rtcp_engine.specs.Moves.{backed_off, backoff_interval, backoff_load, has_waited, is_unheard_in, waited, with_call, with_farewell_of};
+ghost use Rattle.rtcp_engine.specs.States.{Agrees, DoesWaiting, KeepsCapacity, Stays, Waits};
 
 use super::Presence;
 use arrayvec::ArrayVec;
@@ -12,20 +14,9 @@ use rtcp_timer::{Average, Load, Verdict, interval};
 use rtcp_wire::MAX_COMPOUND;
 
 impl<T: MemberTable> Presence<T> {
-    /// Takes a call that changes nothing else.
-    pub(crate) fn take_call(&mut self, now: u64)
-        requires order { self.old.last ≤ now }
-        requires moment { now ≤ 2 ^ 50 }
-        requires calls { self.old.calls < 2 ^ 40 - 1 }
-        ensures { self.new ≡ with_call now self.old }
-    {
-        self.last = now;
-        self.calls += 1;
-    }
-
     /// Whether neither a report nor an RTP packet was sent under the present SSRC.
     pub(crate) fn is_unheard(&self) -> bool
-        ensures { result ≡ is_unheard_in self.now }
+        ensures { (outcome : Outcome) → Agrees self.now outcome → result ≡ is_unheard outcome }
     {
         !self.own.is_heard()
     }
@@ -40,7 +31,10 @@ impl<T: MemberTable> Presence<T> {
 
     /// Begins to back off at the moment of the last call, with a random word for the draw.
     pub(crate) fn back_off(&mut self, w: u32)
-        ensures { self.new ≡ backed_off self.old.last w self.old }
+        ensures stays { Stays self.old self.new }
+        ensures waits { (outcome : Outcome) → Agrees self.old outcome →
+            Waits self.new outcome (backoff_from self.old.setup self.old.last w outcome) }
+        ensures within { KeepsCapacity self.new }
     {
         self.average = Average::start(self.bye().len() as u32);
         let td = self.backoff_interval(1);
@@ -50,7 +44,10 @@ impl<T: MemberTable> Presence<T> {
     /// Moves the average by a compound of `size` octets with BYE packets.
     pub(crate) fn hear_farewell(&mut self, size: usize)
         requires { size ≤ 65535 }
-        ensures { self.new ≡ with_farewell_of size self.old }
+        ensures stays { Stays self.old self.new }
+        ensures waits { (outcome : Outcome) (backoff : Backoff) (byes : ℕ) → Waits self.old outcome backoff →
+            Waits self.new outcome (with_farewell_of byes size backoff) }
+        ensures within { KeepsCapacity self.new }
     {
         self.average.add(size as u32);
     }
@@ -60,8 +57,10 @@ impl<T: MemberTable> Presence<T> {
     pub(crate) fn wait(&mut self, now: u64, w: u32, members: u32) -> bool
         requires some { 1 ≤ members }
         requires few { members ≤ 65535 }
-        ensures due { result ≡ has_waited now w members self.old }
-        ensures new { self.new ≡ waited now w members self.old }
+        ensures due { (outcome : Outcome) (backoff : Backoff) → Waits self.old outcome backoff →
+            members ≡ leaving_count backoff → result ≡ is_bye_due self.old.setup now w backoff }
+        ensures new { DoesWaiting members self.old self.new (λ setup. after_wait setup now w) }
+        ensures within { KeepsCapacity self.new }
     {
         let td = self.backoff_interval(members);
         self.schedule.expire(now, td, w, members) == Verdict::Due
@@ -71,7 +70,8 @@ impl<T: MemberTable> Presence<T> {
     fn backoff_interval(&self, members: u32) -> u64
         requires some { 1 ≤ members }
         requires few { members ≤ 65535 }
-        ensures exact { result ≡ backoff_interval members self.now }
+        ensures exact { (outcome : Outcome) (backoff : Backoff) → Waits self.now outcome backoff →
+            members ≡ leaving_count backoff → result ≡ leaving_interval self.now.setup backoff }
         ensures bounded { result < 2 ^ 49 }
     {
         interval(&self.backoff_load(members))
@@ -79,7 +79,9 @@ impl<T: MemberTable> Presence<T> {
 
     /// What that interval depends on: the participant counts as one that joins, and does not send.
     fn backoff_load(&self, members: u32) -> Load
-        ensures exact { result ≡ backoff_load members self.now }
+        ensures exact { (outcome : Outcome) (backoff : Backoff) → Waits self.now outcome backoff →
+            result ≡ leaving_load self.now.setup members backoff.farewells }
+        ensures members { result.members ≡ members }
         ensures average { result.avg ≤ 256 * 65563 }
         ensures some_for_senders { 16 ≤ result.sender_bw }
         ensures some_for_others { 16 ≤ result.receiver_bw }

@@ -4,6 +4,7 @@ ghost use Rattle.std.specs.Prelude.{◌≡◌, ◌≤◌, ◌^◌, is_some, opti
 ghost use Rattle.std.specs.FinMap as map;
 ghost use Rattle.rtcp_engine.specs.Moves.{own_bye_in, renamed, with_own_bye};
 ghost use Rattle.rtcp_engine.specs.Lives.{bye_out};
+ghost use Rattle.rtcp_engine.specs.States.{KeepsCapacity};
 ghost use Rattle.rtcp_engine.specs.Views.{out_value};
 
 use super::Presence;
@@ -32,6 +33,7 @@ impl<T: MemberTable> Presence<T> {
         requires moment { now ≤ 2 ^ 50 }
         ensures bye { option_map out_value result ≡ option_map bye_out (own_bye_in self.old) }
         ensures new { self.new ≡ renamed now ssrc self.old }
+        ensures within { KeepsCapacity self.new }
     {
         let bye = self.bye_if_heard();
         self.config.ssrc = ssrc;

@@ -1,24 +1,24 @@
 //! What a participant does as time passes (RFC 3550, 6.3.4 to 6.3.6).
 
-ghost use Rattle.std.specs.Prelude.{◌≡◌, ◌≤◌, ◌<◌, ◌-◌, ◌^◌, length, Option, option_map, OnErr};
+ghost use Rattle.std.specs.Prelude.{◌≡◌, ◌≤◌, ◌<◌, ◌-◌, ◌^◌, length, Option, option_map};
 ghost use Rattle.rtcp_wire.specs.Writing.{written_all};
 ghost use Rattle.rtcp_members.specs.Pending.{after_blocks, last_reported as last_of};
 ghost use Rattle.rtcp_report.specs.Sizes.{reported_rows, report_of};
 ghost use Rattle.rtcp_engine.specs.Setups.{IsUsable};
 ghost use Rattle.rtcp_engine.specs.Acts.{ticked};
-ghost use Rattle.rtcp_engine.specs.Histories.{History};
-ghost use Rattle.rtcp_engine.specs.Answers.{answer_of, followed_by};
-ghost use Rattle.rtcp_engine.specs.Presence.{report_out};
-ghost use Rattle.rtcp_engine.specs.Views.{setup_of, answer_value, out_value};
-ghost use Rattle.rtcp_engine.specs.States.{IsPresentAt, KeepsCapacity};
-ghost use Rattle.rtcp_engine.specs.Moves.{reporter_by, with_call, checked, with_report, octets_in, reported, after_check_at, report_at, receiver_interval_in};
+ghost use Rattle.rtcp_engine.specs.Presence.{report_by, report_out};
+ghost use Rattle.rtcp_engine.specs.Views.{setup_of, out_value};
+ghost use Rattle.rtcp_engine.specs.States.{Agrees, Does, KeepsCapacity};
+ghost use Rattle.rtcp_engine.specs.Outcomes.{Outcome, receiver_interval_at};
+ghost use Rattle.rtcp_engine.specs.Reporting.{report_octets};
+ghost use Rattle.rtcp_engine.specs.Ticks.{with_recount, without_silent, checked, is_report_due, report_due, with_report, drawn_anew, reported, tried_at, after_check, after_tick};
+ghost use Rattle.rtcp_engine.specs.Moves.{reporter_by};
 
 use super::Presence;
 use crate::config::Config;
 use crate::extra::extra_item;
 use crate::own::OwnStream;
-use crate::step::{Answer, Out, OutKind};
-use crate::table::member_count;
+use crate::step::{Out, OutKind};
 use arrayvec::ArrayVec;
 use rtcp_members::MemberTable;
 use rtcp_report::{Sender, report};
@@ -29,42 +29,38 @@ use rtcp_wire::MAX_COMPOUND;
 const GOODBYE_TIME: u64 = 5_000_000;
 
 impl<T: MemberTable> Presence<T> {
-    /// Asks at the moment `now` whether a report is due, with two random words: `w1` for the draw that decides
-    /// it, and `w2` for that of the next interval. Each tick also drops those who are silent for too long
-    /// (RFC 3550, 6.3.5).
-    ///
-    /// # Errors
-    ///
-    /// The first of E2 to E4 that applies. Then the participant is unchanged.
-    pub(crate) fn tick(&mut self, now: u64, w1: u32, w2: u32) -> Answer
-        ensures answer { (history : History) → IsPresentAt self.old history →
-            answer_value result ≡ answer_of history (ticked now w1 w2) }
-        ensures stands { (history : History) → IsPresentAt self.old history →
-            IsPresentAt self.new (followed_by history (ticked now w1 w2)) }
-        ensures identifier { self.new.setup ≡ self.old.setup }
+    /// Drops those who are silent for too long, and makes a report if one is due, with two random words: `w1` for
+    /// the draw that decides it, and `w2` for that of the next interval.
+    pub(crate) fn tick(&mut self, now: u64, w1: u32, w2: u32) -> Option<Out>
+        requires order { self.old.last ≡ now }
+        requires reports { self.old.reports < self.old.calls }
+        ensures report { (outcome : Outcome) → Agrees self.old outcome → option_map out_value result
+            ≡ option_map report_out (report_by self.old.setup (ticked now w1 w2) outcome) }
+        ensures new { Does self.old self.new (λ setup. after_tick setup now w1 w2) }
         ensures within { KeepsCapacity self.new }
-        ensures refused { OnErr result (self.new ≡ self.old) }
     {
-        if let Some(refusal) = self.refusal(now) {
-            return Err(refusal);
-        }
         self.check_members(now);
-        let report = self.report_if_due(now, w1, w2);
-        Ok(self.step(report))
+        self.report_if_due(now, w1, w2)
     }
 
-    /// Takes the call, drops those who are silent for too long, and counts the members again.
+    /// Drops those who are silent for too long, and counts the members again.
     fn check_members(&mut self, now: u64)
-        requires order { self.old.last ≤ now }
-        requires moment { now ≤ 2 ^ 50 }
-        requires calls { self.old.calls < 2 ^ 40 - 1 }
-        ensures new { self.new ≡ checked now (with_call now self.old) }
-        ensures reports { self.new.reports < self.new.calls }
+        requires order { self.old.last ≡ now }
+        ensures new { Does self.old self.new (λ setup. checked setup now) }
+        ensures reports { self.new.reports ≡ self.old.reports }
+    {
+        self.drop_silent(now);
+        self.recount(now);
+    }
+
+    /// Drops those who are silent for too long, the participant among the senders too.
+    fn drop_silent(&mut self, now: u64)
+        requires order { self.old.last ≡ now }
+        ensures new { Does self.old self.new (λ setup. without_silent setup now) }
+        ensures reports { self.new.reports ≡ self.old.reports }
     {
         let td = self.receiver_interval();
         let idle = now.saturating_sub(2 * td);
-        self.last = now;
-        self.calls += 1;
         self.table.check(
             now,
             now.saturating_sub(5 * td),
@@ -72,12 +68,23 @@ impl<T: MemberTable> Presence<T> {
             (now + 1).saturating_sub(GOODBYE_TIME),
         );
         self.own.check(idle);
-        self.schedule.departed(now, member_count(&self.table));
+    }
+
+    /// Counts the members again, as some may have departed.
+    pub(super) fn recount(&mut self, now: u64)
+        requires order { self.old.last ≡ now }
+        ensures new { Does self.old self.new (λ setup. with_recount setup now) }
+        ensures reports { self.new.reports ≡ self.old.reports }
+        ensures within { KeepsCapacity self.new }
+    {
+        let members = self.member_count();
+        self.schedule.departed(now, members);
     }
 
     /// The deterministic interval of a participant that is no sender.
     fn receiver_interval(&self) -> u64
-        ensures exact { result ≡ receiver_interval_in self.now }
+        ensures exact { (outcome : Outcome) → Agrees self.now outcome →
+            result ≡ receiver_interval_at self.now.setup outcome }
         ensures bounded { result < 2 ^ 49 }
     {
         interval(&Load {
@@ -90,40 +97,64 @@ impl<T: MemberTable> Presence<T> {
     fn report_if_due(&mut self, now: u64, w1: u32, w2: u32) -> Option<Out>
         requires order { self.old.last ≡ now }
         requires reports { self.old.reports < self.old.calls }
-        ensures report { option_map out_value result ≡ option_map report_out (report_at now w1 self.old) }
-        ensures new { self.new ≡ after_check_at now w1 w2 self.old }
+        ensures report { (outcome : Outcome) → Agrees self.old outcome →
+            option_map out_value result ≡ option_map report_out (report_due self.old.setup now w1 outcome) }
+        ensures new { Does self.old self.new (λ setup. after_check setup now w1 w2) }
+        ensures within { KeepsCapacity self.new }
+    {
+        if !self.is_due(now, w1) {
+            return None;
+        }
+        Some(Out {
+            kind: OutKind::Report,
+            bytes: self.send_report(now, w2),
+        })
+    }
+
+    /// Whether a report is due. If its moment has come, it is put off until it is sent.
+    fn is_due(&mut self, now: u64, w1: u32) -> bool
+        ensures due { (outcome : Outcome) → Agrees self.old outcome →
+            result ≡ is_report_due self.old.setup now w1 outcome }
+        ensures new { Does self.old self.new (λ setup. tried_at setup now w1) }
+        ensures reports { self.new.reports ≡ self.old.reports }
+        ensures within { KeepsCapacity self.new }
     {
         let td = self.interval();
         let members = self.member_count();
-        match self.schedule.expire(now, td, w1, members) {
-            Verdict::Early | Verdict::Later => None,
-            Verdict::Due => Some(Out {
-                kind: OutKind::Report,
-                bytes: self.send_report(now, w2),
-            }),
-        }
+        self.schedule.expire(now, td, w1, members) == Verdict::Due
     }
 
     /// Makes the report, and draws the interval after it.
     fn send_report(&mut self, now: u64, w2: u32) -> ArrayVec<u8, MAX_COMPOUND>
         requires order { self.old.last ≡ now }
         requires reports { self.old.reports < self.old.calls }
-        ensures report { result.items ≡ octets_in now self.old }
-        ensures new { self.new ≡ reported now w2 self.old }
+        ensures report { (outcome : Outcome) → Agrees self.old outcome →
+            result.items ≡ report_octets self.old.setup now outcome }
+        ensures new { Does self.old self.new (λ setup. reported setup now w2) }
+        ensures within { KeepsCapacity self.new }
     {
         let bytes = self.make_report(now);
+        self.draw_next(now, w2);
+        bytes
+    }
+
+    /// Draws the next interval.
+    fn draw_next(&mut self, now: u64, w2: u32)
+        requires order { self.old.last ≡ now }
+        ensures new { Does self.old self.new (λ setup. drawn_anew setup now w2) }
+        ensures within { KeepsCapacity self.new }
+    {
         let td = self.interval();
         let members = self.member_count();
         self.schedule.sent(now, td, w2, members);
-        bytes
     }
 
     /// Makes the report: the next one goes on after its last source.
     fn make_report(&mut self, now: u64) -> ArrayVec<u8, MAX_COMPOUND>
-        requires order { self.old.last ≡ now }
         requires reports { self.old.reports < self.old.calls }
-        ensures report { result.items ≡ octets_in now self.old }
-        ensures new { self.new ≡ with_report now self.old }
+        ensures report { (outcome : Outcome) → Agrees self.old outcome →
+            result.items ≡ report_octets self.old.setup now outcome }
+        ensures new { Does self.old self.new (λ setup. with_report setup now) }
     {
         let number = self.reports + 1;
         let bytes = write_report(

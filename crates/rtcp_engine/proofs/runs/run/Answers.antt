@@ -14,7 +14,7 @@ returns-then-is_err-clause-stands g c history acts h are =
     let next = next_act c.args.events.now acts c.events.taken c.events.event-index c.events.invariant.count c.events-test.true are in
     let told = followed_by_all history (take c.events.taken acts) in
     subst (λ (hs : History). StandsAt c.tell-answer.new.participant hs) (sym (ap (followed_by_all history) next.more ∙ followed_more history (take c.events.taken acts) next.act))
-    (c.tell-answer.ensures.stands told next.act (c.events.invariant.stands history acts h are) (next.is_act _))
+    ((c.tell-answer.ensures.takes next.act (next.is_act _)).stands told (c.events.invariant.stands history acts h are))
 
 pub returns-then-is_err-clause-spaced : goal.returns-then-is_err-clause-spaced
 returns-then-is_err-clause-spaced g c history acts h are = sent_compounds_keep_apart-spaced _ (returns-then-is_err-clause-stands g c history acts h are).is_history
@@ -66,7 +66,7 @@ events-preserved g c =
           let next = next_act c.args.events.now acts c.events.taken c.events.event-index c.events.invariant.count c.events-test.true are in
           let told = followed_by_all history (take c.events.taken acts) in
           let before = answers_to history (take c.events.taken acts) in
-          let one = c.tell-answer.ensures.answer told next.act (c.events.invariant.stands history acts h are) (next.is_act _) in
+          let one = (c.tell-answer.ensures.takes next.act (next.is_act _)).answer told (c.events.invariant.stands history acts h are) in
           let start = g.S.Sink.content c.args.sink.now in
           of_no_error c.put.result none c.put.ensures.taken
           ∙ ap (λ (answers : List AnswerValue). answers ++ answer_value c.tell-answer.result ∷ []) (c.events.invariant.told history acts h are)
@@ -77,7 +77,7 @@ events-preserved g c =
           let next = next_act c.args.events.now acts c.events.taken c.events.event-index c.events.invariant.count c.events-test.true are in
           let told = followed_by_all history (take c.events.taken acts) in
           subst (λ (hs : History). StandsAt c.tell-answer.new.participant hs) (sym (ap (followed_by_all history) next.more ∙ followed_more history (take c.events.taken acts) next.act))
-          (c.tell-answer.ensures.stands told next.act (c.events.invariant.stands history acts h are) (next.is_act _));
+          ((c.tell-answer.ensures.takes next.act (next.is_act _)).stands told (c.events.invariant.stands history acts h are));
     }
 
 pub returns-then-is_err-clause-few_changes : goal.returns-then-is_err-clause-few_changes

@@ -1,8 +1,8 @@
 use Rattle.std.proofs.Common.{◌≡◌}
 use Rattle.rtcp_members.specs.Tables.{after_facts}
-use Rattle.rtcp_engine.specs.Moves.{csrc_facts}
+use Rattle.rtcp_engine.specs.Histories.{facts_of_csrcs}
 use Rattle.rtcp_engine.proofs.table.apply_csrcs.Given as goal
 
 -- the sources that are left bring it to what all bring it to
 abbrev pub invariant-csrcs : goal.invariant-csrcs
-invariant-csrcs g l = after_facts (csrc_facts l.own l.csrc-iterator) l.t (g.T.MemberTable.content l.table) ≡ after_facts (csrc_facts l.own l.fn.head.csrcs) l.t (g.T.MemberTable.content l.fn.table)
+invariant-csrcs g l = after_facts (facts_of_csrcs l.own l.csrc-iterator) l.t (g.T.MemberTable.content l.table) ≡ after_facts (facts_of_csrcs l.own l.fn.head.csrcs) l.t (g.T.MemberTable.content l.fn.table)

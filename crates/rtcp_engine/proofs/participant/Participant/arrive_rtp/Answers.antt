@@ -1,66 +1,36 @@
-use Rattle.std.proofs.Common.{◌∙◌, Result, Ok, Err, refl, ap, sym, subst}
-use Rattle.rtcp_wire.specs.declared.rtp.fault.RtpFault.{RtpFault}
+use Rattle.std.proofs.Common.{◌∙◌, Result, Ok, Err, refl, sym, subst}
 use Rattle.rtcp_wire.specs.RtpHeads.{RtpValue}
+use Rattle.rtcp_wire.specs.declared.rtp.fault.RtpFault.{RtpFault}
 use Rattle.rtcp_engine.specs.declared.refusal.Refusal.TheVariants.{Rtp}
 use Rattle.rtcp_engine.specs.Acts.{rtp_came}
-use Rattle.rtcp_engine.specs.Answers.{answer_of, followed_by}
-use Rattle.rtcp_engine.specs.States.{StandsAt}
-use Rattle.rtcp_engine.proofs.Arriving.{admitted_call, call_refused, fault_refused}
-use Rattle.rtcp_engine.proofs.Bounded.{bounds_after}
+use Rattle.rtcp_engine.specs.Promises.{Takes}
+use Rattle.rtcp_engine.specs.Views.{answer_value}
+use Rattle.rtcp_engine.proofs.Acting.{call_refused_by, refuses}
+use Rattle.rtcp_engine.proofs.Arriving.{fault_refused}
 use Rattle.rtcp_engine.proofs.Following.{few_in_head, head_names_few}
 use Rattle.rtcp_engine.proofs.LawLemmas.{one_reading-rtp_once}
-use Rattle.rtcp_engine.proofs.Standing.{refused_answer, whole_refused}
+use Rattle.rtcp_engine.proofs.LifeLemmas.{admitted_call}
 use Rattle.rtcp_engine.proofs.participant.Participant.arrive_rtp.Goals as goal
 
-pub returns-in-Some-clause-answer : goal.returns-in-Some-clause-answer
-returns-in-Some-clause-answer g c history reading h is =
+pub returns-in-Some-clause-takes : goal.returns-in-Some-clause-takes
+returns-in-Some-clause-takes g c reading is =
     let act = rtp_came c.args.now c.args.peer c.args.w reading in
-    refused_answer history act c.in-Some.refusal (call_refused c.args.self.now history act c.in-Some.refusal h (sym c.refusal.ensures.exact ∙ c.in-Some.is))
-
-pub returns-in-Some-clause-stands : goal.returns-in-Some-clause-stands
-returns-in-Some-clause-stands g c history reading h is =
-    let act = rtp_came c.args.now c.args.peer c.args.w reading in
-    whole_refused c.args.self.now history act c.in-Some.refusal (call_refused c.args.self.now history act c.in-Some.refusal h (sym c.refusal.ensures.exact ∙ c.in-Some.is)) h
-
-pub returns-in-Some-clause-bounded : goal.returns-in-Some-clause-bounded
-returns-in-Some-clause-bounded g c history reading h is =
-    bounds_after history (rtp_came c.args.now c.args.peer c.args.w reading) refl
-    (c.ranges.w.fits, head_names_few c.args.bytes.now c.args.now c.args.peer c.args.w reading is) h.is_history
+    refuses c.args.self.now act c.in-Some.refusal (call_refused_by c.args.self.now act c.in-Some.refusal (sym c.refusal.ensures.exact ∙ c.in-Some.is))
+    (c.ranges.w.fits, head_names_few c.args.bytes.now c.args.now c.args.peer c.args.w reading is) refl
 
 pub arrive-requires-clause-few : goal.arrive-requires-clause-few
 arrive-requires-clause-few g c moment peer word = few_in_head c.args.bytes.now c.in-Ok.head c.in-Ok.ensures.accepted
 
-pub returns-in-Ok-clause-answer : goal.returns-in-Ok-clause-answer
-returns-in-Ok-clause-answer g c history reading h is =
-    c.arrive.ensures.answer history h
-    ∙ ap (λ (r : Result RtpValue RtpFault). answer_of history (rtp_came c.args.now c.args.peer c.args.w r)) (one_reading-rtp_once c.args.bytes.now (Ok c.in-Ok.head) reading c.in-Ok.ensures.accepted is)
+pub returns-in-Ok-clause-takes : goal.returns-in-Ok-clause-takes
+returns-in-Ok-clause-takes g c reading is =
+    subst (λ (r : Result RtpValue RtpFault). Takes c.args.self.now (rtp_came c.args.now c.args.peer c.args.w r) (answer_value c.arrive.result) c.arrive.new.self) (one_reading-rtp_once c.args.bytes.now (Ok c.in-Ok.head) reading c.in-Ok.ensures.accepted is)
+    c.arrive.ensures.takes
 
-pub returns-in-Ok-clause-stands : goal.returns-in-Ok-clause-stands
-returns-in-Ok-clause-stands g c history reading h is =
-    subst (λ (r : Result RtpValue RtpFault). StandsAt c.arrive.new.self (followed_by history (rtp_came c.args.now c.args.peer c.args.w r))) (one_reading-rtp_once c.args.bytes.now (Ok c.in-Ok.head) reading c.in-Ok.ensures.accepted is)
-    (c.arrive.ensures.stands history h)
-
-pub returns-in-Ok-clause-bounded : goal.returns-in-Ok-clause-bounded
-returns-in-Ok-clause-bounded g c history reading h is =
-    bounds_after history (rtp_came c.args.now c.args.peer c.args.w reading) refl
-    (c.ranges.w.fits, head_names_few c.args.bytes.now c.args.now c.args.peer c.args.w reading is) h.is_history
-
-pub returns-in-Err-clause-bounded : goal.returns-in-Err-clause-bounded
-returns-in-Err-clause-bounded g c history reading h is =
-    bounds_after history (rtp_came c.args.now c.args.peer c.args.w reading) refl
-    (c.ranges.w.fits, head_names_few c.args.bytes.now c.args.now c.args.peer c.args.w reading is) h.is_history
-
-pub returns-in-Err-clause-answer : goal.returns-in-Err-clause-answer
-returns-in-Err-clause-answer g c history reading h is =
-    let act = rtp_came c.args.now c.args.peer c.args.w in
-    let same = one_reading-rtp_once c.args.bytes.now (Err c.in-Err.fault) reading (c.in-Err.ensures.refused c.in-Err.fault refl) is in
-    refused_answer history (act (Err c.in-Err.fault)) (Rtp c.in-Err.fault) (fault_refused c.args.self.now history c.args.now (act (Err c.in-Err.fault)) (Rtp c.in-Err.fault) h (admitted_call c.args.now c.args.self.now (sym c.refusal.ensures.exact ∙ c.in_default.is)) refl refl)
-    ∙ ap (λ (r : Result RtpValue RtpFault). answer_of history (act r)) same
-
-pub returns-in-Err-clause-stands : goal.returns-in-Err-clause-stands
-returns-in-Err-clause-stands g c history reading h is =
-    let act = rtp_came c.args.now c.args.peer c.args.w in
-    let same = one_reading-rtp_once c.args.bytes.now (Err c.in-Err.fault) reading (c.in-Err.ensures.refused c.in-Err.fault refl) is in
-    subst (λ (r : Result RtpValue RtpFault). StandsAt c.args.self.now (followed_by history (act r))) same
-    (whole_refused c.args.self.now history (act (Err c.in-Err.fault)) (Rtp c.in-Err.fault)
-    (fault_refused c.args.self.now history c.args.now (act (Err c.in-Err.fault)) (Rtp c.in-Err.fault) h (admitted_call c.args.now c.args.self.now (sym c.refusal.ensures.exact ∙ c.in_default.is)) refl refl) h)
+pub returns-in-Err-clause-takes : goal.returns-in-Err-clause-takes
+returns-in-Err-clause-takes g c reading is =
+    let p = c.args.self.now in
+    let act = rtp_came c.args.now c.args.peer c.args.w (Err c.in-Err.fault) in
+    let found = c.in-Err.ensures.refused c.in-Err.fault refl in
+    subst (λ (r : Result RtpValue RtpFault). Takes p (rtp_came c.args.now c.args.peer c.args.w r) (Err (Rtp c.in-Err.fault)) p) (one_reading-rtp_once c.args.bytes.now (Err c.in-Err.fault) reading found is)
+    (refuses p act (Rtp c.in-Err.fault) (λ history h. fault_refused p history c.args.now act (Rtp c.in-Err.fault) h (admitted_call c.args.now p (sym c.refusal.ensures.exact ∙ c.in_default.is)) refl refl)
+    (c.ranges.w.fits, head_names_few c.args.bytes.now c.args.now c.args.peer c.args.w (Err c.in-Err.fault) found) refl)

@@ -1,26 +1,17 @@
-use Rattle.std.proofs.Common.{◌∙◌, refl, ap, sym}
+use Rattle.std.proofs.Common.{option_map, ◌∙◌, refl, sym, subst}
 use Rattle.rtcp_engine.specs.Acts.{left}
-use Rattle.rtcp_engine.specs.States.{ParticipantValue}
-use Rattle.rtcp_engine.specs.Views.{phase_value}
-use Rattle.rtcp_engine.proofs.LifeLemmas.{gone_stands}
-use Rattle.rtcp_engine.proofs.Bounded.{bounds_after}
+use Rattle.rtcp_engine.specs.States.{Acts, ParticipantValue}
+use Rattle.rtcp_engine.specs.Views.{out_value}
+use Rattle.rtcp_engine.proofs.Acting.{call_refused_by, plain_call, refuses, takes}
 use Rattle.rtcp_engine.proofs.participant.Participant.leave.Goals as goal
 
-pub returns-in-BackingOff-clause-stands : goal.returns-in-BackingOff-clause-stands
-returns-in-BackingOff-clause-stands g c history h = c.pass.ensures.stands history (left c.args.now c.args.w) h tt refl c.ranges.w.fits
+pub returns-in-Some-clause-takes : goal.returns-in-Some-clause-takes
+returns-in-Some-clause-takes g c =
+    let act = left c.args.now c.args.w in
+    refuses c.args.self.now act c.in-Some.refusal (call_refused_by c.args.self.now act c.in-Some.refusal (sym c.refusal.ensures.exact ∙ c.in-Some.is)) c.ranges.w.fits refl
 
-pub returns-in-Gone-clause-stands : goal.returns-in-Gone-clause-stands
-returns-in-Gone-clause-stands g c history h =
-    gone_stands c.args.self.now history (left c.args.now c.args.w) h (sym (ap (λ (p : ParticipantValue). p.phase) c.self.view_is) ∙ ap phase_value c.in-Gone.is)
-
-pub returns-in-Present-clause-bounded : goal.returns-in-Present-clause-bounded
-returns-in-Present-clause-bounded g c history h = bounds_after history (left c.args.now c.args.w) refl c.ranges.w.fits h.is_history
-
-pub returns-in-BackingOff-clause-bounded : goal.returns-in-BackingOff-clause-bounded
-returns-in-BackingOff-clause-bounded g c history h = bounds_after history (left c.args.now c.args.w) refl c.ranges.w.fits h.is_history
-
-pub returns-in-Gone-clause-bounded : goal.returns-in-Gone-clause-bounded
-returns-in-Gone-clause-bounded g c history h = bounds_after history (left c.args.now c.args.w) refl c.ranges.w.fits h.is_history
-
-pub returns-in-BackingOff-clause-answer : goal.returns-in-BackingOff-clause-answer
-returns-in-BackingOff-clause-answer g c history h = c.pass.ensures.answer history (left c.args.now c.args.w) h tt refl c.ranges.w.fits
+pub returns-clause-takes : goal.returns-clause-takes
+returns-clause-takes g c =
+    let act = left c.args.now c.args.w in
+    takes _ (plain_call c.args.self.now act (sym c.refusal.ensures.exact ∙ c.in_default.is) (λ setup earlier. refl) (λ history. refl) (λ setup word earlier none. none))
+    (subst (λ (p : ParticipantValue). Acts p c.take_leave-out.new.self act (option_map out_value c.take_leave-out.result)) c.take_call.ensures.new c.take_leave-out.ensures.new) c.step.ensures c.ranges.w.fits refl

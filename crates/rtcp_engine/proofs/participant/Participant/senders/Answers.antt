@@ -1,16 +1,13 @@
-use Rattle.std.proofs.Common.{◌∙◌, ap, sym, subst}
-use Rattle.rtcp_engine.specs.Identities.{setup_now}
-use Rattle.rtcp_engine.specs.Lives.{senders_in_life}
-use Rattle.rtcp_engine.specs.Outcomes.{sender_count}
+use Rattle.std.proofs.Common.{◌≡◌, ◌∙◌, ap}
+use Rattle.rtcp_engine.specs.Lives.{life_at, senders_in_life}
 use Rattle.rtcp_engine.specs.Setups.{Setup}
-use Rattle.rtcp_engine.specs.States.{ParticipantValue, StandsAt}
+use Rattle.rtcp_engine.specs.States.{ParticipantValue}
 use Rattle.rtcp_engine.specs.Views.{phase_value}
-use Rattle.rtcp_engine.proofs.Agreeing.{senders_agree}
-use Rattle.rtcp_engine.proofs.LifeLemmas.{taking_part_at}
+use Rattle.rtcp_engine.proofs.Acting.{at_present, inside_at}
 use Rattle.rtcp_engine.proofs.participant.Participant.senders.Goals as goal
 
 pub returns-in-Present : goal.returns-in-Present
 returns-in-Present g c history h =
-    let part = taking_part_at _ history (subst (λ (p : ParticipantValue). StandsAt p history) (sym c.self.view_is) h) (ap phase_value c.in-Present.is) in
-    c.sender_count.ensures ∙ senders_agree _ part.outcome part.agrees ∙ ap (λ (st : Setup). sender_count st part.outcome) part.setup
-    ∙ sym (ap (senders_in_life (setup_now history.setup history.acts)) part.life)
+    let p : ParticipantValue = record { presence = c.self.inside.presence; phase = phase_value c.self.inside.phase; changes = c.self.inside.changes.list.items } in
+    at_present p (ap phase_value c.in-Present.is) (λ life. c.sender_count.result ≡ senders_in_life c.self.inside.presence.setup life) c.sender_count.ensures (life_at history) (inside_at c.self.view_is (life_at history) h.life)
+    ∙ ap (λ (setup : Setup). senders_in_life setup (life_at history)) (ap (λ (p : ParticipantValue). p.presence.setup) c.self.view_is ∙ h.setup)

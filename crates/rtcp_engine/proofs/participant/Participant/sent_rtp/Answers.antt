@@ -1,46 +1,16 @@
-use Rattle.std.proofs.Common.{List, ◌∙◌, refl, ap, sym, subst}
+use Rattle.std.proofs.Common.{None, ◌∙◌, refl, sym, subst}
 use Rattle.rtcp_engine.specs.Acts.{rtp_sent}
-use Rattle.rtcp_engine.specs.declared.changes.Change.{Change}
-use Rattle.rtcp_engine.specs.Setups.{Setup}
-use Rattle.rtcp_engine.specs.Answers.{followed_by}
-use Rattle.rtcp_engine.specs.States.{State, HasChanged, IsPresentAt, ParticipantValue}
-use Rattle.rtcp_engine.specs.Views.{phase_value}
-use Rattle.rtcp_engine.proofs.LifeLemmas.{taking_part_at, present_stands, plainly_changed, gone_stands}
-use Rattle.rtcp_engine.proofs.Bounded.{bounds_after}
+use Rattle.rtcp_engine.specs.States.{Acts, ParticipantValue}
+use Rattle.rtcp_engine.proofs.Acting.{call_refused_by, plain_call, refuses, takes}
 use Rattle.rtcp_engine.proofs.participant.Participant.sent_rtp.Goals as goal
 
-pub returns-in-Present-clause-answer : goal.returns-in-Present-clause-answer
-returns-in-Present-clause-answer g c history h =
-    let part = taking_part_at c.args.self.now history h (sym (ap (λ (p : ParticipantValue). p.phase) c.self.view_is) ∙ ap phase_value c.in-Present.is) in
-    c.sent_rtp.ensures.answer history (subst (λ (s : State). IsPresentAt s history) (sym (ap (λ (p : ParticipantValue). p.presence) c.self.view_is)) part)
+pub returns-in-Some-clause-takes : goal.returns-in-Some-clause-takes
+returns-in-Some-clause-takes g c =
+    let act = rtp_sent c.args.now c.args.rtp_ts c.args.octets in
+    refuses c.args.self.now act c.in-Some.refusal (call_refused_by c.args.self.now act c.in-Some.refusal (sym c.refusal.ensures.exact ∙ c.in-Some.is)) (c.ranges.rtp_ts.fits, c.ranges.octets.fits) refl
 
-pub returns-in-Present-clause-stands : goal.returns-in-Present-clause-stands
-returns-in-Present-clause-stands g c history h =
-    let same = ap (λ (p : ParticipantValue). p.presence) c.self.view_is in
-    let part = taking_part_at c.args.self.now history h (sym (ap (λ (p : ParticipantValue). p.phase) c.self.view_is) ∙ ap phase_value c.in-Present.is) in
-    let identifier = ap (λ (s : Setup). s.ssrc) (c.sent_rtp.ensures.identifier ∙ ap (λ (s : State). s.setup) same) in
-    let changed = subst (λ (list : List Change). HasChanged list c.args.self.now.presence.setup.ssrc history) (sym (ap (λ (p : ParticipantValue). p.changes) c.self.view_is)) h.changes in
-    present_stands (record { presence = c.sent_rtp.new.self; phase = phase_value c.self.inside.phase; changes = c.self.inside.changes.list.items }) (followed_by history (rtp_sent c.args.now c.args.rtp_ts c.args.octets))
-    (c.sent_rtp.ensures.stands history (subst (λ (s : State). IsPresentAt s history) (sym same) part))
-    (plainly_changed _ c.args.self.now.presence.setup.ssrc _ history (rtp_sent c.args.now c.args.rtp_ts c.args.octets) refl refl identifier changed) (ap phase_value c.in-Present.is)
-
-pub returns-in-BackingOff-clause-stands : goal.returns-in-BackingOff-clause-stands
-returns-in-BackingOff-clause-stands g c history h =
-    c.pass.ensures.stands history (rtp_sent c.args.now c.args.rtp_ts c.args.octets) h tt refl (c.ranges.rtp_ts.fits, c.ranges.octets.fits)
-
-pub returns-in-Gone-clause-stands : goal.returns-in-Gone-clause-stands
-returns-in-Gone-clause-stands g c history h =
-    gone_stands c.args.self.now history (rtp_sent c.args.now c.args.rtp_ts c.args.octets) h (sym (ap (λ (p : ParticipantValue). p.phase) c.self.view_is) ∙ ap phase_value c.in-Gone.is)
-
-pub returns-in-Present-clause-bounded : goal.returns-in-Present-clause-bounded
-returns-in-Present-clause-bounded g c history h = bounds_after history (rtp_sent c.args.now c.args.rtp_ts c.args.octets) refl (c.ranges.rtp_ts.fits, c.ranges.octets.fits) h.is_history
-
-pub returns-in-BackingOff-clause-bounded : goal.returns-in-BackingOff-clause-bounded
-returns-in-BackingOff-clause-bounded g c history h = bounds_after history (rtp_sent c.args.now c.args.rtp_ts c.args.octets) refl (c.ranges.rtp_ts.fits, c.ranges.octets.fits) h.is_history
-
-pub returns-in-Gone-clause-bounded : goal.returns-in-Gone-clause-bounded
-returns-in-Gone-clause-bounded g c history h = bounds_after history (rtp_sent c.args.now c.args.rtp_ts c.args.octets) refl (c.ranges.rtp_ts.fits, c.ranges.octets.fits) h.is_history
-
-pub returns-in-BackingOff-clause-answer : goal.returns-in-BackingOff-clause-answer
-returns-in-BackingOff-clause-answer g c history h =
-    c.pass.ensures.answer history (rtp_sent c.args.now c.args.rtp_ts c.args.octets) h tt refl (c.ranges.rtp_ts.fits, c.ranges.octets.fits)
+pub returns-clause-takes : goal.returns-clause-takes
+returns-clause-takes g c =
+    let act = rtp_sent c.args.now c.args.rtp_ts c.args.octets in
+    takes _ (plain_call c.args.self.now act (sym c.refusal.ensures.exact ∙ c.in_default.is) (λ setup earlier. refl) (λ history. refl) (λ setup word earlier none. none))
+    (subst (λ (p : ParticipantValue). Acts p c.take_sent.new.self act None) c.take_call.ensures.new c.take_sent.ensures.new) c.step.ensures (c.ranges.rtp_ts.fits, c.ranges.octets.fits) refl

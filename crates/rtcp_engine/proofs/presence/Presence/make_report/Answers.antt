@@ -1,9 +1,11 @@
-use Rattle.std.proofs.Common.{◌+◌, ◌≤◌, ap, sym, subst, arith}
+use Rattle.std.proofs.Common.{length, ◌∙◌, ◌+◌, ◌≤◌, ap, sym, subst, arith}
 use Rattle.rtcp_members.specs.Tables.{TableValue}
 use Rattle.rtcp_report.specs.Sizes.{reported_rows}
+use Rattle.rtcp_timer.specs.Averages.{moved_average}
 use Rattle.rtcp_engine.specs.Views.{setup_of}
 use Rattle.rtcp_engine.specs.States.{State}
 use Rattle.rtcp_engine.specs.Moves.{reporter_by}
+use Rattle.rtcp_engine.proofs.Doing.{octets_of, makes}
 use Rattle.rtcp_engine.proofs.Soundness.{IsKept, IsInStep, blocks_kept, kept}
 use Rattle.rtcp_engine.proofs.presence.Presence.make_report.Goals as goal
 
@@ -21,3 +23,12 @@ invariant_of-self g c =
       few = c.self.invariant.calls;
     } in
     kept c.self.invariant (content c.write_report-bytes.new.table) inside.schedule c.add.new.self c.reported.new.self c.write_report-bytes.new.cursor (inside.reports + 1) inside.last inside.calls is_kept in_step
+
+pub returns-clause-report : goal.returns-clause-report
+returns-clause-report g c outcome agrees = c.write_report-bytes.ensures.octets ∙ octets_of c.self.view_is c.args.now outcome agrees
+
+pub returns-clause-new : goal.returns-clause-new
+returns-clause-new g c =
+    let size = c.add.ensures.moves ∙ ap (moved_average c.self.inside.average) (c.len.ensures.value ∙ ap length c.write_report-bytes.ensures.octets) in
+    makes c.self.view_is c.args.now (g.T.MemberTable.content c.write_report-bytes.new.table) c.add.new.self c.reported.new.self c.write_report-bytes.new.cursor
+    c.write_report-bytes.ensures.content size c.reported.ensures c.write_report-bytes.ensures.cursor

@@ -11,8 +11,8 @@ pub returns-in_err-hand_over-in-Got-clause-leads : goal.returns-in_err-hand_over
 returns-in_err-hand_over-in-Got-clause-leads g c = λ reader total s reads holds stage.
     let octets = c.split_at.result.0.now in
     let called = came_as _ _ _ _ _ _ _ c.split_at.ensures.front c.in-Got.ensures.called in
-    let answers = c.arrive_rtcp-answer.ensures.answer s.history (reader.rtcp octets) holds.participant (reads.rtcp octets) in
-    let stands = c.arrive_rtcp-answer.ensures.stands s.history (reader.rtcp octets) holds.participant (reads.rtcp octets) in
+    let answers = (c.arrive_rtcp-answer.ensures.takes (reader.rtcp octets) (reads.rtcp octets)).answer s.history holds.participant in
+    let stands = (c.arrive_rtcp-answer.ensures.takes (reader.rtcp octets) (reads.rtcp octets)).stands s.history holds.participant in
     let (t, leads, held, at, turns, leaving) = datagram_told reader total RtcpPort c.in-Got.peer octets s _ _ _ _ _ _ _ _ _ _ _ holds stage called c.next_u32-drawn.ensures c.datagram.ensures c.arrival.ensures answers stands in
     let (calls, u, on, held', ends, turns', leaving', history) = c.hand_over.ensures.leads reader total (hearing RtpPort) (hearing RtpPort) _ _ t held at in
     let exit = err_from_is_err_and c.from_residual.result c.from_residual.ensures.1 in
@@ -28,8 +28,8 @@ pub returns-in_ok-hand_over-in-Got-clause-leads : goal.returns-in_ok-hand_over-i
 returns-in_ok-hand_over-in-Got-clause-leads g c = λ reader total s reads holds stage.
     let octets = c.split_at.result.0.now in
     let called = came_as _ _ _ _ _ _ _ c.split_at.ensures.front c.in-Got.ensures.called in
-    let answers = c.arrive_rtcp-answer.ensures.answer s.history (reader.rtcp octets) holds.participant (reads.rtcp octets) in
-    let stands = c.arrive_rtcp-answer.ensures.stands s.history (reader.rtcp octets) holds.participant (reads.rtcp octets) in
+    let answers = (c.arrive_rtcp-answer.ensures.takes (reader.rtcp octets) (reads.rtcp octets)).answer s.history holds.participant in
+    let stands = (c.arrive_rtcp-answer.ensures.takes (reader.rtcp octets) (reads.rtcp octets)).stands s.history holds.participant in
     let (t, leads, held, at, turns, leaving) = datagram_told reader total RtcpPort c.in-Got.peer octets s _ _ _ _ _ _ _ _ _ _ _ holds stage called c.next_u32-drawn.ensures c.datagram.ensures c.arrival.ensures answers stands in
     let (calls, u, on, held', ends, turns', leaving', history) = c.hand_over.ensures.leads reader total (hearing RtpPort) (hearing RtpPort) _ _ t held at in
     let next = comes_either_way (hearing RtpPort) c.in_ok-hand_over-in-Got.field-0 u (subst (λ r. ReachesBy (hearing RtpPort) (hearing RtpPort) r u) c.in_ok-hand_over-in-Got.was ends) in

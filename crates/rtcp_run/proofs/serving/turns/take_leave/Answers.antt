@@ -7,7 +7,7 @@ use Rattle.rtcp_run.proofs.serving.turns.take_leave.Goals as goal
 
 pub returns-clause-leads : goal.returns-clause-leads
 returns-clause-leads g c = λ reader total s holds due.
-    let (u, same, held, at, turns, leaving) = leave_told total s _ _ _ _ _ _ holds due c.next_u32-word.ensures (c.leave-answer.ensures.stands s.history holds.participant) in
-    let answered = ap (stage_to_send resting (ended Done)) (sym (c.leave-answer.ensures.answer s.history holds.participant)) in
+    let (u, same, held, at, turns, leaving) = leave_told total s _ _ _ _ _ _ holds due c.next_u32-word.ensures (c.leave-answer.ensures.takes.stands s.history holds.participant) in
+    let answered = ap (stage_to_send resting (ended Done)) (sym (c.leave-answer.ensures.takes.answer s.history holds.participant)) in
     let (calls, t, leads, held', ends, turns', leaving', history) = c.hand_over.ensures.leads reader total resting (ended Done) _ _ u held (at ∙ answered) in
     (u, same, calls, t, leads, held', ends, turns' ∙ turns, leaving' ∙ leaving)

@@ -1,0 +1,339 @@
+-- The steps of a participant, each by what the calls in it ensure.
+use Rattle.std.proofs.Common.{◌≡◌, ℕ, ◌+◌, ◌-◌, ◌*◌, ◌<◌, ◌≤◌, ◌&&◌, Bool, true, false, List, [], ◌∷◌, length, Option, Some, None, if◌then◌else◌, refl, sym, ap, ◌∙◌, subst, nat_le, inl, inr}
+use Rattle.std.proofs.lemmas.Bool.{cases_lt, le-leb, lt-leb}
+use Rattle.rtcp_clock.specs.Intervals.{drawn_interval}
+use Rattle.rtcp_wire.specs.Facts.{facts_of}
+use Rattle.rtcp_wire.specs.RtpHeads.{RtpValue}
+use Rattle.rtcp_wire.specs.Values.{RtcpPacket}
+use Rattle.rtcp_members.specs.Traces.{Horizons}
+use Rattle.rtcp_members.specs.Tables.{TableValue, after_check, after_facts, counted}
+use Rattle.rtcp_members.specs.Pending.{after_blocks, last_reported}
+use Rattle.rtcp_members.proofs.LawLemmas as tables
+use Rattle.rtcp_timer.specs.Averages.{moved_average}
+use Rattle.rtcp_timer.specs.Schedules.{Happening, Timing, after, tried, transmitted}
+use Rattle.rtcp_engine.specs.Setups.{Setup}
+use Rattle.rtcp_engine.specs.OwnValues.{OwnValue, own_after_packet, own_after_check, own_after_report}
+use Rattle.rtcp_engine.specs.Outcomes.{Outcome, member_count, timing_of, interval_at, receiver_interval_at}
+use Rattle.rtcp_engine.specs.Reporting.{report_octets}
+use Rattle.rtcp_engine.specs.Leaving.{Backoff, after_wait, backoff_from, is_bye_due, leaving_average, leaving_count, leaving_interval, leaving_load, leaving_timing, with_farewell_of}
+use Rattle.rtcp_engine.specs.Histories.{facts_of_media, media_fact, with_facts_of, with_media, with_packet}
+use Rattle.rtcp_engine.specs.Ticks.{horizons_of, with_check, without_silent, has_come, has_passed, is_report_due, put_off, tried_at, report_due, with_report, reported, after_check as after_check_at}
+use Rattle.rtcp_engine.specs.States.{State, Agrees, Does, DoesWaiting, StandsStill, Stays, Waits}
+use Rattle.rtcp_engine.proofs.Agreeing.{load, facts_agree, media_agree, sizes_agree, packet_agrees, rows_in, octets_in, octets_agree, sent_reports_agree}
+
+-- ---- Steps one after the other
+
+pub both : {a b c : State} {f g : Setup → Outcome → Outcome} → Does a b f → Does b c g → Does a c (λ setup outcome. g setup (f setup outcome))
+both {a} {b} {c} {f} {g} first second = record {
+  stays = record {
+    setup = second.stays.setup ∙ first.stays.setup;
+    last = second.stays.last ∙ first.stays.last;
+    calls = second.stays.calls ∙ first.stays.calls;
+  };
+  follows = λ outcome agrees. subst (λ (setup : Setup). Agrees c (g setup (f a.setup outcome))) first.stays.setup (second.follows (f a.setup outcome) (first.follows outcome agrees));
+}
+
+pub seen : {s w : State} → s ≡ w → (outcome : Outcome) → Agrees w outcome → Agrees s outcome
+seen {s} {w} is outcome agrees = subst (λ (x : State). Agrees x outcome) (sym is) agrees
+
+-- what is known of the numbers inside is known of those outside
+pub of_view : {A : Type 0} {s w : State} {a : A} → s ≡ w → (exact : Setup → Outcome → A) → ((outcome : Outcome) → Agrees s outcome → a ≡ exact s.setup outcome) → (outcome : Outcome) → Agrees w outcome → a ≡ exact w.setup outcome
+of_view {A} {s} {w} {a} is exact inside = subst (λ (x : State). (outcome : Outcome) → Agrees x outcome → a ≡ exact x.setup outcome) is inside
+
+pub stays_by : {s w v : State} → s ≡ w → v.setup ≡ s.setup → v.last ≡ s.last → v.calls ≡ s.calls → Stays w v
+stays_by {s} {w} {v} is setup last calls = record {
+  setup = setup ∙ ap (λ (x : State). x.setup) is;
+  last = last ∙ ap (λ (x : State). x.last) is;
+  calls = calls ∙ ap (λ (x : State). x.calls) is;
+}
+
+-- ---- The schedule
+
+abbrev pub with_timing : Timing → State → State
+with_timing timing s = record s { timing = timing }
+
+abbrev pub with_happening : Happening → Outcome → Outcome
+with_happening happening outcome = record outcome { happenings = happening ∷ outcome.happenings }
+
+happens : {s : State} {outcome : Outcome} → Agrees s outcome → (happening : Happening) (timing : Timing) → timing ≡ after happening s.timing → Agrees (with_timing timing s) (with_happening happening outcome)
+happens {s} {outcome} a happening timing is = record {
+  table = a.table;
+  capacity = a.capacity;
+  rate = a.rate;
+  timing = is ∙ ap (after happening) a.timing;
+  average = a.average;
+  own = a.own;
+  cursor = a.cursor;
+  reports = a.reports;
+}
+
+-- what happens to the schedule, and to nothing else
+pub schedules : {s w : State} → s ≡ w → (timing : Timing) (happening : Setup → Outcome → Happening) → ((outcome : Outcome) → Agrees w outcome → timing ≡ after (happening w.setup outcome) s.timing)
+    → Does w (with_timing timing s) (λ setup outcome. with_happening (happening setup outcome) outcome)
+schedules {s} {w} is timing happening steps = record {
+  stays = stays_by is refl refl refl;
+  follows = λ outcome a. happens (seen is outcome a) (happening w.setup outcome) timing (steps outcome a);
+}
+
+-- an interval and a number of members are those of each outcome
+abbrev pub IsInterval : State → ℕ → Type 0
+IsInterval w td = (outcome : Outcome) → Agrees w outcome → td ≡ interval_at w.setup outcome
+
+abbrev pub AreMembers : State → ℕ → Type 0
+AreMembers w members = (outcome : Outcome) → Agrees w outcome → members ≡ member_count w.setup outcome
+
+pub draws : {s w : State} → s ≡ w → (timing : Timing) (happening : ℕ → ℕ → Happening) (word td members : ℕ) → IsInterval w td → AreMembers w members
+    → timing ≡ after (happening (drawn_interval td word) members) s.timing
+    → Does w (with_timing timing s) (λ setup outcome. with_happening (happening (drawn_interval (interval_at setup outcome) word) (member_count setup outcome)) outcome)
+draws {s} {w} is timing happening word td members interval counts steps =
+    schedules is timing (λ setup outcome. happening (drawn_interval (interval_at setup outcome) word) (member_count setup outcome))
+    (λ outcome a. steps
+    ∙ ap (λ (d : ℕ). after (happening (drawn_interval d word) members) s.timing) (interval outcome a)
+    ∙ ap (λ (m : ℕ). after (happening (drawn_interval (interval_at w.setup outcome) word) m) s.timing) (counts outcome a))
+
+-- ---- Whether a report is due
+
+come_by : {s : State} {outcome : Outcome} → Agrees s outcome → (t : ℕ) → has_come t outcome ≡ nat_le s.timing.next t
+come_by {s} {outcome} a t = ap (λ (x : Timing). nat_le x.next t) (sym a.timing)
+
+pub tries : {s w : State} → s ≡ w → (timing : Timing) (t word td members : ℕ) → IsInterval w td → AreMembers w members
+    → (t < s.timing.next → timing ≡ s.timing) → (s.timing.next ≤ t → timing ≡ after (tried t (drawn_interval td word) members) s.timing)
+    → Does w (with_timing timing s) (λ setup. tried_at setup t word)
+tries {s} {w} is timing t word td members interval counts unchanged steps = record {
+  stays = stays_by is refl refl refl;
+  follows = λ outcome a.
+      let come = come_by (seen is outcome a) t in
+      let to : Bool → Outcome = λ b. if b then put_off w.setup t word outcome else outcome in
+      elim (cases_lt t s.timing.next) [
+        | inl early ↦
+            subst (λ (b : Bool). Agrees (with_timing timing s) (to b)) (sym (come ∙ lt-leb s.timing.next t early))
+            (subst (λ (x : Timing). Agrees (with_timing x s) outcome) (sym (unchanged early)) (seen is outcome a))
+        | inr late ↦
+            subst (λ (b : Bool). Agrees (with_timing timing s) (to b)) (sym (come ∙ le-leb s.timing.next t late))
+            ((draws is timing (λ interval many. tried t interval many) word td members interval counts (steps late)).follows outcome a)
+      ];
+}
+
+pub due_by : {s w : State} → s ≡ w → (t word td : ℕ) → IsInterval w td → (outcome : Outcome) → Agrees w outcome → (nat_le s.timing.next t && nat_le (s.timing.last + drawn_interval td word) t) ≡ is_report_due w.setup t word outcome
+due_by {s} {w} is t word td interval outcome a =
+    ap (λ (x : Timing). nat_le x.next t && nat_le (x.last + drawn_interval td word) t) (ap (λ (x : State). x.timing) is ∙ a.timing)
+    ∙ ap (λ (d : ℕ). has_come t outcome && nat_le ((timing_of outcome).last + drawn_interval d word) t) (interval outcome a)
+
+-- where no report is due, asking has made all of the tick
+undue : (setup : Setup) (t first_word second_word : ℕ) (outcome : Outcome) (come passed : Bool) → (come && passed) ≡ false
+    → (if come then put_off setup t first_word outcome else outcome)
+    ≡ (if come then (if passed then reported setup t second_word outcome else put_off setup t first_word outcome) else outcome)
+undue setup t first_word second_word outcome true true h = absurd cc
+undue setup t first_word second_word outcome true false h = refl
+undue setup t first_word second_word outcome false passed h = refl
+
+-- a report leaves nothing of the schedule before it
+due : (s : State) (setup : Setup) (t first_word second_word : ℕ) (outcome : Outcome) (come passed : Bool) → (come && passed) ≡ true
+    → Agrees s (reported setup t second_word (if come then put_off setup t first_word outcome else outcome))
+    → Agrees s (if come then (if passed then reported setup t second_word outcome else put_off setup t first_word outcome) else outcome)
+due s setup t first_word second_word outcome true true h a = record {
+  table = a.table;
+  capacity = a.capacity;
+  rate = a.rate;
+  timing = a.timing;
+  average = a.average;
+  own = a.own;
+  cursor = a.cursor;
+  reports = a.reports;
+}
+due s setup t first_word second_word outcome true false h a = absurd cc
+due s setup t first_word second_word outcome false passed h a = absurd cc
+
+-- ---- Checks
+
+checks_agree : (s : State) (outcome : Outcome) (horizons : Horizons) → Agrees s outcome
+    → Agrees (record s { table = after_check horizons s.table; own = own_after_check horizons.idle s.own }) (with_check horizons outcome)
+checks_agree s outcome horizons a =
+    let kept = tables.bounds_are_kept-check s.table horizons in
+    record {
+      table = tables.tables_follow_traces-check s.table outcome.trace horizons a.table;
+      capacity = kept.capacity ∙ a.capacity;
+      rate = kept.rate ∙ a.rate;
+      timing = a.timing;
+      average = a.average;
+      own = ap (own_after_check horizons.idle) a.own;
+      cursor = a.cursor;
+      reports = a.reports;
+    }
+
+abbrev pub IsReceiverInterval : State → ℕ → Type 0
+IsReceiverInterval w td = (outcome : Outcome) → Agrees w outcome → td ≡ receiver_interval_at w.setup outcome
+
+pub drops : {s w : State} → s ≡ w → (table : TableValue) (own : OwnValue) (t td : ℕ) → IsReceiverInterval w td → table ≡ after_check (horizons_of t td) s.table → own ≡ own_after_check (t - 2 * td) s.own
+    → Does w (record s { table = table; own = own }) (λ setup. without_silent setup t)
+drops {s} {w} is table own t td interval table_is own_is =
+    let new : State = record s { table = table; own = own } in
+    let same : new ≡ record s { table = after_check (horizons_of t td) s.table; own = own_after_check (t - 2 * td) s.own } = λ i. record s { table = table_is i; own = own_is i } in
+    record {
+      stays = stays_by is refl refl refl;
+      follows = λ outcome a. subst (λ (d : ℕ). Agrees new (with_check (horizons_of t d) outcome)) (interval outcome a)
+          (subst (λ (x : State). Agrees x (with_check (horizons_of t td) outcome)) (sym same) (checks_agree s outcome (horizons_of t td) (seen is outcome a)));
+    }
+
+-- ---- Sent packets
+
+pub sends : {s w : State} → s ≡ w → (own : OwnValue) (t timestamp octets : ℕ) → own ≡ own_after_packet t timestamp octets s.own → Does w (record s { own = own }) (λ setup. with_packet t timestamp octets)
+sends {s} {w} is own t timestamp octets own_is = record {
+  stays = stays_by is refl refl refl;
+  follows = λ outcome agrees.
+      let a = seen is outcome agrees in
+      record {
+        table = a.table;
+        capacity = a.capacity;
+        rate = a.rate;
+        timing = a.timing;
+        average = a.average;
+        own = own_is ∙ ap (own_after_packet t timestamp octets) a.own ∙ packet_agrees outcome.own t timestamp octets;
+        cursor = a.cursor;
+        reports = a.reports;
+      };
+}
+
+-- ---- Reports
+
+pub octets_of : {s w : State} → s ≡ w → (t : ℕ) (outcome : Outcome) → Agrees w outcome → octets_in t s ≡ report_octets w.setup t outcome
+octets_of {s} {w} is t outcome a = ap (octets_in t) is ∙ octets_agree w outcome t a
+
+pub makes : {s w : State} → s ≡ w → (t : ℕ) (table : TableValue) (average : ℕ) (own : OwnValue) (cursor : Option ℕ) → table ≡ after_blocks (rows_in t s) s.table → average ≡ moved_average s.average (length (octets_in t s))
+    → own ≡ own_after_report s.own → cursor ≡ last_reported s.cursor (rows_in t s)
+    → Does w (record s { table = table; average = average; own = own; cursor = cursor; reports = s.reports + 1 }) (λ setup. with_report setup t)
+makes {s} {w} is t table average own cursor table_is average_is own_is cursor_is =
+    let new : State = record s { table = table; average = average; own = own; cursor = cursor; reports = s.reports + 1 } in
+    let same : new ≡ record s { table = after_blocks (rows_in t s) s.table; average = moved_average s.average (length (octets_in t s)); own = own_after_report s.own; cursor = last_reported s.cursor (rows_in t s); reports = s.reports + 1 } =
+    λ i. record s { table = table_is i; average = average_is i; own = own_is i; cursor = cursor_is i; reports = s.reports + 1 } in
+    subst (λ (x : State). Does x new (λ setup. with_report setup t)) is
+    (record { stays = record { setup = refl; last = refl; calls = refl }; follows = λ outcome a. subst (λ (x : State). Agrees x (with_report s.setup t outcome)) (sym same) (sent_reports_agree s outcome t a) })
+
+-- a report is due, or none is, whatever the outcome is that the numbers agree with
+abbrev pub IsDueBy : State → (t word : ℕ) → Bool → Type 0
+IsDueBy w t word is_due = (outcome : Outcome) → Agrees w outcome → is_due ≡ is_report_due w.setup t word outcome
+
+pub puts_off : {w v : State} (t first_word second_word : ℕ) → IsDueBy w t first_word false → Does w v (λ setup. tried_at setup t first_word) → Does w v (λ setup. after_check_at setup t first_word second_word)
+puts_off {w} {v} t first_word second_word none before = record {
+  stays = before.stays;
+  follows = λ outcome a. subst (Agrees v) (undue w.setup t first_word second_word outcome (has_come t outcome) (has_passed w.setup t first_word outcome) (sym (none outcome a))) (before.follows outcome a);
+}
+
+pub reports_now : {w v u : State} (t first_word second_word : ℕ) → IsDueBy w t first_word true → Does w v (λ setup. tried_at setup t first_word) → Does v u (λ setup. reported setup t second_word)
+    → Does w u (λ setup. after_check_at setup t first_word second_word)
+reports_now {w} {v} {u} t first_word second_word is_due before sent =
+    let whole = both before sent in record {
+      stays = whole.stays;
+      follows = λ outcome a. due u w.setup t first_word second_word outcome (has_come t outcome) (has_passed w.setup t first_word outcome) (sym (is_due outcome a)) (whole.follows outcome a);
+    }
+
+same_octets : (setup : Setup) (t word : ℕ) (outcome : Outcome) (come : Bool) → report_octets setup t (if come then put_off setup t word outcome else outcome) ≡ report_octets setup t outcome
+same_octets setup t word outcome true = refl
+same_octets setup t word outcome false = refl
+
+pub hands_out : {w v : State} (t word : ℕ) (octets : List ℕ) → IsDueBy w t word true → Does w v (λ setup. tried_at setup t word) → ((outcome : Outcome) → Agrees v outcome → octets ≡ report_octets v.setup t outcome)
+    → (outcome : Outcome) → Agrees w outcome → Some octets ≡ report_due w.setup t word outcome
+hands_out {w} {v} t word octets is_due before made outcome a =
+    let tried_outcome = tried_at w.setup t word outcome in
+    ap Some (made tried_outcome (before.follows outcome a) ∙ ap (λ (setup : Setup). report_octets setup t tried_outcome) before.stays.setup ∙ same_octets w.setup t word outcome (has_come t outcome))
+    ∙ ap (λ (b : Bool). if b then Some (report_octets w.setup t outcome) else None) (is_due outcome a)
+
+-- ---- Datagrams
+
+pub takes_facts : {s w : State} → s ≡ w → (t size : ℕ) (packets : List RtcpPacket) (table : TableValue) (average : ℕ) → table ≡ after_facts (facts_of packets) t s.table → average ≡ moved_average s.average size
+    → Does w (record s { table = table; average = average }) (λ setup. with_facts_of t size packets)
+takes_facts {s} {w} is t size packets table average table_is average_is = record {
+  stays = stays_by is refl refl refl;
+  follows = λ outcome a.
+      let same : record s { table = table; average = average } ≡ record s { table = after_facts (facts_of packets) t s.table; average = moved_average s.average size } = λ i. record s { table = table_is i; average = average_is i } in
+      subst (λ (x : State). Agrees x (with_facts_of t size packets outcome)) (sym same) (sizes_agree _ _ size (facts_agree s outcome (facts_of packets) t (seen is outcome a)));
+}
+
+pub takes_media : {s w : State} → s ≡ w → (t : ℕ) (head : RtpValue) (table : TableValue) → table ≡ after_facts (facts_of_media s.setup.ssrc head (counted s.table (media_fact head))) t s.table
+    → Does w (record s { table = table }) (λ setup. with_media setup t head)
+takes_media {s} {w} is t head table table_is =
+    subst (λ (x : State). Does x (record s { table = table }) (λ setup. with_media setup t head)) is
+    (record {
+      stays = record { setup = refl; last = refl; calls = refl };
+      follows = λ outcome a. subst (λ (x : TableValue). Agrees (record s { table = x }) (with_media s.setup t head outcome)) (sym table_is) (media_agree s outcome t head a);
+    })
+
+-- ---- Backing off
+
+-- an interval is that of each backoff with so many members
+abbrev pub IsWaitingInterval : State → (members td : ℕ) → Type 0
+IsWaitingInterval w members td = (outcome : Outcome) (backoff : Backoff) → Waits w outcome backoff → members ≡ leaving_count backoff → td ≡ leaving_interval w.setup backoff
+
+pub waits_there : {s w : State} → s ≡ w → (outcome : Outcome) (backoff : Backoff) → Waits w outcome backoff → Waits s outcome backoff
+waits_there {s} {w} is outcome backoff h = subst (λ (x : State). Waits x outcome backoff) (sym is) h
+
+with_numbers : {s : State} {outcome : Outcome} (timing : Timing) (average : ℕ) → StandsStill s outcome → StandsStill (record s { timing = timing; average = average }) outcome
+with_numbers {s} {outcome} timing average still = record { table = still.table; capacity = still.capacity; rate = still.rate; own = still.own }
+
+pub bye_due_by : {s w : State} → s ≡ w → (t word td members : ℕ) → IsWaitingInterval w members td → (outcome : Outcome) (backoff : Backoff) → Waits w outcome backoff → members ≡ leaving_count backoff
+    → (nat_le s.timing.next t && nat_le (s.timing.last + drawn_interval td word) t) ≡ is_bye_due w.setup t word backoff
+bye_due_by {s} {w} is t word td members interval outcome backoff h count =
+    ap (λ (x : Timing). nat_le x.next t && nat_le (x.last + drawn_interval td word) t) (ap (λ (x : State). x.timing) is ∙ h.timing)
+    ∙ ap (λ (d : ℕ). nat_le (leaving_timing backoff).next t && nat_le ((leaving_timing backoff).last + drawn_interval d word) t) (interval outcome backoff h count)
+
+pub waits_on : {s w : State} → s ≡ w → (timing : Timing) (t word td members : ℕ) → IsWaitingInterval w members td
+    → (t < s.timing.next → timing ≡ s.timing) → (s.timing.next ≤ t → timing ≡ after (tried t (drawn_interval td word) members) s.timing)
+    → DoesWaiting members w (with_timing timing s) (λ setup. after_wait setup t word)
+waits_on {s} {w} is timing t word td members interval unchanged steps = record {
+  stays = stays_by is refl refl refl;
+  follows = λ outcome backoff h count.
+      let at = waits_there is outcome backoff h in
+      let come = ap (λ (x : Timing). nat_le x.next t) (sym at.timing) in
+      let happening = tried t (drawn_interval (leaving_interval w.setup backoff) word) (leaving_count backoff) in
+      let to : Bool → Backoff = λ b. if b then record backoff { happenings = happening ∷ backoff.happenings } else backoff in
+      elim (cases_lt t s.timing.next) [
+        | inl early ↦
+            subst (λ (b : Bool). Waits (with_timing timing s) outcome (to b)) (sym (come ∙ lt-leb s.timing.next t early))
+            (record { timing = unchanged early ∙ at.timing; average = at.average; still = with_numbers timing s.average at.still })
+        | inr late ↦
+            subst (λ (b : Bool). Waits (with_timing timing s) outcome (to b)) (sym (come ∙ le-leb s.timing.next t late))
+            (record {
+              timing = steps late
+                  ∙ ap (λ (d : ℕ). after (tried t (drawn_interval d word) members) s.timing) (interval outcome backoff h count)
+                  ∙ ap (λ (m : ℕ). after (tried t (drawn_interval (leaving_interval w.setup backoff) word) m) s.timing) count
+                  ∙ ap (after happening) at.timing;
+              average = at.average;
+              still = with_numbers timing s.average at.still;
+            })
+      ];
+}
+
+pub hears : {s w : State} → s ≡ w → (average size : ℕ) → average ≡ moved_average s.average size → (outcome : Outcome) (backoff : Backoff) (byes : ℕ) → Waits w outcome backoff → Waits (record s { average = average }) outcome (with_farewell_of byes size backoff)
+hears {s} {w} is average size average_is outcome backoff byes h =
+    let at = waits_there is outcome backoff h in
+    record {
+      timing = at.timing;
+      average = average_is ∙ ap (λ (a : ℕ). moved_average a size) at.average;
+      still = with_numbers s.timing average at.still;
+    }
+
+-- a backoff before its first draw
+abbrev pub unstarted : (t : ℕ) → Outcome → Backoff
+unstarted t outcome = record { since = t; farewells = []; happenings = outcome.happenings }
+
+pub waits_first : {s w : State} → s ≡ w → (average t : ℕ) → average ≡ leaving_average s.setup [] → (outcome : Outcome) → Agrees w outcome → Waits (record s { average = average }) outcome (unstarted t outcome)
+waits_first {s} {w} is average t average_is outcome agrees =
+    let a = seen is outcome agrees in
+    record { timing = a.timing; average = average_is; still = record { table = a.table; capacity = a.capacity; rate = a.rate; own = a.own } }
+
+pub backs_off : {s w : State} → s ≡ w → (average word td : ℕ) (timing : Timing) → average ≡ leaving_average s.setup [] → IsWaitingInterval (record s { average = average }) 1 td → timing ≡ after (transmitted s.last (drawn_interval td word) 1) s.timing
+    → (outcome : Outcome) → Agrees w outcome → Waits (record s { average = average; timing = timing }) outcome (backoff_from w.setup w.last word outcome)
+backs_off {s} {w} is average word td timing average_is interval steps =
+    let new : State = record s { average = average; timing = timing } in
+    subst (λ (x : State). (outcome : Outcome) → Agrees x outcome → Waits new outcome (backoff_from x.setup x.last word outcome)) is
+    (λ outcome a. record {
+      timing = steps ∙ ap (λ (d : ℕ). after (transmitted s.last (drawn_interval d word) 1) s.timing) (interval outcome (unstarted s.last outcome) (waits_first {s = s} refl average s.last average_is outcome a) refl);
+      average = average_is;
+      still = record { table = a.table; capacity = a.capacity; rate = a.rate; own = a.own };
+    })
+
+pub waiting_load : {s w : State} → s ≡ w → (members avg : ℕ) → avg ≡ s.average → (outcome : Outcome) (backoff : Backoff) → Waits w outcome backoff
+    → load members 0 false true avg s.setup.sender_bw s.setup.receiver_bw ≡ leaving_load w.setup members backoff.farewells
+waiting_load {s} {w} is members avg same outcome backoff h =
+    let at = waits_there is outcome backoff h in
+    ap (λ (a : ℕ). load members 0 false true a s.setup.sender_bw s.setup.receiver_bw) (same ∙ at.average) ∙ ap (λ (x : State). leaving_load x.setup members backoff.farewells) is

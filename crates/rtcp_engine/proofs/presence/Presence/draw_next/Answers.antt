@@ -1,0 +1,8 @@
+use Rattle.rtcp_timer.specs.Schedules.{transmitted}
+use Rattle.rtcp_engine.proofs.Doing.{draws}
+use Rattle.rtcp_engine.proofs.presence.Presence.draw_next.Goals as goal
+
+pub returns-clause-new : goal.returns-clause-new
+returns-clause-new g c =
+    draws c.self.view_is c.sent.new.self (λ interval members. transmitted c.args.now interval members) c.args.w2 c.interval-td.result c.member_count-members.result
+    c.interval-td.ensures.exact c.member_count-members.ensures.exact c.sent.ensures.steps

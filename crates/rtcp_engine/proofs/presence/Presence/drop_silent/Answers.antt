@@ -1,0 +1,24 @@
+use Rattle.std.proofs.Common.{◌≡◌, ℕ, ap, ◌∙◌, sym, subst}
+use Rattle.rtcp_members.specs.Traces.{horizons_at}
+use Rattle.rtcp_members.specs.Tables.{TableValue, after_check}
+use Rattle.rtcp_engine.specs.OwnValues.{own_after_check}
+use Rattle.rtcp_engine.specs.Ticks.{horizons_of}
+use Rattle.rtcp_engine.proofs.Soundness.{IsKept, check_kept, no_call, kept}
+use Rattle.rtcp_engine.proofs.Doing.{drops}
+use Rattle.rtcp_engine.proofs.presence.Presence.drop_silent.Goals as goal
+
+pub invariant_of-self : goal.invariant_of-self
+invariant_of-self g c =
+    let inside = c.self.inside in
+    let content = g.T.MemberTable.content in
+    let horizons = horizons_at c.saturating_sub.result c.saturating_sub-idle.result c.saturating_sub-2.result in
+    let is_kept = subst (λ (table : TableValue). IsKept (content inside.table) table inside.calls) (sym c.check.ensures.content) (check_kept c.self.invariant horizons) in
+    kept c.self.invariant (content c.check.new.self) inside.schedule inside.average c.check-2.new.self inside.cursor inside.reports inside.last inside.calls is_kept (no_call c.self.invariant)
+
+pub returns-clause-new : goal.returns-clause-new
+returns-clause-new g c =
+    let inside = c.self.inside in
+    let table : g.T.MemberTable.content c.check.new.self ≡ after_check (horizons_of c.args.now c.receiver_interval-td.result) (g.T.MemberTable.content inside.table) =
+    c.check.ensures.content ∙ (λ i. after_check (horizons_at (c.saturating_sub.ensures i) (c.saturating_sub-idle.ensures i) (c.saturating_sub-2.ensures i)) (g.T.MemberTable.content inside.table)) in
+    drops c.self.view_is (g.T.MemberTable.content c.check.new.self) c.check-2.new.self c.args.now c.receiver_interval-td.result c.receiver_interval-td.ensures.exact
+    table (c.check-2.ensures ∙ ap (λ (idle : ℕ). own_after_check idle inside.own) c.saturating_sub-idle.ensures)

@@ -1,0 +1,7 @@
+use Rattle.std.proofs.Common.{not, ◌∙◌, ap}
+use Rattle.rtcp_engine.specs.OwnValues.{OwnValue}
+use Rattle.rtcp_engine.proofs.Doing.{seen}
+use Rattle.rtcp_engine.proofs.presence.Presence.is_unheard.Goals as goal
+
+pub returns : goal.returns
+returns g c outcome agrees = ap not (c.is_heard.ensures ∙ ap (λ (own : OwnValue). own.heard) (seen c.self.view_is outcome agrees).own)
