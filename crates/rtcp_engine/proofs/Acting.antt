@@ -9,11 +9,10 @@ use Rattle.rtcp_engine.specs.Histories.{History}
 use Rattle.rtcp_engine.specs.Identities.{named, present_among, identifiers, setup_now}
 use Rattle.rtcp_engine.specs.Leaving.{Backoff, Life, present, backing_off, gone, leaving_count}
 use Rattle.rtcp_engine.specs.Lives.{life_at, lived, out_by, out_while_backing_off, out_while_present, step_into, while_backing_off, while_present}
-use Rattle.rtcp_engine.specs.Moves.{refusal_by}
 use Rattle.rtcp_engine.specs.Outcomes.{Outcome}
 use Rattle.rtcp_engine.specs.Presence.{refusal_of, refusal_of_datagram, with_act}
 use Rattle.rtcp_engine.specs.Promises.{Takes}
-use Rattle.rtcp_engine.specs.States.{State, Acts, Agrees, Does, IsAt, Stays, ParticipantValue, StandsAt, Waits, called, leaving, over, taking_part}
+use Rattle.rtcp_engine.specs.States.{State, Acts, Agrees, Does, IsAt, Stays, ParticipantValue, StandsAt, Waits, called, leaving, over, refusal_by, taking_part}
 use Rattle.rtcp_engine.specs.Steps.{OutValue, StepValue}
 use Rattle.rtcp_engine.specs.Taken.{HasWords, WasTaken}
 use Rattle.rtcp_engine.proofs.Agreeing.{calls_agree}

@@ -25,7 +25,7 @@ use Rattle.rtcp_engine.specs.Reporting.{extra_item, last_reported_in, reporter_a
 use Rattle.rtcp_engine.specs.Ticks as ticks
 use Rattle.rtcp_engine.specs.Histories.{media_fact, facts_of_media, with_media}
 use Rattle.rtcp_engine.specs.States.{State, Agrees, with_call}
-use Rattle.rtcp_engine.specs.Moves.{reporter_by}
+use Rattle.rtcp_engine.specs.OwnValues.{reporter_by}
 use Rattle.rtcp_engine.proofs.LawLemmas.{last_block_is_newest}
 
 -- ---- Counts and intervals

@@ -13,13 +13,12 @@ use Rattle.rtcp_engine.specs.Outcomes.{Outcome}
 use Rattle.rtcp_engine.specs.Sent.{is_change}
 use Rattle.rtcp_engine.specs.Setups.{Setup}
 use Rattle.rtcp_engine.specs.Lives.{life_at, while_present, out_while_present, out_while_backing_off}
-use Rattle.rtcp_engine.specs.Presence.{refusal_if, refusal_of, refusal_of_datagram, with_act}
+use Rattle.rtcp_engine.specs.Presence.{call_refusal, refusal_if, refusal_of, refusal_of_datagram, with_act}
 use Rattle.rtcp_engine.specs.Changes.{change_by, named_by, names_own, new_identifier}
 use Rattle.rtcp_engine.specs.Steps.{OutValue, StepValue, answer_unless}
 use Rattle.rtcp_engine.specs.Answers.{answer_of, followed_by, out_at, refusal_after, step_by, step_with}
 use Rattle.rtcp_engine.specs.Taken.{HasWords, WasTaken}
 use Rattle.rtcp_engine.specs.States.{ParticipantValue, StandsAt}
-use Rattle.rtcp_engine.specs.Moves.{call_refusal}
 use Rattle.rtcp_engine.specs.Views.{act_of}
 use Rattle.rtcp_engine.proofs.Following.{Brings, change_is_taken, compound_brings, media_brings, taken_again}
 use Rattle.rtcp_engine.proofs.LawLemmas.{nothing_more, or_none}
@@ -66,13 +65,13 @@ change_is : (h : History) (t peer word : ℕ) (arrival : Arrival)
 change_is h t peer word (Rtcp compound size) = refl
 change_is h t peer word (Rtp head) = refl
 
-admits : (t peer word : ℕ) (arrival : Arrival) (p : ParticipantValue) → Admitted t p → call_refusal (moment_of (act_of t peer word arrival)) p.presence ≡ None
-admits t peer word arrival p admitted = ap (λ (m : ℕ). call_refusal m p.presence) (moment_is t peer word arrival) ∙ admitted.admitted
+admits : (t peer word : ℕ) (arrival : Arrival) (p : ParticipantValue) → Admitted t p → call_refusal (moment_of (act_of t peer word arrival)) p.presence.last p.presence.calls ≡ None
+admits t peer word arrival p admitted = ap (λ (m : ℕ). call_refusal m p.presence.last p.presence.calls) (moment_is t peer word arrival) ∙ admitted.admitted
 
 -- a datagram that is refused for its fault
 pub fault_refused : (p : ParticipantValue) (h : History) (t : ℕ) (act : Act) (reason : Refusal) → StandsAt p h → Admitted t p → moment_of act ≡ t → refusal_of_datagram h.setup h.acts act ≡ Some reason → refusal_after h act ≡ Some reason
 fault_refused p h t act reason stands admitted moment fault =
-    there_refuses_datagram p h act (Some reason) stands admitted.there (ap (λ (m : ℕ). call_refusal m p.presence) moment ∙ admitted.admitted) fault
+    there_refuses_datagram p h act (Some reason) stands admitted.there (ap (λ (m : ℕ). call_refusal m p.presence.last p.presence.calls) moment ∙ admitted.admitted) fault
 
 -- ---- Datagrams without a change
 

@@ -13,9 +13,9 @@ use Rattle.rtcp_timer.specs.Loads.{interval_of}
 use Rattle.rtcp_timer.specs.Schedules.{Timing, transmitted, schedule_at}
 use Rattle.rtcp_engine.specs.Setups.{Setup, IsUsable}
 use Rattle.rtcp_engine.specs.OwnValues.{OwnValue, no_packets}
-use Rattle.rtcp_engine.specs.Outcomes.{beginning, first_size_of}
+use Rattle.rtcp_engine.specs.Outcomes.{first_size_of}
 use Rattle.rtcp_engine.specs.Taken.{begun}
-use Rattle.rtcp_engine.specs.States.{state_with, IsSound, IsPresentAt}
+use Rattle.rtcp_engine.specs.States.{state_with, IsSound, StandsAt, newcomer}
 
 abbrev pub first_load : (average sender_bw receiver_bw : ℕ) → Load
 first_load average sender_bw receiver_bw = record { members = 1; senders = 0; we_sent = false; initial = true; avg = average; sender_bw = sender_bw; receiver_bw = receiver_bw }
@@ -42,25 +42,27 @@ start_is_sound setup word table timing average own usable start = record {
 }
 
 pub start_stands : (setup : Setup) (word : ℕ) (table : TableValue) (timing : Timing) (average : ℕ) (own : OwnValue) → IsUsable setup → word < 2 ^ 32 →
-    IsStart setup word table timing average own → IsPresentAt (state_with setup table timing average own None 0 0 0) (begun setup word)
+    IsStart setup word table timing average own → StandsAt (newcomer (state_with setup table timing average own None 0 0 0)) (begun setup word)
 start_stands setup word table timing average own usable word_fits start =
     let for_senders = setup.sender_bw in
     let for_others = setup.receiver_bw in
     record {
       is_history = record { usable = usable; word = word_fits; taken = tt };
       setup = refl;
-      outcome = beginning setup word;
-      life = refl;
-      agrees = record {
-        table = subst (λ (t : TableValue). Rattle.rtcp_members.specs.Tables.StandsAt t []) (sym start.is_table) (tables.tables_follow_traces-none setup.capacity setup.rate);
-        capacity = ap (λ (t : TableValue). t.capacity) start.is_table;
-        rate = ap (λ (t : TableValue). t.rate) start.is_table;
-        timing = start.is_timing ∙ ap (λ (a : ℕ). schedule_at (transmitted 0 (drawn_interval (interval_of (first_load a for_senders for_others)) word) 1 ∷ [])) start.is_average;
-        average = start.is_average;
-        own = start.is_own;
-        cursor = refl;
-        reports = refl;
-      };
+      changes = record { peers = refl; identifiers_are = refl };
+      life = (
+        refl,
+        record {
+          table = subst (λ (t : TableValue). Rattle.rtcp_members.specs.Tables.StandsAt t []) (sym start.is_table) (tables.tables_follow_traces-none setup.capacity setup.rate);
+          capacity = ap (λ (t : TableValue). t.capacity) start.is_table;
+          rate = ap (λ (t : TableValue). t.rate) start.is_table;
+          timing = start.is_timing ∙ ap (λ (a : ℕ). schedule_at (transmitted 0 (drawn_interval (interval_of (first_load a for_senders for_others)) word) 1 ∷ [])) start.is_average;
+          average = start.is_average;
+          own = start.is_own;
+          cursor = refl;
+          reports = refl;
+        },
+      );
       last = refl;
       calls = refl;
     }

@@ -2,6 +2,7 @@
 use Rattle.std.proofs.Common.{◌≡◌, ℕ, suc, zero, ◌+◌, ◌-◌, ◌%◌, ◌^◌, ◌<◌, ◌&&◌, ◌||◌, ◌==◌, not, nat_lt, nat_le, Bool, true, false, List, [], ◌∷◌, length, map, Option, Some, None, Result, Ok, Err, if◌then◌else◌, refl, sym, ap, ◌∙◌, arith}
 use Rattle.std.proofs.lemmas.Bool.{le-ltb}
 use Rattle.std.specs.List.{list_any}
+use Rattle.std.specs.Option.{option_or}
 use Rattle.rtcp_wire.specs.declared.fact.Fact.{Fact}
 use Rattle.rtcp_wire.specs.declared.fault.WireFault.{WireFault}
 use Rattle.rtcp_wire.specs.declared.rtp.fault.RtpFault.{RtpFault}
@@ -18,34 +19,20 @@ use Rattle.rtcp_engine.specs.Histories.{History}
 use Rattle.rtcp_engine.specs.Leaving.{Life, present, backing_off, gone}
 use Rattle.rtcp_engine.specs.Lives.{life_at}
 use Rattle.rtcp_engine.specs.Changes.{is_in_table, is_taken, most_taken, named_by, new_identifier}
-use Rattle.rtcp_engine.specs.Presence.{last_moment, refusal_if, refusal_of, refusal_of_datagram, speaks_of, with_act}
+use Rattle.rtcp_engine.specs.Presence.{call_refusal, last_moment, refusal_if, refusal_of, refusal_of_datagram, speaks_of, with_act}
 use Rattle.rtcp_engine.specs.Answers.{followed_by, refusal_after, refusal_in, with_change_of}
 use Rattle.rtcp_engine.specs.Taken.{HasWords, NamesFew, WasTaken, IsChange, IsHistory}
 use Rattle.rtcp_engine.proofs.Choosing.{new_is_free}
 use Rattle.rtcp_engine.proofs.LawLemmas.{IsTold, after_taken}
-use Rattle.rtcp_engine.proofs.Sending.{in_time}
+use Rattle.rtcp_engine.proofs.Sending.{in_order, in_time, unrefused}
 
 -- ---- Refusals
 
-abbrev first_refusal : (back far many : Bool) (datagram : Option Refusal) → Option Refusal
-first_refusal back far many datagram = if back then Some Backwards else (if far then Some TooFar else (if many then Some TooMany else datagram))
-
-record IsAdmitted (back far many : Bool) (datagram : Option Refusal) : Type 0 where
-  in_order : back ≡ false
-  near : far ≡ false
-  few : many ≡ false
-  taken : datagram ≡ None
-
-admitted : (back far many : Bool) (datagram : Option Refusal) → first_refusal back far many datagram ≡ None → IsAdmitted back far many datagram
-admitted true far many datagram none = absurd cc
-admitted false true many datagram none = absurd cc
-admitted false false true datagram none = absurd cc
-admitted false false false datagram none = record { in_order = refl; near = refl; few = refl; taken = none }
-
-admits : (back far many : Bool) (datagram : Option Refusal) → IsAdmitted back far many datagram → first_refusal back far many datagram ≡ None
-admits back far many datagram is =
-    ap (λ (b : Bool). first_refusal b far many datagram) is.in_order ∙ ap (λ (b : Bool). first_refusal false b many datagram) is.near
-    ∙ ap (λ (b : Bool). first_refusal false false b datagram) is.few ∙ is.taken
+-- what is admitted after a moment is admitted after its own
+admitted_again : (moment last calls : ℕ) → call_refusal moment last calls ≡ None → call_refusal moment moment calls ≡ None
+admitted_again moment last calls none =
+    let others : Option Refusal = if nat_lt (2 ^ 50) moment then Some TooFar else (if nat_le (2 ^ 40 - 1) calls then Some TooMany else None) in
+    ap (λ (back : Bool). if back then Some Backwards else others) (le-ltb moment moment (omega arith)) ∙ (in_order (nat_lt moment last) others none).1
 
 none_before : (life : Life) (refusal : Option Refusal) → refusal_in life refusal ≡ None → refusal ≡ None
 none_before (present outcome) refusal none = none
@@ -97,7 +84,7 @@ change_is_taken history act peer word is brings =
     let free = new_is_free history act word is brings.fits brings.few in
     let parts = neither (is_among (identifiers history.setup history.acts) (new_identifier word history act)) _ free in
     record {
-      order = in_time (moment_of act) (last_moment history.acts) _ brings.admitted;
+      order = in_time history.setup history.acts act brings.admitted;
       may = brings.may;
       new = parts.0;
       absent = (neither (is_in_table history.setup (life_at history) (new_identifier word history act)) _ parts.1).0;
@@ -110,14 +97,14 @@ taken_again history act peer word is brings =
     let free = new_is_free history act word is brings.fits brings.few in
     let parts = neither (is_among (identifiers history.setup history.acts) new) _ free in
     let unnamed = (neither (is_in_table history.setup (life_at history) new) _ parts.1).1 in
-    let before = admitted (nat_lt (moment_of act) (last_moment history.acts)) (nat_lt (2 ^ 50) (moment_of act)) (nat_le (2 ^ 40 - 1) (call_count history.acts)) _ brings.admitted in
-    admits (nat_lt (moment_of act) (moment_of act)) (nat_lt (2 ^ 50) (moment_of act)) (nat_le (2 ^ 40 - 1) (call_count history.acts)) _
-    (record { in_order = le-ltb (moment_of act) (moment_of act) (omega arith); near = before.near; few = before.few; taken = brings.again new unnamed })
+    let call = admitted_again (moment_of act) (last_moment history.acts) (call_count history.acts)
+    (unrefused (call_refusal (moment_of act) (last_moment history.acts) (call_count history.acts)) (refusal_of_datagram history.setup history.acts act) brings.admitted).0 in
+    ap (λ (r : Option Refusal). option_or r (refusal_of_datagram history.setup (renamed (moment_of act) peer new ∷ history.acts) act)) call ∙ brings.again new unnamed
 
 -- ---- What datagrams bring
 
 datagram_of : (history : History) (act : Act) → refusal_of history.setup history.acts act ≡ None → refusal_of_datagram history.setup history.acts act ≡ None
-datagram_of history act none = (admitted (nat_lt (moment_of act) (last_moment history.acts)) (nat_lt (2 ^ 50) (moment_of act)) (nat_le (2 ^ 40 - 1) (call_count history.acts)) _ none).taken
+datagram_of history act none = (unrefused (call_refusal (moment_of act) (last_moment history.acts) (call_count history.acts)) (refusal_of_datagram history.setup history.acts act) none).1
 
 pub compound_brings : (history : History) (moment peer word size : ℕ) (packets : List RtcpPacket) → (word < 2 ^ 32) × (length (map subject (facts_of packets)) < 2 ^ 31)
     → refusal_of history.setup history.acts (rtcp_came moment peer word size (Ok packets)) ≡ None → speaks_of (setup_now history.setup history.acts).ssrc packets ≡ true

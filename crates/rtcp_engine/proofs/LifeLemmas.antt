@@ -9,13 +9,12 @@ use Rattle.rtcp_engine.specs.Acts.{Act, moment_of}
 use Rattle.rtcp_engine.specs.Outcomes.{Outcome, member_count}
 use Rattle.rtcp_engine.specs.Histories.{History}
 use Rattle.rtcp_engine.specs.Reporting.{bye_octets}
-use Rattle.rtcp_engine.specs.Presence.{refusal_of, refusal_of_datagram}
+use Rattle.rtcp_engine.specs.Presence.{call_refusal, refusal_of, refusal_of_datagram}
 use Rattle.rtcp_engine.specs.Leaving.{with_farewell_of, Farewell, Backoff, is_unheard, few_members, backoff_from, bye_at_once, Life, present, backing_off, gone, left_at, after_wait, leaving_count, leaving_timing}
 use Rattle.rtcp_engine.specs.Lives.{life_at, bye_out}
 use Rattle.rtcp_engine.specs.Answers.{refusal_in, refusal_after}
-use Rattle.rtcp_engine.specs.States.{PhaseValue, taking_part, leaving, over, ParticipantValue, IsAt, StandsAt}
-use Rattle.rtcp_engine.specs.Moves.{call_refusal, refusal_by, refusal_in_phase}
-use Rattle.rtcp_engine.proofs.Standing.{Numbers, refused_call, admitted_call as admitted_by, IsThere, refusal_there, IsTaken}
+use Rattle.rtcp_engine.specs.States.{PhaseValue, taking_part, leaving, over, ParticipantValue, IsAt, StandsAt, refusal_by, refusal_in_phase}
+use Rattle.rtcp_engine.proofs.Standing.{refused_call, admitted_call as admitted_by, IsThere, refusal_there, IsTaken}
 
 -- ---- Phases
 
@@ -46,9 +45,6 @@ refuses_for_good p h act stands phase = gone_refuses p h act (life_at h) refl st
 
 -- ---- The call of a participant that is not gone
 
-pub numbers_at : (p : ParticipantValue) (h : History) → StandsAt p h → Numbers p.presence h
-numbers_at p h stands = record { setup = stands.setup; last = stands.last; calls = stands.calls }
-
 there_by : (p : ParticipantValue) (life : Life) → IsAt p life → (p.phase ≡ over → ⊥) → IsThere life
 there_by p (present outcome) at here = record { refuses = λ refusal. refl }
 there_by p (backing_off outcome backoff) at here = record { refuses = λ refusal. refl }
@@ -57,20 +53,20 @@ there_by p (gone outcome) at here = absurd (here at)
 pub is_there : (p : ParticipantValue) (h : History) → StandsAt p h → (p.phase ≡ over → ⊥) → IsThere (life_at h)
 is_there p h stands here = there_by p (life_at h) stands.life here
 
-pub there_refuses : (p : ParticipantValue) (h : History) (act : Act) (reason : Refusal) → StandsAt p h → (p.phase ≡ over → ⊥) → call_refusal (moment_of act) p.presence ≡ Some reason → refusal_after h act ≡ Some reason
+pub there_refuses : (p : ParticipantValue) (h : History) (act : Act) (reason : Refusal) → StandsAt p h → (p.phase ≡ over → ⊥) → call_refusal (moment_of act) p.presence.last p.presence.calls ≡ Some reason → refusal_after h act ≡ Some reason
 there_refuses p h act reason stands here is =
-    refusal_there h act (life_at h) (Some reason) refl (is_there p h stands here) (refused_call p.presence h act reason (numbers_at p h stands) is)
+    refusal_there h act (life_at h) (Some reason) refl (is_there p h stands here) (refused_call p h act reason stands is)
 
 -- what is refused for its datagram, as a call that is not
-pub there_refuses_datagram : (p : ParticipantValue) (h : History) (act : Act) (refusal : Option Refusal) → StandsAt p h → (p.phase ≡ over → ⊥) → call_refusal (moment_of act) p.presence ≡ None
+pub there_refuses_datagram : (p : ParticipantValue) (h : History) (act : Act) (refusal : Option Refusal) → StandsAt p h → (p.phase ≡ over → ⊥) → call_refusal (moment_of act) p.presence.last p.presence.calls ≡ None
     → refusal_of_datagram h.setup h.acts act ≡ refusal → refusal_after h act ≡ refusal
 there_refuses_datagram p h act refusal stands here is datagram =
-    refusal_there h act (life_at h) refusal refl (is_there p h stands here) (admitted_by p.presence h act refusal (numbers_at p h stands) is datagram)
+    refusal_there h act (life_at h) refusal refl (is_there p h stands here) (admitted_by p h act refusal stands is datagram)
 
-pub there_takes : (p : ParticipantValue) (h : History) (act : Act) → StandsAt p h → (p.phase ≡ over → ⊥) → call_refusal (moment_of act) p.presence ≡ None → refusal_of_datagram h.setup h.acts act ≡ None → IsTaken h act
+pub there_takes : (p : ParticipantValue) (h : History) (act : Act) → StandsAt p h → (p.phase ≡ over → ⊥) → call_refusal (moment_of act) p.presence.last p.presence.calls ≡ None → refusal_of_datagram h.setup h.acts act ≡ None → IsTaken h act
 there_takes p h act stands here is datagram = record {
   after = there_refuses_datagram p h act None stands here is datagram;
-  refusal = admitted_by p.presence h act None (numbers_at p h stands) is datagram;
+  refusal = admitted_by p h act None stands is datagram;
 }
 
 pub part_is_there : (phase : PhaseValue) → phase ≡ taking_part → phase ≡ over → ⊥
@@ -81,9 +77,9 @@ leaving_is_there phase members part ended = absurd (cc (sym (ap is_leaving part)
 
 pub record Admitted (t : ℕ) (p : ParticipantValue) : Type 0 where
   pub there : p.phase ≡ over → ⊥
-  pub admitted : call_refusal t p.presence ≡ None
+  pub admitted : call_refusal t p.presence.last p.presence.calls ≡ None
 
-admitted_in : (t : ℕ) (p : ParticipantValue) (phase : PhaseValue) → p.phase ≡ phase → refusal_in_phase t p.presence phase ≡ None → Admitted t p
+admitted_in : (t : ℕ) (p : ParticipantValue) (phase : PhaseValue) → p.phase ≡ phase → refusal_in_phase phase (call_refusal t p.presence.last p.presence.calls) ≡ None → Admitted t p
 admitted_in t p taking_part is none = record { there = λ ended. absurd (part_is_there p.phase is ended); admitted = none }
 admitted_in t p (leaving members) is none = record { there = λ ended. absurd (leaving_is_there p.phase members is ended); admitted = none }
 admitted_in t p over is none = absurd cc
@@ -91,7 +87,7 @@ admitted_in t p over is none = absurd cc
 pub admitted_call : (t : ℕ) (p : ParticipantValue) → refusal_by t p ≡ None → Admitted t p
 admitted_call t p none = admitted_in t p p.phase refl none
 
-refused_in : (p : ParticipantValue) (h : History) (act : Act) (reason : Refusal) (phase : PhaseValue) → StandsAt p h → p.phase ≡ phase → refusal_in_phase (moment_of act) p.presence phase ≡ Some reason → refusal_after h act ≡ Some reason
+refused_in : (p : ParticipantValue) (h : History) (act : Act) (reason : Refusal) (phase : PhaseValue) → StandsAt p h → p.phase ≡ phase → refusal_in_phase phase (call_refusal (moment_of act) p.presence.last p.presence.calls) ≡ Some reason → refusal_after h act ≡ Some reason
 refused_in p h act reason taking_part stands is same = there_refuses p h act reason stands (part_is_there p.phase is) same
 refused_in p h act reason (leaving members) stands is same = there_refuses p h act reason stands (leaving_is_there p.phase members is) same
 refused_in p h act reason over stands is same = refuses_for_good p h act stands is ∙ same

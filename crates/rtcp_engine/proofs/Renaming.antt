@@ -23,9 +23,8 @@ use Rattle.rtcp_engine.specs.Presence.{with_act}
 use Rattle.rtcp_engine.specs.Answers.{out_at}
 use Rattle.rtcp_engine.specs.Changes.{is_in_table}
 use Rattle.rtcp_engine.specs.Taken.{HasWords, WasTaken}
-use Rattle.rtcp_engine.specs.States.{State, Agrees, StandsStill, Waits, ParticipantValue, IsAt, StandsAt, leaving, over}
-use Rattle.rtcp_engine.specs.Moves as moves
-use Rattle.rtcp_engine.specs.Moves.{own_bye_in}
+use Rattle.rtcp_engine.specs.States.{State, Agrees, StandsStill, Waits, ParticipantValue, IsAt, StandsAt, leaving, over, own_bye_in}
+use Rattle.rtcp_engine.specs.States as states
 
 -- ---- Sizes
 
@@ -55,7 +54,7 @@ sizes_by : (heard : Bool) (first size : ℕ) (sizes : List ℕ) → (if heard th
 sizes_by true first size sizes = refl
 sizes_by false first size sizes = refl
 
-pub renamed_agrees : (s : State) (o : Outcome) (t ssrc : ℕ) → Agrees s o → Agrees (moves.renamed t ssrc s) (with_change s.setup o)
+pub renamed_agrees : (s : State) (o : Outcome) (t ssrc : ℕ) → Agrees s o → Agrees (states.renamed t ssrc s) (with_change s.setup o)
 renamed_agrees s o t ssrc a = record {
   table = a.table;
   capacity = a.capacity;
@@ -69,7 +68,7 @@ renamed_agrees s o t ssrc a = record {
   reports = a.reports;
 }
 
-renamed_still : (s : State) (o : Outcome) (t ssrc : ℕ) → StandsStill s o → StandsStill (moves.renamed t ssrc s) (counted_anew o)
+renamed_still : (s : State) (o : Outcome) (t ssrc : ℕ) → StandsStill s o → StandsStill (states.renamed t ssrc s) (counted_anew o)
 renamed_still s o t ssrc still = record { table = still.table; capacity = still.capacity; rate = still.rate; own = own_agrees s o.own still.own }
 
 -- ---- Backoffs
@@ -94,7 +93,7 @@ average_named : (ssrc : ℕ) (setup : Setup) (farewells : List Farewell) → lea
 average_named ssrc setup farewells = ap (λ (n : ℕ). average_of n (map (λ (farewell : Farewell). farewell.size) farewells)) (byes_are_of_one_size ssrc setup)
 
 renamed_average : (s : State) (o : Outcome) (backoff : Backoff) (t ssrc : ℕ) → StandsStill s o → s.average ≡ leaving_average s.setup backoff.farewells
-    → (moves.renamed t ssrc s).average ≡ leaving_average (named ssrc s.setup) (after_own_bye s.setup o backoff).farewells
+    → (states.renamed t ssrc s).average ≡ leaving_average (named ssrc s.setup) (after_own_bye s.setup o backoff).farewells
 renamed_average s o backoff t ssrc still average =
     let size = length (bye_octets s.setup) in
     ap (λ (heard : Bool). if heard then moved_average s.average size else s.average) (heard_agrees s o.own still.own)
@@ -104,7 +103,7 @@ renamed_average s o backoff t ssrc still average =
 
 -- ---- Where it stands
 
-renamed_is_at : (p q : ParticipantValue) (t peer ssrc : ℕ) (life : Life) → IsAt p life → (p.phase ≡ over → ⊥) → q.presence ≡ moves.renamed t ssrc p.presence → q.phase ≡ p.phase
+renamed_is_at : (p q : ParticipantValue) (t peer ssrc : ℕ) (life : Life) → IsAt p life → (p.phase ≡ over → ⊥) → q.presence ≡ states.renamed t ssrc p.presence → q.phase ≡ p.phase
     → IsAt q (lived p.presence.setup (renamed t peer ssrc) life)
 renamed_is_at p q t peer ssrc (present outcome) at there same phase =
     (phase ∙ at.0, subst (λ (s : State). Agrees s (with_change p.presence.setup outcome)) (sym same) (renamed_agrees p.presence outcome t ssrc at.1))
@@ -123,7 +122,7 @@ renamed_is_at p q t peer ssrc (backing_off outcome backoff) at there same phase 
 renamed_is_at p q t peer ssrc (gone outcome) at there same phase = absurd (there at)
 
 pub renamed_stands : (p q : ParticipantValue) (h : History) (t peer ssrc : ℕ) → StandsAt p h → (p.phase ≡ over → ⊥) → WasTaken h.setup h.word h.acts (renamed t peer ssrc) → HasWords (renamed t peer ssrc)
-    → q.presence ≡ moves.renamed t ssrc p.presence → q.phase ≡ p.phase → q.changes ≡ record { peer = peer; former = p.presence.setup.ssrc } ∷ p.changes → StandsAt q (with_act h (renamed t peer ssrc))
+    → q.presence ≡ states.renamed t ssrc p.presence → q.phase ≡ p.phase → q.changes ≡ record { peer = peer; former = p.presence.setup.ssrc } ∷ p.changes → StandsAt q (with_act h (renamed t peer ssrc))
 renamed_stands p q h t peer ssrc stands there was words same phase changes = record {
   is_history = record { usable = stands.is_history.usable; word = stands.is_history.word; taken = (was, words, stands.is_history.taken) };
   setup = ap (λ (s : State). s.setup) same ∙ ap (named ssrc) stands.setup;

@@ -1,6 +1,6 @@
 -- What a participant sends keeps its distances and its limit, whatever it is told.
 use Rattle.std.proofs.Common.{◌≡◌, ℕ, ◌+◌, ◌^◌, ◌<◌, ◌≤◌, ◌&&◌, ◌==◌, ◌⊎◌, inl, inr, nat_lt, nat_le, Bool, true, false, List, [], ◌∷◌, ◌++◌, length, All, Option, Some, None, option_map, Ok, Err, if◌then◌else◌, refl, sym, ap, ◌∙◌, arith, subst}
-use Rattle.std.proofs.lemmas.Bool.{leb-true, and_parts, cases_lt, lt-ltb}
+use Rattle.std.proofs.lemmas.Bool.{leb-true, and_parts, ltb-false}
 use Rattle.std.proofs.lemmas.Option.{slice_get_cases}
 use Rattle.std.specs.List.{slice_get}
 use Rattle.std.specs.Option.{option_or}
@@ -18,12 +18,12 @@ use Rattle.rtcp_engine.specs.declared.refusal.Refusal.{Refusal}
 use Rattle.rtcp_engine.specs.declared.refusal.Refusal.TheVariants.{Backwards}
 use Rattle.rtcp_engine.specs.Setups.{Setup, IsExtraItem, IsUsable}
 use Rattle.rtcp_engine.specs.Acts.{Act, rtcp_came, rtp_came, rtp_sent, ticked, left, renamed, moment_of}
-use Rattle.rtcp_engine.specs.Identities.{named, setup_now}
+use Rattle.rtcp_engine.specs.Identities.{call_count, named, setup_now}
 use Rattle.rtcp_engine.specs.Outcomes.{Outcome, is_initial, interval_at, load_of, member_count}
 use Rattle.rtcp_engine.specs.Ticks.{checked, has_come, has_passed, reported, put_off}
 use Rattle.rtcp_engine.specs.OwnStreams.{has_sent, sent_at}
 use Rattle.rtcp_engine.specs.Reporting.{bye_octets, report_octets, extra_item, reporter_at, last_reported_in}
-use Rattle.rtcp_engine.specs.Presence.{report_out, last_moment}
+use Rattle.rtcp_engine.specs.Presence.{call_refusal, report_out, last_moment, refusal_of, refusal_of_datagram}
 use Rattle.rtcp_engine.specs.Taken.{HasWords, WasTaken, AllTaken}
 use Rattle.rtcp_engine.specs.Leaving.{Farewell, Backoff, Life, present, backing_off, gone, backoff_from, bye_count, few_members, is_bye_due, is_unheard, after_wait, leaving_interval, leaving_timing}
 use Rattle.rtcp_engine.specs.Lives.{while_present, while_backing_off, lived, life_of, bye_out}
@@ -361,16 +361,20 @@ keeps_apart setup t leave act (backing_off outcome backoff) sent usable order wo
 keeps_apart setup t leave act (gone outcome) sent usable order words (inl kept) = inl kept
 keeps_apart setup t leave act (gone outcome) sent usable order words (inr ends) = inr (still_ends setup.limit leave act sent ends)
 
+-- what is refused neither as any act then nor for its datagram
+pub unrefused : (call datagram : Option Refusal) → option_or call datagram ≡ None → (call ≡ None) × (datagram ≡ None)
+unrefused None datagram none = (refl, none)
+unrefused (Some refusal) datagram none = absurd cc
+
+pub in_order : (back : Bool) (others : Option Refusal) → (if back then Some Backwards else others) ≡ None → (back ≡ false) × (others ≡ None)
+in_order true others none = absurd cc
+in_order false others none = (refl, none)
+
 -- an act that is taken does not lie before the last one
-pub in_time : (moment last : ℕ) (others : Option Refusal) → (if nat_lt moment last then Some Backwards else others) ≡ None → last ≤ moment
-in_time moment last others none =
-    elim (cases_lt moment last) [
-      | inl below ↦ absurd (some_is_none (sym (ap (λ (b : Bool). if b then Some Backwards else others) (lt-ltb moment last below)) ∙ none))
-      | inr above ↦ above
-    ]
-  where
-    some_is_none : Some Backwards ≡ None → ⊥
-    some_is_none e = cc
+pub in_time : (setup : Setup) (earlier : List Act) (act : Act) → refusal_of setup earlier act ≡ None → last_moment earlier ≤ moment_of act
+in_time setup earlier act none =
+    let call = (unrefused (call_refusal (moment_of act) (last_moment earlier) (call_count earlier)) (refusal_of_datagram setup earlier act) none).0 in
+    ltb-false (moment_of act) (last_moment earlier) (in_order (nat_lt (moment_of act) (last_moment earlier)) _ call).0
 
 -- A setup under another identifier is as usable.
 pub usable_named : (ssrc : ℕ) (setup : Setup) → IsUsable setup → IsUsable (named ssrc setup)
@@ -387,11 +391,11 @@ usable_named ssrc setup u = record {
 }
 
 pub taken_in_order : (setup : Setup) (word : ℕ) (earlier : List Act) (act : Act) → WasTaken setup word earlier act → last_moment earlier ≤ moment_of act
-taken_in_order setup word earlier (rtcp_came moment peer drawn size reading) taken = in_time moment (last_moment earlier) _ taken
-taken_in_order setup word earlier (rtp_came moment peer drawn reading) taken = in_time moment (last_moment earlier) _ taken
-taken_in_order setup word earlier (rtp_sent moment timestamp octets) taken = in_time moment (last_moment earlier) _ taken
-taken_in_order setup word earlier (ticked moment first_word second_word) taken = in_time moment (last_moment earlier) _ taken
-taken_in_order setup word earlier (left moment drawn) taken = in_time moment (last_moment earlier) _ taken
+taken_in_order setup word earlier (rtcp_came moment peer drawn size reading) taken = in_time setup earlier (rtcp_came moment peer drawn size reading) taken
+taken_in_order setup word earlier (rtp_came moment peer drawn reading) taken = in_time setup earlier (rtp_came moment peer drawn reading) taken
+taken_in_order setup word earlier (rtp_sent moment timestamp octets) taken = in_time setup earlier (rtp_sent moment timestamp octets) taken
+taken_in_order setup word earlier (ticked moment first_word second_word) taken = in_time setup earlier (ticked moment first_word second_word) taken
+taken_in_order setup word earlier (left moment drawn) taken = in_time setup earlier (left moment drawn) taken
 taken_in_order setup word earlier (renamed moment peer ssrc) taken = taken.order
 
 pub session_keeps_apart : (setup : Setup) (word : ℕ) (acts : List Act) → IsUsable setup → AllTaken setup word acts

@@ -2,12 +2,12 @@
 use Rattle.std.proofs.Common.{◌≡◌, ℕ, ◌+◌, ◌-◌, ◌^◌, Bool, true, false, nat_lt, nat_le, List, ◌∷◌, Option, Some, None, Ok, Err, if◌then◌else◌, refl, sym, ap, ◌∙◌, subst}
 use Rattle.rtcp_engine.specs.declared.changes.Change.{Change}
 use Rattle.rtcp_engine.specs.declared.refusal.Refusal.{Refusal}
-use Rattle.rtcp_engine.specs.declared.refusal.Refusal.TheVariants.{Backwards, TooFar, TooMany}
+use Rattle.std.specs.Option.{option_or}
 use Rattle.rtcp_engine.specs.Setups.{Setup}
 use Rattle.rtcp_engine.specs.Acts.{Act, rtcp_came, rtp_came, rtp_sent, ticked, left, renamed, moment_of}
 use Rattle.rtcp_engine.specs.Identities.{call_count, identifiers, peers_listed, present_among, named, setup_now}
 use Rattle.rtcp_engine.specs.Histories.{History}
-use Rattle.rtcp_engine.specs.Presence.{last_moment, refusal_of, refusal_of_datagram, with_act}
+use Rattle.rtcp_engine.specs.Presence.{call_refusal, last_moment, refusal_of, refusal_of_datagram, with_act}
 use Rattle.rtcp_engine.specs.Steps.{OutValue, StepValue, answer_unless}
 use Rattle.rtcp_engine.specs.Leaving.{Life}
 use Rattle.rtcp_engine.specs.Lives.{lived, life_at, members_in_life, senders_in_life, next_in_life}
@@ -16,44 +16,19 @@ use Rattle.rtcp_engine.specs.Answers.{step_with, step_by, refusal_in, refusal_af
 use Rattle.rtcp_engine.specs.Sent.{is_change}
 use Rattle.rtcp_engine.specs.Taken.{HasWords, WasTaken}
 use Rattle.rtcp_engine.specs.States.{State, ParticipantValue, IsAt, HasChanged, StandsAt}
-use Rattle.rtcp_engine.specs.Moves.{call_refusal}
 
 -- ---- Refusals
 
-abbrev chain : (backwards too_far too_many : Bool) → Option Refusal → Option Refusal
-chain backwards too_far too_many end = if backwards then Some Backwards else (if too_far then Some TooFar else (if too_many then Some TooMany else end))
+-- why a participant at a history refuses a call is why the history does
+call_same : (p : ParticipantValue) (h : History) (moment : ℕ) → StandsAt p h → call_refusal moment p.presence.last p.presence.calls ≡ call_refusal moment (last_moment h.acts) (call_count h.acts)
+call_same p h moment stands = λ i. call_refusal moment (stands.last i) (stands.calls i)
 
-chain_is : (a b c : Bool) (end : Option Refusal) → chain a b c end ≡ elim (chain a b c None) [ None ↦ end | Some refusal ↦ Some refusal ]
-chain_is true b c end = refl
-chain_is false true c end = refl
-chain_is false false true end = refl
-chain_is false false false end = refl
-
--- the numbers that a call's refusal goes by
-pub record Numbers (s : State) (h : History) : Type 0 where
-  pub setup : s.setup ≡ setup_now h.setup h.acts
-  pub last : s.last ≡ last_moment h.acts
-  pub calls : s.calls ≡ call_count h.acts
-
--- an act is refused as its call is, or else for its datagram
-pub refusal_stands : (s : State) (h : History) (act : Act) → Numbers s h →
-    elim (call_refusal (moment_of act) s) [ None ↦ refusal_of_datagram h.setup h.acts act | Some refusal ↦ Some refusal ] ≡ refusal_of h.setup h.acts act
-refusal_stands s h act n =
-    let end = refusal_of_datagram h.setup h.acts act in
-    let backwards = nat_lt (moment_of act) in
-    let far = nat_lt (2 ^ 50) (moment_of act) in
-    sym (chain_is (backwards s.last) far (nat_le (2 ^ 40 - 1) s.calls) end)
-    ∙ ap (λ (last : ℕ). chain (backwards last) far (nat_le (2 ^ 40 - 1) s.calls) end) n.last
-    ∙ ap (λ (calls : ℕ). chain (backwards (last_moment h.acts)) far (nat_le (2 ^ 40 - 1) calls) end) n.calls
-
-pub refused_call : (s : State) (h : History) (act : Act) (reason : Refusal) → Numbers s h → call_refusal (moment_of act) s ≡ Some reason → refusal_of h.setup h.acts act ≡ Some reason
-refused_call s h act reason n is =
-    sym (refusal_stands s h act n) ∙ ap (λ (r : Option Refusal). elim r [ None ↦ refusal_of_datagram h.setup h.acts act | Some refusal ↦ Some refusal ]) is
+pub refused_call : (p : ParticipantValue) (h : History) (act : Act) (reason : Refusal) → StandsAt p h → call_refusal (moment_of act) p.presence.last p.presence.calls ≡ Some reason → refusal_of h.setup h.acts act ≡ Some reason
+refused_call p h act reason stands is = ap (λ (r : Option Refusal). option_or r (refusal_of_datagram h.setup h.acts act)) (sym (call_same p h (moment_of act) stands) ∙ is)
 
 -- a call that is refused for its datagram alone, if it is
-pub admitted_call : (s : State) (h : History) (act : Act) (refusal : Option Refusal) → Numbers s h → call_refusal (moment_of act) s ≡ None → refusal_of_datagram h.setup h.acts act ≡ refusal → refusal_of h.setup h.acts act ≡ refusal
-admitted_call s h act refusal n is datagram =
-    sym (refusal_stands s h act n) ∙ ap (λ (r : Option Refusal). elim r [ None ↦ refusal_of_datagram h.setup h.acts act | Some reason ↦ Some reason ]) is ∙ datagram
+pub admitted_call : (p : ParticipantValue) (h : History) (act : Act) (refusal : Option Refusal) → StandsAt p h → call_refusal (moment_of act) p.presence.last p.presence.calls ≡ None → refusal_of_datagram h.setup h.acts act ≡ refusal → refusal_of h.setup h.acts act ≡ refusal
+admitted_call p h act refusal stands is datagram = ap (λ (r : Option Refusal). option_or r (refusal_of_datagram h.setup h.acts act)) (sym (call_same p h (moment_of act) stands) ∙ is) ∙ datagram
 
 -- one that is not gone refuses what it refuses while it takes part
 pub record IsThere (life : Life) : Type 0 where
@@ -119,10 +94,6 @@ call_stands p q h act life next stands is lives taken words call counts changes 
   last = counts.last;
   calls = counts.calls ∙ ap (λ (n : ℕ). n + 1) stands.calls ∙ sym (call.counts h.acts);
 }
-
--- what is answered where a life becomes another
-abbrev pub step_into : Setup → Option OutValue → Life → StepValue
-step_into setup out next = record { out = out; members = members_in_life setup next; senders = senders_in_life setup next; next = next_in_life next; changed = None }
 
 -- ---- Calls that bring no change
 

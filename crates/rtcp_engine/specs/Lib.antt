@@ -22,5 +22,4 @@ pub mod Taken
 pub mod OwnValues
 pub mod States
 pub mod Promises
-pub mod Moves
 pub mod Codes

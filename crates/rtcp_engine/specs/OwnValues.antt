@@ -2,8 +2,11 @@
 use Rattle.std.specs.Prelude.{ℕ, ◌+◌, ◌-◌, ◌%◌, ◌^◌, Bool, true, false, List, [], ◌∷◌, if◌then◌else◌, Option, Some, None, is_some}
 use Rattle.rtcp_clock.specs.Moments.{ntp_moment, media_units}
 use Rattle.rtcp_members.specs.Stays.{is_before}
-use Rattle.rtcp_report.specs.Reports.{SentValue}
+use Rattle.rtcp_report.specs.Reports.{Reporter, SentValue}
+use Rattle.rtcp_report.specs.Views.{items_of}
 use Rattle.rtcp_engine.specs.declared.own.LastPacket.{LastPacket}
+use Rattle.rtcp_engine.specs.Setups.{Setup}
+use Rattle.rtcp_engine.specs.Reporting.{extra_item}
 use Rattle.rtcp_engine.specs.OwnStreams.{OwnStep, packet_sent, check_passed, report_sent, counts_anew, has_sent, sending_since, packets_sent, octets_sent}
 
 pub record PacketValue : Type 0 where
@@ -82,3 +85,11 @@ sent_by ntp_base rate t own =
       octets = own.octets;
     })
     else None
+
+-- who reports, with what its stream comes to, in a report of this number
+abbrev pub reporter_by : Setup → OwnValue → (number t : ℕ) → Reporter
+reporter_by setup own number t = record {
+  ssrc = setup.ssrc;
+  sent = sent_by setup.ntp_base setup.rate t own;
+  items = items_of setup.cname (extra_item setup.extras number);
+}

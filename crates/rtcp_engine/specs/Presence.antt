@@ -1,6 +1,7 @@
 -- What a participant answers to an act as long as it takes part, after the acts that it took before.
 use Rattle.std.specs.Prelude.{ℕ, ◌-◌, ◌^◌, ◌==◌, ◌&&◌, not, Bool, nat_lt, nat_le, List, [], ◌∷◌, if◌then◌else◌, Option, Some, None, Result, Ok, Err}
 use Rattle.std.specs.List.{list_any}
+use Rattle.std.specs.Option.{option_or}
 use Rattle.rtcp_wire.specs.declared.fault.WireFault.{WireFault}
 use Rattle.rtcp_wire.specs.declared.rtp.fault.RtpFault.{RtpFault}
 use Rattle.rtcp_wire.specs.Values.{RtcpPacket}
@@ -49,13 +50,19 @@ refusal_of_datagram setup history (ticked moment first_word second_word) = None
 refusal_of_datagram setup history (left moment word) = None
 refusal_of_datagram setup history (renamed moment peer ssrc) = None
 
--- Why an act is refused after these that were taken, if it is: the first of the reasons.
+-- why any act at a moment is refused, by the last act's moment and how many calls were taken: the first of the reasons
+abbrev pub call_refusal : (moment last calls : ℕ) → Option Refusal
+call_refusal moment last calls =
+    if nat_lt moment last then Some Backwards
+    else (if nat_lt (2 ^ 50) moment then Some TooFar
+    else (if nat_le (2 ^ 40 - 1) calls then Some TooMany
+    else None))
+
+-- Why an act is refused after these that were taken, if it is: as any act then, or else for its datagram.
 abbrev pub refusal_of : Setup → List Act → Act → Option Refusal
 refusal_of setup history act =
-    if nat_lt (moment_of act) (last_moment history) then Some Backwards
-    else (if nat_lt (2 ^ 50) (moment_of act) then Some TooFar
-    else (if nat_le (2 ^ 40 - 1) (call_count history) then Some TooMany
-    else refusal_of_datagram setup history act))
+    option_or (call_refusal (moment_of act) (last_moment history) (call_count history))
+    (refusal_of_datagram setup history act)
 
 -- ---- Answers
 

@@ -1,16 +1,19 @@
 -- What a participant keeps of its history: a table and a few numbers, and its phase.
-use Rattle.std.specs.Prelude.{ℕ, ◌+◌, ◌≡◌, ◌≤◌, ◌<◌, ◌^◌, List, ◌∷◌, length, map as map_list, Option}
+use Rattle.std.specs.Prelude.{ℕ, ◌+◌, ◌-◌, ◌≡◌, ◌≤◌, ◌<◌, ◌^◌, List, [], ◌∷◌, length, map as map_list, if◌then◌else◌, Option, Some, None}
 use Rattle.std.specs.FinMap as map
 use Rattle.rtcp_members.specs.Tables.{TableValue, HasFew, StandsAt as IsTableAt}
+use Rattle.rtcp_timer.specs.Averages.{moved_average}
 use Rattle.rtcp_timer.specs.Schedules.{Timing}
 use Rattle.rtcp_engine.specs.declared.changes.Change.{Change}
+use Rattle.rtcp_engine.specs.declared.refusal.Refusal.{Refusal}
+use Rattle.rtcp_engine.specs.declared.refusal.Refusal.TheVariants.{Left}
 use Rattle.rtcp_engine.specs.Setups.{Setup, IsUsable}
-use Rattle.rtcp_engine.specs.Identities.{call_count, identifiers, peers_listed, setup_now}
-use Rattle.rtcp_engine.specs.OwnValues.{OwnValue, own_of}
+use Rattle.rtcp_engine.specs.Identities.{call_count, identifiers, named, peers_listed, setup_now}
+use Rattle.rtcp_engine.specs.OwnValues.{OwnValue, own_anew, own_of}
 use Rattle.rtcp_engine.specs.Outcomes.{Outcome, average_size, timing_of}
-use Rattle.rtcp_engine.specs.Reporting.{last_reported_in}
+use Rattle.rtcp_engine.specs.Reporting.{bye_octets, last_reported_in}
 use Rattle.rtcp_engine.specs.Histories.{History}
-use Rattle.rtcp_engine.specs.Presence.{last_moment}
+use Rattle.rtcp_engine.specs.Presence.{call_refusal, last_moment}
 use Rattle.rtcp_engine.specs.Leaving.{Backoff, Life, present, backing_off, gone, leaving_count, leaving_timing, leaving_average}
 use Rattle.rtcp_engine.specs.Lives.{life_at, lived, out_by}
 use Rattle.rtcp_engine.specs.Steps.{OutValue}
@@ -61,6 +64,12 @@ pub record Agrees (state : State) (outcome : Outcome) : Type 0 where
 abbrev pub with_call : (moment : ℕ) → State → State
 with_call moment state = record state { last = moment; calls = state.calls + 1 }
 
+-- A call at a moment comes in order, and there is room for it.
+pub record Admits (state : State) (now : ℕ) : Type 0 where
+  pub order : state.last ≤ now
+  pub moment : now ≤ 2 ^ 50
+  pub calls : state.calls < 2 ^ 40 - 1
+
 -- What is no call and no change of identifier.
 pub record Stays (old new : State) : Type 0 where
   pub setup : new.setup ≡ old.setup
@@ -71,16 +80,6 @@ pub record Stays (old new : State) : Type 0 where
 pub record Does (old new : State) (step : Setup → Outcome → Outcome) : Type 0 where
   pub stays : Stays old new
   pub follows : (outcome : Outcome) → Agrees old outcome → Agrees new (step old.setup outcome)
-
--- A participant that takes part equals the one computed from its history.
-pub record IsPresentAt (state : State) (history : History) : Type 0 where
-  pub is_history : IsHistory history
-  pub setup : state.setup ≡ setup_now history.setup history.acts
-  pub outcome : Outcome
-  pub life : life_at history ≡ present outcome
-  pub agrees : Agrees state outcome
-  pub last : state.last ≡ last_moment history.acts
-  pub calls : state.calls ≡ call_count history.acts
 
 -- In a backoff the table and the own stream stand still: they are those of the outcome at the leave.
 pub record StandsStill (state : State) (outcome : Outcome) : Type 0 where
@@ -100,6 +99,27 @@ pub record DoesWaiting (members : ℕ) (old new : State) (step : Setup → Backo
   pub stays : Stays old new
   pub follows : (outcome : Outcome) (backoff : Backoff) → Waits old outcome backoff →
       members ≡ leaving_count backoff → Waits new outcome (step old.setup backoff)
+
+-- ---- Changes of identifier
+
+-- the BYE of the identifier that is given up, if something was sent under it
+abbrev pub own_bye_in : State → Option (List ℕ)
+own_bye_in state = if state.own.heard then Some (bye_octets state.setup) else None
+
+-- It moves the average.
+abbrev pub with_own_bye : State → State
+with_own_bye state =
+    record state {
+      average =
+          if state.own.heard then moved_average state.average (length (bye_octets state.setup)) else state.average;
+    }
+
+-- The counts of the own stream begin anew.
+abbrev pub renamed : (t ssrc : ℕ) → State → State
+renamed t ssrc state =
+    record (with_own_bye state) { setup = named ssrc state.setup; own = own_anew state.own; last = t }
+
+-- ---- Soundness
 
 -- What holds of every participant that takes part or did.
 pub record IsSound (state : State) : Type 0 where
@@ -148,6 +168,17 @@ IsAt participant (backing_off outcome backoff) =
     (participant.phase ≡ leaving (leaving_count backoff)) × Waits participant.presence outcome backoff
 IsAt participant (gone outcome) = participant.phase ≡ over
 
+-- One that is gone takes no call.
+abbrev pub refusal_in_phase : PhaseValue → Option Refusal → Option Refusal
+refusal_in_phase taking_part refusal = refusal
+refusal_in_phase (leaving members) refusal = refusal
+refusal_in_phase over refusal = Some Left
+
+-- why a call at a moment is refused, whatever it tells
+abbrev pub refusal_by : (moment : ℕ) → ParticipantValue → Option Refusal
+refusal_by moment participant =
+    refusal_in_phase participant.phase (call_refusal moment participant.presence.last participant.presence.calls)
+
 -- A participant whose call was counted does as its session does with an act, and hands this out.
 pub record Acts (old new : ParticipantValue) (act : Act) (out : Option OutValue) : Type 0 where
   pub stays : Stays old.presence new.presence
@@ -169,3 +200,7 @@ pub record StandsAt (participant : ParticipantValue) (history : History) : Type 
   pub life : IsAt participant (life_at history)
   pub last : participant.presence.last ≡ last_moment history.acts
   pub calls : participant.presence.calls ≡ call_count history.acts
+
+-- one that takes part, under its first identifier
+abbrev pub newcomer : State → ParticipantValue
+newcomer presence = record { presence = presence; phase = taking_part; changes = [] }

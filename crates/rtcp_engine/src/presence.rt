@@ -6,8 +6,8 @@ ghost use Rattle.rtcp_engine.specs.Refused.{error_in};
 ghost use Rattle.rtcp_engine.specs.Views.{setup_of};
 ghost use Rattle.rtcp_engine.specs.Outcomes.{Outcome, one_if, member_count as member_count_of, sender_count as sender_count_of, load_of, interval_at};
 ghost use Rattle.rtcp_engine.specs.Taken.{begun};
-ghost use Rattle.rtcp_engine.specs.States.{Agrees, IsPresentAt, KeepsCapacity};
-ghost use Rattle.rtcp_engine.specs.Moves.{call_refusal};
+ghost use Rattle.rtcp_engine.specs.States.{Agrees, KeepsCapacity, StandsAt, newcomer};
+ghost use Rattle.rtcp_engine.specs.Presence.{call_refusal};
 
 use crate::config::{Config, ConfigError};
 use crate::own::OwnStream;
@@ -74,8 +74,8 @@ impl<T: MemberTable> Presence<T> {
     ///
     /// The first of C1 to C6 that applies to the configuration.
     pub(crate) fn new(config: Config, word: u32) -> Result<Presence<T>, ConfigError>
-        ensures begins { IfOk result (λ participant. IsPresentAt participant (begun (setup_of config) word)) }
-        ensures within { IfOk result (λ participant. KeepsCapacity participant) }
+        ensures begins { IfOk result (λ presence. StandsAt (newcomer presence) (begun (setup_of config) word)) }
+        ensures within { IfOk result (λ presence. KeepsCapacity presence) }
         ensures refused { (error : Error) → (result ≡ Err error) ↔ (error_in (setup_of config) ≡ Some error) }
     {
         if let Some(error) = config.error() {
@@ -130,7 +130,7 @@ impl<T: MemberTable> Presence<T> {
 
     /// Why a call at the moment `now` is refused, whatever it tells.
     pub(crate) fn refusal(&self, now: u64) -> Option<Refusal>
-        ensures { result ≡ call_refusal now self.now }
+        ensures { result ≡ call_refusal now self.now.last self.now.calls }
     {
         if now < self.last {
             return Some(Refusal::Backwards);

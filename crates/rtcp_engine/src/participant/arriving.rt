@@ -8,10 +8,9 @@ ghost use Rattle.rtcp_engine.specs.Histories.{History};
 ghost use Rattle.rtcp_engine.specs.Identities.{identifiers, is_among};
 ghost use Rattle.rtcp_engine.specs.Leaving.{Life};
 ghost use Rattle.rtcp_engine.specs.Lives.{step_into};
-ghost use Rattle.rtcp_engine.specs.Moves.{refusal_by};
 ghost use Rattle.rtcp_engine.specs.Presence.{with_act};
 ghost use Rattle.rtcp_engine.specs.Promises.{Takes};
-ghost use Rattle.rtcp_engine.specs.States.{Acts, IsAt, KeepsCapacity, StandsAt, over};
+ghost use Rattle.rtcp_engine.specs.States.{Acts, Admits, IsAt, KeepsCapacity, StandsAt, over, refusal_by};
 ghost use Rattle.rtcp_engine.specs.Taken.{WasTaken};
 ghost use Rattle.rtcp_engine.specs.Views.{NamesFewer, act_of, answer_value, out_value, size_of, step_value};
 ghost use Rattle.rtcp_members.specs.Tables.{HasFew};
@@ -30,9 +29,7 @@ impl<T: MemberTable> Participant<T> {
     /// Why a call at the moment `now` is refused, whatever it tells.
     pub(super) fn refusal(&self, now: u64) -> Option<Refusal>
         ensures exact { result ≡ refusal_by now self.now }
-        ensures order { result ≡ None → self.now.presence.last ≤ now }
-        ensures moment { result ≡ None → now ≤ 2 ^ 50 }
-        ensures calls { result ≡ None → self.now.presence.calls < 2 ^ 40 - 1 }
+        ensures in_order { result ≡ None → Admits self.now.presence now }
         ensures within { KeepsCapacity self.now.presence }
     {
         match self.phase {
@@ -47,9 +44,7 @@ impl<T: MemberTable> Participant<T> {
     #[inline(always)]
     pub(super) fn arrive(&mut self, now: u64, peer: u64, w: u32, arrival: &Arrival<'_>) -> Answer
         requires admitted { refusal_by now self.old ≡ None }
-        requires order { self.old.presence.last ≤ now }
-        requires moment { now ≤ 2 ^ 50 }
-        requires calls { self.old.presence.calls < 2 ^ 40 - 1 }
+        requires in_order { Admits self.old.presence now }
         requires size { size_of arrival.now ≤ 65535 }
         requires few { NamesFewer arrival.now }
         ensures takes { Takes self.old (act_of now peer w arrival.now) (answer_value result) self.new }
@@ -69,9 +64,7 @@ impl<T: MemberTable> Participant<T> {
     fn arrive_as_own(&mut self, now: u64, peer: u64, w: u32, arrival: &Arrival<'_>) -> Answer
         requires own { names_own self.old.presence.setup.ssrc (act_of now peer w arrival.now) ≡ true }
         requires admitted { refusal_by now self.old ≡ None }
-        requires order { self.old.presence.last ≤ now }
-        requires moment { now ≤ 2 ^ 50 }
-        requires calls { self.old.presence.calls < 2 ^ 40 - 1 }
+        requires in_order { Admits self.old.presence now }
         requires size { size_of arrival.now ≤ 65535 }
         requires few { NamesFewer arrival.now }
         ensures takes { Takes self.old (act_of now peer w arrival.now) (answer_value result) self.new }

@@ -5,7 +5,7 @@ ghost use Rattle.rtcp_members.specs.Tables.{HasFew};
 ghost use Rattle.rtcp_engine.specs.Acts.{left, rtcp_came, rtp_sent, ticked};
 ghost use Rattle.rtcp_engine.specs.Lives.{bye_out};
 ghost use Rattle.rtcp_engine.specs.Reporting.{bye_octets};
-ghost use Rattle.rtcp_engine.specs.States.{Acts, KeepsCapacity, called, leaving, taking_part};
+ghost use Rattle.rtcp_engine.specs.States.{Acts, Admits, KeepsCapacity, called, leaving, taking_part};
 ghost use Rattle.rtcp_engine.specs.Views.{out_value};
 
 use super::{FEW_MEMBERS, Participant, Phase};
@@ -17,9 +17,7 @@ use rtcp_wire::Compound;
 impl<T: MemberTable> Participant<T> {
     /// Takes a call.
     pub(super) fn take_call(&mut self, now: u64)
-        requires order { self.old.presence.last ≤ now }
-        requires moment { now ≤ 2 ^ 50 }
-        requires calls { self.old.presence.calls < 2 ^ 40 - 1 }
+        requires { Admits self.old.presence now }
         ensures new { self.new ≡ called now self.old }
         ensures reports { self.new.presence.reports < self.new.presence.calls }
         ensures few { HasFew (self.new.presence.calls - 1) self.new.presence.table }

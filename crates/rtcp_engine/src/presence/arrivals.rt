@@ -3,7 +3,7 @@
 ghost use Rattle.std.specs.Prelude.{◌≡◌, ◌≤◌, ◌<◌, ◌-◌, ◌^◌, ℕ};
 ghost use Rattle.rtcp_members.specs.Tables.{HasFew};
 ghost use Rattle.rtcp_engine.specs.Histories.{after, with_compound, with_facts_of, with_media, with_packet};
-ghost use Rattle.rtcp_engine.specs.States.{Does, KeepsCapacity, with_call};
+ghost use Rattle.rtcp_engine.specs.States.{Admits, Does, KeepsCapacity, with_call};
 ghost use Rattle.rtcp_engine.specs.Views.{act_of, size_of};
 
 use super::Presence;
@@ -15,9 +15,7 @@ use rtcp_wire::{Compound, RtpHead, facts};
 impl<T: MemberTable> Presence<T> {
     /// Takes a call.
     pub(crate) fn take_call(&mut self, now: u64)
-        requires order { self.old.last ≤ now }
-        requires moment { now ≤ 2 ^ 50 }
-        requires calls { self.old.calls < 2 ^ 40 - 1 }
+        requires { Admits self.old now }
         ensures new { self.new ≡ with_call now self.old }
         ensures reports { self.new.reports < self.new.calls }
         ensures few { HasFew (self.new.calls - 1) self.new.table }

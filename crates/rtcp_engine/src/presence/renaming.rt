@@ -2,9 +2,8 @@
 
 ghost use Rattle.std.specs.Prelude.{◌≡◌, ◌≤◌, ◌^◌, is_some, option_map};
 ghost use Rattle.std.specs.FinMap as map;
-ghost use Rattle.rtcp_engine.specs.Moves.{own_bye_in, renamed, with_own_bye};
 ghost use Rattle.rtcp_engine.specs.Lives.{bye_out};
-ghost use Rattle.rtcp_engine.specs.States.{KeepsCapacity};
+ghost use Rattle.rtcp_engine.specs.States.{KeepsCapacity, own_bye_in, renamed, with_own_bye};
 ghost use Rattle.rtcp_engine.specs.Views.{out_value};
 
 use super::Presence;

@@ -1,7 +1,6 @@
 use Rattle.std.proofs.Common.{◌≡◌, ◌∙◌, ◌∷◌, option_map, ap}
 use Rattle.rtcp_engine.specs.Lives.{bye_out}
-use Rattle.rtcp_engine.specs.Moves.{own_bye_in, renamed}
-use Rattle.rtcp_engine.specs.States.{ParticipantValue}
+use Rattle.rtcp_engine.specs.States.{ParticipantValue, own_bye_in, renamed}
 use Rattle.rtcp_engine.specs.Views.{phase_value}
 use Rattle.rtcp_engine.proofs.Renaming.{renamed_out, renamed_stands}
 use Rattle.rtcp_engine.proofs.participant.Participant.change.Goals as goal
