@@ -34,12 +34,8 @@ step_with changed farewell history act =
     record (step_into history.setup out (life_at (with_act history act))) { changed = changed }
 
 abbrev pub ssrc_of : Act → ℕ
-ssrc_of (rtcp_came moment peer word size reading) = 0
-ssrc_of (rtp_came moment peer word reading) = 0
-ssrc_of (rtp_sent moment timestamp octets) = 0
-ssrc_of (ticked moment first_word second_word) = 0
-ssrc_of (left moment word) = 0
 ssrc_of (renamed moment peer ssrc) = ssrc
+ssrc_of act = 0
 
 abbrev pub step_by : History → Act → StepValue
 step_by history act = let change = change_by history act in

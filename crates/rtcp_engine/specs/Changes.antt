@@ -16,10 +16,7 @@ names_own ssrc (rtcp_came moment peer word size (Ok packets)) = speaks_of ssrc p
 names_own ssrc (rtcp_came moment peer word size (Err fault)) = false
 names_own ssrc (rtp_came moment peer word (Ok head)) = head.ssrc == ssrc
 names_own ssrc (rtp_came moment peer word (Err fault)) = false
-names_own ssrc (rtp_sent moment timestamp octets) = false
-names_own ssrc (ticked moment first_word second_word) = false
-names_own ssrc (left moment word) = false
-names_own ssrc (renamed moment peer new) = false
+names_own ssrc act = false
 
 -- all identifiers that a datagram names, contributing sources among them
 abbrev pub named_by : Act → List ℕ
@@ -27,10 +24,7 @@ named_by (rtcp_came moment peer word size (Ok packets)) = map subject (facts_of 
 named_by (rtcp_came moment peer word size (Err fault)) = []
 named_by (rtp_came moment peer word (Ok head)) = head.ssrc ∷ head.csrcs
 named_by (rtp_came moment peer word (Err fault)) = []
-named_by (rtp_sent moment timestamp octets) = []
-named_by (ticked moment first_word second_word) = []
-named_by (left moment word) = []
-named_by (renamed moment peer ssrc) = []
+named_by act = []
 
 -- whether the table has an entry of a source, marked or not: in a backoff as it stood at the leave
 abbrev pub is_in_table : Setup → Life → (ssrc : ℕ) → Bool
@@ -62,7 +56,4 @@ abbrev pub change_by : History → Act → Option Act
 change_by history (rtcp_came moment peer word size reading) =
     change_from peer word history (rtcp_came moment peer word size reading)
 change_by history (rtp_came moment peer word reading) = change_from peer word history (rtp_came moment peer word reading)
-change_by history (rtp_sent moment timestamp octets) = None
-change_by history (ticked moment first_word second_word) = None
-change_by history (left moment word) = None
-change_by history (renamed moment peer ssrc) = None
+change_by history act = None

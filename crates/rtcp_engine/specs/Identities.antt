@@ -10,12 +10,8 @@ use Rattle.rtcp_engine.specs.Acts.{Act, rtcp_came, rtp_came, rtp_sent, ticked, l
 -- all identifiers so far, the present one first
 abbrev pub identifiers : Setup → List Act → List ℕ
 identifiers setup [] = setup.ssrc ∷ []
-identifiers setup (rtcp_came moment peer word size reading ∷ earlier) = identifiers setup earlier
-identifiers setup (rtp_came moment peer word reading ∷ earlier) = identifiers setup earlier
-identifiers setup (rtp_sent moment timestamp octets ∷ earlier) = identifiers setup earlier
-identifiers setup (ticked moment first_word second_word ∷ earlier) = identifiers setup earlier
-identifiers setup (left moment word ∷ earlier) = identifiers setup earlier
 identifiers setup (renamed moment peer ssrc ∷ earlier) = ssrc ∷ identifiers setup earlier
+identifiers setup (act ∷ earlier) = identifiers setup earlier
 
 abbrev pub present_among : (first : ℕ) → List ℕ → ℕ
 present_among first [] = first
@@ -32,12 +28,8 @@ setup_now setup acts = named (present_among setup.ssrc (identifiers setup acts))
 
 abbrev pub peers_listed : List Act → List ℕ
 peers_listed [] = []
-peers_listed (rtcp_came moment peer word size reading ∷ earlier) = peers_listed earlier
-peers_listed (rtp_came moment peer word reading ∷ earlier) = peers_listed earlier
-peers_listed (rtp_sent moment timestamp octets ∷ earlier) = peers_listed earlier
-peers_listed (ticked moment first_word second_word ∷ earlier) = peers_listed earlier
-peers_listed (left moment word ∷ earlier) = peers_listed earlier
 peers_listed (renamed moment peer ssrc ∷ earlier) = peer ∷ peers_listed earlier
+peers_listed (act ∷ earlier) = peers_listed earlier
 
 abbrev pub is_among : List ℕ → ℕ → Bool
 is_among numbers number = list_any (λ other. other == number) numbers
@@ -65,9 +57,5 @@ first_free (suc most) is_taken ssrc =
 -- how many acts were calls of the host
 abbrev pub call_count : List Act → ℕ
 call_count [] = 0
-call_count (rtcp_came moment peer word size reading ∷ earlier) = call_count earlier + 1
-call_count (rtp_came moment peer word reading ∷ earlier) = call_count earlier + 1
-call_count (rtp_sent moment timestamp octets ∷ earlier) = call_count earlier + 1
-call_count (ticked moment first_word second_word ∷ earlier) = call_count earlier + 1
-call_count (left moment word ∷ earlier) = call_count earlier + 1
 call_count (renamed moment peer ssrc ∷ earlier) = call_count earlier
+call_count (act ∷ earlier) = call_count earlier + 1

@@ -19,11 +19,8 @@ use Rattle.rtcp_engine.specs.Spacing.{newest_moment}
 -- the session after a compound that came or the check of a tick: all that can lower the members
 abbrev pub recounted_by : Setup → Act → Outcome → Outcome
 recounted_by setup (rtcp_came moment peer word size reading) outcome = with_reading setup moment size reading outcome
-recounted_by setup (rtp_came moment peer word reading) outcome = outcome
-recounted_by setup (rtp_sent moment timestamp octets) outcome = outcome
 recounted_by setup (ticked moment first_word second_word) outcome = checked setup moment outcome
-recounted_by setup (left moment word) outcome = outcome
-recounted_by setup (renamed moment peer ssrc) outcome = outcome
+recounted_by setup act outcome = outcome
 
 -- A fall is a compound or a check after which there are fewer members than before it.
 abbrev pub is_fall : Setup → Act → Life → Bool
@@ -41,25 +38,18 @@ last_fall setup word (act ∷ earlier) =
 -- ---- The greatest interval
 
 abbrev pub greatest_while_present : Setup → Act → Outcome → (before : ℕ) → ℕ
-greatest_while_present setup (rtcp_came moment peer word size reading) outcome before = before
-greatest_while_present setup (rtp_came moment peer word reading) outcome before = before
-greatest_while_present setup (rtp_sent moment timestamp octets) outcome before = before
 greatest_while_present setup (ticked moment first_word second_word) outcome before =
     let now = checked setup moment outcome in
     if is_report_due setup moment first_word now
     then interval_at setup (with_report setup moment now)
     else max (interval_at setup now) before
 greatest_while_present setup (left moment word) outcome before = interval_of (leaving_load setup 1 [])
-greatest_while_present setup (renamed moment peer ssrc) outcome before = before
+greatest_while_present setup act outcome before = before
 
 abbrev pub greatest_while_backing_off : Setup → Act → Backoff → (before : ℕ) → ℕ
-greatest_while_backing_off setup (rtcp_came moment peer word size reading) backoff before = before
-greatest_while_backing_off setup (rtp_came moment peer word reading) backoff before = before
-greatest_while_backing_off setup (rtp_sent moment timestamp octets) backoff before = before
 greatest_while_backing_off setup (ticked moment first_word second_word) backoff before =
     max (leaving_interval setup backoff) before
-greatest_while_backing_off setup (left moment word) backoff before = before
-greatest_while_backing_off setup (renamed moment peer ssrc) backoff before = before
+greatest_while_backing_off setup act backoff before = before
 
 -- one act more
 abbrev pub greatest_by : Setup → Act → Life → (before : ℕ) → ℕ
@@ -104,13 +94,9 @@ BringsOut history act = IsTrue (is_some (out_by (setup_now history.setup history
 
 -- A tick that comes late sends a report, or in a backoff the BYE.
 abbrev pub IsInTime : History → Act → Type 0
-IsInTime history (rtcp_came moment peer word size reading) = Unit {0}
-IsInTime history (rtp_came moment peer word reading) = Unit {0}
-IsInTime history (rtp_sent moment timestamp octets) = Unit {0}
 IsInTime history (ticked moment first_word second_word) =
     IsOverdue history (ticked moment first_word second_word) → BringsOut history (ticked moment first_word second_word)
-IsInTime history (left moment word) = Unit {0}
-IsInTime history (renamed moment peer ssrc) = Unit {0}
+IsInTime history act = Unit {0}
 
 -- Each tick that came late sent one.
 abbrev pub AllInTime : Setup → (word : ℕ) → List Act → Type 0

@@ -11,22 +11,15 @@ use Rattle.rtcp_engine.specs.Reporting.{bye_octets}
 use Rattle.rtcp_engine.specs.Outcomes.{Outcome, beginning, member_count, sender_count, timing_of}
 use Rattle.rtcp_engine.specs.Histories.{after, History}
 use Rattle.rtcp_engine.specs.Steps.{OutValue, StepValue}
-use Rattle.rtcp_engine.specs.Presence.{report_by, report_out}
+use Rattle.rtcp_engine.specs.Presence.{report_out}
+use Rattle.rtcp_engine.specs.Ticks.{checked, report_due}
 use Rattle.rtcp_engine.specs.Leaving.{Backoff, Life, present, backing_off, gone, bye_at_once, after_farewell, after_own_bye, counted_anew, after_waiting_tick, is_bye_due, left_at, leaving_count, leaving_timing}
 
 -- ---- Acts
 
 abbrev pub while_present : Setup → Act → Outcome → Life
-while_present setup (rtcp_came moment peer word size reading) outcome =
-    present (after setup (rtcp_came moment peer word size reading) outcome)
-while_present setup (rtp_came moment peer word reading) outcome =
-    present (after setup (rtp_came moment peer word reading) outcome)
-while_present setup (rtp_sent moment timestamp octets) outcome =
-    present (after setup (rtp_sent moment timestamp octets) outcome)
-while_present setup (ticked moment first_word second_word) outcome =
-    present (after setup (ticked moment first_word second_word) outcome)
 while_present setup (left moment word) outcome = left_at setup moment word outcome
-while_present setup (renamed moment peer ssrc) outcome = present (after setup (renamed moment peer ssrc) outcome)
+while_present setup act outcome = present (after setup act outcome)
 
 abbrev pub with_farewell : (size : ℕ) → Result (List RtcpPacket) WireFault → Backoff → Backoff
 with_farewell size (Ok packets) backoff = after_farewell size packets backoff
@@ -37,13 +30,11 @@ with_farewell size (Err fault) backoff = backoff
 abbrev pub while_backing_off : Setup → Act → Outcome → Backoff → Life
 while_backing_off setup (rtcp_came moment peer word size reading) outcome backoff =
     backing_off outcome (with_farewell size reading backoff)
-while_backing_off setup (rtp_came moment peer word reading) outcome backoff = backing_off outcome backoff
-while_backing_off setup (rtp_sent moment timestamp octets) outcome backoff = backing_off outcome backoff
 while_backing_off setup (ticked moment first_word second_word) outcome backoff =
     after_waiting_tick setup moment first_word outcome backoff
-while_backing_off setup (left moment word) outcome backoff = backing_off outcome backoff
 while_backing_off setup (renamed moment peer ssrc) outcome backoff =
     backing_off (counted_anew outcome) (after_own_bye setup outcome backoff)
+while_backing_off setup act outcome backoff = backing_off outcome backoff
 
 abbrev pub lived : Setup → Act → Life → Life
 lived setup act (present outcome) = while_present setup act outcome
@@ -86,22 +77,17 @@ abbrev pub own_bye : Setup → Outcome → Option OutValue
 own_bye setup outcome = if has_sent outcome.own then Some (bye_out (bye_octets setup)) else None
 
 abbrev pub out_while_present : Setup → Act → Outcome → Option OutValue
-out_while_present setup (rtcp_came moment peer word size reading) outcome = None
-out_while_present setup (rtp_came moment peer word reading) outcome = None
-out_while_present setup (rtp_sent moment timestamp octets) outcome = None
 out_while_present setup (ticked moment first_word second_word) outcome =
-    option_map report_out (report_by setup (ticked moment first_word second_word) outcome)
+    option_map report_out (report_due setup moment first_word (checked setup moment outcome))
 out_while_present setup (left moment word) outcome = option_map bye_out (bye_at_once setup outcome)
 out_while_present setup (renamed moment peer ssrc) outcome = own_bye setup outcome
+out_while_present setup act outcome = None
 
 abbrev pub out_while_backing_off : Setup → Act → Outcome → Backoff → Option OutValue
-out_while_backing_off setup (rtcp_came moment peer word size reading) outcome backoff = None
-out_while_backing_off setup (rtp_came moment peer word reading) outcome backoff = None
-out_while_backing_off setup (rtp_sent moment timestamp octets) outcome backoff = None
 out_while_backing_off setup (ticked moment first_word second_word) outcome backoff =
     if is_bye_due setup moment first_word backoff then Some (bye_out (bye_octets setup)) else None
-out_while_backing_off setup (left moment word) outcome backoff = None
 out_while_backing_off setup (renamed moment peer ssrc) outcome backoff = own_bye setup outcome
+out_while_backing_off setup act outcome backoff = None
 
 -- the compound that an act brings, if it brings one
 abbrev pub out_by : Setup → Act → Life → Option OutValue

@@ -45,10 +45,7 @@ refusal_of_datagram setup history (rtcp_came moment peer word size reading) =
     refusal_of_compound (setup_now setup history) (may_change peer history) reading
 refusal_of_datagram setup history (rtp_came moment peer word reading) =
     refusal_of_media (setup_now setup history) (may_change peer history) reading
-refusal_of_datagram setup history (rtp_sent moment timestamp octets) = None
-refusal_of_datagram setup history (ticked moment first_word second_word) = None
-refusal_of_datagram setup history (left moment word) = None
-refusal_of_datagram setup history (renamed moment peer ssrc) = None
+refusal_of_datagram setup history act = None
 
 -- why any act at a moment is refused, by the last act's moment and how many calls were taken: the first of the reasons
 abbrev pub call_refusal : (moment last calls : ℕ) → Option Refusal
@@ -65,16 +62,6 @@ refusal_of setup history act =
     (refusal_of_datagram setup history act)
 
 -- ---- Answers
-
--- the octets of the report that an act brings, if one is due
-abbrev pub report_by : Setup → Act → Outcome → Option (List ℕ)
-report_by setup (rtcp_came moment peer word size reading) outcome = None
-report_by setup (rtp_came moment peer word reading) outcome = None
-report_by setup (rtp_sent moment timestamp octets) outcome = None
-report_by setup (left moment word) outcome = None
-report_by setup (renamed moment peer ssrc) outcome = None
-report_by setup (ticked moment first_word second_word) outcome =
-    report_due setup moment first_word (checked setup moment outcome)
 
 abbrev pub report_out : List ℕ → OutValue
 report_out octets = record { kind = Report; octets = octets }

@@ -32,21 +32,13 @@ reports_in sent = filter is_report sent
 
 -- whether an act is a change of identifier, which the participant makes itself
 abbrev pub is_change : Act → Bool
-is_change (rtcp_came moment peer word size reading) = false
-is_change (rtp_came moment peer word reading) = false
-is_change (rtp_sent moment timestamp octets) = false
-is_change (ticked moment first_word second_word) = false
-is_change (left moment word) = false
 is_change (renamed moment peer ssrc) = true
+is_change act = false
 
 abbrev pub interval_while_present : Setup → Act → Outcome → ℕ
-interval_while_present setup (rtcp_came moment peer word size reading) outcome = 0
-interval_while_present setup (rtp_came moment peer word reading) outcome = 0
-interval_while_present setup (rtp_sent moment timestamp octets) outcome = 0
 interval_while_present setup (ticked moment first_word second_word) outcome =
     interval_at setup (checked setup moment outcome)
-interval_while_present setup (left moment word) outcome = 0
-interval_while_present setup (renamed moment peer ssrc) outcome = 0
+interval_while_present setup act outcome = 0
 
 -- the deterministic interval that decides whether an act brings a compound (RFC 3550, 6.3.6, 6.3.7)
 abbrev pub interval_by : Setup → Act → Life → ℕ

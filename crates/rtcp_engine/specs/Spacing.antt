@@ -36,12 +36,8 @@ count_within from width reports = length (filter (is_between from (from + width)
 -- ---- Leaving
 
 abbrev pub leave_moment : Act → Option ℕ
-leave_moment (rtcp_came moment peer word size reading) = None
-leave_moment (rtp_came moment peer word reading) = None
-leave_moment (rtp_sent moment timestamp octets) = None
-leave_moment (ticked moment first_word second_word) = None
 leave_moment (left moment word) = Some moment
-leave_moment (renamed moment peer ssrc) = None
+leave_moment act = None
 
 -- the moment of the first leave, if there was one
 abbrev pub first_leave : List Act → Option ℕ

@@ -32,16 +32,8 @@ pub record IsChange (setup : Setup) (word : ℕ) (earlier : List Act) (moment pe
 
 -- An act was taken when it came.
 abbrev pub WasTaken : Setup → (word : ℕ) → List Act → Act → Type 0
-WasTaken setup word earlier (rtcp_came moment peer drawn size reading) =
-    refusal_of setup earlier (rtcp_came moment peer drawn size reading) ≡ None
-WasTaken setup word earlier (rtp_came moment peer drawn reading) =
-    refusal_of setup earlier (rtp_came moment peer drawn reading) ≡ None
-WasTaken setup word earlier (rtp_sent moment timestamp octets) =
-    refusal_of setup earlier (rtp_sent moment timestamp octets) ≡ None
-WasTaken setup word earlier (ticked moment first_word second_word) =
-    refusal_of setup earlier (ticked moment first_word second_word) ≡ None
-WasTaken setup word earlier (left moment drawn) = refusal_of setup earlier (left moment drawn) ≡ None
 WasTaken setup word earlier (renamed moment peer ssrc) = IsChange setup word earlier moment peer ssrc
+WasTaken setup word earlier act = refusal_of setup earlier act ≡ None
 
 abbrev pub AllTaken : Setup → (word : ℕ) → List Act → Type 0
 AllTaken setup word [] = Unit {0}

@@ -5,8 +5,7 @@ ghost use Rattle.rtcp_wire.specs.Writing.{written_all};
 ghost use Rattle.rtcp_members.specs.Pending.{after_blocks, last_reported as last_of};
 ghost use Rattle.rtcp_report.specs.Sizes.{reported_rows, report_of};
 ghost use Rattle.rtcp_engine.specs.Setups.{IsUsable};
-ghost use Rattle.rtcp_engine.specs.Acts.{ticked};
-ghost use Rattle.rtcp_engine.specs.Presence.{report_by, report_out};
+ghost use Rattle.rtcp_engine.specs.Presence.{report_out};
 ghost use Rattle.rtcp_engine.specs.Views.{setup_of, out_value};
 ghost use Rattle.rtcp_engine.specs.States.{Agrees, Does, KeepsCapacity};
 ghost use Rattle.rtcp_engine.specs.Outcomes.{Outcome, receiver_interval_at};
@@ -35,7 +34,7 @@ impl<T: MemberTable> Presence<T> {
         requires order { self.old.last ≡ now }
         requires reports { self.old.reports < self.old.calls }
         ensures report { (outcome : Outcome) → Agrees self.old outcome → option_map out_value result
-            ≡ option_map report_out (report_by self.old.setup (ticked now w1 w2) outcome) }
+            ≡ option_map report_out (report_due self.old.setup now w1 (checked self.old.setup now outcome)) }
         ensures new { Does self.old self.new (λ setup. after_tick setup now w1 w2) }
         ensures within { KeepsCapacity self.new }
     {
