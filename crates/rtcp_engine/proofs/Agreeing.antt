@@ -18,14 +18,12 @@ use Rattle.rtcp_report.proofs.LawLemmas as reports
 use Rattle.rtcp_timer.specs.declared.load.Load.{Load}
 use Rattle.rtcp_timer.specs.Averages.{moved_average}
 use Rattle.rtcp_engine.specs.Setups.{Setup}
-use Rattle.rtcp_engine.specs.OwnStreams.{OwnStep, packet_sent, check_passed, report_sent, counts_anew, packets_sent, octets_sent, sending_since, timestamp_at, sent_at}
-use Rattle.rtcp_engine.specs.OwnValues.{OwnValue, own_of, last_packet, own_after_packet, own_after_report, timestamp_by, sent_by}
+use Rattle.rtcp_engine.specs.OwnStreams.{OwnValue, Adds, report_sent, own_of, sending_since, sent_of}
 use Rattle.rtcp_engine.specs.Outcomes.{Outcome, Report, one_if, member_count, sender_count, is_initial, load_of}
-use Rattle.rtcp_engine.specs.Reporting.{extra_item, last_reported_in, reporter_at, reported_at, report_octets}
+use Rattle.rtcp_engine.specs.Reporting.{extra_item, last_reported_in, reporter_at, reporter_by, reported_at, report_octets}
 use Rattle.rtcp_engine.specs.Ticks as ticks
 use Rattle.rtcp_engine.specs.Histories.{media_fact, facts_of_media, with_media}
 use Rattle.rtcp_engine.specs.States.{State, Agrees, with_call}
-use Rattle.rtcp_engine.specs.OwnValues.{reporter_by}
 use Rattle.rtcp_engine.proofs.LawLemmas.{last_block_is_newest}
 
 -- ---- Counts and intervals
@@ -59,26 +57,6 @@ loads_agree {s} {o} a members senders avg we_sent m n sent average =
     let sending = sent ∙ we_sent_agrees s o a in
     let size = average ∙ a.average in
     λ i. load (m i) (n i) (sending i) (initial i) (size i) s.setup.sender_bw s.setup.receiver_bw
-
--- ---- The own stream
-
-pub packet_agrees : (own : List OwnStep) (moment timestamp octets : ℕ) → own_after_packet moment timestamp octets (own_of own) ≡ own_of (packet_sent moment timestamp octets ∷ own)
-packet_agrees own moment timestamp octets =
-    let packets : (packets_sent own % 2 ^ 32 + 1) % 2 ^ 32 ≡ (packets_sent own + 1) % 2 ^ 32 = omega arith in
-    let sizes : (octets_sent own % 2 ^ 32 + octets) % 2 ^ 32 ≡ (octets_sent own + octets) % 2 ^ 32 = omega arith in
-    let own_with : ℕ → ℕ → OwnValue = λ p q. record { sending = Some moment; last = Some (record { moment = moment; timestamp = timestamp }); packets = p; octets = q; heard = true } in
-    ap (λ (p : ℕ). own_with p ((octets_sent own % 2 ^ 32 + octets) % 2 ^ 32)) packets ∙ ap (λ (q : ℕ). own_with ((packets_sent own + 1) % 2 ^ 32) q) sizes
-
-timestamps_agree : (rate t : ℕ) (own : List OwnStep) → timestamp_by rate t (last_packet own) ≡ timestamp_at rate t own
-timestamps_agree rate t [] = refl
-timestamps_agree rate t (packet_sent moment timestamp octets ∷ earlier) = refl
-timestamps_agree rate t (check_passed idle ∷ earlier) = timestamps_agree rate t earlier
-timestamps_agree rate t (report_sent ∷ earlier) = timestamps_agree rate t earlier
-timestamps_agree rate t (counts_anew ∷ earlier) = timestamps_agree rate t earlier
-
-pub sent_agrees : (setup : Setup) (t : ℕ) (own : List OwnStep) → sent_by setup.ntp_base setup.rate t (own_of own) ≡ sent_at setup t own
-sent_agrees setup t own =
-    ap (λ (rtp : ℕ). if is_some (sending_since own) then Some (record { ntp = Rattle.rtcp_clock.specs.Moments.ntp_moment setup.ntp_base t; rtp = rtp; packets = packets_sent own % 2 ^ 32; octets = octets_sent own % 2 ^ 32 }) else None) (timestamps_agree setup.rate t own)
 
 -- ---- Moves
 
@@ -144,11 +122,7 @@ abbrev pub octets_in : (t : ℕ) → State → List ℕ
 octets_in t state = written_all (report_of (reporter_in t state) state.setup.limit t state.cursor state.table)
 
 reporters_agree : (s : State) (o : Outcome) (t : ℕ) → Agrees s o → reporter_in t s ≡ reporter_at s.setup t o
-reporters_agree s o t a =
-    let with_parts : Option SentValue → ℕ → Reporter = λ sent number. record { ssrc = s.setup.ssrc; sent = sent; items = items_of s.setup.cname (extra_item s.setup.extras number) } in
-    ap (λ (own : OwnValue). with_parts (sent_by s.setup.ntp_base s.setup.rate t own) (s.reports + 1)) a.own
-    ∙ ap (λ (sent : Option SentValue). with_parts sent (s.reports + 1)) (sent_agrees s.setup t o.own)
-    ∙ ap (λ (n : ℕ). with_parts (sent_at s.setup t o.own) (n + 1)) a.reports
+reporters_agree s o t a = λ i. reporter_by s.setup (a.own i) (a.reports i + 1) t
 
 pending_agree : (s : State) (o : Outcome) → Agrees s o → pending s.cursor s.table ≡ pending_rows_at (last_reported_in o.trace) s.setup.capacity s.setup.rate o.trace
 pending_agree s o a =
@@ -167,15 +141,15 @@ octets_agree s o t a =
     ap (λ (r : Reporter). written_all (packets_with r (blocks_of t (rows_in t s)))) (reporters_agree s o t a)
     ∙ ap (λ (rows : List EntryRow). written_all (packets_with (reporter_at s.setup t o) (blocks_of t rows))) (rows_agree s o t a)
 
-pub sent_reports_agree : (s : State) (o : Outcome) (t : ℕ) → Agrees s o →
+pub sent_reports_agree : (s : State) (o : Outcome) (t : ℕ) (own : OwnValue) → Adds s.own own report_sent → Agrees s o →
     Agrees (record s {
       table = after_blocks (rows_in t s) s.table;
-      own = own_after_report s.own;
+      own = own;
       average = moved_average s.average (length (octets_in t s));
       cursor = last_reported s.cursor (rows_in t s);
       reports = s.reports + 1;
     }) (ticks.with_report s.setup t o)
-sent_reports_agree s o t a =
+sent_reports_agree s o t own adds a =
     let rows = rows_agree s o t a in
     let kept = tables.bounds_are_kept-blocks s.table (rows_in t s) in
     record {
@@ -185,7 +159,7 @@ sent_reports_agree s o t a =
       rate = kept.rate ∙ a.rate;
       timing = a.timing;
       average = ap (λ (n : ℕ). moved_average n (length (octets_in t s))) a.average ∙ ap (λ (octets : List ℕ). moved_average (Rattle.rtcp_engine.specs.Outcomes.average_size s.setup o) (length octets)) (octets_agree s o t a);
-      own = ap own_after_report a.own;
+      own = adds o.own a.own;
       cursor = ap (λ (c : Option ℕ). last_reported c (rows_in t s)) a.cursor ∙ ap (last_reported (last_reported_in o.trace)) rows ∙ sym (last_block_is_newest (reported_at s.setup t o) o.trace);
       reports = omega (arith, a.reports);
     }

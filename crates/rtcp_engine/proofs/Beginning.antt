@@ -12,7 +12,7 @@ use Rattle.rtcp_timer.specs.Averages.{average_of}
 use Rattle.rtcp_timer.specs.Loads.{interval_of}
 use Rattle.rtcp_timer.specs.Schedules.{Timing, transmitted, schedule_at}
 use Rattle.rtcp_engine.specs.Setups.{Setup, IsUsable}
-use Rattle.rtcp_engine.specs.OwnValues.{OwnValue, no_packets}
+use Rattle.rtcp_engine.specs.OwnStreams.{OwnValue, own_of}
 use Rattle.rtcp_engine.specs.Outcomes.{first_size_of}
 use Rattle.rtcp_engine.specs.Taken.{begun}
 use Rattle.rtcp_engine.specs.States.{state_with, IsSound, StandsAt, newcomer}
@@ -25,7 +25,7 @@ pub record IsStart (setup : Setup) (word : ℕ) (table : TableValue) (timing : T
   pub is_table : table ≡ no_members setup.capacity setup.rate
   pub is_average : average ≡ average_of (first_size_of setup) []
   pub is_timing : timing ≡ schedule_at (transmitted 0 (drawn_interval (interval_of (first_load average setup.sender_bw setup.receiver_bw)) word) 1 ∷ [])
-  pub is_own : own ≡ no_packets
+  pub is_own : own ≡ own_of []
 
 pub start_is_sound : (setup : Setup) (word : ℕ) (table : TableValue) (timing : Timing) (average : ℕ) (own : OwnValue) → IsUsable setup →
     IsStart setup word table timing average own → IsSound (state_with setup table timing average own None 0 0 0)

@@ -12,14 +12,14 @@ use Rattle.rtcp_members.proofs.LawLemmas as tables
 use Rattle.rtcp_timer.specs.Averages.{moved_average}
 use Rattle.rtcp_timer.specs.Schedules.{Happening, Timing, after, tried, transmitted}
 use Rattle.rtcp_engine.specs.Setups.{Setup}
-use Rattle.rtcp_engine.specs.OwnValues.{OwnValue, own_after_packet, own_after_check, own_after_report}
+use Rattle.rtcp_engine.specs.OwnStreams.{OwnValue, Adds, packet_sent, check_passed, report_sent}
 use Rattle.rtcp_engine.specs.Outcomes.{Outcome, member_count, timing_of, interval_at, receiver_interval_at}
 use Rattle.rtcp_engine.specs.Reporting.{report_octets}
 use Rattle.rtcp_engine.specs.Leaving.{Backoff, after_wait, backoff_from, is_bye_due, leaving_average, leaving_count, leaving_interval, leaving_load, leaving_timing, with_farewell_of}
 use Rattle.rtcp_engine.specs.Histories.{facts_of_media, media_fact, with_facts_of, with_media, with_packet}
 use Rattle.rtcp_engine.specs.Ticks.{horizons_of, with_check, without_silent, has_come, has_passed, is_report_due, put_off, tried_at, report_due, with_report, reported, after_check as after_check_at}
 use Rattle.rtcp_engine.specs.States.{State, Agrees, Does, DoesWaiting, StandsStill, Stays, Waits}
-use Rattle.rtcp_engine.proofs.Agreeing.{load, facts_agree, media_agree, sizes_agree, packet_agrees, rows_in, octets_in, octets_agree, sent_reports_agree}
+use Rattle.rtcp_engine.proofs.Agreeing.{load, facts_agree, media_agree, sizes_agree, rows_in, octets_in, octets_agree, sent_reports_agree}
 
 -- ---- Steps one after the other
 
@@ -146,9 +146,9 @@ due s setup t first_word second_word outcome false passed h a = absurd cc
 
 -- ---- Checks
 
-checks_agree : (s : State) (outcome : Outcome) (horizons : Horizons) → Agrees s outcome
-    → Agrees (record s { table = after_check horizons s.table; own = own_after_check horizons.idle s.own }) (with_check horizons outcome)
-checks_agree s outcome horizons a =
+checks_agree : (s : State) (outcome : Outcome) (horizons : Horizons) (own : OwnValue) → Adds s.own own (check_passed horizons.idle) → Agrees s outcome
+    → Agrees (record s { table = after_check horizons s.table; own = own }) (with_check horizons outcome)
+checks_agree s outcome horizons own adds a =
     let kept = tables.bounds_are_kept-check s.table horizons in
     record {
       table = tables.tables_follow_traces-check s.table outcome.trace horizons a.table;
@@ -156,7 +156,7 @@ checks_agree s outcome horizons a =
       rate = kept.rate ∙ a.rate;
       timing = a.timing;
       average = a.average;
-      own = ap (own_after_check horizons.idle) a.own;
+      own = adds outcome.own a.own;
       cursor = a.cursor;
       reports = a.reports;
     }
@@ -164,21 +164,20 @@ checks_agree s outcome horizons a =
 abbrev pub IsReceiverInterval : State → ℕ → Type 0
 IsReceiverInterval w td = (outcome : Outcome) → Agrees w outcome → td ≡ receiver_interval_at w.setup outcome
 
-pub drops : {s w : State} → s ≡ w → (table : TableValue) (own : OwnValue) (t td : ℕ) → IsReceiverInterval w td → table ≡ after_check (horizons_of t td) s.table → own ≡ own_after_check (t - 2 * td) s.own
+pub drops : {s w : State} → s ≡ w → (table : TableValue) (own : OwnValue) (t td : ℕ) → IsReceiverInterval w td → table ≡ after_check (horizons_of t td) s.table → Adds s.own own (check_passed (t - 2 * td))
     → Does w (record s { table = table; own = own }) (λ setup. without_silent setup t)
-drops {s} {w} is table own t td interval table_is own_is =
+drops {s} {w} is table own t td interval table_is adds =
     let new : State = record s { table = table; own = own } in
-    let same : new ≡ record s { table = after_check (horizons_of t td) s.table; own = own_after_check (t - 2 * td) s.own } = λ i. record s { table = table_is i; own = own_is i } in
     record {
       stays = stays_by is refl refl refl;
       follows = λ outcome a. subst (λ (d : ℕ). Agrees new (with_check (horizons_of t d) outcome)) (interval outcome a)
-          (subst (λ (x : State). Agrees x (with_check (horizons_of t td) outcome)) (sym same) (checks_agree s outcome (horizons_of t td) (seen is outcome a)));
+          (subst (λ (x : TableValue). Agrees (record s { table = x; own = own }) (with_check (horizons_of t td) outcome)) (sym table_is) (checks_agree s outcome (horizons_of t td) own adds (seen is outcome a)));
     }
 
 -- ---- Sent packets
 
-pub sends : {s w : State} → s ≡ w → (own : OwnValue) (t timestamp octets : ℕ) → own ≡ own_after_packet t timestamp octets s.own → Does w (record s { own = own }) (λ setup. with_packet t timestamp octets)
-sends {s} {w} is own t timestamp octets own_is = record {
+pub sends : {s w : State} → s ≡ w → (own : OwnValue) (t timestamp octets : ℕ) → Adds s.own own (packet_sent t timestamp octets) → Does w (record s { own = own }) (λ setup. with_packet t timestamp octets)
+sends {s} {w} is own t timestamp octets adds = record {
   stays = stays_by is refl refl refl;
   follows = λ outcome agrees.
       let a = seen is outcome agrees in
@@ -188,7 +187,7 @@ sends {s} {w} is own t timestamp octets own_is = record {
         rate = a.rate;
         timing = a.timing;
         average = a.average;
-        own = own_is ∙ ap (own_after_packet t timestamp octets) a.own ∙ packet_agrees outcome.own t timestamp octets;
+        own = adds outcome.own a.own;
         cursor = a.cursor;
         reports = a.reports;
       };
@@ -200,14 +199,14 @@ pub octets_of : {s w : State} → s ≡ w → (t : ℕ) (outcome : Outcome) → 
 octets_of {s} {w} is t outcome a = ap (octets_in t) is ∙ octets_agree w outcome t a
 
 pub makes : {s w : State} → s ≡ w → (t : ℕ) (table : TableValue) (average : ℕ) (own : OwnValue) (cursor : Option ℕ) → table ≡ after_blocks (rows_in t s) s.table → average ≡ moved_average s.average (length (octets_in t s))
-    → own ≡ own_after_report s.own → cursor ≡ last_reported s.cursor (rows_in t s)
+    → Adds s.own own report_sent → cursor ≡ last_reported s.cursor (rows_in t s)
     → Does w (record s { table = table; average = average; own = own; cursor = cursor; reports = s.reports + 1 }) (λ setup. with_report setup t)
-makes {s} {w} is t table average own cursor table_is average_is own_is cursor_is =
+makes {s} {w} is t table average own cursor table_is average_is adds cursor_is =
     let new : State = record s { table = table; average = average; own = own; cursor = cursor; reports = s.reports + 1 } in
-    let same : new ≡ record s { table = after_blocks (rows_in t s) s.table; average = moved_average s.average (length (octets_in t s)); own = own_after_report s.own; cursor = last_reported s.cursor (rows_in t s); reports = s.reports + 1 } =
-    λ i. record s { table = table_is i; average = average_is i; own = own_is i; cursor = cursor_is i; reports = s.reports + 1 } in
+    let same : new ≡ record s { table = after_blocks (rows_in t s) s.table; average = moved_average s.average (length (octets_in t s)); own = own; cursor = last_reported s.cursor (rows_in t s); reports = s.reports + 1 } =
+    λ i. record s { table = table_is i; average = average_is i; own = own; cursor = cursor_is i; reports = s.reports + 1 } in
     subst (λ (x : State). Does x new (λ setup. with_report setup t)) is
-    (record { stays = record { setup = refl; last = refl; calls = refl }; follows = λ outcome a. subst (λ (x : State). Agrees x (with_report s.setup t outcome)) (sym same) (sent_reports_agree s outcome t a) })
+    (record { stays = record { setup = refl; last = refl; calls = refl }; follows = λ outcome a. subst (λ (x : State). Agrees x (with_report s.setup t outcome)) (sym same) (sent_reports_agree s outcome t own adds a) })
 
 -- a report is due, or none is, whatever the outcome is that the numbers agree with
 abbrev pub IsDueBy : State → (t word : ℕ) → Bool → Type 0

@@ -12,8 +12,8 @@ use Rattle.rtcp_engine.specs.declared.changes.Change.{Change}
 use Rattle.rtcp_engine.specs.Setups.{Setup}
 use Rattle.rtcp_engine.specs.Acts.{renamed}
 use Rattle.rtcp_engine.specs.Identities.{identifiers, named, present_among, setup_now}
-use Rattle.rtcp_engine.specs.OwnStreams.{has_sent, counts_anew}
-use Rattle.rtcp_engine.specs.OwnValues.{OwnValue, own_of, own_anew}
+use Rattle.rtcp_engine.specs.OwnStreams.{OwnValue, has_sent, counts_anew, own_of}
+use Rattle.rtcp_engine.specs.OwnValues.{own_anew}
 use Rattle.rtcp_engine.specs.Outcomes.{Outcome}
 use Rattle.rtcp_engine.specs.Histories.{History, with_change}
 use Rattle.rtcp_engine.specs.Reporting.{bye_octets}

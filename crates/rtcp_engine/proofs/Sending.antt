@@ -21,7 +21,7 @@ use Rattle.rtcp_engine.specs.Acts.{Act, rtcp_came, rtp_came, rtp_sent, ticked, l
 use Rattle.rtcp_engine.specs.Identities.{call_count, named, setup_now}
 use Rattle.rtcp_engine.specs.Outcomes.{Outcome, is_initial, interval_at, load_of, member_count}
 use Rattle.rtcp_engine.specs.Ticks.{checked, has_come, has_passed, reported, put_off}
-use Rattle.rtcp_engine.specs.OwnStreams.{has_sent, sent_at}
+use Rattle.rtcp_engine.specs.OwnStreams.{has_sent, own_of, sent_of}
 use Rattle.rtcp_engine.specs.Reporting.{bye_octets, report_octets, extra_item, reporter_at, last_reported_in}
 use Rattle.rtcp_engine.specs.Presence.{call_refusal, report_out, last_moment, refusal_of, refusal_of_datagram}
 use Rattle.rtcp_engine.specs.Taken.{HasWords, WasTaken, AllTaken}
@@ -124,7 +124,7 @@ short_if false found short = tt
 report_is_within : (setup : Setup) (t : ℕ) (outcome : Outcome) → IsUsable setup → length (report_octets setup t outcome) ≤ setup.limit
 report_is_within setup t outcome usable =
     let extra = short_if _ _ (short_read setup.extras _ usable.extras) in
-    let empty = compounds_are_small-empty setup.ssrc (sent_at setup t outcome.own) setup.cname (extra_item setup.extras (length outcome.reports + 1)) usable.cname.1 extra in
+    let empty = compounds_are_small-empty setup.ssrc (sent_of setup.ntp_base setup.rate t (own_of outcome.own)) setup.cname (extra_item setup.extras (length outcome.reports + 1)) usable.cname.1 extra in
     compounds_are_small-report (reporter_at setup t outcome) setup.limit t (pending_rows_at (last_reported_in outcome.trace) setup.capacity setup.rate outcome.trace)
     (omega (arith, empty, usable.limit.0))
 

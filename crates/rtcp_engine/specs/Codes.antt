@@ -7,7 +7,7 @@ use Rattle.rtcp_timer.specs.Schedules.{Timing}
 use Rattle.rtcp_wire.specs.Values.{ItemValue}
 use Rattle.rtcp_engine.specs.declared.changes.Change.{Change}
 use Rattle.rtcp_engine.specs.Setups.{Setup}
-use Rattle.rtcp_engine.specs.OwnValues.{PacketValue, OwnValue}
+use Rattle.rtcp_engine.specs.OwnStreams.{PacketValue, OwnValue}
 use Rattle.rtcp_engine.specs.States.{State, PhaseValue, taking_part, leaving, over, ParticipantValue}
 
 abbrev pub item_code : Coded ItemValue

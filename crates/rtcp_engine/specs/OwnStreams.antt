@@ -1,10 +1,9 @@
 -- The participant's own RTP stream, and whether it counts as a sender (RFC 3550, 6.3.8, 6.4.1). Lists are
 -- newest first.
-use Rattle.std.specs.Prelude.{ℕ, ◌+◌, ◌-◌, ◌%◌, ◌^◌, Bool, true, false, List, [], ◌∷◌, if◌then◌else◌, Option, Some, None, is_some}
+use Rattle.std.specs.Prelude.{◌≡◌, ℕ, ◌+◌, ◌-◌, ◌%◌, ◌^◌, Bool, true, false, List, [], ◌∷◌, if◌then◌else◌, Option, Some, None, is_some}
 use Rattle.rtcp_clock.specs.Moments.{ntp_moment, media_units}
 use Rattle.rtcp_members.specs.Stays.{is_before}
 use Rattle.rtcp_report.specs.Reports.{SentValue}
-use Rattle.rtcp_engine.specs.Setups.{Setup}
 
 pub data OwnStep : Type 0 where
   -- a packet with this timestamp and so many octets of payload
@@ -53,24 +52,57 @@ has_sent (check_passed idle ∷ earlier) = has_sent earlier
 has_sent (report_sent ∷ earlier) = true
 has_sent (counts_anew ∷ earlier) = false
 
--- The RTP timestamp of a moment: that of the last packet, and the units of the media's clock since. (0 if no
--- packet was sent.)
-abbrev pub timestamp_at : (rate t : ℕ) → List OwnStep → ℕ
-timestamp_at rate t [] = 0
-timestamp_at rate t (packet_sent moment timestamp octets ∷ earlier) =
-    (timestamp + media_units (t - moment) rate) % 2 ^ 32
-timestamp_at rate t (check_passed idle ∷ earlier) = timestamp_at rate t earlier
-timestamp_at rate t (report_sent ∷ earlier) = timestamp_at rate t earlier
-timestamp_at rate t (counts_anew ∷ earlier) = timestamp_at rate t earlier
+pub record PacketValue : Type 0 where
+  pub moment : ℕ
+  pub timestamp : ℕ
 
-abbrev pub stream_at : Setup → (t : ℕ) → List OwnStep → SentValue
-stream_at setup t own = record {
-  ntp = ntp_moment setup.ntp_base t;
-  rtp = timestamp_at setup.rate t own;
+abbrev pub last_packet : List OwnStep → Option PacketValue
+last_packet [] = None
+last_packet (packet_sent moment timestamp octets ∷ earlier) =
+    Some (record { moment = moment; timestamp = timestamp })
+last_packet (check_passed idle ∷ earlier) = last_packet earlier
+last_packet (report_sent ∷ earlier) = last_packet earlier
+last_packet (counts_anew ∷ earlier) = last_packet earlier
+
+-- ---- The few numbers that it comes to
+
+pub record OwnValue : Type 0 where
+  -- the moment since which the participant sends
+  pub sending : Option ℕ
+  pub last : Option PacketValue
+  -- how many packets and octets of payload were sent, modulo 2^32
+  pub packets : ℕ
+  pub octets : ℕ
+  -- whether a report or a packet was sent under the present identifier
+  pub heard : Bool
+
+abbrev pub own_of : List OwnStep → OwnValue
+own_of own = record {
+  sending = sending_since own;
+  last = last_packet own;
   packets = packets_sent own % 2 ^ 32;
   octets = octets_sent own % 2 ^ 32;
+  heard = has_sent own;
 }
 
+-- Whatever stream the old numbers are those of, the new ones are those of it with one step more.
+abbrev pub Adds : (old new : OwnValue) → OwnStep → Type 0
+Adds old new step = (own : List OwnStep) → old ≡ own_of own → new ≡ own_of (step ∷ own)
+
+-- The RTP timestamp of a moment: that of the last packet, and the units of the media's clock since. (0 if no
+-- packet was sent.)
+abbrev pub timestamp_at : (rate t : ℕ) → Option PacketValue → ℕ
+timestamp_at rate t None = 0
+timestamp_at rate t (Some packet) = (packet.timestamp + media_units (t - packet.moment) rate) % 2 ^ 32
+
 -- the stream, where the participant reports as a sender
-abbrev pub sent_at : Setup → (t : ℕ) → List OwnStep → Option SentValue
-sent_at setup t own = if we_sent own then Some (stream_at setup t own) else None
+abbrev pub sent_of : (ntp_base rate t : ℕ) → OwnValue → Option SentValue
+sent_of ntp_base rate t own =
+    if is_some own.sending
+    then Some (record {
+      ntp = ntp_moment ntp_base t;
+      rtp = timestamp_at rate t own.last;
+      packets = own.packets;
+      octets = own.octets;
+    })
+    else None

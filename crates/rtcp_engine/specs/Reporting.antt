@@ -9,7 +9,7 @@ use Rattle.rtcp_report.specs.Reports.{Reporter, packets_with, bye_of}
 use Rattle.rtcp_report.specs.Sizes.{fitting}
 use Rattle.rtcp_report.specs.Views.{items_of}
 use Rattle.rtcp_engine.specs.Setups.{Setup}
-use Rattle.rtcp_engine.specs.OwnStreams.{sent_at}
+use Rattle.rtcp_engine.specs.OwnStreams.{OwnValue, own_of, sent_of}
 use Rattle.rtcp_engine.specs.Outcomes.{Outcome}
 
 -- ---- Items
@@ -29,13 +29,17 @@ last_reported_in (fact_came fact moment ∷ earlier) = last_reported_in earlier
 last_reported_in (check_made horizons ∷ earlier) = last_reported_in earlier
 last_reported_in (block_taken ssrc ∷ earlier) = Some ssrc
 
--- who reports at a moment: a sender or a receiver, with its CNAME and the extra item whose turn it is
-abbrev pub reporter_at : Setup → (t : ℕ) → Outcome → Reporter
-reporter_at setup t outcome = record {
+-- who makes the report of this number at a moment: a sender or a receiver, with its CNAME and the extra item whose turn
+-- it is
+abbrev pub reporter_by : Setup → OwnValue → (number t : ℕ) → Reporter
+reporter_by setup own number t = record {
   ssrc = setup.ssrc;
-  sent = sent_at setup t outcome.own;
-  items = items_of setup.cname (extra_item setup.extras (length outcome.reports + 1));
+  sent = sent_of setup.ntp_base setup.rate t own;
+  items = items_of setup.cname (extra_item setup.extras number);
 }
+
+abbrev pub reporter_at : Setup → (t : ℕ) → Outcome → Reporter
+reporter_at setup t outcome = reporter_by setup (own_of outcome.own) (length outcome.reports + 1) t
 
 -- The sources that a report is of: as many of the pending ones as fit, in turn after the last one reported.
 abbrev pub reported_at : Setup → (t : ℕ) → Outcome → List EntryRow

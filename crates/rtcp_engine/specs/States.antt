@@ -9,7 +9,8 @@ use Rattle.rtcp_engine.specs.declared.refusal.Refusal.{Refusal}
 use Rattle.rtcp_engine.specs.declared.refusal.Refusal.TheVariants.{Left}
 use Rattle.rtcp_engine.specs.Setups.{Setup, IsUsable}
 use Rattle.rtcp_engine.specs.Identities.{call_count, identifiers, named, peers_listed, setup_now}
-use Rattle.rtcp_engine.specs.OwnValues.{OwnValue, own_anew, own_of}
+use Rattle.rtcp_engine.specs.OwnStreams.{OwnValue, own_of}
+use Rattle.rtcp_engine.specs.OwnValues.{own_anew}
 use Rattle.rtcp_engine.specs.Outcomes.{Outcome, average_size, timing_of}
 use Rattle.rtcp_engine.specs.Reporting.{bye_octets, last_reported_in}
 use Rattle.rtcp_engine.specs.Histories.{History}

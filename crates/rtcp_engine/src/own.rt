@@ -1,8 +1,9 @@
 //! The participant's own RTP stream (RFC 3550, 6.3.8, 6.4.1).
 
-ghost use Rattle.std.specs.Prelude.{◌≡◌, is_some, option_map};
+ghost use Rattle.std.specs.Prelude.{◌≡◌, [], is_some, option_map};
 ghost use Rattle.rtcp_report.specs.Views.{sent_value};
-ghost use Rattle.rtcp_engine.specs.OwnValues.{no_packets, own_after_packet, own_after_check, own_after_report, own_anew, timestamp_by, packet_value, sent_by};
+ghost use Rattle.rtcp_engine.specs.OwnStreams.{Adds, packet_sent, check_passed, report_sent, own_of, timestamp_at, sent_of};
+ghost use Rattle.rtcp_engine.specs.OwnValues.{own_anew, packet_value};
 
 use rtcp_clock::{ntp_of, rtp_units};
 use rtcp_report::SrPart;
@@ -31,7 +32,8 @@ pub(crate) struct OwnStream {
 
 impl Model for OwnStream {
     ghost use Rattle.std.specs.Prelude.{option_map};
-    ghost use Rattle.rtcp_engine.specs.OwnValues.{OwnValue, packet_value};
+    ghost use Rattle.rtcp_engine.specs.OwnStreams.{OwnValue};
+    ghost use Rattle.rtcp_engine.specs.OwnValues.{packet_value};
 
     ghost Value = { OwnValue };
 
@@ -47,7 +49,7 @@ impl Model for OwnStream {
 impl OwnStream {
     /// Nothing was sent.
     pub(crate) fn new() -> OwnStream
-        ensures { result ≡ no_packets }
+        ensures { result ≡ own_of [] }
     {
         OwnStream {
             sending: None,
@@ -60,7 +62,7 @@ impl OwnStream {
 
     /// Records that a packet with this timestamp and so many octets of payload was sent.
     pub(crate) fn sent(&mut self, moment: u64, timestamp: u32, octets: u32)
-        ensures { self.new ≡ own_after_packet moment timestamp octets self.old }
+        ensures { Adds self.old self.new (packet_sent moment timestamp octets) }
     {
         self.sending = Some(moment);
         self.last = Some(LastPacket { moment, timestamp });
@@ -71,7 +73,7 @@ impl OwnStream {
 
     /// The participant is no sender any more if its last packet was sent before `idle`.
     pub(crate) fn check(&mut self, idle: u64)
-        ensures { self.new ≡ own_after_check idle self.old }
+        ensures { Adds self.old self.new (check_passed idle) }
     {
         if self.sending.is_some_and(|moment| moment < idle) {
             self.sending = None;
@@ -80,7 +82,7 @@ impl OwnStream {
 
     /// Records that a report was sent.
     pub(crate) fn reported(&mut self)
-        ensures { self.new ≡ own_after_report self.old }
+        ensures { Adds self.old self.new report_sent }
     {
         self.heard = true;
     }
@@ -111,7 +113,7 @@ impl OwnStream {
     /// What a report at the moment `t` says of the stream, where the participant is a sender. `ntp_base` is
     /// the NTP timestamp of moment 0, and `rate` the units a second of the media's clock.
     pub(crate) fn report(&self, ntp_base: u64, rate: u32, t: u64) -> Option<SrPart>
-        ensures { option_map sent_value result ≡ sent_by ntp_base rate t self.now }
+        ensures { option_map sent_value result ≡ sent_of ntp_base rate t self.now }
     {
         if !self.is_sending() {
             return None;
@@ -127,7 +129,7 @@ impl OwnStream {
 
 /// The RTP timestamp of the moment `t`: that of the last packet, and the units of the media's clock since.
 fn timestamp_of(last: Option<LastPacket>, rate: u32, t: u64) -> u32
-    ensures { result ≡ timestamp_by rate t (option_map packet_value last) }
+    ensures { result ≡ timestamp_at rate t (option_map packet_value last) }
 {
     match last {
         Some(packet) => {

@@ -9,9 +9,8 @@ ghost use Rattle.rtcp_engine.specs.Presence.{report_out};
 ghost use Rattle.rtcp_engine.specs.Views.{setup_of, out_value};
 ghost use Rattle.rtcp_engine.specs.States.{Agrees, Does, KeepsCapacity};
 ghost use Rattle.rtcp_engine.specs.Outcomes.{Outcome, receiver_interval_at};
-ghost use Rattle.rtcp_engine.specs.Reporting.{report_octets};
+ghost use Rattle.rtcp_engine.specs.Reporting.{report_octets, reporter_by};
 ghost use Rattle.rtcp_engine.specs.Ticks.{with_recount, without_silent, checked, is_report_due, report_due, with_report, drawn_anew, reported, tried_at, after_check, after_tick};
-ghost use Rattle.rtcp_engine.specs.OwnValues.{reporter_by};
 
 use super::Presence;
 use crate::config::Config;

@@ -1,7 +1,7 @@
 use Rattle.std.proofs.Common.{◌≡◌, ℕ, ap, ◌∙◌, sym, subst}
 use Rattle.rtcp_members.specs.Traces.{horizons_at}
 use Rattle.rtcp_members.specs.Tables.{TableValue, after_check}
-use Rattle.rtcp_engine.specs.OwnValues.{own_after_check}
+use Rattle.rtcp_engine.specs.OwnStreams.{Adds, check_passed}
 use Rattle.rtcp_engine.specs.Ticks.{horizons_of}
 use Rattle.rtcp_engine.proofs.Soundness.{IsKept, check_kept, no_call, kept}
 use Rattle.rtcp_engine.proofs.Doing.{drops}
@@ -21,4 +21,4 @@ returns-clause-new g c =
     let table : g.T.MemberTable.content c.check.new.self ≡ after_check (horizons_of c.args.now c.receiver_interval-td.result) (g.T.MemberTable.content inside.table) =
     c.check.ensures.content ∙ (λ i. after_check (horizons_at (c.saturating_sub.ensures i) (c.saturating_sub-idle.ensures i) (c.saturating_sub-2.ensures i)) (g.T.MemberTable.content inside.table)) in
     drops c.self.view_is (g.T.MemberTable.content c.check.new.self) c.check-2.new.self c.args.now c.receiver_interval-td.result c.receiver_interval-td.ensures.exact
-    table (c.check-2.ensures ∙ ap (λ (idle : ℕ). own_after_check idle inside.own) c.saturating_sub-idle.ensures)
+    table (subst (λ (idle : ℕ). Adds inside.own c.check-2.new.self (check_passed idle)) c.saturating_sub-idle.ensures c.check-2.ensures)

@@ -1,5 +1,5 @@
 use Rattle.std.proofs.Common.{not, ◌∙◌, ap}
-use Rattle.rtcp_engine.specs.OwnValues.{OwnValue}
+use Rattle.rtcp_engine.specs.OwnStreams.{OwnValue}
 use Rattle.rtcp_engine.proofs.Doing.{seen}
 use Rattle.rtcp_engine.proofs.presence.Presence.is_unheard.Goals as goal
 

@@ -4,7 +4,7 @@ use Rattle.rtcp_report.specs.Sizes.{reported_rows}
 use Rattle.rtcp_timer.specs.Averages.{moved_average}
 use Rattle.rtcp_engine.specs.Views.{setup_of}
 use Rattle.rtcp_engine.specs.States.{State}
-use Rattle.rtcp_engine.specs.OwnValues.{reporter_by}
+use Rattle.rtcp_engine.specs.Reporting.{reporter_by}
 use Rattle.rtcp_engine.proofs.Doing.{octets_of, makes}
 use Rattle.rtcp_engine.proofs.Soundness.{IsKept, IsInStep, blocks_kept, kept}
 use Rattle.rtcp_engine.proofs.presence.Presence.make_report.Goals as goal
