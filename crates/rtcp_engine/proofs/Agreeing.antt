@@ -1,5 +1,5 @@
 -- A table and numbers that agree with an outcome agree, once they moved, with the outcome after the same act.
-use Rattle.std.proofs.Common.{◌≡◌, ℕ, ◌+◌, ◌%◌, ◌^◌, ◌==◌, Bool, true, List, [], ◌∷◌, length, Option, Some, None, is_some, if◌then◌else◌, refl, sym, ap, ◌∙◌, arith, subst}
+use Rattle.std.proofs.Common.{◌≡◌, ℕ, ◌+◌, ◌==◌, Bool, List, [], ◌∷◌, length, Option, is_some, refl, sym, ap, ◌∙◌, arith, subst}
 use Rattle.std.proofs.lemmas.Bool.{ne_eqb}
 use Rattle.rtcp_wire.specs.declared.fact.Fact.{Fact}
 use Rattle.rtcp_wire.specs.RtpHeads.{RtpValue}
@@ -10,17 +10,15 @@ use Rattle.rtcp_members.specs.Tables.{StandsAt as IsTableAt, counted, after_fact
 use Rattle.rtcp_members.specs.Pending.{EntryRow, pending, after_blocks, blocks_of, last_reported}
 use Rattle.rtcp_members.specs.News.{pending_rows_at}
 use Rattle.rtcp_members.proofs.LawLemmas as tables
-use Rattle.rtcp_report.specs.Reports.{Reporter, SentValue, packets_with}
+use Rattle.rtcp_report.specs.Reports.{Reporter, packets_with}
 use Rattle.rtcp_report.specs.Sizes.{fitting, reported_rows, report_of}
-use Rattle.rtcp_report.specs.Views.{items_of}
 use Rattle.rtcp_report.specs.Traced.{with_blocks}
 use Rattle.rtcp_report.proofs.LawLemmas as reports
 use Rattle.rtcp_timer.specs.declared.load.Load.{Load}
 use Rattle.rtcp_timer.specs.Averages.{moved_average}
-use Rattle.rtcp_engine.specs.Setups.{Setup}
-use Rattle.rtcp_engine.specs.OwnStreams.{OwnValue, Adds, report_sent, own_of, sending_since, sent_of}
+use Rattle.rtcp_engine.specs.OwnStreams.{OwnValue, Adds, report_sent, sending_since}
 use Rattle.rtcp_engine.specs.Outcomes.{Outcome, Report, one_if, member_count, sender_count, is_initial, load_of}
-use Rattle.rtcp_engine.specs.Reporting.{extra_item, last_reported_in, reporter_at, reporter_by, reported_at, report_octets}
+use Rattle.rtcp_engine.specs.Reporting.{last_reported_in, reporter_at, reporter_by, reported_at, report_octets}
 use Rattle.rtcp_engine.specs.Ticks as ticks
 use Rattle.rtcp_engine.specs.Histories.{media_fact, facts_of_media, with_media}
 use Rattle.rtcp_engine.specs.States.{State, Agrees, with_call}

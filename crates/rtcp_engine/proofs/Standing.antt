@@ -1,5 +1,5 @@
 -- What a call comes to: whether it is refused, what is answered, and where the participant stands after it.
-use Rattle.std.proofs.Common.{◌≡◌, ℕ, ◌+◌, ◌-◌, ◌^◌, Bool, true, false, nat_lt, nat_le, List, ◌∷◌, Option, Some, None, Ok, Err, if◌then◌else◌, refl, sym, ap, ◌∙◌, subst}
+use Rattle.std.proofs.Common.{◌≡◌, ℕ, ◌+◌, ◌-◌, false, List, ◌∷◌, Option, Some, None, Ok, Err, refl, sym, ap, ◌∙◌, subst}
 use Rattle.rtcp_engine.specs.declared.changes.Change.{Change}
 use Rattle.rtcp_engine.specs.declared.refusal.Refusal.{Refusal}
 use Rattle.std.specs.Option.{option_or}
@@ -8,9 +8,9 @@ use Rattle.rtcp_engine.specs.Acts.{Act, rtcp_came, rtp_came, rtp_sent, ticked, l
 use Rattle.rtcp_engine.specs.Identities.{call_count, identifiers, peers_listed, present_among, named, setup_now}
 use Rattle.rtcp_engine.specs.Histories.{History}
 use Rattle.rtcp_engine.specs.Presence.{call_refusal, last_moment, refusal_of, refusal_of_datagram, with_act}
-use Rattle.rtcp_engine.specs.Steps.{OutValue, StepValue, answer_unless}
+use Rattle.rtcp_engine.specs.Steps.{StepValue, answer_unless}
 use Rattle.rtcp_engine.specs.Leaving.{Life}
-use Rattle.rtcp_engine.specs.Lives.{lived, life_at, members_in_life, senders_in_life, next_in_life}
+use Rattle.rtcp_engine.specs.Lives.{lived, life_at}
 use Rattle.rtcp_engine.specs.Changes.{change_by}
 use Rattle.rtcp_engine.specs.Answers.{step_with, step_by, refusal_in, refusal_after, answer_of, followed_by, with_change_of}
 use Rattle.rtcp_engine.specs.Sent.{is_change}

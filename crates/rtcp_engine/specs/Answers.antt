@@ -3,7 +3,7 @@ use Rattle.std.specs.Prelude.{ℕ, List, [], ◌∷◌, Option, Some, None, opti
 use Rattle.std.specs.Option.{option_or}
 use Rattle.rtcp_engine.specs.declared.refusal.Refusal.{Refusal}
 use Rattle.rtcp_engine.specs.declared.refusal.Refusal.TheVariants.{Left}
-use Rattle.rtcp_engine.specs.Acts.{Act, rtcp_came, rtp_came, rtp_sent, ticked, left, renamed}
+use Rattle.rtcp_engine.specs.Acts.{Act, renamed}
 use Rattle.rtcp_engine.specs.Identities.{setup_now}
 use Rattle.rtcp_engine.specs.Changes.{change_by}
 use Rattle.rtcp_engine.specs.Histories.{History}

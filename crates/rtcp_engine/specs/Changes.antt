@@ -3,7 +3,7 @@ use Rattle.std.specs.Prelude.{ℕ, ◌+◌, ◌==◌, ◌||◌, Bool, false, Lis
 use Rattle.rtcp_wire.specs.Facts.{subject, facts_of}
 use Rattle.rtcp_members.specs.Entries.{entry_at}
 use Rattle.rtcp_engine.specs.Setups.{Setup}
-use Rattle.rtcp_engine.specs.Acts.{Act, rtcp_came, rtp_came, rtp_sent, ticked, left, renamed, moment_of}
+use Rattle.rtcp_engine.specs.Acts.{Act, rtcp_came, rtp_came, renamed, moment_of}
 use Rattle.rtcp_engine.specs.Identities.{first_free, identifiers, is_among, most_changes, setup_now}
 use Rattle.rtcp_engine.specs.Histories.{History}
 use Rattle.rtcp_engine.specs.Presence.{speaks_of}

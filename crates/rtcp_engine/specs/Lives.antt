@@ -4,7 +4,7 @@ use Rattle.rtcp_wire.specs.declared.fault.WireFault.{WireFault}
 use Rattle.rtcp_wire.specs.Values.{RtcpPacket}
 use Rattle.rtcp_engine.specs.declared.step.OutKind.TheVariants.{Bye}
 use Rattle.rtcp_engine.specs.Setups.{Setup}
-use Rattle.rtcp_engine.specs.Acts.{Act, rtcp_came, rtp_came, rtp_sent, ticked, left, renamed}
+use Rattle.rtcp_engine.specs.Acts.{Act, rtcp_came, ticked, left, renamed}
 use Rattle.rtcp_engine.specs.Identities.{setup_now}
 use Rattle.rtcp_engine.specs.OwnStreams.{has_sent}
 use Rattle.rtcp_engine.specs.Reporting.{bye_octets}

@@ -1,5 +1,5 @@
 -- What a participant keeps of its own stream, as the definitions see it.
-use Rattle.std.specs.Prelude.{ℕ, Bool, false, Option}
+use Rattle.std.specs.Prelude.{false}
 use Rattle.rtcp_engine.specs.declared.own.LastPacket.{LastPacket}
 use Rattle.rtcp_engine.specs.OwnStreams.{OwnValue, PacketValue}
 

@@ -11,10 +11,8 @@ use Rattle.rtcp_engine.specs.declared.refusal.Refusal.{Refusal}
 use Rattle.rtcp_engine.specs.declared.refusal.Refusal.TheVariants.{Backwards, TooFar, TooMany, Wire, Rtp, OwnSsrc}
 use Rattle.rtcp_engine.specs.declared.step.OutKind.TheVariants.{Report}
 use Rattle.rtcp_engine.specs.Setups.{Setup}
-use Rattle.rtcp_engine.specs.Acts.{Act, rtcp_came, rtp_came, rtp_sent, ticked, left, renamed, moment_of}
+use Rattle.rtcp_engine.specs.Acts.{Act, rtcp_came, rtp_came, moment_of}
 use Rattle.rtcp_engine.specs.Identities.{call_count, may_change, setup_now}
-use Rattle.rtcp_engine.specs.Outcomes.{Outcome}
-use Rattle.rtcp_engine.specs.Ticks.{checked, report_due}
 use Rattle.rtcp_engine.specs.Histories.{History}
 use Rattle.rtcp_engine.specs.Steps.{OutValue}
 

@@ -2,7 +2,7 @@
 use Rattle.std.specs.Prelude.{ℕ, List, [], ◌∷◌, ◌++◌, filter, Bool, true, false, is_some, if◌then◌else◌, Option, Some, None, Ok, Err}
 use Rattle.rtcp_engine.specs.declared.step.OutKind.TheVariants.{Report as ReportKind, Bye as ByeKind}
 use Rattle.rtcp_engine.specs.Setups.{Setup}
-use Rattle.rtcp_engine.specs.Acts.{Act, rtcp_came, rtp_came, rtp_sent, ticked, left, renamed, moment_of}
+use Rattle.rtcp_engine.specs.Acts.{Act, ticked, renamed, moment_of}
 use Rattle.rtcp_engine.specs.Identities.{setup_now}
 use Rattle.rtcp_engine.specs.Outcomes.{Outcome, Report, interval_at}
 use Rattle.rtcp_engine.specs.Ticks.{checked}
