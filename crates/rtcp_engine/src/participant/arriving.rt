@@ -158,6 +158,8 @@ impl<T: MemberTable> Participant<T> {
     }
 
     /// The answer of a call that was taken.
+    // Inlined, so that a compound is moved into the answer once, and none is where there is none.
+    #[inline(always)]
     pub(super) fn step(&self, out: Option<Out>) -> Step
         ensures { (life : Life) → IsAt self.now life →
             step_value result ≡ step_into self.now.presence.setup (option_map out_value out) life }

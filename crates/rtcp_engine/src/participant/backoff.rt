@@ -38,6 +38,8 @@ impl<T: MemberTable> Participant<T> {
     }
 
     /// Makes a report or sends the BYE, if it is due.
+    // Inlined, and a backoff kept out of line, so that a report is moved into the answer once.
+    #[inline(always)]
     pub(super) fn take_tick(&mut self, now: u64, w1: u32, w2: u32) -> Option<Out>
         requires order { self.old.presence.last ≡ now }
         requires reports { self.old.presence.reports < self.old.presence.calls }
@@ -101,6 +103,7 @@ impl<T: MemberTable> Participant<T> {
     }
 
     /// Sends the BYE if it is due, and is gone then.
+    #[cold]
     fn wait(&mut self, now: u64, w1: u32, members: u32) -> Option<Out>
         requires phase { self.old.phase ≡ leaving members }
         ensures new { (w2 : ℕ) → Acts self.old self.new (ticked now w1 w2) (option_map out_value result) }
