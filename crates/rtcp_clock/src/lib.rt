@@ -20,6 +20,3 @@ mod moments;
 
 pub use intervals::{draw, longest, scale_down};
 pub use moments::{ntp_of, round_trip, rtp_units, short_delay};
-
-#[cfg(test)]
-mod tests;

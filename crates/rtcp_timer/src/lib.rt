@@ -23,6 +23,3 @@ mod schedule;
 pub use average::Average;
 pub use load::{Load, interval};
 pub use schedule::{Schedule, Verdict};
-
-#[cfg(test)]
-mod tests;

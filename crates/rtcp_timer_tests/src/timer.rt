@@ -1,10 +1,12 @@
+//! Averages, intervals and schedules.
+
 ghost use Rattle.std.specs.Prelude.{◌≤◌};
 
-use super::*;
 use rtcp_clock::draw;
+use rtcp_timer::{Average, Load, Schedule, Verdict, interval};
 use std::test::*;
 
-/// The example at the head of the crate.
+/// The example at the head of `rtcp_timer`.
 #[test]
 fn example(rt: HostRuntime) {
     let mut schedule = Schedule::begin(2_500_000, 0);

@@ -1,7 +1,9 @@
-use super::*;
+//! Moments and intervals.
+
+use rtcp_clock::{draw, longest, ntp_of, round_trip, rtp_units, scale_down, short_delay};
 use std::test::*;
 
-/// The example at the head of the crate.
+/// The example at the head of `rtcp_clock`.
 #[test]
 fn example(rt: HostRuntime) {
     assert_eq!(rt; ntp_of(0, 1_500_000), 0x0000_0001_8000_0000);
