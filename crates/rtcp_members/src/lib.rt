@@ -34,6 +34,3 @@ pub mod turn_laws;
 pub use list_table::ListTable;
 pub use sorted_table::SortedTable;
 pub use table::{Applied, Dropped, MemberTable, Place};
-
-#[cfg(test)]
-mod tests;

@@ -22,6 +22,3 @@ mod taken;
 
 pub use source::Source;
 pub use taken::Taken;
-
-#[cfg(test)]
-mod tests;

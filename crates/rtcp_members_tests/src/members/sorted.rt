@@ -1,12 +1,12 @@
-//! The table as a list.
+//! The table by rising SSRC.
 
 use super::*;
 use std::test::*;
 
-/// The example at the head of the crate, with the other table.
+/// The example at the head of `rtcp_members`.
 #[test]
 fn example(rt: HostRuntime) {
-    let mut table = ListTable::empty(1_024, 8_000);
+    let mut table = SortedTable::empty(1_024, 8_000);
     assert_eq!(rt; table.apply(Fact::Heard(7), 0).place, Place::Added);
     assert_eq!(rt; table.members(), 0);
     assert_eq!(rt; table.apply(Fact::Named(7), 0).place, Place::Kept);
@@ -17,50 +17,50 @@ fn example(rt: HostRuntime) {
 
 #[test]
 fn room_for_two(rt: HostRuntime) {
-    rooms::room_for_two::<ListTable>(&rt);
+    rooms::room_for_two::<SortedTable>(&rt);
 }
 
 #[test]
 fn silence(rt: HostRuntime) {
-    rooms::silence::<ListTable>(&rt);
+    rooms::silence::<SortedTable>(&rt);
 }
 
 #[test]
 fn full(rt: HostRuntime) {
-    rooms::full::<ListTable>(&rt);
+    rooms::full::<SortedTable>(&rt);
 }
 
 #[test]
 fn one_sender(rt: HostRuntime) {
-    senders::one_sender::<ListTable>(&rt);
+    senders::one_sender::<SortedTable>(&rt);
 }
 
 #[test]
 fn senders_leave(rt: HostRuntime) {
-    senders::senders_leave::<ListTable>(&rt);
+    senders::senders_leave::<SortedTable>(&rt);
 }
 
 #[test]
 fn dropped_begins_anew(rt: HostRuntime) {
-    senders::dropped_begins_anew::<ListTable>(&rt);
+    senders::dropped_begins_anew::<SortedTable>(&rt);
 }
 
 #[test]
 fn in_turn(rt: HostRuntime) {
-    turns::in_turn::<ListTable>(&rt);
+    turns::in_turn::<SortedTable>(&rt);
 }
 
 #[test]
 fn not_after_goodbye(rt: HostRuntime) {
-    turns::not_after_goodbye::<ListTable>(&rt);
+    turns::not_after_goodbye::<SortedTable>(&rt);
 }
 
 #[test]
 fn fractions(rt: HostRuntime) {
-    turns::fractions::<ListTable>(&rt);
+    turns::fractions::<SortedTable>(&rt);
 }
 
 #[test]
 fn held(rt: HostRuntime) {
-    rooms::held::<ListTable>(&rt);
+    rooms::held::<SortedTable>(&rt);
 }

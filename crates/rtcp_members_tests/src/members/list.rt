@@ -1,12 +1,12 @@
-//! The table by rising SSRC.
+//! The table as a list.
 
 use super::*;
 use std::test::*;
 
-/// The example at the head of the crate.
+/// The example at the head of `rtcp_members`, with the other table.
 #[test]
 fn example(rt: HostRuntime) {
-    let mut table = SortedTable::empty(1_024, 8_000);
+    let mut table = ListTable::empty(1_024, 8_000);
     assert_eq!(rt; table.apply(Fact::Heard(7), 0).place, Place::Added);
     assert_eq!(rt; table.members(), 0);
     assert_eq!(rt; table.apply(Fact::Named(7), 0).place, Place::Kept);
@@ -17,50 +17,50 @@ fn example(rt: HostRuntime) {
 
 #[test]
 fn room_for_two(rt: HostRuntime) {
-    rooms::room_for_two::<SortedTable>(&rt);
+    rooms::room_for_two::<ListTable>(&rt);
 }
 
 #[test]
 fn silence(rt: HostRuntime) {
-    rooms::silence::<SortedTable>(&rt);
+    rooms::silence::<ListTable>(&rt);
 }
 
 #[test]
 fn full(rt: HostRuntime) {
-    rooms::full::<SortedTable>(&rt);
+    rooms::full::<ListTable>(&rt);
 }
 
 #[test]
 fn one_sender(rt: HostRuntime) {
-    senders::one_sender::<SortedTable>(&rt);
+    senders::one_sender::<ListTable>(&rt);
 }
 
 #[test]
 fn senders_leave(rt: HostRuntime) {
-    senders::senders_leave::<SortedTable>(&rt);
+    senders::senders_leave::<ListTable>(&rt);
 }
 
 #[test]
 fn dropped_begins_anew(rt: HostRuntime) {
-    senders::dropped_begins_anew::<SortedTable>(&rt);
+    senders::dropped_begins_anew::<ListTable>(&rt);
 }
 
 #[test]
 fn in_turn(rt: HostRuntime) {
-    turns::in_turn::<SortedTable>(&rt);
+    turns::in_turn::<ListTable>(&rt);
 }
 
 #[test]
 fn not_after_goodbye(rt: HostRuntime) {
-    turns::not_after_goodbye::<SortedTable>(&rt);
+    turns::not_after_goodbye::<ListTable>(&rt);
 }
 
 #[test]
 fn fractions(rt: HostRuntime) {
-    turns::fractions::<SortedTable>(&rt);
+    turns::fractions::<ListTable>(&rt);
 }
 
 #[test]
 fn held(rt: HostRuntime) {
-    rooms::held::<SortedTable>(&rt);
+    rooms::held::<ListTable>(&rt);
 }

@@ -1,12 +1,14 @@
-use super::*;
+//! Sources.
+
 use rtcp_clock::round_trip;
+use rtcp_source::{Source, Taken};
 use rtcp_wire::{Block, Compound};
 use std::test::*;
 
 mod blocks;
 mod sequence;
 
-/// The example at the head of the crate.
+/// The example at the head of `rtcp_source`.
 #[test]
 fn example(rt: HostRuntime) {
     let mut source = Source::new();

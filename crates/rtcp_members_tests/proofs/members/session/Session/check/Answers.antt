@@ -3,7 +3,7 @@ use Rattle.std.proofs.Common.{subst, sym}
 use Rattle.rtcp_members.specs.Traces.{horizons_at}
 use Rattle.rtcp_members.specs.Tables.{HasFew}
 use Rattle.rtcp_members.proofs.LawLemmas.{packets_are_few-check}
-use Rattle.rtcp_members.proofs.tests.session.Session.check.Goals as goal
+use Rattle.rtcp_members_tests.proofs.members.session.Session.check.Goals as goal
 
 pub invariant_of-self : goal.invariant_of-self
 invariant_of-self g c =

@@ -3,7 +3,7 @@ use Rattle.std.proofs.Common.{rules, subst, sym}
 use Rattle.rtcp_members.specs.Tables.{HasFew}
 use Rattle.rtcp_members.proofs.LawLemmas.{first_is_due-answered}
 use Rattle.rtcp_members.proofs.LawLemmas.{packets_are_few-block}
-use Rattle.rtcp_members.proofs.tests.session.Session.block.Goals as goal
+use Rattle.rtcp_members_tests.proofs.members.session.Session.block.Goals as goal
 
 pub block_of-requires : goal.block_of-requires
 block_of-requires g c = first_is_due-answered c.args.after (g.T.MemberTable.content c.args.self.now.table) c.in_ok-ssrc.ssrc (search rules)

@@ -3,7 +3,7 @@ use Rattle.std.proofs.Common.{◌≤◌, ◌+◌, true, false, if◌then◌else�
 use Rattle.rtcp_wire.specs.Facts.{is_media}
 use Rattle.rtcp_members.specs.Tables.{HasFew, after_fact}
 use Rattle.rtcp_members.proofs.LawLemmas.{packets_are_few-fact, packets_are_few-more}
-use Rattle.rtcp_members.proofs.tests.session.Session.apply.Goals as goal
+use Rattle.rtcp_members_tests.proofs.members.session.Session.apply.Goals as goal
 
 pub invariant_of-self : goal.invariant_of-self
 invariant_of-self g c =

@@ -1,4 +1,6 @@
-use super::*;
+//! Tables of members: each row runs over both.
+
+use rtcp_members::{Applied, Dropped, ListTable, MemberTable, Place, SortedTable};
 use rtcp_wire::{Block, Fact};
 use std::test::*;
 
