@@ -1,5 +1,5 @@
 -- A table after the blocks of a report.
-use Rattle.std.proofs.Common.{◌≡◌, ℕ, List, [], ◌∷◌, ◌++◌, Option, Some, IsTrue, drop, length, sym, subst}
+use Rattle.std.proofs.Common.{◌≡◌, ℕ, List, [], ◌∷◌, ◌++◌, Option, Some, IsTrue, drop, length, sym}
 use Rattle.std.proofs.lemmas.List.{take-append-drop}
 use Rattle.rtcp_members.specs.Traces.{TraceStep, block_taken}
 use Rattle.rtcp_members.specs.Tables.{TableValue, StandsAt, HasFew}
@@ -13,9 +13,6 @@ use Rattle.rtcp_report.specs.Traced.{with_blocks}
 pub few_after_blocks : (packets : ℕ) (rows : List EntryRow) (table : TableValue) → HasFew packets table → HasFew packets (after_blocks rows table)
 few_after_blocks packets [] table few = few
 few_after_blocks packets (row ∷ rows) table few = few_after_blocks packets rows (after_block row.0 table) (packets_are_few-block packets table row.0 few)
-
-pub few_after : (packets : ℕ) (rows : List EntryRow) (table after : TableValue) → after ≡ after_blocks rows table → HasFew packets table → HasFew packets after
-few_after packets rows table after is few = subst (HasFew packets) (sym is) (few_after_blocks packets rows table few)
 
 -- A prefix of the pending sources is reported, one after the other.
 stands_after_rows : (rows rest : List EntryRow) (last : Option ℕ) (table : TableValue) (trace : List TraceStep) → pending last table ≡ rows ++ rest → StandsAt table trace → StandsAt (after_blocks rows table) (with_blocks rows trace)

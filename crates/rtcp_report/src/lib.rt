@@ -24,6 +24,3 @@ mod writing;
 pub use compound::{first_size, report};
 pub use goodbye::bye;
 pub use sender::{Item, Sender, SrPart};
-
-#[cfg(test)]
-mod tests;

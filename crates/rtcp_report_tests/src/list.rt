@@ -1,9 +1,10 @@
 //! Reports of the table that keeps a list.
 
-use super::*;
-use rtcp_members::ListTable;
+use crate::rows;
+use rtcp_members::{ListTable, MemberTable};
+use rtcp_report::{Sender, report};
 
-/// The example at the head of the crate.
+/// The example at the head of `rtcp_report`.
 #[test]
 fn example(rt: HostRuntime) {
     let mut table = ListTable::empty(1_024, 8_000);

@@ -1,6 +1,6 @@
 //! The sizes of the first compound and of the last.
 
-use super::*;
+use rtcp_report::{bye, first_size};
 
 #[test]
 fn of_shortest_and_longest_names(rt: HostRuntime) {

@@ -2,8 +2,10 @@
 
 ghost use Rattle.std.specs.Prelude.{◌≡◌, length};
 
-use super::session::Session;
-use super::*;
+use crate::session::Session;
+use arrayvec::ArrayVec;
+use rtcp_members::MemberTable;
+use rtcp_report::{Item, Sender, SrPart};
 use std::process::Abort;
 
 const SENT: SrPart = SrPart {

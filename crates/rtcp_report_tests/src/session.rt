@@ -6,7 +6,9 @@ ghost use Rattle.rtcp_wire.specs.Writing.{IsWritableItem};
 ghost use Rattle.rtcp_members.specs.Tables.{HasFew};
 ghost use Rattle.rtcp_report.specs.Views.{extra_of};
 
-use super::*;
+use arrayvec::ArrayVec;
+use rtcp_members::MemberTable;
+use rtcp_report::{Item, Sender, report};
 use rtcp_wire::{Fact, MAX_COMPOUND};
 use std::process::Abort;
 

@@ -1,6 +1,6 @@
 //! Reports of the table that keeps its entries sorted.
 
-use super::*;
+use crate::rows;
 use rtcp_members::SortedTable;
 
 #[test]

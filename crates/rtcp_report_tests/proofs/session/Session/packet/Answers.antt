@@ -3,7 +3,7 @@ use Rattle.std.proofs.Common.{◌+◌, subst, sym}
 use Rattle.rtcp_wire.specs.declared.fact.Fact.TheVariants.{Media}
 use Rattle.rtcp_members.specs.Tables.{HasFew}
 use Rattle.rtcp_members.proofs.LawLemmas.{packets_are_few-fact}
-use Rattle.rtcp_report.proofs.tests.session.Session.packet.Goals as goal
+use Rattle.rtcp_report_tests.proofs.session.Session.packet.Goals as goal
 
 pub invariant_of-self : goal.invariant_of-self
 invariant_of-self g c =
