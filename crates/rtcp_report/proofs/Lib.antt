@@ -5,5 +5,4 @@ mod Prefixes
 mod WholeReports
 mod Following
 mod Fitting
-mod Rows
 pub mod LawLemmas
