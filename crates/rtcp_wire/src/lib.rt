@@ -63,6 +63,3 @@ pub use rtp::{RtpFault, RtpHead};
 pub use sdes::{Chunk, Chunks, Items, SourceDescription};
 pub use sr::SenderReport;
 pub use writer::{ChunkRef, Full, ItemRef, MAX_COMPOUND, PacketRef, write_compound};
-
-#[cfg(test)]
-mod tests;

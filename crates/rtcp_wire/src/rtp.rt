@@ -7,6 +7,3 @@ mod head;
 
 pub use fault::RtpFault;
 pub use head::RtpHead;
-
-#[cfg(test)]
-mod tests;

@@ -40,7 +40,7 @@ const CALL: [u8; 108] = [
 fn collected(alloc: Global, compound: &Compound<'_>) -> Result<Vec<Fact>, AllocError>
     ensures { IfOk result (λ found. found.items ≡ facts_of compound.now) }
 {
-    crate::facts(compound).collect(alloc)
+    rtcp_wire::facts(compound).collect(alloc)
 }
 
 /// The facts of a compound, one by one.
@@ -48,7 +48,7 @@ fn visited(alloc: Global, compound: &Compound<'_>) -> Result<Vec<Fact>, AllocErr
     ensures { IfOk result (λ found. found.items ≡ facts_of compound.now) }
 {
     let mut found = Vec::new(alloc);
-    for fact in crate::facts(compound) {
+    for fact in rtcp_wire::facts(compound) {
         found.push(fact)?;
     }
     Ok(found)
@@ -59,7 +59,7 @@ fn fact_count(compound: &Compound<'_>) -> usize
     requires { length (facts_of compound.now) < 2 ^ 64 }
     ensures { result ≡ length (facts_of compound.now) }
 {
-    crate::facts(compound).count()
+    rtcp_wire::facts(compound).count()
 }
 
 #[test]
@@ -91,7 +91,7 @@ fn each_type(rt: HostRuntime) -> Result<(), Fail> {
 fn report_alone(rt: HostRuntime) -> Result<(), Fail> {
     let compound = Compound::read(&[0x80, 0xc9, 0, 1, 0, 0, 0, 7])?;
     let mut count = 0u8;
-    for fact in crate::facts(&compound) {
+    for fact in rtcp_wire::facts(&compound) {
         assert_eq!(rt; fact, Fact::Heard(7));
         count = count.saturating_add(1);
     }
@@ -115,7 +115,7 @@ fn empty_packets(rt: HostRuntime) -> Result<(), Fail> {
         0x80, 0xca, 0, 0, // a source description of no chunks
     ];
     let compound = Compound::read(&octets)?;
-    let mut left = crate::facts(&compound);
+    let mut left = rtcp_wire::facts(&compound);
     assert_eq!(rt;
         [left.next(), left.next(), left.next(), left.next()],
         [Some(Fact::Heard(7)), Some(Fact::Heard(8)), None, None]

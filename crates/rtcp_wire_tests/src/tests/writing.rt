@@ -107,7 +107,7 @@ fn full(rt: HostRuntime) -> Result<(), Fail> {
     Ok(())
 }
 
-/// A report and the CNAME `a` are written as the example at the head of the crate, and are read back.
+/// A report and the CNAME `a` are written as the named report, and are read back.
 #[test]
 fn named(rt: HostRuntime) -> Result<(), Fail> {
     let items = [ItemRef {

@@ -1,4 +1,4 @@
-use super::*;
+use rtcp_wire::*;
 use std::alloc::{AllocError, Global};
 use std::process::Abort;
 use std::test::*;
@@ -8,6 +8,7 @@ mod body_faults;
 mod changes;
 mod damage;
 mod facts;
+mod rtp;
 mod samples;
 mod types;
 mod writing;
@@ -43,7 +44,7 @@ fn second_packet<'a>(rt: &impl Abort, datagram: &'a [u8]) -> PacketView<'a> {
     }
 }
 
-/// The example at the head of the crate.
+/// The example at the head of rtcp_wire.
 #[test]
 fn example(rt: HostRuntime) {
     let datagram = [

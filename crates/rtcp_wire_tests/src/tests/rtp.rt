@@ -1,5 +1,4 @@
 use super::*;
-use std::test::*;
 
 /// A packet of no payload, with sequence number 1, timestamp 2 and source 3, whose payload type and marker
 /// are this octet.
