@@ -1,6 +1,6 @@
 -- Lemmas on the texts of endpoints.
 use Rattle.std.proofs.Common.{◌≡◌, ◌≢◌, ℕ, zero, suc, ◌<◌, ◌≤◌, ◌^◌, ◌==◌, ◌&&◌, Bool, true, false, nat_le, nat_lt, cond, List, [], ◌∷◌, ◌++◌, length, slice_index, Option, Some, None, append_assoc, codes, decimal, get_or, lit≤, option_and_then, refl, subst, sym, ap, ◌∙◌, arith}
-use Rattle.std.specs.Char.{is_digit}
+use Rattle.std.specs.Char.{is_digit, digit_value}
 use Rattle.std.specs.Int.{IsInRange}
 use Rattle.std.specs.List.{after_first, before_first, list_all, position_or_len}
 use Rattle.std.specs.Net.Text.{dotted_text}
@@ -13,8 +13,7 @@ use Rattle.std.proofs.lemmas.List.Sums.{passes_at_first, position_or_len_is, spl
 use Rattle.std.proofs.lemmas.Option.{cond_some, none-some, option_and_then_some, same_Some}
 use Rattle.std.proofs.lemmas.Str.Parse.{digit_at, numerals_by_value, tells_digits}
 use Rattle.rtcp_run.specs.Endpoints.{Endpoint, IsEndpointText, endpoint_in, split_at}
-use Rattle.rtcp_run.specs.Numerals.{decimal_in, is_decimal, plain_decimal_in}
-use Rattle.rtcp_run.proofs.NumeralLemmas.{AllDigits-from_test}
+use Rattle.rtcp_text.specs.Numerals.{decimal_in, is_decimal, plain_decimal_in}
 
 -- ---- Decimals without leading zeros
 
@@ -25,6 +24,12 @@ none_else false o n e = (refl, e)
 -- A text without a leading zero that begins with a zero is that zero alone.
 alone : (text : List ℕ) → (nat_lt 1 (length text) && slice_index text 0 == 48) ≡ false → 0 < length text → slice_index text 0 ≡ 48 → length text ≡ 1
 alone text plain some begins = grind (arith, nat_tests)
+
+tested_digits : (text : List ℕ) → list_all (λ digit. is_digit digit 10) text ≡ true → AllDigits 10 text
+tested_digits [] h = tt
+tested_digits (digit ∷ digits) h =
+    let parts = and_parts (is_digit digit 10) (list_all (λ d. is_digit d 10) digits) h in
+    (ltb-true (digit_value digit) 10 parts.0, tested_digits digits parts.1)
 
 pub plain_decimal_in-read : (bits : ℕ) (text : List ℕ) (n : ℕ) → 2 ^ bits ≤ 2 ^ 64 → plain_decimal_in bits text ≡ Some n
     → (n < 2 ^ bits) × (text ≡ decimal n)
@@ -37,7 +42,7 @@ plain_decimal_in-read bits text n wide e =
     let sizes = and_parts (nat_le 1 (length text)) (nat_le (length text) 20) parts.0 in
     let some : 1 ≤ length text = leb-true 1 (length text) sizes.0 in
     let small : value < 2 ^ bits = ltb-true value (2 ^ bits) whole.1 in
-    let spelled : decimal value ≡ text = decimal-digits_value (numerals_by_value _ tells_digits) text (AllDigits-from_test text parts.1) (omega arith) (alone text plain.0 (omega arith)) (omega arith) in
+    let spelled : decimal value ≡ text = decimal-digits_value (numerals_by_value _ tells_digits) text (tested_digits text parts.1) (omega arith) (alone text plain.0 (omega arith)) (omega arith) in
     (omega (arith, read.1), sym spelled ∙ ap decimal read.1)
 
 no_leading_zero : (n : ℕ) → n < 2 ^ 64 → (nat_lt 1 (length (decimal n)) && slice_index (decimal n) 0 == 48) ≡ false

@@ -1,21 +1,3 @@
-mod AnswerRows
-mod CheckLemmas
-mod ClauseLemmas
-mod CountedLemmas
-mod DigitTable
 mod EndpointLemmas
-mod EventRows
-mod FieldLemmas
-mod Joined
-pub mod LawLemmas
-mod LinesLemmas
-mod NumeralLemmas
 mod OptionLemmas
-mod ProgressLemmas
-mod ReplayLemmas
-mod RunLemmas
-mod ServeLemmas
-mod SessionLemmas
 mod StatusLemmas
-mod TextLemmas
-mod TotalLemmas

@@ -2,7 +2,7 @@
 use Rattle.std.proofs.Common.{◌≡◌, ℕ, List, [], ◌∷◌, Option, Some, Ok, ap}
 use Rattle.std.specs.Option.{ok_or}
 use Rattle.rtcp_run.specs.Options.{item_in}
-use Rattle.rtcp_run.specs.Results.{◌>>=◌}
+use Rattle.rtcp_text.specs.Results.{◌>>=◌}
 
 -- The item of an option that is given.
 pub item_in-given : (kind : ℕ) (name text octets : List ℕ) (read : List ℕ → Option (List ℕ)) → read text ≡ Some octets

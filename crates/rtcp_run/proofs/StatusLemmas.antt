@@ -1,14 +1,15 @@
 -- What a status says of the outcome.
-use Rattle.std.proofs.Common.{◌≡◌, ℕ, ◌⊎◌, inl, inr, List, Option, Result, Ok, Err, OnOk, refl, ap, subst}
-use Rattle.rtcp_run.specs.declared.fault.LineFault.{LineFault}
-use Rattle.rtcp_run.specs.declared.fault.TextFault.{TextFault}
-use Rattle.rtcp_run.specs.declared.fault.TextFault.TheVariants.{Text, Read, Write, Memory}
-use Rattle.rtcp_run.specs.declared.fault.ReplayFault.{ReplayFault}
-use Rattle.rtcp_run.specs.declared.fault.ReplayFault.TheVariants.{Config, Run}
+use Rattle.std.proofs.Common.{◌≡◌, ℕ, ◌⊎◌, inl, inr, List, Option, Result, Ok, Err, Some, None, OnOk, refl, ap, subst}
+use Rattle.std.specs.Io.KnownBytes.{Keeps}
+use Rattle.rtcp_text.specs.declared.fault.LineFault.{LineFault}
+use Rattle.rtcp_text.specs.declared.fault.TextFault.{TextFault}
+use Rattle.rtcp_text.specs.declared.fault.TextFault.TheVariants.{Text, Read, Write, Memory}
+use Rattle.rtcp_text.specs.declared.fault.ReplayFault.{ReplayFault}
+use Rattle.rtcp_text.specs.declared.fault.ReplayFault.TheVariants.{Config, Run}
 use Rattle.rtcp_engine.specs.declared.config.ConfigError.{ConfigError}
-use Rattle.rtcp_run.specs.declared.counted.Counted.{Counted}
-use Rattle.rtcp_run.specs.Lines.{Writes, Wrote}
-use Rattle.rtcp_run.specs.Counted.{inner_of}
+use Rattle.rtcp_text.specs.declared.counted.Counted.{Counted}
+use Rattle.rtcp_text.specs.Lines.{Writes, Wrote}
+use Rattle.rtcp_text.specs.Counted.{inner_of}
 use Rattle.rtcp_run.specs.Status.{text_status}
 
 pub well_at_zero : {A : Type 0} (P : Type 0) (r : Result A ReplayFault) (status : ℕ) → status ≡ text_status r → status ≡ 0 → OnOk r P → P
@@ -40,3 +41,13 @@ pub Writes-inner : {R W : Type 0} (remaining : R → Option (List ℕ)) (content
 Writes-inner remaining contents reader writer writer' r w P of_reader of_writer wrote =
     subst (λ x. Writes (remaining r) (contents x) (contents (inner_of writer')) P) of_writer
     (subst (λ x. Writes (remaining x) (contents (inner_of writer)) (contents (inner_of writer')) P) of_reader wrote)
+
+-- What a writer keeps, it still holds.
+kept_of : (holds last : Option (List ℕ)) (octets : List ℕ) → Keeps holds last → holds ≡ Some octets → last ≡ Some octets
+kept_of None last octets keeps e = absurd (cc e)
+kept_of (Some x) None octets keeps e = absurd keeps
+kept_of (Some x) (Some y) octets keeps e = cc (keeps, e)
+
+pub Writes-kept : (remaining held holds last : Option (List ℕ)) (P : List ℕ → List ℕ → Type 0) → Keeps holds last → Writes remaining held holds P → Writes remaining held last P
+Writes-kept remaining held holds last P keeps writes = λ input before known written.
+    let found = writes input before known written in (found.0, kept_of holds last _ keeps found.1, found.2)

@@ -1,9 +1,9 @@
 -- The text of the end of a session, as `rtcp listen` shows it.
 use Rattle.std.specs.Prelude.{ℕ, Bool, true, false, List, [], ◌∷◌, ◌++◌, codes}
 use Rattle.std.specs.Fmt.{decimal}
-use Rattle.rtcp_run.specs.declared.serving.Cause.{Cause}
-use Rattle.rtcp_run.specs.declared.serving.Cause.TheVariants.{Done, LinkDown, Limit}
-use Rattle.rtcp_run.specs.declared.serving.End.{End}
+use Rattle.rtcp_serve.specs.declared.serving.Cause.{Cause}
+use Rattle.rtcp_serve.specs.declared.serving.Cause.TheVariants.{Done, LinkDown, Limit}
+use Rattle.rtcp_serve.specs.declared.serving.End.{End}
 
 abbrev pub cause_text : Cause → List ℕ
 cause_text Done = codes "Done"

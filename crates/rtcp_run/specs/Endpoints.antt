@@ -7,7 +7,7 @@ use Rattle.std.specs.Net.Text.{dotted_text}
 use Rattle.std.specs.declared.net.socket_addr.SocketAddr.{SocketAddr}
 use Rattle.std.specs.declared.net.socket_addr.SocketAddr.TheVariants.{V4, V6}
 use Rattle.std.specs.declared.net.socket_addr.SocketAddrV4.{SocketAddrV4}
-use Rattle.rtcp_run.specs.Numerals.{plain_decimal_in}
+use Rattle.rtcp_text.specs.Numerals.{plain_decimal_in}
 
 infixl 10 ◌>>=◌
 abbrev pub ◌>>=◌ : {A B : Type 0} → Option A → (A → Option B) → Option B

@@ -9,9 +9,9 @@ use Rattle.rtcp_run.specs.declared.orders.Order.TheVariants.{Text, Listen}
 use Rattle.rtcp_run.specs.declared.orders.OrderFault.{OrderFault}
 use Rattle.rtcp_run.specs.declared.orders.OrderFault.TheVariants.{Clap, Option as BadOption, Memory}
 use Rattle.rtcp_run.specs.Endpoints.{Endpoint, endpoint_in, endpoint_of}
-use Rattle.rtcp_run.specs.Numerals.{decimal_in}
+use Rattle.rtcp_text.specs.Numerals.{decimal_in}
 use Rattle.rtcp_run.specs.Options.{OptionTexts, setup_in, text_found}
-use Rattle.rtcp_run.specs.Results.{◌>>=◌}
+use Rattle.rtcp_text.specs.Results.{◌>>=◌}
 
 -- the texts of the options after those of the participant, in the order in which they are looked at
 pub record LinkTexts : Type 0 where

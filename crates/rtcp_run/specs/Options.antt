@@ -13,8 +13,8 @@ use Rattle.rtcp_run.specs.declared.orders.TextOrder.{TextOrder}
 use Rattle.rtcp_run.specs.declared.orders.TextOrder.TheVariants.{Check, Replay}
 use Rattle.rtcp_run.specs.declared.orders.OrderFault.{OrderFault}
 use Rattle.rtcp_run.specs.declared.orders.OrderFault.TheVariants.{Clap, Option as BadOption, Memory}
-use Rattle.rtcp_run.specs.Numerals.{decimal_in, hex_in}
-use Rattle.rtcp_run.specs.Results.{◌>>=◌}
+use Rattle.rtcp_text.specs.Numerals.{decimal_in, hex_in}
+use Rattle.rtcp_text.specs.Results.{◌>>=◌}
 
 -- ---- Texts
 

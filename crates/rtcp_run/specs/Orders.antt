@@ -4,11 +4,11 @@ use Rattle.rtcp_engine.specs.declared.config.ConfigError.{ConfigError}
 use Rattle.rtcp_engine.specs.Refused.{error_in}
 use Rattle.rtcp_engine.specs.Taken.{begun}
 use Rattle.rtcp_engine.specs.Views.{setup_of}
-use Rattle.rtcp_run.specs.declared.fault.LineFault.{LineFault}
+use Rattle.rtcp_text.specs.declared.fault.LineFault.{LineFault}
 use Rattle.rtcp_run.specs.declared.orders.TextOrder.{TextOrder}
 use Rattle.rtcp_run.specs.declared.orders.TextOrder.TheVariants.{Check, Replay}
-use Rattle.rtcp_run.specs.Check.{IsTextOf}
-use Rattle.rtcp_run.specs.Replay.{IsSessionOf}
+use Rattle.rtcp_text.specs.Check.{IsTextOf}
+use Rattle.rtcp_text.specs.Replay.{IsSessionOf}
 
 -- the whole text that an order gives for an input, with its end
 abbrev pub IsTextOfOrder : TextOrder → Option (ℕ × LineFault) → List ℕ → List ℕ → Type 0

@@ -1,13 +1,13 @@
 -- The statuses that the program ends with.
 use Rattle.std.specs.Prelude.{ℕ, Result, Ok, Err}
-use Rattle.rtcp_run.specs.declared.serving.Cause.{Cause}
-use Rattle.rtcp_run.specs.declared.serving.Cause.TheVariants.{Done, LinkDown, Limit}
-use Rattle.rtcp_run.specs.declared.serving.End.{End}
+use Rattle.rtcp_serve.specs.declared.serving.Cause.{Cause}
+use Rattle.rtcp_serve.specs.declared.serving.Cause.TheVariants.{Done, LinkDown, Limit}
+use Rattle.rtcp_serve.specs.declared.serving.End.{End}
 use Rattle.rtcp_run.specs.declared.fault.ListenFault.{ListenFault}
 use Rattle.rtcp_run.specs.declared.fault.ListenFault.TheVariants.{Config as BadConfig, Link, Write as Unwritten, Memory as Refused}
-use Rattle.rtcp_run.specs.declared.fault.ReplayFault.{ReplayFault}
-use Rattle.rtcp_run.specs.declared.fault.ReplayFault.TheVariants.{Config, Run}
-use Rattle.rtcp_run.specs.declared.fault.TextFault.TheVariants.{Text, Read, Write, Memory}
+use Rattle.rtcp_text.specs.declared.fault.ReplayFault.{ReplayFault}
+use Rattle.rtcp_text.specs.declared.fault.ReplayFault.TheVariants.{Config, Run}
+use Rattle.rtcp_text.specs.declared.fault.TextFault.TheVariants.{Text, Read, Write, Memory}
 use Rattle.rtcp_run.specs.declared.orders.OrderFault.{OrderFault}
 use Rattle.rtcp_run.specs.declared.orders.OrderFault.TheVariants.{Clap, Option as BadOption, Memory as NoMemory}
 

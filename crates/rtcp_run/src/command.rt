@@ -2,17 +2,16 @@
 
 ghost use Rattle.std.specs.Prelude.{◌≡◌, ◌≢◌, ◌≤◌, ◌⊎◌, ◌↔◌, ℕ, Some, None, OnOk};
 ghost use Rattle.rtcp_engine.specs.declared.config.ConfigError.{ConfigError as Refused};
-ghost use Rattle.rtcp_run.specs.Counted.{failures_of, inner_of};
-ghost use Rattle.rtcp_run.specs.Lines.{Writes, Wrote};
+ghost use Rattle.rtcp_text.specs.Counted.{failures_of, inner_of};
+ghost use Rattle.rtcp_text.specs.Lines.{Writes, Wrote};
 ghost use Rattle.rtcp_run.specs.Orders.{IsTextOfOrder, RefusesConfig};
-ghost use Rattle.rtcp_run.specs.declared.fault.LineFault.{LineFault as Fault};
+ghost use Rattle.rtcp_text.specs.declared.fault.LineFault.{LineFault as Fault};
 ghost use Rattle.rtcp_run.specs.Status.{text_status};
 
-use crate::check::check;
-use crate::counted::Counted;
-use crate::fault::{ReplayFault, TextFault};
 use crate::orders::TextOrder;
-use crate::replay::replay;
+use rtcp_text::check::check;
+use rtcp_text::replay::replay;
+use rtcp_text::{Counted, ReplayFault, TextFault};
 use std::alloc::Global;
 use std::io::{Read, Write};
 

@@ -2,12 +2,12 @@
 
 ghost use Rattle.std.specs.Prelude.{◌≡◌, ◌<◌, option_map};
 ghost use Rattle.rtcp_run.specs.Endpoints.{endpoint_in, endpoint_of, split_at};
-ghost use Rattle.rtcp_run.specs.Numerals.{plain_decimal_in};
+ghost use Rattle.rtcp_text.specs.Numerals.{plain_decimal_in};
 
 #[cfg(test)]
 mod tests;
 
-use crate::numerals::read_plain_decimal;
+use rtcp_text::numerals::read_plain_decimal;
 use std::net::{Ipv4Addr, SocketAddrV4};
 
 /// The endpoint that a text says, as `127.0.0.1:5005`: decimals without leading zeros.

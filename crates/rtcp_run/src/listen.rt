@@ -7,7 +7,7 @@ ghost use Rattle.rtcp_run.specs.Status.{listen_status as status_of};
 mod tests;
 
 use crate::fault::ListenFault;
-use crate::serving::{Cause, End};
+use rtcp_serve::{Cause, End};
 use std::io::Write;
 
 /// Writes a line to `faults` where a session failed, and returns the status to end with. A failed write is

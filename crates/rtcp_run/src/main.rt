@@ -2,40 +2,27 @@
 //! a session over UDP.
 //!
 //! Only this file touches the process: its command line and its standard streams. It lends its runtime to
-//! `udp_link`, for a clock and sockets. All else works over any reader, writer and link.
+//! `udp_link`, for a clock and sockets. All else works over any reader, writer and link: the texts are those of
+//! `rtcp_text`, and the sessions those of `rtcp_serve`, whose calls are passed on here.
 #![tactic(auto)]
 
 ghost use Rattle.std.specs.Prelude.{IfOk, ◌≤◌};
 ghost use Rattle.rtcp_run.specs.Listening.{HasTurns};
 
-mod answer;
-mod answerer;
-mod blocks;
-mod check;
 mod command;
-mod counted;
-mod digit_pairs;
 mod endpoint;
-mod event_line;
+mod ends;
 mod fault;
 mod laws;
-mod lines;
-mod link;
 mod listen;
-mod numerals;
 mod options;
 mod order;
 mod orders;
-mod player;
-mod replay;
-mod serve_laws;
-mod serving;
 #[cfg(test)]
 mod tests;
-mod text;
 mod udp_link;
-mod writing;
 
+use ends::end_line;
 use fault::ListenFault;
 use order::refuse;
 use orders::{Order, OrderFault, TextOrder};
@@ -43,12 +30,12 @@ use rand_core::{Rng, SeedableRng};
 use rand_pcg::Pcg32;
 use rtcp_engine::{Config, Participant};
 use rtcp_members::SortedTable;
-use serving::{End, serve};
+pub use rtcp_serve::{Cause, End, Link, LinkFault, Port, Received, serve, serve_laws};
+pub use rtcp_text::{Counted, LineFault, ReplayFault, TextFault, check, replay};
 use std::env;
 use std::io::{BufWriter, Write};
 use std::net::SocketAddrV4;
 use std::process::ExitCode;
-use text::end_line;
 use udp_link::UdpLink;
 
 fn main(rt: HostRuntime) -> ExitCode {

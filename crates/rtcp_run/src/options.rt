@@ -7,10 +7,10 @@ ghost use Rattle.rtcp_run.specs.Listening.{HasTurns, IsListening, link_texts_of,
 ghost use Rattle.rtcp_run.specs.Options.{bandwidth_in, extras_in, hex_text_in, item_in, replay_in, setup_in, text_given, text_in, texts_of, with_extras};
 
 use crate::endpoint::read_endpoint;
-use crate::numerals::{read_decimal, read_long, read_short_decimal, read_word};
 use crate::orders::Order;
 use arrayvec::ArrayVec;
 use rtcp_engine::{Config, Item, rtcp_bw_of, shares_of};
+use rtcp_text::numerals::{read_decimal, read_long, read_short_decimal, read_word};
 
 /// The most turns of a session.
 const MAX_TURNS: u32 = 1_000_000;

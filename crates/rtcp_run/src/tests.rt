@@ -1,19 +1,13 @@
-//! Runs over text, and command lines.
+//! Command lines, and runs over text from the order to the status.
 
 use crate::order::{order, refuse};
 use std::alloc::Global;
 use std::process::Abort;
 use std::test::Fail;
 
-mod answerers;
 mod commands;
-mod conversation;
-mod ends;
-mod flushes;
-mod leaves;
-mod replay_ends;
+mod failing;
 mod replays;
-mod rows;
 
 /// Asserts that octets are as they should be. A function that compares slices more than once takes several times
 /// as long to prove as one that calls this.

@@ -2,12 +2,15 @@
 
 ghost use Rattle.std.specs.Prelude.{◌≡◌, IfOk, IfSome, None};
 ghost use Rattle.rtcp_run.specs.Endpoints.{sender_number};
-ghost use Rattle.rtcp_run.specs.Links.{LinkValue, IsWithin};
+ghost use Rattle.rtcp_serve.specs.Links.{LinkValue, IsWithin};
+
+#[cfg(test)]
+mod tests;
 
 use crate::fault::ListenFault;
-use crate::link::{Link, LinkFault, Port, Received};
 use mio::net::UdpSocket;
 use mio::{Events, Interest, Poll, Token};
+use rtcp_serve::{Link, LinkFault, Port, Received};
 use std::alloc::Global;
 use std::io::{self, ErrorKind};
 use std::net::{Net, SocketAddr, SocketAddrV4};

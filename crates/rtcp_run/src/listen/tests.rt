@@ -1,11 +1,11 @@
 //! Statuses, fault lines and the line of the end.
 
 use super::conclude;
+use crate::ends::end_line;
 use crate::fault::ListenFault;
-use crate::serving::{Cause, End};
 use crate::tests::same;
-use crate::text::end_line;
 use rtcp_engine::ConfigError;
+use rtcp_serve::{Cause, End};
 use std::alloc::AllocError;
 
 /// An end with other numbers in each field.

@@ -1,6 +1,6 @@
 //! Command lines, fault lines and statuses.
 
-use super::ends::{Narrow, Pieces};
+use super::failing::{FailingReader, Full};
 use super::{refused, same};
 use crate::command::command;
 use crate::order::{order, refuse, unreadable};
@@ -22,16 +22,6 @@ impl Write for NeverFlushed {
 
     fn flush(&mut self) -> io::Result<()> {
         Err(io::Error::from(ErrorKind::Other))
-    }
-}
-
-/// A writer with no room at all.
-fn full(alloc: Global) -> Narrow {
-    Narrow {
-        taken: Vec::new(alloc),
-        piece: 1,
-        calls: 0,
-        fails: true,
     }
 }
 
@@ -57,13 +47,12 @@ fn ends(rt: HostRuntime) {
     ends_with(&rt, alloc, well, Vec::new(alloc), 0, "");
     let faulty = b"\n80\n0".as_slice();
     ends_with(&rt, alloc, faulty, Vec::new(alloc), 2, "line 3: X4 Hex\n");
-    let broken = Pieces {
+    let broken = FailingReader {
         rest: b"",
-        piece: 1,
         calls: 0,
     };
     ends_with(&rt, alloc, broken, Vec::new(alloc), 1, "read\n");
-    ends_with(&rt, alloc, b"\n".as_slice(), full(alloc), 1, "write\n");
+    ends_with(&rt, alloc, b"\n".as_slice(), Full, 1, "write\n");
     ends_with(&rt, alloc, b"\n".as_slice(), NeverFlushed, 1, "write\n");
 }
 
@@ -108,7 +97,7 @@ fn limits(rt: HostRuntime) -> Result<(), Fail> {
 #[test]
 fn unwritten_fault(rt: HostRuntime) {
     let alloc = rt.alloc();
-    let mut faults = full(alloc);
+    let mut faults = Full;
     let reader = b"0".as_slice();
     let status = command(
         alloc,

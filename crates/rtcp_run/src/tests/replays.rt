@@ -1,6 +1,6 @@
 //! Sessions, from the order to the status.
 
-use super::ends::Pieces;
+use super::failing::FailingReader;
 use super::same;
 use crate::command::command;
 use crate::order::order;
@@ -14,7 +14,7 @@ type Ended = (u8, Vec<u8>, Vec<u8>);
 
 /// How a command line ends over these lines, with a reader that gives all of them at once and fails at the
 /// call after `calls` others.
-pub(super) fn ended<'a>(
+fn ended<'a>(
     alloc: Global,
     words: &'a [&'a str],
     rest: &'a [u8],
@@ -23,11 +23,7 @@ pub(super) fn ended<'a>(
     let Ok(Order::Text(asked)) = order(alloc, words) else {
         return Err("the options are refused")?;
     };
-    let reader = Pieces {
-        rest,
-        piece: rest.len(),
-        calls,
-    };
+    let reader = FailingReader { rest, calls };
     let mut written = Vec::new(alloc);
     let mut faults = Vec::new(alloc);
     let status = command(alloc, asked, reader, &mut written, &mut faults);
@@ -35,7 +31,7 @@ pub(super) fn ended<'a>(
 }
 
 /// It ends with this status, this text and this fault line.
-pub(super) fn ends_with(rt: &impl Abort, ended: Ended, status: u8, text: &str, fault: &str) {
+fn ends_with(rt: &impl Abort, ended: Ended, status: u8, text: &str, fault: &str) {
     let (found, written, faults) = ended;
     assert_eq!(rt; found, status, "{fault}");
     same(rt, &written, text.as_bytes(), fault);
@@ -43,7 +39,7 @@ pub(super) fn ends_with(rt: &impl Abort, ended: Ended, status: u8, text: &str, f
 }
 
 /// A participant with the least options.
-pub(super) const PLAIN: [&str; 6] = ["rtcp", "replay", "--ssrc", "000000aa", "--cname", "a"];
+const PLAIN: [&str; 6] = ["rtcp", "replay", "--ssrc", "000000aa", "--cname", "a"];
 
 /// The greatest word at the start.
 const LATE: [&str; 8] = [

@@ -1,8 +1,8 @@
 -- The order says whose text is written.
 use Rattle.std.proofs.Common.{Some, None, OnOk, sym, subst}
 use Rattle.rtcp_run.specs.Orders.{IsTextOfOrder, RefusesConfig}
-use Rattle.rtcp_run.specs.Lines.{Wrote}
-use Rattle.rtcp_run.specs.declared.fault.TextFault.TheVariants.{Text}
+use Rattle.rtcp_text.specs.Lines.{Wrote}
+use Rattle.rtcp_text.specs.declared.fault.TextFault.TheVariants.{Text}
 use Rattle.rtcp_run.proofs.StatusLemmas.{run_fault}
 use Rattle.rtcp_run.proofs.command.answer.Goals as goal
 

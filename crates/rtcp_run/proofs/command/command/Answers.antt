@@ -1,8 +1,8 @@
 -- The status is that of the outcome, and the outcome says what is written.
 use Rattle.std.proofs.Common.{Some, None, inl, inr}
 use Rattle.rtcp_run.specs.Orders.{IsTextOfOrder, RefusesConfig}
-use Rattle.rtcp_run.specs.Lines.{Wrote}
-use Rattle.rtcp_run.specs.Counted.{inner_of}
+use Rattle.rtcp_text.specs.Lines.{Wrote}
+use Rattle.rtcp_text.specs.Counted.{inner_of}
 use Rattle.rtcp_run.proofs.StatusLemmas.{well_at_zero, refused_at_two, Writes-inner}
 use Rattle.rtcp_run.proofs.command.command.Goals as goal
 

@@ -2,7 +2,7 @@
 use Rattle.std.proofs.Common.{Some, None}
 use Rattle.std.proofs.lemmas.Result.{on_ok_weaker}
 use Rattle.rtcp_run.specs.Orders.{IsTextOfOrder}
-use Rattle.rtcp_run.proofs.ClauseLemmas.{Writes-kept}
+use Rattle.rtcp_run.proofs.StatusLemmas.{Writes-kept}
 use Rattle.rtcp_run.proofs.command.run.Goals as goal
 
 pub returns-in-Ok-clause-whole : goal.returns-in-Ok-clause-whole

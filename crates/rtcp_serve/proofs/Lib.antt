@@ -1,0 +1,2 @@
+mod ServeLemmas
+mod TotalLemmas

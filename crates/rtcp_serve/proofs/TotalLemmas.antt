@@ -1,0 +1,307 @@
+-- What a session comes to, call by call: the compounds, and the totals.
+use Rattle.std.proofs.Common.{◌≡◌, ℕ, zero, suc, ◌+◌, Bool, true, false, List, [], ◌∷◌, ◌++◌, Option, Some, None, Ok, Err, if◌then◌else◌, refl, sym, ap, ◌∙◌, subst, arith, append_assoc}
+use Rattle.rand_core.specs.Stream.{Stream, next_u32}
+use Rattle.rtcp_engine.specs.Acts.{Act, left as asked_to_leave}
+use Rattle.rtcp_engine.specs.Histories.{History}
+use Rattle.rtcp_engine.specs.Lives.{life_at, next_in_life}
+use Rattle.rtcp_engine.specs.Steps.{OutValue, AnswerValue}
+use Rattle.rtcp_engine.specs.Answers.{answer_of, followed_by}
+use Rattle.rtcp_serve.specs.declared.link.Port.{Port}
+use Rattle.rtcp_serve.specs.declared.link.Port.TheVariants.{Rtcp as RtcpPort, Rtp as RtpPort}
+use Rattle.rtcp_serve.specs.declared.serving.Cause.TheVariants.{Done, LinkDown, Limit}
+use Rattle.rtcp_serve.specs.declared.serving.tally.Tally.{Tally}
+use Rattle.rtcp_serve.specs.Sessions.{Comes}
+use Rattle.rtcp_serve.specs.Tallies.{is_limit, with_arrival, with_datagram, with_refused}
+use Rattle.rtcp_serve.specs.Links.{Call, LinkValue, Heard, how_many, is_datagram, is_failed_receive, is_failed_send, is_sent, datagram, silence, failure, clock_read, port_heard, compound_sent}
+use Rattle.rtcp_serve.specs.Serving.{Reader, Stage, resting, beginning, hearing, deciding, sending, ended, Standing, at_stage, with_turns, with_tally, with_words, stage_to_send, stage_after_step, asked, arrived, after_port, heard_at, turn_by, rested, gone_on, left_with, going, ReadsClock, Hears, Sends, Fits, after_clock, after_sending, after_call, after_calls, AllFit, at_the_start}
+use Rattle.rtcp_serve.specs.Handing.{octets_of, handed_by, history_after, handed_out, given, given_in}
+
+-- ---- Compounds
+
+-- the compound that is to be sent next
+abbrev pub pending : Stage → List (List ℕ)
+pending resting = []
+pending beginning = []
+pending (hearing port) = []
+pending deciding = []
+-- after those of the next stage, if it has any
+pending (sending out changed next) = pending next ++ out.octets ∷ []
+pending (ended cause) = []
+
+-- The compounds that were handed out are those that the link was given, and the one that is to be sent next.
+pub record Accounts (start : History) (s : Standing) (sent : List (List ℕ)) : Type 0 where
+  pub history : s.history ≡ history_after start s.told
+  pub handed : handed_out start s.told ≡ pending s.stage ++ sent
+
+-- no compound is pending at a stage
+abbrev pub HasNone : Stage → Type 0
+HasNone stage = pending stage ≡ []
+
+restaged : (start : History) (s : Standing) (stage : Stage) (sent : List (List ℕ)) → Accounts start s sent → HasNone s.stage → HasNone stage
+    → Accounts start (at_stage stage s) sent
+restaged start s stage sent accounts none now = record {
+  history = accounts.history;
+  handed = accounts.handed ∙ ap (λ p. p ++ sent) (none ∙ sym now);
+}
+
+-- An act is told, and what its answer hands out is pending.
+told_accounts : (start : History) (s t : Standing) (act : Act) (stage : Stage) (sent : List (List ℕ)) → Accounts start s sent → HasNone s.stage
+    → t.history ≡ followed_by s.history act → t.told ≡ act ∷ s.told → t.stage ≡ stage → pending stage ≡ handed_by (answer_of s.history act)
+    → Accounts start t sent
+told_accounts start s t act stage sent accounts none history told at same = record {
+  history = history ∙ ap (λ h. followed_by h act) accounts.history ∙ ap (history_after start) (sym told);
+  handed = ap (handed_out start) told ∙ ap (λ h. handed_by (answer_of h act) ++ handed_out start s.told) (sym accounts.history)
+      ∙ ap (λ l. handed_by (answer_of s.history act) ++ l) (accounts.handed ∙ ap (λ p. p ++ sent) none)
+      ∙ ap (λ p. p ++ sent) (sym same ∙ ap pending (sym at));
+}
+
+step_pends : (next : Stage) (changed : Option ℕ) (out : Option OutValue) → HasNone next → pending (stage_after_step next changed out) ≡ octets_of out
+step_pends next changed None none = none
+step_pends next changed (Some out) none = ap (λ p. p ++ out.octets ∷ []) none
+
+refusal_pends : (refused : Stage) (limit : Bool) → HasNone refused → HasNone (if limit then ended Limit else refused)
+refusal_pends refused true none = refl
+refusal_pends refused false none = none
+
+-- What an answer hands out is pending.
+answer_pends : (next refused : Stage) (answer : AnswerValue) → HasNone next → HasNone refused → pending (stage_to_send next refused answer) ≡ handed_by answer
+answer_pends next refused (Ok step) none refuses = step_pends next step.changed step.out none
+answer_pends next refused (Err refusal) none refuses = refusal_pends refused (is_limit refusal) refuses
+
+-- ---- Calls
+
+none_at : (stage : Stage) (s : Standing) → s.stage ≡ stage → HasNone stage → HasNone s.stage
+none_at stage s is none = ap pending is ∙ none
+
+asked_accounts : (start : History) (refused : Stage) (act : Act) (s : Standing) (sent : List (List ℕ)) → Accounts start s sent → HasNone s.stage
+    → HasNone refused → Accounts start (asked refused act s) sent
+asked_accounts start refused act s sent accounts none refuses =
+    told_accounts start s (asked refused act s) act _ sent accounts none refl refl refl (answer_pends resting refused (answer_of s.history act) refl refuses)
+
+arrived_accounts : (start : History) (next : Stage) (act : Act) (s : Standing) (sent : List (List ℕ)) → Accounts start s sent → HasNone s.stage
+    → HasNone next → Accounts start (arrived next act s) sent
+arrived_accounts start next act s sent accounts none comes =
+    told_accounts start s (arrived next act s) act _ sent accounts none refl refl refl (answer_pends next next (answer_of s.history act) comes comes)
+
+-- counts, words and turns change nothing of it
+counted_accounts : (start : History) (s t : Standing) (sent : List (List ℕ)) → Accounts start s sent → t.history ≡ s.history → t.told ≡ s.told
+    → t.stage ≡ s.stage → Accounts start t sent
+counted_accounts start s t sent accounts history told stage = record {
+  history = history ∙ accounts.history ∙ ap (history_after start) (sym told);
+  handed = ap (handed_out start) told ∙ accounts.handed ∙ ap (λ stage. pending stage ++ sent) (sym stage);
+}
+
+clock_accounts : (start : History) (moment : ℕ) (stage : Stage) (s : Standing) (sent : List (List ℕ)) → s.stage ≡ stage → ReadsClock stage
+    → Accounts start s sent → Accounts start (after_clock moment stage s) sent
+clock_accounts start moment resting s sent is fits accounts = absurd fits
+clock_accounts start moment beginning s sent is fits accounts =
+    restaged start (with_tally _ s) (hearing RtcpPort) sent (counted_accounts start s _ sent accounts refl refl refl) (none_at beginning s is refl) refl
+clock_accounts start moment (hearing port) s sent is fits accounts = absurd fits
+clock_accounts start moment deciding s sent is fits accounts =
+    asked_accounts start resting _ _ sent (counted_accounts start s _ sent accounts refl refl refl) (none_at deciding s is refl) refl
+clock_accounts start moment (sending out changed next) s sent is fits accounts = absurd fits
+clock_accounts start moment (ended cause) s sent is fits accounts = absurd fits
+
+failed_stage : (next : Stage) (last : Bool) → HasNone next → HasNone (if last then ended LinkDown else next)
+failed_stage next true none = refl
+failed_stage next false none = none
+
+port_pends : (port : Port) → HasNone (after_port port)
+port_pends RtcpPort = refl
+port_pends RtpPort = refl
+
+heard_accounts : (start : History) (reader : Reader) (port : Port) (what : Heard) (s : Standing) (sent : List (List ℕ)) → HasNone s.stage
+    → Accounts start s sent → Accounts start (heard_at reader port what s) sent
+heard_accounts start reader port (datagram peer octets) s sent none accounts =
+    arrived_accounts start (after_port port) _ _ sent (counted_accounts start s _ sent accounts refl refl refl) none (port_pends port)
+heard_accounts start reader port silence s sent none accounts =
+    restaged start _ (after_port port) sent (counted_accounts start s _ sent accounts refl refl refl) none (port_pends port)
+heard_accounts start reader port failure s sent none accounts =
+    restaged start _ _ sent (counted_accounts start s _ sent accounts refl refl refl) none (failed_stage (after_port port) _ (port_pends port))
+
+-- a port is listened to only where nothing is pending
+hears_none : (port : Port) (wait : ℕ) (stage : Stage) → Hears port wait stage → HasNone stage
+hears_none port wait resting fits = refl
+hears_none port wait beginning fits = refl
+hears_none port wait (hearing next) fits = refl
+hears_none port wait deciding fits = refl
+hears_none port wait (sending out changed next) fits = absurd fits
+hears_none port wait (ended cause) fits = refl
+
+sent_accounts : (start : History) (octets : List ℕ) (failed : Bool) (stage : Stage) (s : Standing) (sent : List (List ℕ)) → s.stage ≡ stage
+    → Sends octets stage → Accounts start s sent → Accounts start (after_sending failed stage s) (octets ∷ sent)
+sent_accounts start octets failed resting s sent is fits accounts = absurd fits
+sent_accounts start octets failed beginning s sent is fits accounts = absurd fits
+sent_accounts start octets failed (hearing port) s sent is fits accounts = absurd fits
+sent_accounts start octets failed deciding s sent is fits accounts = absurd fits
+sent_accounts start octets failed (sending out changed next) s sent is fits accounts = record {
+  history = accounts.history;
+  handed = accounts.handed ∙ ap (λ stage. pending stage ++ sent) is ∙ append_assoc (pending next) (out.octets ∷ []) sent
+      ∙ ap (λ o. pending next ++ o ∷ sent) (sym fits);
+}
+sent_accounts start octets failed (ended cause) s sent is fits accounts = absurd fits
+
+call_accounts : (start : History) (reader : Reader) (call : Call) (s : Standing) (sent : List (List ℕ)) → Fits call s.stage
+    → Accounts start s sent → Accounts start (after_call reader call s) (given call ++ sent)
+call_accounts start reader (clock_read moment) s sent fits accounts = clock_accounts start moment s.stage s sent refl fits accounts
+call_accounts start reader (port_heard port wait what) s sent fits accounts =
+    heard_accounts start reader port what s sent (hears_none port wait s.stage fits) accounts
+call_accounts start reader (compound_sent octets failed) s sent fits accounts = sent_accounts start octets failed s.stage s sent refl fits accounts
+
+-- ---- What comes next
+
+rested_accounts : (start : History) (next s : Standing) (stage : Stage) (sent : List (List ℕ)) → (stage ≡ resting → Accounts start next sent)
+    → Accounts start s sent → Accounts start (rested next stage s) sent
+rested_accounts start next s resting sent comes accounts = comes refl
+rested_accounts start next s beginning sent comes accounts = accounts
+rested_accounts start next s (hearing port) sent comes accounts = accounts
+rested_accounts start next s deciding sent comes accounts = accounts
+rested_accounts start next s (sending out changed after) sent comes accounts = accounts
+rested_accounts start next s (ended cause) sent comes accounts = accounts
+
+turn_accounts : (start : History) (next : Option ℕ) (turns : ℕ) (otherwise s : Standing) (sent : List (List ℕ)) → HasNone s.stage
+    → Accounts start otherwise sent → Accounts start s sent → Accounts start (turn_by next turns otherwise s) sent
+turn_accounts start None turns otherwise s sent none last accounts = restaged start s (ended Done) sent accounts none refl
+turn_accounts start (Some moment) zero otherwise s sent none last accounts = last
+turn_accounts start (Some moment) (suc turns) otherwise s sent none last accounts =
+    restaged start (with_turns turns s.leaving s) beginning sent (counted_accounts start s _ sent accounts refl refl refl) none refl
+
+gone_on_accounts : (start : History) (s : Standing) (sent : List (List ℕ)) → Accounts start s sent → Accounts start (gone_on s) sent
+gone_on_accounts start s sent accounts = rested_accounts start _ s s.stage sent (λ rests.
+    turn_accounts start (next_in_life (life_at s.history)) s.turns _ s sent (none_at resting s rests refl)
+    (restaged start s (ended Done) sent accounts (none_at resting s rests refl) refl) accounts) accounts
+
+last_accounts : (start : History) (total : ℕ) (leaving : Bool) (s : Standing) (sent : List (List ℕ)) → HasNone s.stage → Accounts start s sent
+    → Accounts start (if leaving then at_stage (ended Done) s else gone_on (left_with total (next_u32 s.words) s)) sent
+last_accounts start total true s sent none accounts = restaged start s (ended Done) sent accounts none refl
+last_accounts start total false s sent none accounts = gone_on_accounts start (left_with total (next_u32 s.words) s) sent
+    (asked_accounts start (ended Done) (asked_to_leave s.tally.moment (next_u32 s.words).0) (with_turns total true (with_words (next_u32 s.words).1 s)) sent (counted_accounts start s _ sent accounts refl refl refl) none refl)
+
+going_accounts : (start : History) (total : ℕ) (s : Standing) (sent : List (List ℕ)) → Accounts start s sent → Accounts start (going total s) sent
+going_accounts start total s sent accounts = rested_accounts start _ s s.stage sent (λ rests.
+    turn_accounts start (next_in_life (life_at s.history)) s.turns _ s sent (none_at resting s rests refl)
+    (last_accounts start total s.leaving s sent (none_at resting s rests refl) accounts) accounts) accounts
+
+-- ---- Sessions
+
+pub session_accounts : (reader : Reader) (start : History) (words : Stream) (total : ℕ) (calls : List Call)
+    → AllFit reader total (at_the_start start words total) calls
+    → Accounts start (after_calls reader total (at_the_start start words total) calls) (given_in calls)
+session_accounts reader start words total [] fit = record { history = refl; handed = refl }
+session_accounts reader start words total (call ∷ earlier) (fit, fits) =
+    call_accounts start reader call _ (given_in earlier) fits
+    (going_accounts start total _ (given_in earlier) (session_accounts reader start words total earlier fit))
+
+pub session_comes : (reader : Reader) (start : History) (words : Stream) (total : ℕ) (calls : List Call) (t : Standing) (x y : LinkValue)
+    → Comes reader total calls (at_the_start start words total) t x y → Accounts start t (given_in calls)
+session_comes reader start words total calls t x y comes =
+    subst (λ t. Accounts start t (given_in calls)) (sym comes.reached)
+    (going_accounts start total _ (given_in calls) (session_accounts reader start words total calls comes.fit))
+
+-- ---- Totals
+
+-- The counts of a session are those of its calls.
+pub record AreTotals (tally : Tally) (calls : List Call) : Type 0 where
+  pub received : tally.received ≡ how_many is_datagram calls
+  pub recv_failures : tally.recv_failures ≡ how_many is_failed_receive calls
+  pub sent : tally.sent ≡ how_many is_sent calls
+  pub send_failures : tally.send_failures ≡ how_many is_failed_send calls
+
+rested_counts : (next s : Standing) (stage : Stage) → next.tally ≡ s.tally → (rested next stage s).tally ≡ s.tally
+rested_counts next s resting same = same
+rested_counts next s beginning same = refl
+rested_counts next s (hearing port) same = refl
+rested_counts next s deciding same = refl
+rested_counts next s (sending out changed after) same = refl
+rested_counts next s (ended cause) same = refl
+
+turn_counts : (next : Option ℕ) (turns : ℕ) (otherwise s : Standing) → otherwise.tally ≡ s.tally → (turn_by next turns otherwise s).tally ≡ s.tally
+turn_counts None turns otherwise s same = refl
+turn_counts (Some moment) zero otherwise s same = same
+turn_counts (Some moment) (suc turns) otherwise s same = refl
+
+gone_on_counts : (s : Standing) → (gone_on s).tally ≡ s.tally
+gone_on_counts s = rested_counts _ s s.stage (turn_counts (next_in_life (life_at s.history)) s.turns _ s refl)
+
+last_counts : (total : ℕ) (leaving : Bool) (s : Standing)
+    → (if leaving then at_stage (ended Done) s else gone_on (left_with total (next_u32 s.words) s)).tally ≡ s.tally
+last_counts total true s = refl
+last_counts total false s = gone_on_counts (left_with total (next_u32 s.words) s)
+
+going_counts : (total : ℕ) (s : Standing) → (going total s).tally ≡ s.tally
+going_counts total s = rested_counts _ s s.stage (turn_counts (next_in_life (life_at s.history)) s.turns _ s (last_counts total s.leaving s))
+
+-- one more of some calls
+moved : (a b : ℕ) → a ≡ b → a + 1 ≡ suc b
+moved a b same = omega (arith, same)
+
+clock_counts : (moment : ℕ) (stage : Stage) (s : Standing) (calls : List Call) → AreTotals s.tally calls
+    → AreTotals (after_clock moment stage s).tally (clock_read moment ∷ calls)
+clock_counts moment resting s calls totals = record { received = totals.received; recv_failures = totals.recv_failures; sent = totals.sent; send_failures = totals.send_failures }
+clock_counts moment beginning s calls totals = record { received = totals.received; recv_failures = totals.recv_failures; sent = totals.sent; send_failures = totals.send_failures }
+clock_counts moment (hearing port) s calls totals = record { received = totals.received; recv_failures = totals.recv_failures; sent = totals.sent; send_failures = totals.send_failures }
+clock_counts moment deciding s calls totals = record { received = totals.received; recv_failures = totals.recv_failures; sent = totals.sent; send_failures = totals.send_failures }
+clock_counts moment (sending out changed next) s calls totals = record { received = totals.received; recv_failures = totals.recv_failures; sent = totals.sent; send_failures = totals.send_failures }
+clock_counts moment (ended cause) s calls totals = record { received = totals.received; recv_failures = totals.recv_failures; sent = totals.sent; send_failures = totals.send_failures }
+
+limit_counts : (limit : Bool) (tally : Tally) (calls : List Call) → AreTotals tally calls
+    → AreTotals (if limit then tally else with_refused (tally.refused + 1) tally) calls
+limit_counts true tally calls totals = totals
+limit_counts false tally calls totals = record { received = totals.received; recv_failures = totals.recv_failures; sent = totals.sent; send_failures = totals.send_failures }
+
+-- an answer to an arrival moves no count but that of the refused
+arrival_counts : (answer : AnswerValue) (tally : Tally) (calls : List Call) → AreTotals tally calls → AreTotals (with_arrival answer tally) calls
+arrival_counts (Ok step) tally calls totals = totals
+arrival_counts (Err refusal) tally calls totals = limit_counts (is_limit refusal) tally calls totals
+
+heard_counts : (reader : Reader) (port : Port) (wait : ℕ) (what : Heard) (s : Standing) (calls : List Call) → AreTotals s.tally calls
+    → AreTotals (heard_at reader port what s).tally (port_heard port wait what ∷ calls)
+heard_counts reader port wait (datagram peer octets) s calls totals = arrival_counts _ (with_datagram s.tally) _ (record {
+  received = moved _ _ totals.received;
+  recv_failures = totals.recv_failures;
+  sent = totals.sent;
+  send_failures = totals.send_failures;
+})
+heard_counts reader port wait silence s calls totals = record { received = totals.received; recv_failures = totals.recv_failures; sent = totals.sent; send_failures = totals.send_failures }
+heard_counts reader port wait failure s calls totals = record { received = totals.received; recv_failures = moved _ _ totals.recv_failures; sent = totals.sent; send_failures = totals.send_failures }
+
+sending_counts : (octets : List ℕ) (failed : Bool) (stage : Stage) (s : Standing) (calls : List Call) → Sends octets stage → AreTotals s.tally calls
+    → AreTotals (after_sending failed stage s).tally (compound_sent octets failed ∷ calls)
+sending_counts octets failed resting s calls fits totals = absurd fits
+sending_counts octets failed beginning s calls fits totals = absurd fits
+sending_counts octets failed (hearing port) s calls fits totals = absurd fits
+sending_counts octets failed deciding s calls fits totals = absurd fits
+sending_counts octets true (sending out changed next) s calls fits totals = record {
+  received = totals.received;
+  recv_failures = totals.recv_failures;
+  sent = moved _ _ totals.sent;
+  send_failures = moved _ _ totals.send_failures;
+}
+sending_counts octets false (sending out changed next) s calls fits totals = record {
+  received = totals.received;
+  recv_failures = totals.recv_failures;
+  sent = moved _ _ totals.sent;
+  send_failures = omega (arith, totals.send_failures);
+}
+sending_counts octets failed (ended cause) s calls fits totals = absurd fits
+
+call_counts : (reader : Reader) (call : Call) (s : Standing) (calls : List Call) → Fits call s.stage → AreTotals s.tally calls
+    → AreTotals (after_call reader call s).tally (call ∷ calls)
+call_counts reader (clock_read moment) s calls fits totals = clock_counts moment s.stage s calls totals
+call_counts reader (port_heard port wait what) s calls fits totals = heard_counts reader port wait what s calls totals
+call_counts reader (compound_sent octets failed) s calls fits totals = sending_counts octets failed s.stage s calls fits totals
+
+session_counts : (reader : Reader) (total : ℕ) (s : Standing) (calls : List Call) → AreTotals s.tally [] → AllFit reader total s calls
+    → AreTotals (after_calls reader total s calls).tally calls
+session_counts reader total s [] totals fit = totals
+session_counts reader total s (call ∷ earlier) totals (fit, fits) =
+    let u = after_calls reader total s earlier in
+    call_counts reader call (going total u) earlier fits
+    (subst (λ tally. AreTotals tally earlier) (sym (going_counts total u)) (session_counts reader total s earlier totals fit))
+
+pub session_totals : (reader : Reader) (start : History) (words : Stream) (total : ℕ) (calls : List Call) (t : Standing) (x y : LinkValue)
+    → Comes reader total calls (at_the_start start words total) t x y → AreTotals t.tally calls
+session_totals reader start words total calls t x y comes =
+    let s = at_the_start start words total in
+    subst (λ tally. AreTotals tally calls) (sym (ap (λ t. t.tally) comes.reached ∙ going_counts total (after_calls reader total s calls)))
+    (session_counts reader total s calls (record { received = refl; recv_failures = refl; sent = refl; send_failures = refl }) comes.fit)

@@ -1,0 +1,5 @@
+pub mod Links
+pub mod Tallies
+pub mod Serving
+pub mod Sessions
+pub mod Handing

@@ -1,0 +1,88 @@
+-- What is asked of a link, and what it answers. Lists of calls are newest first.
+use Rattle.std.specs.Prelude.{◌≡◌, ◌≤◌, ◌+◌, ℕ, List, ◌++◌, length, filter, take, Option, Some, None, Bool, true, false}
+use Rattle.rtcp_serve.specs.declared.link.Port.{Port}
+use Rattle.rtcp_serve.specs.declared.link.Received.{Received}
+use Rattle.rtcp_serve.specs.declared.link.Received.TheVariants.{Got, Nothing, Failed}
+
+-- ---- Calls
+
+-- what came while a port was listened to
+pub data Heard : Type 0 where
+  -- It came from the peer of this number.
+  datagram : (peer : ℕ) (octets : List ℕ) → Heard
+  silence : Heard
+  failure : Heard
+
+pub data Call : Type 0 where
+  -- The clock was read: the moment, in microseconds.
+  clock_read : (moment : ℕ) → Call
+  -- A port was listened to, for so many microseconds at most.
+  port_heard : (port : Port) (wait : ℕ) (heard : Heard) → Call
+  -- A compound was handed over to be sent, which failed or not.
+  compound_sent : (octets : List ℕ) (failed : Bool) → Call
+
+-- what a call of `recv` brought, with the octets of its buffer
+abbrev pub heard_in : (buffer : List ℕ) → Received → Heard
+heard_in buffer (Got count peer) = datagram peer (take count buffer)
+heard_in buffer Nothing = silence
+heard_in buffer Failed = failure
+
+abbrev pub is_failure : Heard → Bool
+is_failure (datagram peer octets) = false
+is_failure silence = false
+is_failure failure = true
+
+abbrev pub is_datagram : Call → Bool
+is_datagram (clock_read moment) = false
+is_datagram (port_heard port wait (datagram peer octets)) = true
+is_datagram (port_heard port wait silence) = false
+is_datagram (port_heard port wait failure) = false
+is_datagram (compound_sent octets failed) = false
+
+abbrev pub is_sent : Call → Bool
+is_sent (clock_read moment) = false
+is_sent (port_heard port wait what) = false
+is_sent (compound_sent octets failed) = true
+
+abbrev pub is_failed_receive : Call → Bool
+is_failed_receive (clock_read moment) = false
+is_failed_receive (port_heard port wait what) = is_failure what
+is_failed_receive (compound_sent octets failed) = false
+
+abbrev pub is_failed_send : Call → Bool
+is_failed_send (clock_read moment) = false
+is_failed_send (port_heard port wait what) = false
+is_failed_send (compound_sent octets failed) = failed
+
+-- ---- Links
+
+-- what a clause knows of a link
+pub record LinkValue : Type 0 where
+  -- the calls so far, of a link that tells them
+  pub log : Option (List Call)
+  -- how many receives and how many sends failed
+  pub failed_receives : ℕ
+  pub failed_sends : ℕ
+
+-- A link that tells its log after some calls told it before them, and it grew by these.
+abbrev pub GrowsBy : List Call → Option (List Call) → Option (List Call) → Type 0
+GrowsBy calls before None = Unit {0}
+GrowsBy calls before (Some after) = (earlier : List Call) × (before ≡ Some earlier) × (after ≡ calls ++ earlier)
+
+-- how many calls pass a test
+abbrev pub how_many : (Call → Bool) → List Call → ℕ
+how_many test calls = length (filter test calls)
+
+-- Calls were made of a link.
+pub record WereCalled (calls : List Call) (before after : LinkValue) : Type 0 where
+  pub log : GrowsBy calls before.log after.log
+  pub failed_receives : after.failed_receives ≡ before.failed_receives + how_many is_failed_receive calls
+  pub failed_sends : after.failed_sends ≡ before.failed_sends + how_many is_failed_send calls
+
+-- ---- Buffers
+
+-- A datagram that came has no more octets than the buffer.
+abbrev pub IsWithin : Received → (buffer : List ℕ) → Type 0
+IsWithin (Got count peer) buffer = count ≤ length buffer
+IsWithin Nothing buffer = Unit {0}
+IsWithin Failed buffer = Unit {0}

@@ -1,0 +1,295 @@
+-- A session over a link: which call comes next, and what the participant is told, call by call. Moments are in
+-- microseconds; lists of acts and of calls are newest first.
+use Rattle.std.specs.Prelude.{◌≡◌, ℕ, zero, suc, ◌==◌, if◌then◌else◌, Bool, true, false, List, [], ◌∷◌, length, Option, Some, None, Result, Ok, Err}
+use Rattle.rand_core.specs.Stream.{Stream, next_u32}
+use Rattle.rtcp_wire.specs.declared.fault.WireFault.{WireFault}
+use Rattle.rtcp_wire.specs.declared.rtp.fault.RtpFault.{RtpFault}
+use Rattle.rtcp_wire.specs.Values.{RtcpPacket}
+use Rattle.rtcp_wire.specs.RtpHeads.{RtpValue}
+use Rattle.rtcp_engine.specs.Acts.{Act, rtcp_came, rtp_came, ticked, left, IsReading, IsRtpReading}
+use Rattle.rtcp_engine.specs.Histories.{History}
+use Rattle.rtcp_engine.specs.Lives.{life_at, next_in_life}
+use Rattle.rtcp_engine.specs.Steps.{OutValue, AnswerValue}
+use Rattle.rtcp_engine.specs.Answers.{answer_of, followed_by}
+use Rattle.rtcp_serve.specs.declared.link.Port.{Port}
+use Rattle.rtcp_serve.specs.declared.link.Port.TheVariants.{Rtcp as RtcpPort, Rtp as RtpPort}
+use Rattle.rtcp_serve.specs.declared.serving.Cause.{Cause}
+use Rattle.rtcp_serve.specs.declared.serving.Cause.TheVariants.{Done, LinkDown, Limit}
+use Rattle.rtcp_serve.specs.declared.serving.tally.Tally.{Tally}
+use Rattle.rtcp_serve.specs.Tallies.{is_limit, no_calls, with_arrival, with_datagram, with_failed_receive, with_moment, with_send, with_silence}
+use Rattle.rtcp_serve.specs.Links.{Heard, datagram, silence, failure, Call, clock_read, port_heard, compound_sent}
+
+-- ---- Readings
+
+-- what datagrams say, by their octets
+pub record Reader : Type 0 where
+  pub rtcp : List ℕ → Result (List RtcpPacket) WireFault
+  pub rtp : List ℕ → Result RtpValue RtpFault
+
+-- It reads as the grammars of RTCP and RTP have it. There is exactly one such reader (rtcp_wire's laws
+-- `accepted_or_faulty` and `head_or_faulty`).
+pub record IsReader (reader : Reader) : Type 0 where
+  pub rtcp : (octets : List ℕ) → IsReading octets (reader.rtcp octets)
+  pub rtp : (octets : List ℕ) → IsRtpReading octets (reader.rtp octets)
+
+-- ---- Where a session stands
+
+-- which call of the link comes next
+pub data Stage : Type 0 where
+  -- none is under way: a turn comes next, or the leave, or the end
+  resting : Stage
+  -- a turn begins, with its moment
+  beginning : Stage
+  -- a port is listened to
+  hearing : Port → Stage
+  -- both ports were, and the moment of the tick comes next
+  deciding : Stage
+  -- A compound is to be sent, which an answer handed out that changed the identifier or did not. Then another stage
+  -- comes.
+  sending : (out : OutValue) (changed : Option ℕ) (next : Stage) → Stage
+  ended : Cause → Stage
+
+pub record Standing : Type 0 where
+  -- the acts that the participant took
+  pub history : History
+  -- all acts that it was told in this session, those that it refused too
+  pub told : List Act
+  -- the random words that are left
+  pub words : Stream
+  -- the counts, and the greatest moment so far
+  pub tally : Tally
+  -- the turns that are left, before the leave or after it
+  pub turns : ℕ
+  -- whether the leave was asked for
+  pub leaving : Bool
+  pub stage : Stage
+
+abbrev pub at_stage : Stage → Standing → Standing
+at_stage stage s = record {
+  history = s.history;
+  told = s.told;
+  words = s.words;
+  tally = s.tally;
+  turns = s.turns;
+  leaving = s.leaving;
+  stage = stage;
+}
+
+abbrev pub with_tally : Tally → Standing → Standing
+with_tally tally s = record {
+  history = s.history;
+  told = s.told;
+  words = s.words;
+  tally = tally;
+  turns = s.turns;
+  leaving = s.leaving;
+  stage = s.stage;
+}
+
+abbrev pub with_words : Stream → Standing → Standing
+with_words words s = record {
+  history = s.history;
+  told = s.told;
+  words = words;
+  tally = s.tally;
+  turns = s.turns;
+  leaving = s.leaving;
+  stage = s.stage;
+}
+
+abbrev pub with_turns : (turns : ℕ) → (leaving : Bool) → Standing → Standing
+with_turns turns leaving s = record {
+  history = s.history;
+  told = s.told;
+  words = s.words;
+  tally = s.tally;
+  turns = turns;
+  leaving = leaving;
+  stage = s.stage;
+}
+
+-- the participant is told an act
+abbrev pub told_act : Act → Standing → Standing
+told_act act s = record {
+  history = followed_by s.history act;
+  told = act ∷ s.told;
+  words = s.words;
+  tally = s.tally;
+  turns = s.turns;
+  leaving = s.leaving;
+  stage = s.stage;
+}
+
+-- ---- Answers
+
+abbrev pub stage_after_step : (next : Stage) → (changed : Option ℕ) → Option OutValue → Stage
+stage_after_step next changed None = next
+stage_after_step next changed (Some out) = sending out changed next
+
+-- The compound that an answer hands out goes out first, and then comes `next`. A limit ends the session, and another
+-- refusal leads to `refused`.
+abbrev pub stage_to_send : (next refused : Stage) → AnswerValue → Stage
+stage_to_send next refused (Ok step) = stage_after_step next step.changed step.out
+stage_to_send next refused (Err refusal) = if is_limit refusal then ended Limit else refused
+
+-- ---- Arrivals
+
+abbrev pub arrived : (next : Stage) → Act → Standing → Standing
+arrived next act s = let answer = answer_of s.history act in
+    at_stage (stage_to_send next next answer) (with_tally (with_arrival answer s.tally) (told_act act s))
+
+-- A word is drawn for a datagram, and the participant is told that it came.
+abbrev pub came_with : (act_of : (word : ℕ) → Act) → (next : Stage) → (word : ℕ × Stream) → Standing → Standing
+came_with act_of next word s = arrived next (act_of word.0) (with_words word.1 (with_tally (with_datagram s.tally) s))
+
+abbrev pub heard : (act_of : (peer word : ℕ) → List ℕ → Act) → (next : Stage) → Heard → Standing → Standing
+heard act_of next (datagram peer octets) s = came_with (λ word. act_of peer word octets) next (next_u32 s.words) s
+heard act_of next silence s = at_stage next (with_tally (with_silence s.tally) s)
+-- the 64th failed receive in a row ends the session
+heard act_of next failure s =
+    at_stage (if suc s.tally.failures == 64 then ended LinkDown else next) (with_tally (with_failed_receive s.tally) s)
+
+-- the act of a datagram that came to a port
+abbrev pub arrival_at : Reader → Port → (moment peer word : ℕ) → List ℕ → Act
+arrival_at reader RtcpPort moment peer word octets = rtcp_came moment peer word (length octets) (reader.rtcp octets)
+arrival_at reader RtpPort moment peer word octets = rtp_came moment peer word (reader.rtp octets)
+
+-- what comes once a port was listened to
+abbrev pub after_port : Port → Stage
+after_port RtcpPort = hearing RtpPort
+after_port RtpPort = deciding
+
+abbrev pub heard_at : Reader → Port → Heard → Standing → Standing
+heard_at reader port what s = heard (arrival_at reader port s.tally.moment) (after_port port) what s
+
+-- ---- Ticks and the leave
+
+abbrev pub asked : (refused : Stage) → Act → Standing → Standing
+asked refused act s = at_stage (stage_to_send resting refused (answer_of s.history act)) (told_act act s)
+
+-- Two words are drawn, and the participant is told that time has passed.
+abbrev pub ticked_with : (first second : ℕ × Stream) → Standing → Standing
+ticked_with first second s = asked resting (ticked s.tally.moment first.0 second.0) (with_words second.1 s)
+
+abbrev pub ticked_now : Standing → Standing
+ticked_now s = let first = next_u32 s.words in ticked_with first (next_u32 first.1) s
+
+-- A word is drawn, and the participant is asked to leave at the greatest moment so far. As many turns again are
+-- left then.
+abbrev pub left_with : (total : ℕ) → (word : ℕ × Stream) → Standing → Standing
+left_with total word s =
+    asked (ended Done) (left s.tally.moment word.0) (with_turns total true (with_words word.1 s))
+
+-- ---- Turns
+
+-- A turn begins where the participant is still there, which has a moment to be asked at, and one is left.
+abbrev pub turn_by : (next : Option ℕ) → (turns : ℕ) → (otherwise s : Standing) → Standing
+turn_by None turns otherwise s = at_stage (ended Done) s
+turn_by (Some moment) zero otherwise s = otherwise
+turn_by (Some moment) (suc turns) otherwise s = at_stage beginning (with_turns turns s.leaving s)
+
+abbrev pub turn_or : (otherwise s : Standing) → Standing
+turn_or otherwise s = turn_by (next_in_life (life_at s.history)) s.turns otherwise s
+
+-- where nothing is under way, what comes then
+abbrev pub rested : (next : Standing) → Stage → Standing → Standing
+rested next resting s = next
+rested next beginning s = s
+rested next (hearing port) s = s
+rested next deciding s = s
+rested next (sending out changed after) s = s
+rested next (ended cause) s = s
+
+-- What comes next, after the leave.
+abbrev pub gone_on : Standing → Standing
+gone_on s = rested (turn_or (at_stage (ended Done) s) s) s.stage s
+
+-- what comes after the last turn: the leave, or after that the end
+abbrev pub after_turns : (total : ℕ) → Standing → Standing
+after_turns total s =
+    if s.leaving then at_stage (ended Done) s else gone_on (left_with total (next_u32 s.words) s)
+
+-- What comes next, of so many turns before the leave and as many after it.
+abbrev pub going : (total : ℕ) → Standing → Standing
+going total s = rested (turn_or (after_turns total s) s) s.stage s
+
+-- ---- Calls
+
+abbrev pub ReadsClock : Stage → Type 0
+ReadsClock resting = ⊥
+ReadsClock beginning = Unit {0}
+ReadsClock (hearing port) = ⊥
+ReadsClock deciding = Unit {0}
+ReadsClock (sending out changed next) = ⊥
+ReadsClock (ended cause) = ⊥
+
+-- each port in its turn, for 20,000 microseconds at most
+abbrev pub Hears : Port → (wait : ℕ) → Stage → Type 0
+Hears port wait resting = ⊥
+Hears port wait beginning = ⊥
+Hears port wait (hearing next) = (port ≡ next) × (wait ≡ 20000)
+Hears port wait deciding = ⊥
+Hears port wait (sending out changed next) = ⊥
+Hears port wait (ended cause) = ⊥
+
+abbrev pub Sends : (octets : List ℕ) → Stage → Type 0
+Sends octets resting = ⊥
+Sends octets beginning = ⊥
+Sends octets (hearing port) = ⊥
+Sends octets deciding = ⊥
+Sends octets (sending out changed next) = octets ≡ out.octets
+Sends octets (ended cause) = ⊥
+
+-- a call is the one that comes at a stage
+abbrev pub Fits : Call → Stage → Type 0
+Fits (clock_read moment) stage = ReadsClock stage
+Fits (port_heard port wait what) stage = Hears port wait stage
+Fits (compound_sent octets failed) stage = Sends octets stage
+
+-- a turn begins with the moment, and it is taken again before the tick
+abbrev pub after_clock : (moment : ℕ) → Stage → Standing → Standing
+after_clock moment resting s = s
+after_clock moment beginning s = at_stage (hearing RtcpPort) (with_tally (with_moment moment s.tally) s)
+after_clock moment (hearing port) s = s
+after_clock moment deciding s = ticked_now (with_tally (with_moment moment s.tally) s)
+after_clock moment (sending out changed next) s = s
+after_clock moment (ended cause) s = s
+
+-- Whether or not sending it failed, a compound is sent once.
+abbrev pub after_sending : (failed : Bool) → Stage → Standing → Standing
+after_sending failed resting s = s
+after_sending failed beginning s = s
+after_sending failed (hearing port) s = s
+after_sending failed deciding s = s
+after_sending failed (sending out changed next) s =
+    at_stage next (with_tally (with_send out.kind changed failed s.tally) s)
+after_sending failed (ended cause) s = s
+
+-- where a session stands after a call that fits
+abbrev pub after_call : Reader → Call → Standing → Standing
+after_call reader (clock_read moment) s = after_clock moment s.stage s
+after_call reader (port_heard port wait what) s = heard_at reader port what s
+after_call reader (compound_sent octets failed) s = after_sending failed s.stage s
+
+-- where it stands after calls, from where it stood before them
+abbrev pub after_calls : Reader → (total : ℕ) → Standing → List Call → Standing
+after_calls reader total s [] = s
+after_calls reader total s (call ∷ earlier) = after_call reader call (going total (after_calls reader total s earlier))
+
+-- Each call was the one that came next.
+abbrev pub AllFit : Reader → (total : ℕ) → Standing → List Call → Type 0
+AllFit reader total s [] = Unit {0}
+AllFit reader total s (call ∷ earlier) =
+    AllFit reader total s earlier × Fits call (going total (after_calls reader total s earlier)).stage
+
+-- where a session stands before its first call
+abbrev pub at_the_start : History → Stream → (turns : ℕ) → Standing
+at_the_start history words turns = record {
+  history = history;
+  told = [];
+  words = words;
+  tally = no_calls;
+  turns = turns;
+  leaving = false;
+  stage = resting;
+}

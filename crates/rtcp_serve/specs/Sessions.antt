@@ -1,0 +1,72 @@
+-- How far a session over a link has come, and what is kept of it.
+use Rattle.std.specs.Prelude.{◌≡◌, ℕ, suc, ◌⊎◌, IsTrue, is_some, Bool, true, false, List, Option, None, Result, Ok, Err}
+use Rattle.rand_core.specs.Stream.{Stream}
+use Rattle.rtcp_engine.specs.Lives.{life_at, next_in_life}
+use Rattle.rtcp_engine.specs.States.{ParticipantValue, StandsAt}
+use Rattle.rtcp_serve.specs.declared.serving.End.{End}
+use Rattle.rtcp_serve.specs.declared.serving.Cause.{Cause}
+use Rattle.rtcp_serve.specs.declared.serving.Cause.TheVariants.{Done}
+use Rattle.rtcp_serve.specs.declared.serving.tally.Tally.{Tally}
+use Rattle.rtcp_serve.specs.Tallies.{end_of}
+use Rattle.rtcp_serve.specs.Links.{Call, LinkValue, WereCalled}
+use Rattle.rtcp_serve.specs.Serving.{Reader, Stage, resting, ended, Standing, going, after_calls, AllFit}
+
+-- What is kept is where a session stands.
+pub record Holds (s : Standing) (kept : ParticipantValue) (left : Stream) (counted : Tally) : Type 0 where
+  pub participant : StandsAt kept s.history
+  pub words : left ≡ s.words
+  pub tally : counted ≡ s.tally
+
+-- A result is the stage that a session has come to.
+abbrev pub Reaches : {A : Type 0} → (next : Stage) → Result A Cause → Standing → Type 0
+Reaches next (Ok done) s = s.stage ≡ next
+Reaches next (Err cause) s = s.stage ≡ ended cause
+
+-- The same where the result says whether an act was taken.
+abbrev pub ReachesBy : (taken refused : Stage) → Result Bool Cause → Standing → Type 0
+ReachesBy taken refused (Ok true) s = s.stage ≡ taken
+ReachesBy taken refused (Ok false) s = s.stage ≡ refused
+ReachesBy taken refused (Err cause) s = s.stage ≡ ended cause
+
+-- when the participant is to be asked next, unless it has left
+abbrev pub next_at : Standing → Option ℕ
+next_at s = next_in_life (life_at s.history)
+
+-- A turn comes next, and so many are left after it.
+pub record HasTurn (left : ℕ) (s : Standing) : Type 0 where
+  pub resting : s.stage ≡ resting
+  pub there : IsTrue (is_some (next_at s))
+  pub turns : s.turns ≡ suc left
+
+-- Turns end where none is left, or the participant is gone, or for another cause.
+abbrev pub EndsTurns : {A : Type 0} → Result A Cause → Standing → Type 0
+EndsTurns (Ok done) s = (s.stage ≡ resting) × ((next_at s ≡ None) ⊎ (s.turns ≡ 0))
+EndsTurns (Err cause) s = s.stage ≡ ended cause
+
+-- A session has ended.
+abbrev pub EndsAs : {A : Type 0} → Result A Cause → Standing → Type 0
+EndsAs (Ok done) s = s.stage ≡ ended Done
+EndsAs (Err cause) s = s.stage ≡ ended cause
+
+-- Calls of a link, each the one that came next, led from one standing to another.
+pub record Leads (reader : Reader) (total : ℕ) (calls : List Call) (s t : Standing) (before after : LinkValue) : Type 0 where
+  pub fit : AllFit reader total s calls
+  pub reached : t ≡ after_calls reader total s calls
+  pub called : WereCalled calls before after
+
+-- The same, up to what comes next.
+pub record Comes (reader : Reader) (total : ℕ) (calls : List Call) (s t : Standing) (before after : LinkValue) : Type 0 where
+  pub fit : AllFit reader total s calls
+  pub reached : t ≡ going total (after_calls reader total s calls)
+  pub called : WereCalled calls before after
+
+-- No turn is left, and the leave comes next.
+pub record IsLeaveDue (s : Standing) : Type 0 where
+  pub resting : s.stage ≡ resting
+  pub there : IsTrue (is_some (next_at s))
+  pub turns : s.turns ≡ 0
+  pub leaving : s.leaving ≡ false
+
+-- what a session came to
+abbrev pub IsEnd : End → Standing → Type 0
+IsEnd end t = (t.stage ≡ ended end.cause) × (end ≡ end_of end.cause t.tally)

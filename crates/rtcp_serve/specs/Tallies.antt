@@ -1,0 +1,150 @@
+-- The counts of a session over a link, event by event.
+use Rattle.std.specs.Prelude.{◌≡◌, ◌<◌, ◌^◌, ℕ, ◌+◌, ◌||◌, max, not, is_some, Bool, true, false, if◌then◌else◌, Option, Result, Ok, Err}
+use Rattle.rtcp_engine.specs.declared.step.OutKind.{OutKind}
+use Rattle.rtcp_engine.specs.declared.step.OutKind.TheVariants.{Report, Bye}
+use Rattle.rtcp_engine.specs.declared.refusal.Refusal.{Refusal}
+use Rattle.rtcp_engine.specs.declared.refusal.Refusal.TheVariants.{Left, Backwards, TooFar, TooMany, Wire, Rtp, OwnSsrc}
+use Rattle.rtcp_engine.specs.Outcomes.{one_if}
+use Rattle.rtcp_engine.specs.Steps.{AnswerValue}
+use Rattle.rtcp_serve.specs.Links.{LinkValue}
+use Rattle.rtcp_serve.specs.declared.serving.Cause.{Cause}
+use Rattle.rtcp_serve.specs.declared.serving.End.{End}
+use Rattle.rtcp_serve.specs.declared.serving.Cause.TheVariants.{LinkDown}
+use Rattle.rtcp_serve.specs.declared.serving.tally.Tally.{Tally}
+
+-- the refusals that end a session: E3 and E4
+abbrev pub is_limit : Refusal → Bool
+is_limit Left = false
+is_limit Backwards = false
+is_limit TooFar = true
+is_limit TooMany = true
+is_limit (Wire fault) = false
+is_limit (Rtp fault) = false
+is_limit OwnSsrc = false
+
+-- ---- Events
+
+abbrev pub no_calls : Tally
+no_calls = record {
+  moment = 0;
+  failures = 0;
+  received = 0;
+  refused = 0;
+  sent = 0;
+  send_failures = 0;
+  recv_failures = 0;
+  bye = false;
+}
+
+-- the greatest moment so far
+abbrev pub with_moment : (moment : ℕ) → Tally → Tally
+with_moment moment tally = record {
+  moment = max tally.moment moment;
+  failures = tally.failures;
+  received = tally.received;
+  refused = tally.refused;
+  sent = tally.sent;
+  send_failures = tally.send_failures;
+  recv_failures = tally.recv_failures;
+  bye = tally.bye;
+}
+
+abbrev pub with_datagram : Tally → Tally
+with_datagram tally = record {
+  moment = tally.moment;
+  failures = 0;
+  received = tally.received + 1;
+  refused = tally.refused;
+  sent = tally.sent;
+  send_failures = tally.send_failures;
+  recv_failures = tally.recv_failures;
+  bye = tally.bye;
+}
+
+abbrev pub with_silence : Tally → Tally
+with_silence tally = record {
+  moment = tally.moment;
+  failures = 0;
+  received = tally.received;
+  refused = tally.refused;
+  sent = tally.sent;
+  send_failures = tally.send_failures;
+  recv_failures = tally.recv_failures;
+  bye = tally.bye;
+}
+
+abbrev pub with_failed_receive : Tally → Tally
+with_failed_receive tally = record {
+  moment = tally.moment;
+  failures = tally.failures + 1;
+  received = tally.received;
+  refused = tally.refused;
+  sent = tally.sent;
+  send_failures = tally.send_failures;
+  recv_failures = tally.recv_failures + 1;
+  bye = tally.bye;
+}
+
+abbrev pub with_refused : (refused : ℕ) → Tally → Tally
+with_refused refused tally = record {
+  moment = tally.moment;
+  failures = tally.failures;
+  received = tally.received;
+  refused = refused;
+  sent = tally.sent;
+  send_failures = tally.send_failures;
+  recv_failures = tally.recv_failures;
+  bye = tally.bye;
+}
+
+-- an arrival that is refused counts, unless a limit is met
+abbrev pub with_arrival : AnswerValue → Tally → Tally
+with_arrival (Ok step) tally = tally
+with_arrival (Err refusal) tally = if is_limit refusal then tally else with_refused (tally.refused + 1) tally
+
+-- whether a compound is the BYE of leaving: one that a change of identifier hands out is not
+abbrev pub is_leave_bye : OutKind → (changed : Option ℕ) → Bool
+is_leave_bye Report changed = false
+is_leave_bye Bye changed = not (is_some changed)
+
+abbrev pub with_send : OutKind → (changed : Option ℕ) → (failed : Bool) → Tally → Tally
+with_send kind changed failed tally = record {
+  moment = tally.moment;
+  failures = tally.failures;
+  received = tally.received;
+  refused = tally.refused;
+  sent = tally.sent + 1;
+  send_failures = tally.send_failures + one_if failed;
+  recv_failures = tally.recv_failures;
+  bye = tally.bye || is_leave_bye kind changed;
+}
+
+-- ---- Ends
+
+abbrev pub end_of : Cause → Tally → End
+end_of cause tally = record {
+  cause = cause;
+  received = tally.received;
+  refused = tally.refused;
+  sent = tally.sent;
+  send_failures = tally.send_failures;
+  recv_failures = tally.recv_failures;
+  bye = tally.bye;
+}
+
+-- A row of failed receives ends a session at the 64th.
+abbrev pub EndsRow : {A : Type 0} → (failures : ℕ) → Result A Cause → Type 0
+EndsRow failures (Ok done) = failures < 64
+EndsRow failures (Err cause) = (failures ≡ 64) × (cause ≡ LinkDown)
+
+-- ---- Room
+
+-- Each count, those of the link too, can rise by so many.
+pub record HasRoom (more : ℕ) (tally : Tally) (link : LinkValue) : Type 0 where
+  pub received : tally.received + more < 2 ^ 64
+  pub refused : tally.refused + more < 2 ^ 64
+  pub sent : tally.sent + more < 2 ^ 64
+  pub send_failures : tally.send_failures + more < 2 ^ 64
+  pub recv_failures : tally.recv_failures + more < 2 ^ 64
+  pub failed_receives : link.failed_receives + more < 2 ^ 64
+  pub failed_sends : link.failed_sends + more < 2 ^ 64

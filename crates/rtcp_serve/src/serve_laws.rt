@@ -1,0 +1,41 @@
+//! What a session over a link comes to, by its log alone. Nothing calls these.
+
+ghost use Rattle.std.specs.Prelude.{◌≡◌, ◌++◌, ℕ, List, Some, reverse};
+ghost use Rattle.rand_core.specs.Stream.{Stream};
+ghost use Rattle.rtcp_engine.specs.Histories.{History};
+ghost use Rattle.rtcp_serve.specs.declared.serving.Cause.{Cause};
+ghost use Rattle.rtcp_serve.specs.Handing.{given_in, handed_out, history_after};
+ghost use Rattle.rtcp_serve.specs.Links.{Call, LinkValue, how_many, is_datagram, is_failed_receive, is_failed_send, is_sent};
+ghost use Rattle.rtcp_serve.specs.Serving.{Reader, Standing, at_the_start, ended};
+ghost use Rattle.rtcp_serve.specs.Sessions.{Comes};
+
+/// The compounds that went to the link are those that the participant handed out, in their order, each once,
+/// whether or not sending them failed.
+pub fn compounds_go_out_once()
+    ensures handed { (reader : Reader) (history : History) (words : Stream) (turns : ℕ) (calls : List Call)
+        (t : Standing) (before after : LinkValue) (cause : Cause) →
+        Comes reader turns calls (at_the_start history words turns) t before after → t.stage ≡ ended cause →
+        given_in calls ≡ handed_out history t.told }
+    ensures history { (reader : Reader) (history : History) (words : Stream) (turns : ℕ) (calls : List Call)
+        (t : Standing) (before after : LinkValue) →
+        Comes reader turns calls (at_the_start history words turns) t before after →
+        t.history ≡ history_after history t.told }
+{}
+
+/// The totals of a session are counts of its calls.
+pub fn totals_count_calls()
+    ensures { (reader : Reader) (history : History) (words : Stream) (turns : ℕ) (calls : List Call)
+        (t : Standing) (before after : LinkValue) →
+        Comes reader turns calls (at_the_start history words turns) t before after →
+        (t.tally.received ≡ how_many is_datagram calls) × (t.tally.recv_failures ≡ how_many is_failed_receive calls)
+        × (t.tally.sent ≡ how_many is_sent calls) × (t.tally.send_failures ≡ how_many is_failed_send calls) }
+{}
+
+/// A link that tells its log tells the calls of a session, and with the words these determine all that the
+/// participant was told, and the end.
+pub fn a_log_determines_the_session()
+    ensures calls { (reader : Reader) (history : History) (words : Stream) (turns : ℕ) (calls others : List Call)
+        (s t : Standing) (before after : LinkValue) (log : List Call) → after.log ≡ Some log →
+        Comes reader turns calls (at_the_start history words turns) s before after →
+        Comes reader turns others (at_the_start history words turns) t before after → (calls ≡ others) × (s ≡ t) }
+{}

@@ -1,0 +1,91 @@
+//! A session over a link.
+
+ghost use Rattle.std.specs.Prelude.{◌≡◌, ◌≤◌, ◌<◌, ◌^◌, List};
+ghost use Rattle.rtcp_engine.specs.Histories.{History};
+ghost use Rattle.rtcp_engine.specs.States.{StandsAt};
+ghost use Rattle.rtcp_serve.specs.Links.{Call};
+ghost use Rattle.rtcp_serve.specs.Serving.{IsReader, Reader, Standing, at_the_start, ended};
+ghost use Rattle.rtcp_serve.specs.Sessions.{Comes, EndsAs, IsEnd};
+
+mod tally;
+mod turns;
+
+use crate::link::Link;
+use rand_core::Rng;
+use rtcp_engine::Participant;
+use rtcp_members::MemberTable;
+use tally::Tally;
+
+/// Why a session over a link ended.
+#[derive(Clone, Copy, Debug, PartialEq, Eq)]
+pub enum Cause {
+    /// All turns were made, or the participant has left.
+    Done,
+    /// 64 receives in a row failed. No BYE was sent.
+    LinkDown,
+    /// The participant met a limit (E3, E4). No BYE was sent for it.
+    Limit,
+}
+
+/// What became of a session over a link.
+#[derive(Clone, Copy, Debug, PartialEq, Eq)]
+pub struct End {
+    /// Why it ended.
+    pub cause: Cause,
+    /// How many datagrams came.
+    pub received: u64,
+    /// How many of them the participant refused: not as a compound, by their head, or for naming its own SSRC where
+    /// they could not change it.
+    pub refused: u64,
+    /// How many compounds were handed to the link, those that it failed to send included.
+    pub sent: u64,
+    /// How many of them it failed to send.
+    pub send_failures: u64,
+    /// How many receives failed.
+    pub recv_failures: u64,
+    /// Whether the BYE of leaving was handed to the link. The BYE of an SSRC that was given up does not count.
+    pub bye: bool,
+}
+
+/// Runs a participant on a link, for so many turns, and then lets it leave: with as many turns more, where it
+/// backs off before its BYE.
+///
+/// A turn reads the clock, listens to the port of RTCP and then to that of RTP, for 20 milliseconds each, reads
+/// the clock again, draws two words, asks the participant what is due, and sends what it answers. For a datagram
+/// that came it draws a word too, before the participant is told. Where one changes the SSRC (RFC 3550, 8.2), the
+/// BYE of the old one goes out at once, before the turn goes on. The moment is the greatest that the clock gave,
+/// and a compound goes to the link once, whether or not it failed to send it. After the last turn a word is drawn
+/// for the leave, at that moment. Once the participant has left, there is no further call.
+///
+/// It ends early where the 64th receive in a row failed, over both ports, and where the participant met a limit.
+pub fn serve<L: Link, T: MemberTable, R: Rng>(
+    link: &mut L,
+    participant: &mut Participant<T>,
+    rng: &mut R,
+    turns: u32,
+    buf: &mut [u8; 65_535],
+) -> End
+    requires turns { (1 ≤ turns) × (turns ≤ 1000000) }
+    requires receives { (L.value link.old).failed_receives < 2 ^ 63 }
+    requires sends { (L.value link.old).failed_sends < 2 ^ 63 }
+    // The calls of the link were those that a session makes, each the one that came next, up to its end. The
+    // participant stands where they left it, and the result says what they came to.
+    ensures serves { (reader : Reader) (history : History) → IsReader reader → StandsAt participant.old history →
+        (calls : List Call) × (t : Standing) × Comes reader turns calls
+        (at_the_start history (R.stream rng.old) turns) t (L.value link.old) (L.value link.new)
+        × StandsAt participant.new t.history × (R.stream rng.new ≡ t.words) × IsEnd result t }
+{
+    let mut tally = Tally::new();
+    let returned = turns::session(link, participant, rng, &mut tally, turns, buf);
+    tally.end(cause_of(returned))
+}
+
+/// Why a session ended, by what it returned.
+fn cause_of(returned: Result<(), Cause>) -> Cause
+    ensures { (t : Standing) → EndsAs returned t → t.stage ≡ ended result }
+{
+    match returned {
+        Ok(()) => Cause::Done,
+        Err(cause) => cause,
+    }
+}

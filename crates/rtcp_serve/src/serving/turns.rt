@@ -1,0 +1,276 @@
+//! The turns of a session over a link, and its leave.
+
+ghost use Rattle.std.specs.Prelude.{◌≡◌, ◌<◌, ◌≤◌, ◌+◌, ◌*◌, ◌^◌, ℕ, suc, zero, true, false, List, [], ◌∷◌, ◌⊎◌, OnOk};
+ghost use Rattle.rand_core.specs.Stream.{Stream, next_u32};
+ghost use Rattle.rtcp_engine.specs.Acts.{Act, ticked, left};
+ghost use Rattle.rtcp_engine.specs.States.{ParticipantValue, StandsAt};
+ghost use Rattle.rtcp_engine.specs.Views.{answer_value};
+ghost use Rattle.rtcp_serve.specs.declared.link.Port.TheVariants.{Rtcp as RtcpPort, Rtp as RtpPort};
+ghost use Rattle.rtcp_serve.specs.declared.serving.Cause.TheVariants.{Done};
+ghost use Rattle.rtcp_serve.specs.Links.{Call, WereCalled, clock_read};
+ghost use Rattle.rtcp_serve.specs.Serving.{IsReader, Reader, Stage, Standing, deciding, ended, going, hearing, resting, stage_to_send};
+ghost use Rattle.rtcp_serve.specs.Sessions.{Comes, EndsAs, EndsTurns, IsLeaveDue, Holds, HasTurn, Leads, Reaches, ReachesBy};
+ghost use Rattle.rtcp_serve.specs.Tallies.{HasRoom, with_moment};
+
+use crate::link::{Link, Port, Received};
+use crate::serving::Cause;
+use crate::serving::tally::{Tally, is_limit};
+use rand_core::Rng;
+use rtcp_engine::{Answer, Participant};
+use rtcp_members::MemberTable;
+
+/// How long a port is listened to in a turn, in microseconds.
+const WAIT: u64 = 20_000;
+
+/// Reads the clock.
+fn read_clock<L: Link>(link: &mut L, tally: &mut Tally)
+    ensures called { (moment : ℕ) × WereCalled (clock_read moment ∷ []) (L.value link.old) (L.value link.new)
+        × (tally.new ≡ with_moment moment tally.old) }
+    ensures room { (more : ℕ) → HasRoom more tally.old (L.value link.old) →
+        HasRoom more tally.new (L.value link.new) }
+{
+    tally.clock(link.now());
+}
+
+/// Listens to the RTCP port, and tells the participant what came, with a random word. Sends the BYE of an SSRC that
+/// it gives up for that.
+fn hear_rtcp<L: Link, T: MemberTable, R: Rng>(
+    link: &mut L,
+    participant: &mut Participant<T>,
+    rng: &mut R,
+    tally: &mut Tally,
+    buf: &mut [u8],
+) -> Result<(), Cause>
+    requires row { tally.old.failures < 64 }
+    requires room { HasRoom 2 tally.old (L.value link.old) }
+    ensures leads { (reader : Reader) (total : ℕ) (s : Standing) → IsReader reader →
+        Holds s participant.old (R.stream rng.old) tally.old → s.stage ≡ hearing RtcpPort →
+        (calls : List Call) × (t : Standing) × Leads reader total calls s t (L.value link.old) (L.value link.new)
+        × Holds t participant.new (R.stream rng.new) tally.new × Reaches (hearing RtpPort) result t
+        × (t.turns ≡ s.turns) × (t.leaving ≡ s.leaving) }
+    ensures row { OnOk result (tally.new.failures < 64) }
+    ensures room { (more : ℕ) → HasRoom (more + 2) tally.old (L.value link.old) →
+        HasRoom more tally.new (L.value link.new) }
+{
+    match link.recv(Port::Rtcp, buf, WAIT) {
+        Received::Got(count, peer) => {
+            tally.datagram();
+            let (octets, _) = buf.split_at(count);
+            let drawn = rng.next_u32();
+            let answer = participant.arrive_rtcp(tally.moment, peer, drawn, octets);
+            tally.arrival(&answer);
+            hand_over(link, tally, answer)?;
+            Ok(())
+        }
+        Received::Nothing => {
+            tally.silence();
+            Ok(())
+        }
+        Received::Failed => tally.failed_receive(),
+    }
+}
+
+/// Listens to the RTP port, and tells the participant what came, as [`hear_rtcp`] does.
+fn hear_rtp<L: Link, T: MemberTable, R: Rng>(
+    link: &mut L,
+    participant: &mut Participant<T>,
+    rng: &mut R,
+    tally: &mut Tally,
+    buf: &mut [u8],
+) -> Result<(), Cause>
+    requires row { tally.old.failures < 64 }
+    requires room { HasRoom 2 tally.old (L.value link.old) }
+    ensures leads { (reader : Reader) (total : ℕ) (s : Standing) → IsReader reader →
+        Holds s participant.old (R.stream rng.old) tally.old → s.stage ≡ hearing RtpPort →
+        (calls : List Call) × (t : Standing) × Leads reader total calls s t (L.value link.old) (L.value link.new)
+        × Holds t participant.new (R.stream rng.new) tally.new × Reaches deciding result t
+        × (t.turns ≡ s.turns) × (t.leaving ≡ s.leaving) }
+    ensures row { OnOk result (tally.new.failures < 64) }
+    ensures room { (more : ℕ) → HasRoom (more + 2) tally.old (L.value link.old) →
+        HasRoom more tally.new (L.value link.new) }
+{
+    match link.recv(Port::Rtp, buf, WAIT) {
+        Received::Got(count, peer) => {
+            tally.datagram();
+            let (octets, _) = buf.split_at(count);
+            let drawn = rng.next_u32();
+            let answer = participant.arrive_rtp(tally.moment, peer, drawn, octets);
+            tally.arrival(&answer);
+            hand_over(link, tally, answer)?;
+            Ok(())
+        }
+        Received::Nothing => {
+            tally.silence();
+            Ok(())
+        }
+        Received::Failed => tally.failed_receive(),
+    }
+}
+
+/// Sends the compound that an answer hands out, if there is one. Returns whether the call was taken.
+///
+/// # Errors
+///
+/// [`Cause::Limit`] where the participant met a limit.
+fn hand_over<L: Link>(link: &mut L, tally: &mut Tally, answer: Answer) -> Result<bool, Cause>
+    requires room { HasRoom 1 tally.old (L.value link.old) }
+    ensures leads { (reader : Reader) (total : ℕ) (next refused : Stage) (kept : ParticipantValue) (words : Stream)
+        (s : Standing) → Holds s kept words tally.old →
+        s.stage ≡ stage_to_send next refused (answer_value answer) →
+        (calls : List Call) × (t : Standing) × Leads reader total calls s t (L.value link.old) (L.value link.new)
+        × Holds t kept words tally.new × ReachesBy next refused result t × (t.turns ≡ s.turns)
+        × (t.leaving ≡ s.leaving) × (t.history ≡ s.history) }
+    ensures row { tally.new.failures ≡ tally.old.failures }
+    ensures room { (more : ℕ) → HasRoom (more + 1) tally.old (L.value link.old) →
+        HasRoom more tally.new (L.value link.new) }
+{
+    match answer {
+        Ok(step) => {
+            let changed = step.changed;
+            match step.out {
+                Some(out) => {
+                    let sent = link.send(out.bytes.as_slice());
+                    tally.send(out.kind, changed, sent.is_err());
+                }
+                None => {}
+            }
+            Ok(true)
+        }
+        Err(refusal) if is_limit(refusal) => Err(Cause::Limit),
+        Err(_) => Ok(false),
+    }
+}
+
+/// Reads the clock, and asks the participant at the greatest moment so far, with two words, what is due.
+fn tick<L: Link, T: MemberTable, R: Rng>(
+    link: &mut L,
+    participant: &mut Participant<T>,
+    rng: &mut R,
+    tally: &mut Tally,
+) -> Result<(), Cause>
+    requires room { HasRoom 1 tally.old (L.value link.old) }
+    ensures leads { (reader : Reader) (total : ℕ) (s : Standing) →
+        Holds s participant.old (R.stream rng.old) tally.old → s.stage ≡ deciding →
+        (calls : List Call) × (t : Standing) × Leads reader total calls s t (L.value link.old) (L.value link.new)
+        × Holds t participant.new (R.stream rng.new) tally.new × Reaches resting result t × (t.turns ≡ s.turns)
+        × (t.leaving ≡ s.leaving) }
+    ensures row { tally.new.failures ≡ tally.old.failures }
+    ensures room { (more : ℕ) → HasRoom (more + 1) tally.old (L.value link.old) →
+        HasRoom more tally.new (L.value link.new) }
+{
+    read_clock(link, tally);
+    let first = rng.next_u32();
+    let second = rng.next_u32();
+    let answer = participant.tick(tally.moment, first, second);
+    hand_over(link, tally, answer)?;
+    Ok(())
+}
+
+/// Makes a turn: listens to both ports, and asks the participant what is due.
+///
+/// # Errors
+///
+/// [`Cause::LinkDown`] where the 64th receive in a row failed, and [`Cause::Limit`] where the participant met a
+/// limit.
+fn turn<L: Link, T: MemberTable, R: Rng>(
+    link: &mut L,
+    participant: &mut Participant<T>,
+    rng: &mut R,
+    tally: &mut Tally,
+    buf: &mut [u8],
+) -> Result<(), Cause>
+    requires row { tally.old.failures < 64 }
+    requires room { HasRoom 5 tally.old (L.value link.old) }
+    ensures leads { (reader : Reader) (total left : ℕ) (s : Standing) → IsReader reader →
+        Holds s participant.old (R.stream rng.old) tally.old → HasTurn left s →
+        (calls : List Call) × (t : Standing) × Leads reader total calls s t (L.value link.old) (L.value link.new)
+        × Holds t participant.new (R.stream rng.new) tally.new × Reaches resting result t × (t.turns ≡ left)
+        × (t.leaving ≡ s.leaving) }
+    ensures row { OnOk result (tally.new.failures < 64) }
+    ensures room { (more : ℕ) → HasRoom (more + 5) tally.old (L.value link.old) →
+        HasRoom more tally.new (L.value link.new) }
+{
+    read_clock(link, tally);
+    hear_rtcp(link, participant, rng, tally, buf)?;
+    hear_rtp(link, participant, rng, tally, buf)?;
+    tick(link, participant, rng, tally)
+}
+
+/// Makes turns, until the participant has left.
+fn make_turns<L: Link, T: MemberTable, R: Rng>(
+    link: &mut L,
+    participant: &mut Participant<T>,
+    rng: &mut R,
+    tally: &mut Tally,
+    turns: u32,
+    buf: &mut [u8],
+) -> Result<(), Cause>
+    requires row { tally.old.failures < 64 }
+    requires room { HasRoom (turns * 5) tally.old (L.value link.old) }
+    ensures leads { (reader : Reader) (total : ℕ) (s : Standing) → IsReader reader →
+        Holds s participant.old (R.stream rng.old) tally.old → s.stage ≡ resting → s.turns ≡ turns →
+        (calls : List Call) × (t : Standing) × Leads reader total calls s t (L.value link.old) (L.value link.new)
+        × Holds t participant.new (R.stream rng.new) tally.new × EndsTurns result t × (t.leaving ≡ s.leaving) }
+    ensures row { OnOk result (tally.new.failures < 64) }
+    ensures room { (more : ℕ) → HasRoom (more + turns * 5) tally.old (L.value link.old) →
+        HasRoom more tally.new (L.value link.new) }
+{
+    'turns: for _ in 0..turns {
+        if participant.next().is_none() {
+            return Ok(());
+        }
+        turn(link, participant, rng, tally, buf)?;
+    }
+    Ok(())
+}
+
+/// Draws a word, and asks the participant to leave at the greatest moment so far. Returns whether the call was
+/// taken.
+fn take_leave<L: Link, T: MemberTable, R: Rng>(
+    link: &mut L,
+    participant: &mut Participant<T>,
+    rng: &mut R,
+    tally: &mut Tally,
+) -> Result<bool, Cause>
+    requires room { HasRoom 1 tally.old (L.value link.old) }
+    ensures leads { (reader : Reader) (total : ℕ) (s : Standing) →
+        Holds s participant.old (R.stream rng.old) tally.old → IsLeaveDue s →
+        (u : Standing) × (going total s ≡ going total u) × (calls : List Call) × (t : Standing)
+        × Leads reader total calls u t (L.value link.old) (L.value link.new)
+        × Holds t participant.new (R.stream rng.new) tally.new × ReachesBy resting (ended Done) result t
+        × (t.turns ≡ total) × (t.leaving ≡ true) }
+    ensures row { tally.new.failures ≡ tally.old.failures }
+    ensures room { (more : ℕ) → HasRoom (more + 1) tally.old (L.value link.old) →
+        HasRoom more tally.new (L.value link.new) }
+{
+    let word = rng.next_u32();
+    let answer = participant.leave(tally.moment, word);
+    hand_over(link, tally, answer)
+}
+
+/// Makes a session: turns, then the leave, and as many turns again while the participant backs off.
+pub(crate) fn session<L: Link, T: MemberTable, R: Rng>(
+    link: &mut L,
+    participant: &mut Participant<T>,
+    rng: &mut R,
+    tally: &mut Tally,
+    turns: u32,
+    buf: &mut [u8],
+) -> Result<(), Cause>
+    requires row { tally.old.failures < 64 }
+    requires room { HasRoom (turns * 10 + 1) tally.old (L.value link.old) }
+    ensures serves { (reader : Reader) (s : Standing) → IsReader reader →
+        Holds s participant.old (R.stream rng.old) tally.old → s.stage ≡ resting → s.turns ≡ turns →
+        s.leaving ≡ false → (calls : List Call) × (t : Standing)
+        × Comes reader turns calls s t (L.value link.old) (L.value link.new)
+        × Holds t participant.new (R.stream rng.new) tally.new × EndsAs result t }
+{
+    make_turns(link, participant, rng, tally, turns, buf)?;
+    if participant.next().is_none() {
+        return Ok(());
+    }
+    if take_leave(link, participant, rng, tally)? {
+        make_turns(link, participant, rng, tally, turns, buf)?;
+    }
+    Ok(())
+}

@@ -1,0 +1,17 @@
+//! The example that rtcp_serve opens with.
+
+use super::memory_link::MemoryLink;
+use super::session::participant;
+use super::zeros::Zeros;
+use super::*;
+
+#[test]
+fn example(rt: HostRuntime) -> Result<(), Fail> {
+    let mut link = MemoryLink::new(rt.alloc(), &[0], &[], &[], 0)?;
+    let mut participant = participant(&rt);
+    let mut rng = Zeros(0);
+    let mut buf = [0; 65_535];
+    let end = serve(&mut link, &mut participant, &mut rng, 1_000, &mut buf);
+    assert_eq!(rt; end.cause, Cause::Done);
+    Ok(())
+}

@@ -1,0 +1,170 @@
+-- The text of a session: each line says one act or has one fault, and what holds a participant answers as its history does.
+use Rattle.std.proofs.Common.{◌≡◌, ℕ, zero, suc, ◌≤◌, ◌+◌, ◌-◌, ◌⊎◌, inl, inr, List, [], ◌∷◌, ◌++◌, map, take, Option, Some, Result, Ok, Err, refl, sym, ◌∙◌, ap, subst, append_assoc, arith}
+use Rattle.std.specs.Option.{option_to_list}
+use Rattle.rtcp_engine.specs.Acts.{Act, rtcp_came, rtp_came, rtp_sent, ticked, left as asked_to_leave, EventValue, rtcp_arrived, rtp_arrived, packet_sent, time_passed, leave_asked, IsActOfEvent}
+use Rattle.rtcp_engine.specs.declared.refusal.Refusal.{Refusal}
+use Rattle.rtcp_engine.specs.declared.step.Step.{Step}
+use Rattle.rtcp_engine.specs.Steps.{AnswerValue}
+use Rattle.rtcp_engine.specs.Answers.{answer_of, answers_to, followed_by}
+use Rattle.rtcp_engine.specs.Histories.{History}
+use Rattle.rtcp_engine.specs.States.{ParticipantValue, StandsAt}
+use Rattle.rtcp_engine.specs.Views.{answer_value}
+use Rattle.rtcp_engine.proofs.LawLemmas.{one_reading-always, one_reading-once, one_reading-rtp_always, one_reading-rtp_once}
+use Rattle.rtcp_text.specs.AnswerText.{answer_text}
+use Rattle.rtcp_text.specs.EventLines.{event_in}
+use Rattle.rtcp_text.specs.declared.fault.LineFault.{LineFault}
+use Rattle.rtcp_text.specs.declared.fault.TextFault.{TextFault}
+use Rattle.rtcp_text.specs.declared.fault.TextFault.TheVariants.{Text, Read, Write, Memory}
+use Rattle.rtcp_text.specs.Lines.{lines_of, IsTextFrom}
+use Rattle.rtcp_text.specs.Progress.{RunLeaves}
+use Rattle.rtcp_text.specs.Replay.{AnswersEvent, AnswersStanding, IsNoEvent, IsSessionText, IsPrefixOfSession, SessionBefore, SessionUpToBlock, SessionLeaves, opening}
+use Rattle.rtcp_text.proofs.TextLemmas.{IsTotal, IsUnique, text_exists, text_continues, one_text, IsTextBy-shown}
+use Rattle.rtcp_text.proofs.ClauseLemmas.{Continues, RunLeaves-weaker, IsPrefixBy-leaves, AnswersLinesBeforeBy-block}
+
+-- ---- Each event is one act
+
+pub act_exists : (event : EventValue) → (act : Act) × IsActOfEvent event act
+act_exists (rtcp_arrived moment peer word octets) =
+    let found = one_reading-always octets in (rtcp_came moment peer word _ found.0, (found.0, found.1, refl))
+act_exists (rtp_arrived moment peer word octets) =
+    let found = one_reading-rtp_always octets in (rtp_came moment peer word found.0, (found.0, found.1, refl))
+act_exists (packet_sent moment timestamp octets) = (rtp_sent moment timestamp octets, refl)
+act_exists (time_passed moment first_word second_word) = (ticked moment first_word second_word, refl)
+act_exists (leave_asked moment word) = (asked_to_leave moment word, refl)
+
+one_act : (event : EventValue) (act act' : Act) → IsActOfEvent event act → IsActOfEvent event act' → act ≡ act'
+one_act (rtcp_arrived moment peer word octets) act act' h k = h.2 ∙ ap (rtcp_came moment peer word _) (one_reading-once octets h.0 k.0 h.1 k.1) ∙ sym k.2
+one_act (rtp_arrived moment peer word octets) act act' h k = h.2 ∙ ap (rtp_came moment peer word) (one_reading-rtp_once octets h.0 k.0 h.1 k.1) ∙ sym k.2
+one_act (packet_sent moment timestamp octets) act act' h k = h ∙ sym k
+one_act (time_passed moment first_word second_word) act act' h k = h ∙ sym k
+one_act (leave_asked moment word) act act' h k = h ∙ sym k
+
+-- ---- Each line has an answer or a fault, and only one
+
+line_exists : (history : History) (line : List ℕ) (r : Result EventValue LineFault) → event_in line ≡ r
+    → ((fault : LineFault) × IsNoEvent line fault) ⊎ ((text : List ℕ) × (next : History) × AnswersEvent history line text next)
+line_exists history line (Ok event) is =
+    let found = act_exists event in
+    inr (answer_text (answer_of history found.0), followed_by history found.0, (event, found.0, is, found.1, refl, refl))
+line_exists history line (Err fault) is = inl (fault, is)
+
+total : IsTotal AnswersEvent IsNoEvent
+total history line = line_exists history line (event_in line) refl
+
+one_answer : (history next next' : History) (line text text' : List ℕ) → AnswersEvent history line text next → AnswersEvent history line text' next'
+    → (text ≡ text') × (next ≡ next')
+one_answer history next next' line text text' (event, act, is, is_act, shown, follows) (event', act', is', is_act', shown', follows') =
+    let same : event ≡ event' = cc (is, is') in
+    let acts : act ≡ act' = one_act event act act' is_act (subst (λ e. IsActOfEvent e act') (sym same) is_act') in (
+      shown ∙ ap (λ a. answer_text (answer_of history a)) acts ∙ sym shown',
+      follows ∙ ap (followed_by history) acts ∙ sym follows',
+    )
+
+one_fault : (line : List ℕ) (fault fault' : LineFault) → IsNoEvent line fault → IsNoEvent line fault' → fault ≡ fault'
+one_fault line fault fault' h k = cc (h, k)
+
+never_both : (line : List ℕ) (fault : LineFault) (event : EventValue) → IsNoEvent line fault → event_in line ≡ Ok event → ⊥
+never_both line fault event h k = cc (h, k)
+
+unique : IsUnique AnswersEvent IsNoEvent
+unique = record {
+  answer = λ history next next' line text text' h k. one_answer history next next' line text text' h k;
+  fault = one_fault;
+  never_both = λ history next line text fault h k. never_both line fault k.0 h k.2;
+}
+
+-- What is appended to nothing is all.
+pub answer_shown : (before text : List ℕ) (shown answer : AnswerValue) → text ≡ before ++ answer_text shown → before ≡ [] → shown ≡ answer → text ≡ answer_text answer
+answer_shown before text shown answer parts none same = parts ∙ ap (λ b. b ++ answer_text shown) none ∙ ap answer_text same
+
+-- ---- What a sink of one answer holds
+
+pub one_told : (answer : Result Step Refusal) (history : History) (act : Act) (told : ℕ) → 1 ≡ 0 + told
+    → map answer_value (option_to_list (Some answer)) ≡ answers_to history (take told (act ∷ [])) → answer_value answer ≡ answer_of history act
+one_told answer history act zero many same = absurd (omega (arith, many))
+one_told answer history act (suc zero) many same = cc same
+one_told answer history act (suc (suc told)) many same = absurd (omega (arith, many))
+
+pub all_taken : (taken refused : ℕ) → taken ≤ 1 → 1 ≡ 0 + (taken - refused) → taken ≡ 1
+all_taken taken refused most many = omega (arith, most, many)
+
+-- ---- The text of a session
+
+pub session_text_exists : (history : History) (lines : List (List ℕ)) → (text : List ℕ) × (end : Option (ℕ × LineFault)) × IsSessionText history lines text end
+session_text_exists history lines = text_exists AnswersEvent IsNoEvent total 1 history lines
+
+pub one_session_text : (history : History) (lines : List (List ℕ)) (text text' : List ℕ) (end end' : Option (ℕ × LineFault))
+    → IsSessionText history lines text end → IsSessionText history lines text' end' → (text ≡ text') × (end ≡ end')
+one_session_text history lines text text' end end' h k = one_text AnswersEvent IsNoEvent unique 1 history h.0 k.0 lines text text' end end' h.1 k.1
+
+session_text_continues : (history : History) → Continues (IsSessionText history)
+session_text_continues history lines others text texts = text_continues AnswersEvent IsNoEvent total 1 history lines others text texts
+
+-- ---- What holds a participant writes the text of its history
+
+module _ {S : Type 0} (participant_of : S → ParticipantValue) where
+  shown_by_history : (state next : S) (history : History) (line text : List ℕ) → StandsAt (participant_of state) history → AnswersStanding participant_of state line text next
+      → (history' : History) × StandsAt (participant_of next) history' × AnswersEvent history line text history'
+  shown_by_history state next history line text stands (event, act, is, is_act, at) =
+      let answered = at history stands in (followed_by history act, answered.1, (event, act, is, is_act, answered.0, refl))
+
+  IsSessionText-from : (state : S) (history : History) → StandsAt (participant_of state) history → (lines : List (List ℕ)) (text : List ℕ) (end : Option (ℕ × LineFault))
+      → IsTextFrom (AnswersStanding participant_of) IsNoEvent 1 state lines text end → IsSessionText history lines text end
+  IsSessionText-from state history stands lines text end (last, texts) =
+      let shown = IsTextBy-shown (AnswersStanding participant_of) AnswersEvent IsNoEvent (λ h s. StandsAt (participant_of s) h)
+      (λ s next h line answer at is_answer. shown_by_history s next h line answer at is_answer) 1 state last history lines text end stands texts in
+      (shown.0, shown.2)
+
+  pub RunLeaves-standing : {A : Type 0} (state : S) (history : History) → StandsAt (participant_of state) history → (r : Result A TextFault) (left : Option (List ℕ)) (input text : List ℕ)
+      → RunLeaves (IsTextFrom (AnswersStanding participant_of) IsNoEvent 1 state) r left input text → RunLeaves (IsSessionText history) r left input text
+  RunLeaves-standing state history stands r left input text leaves =
+      RunLeaves-weaker (IsTextFrom (AnswersStanding participant_of) IsNoEvent 1 state) (IsSessionText history)
+      (IsSessionText-from state history stands) r left input text leaves
+
+-- ---- After the line for the start
+
+pub SessionLeaves-opened : {A : Type 0} (history : History) (r : Result A TextFault) (left : Option (List ℕ)) (input answers : List ℕ)
+    → RunLeaves (IsSessionText history) r left input answers → SessionLeaves history r left input (opening history ++ answers)
+SessionLeaves-opened history (Ok x) left input answers leaves = (answers, refl, leaves)
+SessionLeaves-opened history (Err (Text line fault)) left input answers leaves = (answers, refl, leaves)
+SessionLeaves-opened history (Err Memory) left input answers leaves = inr (answers, refl, leaves)
+SessionLeaves-opened history (Err Read) left input answers leaves = (answers, refl, leaves)
+SessionLeaves-opened {A} history (Err Write) left input answers leaves =
+    let found = IsPrefixBy-leaves (IsSessionText history) (session_text_continues history) {A = A} (Err Write) left input answers leaves in
+    (found.0, answers ++ found.1, found.1, found.2, sym (append_assoc (opening history) answers found.1))
+
+-- A prefix of the line for the start is one of the whole text.
+pub IsPrefixOfSession-start : (history : History) (input text more : List ℕ) → opening history ≡ text ++ more → IsPrefixOfSession history input text
+IsPrefixOfSession-start history input text more parts =
+    let found = session_text_exists history (lines_of input) in
+    (found.1, found.0, more ++ found.0, found.2, ap (λ t. t ++ found.0) parts ∙ append_assoc text more found.0)
+
+-- ---- The clauses
+
+pub SessionBefore-block : (history : History) (left : Option (List ℕ)) (input text : List ℕ) → SessionUpToBlock history left input text → SessionBefore history input text
+SessionBefore-block history left input text (inl none) = inl none
+SessionBefore-block history left input text (inr (answers, parts, block)) =
+    inr (answers, parts, AnswersLinesBeforeBy-block (IsSessionText history) left input answers block)
+
+opened_prefix : (history : History) (input text answers : List ℕ) → text ≡ opening history ++ answers
+    → ((end : Option (ℕ × LineFault)) × (more : List ℕ) × IsSessionText history (lines_of input) (answers ++ more) end) → IsPrefixOfSession history input text
+opened_prefix history input text answers parts (end, more, texts) =
+    (end, answers ++ more, more, texts, sym (append_assoc (opening history) answers more) ∙ ap (λ t. t ++ more) (sym parts))
+
+pub IsPrefixOfSession-leaves : {A : Type 0} (history : History) (r : Result A TextFault) (left : Option (List ℕ)) (input text : List ℕ)
+    → SessionLeaves history r left input text → IsPrefixOfSession history input text
+IsPrefixOfSession-leaves {A} history (Ok x) left input text (answers, parts, texts) =
+    opened_prefix history input text answers parts (IsPrefixBy-leaves (IsSessionText history) (session_text_continues history) (Ok x) left input answers texts)
+IsPrefixOfSession-leaves {A} history (Err (Text line fault)) left input text (answers, parts, texts) =
+    opened_prefix history input text answers parts
+    (IsPrefixBy-leaves (IsSessionText history) (session_text_continues history) {A = A} (Err (Text line fault)) left input answers texts)
+IsPrefixOfSession-leaves {A} history (Err Memory) left input text (inl none) =
+    let found = session_text_exists history (lines_of input) in
+    (found.1, found.0, opening history ++ found.0, found.2, ap (λ t. t ++ (opening history ++ found.0)) (sym none))
+IsPrefixOfSession-leaves {A} history (Err Memory) left input text (inr (answers, parts, texts)) =
+    opened_prefix history input text answers parts
+    (IsPrefixBy-leaves (IsSessionText history) (session_text_continues history) {A = A} (Err Memory) left input answers texts)
+IsPrefixOfSession-leaves {A} history (Err Read) left input text (answers, parts, texts) =
+    opened_prefix history input text answers parts
+    (IsPrefixBy-leaves (IsSessionText history) (session_text_continues history) {A = A} (Err Read) left input answers texts)
+IsPrefixOfSession-leaves history (Err Write) left input text leaves = leaves

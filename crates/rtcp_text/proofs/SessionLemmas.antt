@@ -1,0 +1,87 @@
+-- What a session writes: the line for the start, and then what the answers leave.
+use Rattle.std.proofs.Common.{◌≡◌, ℕ, ◌↔◌, List, [], ◌++◌, Option, Some, None, Result, Ok, Err, sym, ◌∙◌, ap, subst, append_assoc, append-nil}
+use Rattle.std.specs.Io.KnownBytes.{Appends}
+use Rattle.std.proofs.KnownBytes.{Appends-nil}
+use Rattle.rtcp_engine.specs.declared.config.ConfigError.{ConfigError}
+use Rattle.rtcp_engine.specs.Histories.{History}
+use Rattle.rtcp_engine.specs.Lives.{life_at, next_in_life}
+use Rattle.rtcp_engine.specs.States.{ParticipantValue, StandsAt}
+use Rattle.rtcp_text.specs.AnswerText.{start_text}
+use Rattle.rtcp_text.specs.declared.fault.TextFault.{TextFault}
+use Rattle.rtcp_text.specs.declared.fault.TextFault.TheVariants.{Write}
+use Rattle.rtcp_text.specs.declared.fault.ReplayFault.{ReplayFault}
+use Rattle.rtcp_text.specs.declared.fault.ReplayFault.TheVariants.{Config, Run}
+use Rattle.rtcp_text.specs.Lines.{IsTextFrom, Writes}
+use Rattle.rtcp_text.specs.Progress.{RunLeaves}
+use Rattle.rtcp_text.specs.Replay.{AnswersStanding, IsNoEvent, SessionLeaves, opening}
+use Rattle.rtcp_text.proofs.ReplayLemmas.{RunLeaves-standing, SessionLeaves-opened, IsPrefixOfSession-start}
+
+-- What is appended to nothing for the next moment is the line for the start.
+pub opening_shown : (history : History) (next : Option ℕ) (before start : List ℕ) → start ≡ before ++ start_text next → before ≡ []
+    → next ≡ next_in_life (life_at history) → start ≡ opening history
+opening_shown history next before start parts none same = parts ∙ ap (λ b. b ++ start_text next) none ∙ ap start_text same
+
+-- What a writer held is known where it grew by a text.
+appended_to : (held holds : Option (List ℕ)) (before text : List ℕ) → Appends held holds text → held ≡ Some before → holds ≡ Some (before ++ text)
+appended_to None holds before text appends known = absurd (cc known)
+appended_to (Some x) None before text appends known = absurd appends
+appended_to (Some x) (Some y) before text appends known = cc (appends, known)
+
+-- Nothing is written where no call of the writer is made.
+pub Writes-nothing : (remaining held : Option (List ℕ)) (P : List ℕ → List ℕ → Type 0) → ((input : List ℕ) → P input []) → Writes remaining held held P
+Writes-nothing remaining held P holds = λ input before known written.
+    ([], appended_to held held before [] (Appends-nil held) written, holds input)
+
+-- A prefix of the line for the start is written.
+pub Writes-start_cut : (A : Type 0) (history : History) (fault : TextFault) (remaining held holds left : Option (List ℕ)) (start prefix more : List ℕ)
+    → start ≡ opening history → start ≡ prefix ++ more → Appends held holds prefix → fault ≡ Write → Writes remaining held holds (SessionLeaves history {A = A} (Err fault) left)
+Writes-start_cut A history fault remaining held holds left start prefix more opens parts appends is_write = λ input before known written. (
+  prefix,
+  appended_to held holds before prefix appends written,
+  subst (λ f. SessionLeaves history {A = A} (Err f) left input prefix) (sym is_write) (IsPrefixOfSession-start history input prefix more (sym opens ∙ parts)),
+)
+
+-- The line for the start is written, and then what the answers leave.
+module _ {S : Type 0} (participant_of : S → ParticipantValue) where
+  pub Writes-session : {A : Type 0} (state : S) (history : History) → StandsAt (participant_of state) history
+      → (r : Result A TextFault) (remaining held holds last left : Option (List ℕ)) (start prefix more : List ℕ)
+      → start ≡ opening history → start ≡ prefix ++ more → more ≡ [] → Appends held holds prefix
+      → Writes remaining holds last (RunLeaves (IsTextFrom (AnswersStanding participant_of) IsNoEvent 1 state) r left)
+      → Writes remaining held last (SessionLeaves history r left)
+  Writes-session state history stands r remaining held holds last left start prefix more opens parts none appends writes = λ input before known written.
+      let is_prefix : prefix ≡ opening history = sym (append-nil prefix) ∙ ap (λ m. prefix ++ m) (sym none) ∙ sym parts ∙ opens in
+      let found = writes input (before ++ prefix) known (appended_to held holds before prefix appends written) in
+      let same : (before ++ prefix) ++ found.0 ≡ before ++ (opening history ++ found.0) =
+      append_assoc before prefix found.0 ∙ ap (λ p. before ++ (p ++ found.0)) is_prefix in (
+        opening history ++ found.0,
+        found.1 ∙ ap Some same,
+        SessionLeaves-opened history r left input found.0 (RunLeaves-standing participant_of state history stands r left input found.0 found.2),
+      )
+
+-- ---- The fault of a replay
+
+-- What a run's fault leaves is what a replay's fault says.
+pub Writes-run : (A B : Type 0) (history : History) (remaining held holds left : Option (List ℕ)) (fault wanted : TextFault)
+    → ◌≡◌ {A = Result B ReplayFault} (Err (Run fault)) (Err (Run wanted)) → Writes remaining held holds (SessionLeaves history {A = A} (Err fault) left)
+    → Writes remaining held holds (SessionLeaves history {A = A} (Err wanted) left)
+Writes-run A B history remaining held holds left fault wanted is writes =
+    let same : fault ≡ wanted = cc is in subst (λ f. Writes remaining held holds (SessionLeaves history {A = A} (Err f) left)) same writes
+
+-- A configuration is refused for one reason.
+pub refused_config : (A B P : Type 0) (found error : ConfigError) → (◌≡◌ {A = Result A ConfigError} (Err found) (Err error) ↔ P) → ◌≡◌ {A = Result B ReplayFault} (Err (Config found)) (Err (Config error)) ↔ P
+refused_config A B P found error h =
+    (λ e. h.0 (let same : found ≡ error = cc e in ap Err same), λ p. (let same : found ≡ error = cc (h.1 p) in ap (λ f. Err (Config f)) same))
+
+-- One that is taken has none.
+pub taken_config : (A B P : Type 0) (participant : A) (r : Result B ReplayFault) (error : ConfigError) → ((Ok participant ≡ Err error) ↔ P) → (r ≡ Err (Config error) → ⊥)
+    → (r ≡ Err (Config error)) ↔ P
+taken_config A B P participant r error h never = (λ e. absurd (never e), λ p. absurd (cc (h.1 p)))
+
+pub never_well : (B : Type 0) (x : B) (fault : ReplayFault) → Ok x ≡ Err fault → ⊥
+never_well B x fault e = cc e
+
+pub never_run : (B : Type 0) (fault : TextFault) (error : ConfigError) → ◌≡◌ {A = Result B ReplayFault} (Err (Run fault)) (Err (Config error)) → ⊥
+never_run B fault error e = cc e
+
+pub never_none : (found : Option ConfigError) (error : ConfigError) → found ≡ Some error → found ≡ None → ⊥
+never_none found error is none = cc (is, none)

@@ -1,0 +1,19 @@
+-- The event of the line is one act, and the participant answers that.
+use Rattle.rtcp_engine.specs.Answers.{answer_of}
+use Rattle.rtcp_engine.specs.Views.{event_value}
+use Rattle.rtcp_text.proofs.ReplayLemmas.{act_exists, answer_shown}
+use Rattle.rtcp_text.proofs.player.PlayerAnswerer.compose.Goals as goal
+
+pub returns-in-Ok-push_answer : goal.returns-in-Ok-push_answer
+returns-in-Ok-push_answer g c =
+    let event = c.in-Ok.event in
+    let found = act_exists (event_value event) in (
+      event_value event,
+      found.0,
+      c.in-Ok.ensures.event,
+      found.1,
+      λ history stands. (
+        answer_shown _ _ _ (answer_of history found.0) c.in-Ok-push_answer.ensures c.requires.empty (c.answer_to-answer.ensures.answer history found.0 stands found.1),
+        c.answer_to-answer.ensures.stands history found.0 stands found.1,
+      ),
+    )

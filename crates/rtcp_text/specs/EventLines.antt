@@ -1,0 +1,102 @@
+-- What a line of a session says, as `rtcp replay` reads it.
+use Rattle.std.specs.Prelude.{ℕ, ◌==◌, List, [], ◌∷◌, if◌then◌else◌, Option, Some, None, Result, Ok, Err, codes}
+use Rattle.std.specs.Borrow.{Bor}
+use Rattle.std.specs.Int.{w32}
+use Rattle.std.specs.List.{slice_split}
+use Rattle.std.specs.Option.{ok_or}
+use Rattle.std.specs.Str.{bytes_eq}
+use Rattle.rtcp_engine.specs.Acts.{EventValue, rtcp_arrived, rtp_arrived, packet_sent, time_passed, leave_asked}
+use Rattle.rtcp_text.specs.declared.event_line.LineKind.{LineKind}
+use Rattle.rtcp_text.specs.declared.event_line.LineKind.TheVariants.{Rtcp, Rtp, Sent, Ticked, Left}
+use Rattle.rtcp_text.specs.declared.fault.LineFault.{LineFault}
+use Rattle.rtcp_text.specs.declared.fault.LineFault.TheVariants.{Words, Hex, Number}
+use Rattle.rtcp_text.specs.Numerals.{decimal_in, hex_in, datagram_in}
+use Rattle.rtcp_text.specs.Results.{◌>>=◌}
+
+-- ---- Fields
+
+-- what stands between the spaces (32) of a line
+abbrev pub fields_of : List ℕ → List (List ℕ)
+fields_of line = slice_split (λ octet. octet == 32) line
+
+-- what stands so after a field, if something comes after it
+abbrev pub fields_left : Option (Bor (List ℕ)) → List (List ℕ)
+fields_left None = []
+fields_left (Some rest) = fields_of rest.now
+
+abbrev pub moment_in : List ℕ → Result ℕ LineFault
+moment_in field = ok_or (decimal_in 64 field) Number
+
+-- A peer is any number below 2^64.
+abbrev pub peer_in : List ℕ → Result ℕ LineFault
+peer_in field = ok_or (decimal_in 64 field) Number
+
+abbrev pub short_in : List ℕ → Result ℕ LineFault
+short_in field = ok_or (decimal_in 32 field) Number
+
+abbrev pub word_in : List ℕ → Result ℕ LineFault
+word_in field = ok_or (hex_in w32 field) Hex
+
+abbrev pub octets_in : List ℕ → Result (List ℕ) LineFault
+octets_in field = ok_or (datagram_in field) Hex
+
+-- ---- Lines
+
+abbrev pub arrival : ((moment peer word : ℕ) → List ℕ → EventValue) → List (List ℕ) → Result EventValue LineFault
+arrival arrived (moment ∷ peer ∷ word ∷ datagram ∷ []) = do
+  now ← moment_in moment
+  from ← peer_in peer
+  random ← word_in word
+  octets ← octets_in datagram
+  Ok (arrived now from random octets)
+arrival arrived _ = Err Words
+
+abbrev pub sending : List (List ℕ) → Result EventValue LineFault
+sending (moment ∷ timestamp ∷ octets ∷ []) = do
+  now ← moment_in moment
+  rtp ← short_in timestamp
+  count ← short_in octets
+  Ok (packet_sent now rtp count)
+sending _ = Err Words
+
+abbrev pub tick : List (List ℕ) → Result EventValue LineFault
+tick (moment ∷ first ∷ second ∷ []) = do
+  now ← moment_in moment
+  first_word ← word_in first
+  second_word ← word_in second
+  Ok (time_passed now first_word second_word)
+tick _ = Err Words
+
+abbrev pub leave : List (List ℕ) → Result EventValue LineFault
+leave (moment ∷ word ∷ []) = do
+  now ← moment_in moment
+  random ← word_in word
+  Ok (leave_asked now random)
+leave _ = Err Words
+
+-- what the first field of a line names
+abbrev pub kind_named : List ℕ → Option LineKind
+kind_named name =
+    if bytes_eq name (codes "rtcp") then Some Rtcp
+    else (if bytes_eq name (codes "rtp") then Some Rtp
+    else (if bytes_eq name (codes "sent") then Some Sent
+    else (if bytes_eq name (codes "tick") then Some Ticked
+    else (if bytes_eq name (codes "leave") then Some Left
+    else None))))
+
+-- by the kind of the line, with the fields after the first
+abbrev pub event_with : Option LineKind → List (List ℕ) → Result EventValue LineFault
+event_with None fields = Err Words
+event_with (Some Rtcp) fields = arrival rtcp_arrived fields
+event_with (Some Rtp) fields = arrival rtp_arrived fields
+event_with (Some Sent) fields = sending fields
+event_with (Some Ticked) fields = tick fields
+event_with (Some Left) fields = leave fields
+
+abbrev pub event_of : List (List ℕ) → Result EventValue LineFault
+event_of [] = Err Words
+event_of (name ∷ fields) = event_with (kind_named name) fields
+
+-- The event of a line, or the first fault of the line.
+abbrev pub event_in : (line : List ℕ) → Result EventValue LineFault
+event_in line = event_of (fields_of line)

@@ -1,0 +1,83 @@
+-- The text of a session: what a participant answers to the events that the lines of an input say.
+use Rattle.std.specs.Prelude.{◌≡◌, ℕ, ◌⊎◌, List, [], ◌++◌, Option, Some, None, Result, Ok, Err}
+use Rattle.rtcp_engine.specs.Acts.{Act, EventValue, IsActOfEvent}
+use Rattle.rtcp_engine.specs.Histories.{History}
+use Rattle.rtcp_engine.specs.Lives.{life_at, next_in_life}
+use Rattle.rtcp_engine.specs.Answers.{answer_of, followed_by}
+use Rattle.rtcp_engine.specs.States.{ParticipantValue, StandsAt}
+use Rattle.rtcp_text.specs.declared.fault.LineFault.{LineFault}
+use Rattle.rtcp_text.specs.declared.fault.TextFault.{TextFault}
+use Rattle.rtcp_text.specs.declared.fault.TextFault.TheVariants.{Text, Read, Write, Memory}
+use Rattle.rtcp_text.specs.EventLines.{event_in}
+use Rattle.rtcp_text.specs.AnswerText.{start_text, answer_text}
+use Rattle.rtcp_text.specs.Lines.{lines_of, Answering, Refusing, IsTextFrom, TextOfLines, AnswersWhatCameBy, AnswersUpToBlockBy, AnswersLinesBeforeBy}
+
+-- ---- Lines
+
+-- The line says an act, the text is the participant's answer to it, and the history goes on with it.
+abbrev pub AnswersEvent : Answering History
+AnswersEvent history line text next =
+    (event : EventValue) × (act : Act) × (event_in line ≡ Ok event) × IsActOfEvent event act
+    × (text ≡ answer_text (answer_of history act)) × (next ≡ followed_by history act)
+
+-- The same of something that holds a participant, whichever history that stands at.
+abbrev pub AnswersStanding : {S : Type 0} → (S → ParticipantValue) → Answering S
+AnswersStanding participant_of before line text after =
+    (event : EventValue) × (act : Act) × (event_in line ≡ Ok event) × IsActOfEvent event act
+    × ((history : History) → StandsAt (participant_of before) history
+    → (text ≡ answer_text (answer_of history act)) × StandsAt (participant_of after) (followed_by history act))
+
+-- the fault that a line has by itself
+abbrev pub IsNoEvent : Refusing
+IsNoEvent line fault = event_in line ≡ Err fault
+
+-- ---- Sessions
+
+-- The answers to lines after a history, with the end.
+abbrev pub IsSessionText : History → TextOfLines
+IsSessionText history lines text end = IsTextFrom AnswersEvent IsNoEvent 1 history lines text end
+
+-- the line for the start, with the moment of the first tick, if there is one
+abbrev pub opening : History → List ℕ
+opening history = start_text (next_in_life (life_at history))
+
+-- The text is the line for the start and then answers, of which P holds.
+abbrev pub Opens : History → (List ℕ → List ℕ → Type 0) → List ℕ → List ℕ → Type 0
+Opens history P input text = (answers : List ℕ) × (text ≡ opening history ++ answers) × P input answers
+
+-- the text of the whole session, with its end
+abbrev pub IsSessionOf : History → Option (ℕ × LineFault) → List ℕ → List ℕ → Type 0
+IsSessionOf history end = Opens history (λ input answers. IsSessionText history (lines_of input) answers end)
+
+-- ---- What a replay leaves
+
+-- a prefix of the text of the whole session, however it ends
+abbrev pub IsPrefixOfSession : History → List ℕ → List ℕ → Type 0
+IsPrefixOfSession history input text =
+    (end : Option (ℕ × LineFault)) × (answers : List ℕ) × (more : List ℕ)
+    × IsSessionText history (lines_of input) answers end × (opening history ++ answers ≡ text ++ more)
+
+-- The reader gave lines and then a part of a line, and has this left: after the start come the answers to
+-- those lines.
+abbrev pub SessionOfWhatCame : History → Option (List ℕ) → List ℕ → List ℕ → Type 0
+SessionOfWhatCame history left = Opens history (AnswersWhatCameBy (IsSessionText history) left)
+
+-- Nothing, or after the start the answers to the lines before some line of the input.
+abbrev pub SessionBefore : History → List ℕ → List ℕ → Type 0
+SessionBefore history input text =
+    (text ≡ []) ⊎ Opens history (AnswersLinesBeforeBy (IsSessionText history)) input text
+
+-- Nothing, or after the start the answers to some lines: the reader gave these, then a part of a line, then at
+-- most 8,192 octets, and has this left.
+abbrev pub SessionUpToBlock : History → Option (List ℕ) → List ℕ → List ℕ → Type 0
+SessionUpToBlock history left input text =
+    (text ≡ []) ⊎ Opens history (AnswersUpToBlockBy (IsSessionText history) left) input text
+
+-- What a text is for the whole input, with the outcome and what the reader has left.
+abbrev pub SessionLeaves : History → {A : Type 0} → Result A TextFault
+    → Option (List ℕ) → List ℕ → List ℕ → Type 0
+SessionLeaves history (Ok x) left input text = IsSessionOf history None input text
+SessionLeaves history (Err (Text line fault)) left input text = IsSessionOf history (Some (line, fault)) input text
+SessionLeaves history (Err Memory) left input text = SessionUpToBlock history left input text
+SessionLeaves history (Err Read) left input text = SessionOfWhatCame history left input text
+SessionLeaves history (Err Write) left input text = IsPrefixOfSession history input text

@@ -1,0 +1,60 @@
+//! A text that is read in blocks, and answered line by line.
+
+ghost use Rattle.std.specs.Prelude.{◌≡◌, ◌≢◌, ◌≤◌, ◌↔◌};
+ghost use Rattle.rtcp_text.specs.Counted.{failures_of, inner_of};
+ghost use Rattle.rtcp_text.specs.Lines.{Wrote, IsTextFrom};
+ghost use Rattle.rtcp_text.specs.Progress.{RunLeaves};
+
+use crate::answerer::Answerer;
+use crate::counted::Counted;
+use crate::fault::TextFault;
+use crate::lines::LineCutter;
+use crate::writing::flush;
+use std::alloc::Global;
+use std::io::{Read, Write};
+
+/// The most octets that one read asks for.
+const BLOCK: usize = 8_192;
+
+/// Answers the lines of the reader's input, block by block, up to its end or the first fault. What was
+/// written is flushed before each read; what is answered after the last one is left for the caller to flush.
+///
+/// # Errors
+///
+/// - [`TextFault::Text`] at the first line that is too long, one too many, or that the answerer refuses. The
+///   answers to the lines before it are written.
+/// - [`TextFault::Read`] where a call of the reader fails. The answers to the whole lines that were read are
+///   written.
+/// - [`TextFault::Write`] where a call of the writer fails, a flush included, or takes nothing. A prefix of
+///   the answers is written.
+/// - [`TextFault::Memory`] where memory is refused. The answers to the first lines are written, at least to
+///   those that ended before the last block that was read.
+pub fn answer_blocks<A: Answerer, R: Read, W: Write>(
+    alloc: Global,
+    answerer: A,
+    reader: &mut Counted<R>,
+    writer: &mut Counted<W>,
+) -> Result<(), TextFault>
+    requires reader_unfailed { failures_of reader.old ≡ 0 }
+    requires writer_unfailed { failures_of writer.old ≡ 0 }
+    ensures leaves { Wrote R.remaining W.contents reader.old writer.old writer.new
+        (RunLeaves (IsTextFrom A.answers A.refuses 1 answerer) result (R.remaining (inner_of reader.new))) }
+    ensures read_failed { (result ≡ Err TextFault.Read) ↔ (failures_of reader.new ≢ 0) }
+    ensures write_failed { (result ≡ Err TextFault.Write) ↔ (failures_of writer.new ≢ 0) }
+    ensures read_once { failures_of reader.new ≤ 1 }
+    ensures write_once { failures_of writer.new ≤ 1 }
+{
+    let mut cutter = LineCutter::new(alloc, answerer);
+    let mut block = [0; BLOCK];
+    'turns: loop {
+        flush(writer)?;
+        let count = match reader.read(&mut block) {
+            Ok(count) => count,
+            Err(_) => return Err(TextFault::Read),
+        };
+        if count == 0 {
+            return cutter.finish(writer);
+        }
+        cutter.take(&block[..count], writer)?;
+    }
+}

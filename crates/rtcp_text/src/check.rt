@@ -1,0 +1,70 @@
+//! A check of a text: an answer for each line of hex.
+
+ghost use Rattle.std.specs.Prelude.{◌≡◌, ◌≢◌, ◌≤◌, ◌↔◌, ℕ, Some, None, OnOk};
+ghost use Rattle.rtcp_text.specs.Check.{IsTextOf, IsPrefixOfText, AnswersWhatCame, AnswersLinesBefore, AnswersUpToBlock};
+ghost use Rattle.rtcp_text.specs.Counted.{failures_of, inner_of};
+ghost use Rattle.rtcp_text.specs.Lines.{Wrote};
+ghost use Rattle.rtcp_text.specs.declared.fault.LineFault.{LineFault as Fault};
+
+use crate::answer::Checker;
+use crate::blocks::answer_blocks;
+use crate::counted::Counted;
+use crate::fault::TextFault;
+use crate::laws::one_text;
+use rtcp_wire::laws::accepted_or_faulty;
+use std::alloc::Global;
+use std::io::{Read, Write};
+
+/// Reads a text, a datagram in hex on each line, and writes a line for each: the datagram's packets, or its
+/// first fault.
+///
+/// A line has at most 131,200 octets before its line feed, which the last line may lack, and the text has at
+/// most 65,536 lines. The answer to a line is written before the next line is looked at. What was answered is
+/// flushed before the reader is asked for more, so a line's answer is seen while the next line is awaited;
+/// what is answered after the last read is left for the caller to flush. The first call of the reader or the
+/// writer that fails ends the run.
+///
+/// # Errors
+///
+/// - [`TextFault::Text`] at the first line that is too long, one too many, or not hex. The answers to the
+///   lines before it are written.
+/// - [`TextFault::Read`] where a call of the reader fails, for whatever reason. The answers to the whole
+///   lines that were read are written.
+/// - [`TextFault::Write`] where a call of the writer fails, a flush included, or takes nothing. A prefix of
+///   the answers is written.
+/// - [`TextFault::Memory`] where memory is refused. The answers to the first lines are written, at least to
+///   those that ended before the last block that was read.
+pub fn check<R: Read, W: Write>(
+    alloc: Global,
+    reader: &mut Counted<R>,
+    writer: &mut Counted<W>,
+) -> Result<(), TextFault>
+    requires reader_unfailed { failures_of reader.old ≡ 0 }
+    requires writer_unfailed { failures_of writer.old ≡ 0 }
+
+    // What is written is always a prefix of the text of the whole input.
+    ensures prefix { Wrote R.remaining W.contents reader.old writer.old writer.new IsPrefixOfText }
+    ensures whole { OnOk result
+        (Wrote R.remaining W.contents reader.old writer.old writer.new (IsTextOf None)) }
+    ensures refused { (line : ℕ) (fault : Fault) → result ≡ Err (TextFault.Text line fault)
+        → Wrote R.remaining W.contents reader.old writer.old writer.new (IsTextOf (Some (line, fault))) }
+    ensures read { result ≡ Err TextFault.Read
+        → Wrote R.remaining W.contents reader.old writer.old writer.new
+        (AnswersWhatCame (R.remaining (inner_of reader.new))) }
+    ensures memory { result ≡ Err TextFault.Memory
+        → Wrote R.remaining W.contents reader.old writer.old writer.new AnswersLinesBefore }
+    ensures memory_block { result ≡ Err TextFault.Memory
+        → Wrote R.remaining W.contents reader.old writer.old writer.new
+        (AnswersUpToBlock (R.remaining (inner_of reader.new))) }
+
+    // A call failed exactly where the fault says so, and only one.
+    ensures read_failed { (result ≡ Err TextFault.Read) ↔ (failures_of reader.new ≢ 0) }
+    ensures write_failed { (result ≡ Err TextFault.Write) ↔ (failures_of writer.new ≢ 0) }
+    ensures read_once { failures_of reader.new ≤ 1 }
+    ensures write_once { failures_of writer.new ≤ 1 }
+{
+    // So every input has a text, of which what is written is a prefix, and only one.
+    accepted_or_faulty();
+    one_text();
+    answer_blocks(alloc, Checker::new(alloc), reader, writer)
+}

@@ -1,0 +1,243 @@
+//! A line of a session, as `rtcp replay` reads it.
+
+ghost use Rattle.std.specs.Prelude.{◌≡◌, ◌≢◌, ℕ, List, ◌∷◌, [], Ok, Err, IfOk, IfErr, IfSome, IfNone, length};
+ghost use Rattle.rtcp_engine.specs.Acts.{EventValue};
+ghost use Rattle.rtcp_engine.specs.Views.{event_value};
+ghost use Rattle.rtcp_text.specs.EventLines.{arrival, event_in, fields_left, fields_of, kind_named, leave, moment_in, octets_in, sending, tick};
+ghost use Rattle.rtcp_text.specs.declared.event_line.EventFault.TheVariants.{Line};
+ghost use Rattle.rtcp_text.specs.declared.fault.LineFault.{LineFault as Fault};
+
+use crate::digit_pairs::{DecodeFault, decode};
+use crate::fault::LineFault;
+use crate::numerals::{read_decimal, read_short_decimal, read_word};
+use memchr::memchr;
+use rtcp_engine::Event;
+use thiserror::Error;
+
+/// Why a line gives no event.
+#[derive(Clone, Copy, Debug, PartialEq, Eq, Error)]
+pub enum EventFault {
+    /// The line has this fault.
+    #[error("{0}")]
+    Line(LineFault),
+    /// Memory was asked for and refused.
+    #[error("memory")]
+    Memory,
+}
+
+impl From<LineFault> for EventFault {
+    ghost from_gives = { λ fault gives. gives ≡ Line fault };
+
+    fn from(fault: LineFault) -> EventFault {
+        EventFault::Line(fault)
+    }
+}
+
+/// The event that a line says. The octets of its datagram, if it has one, go into `datagram`, a buffer that
+/// is kept from line to line.
+///
+/// # Errors
+///
+/// - [`EventFault::Line`] where the line has a fault: the first one.
+/// - [`EventFault::Memory`] where memory is refused.
+///
+/// After an error it is left open what the buffer holds.
+pub fn read_event<'a>(line: &[u8], datagram: &'a mut Vec<u8>) -> Result<Event<'a>, EventFault>
+    ensures event { IfOk result (λ event. event_in line.now ≡ Ok (event_value event)) }
+    ensures fault { (fault : Fault) → result ≡ Err (Line fault) → event_in line.now ≡ Err fault }
+{
+    let (name, fields) = split_field(line);
+    match kind_of(name).ok_or(LineFault::Words)? {
+        LineKind::Rtcp => {
+            let came = read_arrival(fields, datagram)?;
+            Ok(Event::ArriveRtcp {
+                now: came.now,
+                peer: came.peer,
+                w: came.word,
+                bytes: came.bytes,
+            })
+        }
+        LineKind::Rtp => {
+            let came = read_arrival(fields, datagram)?;
+            Ok(Event::ArriveRtp {
+                now: came.now,
+                peer: came.peer,
+                w: came.word,
+                bytes: came.bytes,
+            })
+        }
+        LineKind::Sent => Ok(read_sending(fields)?),
+        LineKind::Ticked => Ok(read_tick(fields)?),
+        LineKind::Left => Ok(read_leave(fields)?),
+    }
+}
+
+/// What a line says that happened.
+#[derive(Clone, Copy, Debug, PartialEq, Eq)]
+enum LineKind {
+    /// An RTCP datagram came.
+    Rtcp,
+    /// An RTP datagram came.
+    Rtp,
+    /// The host sent an RTP packet.
+    Sent,
+    /// Time passed.
+    Ticked,
+    /// The participant is to leave.
+    Left,
+}
+
+/// What the first field of a line names.
+fn kind_of(name: &[u8]) -> Option<LineKind>
+    ensures { result ≡ kind_named name.now }
+{
+    match name {
+        b"rtcp" => Some(LineKind::Rtcp),
+        b"rtp" => Some(LineKind::Rtp),
+        b"sent" => Some(LineKind::Sent),
+        b"tick" => Some(LineKind::Ticked),
+        b"leave" => Some(LineKind::Left),
+        _ => None,
+    }
+}
+
+/// A datagram that came.
+#[derive(Clone, Copy, Debug)]
+struct Came<'a> {
+    /// When, in microseconds since the session began.
+    now: u64,
+    /// A number for where it came from.
+    peer: u64,
+    /// A random word, for a new SSRC.
+    word: u32,
+    bytes: &'a [u8],
+}
+
+/// The datagram that a line says came.
+fn read_arrival<'a>(
+    fields: Option<&[u8]>,
+    datagram: &'a mut Vec<u8>,
+) -> Result<Came<'a>, EventFault>
+    ensures arrival { IfOk result (λ came. (arrived : (moment peer word : ℕ) → List ℕ → EventValue) →
+        arrival arrived (fields_left fields.entry) ≡ Ok (arrived came.now came.peer came.word came.bytes.now)) }
+    ensures fault { (fault : Fault) → result ≡ Err (Line fault) →
+        (arrived : (moment peer word : ℕ) → List ℕ → EventValue) →
+        arrival arrived (fields_left fields.entry) ≡ Err fault }
+{
+    let (moment, peer, word, octets) = four_fields(fields).ok_or(LineFault::Words)?;
+    let now = read_moment(moment)?;
+    let peer = read_decimal(peer).ok_or(LineFault::Number)?;
+    let word = read_word(word).ok_or(LineFault::Hex)?;
+    let bytes = read_octets(octets, datagram)?;
+    Ok(Came {
+        now,
+        peer,
+        word,
+        bytes,
+    })
+}
+
+/// The event of a packet that the host sent.
+fn read_sending(fields: Option<&[u8]>) -> Result<Event<'static>, LineFault>
+    ensures event { IfOk result (λ event. sending (fields_left fields.entry) ≡ Ok (event_value event)) }
+    ensures fault { IfErr result (λ fault. sending (fields_left fields.entry) ≡ Err fault) }
+{
+    let (moment, timestamp, octets) = three_fields(fields).ok_or(LineFault::Words)?;
+    Ok(Event::SentRtp {
+        now: read_moment(moment)?,
+        rtp_ts: read_short_decimal(timestamp).ok_or(LineFault::Number)?,
+        octets: read_short_decimal(octets).ok_or(LineFault::Number)?,
+    })
+}
+
+/// The event of a tick.
+fn read_tick(fields: Option<&[u8]>) -> Result<Event<'static>, LineFault>
+    ensures event { IfOk result (λ event. tick (fields_left fields.entry) ≡ Ok (event_value event)) }
+    ensures fault { IfErr result (λ fault. tick (fields_left fields.entry) ≡ Err fault) }
+{
+    let (moment, first, second) = three_fields(fields).ok_or(LineFault::Words)?;
+    Ok(Event::Tick {
+        now: read_moment(moment)?,
+        w1: read_word(first).ok_or(LineFault::Hex)?,
+        w2: read_word(second).ok_or(LineFault::Hex)?,
+    })
+}
+
+/// The event of a leave.
+fn read_leave(fields: Option<&[u8]>) -> Result<Event<'static>, LineFault>
+    ensures event { IfOk result (λ event. leave (fields_left fields.entry) ≡ Ok (event_value event)) }
+    ensures fault { IfErr result (λ fault. leave (fields_left fields.entry) ≡ Err fault) }
+{
+    let (moment, word) = two_fields(fields).ok_or(LineFault::Words)?;
+    Ok(Event::Leave {
+        now: read_moment(moment)?,
+        w: read_word(word).ok_or(LineFault::Hex)?,
+    })
+}
+
+fn read_moment(field: &[u8]) -> Result<u64, LineFault>
+    ensures { result ≡ moment_in field.now }
+{
+    read_decimal(field).ok_or(LineFault::Number)
+}
+
+/// The octets that a field says, in a buffer that is kept from line to line.
+fn read_octets<'a>(field: &[u8], datagram: &'a mut Vec<u8>) -> Result<&'a [u8], EventFault>
+    ensures octets { IfOk result (λ octets. octets_in field.now ≡ Ok octets.now) }
+    ensures fault { (fault : Fault) → result ≡ Err (Line fault) → octets_in field.now ≡ Err fault }
+{
+    match field {
+        b"-" => Ok(&[]),
+        b"" => Err(EventFault::Line(LineFault::Hex)),
+        _ => match decode(field, datagram) {
+            Ok(()) => Ok(datagram.as_slice()),
+            Err(DecodeFault::NotHex) => Err(EventFault::Line(LineFault::Hex)),
+            Err(DecodeFault::Memory) => Err(EventFault::Memory),
+        },
+    }
+}
+
+/// The four fields after a first one, if there are just four.
+fn four_fields(rest: Option<&[u8]>) -> Option<(&[u8], &[u8], &[u8], &[u8])>
+    ensures some { IfSome result (λ fields.
+        fields_left rest.entry ≡ fields.0.now ∷ fields.1.now ∷ fields.2.now ∷ fields.3.now ∷ []) }
+    ensures none { IfNone result (length (fields_left rest.entry) ≢ 4) }
+{
+    let (first, rest) = split_field(rest?);
+    let (second, third, fourth) = three_fields(rest)?;
+    Some((first, second, third, fourth))
+}
+
+/// The three fields after a first one, if there are just three.
+fn three_fields(rest: Option<&[u8]>) -> Option<(&[u8], &[u8], &[u8])>
+    ensures some { IfSome result (λ fields.
+        fields_left rest.entry ≡ fields.0.now ∷ fields.1.now ∷ fields.2.now ∷ []) }
+    ensures none { IfNone result (length (fields_left rest.entry) ≢ 3) }
+{
+    let (first, rest) = split_field(rest?);
+    let (second, third) = two_fields(rest)?;
+    Some((first, second, third))
+}
+
+/// The two fields after a first one, if there are just two.
+fn two_fields(rest: Option<&[u8]>) -> Option<(&[u8], &[u8])>
+    ensures some { IfSome result (λ fields. fields_left rest.entry ≡ fields.0.now ∷ fields.1.now ∷ []) }
+    ensures none { IfNone result (length (fields_left rest.entry) ≢ 2) }
+{
+    let (first, rest) = split_field(rest?);
+    let (second, rest) = split_field(rest?);
+    match rest {
+        Some(_) => None,
+        None => Some((first, second)),
+    }
+}
+
+/// The first field, and what comes after its space, if it has one.
+fn split_field(octets: &[u8]) -> (&[u8], Option<&[u8]>)
+    ensures { fields_of octets.now ≡ result.0.now ∷ fields_left result.1 }
+{
+    match memchr(b' ', octets) {
+        Some(end) => (octets.split_at(end).0, Some(octets.split_at(end + 1).1)),
+        None => (octets, None),
+    }
+}

@@ -1,0 +1,177 @@
+//! The lines of a text that is read in blocks, and their answers.
+
+ghost use Rattle.std.specs.Prelude.{◌≡◌, ◌≢◌, ◌+◌, ◌<◌, ◌≤◌, ◌++◌, ◌↔◌, [], length, OnOk, vec_len};
+ghost use Rattle.rtcp_text.specs.Counted.{failures_of, inner_of};
+ghost use Rattle.rtcp_text.specs.Lines.{HasNoLineFeed};
+ghost use Rattle.rtcp_text.specs.Progress.{Grows, IsBetween, IsAfterLine, Lengthens, LineLeaves, PartLeaves, EndLeaves};
+
+use crate::answerer::Answerer;
+use crate::counted::Counted;
+use crate::fault::{LineFault, TextFault};
+use crate::writing::write_whole;
+use memchr::memchr;
+use std::alloc::Global;
+use std::io::Write;
+
+/// The most lines that are looked at.
+const MAX_LINES: u64 = 65_536;
+
+/// The most octets of a line, its line feed not counted.
+const MAX_LINE: usize = 131_200;
+
+/// Cuts a text into its lines and has each answered as it comes. The buffers are kept from line to line.
+#[derive(Drop)]
+pub(crate) struct LineCutter<A> {
+    answerer: A,
+    answered: u64,
+    pending: Vec<u8>,
+    text: Vec<u8>,
+}
+
+impl<A: Answerer> LineCutter<A> {
+    /// A cutter that has had no line answered.
+    pub(crate) fn new(alloc: Global, answerer: A) -> Self
+        ensures answerer { result.answerer ≡ answerer }
+        ensures answered { result.answered ≡ 0 }
+        ensures pending { result.pending.items ≡ [] }
+    {
+        LineCutter {
+            answerer,
+            answered: 0,
+            pending: Vec::new(alloc),
+            text: Vec::new(alloc),
+        }
+    }
+
+    /// Takes the next octets of the input, and answers each line that ends in them. What follows the last
+    /// line feed is kept.
+    ///
+    /// # Errors
+    ///
+    /// Those of [`answer_blocks`](crate::blocks::answer_blocks) but for `Read`. The cutter is not to be used
+    /// after one.
+    pub(crate) fn take<W: Write>(
+        &mut self,
+        block: &[u8],
+        writer: &mut Counted<W>,
+    ) -> Result<(), TextFault>
+        requires between { IsBetween self.old.answered self.old.pending.items }
+        requires unfailed { failures_of writer.old ≡ 0 }
+        ensures written { Grows (W.contents (inner_of writer.old)) (W.contents (inner_of writer.new))
+            (PartLeaves A.answers A.refuses result
+            self.old.answered self.old.answerer (self.old.pending.items ++ block.now)
+            self.new.answered self.new.answerer self.new.pending.items) }
+        ensures between { OnOk result (IsBetween self.new.answered self.new.pending.items) }
+        ensures failed { (result ≡ Err TextFault.Write) ↔ (failures_of writer.new ≢ 0) }
+        ensures once { failures_of writer.new ≤ 1 }
+    {
+        let mut rest = block;
+        while !rest.is_empty() {
+            let (piece, after) = split_line(rest);
+            self.append(piece)?;
+            let Some((_, others)) = after.split_first() else {
+                return Ok(());
+            };
+            self.answer(writer)?;
+            rest = others;
+        }
+        Ok(())
+    }
+
+    /// Answers the last line, where the input ends without a line feed.
+    ///
+    /// # Errors
+    ///
+    /// Those of [`answer_blocks`](crate::blocks::answer_blocks) but for `Read`. The cutter is not to be used
+    /// after one.
+    pub(crate) fn finish<W: Write>(&mut self, writer: &mut Counted<W>) -> Result<(), TextFault>
+        requires between { IsBetween self.old.answered self.old.pending.items }
+        requires unfailed { failures_of writer.old ≡ 0 }
+        ensures written { Grows (W.contents (inner_of writer.old)) (W.contents (inner_of writer.new))
+            (EndLeaves A.answers A.refuses result
+            self.old.answered self.old.answerer self.old.pending.items) }
+        ensures failed { (result ≡ Err TextFault.Write) ↔ (failures_of writer.new ≢ 0) }
+        ensures once { failures_of writer.new ≤ 1 }
+    {
+        if self.pending.is_empty() {
+            return Ok(());
+        }
+        self.answer(writer)
+    }
+
+    /// Appends a piece to the pending part of a line, where some of the input is in that line or after it.
+    ///
+    /// # Errors
+    ///
+    /// - [`TextFault::Text`] where that is a line too many, or too long.
+    /// - [`TextFault::Memory`] where memory is refused.
+    fn append(&mut self, piece: &[u8]) -> Result<(), TextFault>
+        requires { IsBetween self.old.answered self.old.pending.items }
+        ensures longer { Lengthens result self.old.answered self.old.pending.items piece.now
+            self.new.pending.items }
+        ensures answered { self.new.answered ≡ self.old.answered }
+        ensures answerer { self.new.answerer ≡ self.old.answerer }
+    {
+        if self.answered >= MAX_LINES {
+            return Err(self.refused(LineFault::TooManyLines));
+        }
+        if piece.len() > MAX_LINE - self.pending.len() {
+            return Err(self.refused(LineFault::LineTooLong));
+        }
+        match self.pending.extend_from_slice(piece) {
+            Ok(()) => Ok(()),
+            Err(_) => Err(TextFault::Memory),
+        }
+    }
+
+    /// A fault at the first line that is not answered.
+    fn refused(&self, fault: LineFault) -> TextFault
+        requires { self.now.answered ≤ 65536 }
+        ensures { result ≡ TextFault.Text (self.now.answered + 1) fault }
+    {
+        TextFault::Text {
+            line: self.answered + 1,
+            fault,
+        }
+    }
+
+    /// Answers the pending line.
+    ///
+    /// # Errors
+    ///
+    /// - [`TextFault::Text`] where the answerer refuses the line, and [`TextFault::Memory`] where memory is
+    ///   refused: nothing is written.
+    /// - [`TextFault::Write`] where a call of the writer fails or takes nothing: a prefix of the answer is
+    ///   written.
+    fn answer<W: Write>(&mut self, writer: &mut Counted<W>) -> Result<(), TextFault>
+        requires few { self.old.answered < 65536 }
+        requires short { vec_len self.old.pending ≤ 131200 }
+        requires unfailed { failures_of writer.old ≡ 0 }
+        ensures written { Grows (W.contents (inner_of writer.old)) (W.contents (inner_of writer.new))
+            (λ text. LineLeaves A.answers A.refuses result (self.old.answered + 1) self.old.answerer
+            self.old.pending.items text self.new.answerer) }
+        ensures answered { OnOk result (self.new.answered ≡ self.old.answered + 1) }
+        ensures pending { OnOk result (self.new.pending.items ≡ []) }
+        ensures failed { (result ≡ Err TextFault.Write) ↔ (failures_of writer.new ≢ 0) }
+        ensures once { failures_of writer.new ≤ 1 }
+    {
+        let number = self.answered + 1;
+        self.text.clear();
+        self.answerer
+            .compose(number, &self.pending, &mut self.text)?;
+        write_whole(writer, &self.text)?;
+        self.answered = number;
+        self.pending.clear();
+        Ok(())
+    }
+}
+
+/// What comes before the first line feed, and the rest from that line feed on.
+fn split_line(octets: &[u8]) -> (&[u8], &[u8])
+    ensures parts { octets.now ≡ result.0.now ++ result.1.now }
+    ensures part { HasNoLineFeed result.0.now }
+    ensures feed { IsAfterLine result.1.now }
+{
+    let end = memchr(b'\n', octets).unwrap_or(octets.len());
+    octets.split_at(end)
+}

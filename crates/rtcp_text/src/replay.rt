@@ -1,0 +1,125 @@
+//! A replay of a session: a participant's answer to each line.
+
+ghost use Rattle.std.specs.Prelude.{◌≡◌, ◌≢◌, ◌≤◌, ◌↔◌, ℕ, Some, None, OnOk};
+ghost use Rattle.rtcp_engine.specs.Histories.{History};
+ghost use Rattle.rtcp_engine.specs.Refused.{error_in};
+ghost use Rattle.rtcp_engine.specs.States.{StandsAt};
+ghost use Rattle.rtcp_engine.specs.Taken.{begun};
+ghost use Rattle.rtcp_engine.specs.Views.{setup_of};
+ghost use Rattle.rtcp_engine.specs.declared.config.ConfigError.{ConfigError as Refused};
+ghost use Rattle.rtcp_text.specs.Counted.{failures_of, inner_of};
+ghost use Rattle.rtcp_text.specs.Lines.{Wrote};
+ghost use Rattle.rtcp_text.specs.Replay.{IsSessionOf, IsPrefixOfSession, SessionBefore, SessionLeaves, SessionOfWhatCame, SessionUpToBlock};
+ghost use Rattle.rtcp_text.specs.declared.fault.LineFault.{LineFault as Fault};
+
+use crate::blocks::answer_blocks;
+use crate::counted::Counted;
+use crate::fault::{ReplayFault, TextFault};
+use crate::player::Player;
+use crate::text::push_start;
+use crate::writing::write_whole;
+use rtcp_engine::{Config, Participant};
+use rtcp_members::{MemberTable, SortedTable};
+use std::alloc::{AllocError, Global};
+use std::io::{Read, Write};
+
+/// Reads a session, an event on each line, and writes what a participant answers: a line for the start, and
+/// then a line for each event. `word` is the random word of the start.
+///
+/// A line has at most 131,200 octets before its line feed, which the last line may lack, and the text has at
+/// most 65,536 lines. The answer to a line is written before the next line is looked at. What was answered is
+/// flushed before the reader is asked for more, so a line's answer is seen while the next line is awaited;
+/// what is answered after the last read is left for the caller to flush. The first call of the reader or the
+/// writer that fails ends the run.
+///
+/// # Errors
+///
+/// - [`ReplayFault::Config`] where the configuration is refused: nothing is read or written.
+/// - [`ReplayFault::Run`] with the faults of a run:
+///   - [`TextFault::Text`] at the first line that is too long, one too many, or not an event. The answers to the
+///     lines before it are written.
+///   - [`TextFault::Read`] where a call of the reader fails, for whatever reason. The answers to the whole lines
+///     that were read are written.
+///   - [`TextFault::Write`] where a call of the writer fails, a flush included, or takes nothing. A prefix of the
+///     start and the answers is written.
+///   - [`TextFault::Memory`] where memory is refused. Nothing is written, or the start and the answers to the
+///     first lines, at least to those that ended before the last block that was read.
+pub fn replay<R: Read, W: Write>(
+    alloc: Global,
+    reader: &mut Counted<R>,
+    writer: &mut Counted<W>,
+    config: Config,
+    word: u32,
+) -> Result<(), ReplayFault>
+    requires reader_unfailed { failures_of reader.old ≡ 0 }
+    requires writer_unfailed { failures_of writer.old ≡ 0 }
+
+    // A configuration that is refused leaves the reader and the writer as they were.
+    ensures config { (error : Refused) →
+        (result ≡ Err (ReplayFault.Config error)) ↔ (error_in (setup_of config) ≡ Some error) }
+    ensures unread { (error : Refused) → result ≡ Err (ReplayFault.Config error) → reader.new ≡ reader.old }
+    ensures unwritten { (error : Refused) → result ≡ Err (ReplayFault.Config error) → writer.new ≡ writer.old }
+
+    // What is written is always a prefix of the text of the whole session.
+    ensures prefix { error_in (setup_of config) ≡ None
+        → Wrote R.remaining W.contents reader.old writer.old writer.new
+        (IsPrefixOfSession (begun (setup_of config) word)) }
+    ensures whole { OnOk result (Wrote R.remaining W.contents reader.old writer.old writer.new
+        (IsSessionOf (begun (setup_of config) word) None)) }
+    ensures refused { (line : ℕ) (fault : Fault) → result ≡ Err (ReplayFault.Run (TextFault.Text line fault))
+        → Wrote R.remaining W.contents reader.old writer.old writer.new
+        (IsSessionOf (begun (setup_of config) word) (Some (line, fault))) }
+    ensures read { result ≡ Err (ReplayFault.Run TextFault.Read)
+        → Wrote R.remaining W.contents reader.old writer.old writer.new
+        (SessionOfWhatCame (begun (setup_of config) word) (R.remaining (inner_of reader.new))) }
+    ensures memory { result ≡ Err (ReplayFault.Run TextFault.Memory)
+        → Wrote R.remaining W.contents reader.old writer.old writer.new
+        (SessionBefore (begun (setup_of config) word)) }
+    ensures memory_block { result ≡ Err (ReplayFault.Run TextFault.Memory)
+        → Wrote R.remaining W.contents reader.old writer.old writer.new
+        (SessionUpToBlock (begun (setup_of config) word) (R.remaining (inner_of reader.new))) }
+
+    // A call failed exactly where the fault says so, and only one.
+    ensures read_failed { (result ≡ Err (ReplayFault.Run TextFault.Read)) ↔ (failures_of reader.new ≢ 0) }
+    ensures write_failed { (result ≡ Err (ReplayFault.Run TextFault.Write)) ↔ (failures_of writer.new ≢ 0) }
+    ensures read_once { failures_of reader.new ≤ 1 }
+    ensures write_once { failures_of writer.new ≤ 1 }
+{
+    let participant = match Participant::<SortedTable>::new(config, word) {
+        Ok(participant) => participant,
+        Err(error) => return Err(ReplayFault::Config(error)),
+    };
+    match session(alloc, participant, reader, writer) {
+        Ok(()) => Ok(()),
+        Err(fault) => Err(ReplayFault::Run(fault)),
+    }
+}
+
+/// Writes the line for the start, and answers the lines of the reader's input by a participant.
+///
+/// # Errors
+///
+/// Those of [`replay`] but for `Config`.
+fn session<T: MemberTable + Drop, R: Read, W: Write>(
+    alloc: Global,
+    participant: Participant<T>,
+    reader: &mut Counted<R>,
+    writer: &mut Counted<W>,
+) -> Result<(), TextFault>
+    requires reader_unfailed { failures_of reader.old ≡ 0 }
+    requires writer_unfailed { failures_of writer.old ≡ 0 }
+    ensures leaves { (history : History) → StandsAt participant history
+        → Wrote R.remaining W.contents reader.old writer.old writer.new
+        (SessionLeaves history result (R.remaining (inner_of reader.new))) }
+    ensures read_failed { (result ≡ Err TextFault.Read) ↔ (failures_of reader.new ≢ 0) }
+    ensures write_failed { (result ≡ Err TextFault.Write) ↔ (failures_of writer.new ≢ 0) }
+    ensures read_once { failures_of reader.new ≤ 1 }
+    ensures write_once { failures_of writer.new ≤ 1 }
+{
+    let mut start = Vec::new(alloc);
+    if let Err(AllocError) = push_start(&mut start, participant.next()) {
+        return Err(TextFault::Memory);
+    }
+    write_whole(writer, &start)?;
+    answer_blocks(alloc, Player::new(alloc, participant), reader, writer)
+}
