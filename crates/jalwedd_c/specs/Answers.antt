@@ -4,9 +4,8 @@ use Rattle.rtcp_engine.specs.declared.refusal.Refusal.{Refusal}
 use Rattle.rtcp_engine.specs.declared.refusal.Refusal.TheVariants.{Left, Backwards, TooFar, TooMany, Wire, Rtp, OwnSsrc}
 use Rattle.rtcp_engine.specs.declared.step.OutKind.{OutKind}
 use Rattle.rtcp_engine.specs.declared.step.OutKind.TheVariants.{Report, Bye}
-use Rattle.rtcp_engine.specs.Histories.{History}
-use Rattle.rtcp_engine.specs.Identities.{setup_now}
-use Rattle.rtcp_engine.specs.Lives.{life_at, members_in_life, senders_in_life, next_in_life}
+use Rattle.rtcp_engine.specs.Histories.{History, life_at, setup_at}
+use Rattle.rtcp_engine.specs.Lives.{members_in_life, senders_in_life, next_in_life}
 use Rattle.rtcp_engine.specs.Steps.{OutValue, AnswerValue}
 use Rattle.jalwedd_c.specs.declared.showing.Handed.{Handed}
 use Rattle.jalwedd_c.specs.declared.step.Step.{Step}
@@ -73,10 +72,10 @@ moment_shown (Some moment) = moment
 -- A step says who is there after a history, and when to ask again.
 abbrev pub Shows : Step → History → Type 0
 Shows step history =
-    (step.members ≡ members_in_life (setup_now history.setup history.acts) (life_at history))
-    × (step.senders ≡ senders_in_life (setup_now history.setup history.acts) (life_at history))
+    (step.members ≡ members_in_life (setup_at history) (life_at history))
+    × (step.senders ≡ senders_in_life (setup_at history) (life_at history))
     × (step.next ≡ moment_shown (next_in_life (life_at history)))
-    × (step.ssrc ≡ (setup_now history.setup history.acts).ssrc)
+    × (step.ssrc ≡ (setup_at history).ssrc)
 
 -- A step of no participant.
 abbrev pub IsBlank : Step → Type 0

@@ -36,19 +36,19 @@ pub extern "C" fn jalwedd_arrive_rtcp(
 ) -> u32
     ensures status { (history : History) (reading : Result (List RtcpPacket) FirstFault) →
         LeadsTo handle.old.owned.held history → IsReading datagram.now reading →
-        result ≡ status_of (answer_of history (rtcp_came now peer word (length datagram.now) reading)) }
+        result ≡ status_of (answer_of history (rtcp_came now peer word datagram.now reading)) }
     ensures handed { (history : History) (reading : Result (List RtcpPacket) FirstFault) →
         LeadsTo handle.old.owned.held history → IsReading datagram.now reading →
-        HandsOut step.new octets.old octets.new (answer_of history (rtcp_came now peer word (length datagram.now) reading)) }
+        HandsOut step.new octets.old octets.new (answer_of history (rtcp_came now peer word datagram.now reading)) }
     ensures stands { (history : History) (reading : Result (List RtcpPacket) FirstFault) →
         LeadsTo handle.old.owned.held history → IsReading datagram.now reading →
-        LeadsTo handle.new.owned.held (followed_by history (rtcp_came now peer word (length datagram.now) reading)) }
+        LeadsTo handle.new.owned.held (followed_by history (rtcp_came now peer word datagram.now reading)) }
     ensures shows { (history : History) (reading : Result (List RtcpPacket) FirstFault) →
         LeadsTo handle.old.owned.held history → IsReading datagram.now reading →
-        Shows step.new (followed_by history (rtcp_came now peer word (length datagram.now) reading)) }
+        Shows step.new (followed_by history (rtcp_came now peer word datagram.now reading)) }
     ensures bounded { (history : History) (reading : Result (List RtcpPacket) FirstFault) →
         LeadsTo handle.old.owned.held history → IsReading datagram.now reading →
-        KeepsBounds (followed_by history (rtcp_came now peer word (length datagram.now) reading)) }
+        KeepsBounds (followed_by history (rtcp_came now peer word datagram.now reading)) }
     ensures within { KeepsWithin handle.old.owned.held → KeepsWithin handle.new.owned.held }
     ensures refused { result ≢ 0 → handle.new.owned.held ≡ handle.old.owned.held }
     ensures empty { handle.old.owned.held ≡ None → (result ≡ 20) × IsBlank step.new × (octets.new ≡ octets.old) }

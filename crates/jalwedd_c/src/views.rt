@@ -1,9 +1,8 @@
 //! What a handle tells at any time.
 
 ghost use Rattle.std.specs.Prelude.{◌≡◌, ◌^◌, ◌-◌, None};
-ghost use Rattle.rtcp_engine.specs.Histories.{History};
-ghost use Rattle.rtcp_engine.specs.Identities.{setup_now};
-ghost use Rattle.rtcp_engine.specs.Lives.{life_at, members_in_life, senders_in_life, next_in_life};
+ghost use Rattle.rtcp_engine.specs.Histories.{History, life_at, setup_at};
+ghost use Rattle.rtcp_engine.specs.Lives.{members_in_life, senders_in_life, next_in_life};
 ghost use Rattle.jalwedd_c.specs.Answers.{moment_shown};
 ghost use Rattle.jalwedd_c.specs.Handles.{LeadsTo};
 
@@ -14,7 +13,7 @@ use std::alloc::Global;
 #[unsafe(no_mangle)]
 pub extern "C" fn jalwedd_members(alloc: Global, handle: &mut Handle) -> u32
     ensures members { (history : History) → LeadsTo handle.old.owned.held history →
-        result ≡ members_in_life (setup_now history.setup history.acts) (life_at history) }
+        result ≡ members_in_life (setup_at history) (life_at history) }
     ensures empty { handle.old.owned.held ≡ None → result ≡ 0 }
     ensures kept { handle.new.owned.held ≡ handle.old.owned.held }
 {
@@ -25,7 +24,7 @@ pub extern "C" fn jalwedd_members(alloc: Global, handle: &mut Handle) -> u32
 #[unsafe(no_mangle)]
 pub extern "C" fn jalwedd_senders(alloc: Global, handle: &mut Handle) -> u32
     ensures senders { (history : History) → LeadsTo handle.old.owned.held history →
-        result ≡ senders_in_life (setup_now history.setup history.acts) (life_at history) }
+        result ≡ senders_in_life (setup_at history) (life_at history) }
     ensures empty { handle.old.owned.held ≡ None → result ≡ 0 }
     ensures kept { handle.new.owned.held ≡ handle.old.owned.held }
 {
@@ -48,7 +47,7 @@ pub extern "C" fn jalwedd_next(alloc: Global, handle: &mut Handle) -> u64
 #[unsafe(no_mangle)]
 pub extern "C" fn jalwedd_ssrc(alloc: Global, handle: &mut Handle) -> u32
     ensures ssrc { (history : History) → LeadsTo handle.old.owned.held history →
-        result ≡ (setup_now history.setup history.acts).ssrc }
+        result ≡ (setup_at history).ssrc }
     ensures empty { handle.old.owned.held ≡ None → result ≡ 0 }
     ensures kept { handle.new.owned.held ≡ handle.old.owned.held }
 {

@@ -1,25 +1,24 @@
 -- A participant that takes an act: in each phase, and in a history.
-use Rattle.std.proofs.Common.{◌≡◌, ℕ, List, ◌∷◌, Option, Some, None, Ok, Err, refl, sym, ap, ◌∙◌, subst}
+use Rattle.std.proofs.Common.{◌≡◌, ℕ, ◌+◌, Option, Some, None, option_map, Ok, Err, refl, sym, ap, ◌∙◌, subst, arith}
+use Rattle.std.specs.Option.{option_or}
 use Rattle.rtcp_engine.specs.declared.refusal.Refusal.{Refusal}
 use Rattle.rtcp_engine.specs.Setups.{Setup}
 use Rattle.rtcp_engine.specs.Acts.{Act, moment_of}
-use Rattle.rtcp_engine.specs.Answers.{refusal_after, step_with}
-use Rattle.rtcp_engine.specs.Changes.{change_by}
-use Rattle.rtcp_engine.specs.Histories.{History}
-use Rattle.rtcp_engine.specs.Identities.{named, present_among, identifiers, setup_now}
 use Rattle.rtcp_engine.specs.Leaving.{Backoff, Life, present, backing_off, gone, leaving_count}
-use Rattle.rtcp_engine.specs.Lives.{life_at, lived, out_by, out_while_backing_off, out_while_present, step_into, while_backing_off, while_present}
+use Rattle.rtcp_engine.specs.Lives.{lived, out_by, out_while_backing_off, out_while_present, step_into, while_backing_off, while_present}
 use Rattle.rtcp_engine.specs.Outcomes.{Outcome}
-use Rattle.rtcp_engine.specs.Presence.{refusal_of, refusal_of_datagram, with_act}
-use Rattle.rtcp_engine.specs.Promises.{Takes}
-use Rattle.rtcp_engine.specs.States.{State, Acts, Agrees, Does, IsAt, Stays, ParticipantValue, StandsAt, Waits, called, leaving, over, refusal_by, taking_part}
-use Rattle.rtcp_engine.specs.Steps.{OutValue, StepValue}
-use Rattle.rtcp_engine.specs.Taken.{HasWords, WasTaken}
+use Rattle.rtcp_engine.specs.Changes.{NewIdentifier, Session, bye_of_change, change_by, changed_by}
+use Rattle.rtcp_engine.specs.Histories.{History, life_at, session_at, with_act}
+use Rattle.rtcp_engine.specs.Refusals.{refusal_after, refusal_of_datagram}
+use Rattle.rtcp_engine.specs.Answers.{answer_of, step_by}
+use Rattle.rtcp_engine.specs.Promises.{Takes as Promised}
+use Rattle.rtcp_engine.specs.States.{State, Acts, Agrees, Does, IsAt, IsIn, Stays, ParticipantValue, StandsAt, Waits, called, leaving, over, refusal_by, taking_part}
+use Rattle.rtcp_engine.specs.Steps.{OutValue, StepValue, answer_unless}
+use Rattle.rtcp_engine.specs.Taken.{HasWords}
 use Rattle.rtcp_engine.proofs.Agreeing.{calls_agree}
 use Rattle.rtcp_engine.proofs.Bounded.{bounds_after}
-use Rattle.rtcp_engine.proofs.LawLemmas.{IsTold}
-use Rattle.rtcp_engine.proofs.LifeLemmas.{admitted_call, call_refused, is_taking_part, is_leaving, leaving_members, there_takes}
-use Rattle.rtcp_engine.proofs.Standing.{IsTaken, is_call, call_stands, plain_answer, plain_history, refused_answer, whole_refused}
+use Rattle.rtcp_engine.proofs.LifeLemmas.{is_taking_part, is_leaving, leaving_members}
+use Rattle.rtcp_engine.proofs.Standing.{refusal_is, refused_answer, taken_history, whole_refused}
 
 -- ---- Phases
 
@@ -99,72 +98,79 @@ call_keeps moment p (backing_off outcome backoff) at =
     (at.0, record { timing = at.1.timing; average = at.1.average; still = record { table = still.table; capacity = still.capacity; rate = still.rate; own = still.own } })
 call_keeps moment p (gone outcome) at = at
 
--- what is answered names no identifier
-same_step : (ssrc : ℕ) (setup : Setup) (out : Option OutValue) (life : Life) → step_into (named ssrc setup) out life ≡ step_into setup out life
-same_step ssrc setup out (present outcome) = refl
-same_step ssrc setup out (backing_off outcome backoff) = refl
-same_step ssrc setup out (gone outcome) = refl
-
 -- ---- Histories
 
--- an act that a history takes without a change of identifier
-pub record TakesPlainly (history : History) (act : Act) : Type 0 where
-  pub taken : IsTaken history act
-  pub was : WasTaken history.setup history.word history.acts act
-  pub unchanged : change_by history act ≡ None
+-- Where a participant stands after an act, and the change that it brings.
+pub record Takes (h : History) (act : Act) (change : Option NewIdentifier) : Type 0 where
+  pub taken : refusal_after h act ≡ None
+  pub changes : change_by (session_at h) act ≡ change
 
 -- a step is the one that is answered wherever a participant is
 abbrev pub IsStepOf : ParticipantValue → Option OutValue → StepValue → Type 0
 IsStepOf q out step = (life : Life) → IsAt q life → step ≡ step_into q.presence.setup out life
 
-pub acted_stands : {p q : ParticipantValue} {act : Act} {out : Option OutValue} (history : History) → StandsAt p history → Acts (called (moment_of act) p) q act out → WasTaken history.setup history.word history.acts act → HasWords act → IsTold act
-    → StandsAt q (with_act history act)
-acted_stands {p} {q} {act} {out} history stands acts was words told =
-    let life = life_at history in
-    let at = acts.lives life (call_keeps (moment_of act) p life stands.life) in
-    call_stands p q history act life (lived (setup_now history.setup history.acts) act life) stands refl refl was words (is_call act told)
-    (record { setup = acts.stays.setup; last = acts.stays.last; calls = acts.stays.calls }) acts.changes
-    (subst (λ (setup : Setup). IsAt q (lived setup act life)) stands.setup at)
+pub acted_stands : {p mid q : ParticipantValue} {act : Act} {out : Option OutValue} (h : History) (change : Option NewIdentifier) → StandsAt p h → Takes h act change → HasWords act
+    → IsIn mid (changed_by change (session_at h)) → mid.presence.calls ≡ p.presence.calls → Acts (called (moment_of act) mid) q act out → StandsAt q (with_act h act)
+acted_stands {p} {mid} {q} {act} {out} h change stands takes words at calls acts =
+    let now = changed_by change (session_at h) in
+    let lives = acts.lives now.life (call_keeps (moment_of act) mid now.life at.life) in
+    record {
+      is_history = record { usable = stands.is_history.usable; word = stands.is_history.word; taken = (takes.taken, words, stands.is_history.taken) };
+      session = subst (λ (c : Option NewIdentifier). let s = changed_by c (session_at h) in IsIn q (record s { life = lived s.setup act s.life })) (sym takes.changes)
+          (record {
+            setup = acts.stays.setup ∙ at.setup;
+            changes = acts.changes ∙ at.changes;
+            life = subst (λ (setup : Setup). IsAt q (lived setup act now.life)) at.setup lives;
+          });
+      last = acts.stays.last;
+      calls = acts.stays.calls ∙ ap (λ (n : ℕ). n + 1) (calls ∙ stands.calls) ∙ omega arith;
+    }
 
-pub acted_step : {p q : ParticipantValue} {act : Act} {out : Option OutValue} (history : History) (step : StepValue) → StandsAt p history → Acts (called (moment_of act) p) q act out → StandsAt q (with_act history act) → IsStepOf q out step
-    → step ≡ step_with None None history act
-acted_step {p} {q} {act} {out} history step stands acts after is_step =
-    let life = life_at (with_act history act) in
-    let outs = acts.hands_out (life_at history) (call_keeps (moment_of act) p (life_at history) stands.life) ∙ ap (λ (setup : Setup). out_by setup act (life_at history)) stands.setup in
-    is_step life after.life
-    ∙ ap (λ (setup : Setup). step_into setup out life) after.setup
-    ∙ same_step (present_among history.setup.ssrc (identifiers history.setup (act ∷ history.acts))) history.setup out life
-    ∙ ap (λ (o : Option OutValue). step_into history.setup o life) outs
+pub acted_step : {mid q : ParticipantValue} {act : Act} {out : Option OutValue} (h : History) (change : Option NewIdentifier) (bye : Option OutValue) (step : StepValue) → Takes h act change
+    → IsIn mid (changed_by change (session_at h)) → Acts (called (moment_of act) mid) q act out → StandsAt q (with_act h act) → bye ≡ bye_of_change change (session_at h)
+    → IsStepOf q (option_or bye out) step → record step { changed = option_map (λ (new : NewIdentifier). new.ssrc) change } ≡ step_by h act
+acted_step {mid} {q} {act} {out} h change bye step takes at acts after byes is_step =
+    let now = changed_by change (session_at h) in
+    let next = session_at (with_act h act) in
+    let number : NewIdentifier → ℕ = λ new. new.ssrc in
+    let outs = acts.hands_out now.life (call_keeps (moment_of act) mid now.life at.life) ∙ ap (λ (setup : Setup). out_by setup act now.life) at.setup in
+    let steps : step ≡ step_into next.setup (option_or (bye_of_change change (session_at h)) (out_by now.setup act now.life)) next.life =
+    is_step next.life after.session.life ∙ (λ i. step_into (after.session.setup i) (option_or (byes i) (outs i)) next.life) in
+    (λ i. record (steps i) { changed = option_map number change })
+    ∙ sym (ap (λ (c : Option NewIdentifier). let s = changed_by c (session_at h) in
+    record (step_into next.setup (option_or (bye_of_change c (session_at h)) (out_by s.setup act s.life)) next.life) { changed = option_map number c }) takes.changes)
 
 -- ---- What a call promises
 
-pub takes : {p q : ParticipantValue} {act : Act} {out : Option OutValue} (step : StepValue) → ((history : History) → StandsAt p history → TakesPlainly history act) → Acts (called (moment_of act) p) q act out → IsStepOf q out step
-    → HasWords act → IsTold act → Takes p act (Ok step) q
-takes {p} {q} {act} {out} step plainly acts is_step words told = record {
-  answer = λ history stands.
-      let plain = plainly history stands in
-      let after = acted_stands history stands acts plain.was words told in
-      ap Ok (acted_step history step stands acts after is_step) ∙ plain_answer history act plain.unchanged plain.taken;
-  stands = λ history stands.
-      let plain = plainly history stands in
-      subst (StandsAt q) (plain_history history act plain.unchanged plain.taken) (acted_stands history stands acts plain.was words told);
-  bounded = λ history stands. bounds_after history act told words stands.is_history;
+pub answered : (h : History) (act : Act) (step : StepValue) → refusal_after h act ≡ None → step ≡ step_by h act → Ok step ≡ answer_of h act
+answered h act step none is = ap Ok is ∙ sym (ap (λ (r : Option Refusal). answer_unless r (step_by h act)) none)
+
+-- an act that changes no identifier
+pub takes : {p q : ParticipantValue} {act : Act} {out : Option OutValue} (step : StepValue) → ((h : History) → StandsAt p h → Takes h act None) → Acts (called (moment_of act) p) q act out → IsStepOf q out step
+    → HasWords act → Promised p act (Ok step) q
+takes {p} {q} {act} {out} step plainly acts is_step words = record {
+  answer = λ h stands. answered h act step (plainly h stands).taken
+      ((λ i. record step { changed = unchanged h stands i }) ∙ acted_step h None None step (plainly h stands) stands.session acts (after h stands) refl is_step);
+  stands = λ h stands. subst (StandsAt q) (taken_history h act (plainly h stands).taken) (after h stands);
+  bounded = λ h stands. bounds_after h act words stands.is_history;
+}
+  where
+    after : (h : History) → StandsAt p h → StandsAt q (with_act h act)
+    after h stands = acted_stands h None stands (plainly h stands) words stands.session refl acts
+
+    unchanged : (h : History) → StandsAt p h → step.changed ≡ None
+    unchanged h stands = ap (λ (x : StepValue). x.changed) (is_step (life_at (with_act h act)) (after h stands).session.life)
+
+pub refuses : (p : ParticipantValue) (act : Act) (reason : Refusal) → ((h : History) → StandsAt p h → refusal_after h act ≡ Some reason) → HasWords act → Promised p act (Err reason) p
+refuses p act reason is words = record {
+  answer = λ h stands. refused_answer h act reason (is h stands);
+  stands = λ h stands. whole_refused p h act reason (is h stands) stands;
+  bounded = λ h stands. bounds_after h act words stands.is_history;
 }
 
-pub refuses : (p : ParticipantValue) (act : Act) (reason : Refusal) → ((history : History) → StandsAt p history → refusal_after history act ≡ Some reason) → HasWords act → IsTold act → Takes p act (Err reason) p
-refuses p act reason is words told = record {
-  answer = λ history stands. refused_answer history act reason (is history stands);
-  stands = λ history stands. whole_refused p history act reason (is history stands) stands;
-  bounded = λ history stands. bounds_after history act told words stands.is_history;
-}
-
-pub call_refused_by : (p : ParticipantValue) (act : Act) (reason : Refusal) → refusal_by (moment_of act) p ≡ Some reason → (history : History) → StandsAt p history → refusal_after history act ≡ Some reason
-call_refused_by p act reason same history stands = call_refused p history act reason stands same
+pub call_refused_by : (p : ParticipantValue) (act : Act) (reason : Refusal) → refusal_by (moment_of act) p ≡ Some reason → (h : History) → StandsAt p h → refusal_after h act ≡ Some reason
+call_refused_by p act reason same h stands = refusal_is p h act (Some reason) (refusal_of_datagram (session_at h) act) stands same refl
 
 -- a call of the host without a datagram
-pub plain_call : (p : ParticipantValue) (act : Act) → refusal_by (moment_of act) p ≡ None → ((setup : Setup) (earlier : List Act) → refusal_of_datagram setup earlier act ≡ None) → ((history : History) → change_by history act ≡ None)
-    → ((setup : Setup) (word : ℕ) (earlier : List Act) → refusal_of setup earlier act ≡ None → WasTaken setup word earlier act) → (history : History) → StandsAt p history → TakesPlainly history act
-plain_call p act none datagram unchanged was history stands =
-    let admitted = admitted_call (moment_of act) p none in
-    let taken = there_takes p history act stands admitted.there admitted.admitted (datagram history.setup history.acts) in
-    record { taken = taken; was = was history.setup history.word history.acts taken.refusal; unchanged = unchanged history }
+pub plain_call : (p : ParticipantValue) (act : Act) → refusal_by (moment_of act) p ≡ None → ((session : Session) → refusal_of_datagram session act ≡ None) → ((session : Session) → change_by session act ≡ None) → (h : History) → StandsAt p h → Takes h act None
+plain_call p act none datagram unchanged h stands = record { taken = refusal_is p h act None None stands none (datagram (session_at h)); changes = unchanged (session_at h) }

@@ -20,7 +20,7 @@ use Rattle.rtcp_engine.specs.OwnStreams.{OwnValue, Adds, report_sent, sending_si
 use Rattle.rtcp_engine.specs.Outcomes.{Outcome, Report, one_if, member_count, sender_count, is_initial, load_of}
 use Rattle.rtcp_engine.specs.Reporting.{last_reported_in, reporter_at, reporter_by, reported_at, report_octets}
 use Rattle.rtcp_engine.specs.Ticks as ticks
-use Rattle.rtcp_engine.specs.Histories.{media_fact, facts_of_media, with_media}
+use Rattle.rtcp_engine.specs.Arrivals.{media_fact, facts_of_media, with_media}
 use Rattle.rtcp_engine.specs.States.{State, Agrees, with_call}
 use Rattle.rtcp_engine.proofs.LawLemmas.{last_block_is_newest}
 

@@ -48,21 +48,23 @@ start_stands setup word table timing average own usable word_fits start =
     let for_others = setup.receiver_bw in
     record {
       is_history = record { usable = usable; word = word_fits; taken = tt };
-      setup = refl;
-      changes = record { peers = refl; identifiers_are = refl };
-      life = (
-        refl,
-        record {
-          table = subst (λ (t : TableValue). Rattle.rtcp_members.specs.Tables.StandsAt t []) (sym start.is_table) (tables.tables_follow_traces-none setup.capacity setup.rate);
-          capacity = ap (λ (t : TableValue). t.capacity) start.is_table;
-          rate = ap (λ (t : TableValue). t.rate) start.is_table;
-          timing = start.is_timing ∙ ap (λ (a : ℕ). schedule_at (transmitted 0 (drawn_interval (interval_of (first_load a for_senders for_others)) word) 1 ∷ [])) start.is_average;
-          average = start.is_average;
-          own = start.is_own;
-          cursor = refl;
-          reports = refl;
-        },
-      );
+      session = record {
+        setup = refl;
+        changes = refl;
+        life = (
+          refl,
+          record {
+            table = subst (λ (t : TableValue). Rattle.rtcp_members.specs.Tables.StandsAt t []) (sym start.is_table) (tables.tables_follow_traces-none setup.capacity setup.rate);
+            capacity = ap (λ (t : TableValue). t.capacity) start.is_table;
+            rate = ap (λ (t : TableValue). t.rate) start.is_table;
+            timing = start.is_timing ∙ ap (λ (a : ℕ). schedule_at (transmitted 0 (drawn_interval (interval_of (first_load a for_senders for_others)) word) 1 ∷ [])) start.is_average;
+            average = start.is_average;
+            own = start.is_own;
+            cursor = refl;
+            reports = refl;
+          },
+        );
+      };
       last = refl;
       calls = refl;
     }

@@ -4,25 +4,17 @@ use Rattle.rtcp_engine.specs.declared.refusal.Refusal.{Refusal}
 use Rattle.rtcp_engine.specs.declared.step.Out.{Out}
 use Rattle.rtcp_engine.specs.declared.step.Step.{Step}
 use Rattle.rtcp_engine.specs.Acts.{Act, ticked}
-use Rattle.rtcp_engine.specs.Identities.{setup_now}
-use Rattle.rtcp_engine.specs.Histories.{History}
-use Rattle.rtcp_engine.specs.Presence.{refusal_of}
-use Rattle.rtcp_engine.specs.Leaving.{Life, present, backing_off, gone}
+use Rattle.rtcp_engine.specs.Histories.{History, brought_by, session_at}
+use Rattle.rtcp_engine.specs.Refusals.{refusal_after}
 use Rattle.rtcp_engine.specs.Steps.{AnswerValue, OutValue, StepValue, answer_unless}
-use Rattle.rtcp_engine.specs.Lives.{life_at, out_by}
 use Rattle.rtcp_engine.specs.InTime.{IsOverdue}
 use Rattle.rtcp_engine.specs.Views.{answer_value, out_value, step_value}
-use Rattle.rtcp_engine.specs.Answers.{answer_of, refusal_in, refusal_after, followed_by, step_by}
+use Rattle.rtcp_engine.specs.Answers.{answer_of, followed_by, step_by}
 use Rattle.rtcp_engine.specs.Taken.{HasWords, IsHistory}
 use Rattle.rtcp_engine.specs.Spacing.{KeepsBounds}
 use Rattle.rtcp_engine.proofs.Waiting.{in_time_after}
-use Rattle.rtcp_engine.proofs.LawLemmas.{sent_compounds_keep_apart-spaced, sent_compounds_keep_apart-first, sent_compounds_keep_apart-window, sent_compounds_keep_apart-leaves_once, sent_compounds_keep_apart-few_changes, sent_compounds_keep_apart-limit, IsTold}
+use Rattle.rtcp_engine.proofs.LawLemmas.{sent_compounds_keep_apart-spaced, sent_compounds_keep_apart-first, sent_compounds_keep_apart-window, sent_compounds_keep_apart-leaves_once, sent_compounds_keep_apart-few_changes, sent_compounds_keep_apart-limit}
 use Rattle.rtcp_engine.proofs.Following.{is_history_after}
-
-none_before : (life : Life) (refusal : Option Refusal) → refusal_in life refusal ≡ None → refusal ≡ None
-none_before (present outcome) refusal none = none
-none_before (backing_off outcome backoff) refusal none = none
-none_before (gone outcome) refusal none = absurd cc
 
 abbrev taken : StepValue → AnswerValue
 taken step = Ok step
@@ -47,8 +39,8 @@ sends_if_late history moment first_word second_word (Ok step) words is answer la
     handed_out : (refusal : Option Refusal) → refusal_after history (ticked moment first_word second_word) ≡ refusal
         → taken (step_value step) ≡ answer_unless refusal (step_by history (ticked moment first_word second_word)) → IsTrue (is_some step.out)
     handed_out None none same =
-        some_before step.out (out_by (setup_now history.setup history.acts) (ticked moment first_word second_word) (life_at history)) (same_out (step_value step) (step_by history (ticked moment first_word second_word)) same)
-        (in_time_after history (ticked moment first_word second_word) is (none_before (life_at history) (refusal_of history.setup history.acts (ticked moment first_word second_word)) none) words late)
+        some_before step.out (brought_by (session_at history) (ticked moment first_word second_word)) (same_out (step_value step) (step_by history (ticked moment first_word second_word)) same)
+        (in_time_after history (ticked moment first_word second_word) is none words late)
     handed_out (Some refusal) some same = absurd cc
 
 pub bounds_of : (history : History) → IsHistory history → KeepsBounds history
@@ -61,5 +53,5 @@ bounds_of history is = record {
   limit = sent_compounds_keep_apart-limit history is;
 }
 
-pub bounds_after : (history : History) (act : Act) → IsTold act → HasWords act → IsHistory history → KeepsBounds (followed_by history act)
-bounds_after history act told words is = bounds_of (followed_by history act) (is_history_after history act told words is)
+pub bounds_after : (history : History) (act : Act) → HasWords act → IsHistory history → KeepsBounds (followed_by history act)
+bounds_after history act words is = bounds_of (followed_by history act) (is_history_after history act words is)

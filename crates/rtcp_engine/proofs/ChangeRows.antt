@@ -3,14 +3,14 @@ use Rattle.std.proofs.Common.{◌≡◌, ℕ, List, [], ◌∷◌, ◌++◌, dro
 use Rattle.rtcp_wire.specs.Values.{rr, sdes}
 use Rattle.rtcp_engine.specs.declared.refusal.Refusal.TheVariants.{OwnSsrc}
 use Rattle.rtcp_engine.specs.declared.step.OutKind.TheVariants.{Bye}
-use Rattle.rtcp_engine.specs.Acts.{Act, rtcp_came, rtp_sent, ticked, left}
+use Rattle.rtcp_engine.specs.Acts.{rtcp, Act, arrived, rtp_sent, ticked, left}
 use Rattle.rtcp_engine.specs.Steps.{AnswerValue}
 use Rattle.rtcp_engine.specs.Answers.{answers_to}
 use Rattle.rtcp_engine.proofs.Rows.{start, ok, sends, empty_report, items_a}
 
 -- an empty report of a source that came from a peer, with a random word
 abbrev report_came : (moment peer word ssrc : ℕ) → Act
-report_came moment peer word ssrc = rtcp_came moment peer word 8 (Ok (rr ssrc [] [] ∷ []))
+report_came moment peer word ssrc = arrived moment peer word (rtcp 8 (Ok (rr ssrc [] [] ∷ [])))
 
 abbrev changes_to : (members senders next ssrc : ℕ) → AnswerValue
 changes_to members senders next ssrc =
@@ -35,7 +35,7 @@ changes = refl
 -- After a report the old identifier says goodbye, and the next report is under the new one.
 abbrev own_report_came : (moment peer word : ℕ) → Act
 own_report_came moment peer word =
-    rtcp_came moment peer word 20 (Ok (rr 170 [] [] ∷ sdes (record { id = 170; items = items_a } ∷ []) ∷ []))
+    arrived moment peer word (rtcp 20 (Ok (rr 170 [] [] ∷ sdes (record { id = 170; items = items_a } ∷ []) ∷ [])))
 
 after_a_report : answers_to start (ticked 1026037 0 0 ∷ own_report_came 1026037 7 187 ∷ ticked 3078111 0 0 ∷ [])
     ≡ sends 1 0 3078111 empty_report ∷ says_bye 2 0 3078111 187 bye_of_170 ∷ sends 2 0 5130185 empty_report_of_187 ∷ []

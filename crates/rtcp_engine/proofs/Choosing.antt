@@ -1,46 +1,84 @@
 -- The number of changes, and that a new identifier is a new one.
 use Rattle.std.proofs.Common.{◌≡◌, ℕ, suc, zero, ◌+◌, ◌%◌, ◌^◌, ◌<◌, ◌≤◌, ◌&&◌, ◌||◌, ◌==◌, not, nat_lt, Bool, true, false, cond, List, [], ◌∷◌, ◌++◌, length, filter, is_some, option_map, Option, Some, None, if◌then◌else◌, refl, sym, ap, ◌∙◌, arith}
 use Rattle.std.proofs.lemmas.Bool.{and_parts, eqb-true, ltb-true, ne_eqb, or_right}
-use Rattle.std.proofs.lemmas.List.{length-append}
+use Rattle.std.proofs.lemmas.List.{length-append, length-map}
 use Rattle.std.proofs.lemmas.Map.Made.{length-le_from_is_member}
 use Rattle.std.proofs.lemmas.Cmp.{nat_eq_equiv}
 use Rattle.std.specs.Cmp.{IsEquivalence}
 use Rattle.std.specs.List.{AllByRecursion, IsDistinct, list_any}
+use Rattle.std.specs.Option.{option_or}
 use Rattle.std.specs.Set.{is_member}
 use Rattle.rtcp_members.specs.Traces.{TraceStep, names}
 use Rattle.rtcp_members.specs.Stays.{stay_of}
 use Rattle.rtcp_members.specs.Entries.{entry_at, entry_of}
 use Rattle.rtcp_members.proofs.LawLemmas.{present_were_named_and_fit-named, present_were_named_and_fit-fit}
+use Rattle.rtcp_engine.specs.declared.changes.Change.{Change}
+use Rattle.rtcp_engine.specs.declared.refusal.Refusal.{Refusal}
+use Rattle.rtcp_engine.specs.declared.refusal.Refusal.TheVariants.{OwnSsrc}
 use Rattle.rtcp_engine.specs.Setups.{Setup}
-use Rattle.rtcp_engine.specs.Acts.{Act, rtcp_came, rtp_came, rtp_sent, ticked, left, renamed, moment_of}
-use Rattle.rtcp_engine.specs.Identities.{first_free, identifiers, is_among, most_changes, peers_listed, setup_now}
-use Rattle.rtcp_engine.specs.Lives.{life_at, life_of, out_by}
-use Rattle.rtcp_engine.specs.Histories.{History}
+use Rattle.rtcp_engine.specs.Acts.{Datagram, Act, arrived, rtp_sent, ticked, left, moment_of}
+use Rattle.rtcp_engine.specs.Identities.{first_free, is_among, may_change, most_changes}
 use Rattle.rtcp_engine.specs.Leaving.{Life, present, backing_off, gone}
-use Rattle.rtcp_engine.specs.Changes.{is_in_table, is_taken, most_taken, named_by, new_identifier}
-use Rattle.rtcp_engine.specs.Taken.{WasTaken, AllTaken, IsHistory}
+use Rattle.rtcp_engine.specs.Changes.{NewIdentifier, Session, change_by, changed_by, changing_peers, identifiers, is_about, is_in_table, is_taken, most_taken, named_by, new_identifier}
+use Rattle.rtcp_engine.specs.Histories.{History, brought_by, last_moment, life_at, session_at, session_for, session_of}
+use Rattle.rtcp_engine.specs.Refusals.{call_refusal, fault_in, refusal_after, refusal_if, refusal_in, refusal_of, refusal_of_datagram}
+use Rattle.rtcp_engine.specs.Taken.{AllTaken, IsHistory}
 use Rattle.rtcp_engine.specs.Steps.{OutValue}
-use Rattle.rtcp_engine.specs.Sent.{Sent, interval_by, is_change, is_report, sent_over, sent_with}
+use Rattle.rtcp_engine.specs.Sent.{Sent, deciding_interval, is_report, sent_over, sent_with}
 use Rattle.rtcp_engine.specs.Spacing.{is_change_bye}
+use Rattle.rtcp_engine.proofs.Changing.{usable_in}
+
+-- ---- Refusals
+
+none_before : (life : Life) (refusal : Option Refusal) → refusal_in life refusal ≡ None → refusal ≡ None
+none_before (present outcome) refusal none = none
+none_before (backing_off outcome backoff) refusal none = none
+none_before (gone outcome) refusal none = absurd cc
+
+neither : (first second : Option Refusal) → option_or first second ≡ None → (first ≡ None) × (second ≡ None)
+neither None second none = (refl, none)
+neither (Some refusal) second none = absurd cc
+
+-- an act that is taken is refused neither as any act then nor for its datagram
+pub unrefused : (history : History) (act : Act) → refusal_after history act ≡ None → (call_refusal (moment_of act) (last_moment history.acts) (length history.acts) ≡ None) × (refusal_of_datagram (session_at history) act ≡ None)
+unrefused history act none = neither _ _ (none_before (life_at history) (refusal_of history act) none)
 
 -- ---- Few changes
 
-few_listed_after : (setup : Setup) (word : ℕ) (earlier : List Act) (act : Act) → WasTaken setup word earlier act → length (peers_listed earlier) ≤ most_changes → length (peers_listed (act ∷ earlier)) ≤ most_changes
-few_listed_after setup word earlier (rtcp_came moment peer drawn size reading) taken few = few
-few_listed_after setup word earlier (rtp_came moment peer drawn reading) taken few = few
-few_listed_after setup word earlier (rtp_sent moment timestamp octets) taken few = few
-few_listed_after setup word earlier (ticked moment first_word second_word) taken few = few
-few_listed_after setup word earlier (left moment drawn) taken few = few
-few_listed_after setup word earlier (renamed moment peer ssrc) taken few =
-    let room = (and_parts (not (is_among (peers_listed earlier) peer)) (nat_lt (length (peers_listed earlier)) most_changes) taken.may).1 in
-    let below = ltb-true (length (peers_listed earlier)) most_changes room in
-    omega (arith, below)
+may_if : (own may : Bool) → own ≡ true → refusal_if (own && not may) OwnSsrc ≡ None → may ≡ true
+may_if true true is none = refl
+may_if true false is none = absurd cc
+may_if false may is none = absurd cc
 
-pub few_listed : (setup : Setup) (word : ℕ) (acts : List Act) → AllTaken setup word acts → length (peers_listed acts) ≤ most_changes
+few_if : (own : Bool) (new : NewIdentifier) (session : Session) → (own ≡ true → length session.changes < most_changes) → length session.changes ≤ most_changes
+    → length (changed_by (if own then Some new else None) session).changes ≤ most_changes
+few_if true new session room few = omega (arith, room refl)
+few_if false new session room few = few
+
+few_after : (session : Session) (act : Act) → refusal_of_datagram session act ≡ None → length session.changes ≤ most_changes → length (session_for session act).changes ≤ most_changes
+few_after session (arrived moment peer word datagram) none few = few_if own _ session room few
+  where
+    own : Bool
+    own = is_about session.setup.ssrc datagram
+
+    may : Bool
+    may = may_change (changing_peers session) peer
+
+    room : is_about session.setup.ssrc datagram ≡ true → length session.changes < most_changes
+    room is =
+        let allowed = may_if own may is (neither (fault_in datagram) (refusal_if (own && not may) OwnSsrc) none).1 in
+        let below = ltb-true (length (changing_peers session)) most_changes (and_parts (not (is_among (changing_peers session) peer)) (nat_lt (length (changing_peers session)) most_changes) allowed).1 in
+        omega (arith, below, length-map session.changes (λ (change : Change). change.peer))
+few_after session (rtp_sent moment timestamp octets) none few = few
+few_after session (ticked moment first_word second_word) none few = few
+few_after session (left moment word) none few = few
+
+pub few_listed : (setup : Setup) (word : ℕ) (acts : List Act) → AllTaken setup word acts → length (session_of setup word acts).changes ≤ most_changes
 few_listed setup word [] taken = omega arith
-few_listed setup word (act ∷ earlier) taken = few_listed_after setup word earlier act taken.0 (few_listed setup word earlier taken.2)
+few_listed setup word (act ∷ earlier) taken =
+    few_after (session_of setup word earlier) act (unrefused (record { setup = setup; word = word; acts = earlier }) act taken.0).1 (few_listed setup word earlier taken.2)
 
--- how many peers an act lists
+-- how many changes an act brings
 abbrev listed : (changes : Bool) → ℕ
 listed changes = cond changes 1 0
 
@@ -66,21 +104,17 @@ few_sent_with moment interval false (Some out) sent =
     let report : Sent = record { moment = moment; interval = interval; out = out; changes = false } in
     no_more (is_change_bye report) report (filter is_change_bye sent) (never_both (not (is_report report)))
 
-lists_by : (act : Act) (earlier : List Act) → listed (is_change act) + length (peers_listed earlier) ≡ length (peers_listed (act ∷ earlier))
-lists_by (rtcp_came moment peer drawn size reading) earlier = omega arith
-lists_by (rtp_came moment peer drawn reading) earlier = omega arith
-lists_by (rtp_sent moment timestamp octets) earlier = omega arith
-lists_by (ticked moment first_word second_word) earlier = omega arith
-lists_by (left moment drawn) earlier = omega arith
-lists_by (renamed moment peer ssrc) earlier = omega arith
+lists_by : (change : Option NewIdentifier) (session : Session) → listed (is_some change) + length session.changes ≡ length (changed_by change session).changes
+lists_by None session = omega arith
+lists_by (Some new) session = omega arith
 
-changes_are_listed : (setup : Setup) (word : ℕ) (acts : List Act) → length (filter is_change_bye (sent_over setup word acts)) ≤ length (peers_listed acts)
+changes_are_listed : (setup : Setup) (word : ℕ) (acts : List Act) → length (filter is_change_bye (sent_over setup word acts)) ≤ length (session_of setup word acts).changes
 changes_are_listed setup word [] = omega arith
 changes_are_listed setup word (act ∷ earlier) =
-    let now = setup_now setup earlier in
-    let life = life_of setup word earlier in
-    let more = few_sent_with (moment_of act) (interval_by now act life) (is_change act) (out_by now act life) (sent_over setup word earlier) in
-    omega (arith, more, lists_by act earlier, changes_are_listed setup word earlier)
+    let session = session_of setup word earlier in
+    let change = change_by session act in
+    let more = few_sent_with (moment_of act) (deciding_interval session act) (is_some change) (brought_by session act) (sent_over setup word earlier) in
+    omega (arith, more, lists_by change session, changes_are_listed setup word earlier)
 
 pub few_changes : (setup : Setup) (word : ℕ) (acts : List Act) → AllTaken setup word acts → length (filter is_change_bye (sent_over setup word acts)) ≤ most_changes
 few_changes setup word acts taken = omega (arith, changes_are_listed setup word acts, few_listed setup word acts taken)
@@ -166,29 +200,20 @@ few_held setup (present outcome) = present_were_named_and_fit-fit setup.capacity
 few_held setup (backing_off outcome backoff) = present_were_named_and_fit-fit setup.capacity outcome.trace
 few_held setup (gone outcome) = omega arith
 
-identifiers_counted : (setup : Setup) (acts : List Act) → length (identifiers setup acts) ≡ 1 + length (peers_listed acts)
-identifiers_counted setup [] = refl
-identifiers_counted setup (rtcp_came moment peer drawn size reading ∷ earlier) = identifiers_counted setup earlier
-identifiers_counted setup (rtp_came moment peer drawn reading ∷ earlier) = identifiers_counted setup earlier
-identifiers_counted setup (rtp_sent moment timestamp octets ∷ earlier) = identifiers_counted setup earlier
-identifiers_counted setup (ticked moment first_word second_word ∷ earlier) = identifiers_counted setup earlier
-identifiers_counted setup (left moment drawn ∷ earlier) = identifiers_counted setup earlier
-identifiers_counted setup (renamed moment peer ssrc ∷ earlier) = omega (arith, identifiers_counted setup earlier)
+abbrev those_taken : Session → Datagram → List ℕ
+those_taken session datagram = identifiers session ++ (held_in session.setup session.life ++ named_by datagram)
 
-abbrev those_taken : History → Act → List ℕ
-those_taken history act = identifiers history.setup history.acts ++ (held_in history.setup (life_at history) ++ named_by act)
-
-few_taken : (history : History) (act : Act) → AllTaken history.setup history.word history.acts → length (those_taken history act) ≤ most_taken history act
-few_taken history act taken =
-    let own = identifiers history.setup history.acts in
-    let held = held_in history.setup (life_at history) in
+few_taken : (session : Session) (datagram : Datagram) → length session.changes ≤ most_changes → length (those_taken session datagram) ≤ most_taken session datagram
+few_taken session datagram few =
+    let own = identifiers session in
+    let held = held_in session.setup session.life in
     omega (
       arith,
-      length-append own (held ++ named_by act),
-      length-append held (named_by act),
-      identifiers_counted history.setup history.acts,
-      few_listed history.setup history.word history.acts taken,
-      few_held history.setup (life_at history),
+      length-append own (held ++ named_by datagram),
+      length-append held (named_by datagram),
+      length-map session.changes (λ (change : Change). change.former),
+      few,
+      few_held session.setup session.life,
     )
 
 -- a number that is among some is among these and others
@@ -241,36 +266,43 @@ in_table_is_held setup (backing_off outcome backoff) ssrc is =
     held_is_among setup.capacity outcome.trace (names outcome.trace) ssrc there (present_were_named_and_fit-named setup.capacity outcome.trace ssrc there)
 in_table_is_held setup (gone outcome) ssrc is = absurd cc
 
-taken_is_among : (history : History) (act : Act) (ssrc : ℕ) → is_taken history act ssrc ≡ true → is_among (those_taken history act) ssrc ≡ true
-taken_is_among history act ssrc is = by_own (is_among own ssrc) refl
+taken_is_among : (session : Session) (datagram : Datagram) (ssrc : ℕ) → is_taken session datagram ssrc ≡ true → is_among (those_taken session datagram) ssrc ≡ true
+taken_is_among session datagram ssrc is = by_own (is_among own ssrc) refl
   where
     own : List ℕ
-    own = identifiers history.setup history.acts
+    own = identifiers session
 
     held : List ℕ
-    held = held_in history.setup (life_at history)
+    held = held_in session.setup session.life
+
+    others : List ℕ
+    others = named_by datagram
 
     table : Bool
-    table = is_in_table history.setup (life_at history) ssrc
+    table = is_in_table session.setup session.life ssrc
 
-    by_table : (b : Bool) → is_in_table history.setup (life_at history) ssrc ≡ b → (is_in_table history.setup (life_at history) ssrc || is_among (named_by act) ssrc) ≡ true → is_among (held_in history.setup (life_at history) ++ named_by act) ssrc ≡ true
-    by_table true there either = among_left held (named_by act) ssrc (in_table_is_held history.setup (life_at history) ssrc there)
-    by_table false absent either = among_right held (named_by act) ssrc (sym (ap (λ (b : Bool). b || is_among (named_by act) ssrc) absent) ∙ either)
+    by_table : (b : Bool) → is_in_table session.setup session.life ssrc ≡ b → (is_in_table session.setup session.life ssrc || is_among (named_by datagram) ssrc) ≡ true → is_among (held_in session.setup session.life ++ named_by datagram) ssrc ≡ true
+    by_table true there either = among_left held others ssrc (in_table_is_held session.setup session.life ssrc there)
+    by_table false absent either = among_right held others ssrc (sym (ap (λ (b : Bool). b || is_among others ssrc) absent) ∙ either)
 
-    by_own : (b : Bool) → is_among (identifiers history.setup history.acts) ssrc ≡ b → is_among (those_taken history act) ssrc ≡ true
-    by_own true ours = among_left own (held ++ named_by act) ssrc ours
-    by_own false other =
-        among_right own (held ++ named_by act) ssrc (by_table table refl (sym (ap (λ (b : Bool). b || (table || is_among (named_by act) ssrc)) other) ∙ is))
+    by_own : (b : Bool) → is_among (identifiers session) ssrc ≡ b → is_among (those_taken session datagram) ssrc ≡ true
+    by_own true ours = among_left own (held ++ others) ssrc ours
+    by_own false other = among_right own (held ++ others) ssrc (by_table table refl (sym (ap (λ (b : Bool). b || (table || is_among others ssrc)) other) ∙ is))
 
 among_is_member : (numbers : List ℕ) (number : ℕ) → is_among numbers number ≡ is_member (λ (a b : ℕ). a == b) numbers number
 among_is_member numbers number = λ i. list_any (λ (other : ℕ). number_equality.symm other number i) numbers
 
 -- A new identifier is none of the participant's, none of the table's, and none that the datagram names.
-pub new_is_free : (history : History) (act : Act) (word : ℕ) → IsHistory history → word < 2 ^ 32 → length (named_by act) < 2 ^ 31 → is_taken history act (new_identifier word history act) ≡ false
-new_is_free history act word is fits few =
-    chosen_is_free (most_taken history act) (is_taken history act) word (those_taken history act) fits (omega (arith, few, is.usable.capacity.1)) (few_taken history act is.taken)
-    (λ number taken. sym (among_is_member (those_taken history act) number) ∙ taken_is_among history act number taken)
+new_in_session : (session : Session) (datagram : Datagram) (word : ℕ) → session.setup.capacity ≤ 1024 → length session.changes ≤ most_changes → word < 2 ^ 32 → length (named_by datagram) < 2 ^ 31
+    → is_taken session datagram (new_identifier word session datagram) ≡ false
+new_in_session session datagram word small listed fits few =
+    chosen_is_free (most_taken session datagram) (is_taken session datagram) word (those_taken session datagram) fits (omega (arith, few, small)) (few_taken session datagram listed)
+    (λ number taken. sym (among_is_member (those_taken session datagram) number) ∙ taken_is_among session datagram number taken)
+
+pub new_is_free : (history : History) (datagram : Datagram) (word : ℕ) → IsHistory history → word < 2 ^ 32 → length (named_by datagram) < 2 ^ 31 → is_taken (session_at history) datagram (new_identifier word (session_at history) datagram) ≡ false
+new_is_free history datagram word is fits few =
+    new_in_session (session_at history) datagram word (usable_in history.setup history.word history.acts is.usable).capacity.1 (few_listed history.setup history.word history.acts is.taken) fits few
 
 -- Fewer than 2^17 stand in the way, where a datagram names fewer than 2^16.
-pub few_are_taken : (history : History) (act : Act) → IsHistory history → length (named_by act) < 2 ^ 16 → most_taken history act < 2 ^ 17
-few_are_taken history act is few = omega (arith, few, is.usable.capacity.1)
+pub few_are_taken : (history : History) (datagram : Datagram) → IsHistory history → length (named_by datagram) < 2 ^ 16 → most_taken (session_at history) datagram < 2 ^ 17
+few_are_taken history datagram is few = omega (arith, few, (usable_in history.setup history.word history.acts is.usable).capacity.1)

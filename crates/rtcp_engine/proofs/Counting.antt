@@ -1,17 +1,19 @@
 -- The reports that a session counts are those that it sent.
-use Rattle.std.proofs.Common.{◌≡◌, ℕ, ◌&&◌, Bool, true, false, List, [], ◌∷◌, ◌++◌, map, Some, None, option_map, Ok, Err, if◌then◌else◌, refl, ap}
+use Rattle.std.proofs.Common.{◌≡◌, ℕ, ◌&&◌, Bool, true, false, is_some, nat_le, List, [], ◌∷◌, ◌++◌, map, Option, Some, None, option_map, Ok, Err, if◌then◌else◌, refl, sym, ap, ◌∙◌}
+use Rattle.std.specs.Option.{option_or}
 use Rattle.rtcp_engine.specs.Setups.{Setup}
-use Rattle.rtcp_engine.specs.Acts.{Act, rtcp_came, rtp_came, rtp_sent, ticked, left, renamed}
-use Rattle.rtcp_engine.specs.Identities.{setup_now}
+use Rattle.rtcp_engine.specs.Acts.{rtcp, rtp, Act, arrived, rtp_sent, ticked, left, moment_of}
 use Rattle.rtcp_engine.specs.OwnStreams.{has_sent}
 use Rattle.rtcp_engine.specs.Outcomes.{Outcome, Report, interval_at, member_count}
 use Rattle.rtcp_engine.specs.Ticks.{checked, has_come, has_passed, reported, put_off}
 use Rattle.rtcp_engine.specs.Reporting.{bye_octets, report_octets}
-use Rattle.rtcp_engine.specs.Presence.{report_out}
 use Rattle.rtcp_engine.specs.Leaving.{Backoff, Life, present, backing_off, gone, few_members, is_bye_due, is_unheard, after_wait, backoff_from, leaving_interval}
-use Rattle.rtcp_engine.specs.Lives.{lived, life_of, bye_out}
-use Rattle.rtcp_engine.specs.Sent.{Sent, reports_in, sent_with, sent_by, sent_over, reports_of, counted_report}
-use Rattle.std.proofs.Common.{nat_le}
+use Rattle.rtcp_engine.specs.Lives.{lived, bye_out, out_by, own_bye, report_out, with_new_name}
+use Rattle.rtcp_engine.specs.Changes.{NewIdentifier, Session, bye_of_change, change_by, changed_by, changed_to}
+use Rattle.rtcp_engine.specs.Histories.{session_of}
+use Rattle.rtcp_engine.specs.Steps.{OutValue}
+use Rattle.rtcp_engine.specs.Sent.{Sent, interval_by, reports_in, sent_with, sent_over, reports_of, counted_report}
+use Rattle.rtcp_engine.proofs.Changing.{bye_alone, nothing_more}
 
 abbrev counted : List Sent → List Report
 counted sent = map counted_report (reports_in sent)
@@ -37,32 +39,49 @@ bye_by : (setup : Setup) (t word interval : ℕ) (outcome : Outcome) (backoff : 
 bye_by setup t word interval outcome backoff sent true h = h
 bye_by setup t word interval outcome backoff sent false h = h
 
-change_by : (setup : Setup) (t interval : ℕ) (heard : Bool) (outcome : Outcome) (sent : List Sent) → outcome.reports ≡ counted sent
-    → outcome.reports ≡ counted (sent_with t interval true (if heard then Some (bye_out (bye_octets setup)) else None) ++ sent)
-change_by setup t interval true outcome sent h = h
-change_by setup t interval false outcome sent h = h
+heard_by : (setup : Setup) (t : ℕ) (heard : Bool) (outcome : Outcome) (sent : List Sent) → outcome.reports ≡ counted sent
+    → outcome.reports ≡ counted (sent_with t 0 true (if heard then Some (bye_out (bye_octets setup)) else None) ++ sent)
+heard_by setup t true outcome sent h = h
+heard_by setup t false outcome sent h = h
 
-one_act : (setup : Setup) (act : Act) (life : Life) (sent : List Sent) → reports_of life ≡ counted sent → reports_of (lived setup act life) ≡ counted (sent_by setup act life ++ sent)
-one_act setup (rtcp_came moment peer drawn size (Ok packets)) (present outcome) sent h = h
-one_act setup (rtcp_came moment peer drawn size (Err fault)) (present outcome) sent h = h
-one_act setup (rtp_came moment peer drawn (Ok head)) (present outcome) sent h = h
-one_act setup (rtp_came moment peer drawn (Err fault)) (present outcome) sent h = h
+one_change : (setup : Setup) (t : ℕ) (life : Life) (sent : List Sent) → reports_of life ≡ counted sent → reports_of (with_new_name setup life) ≡ counted (sent_with t 0 true (own_bye setup life) ++ sent)
+one_change setup t (present outcome) sent h = heard_by setup t (has_sent outcome.own) outcome sent h
+one_change setup t (backing_off outcome backoff) sent h = heard_by setup t (has_sent outcome.own) outcome sent h
+one_change setup t (gone outcome) sent h = h
+
+one_act : (setup : Setup) (act : Act) (life : Life) (sent : List Sent) → reports_of life ≡ counted sent
+    → reports_of (lived setup act life) ≡ counted (sent_with (moment_of act) (interval_by setup act life) false (out_by setup act life) ++ sent)
+one_act setup (arrived moment peer drawn (rtcp size (Ok packets))) (present outcome) sent h = h
+one_act setup (arrived moment peer drawn (rtcp size (Err fault))) (present outcome) sent h = h
+one_act setup (arrived moment peer drawn (rtp (Ok head))) (present outcome) sent h = h
+one_act setup (arrived moment peer drawn (rtp (Err fault))) (present outcome) sent h = h
 one_act setup (rtp_sent moment timestamp octets) (present outcome) sent h = h
 one_act setup (ticked moment first_word second_word) (present outcome) sent h =
     let now = checked setup moment outcome in
     tick_by setup moment first_word second_word now sent (has_come moment now) (has_passed setup moment first_word now) h
 one_act setup (left moment word) (present outcome) sent h =
     leave_by setup moment word outcome sent (is_unheard outcome) (nat_le (member_count setup outcome) few_members) h
-one_act setup (renamed moment peer ssrc) (present outcome) sent h = change_by setup moment 0 (has_sent outcome.own) outcome sent h
-one_act setup (rtcp_came moment peer drawn size reading) (backing_off outcome backoff) sent h = h
-one_act setup (rtp_came moment peer drawn reading) (backing_off outcome backoff) sent h = h
+one_act setup (arrived moment peer drawn (rtcp size reading)) (backing_off outcome backoff) sent h = h
+one_act setup (arrived moment peer drawn (rtp reading)) (backing_off outcome backoff) sent h = h
 one_act setup (rtp_sent moment timestamp octets) (backing_off outcome backoff) sent h = h
 one_act setup (ticked moment first_word second_word) (backing_off outcome backoff) sent h =
     bye_by setup moment first_word (leaving_interval setup backoff) outcome backoff sent (is_bye_due setup moment first_word backoff) h
 one_act setup (left moment word) (backing_off outcome backoff) sent h = h
-one_act setup (renamed moment peer ssrc) (backing_off outcome backoff) sent h = change_by setup moment 0 (has_sent outcome.own) outcome sent h
 one_act setup act (gone outcome) sent h = h
 
-pub reports_counted : (setup : Setup) (word : ℕ) (acts : List Act) → reports_of (life_of setup word acts) ≡ counted (sent_over setup word acts)
+one_step : (session : Session) (act : Act) (sent : List Sent) (change : Option NewIdentifier) → change_by session act ≡ change → reports_of session.life ≡ counted sent
+    → let now = changed_by change session in reports_of (lived now.setup act now.life)
+    ≡ counted (sent_with (moment_of act) (if is_some change then 0 else interval_by session.setup act session.life) (is_some change) (option_or (bye_of_change change session) (out_by now.setup act now.life)) ++ sent)
+one_step session act sent None is h = one_act session.setup act session.life sent h
+one_step session act sent (Some new) is h =
+    let now = changed_to new session in
+    let before = sent_with (moment_of act) 0 true (own_bye session.setup session.life) ++ sent in
+    one_act now.setup act now.life before (one_change session.setup (moment_of act) session.life sent h)
+    ∙ ap (λ (out : Option OutValue). counted (sent_with (moment_of act) (interval_by now.setup act now.life) false out ++ before)) (nothing_more session act new is now.setup now.life)
+    ∙ sym (ap (λ (out : Option OutValue). counted (sent_with (moment_of act) 0 true out ++ sent)) (bye_alone session act new is))
+
+pub reports_counted : (setup : Setup) (word : ℕ) (acts : List Act) → reports_of (session_of setup word acts).life ≡ counted (sent_over setup word acts)
 reports_counted setup word [] = refl
-reports_counted setup word (act ∷ earlier) = one_act (setup_now setup earlier) act (life_of setup word earlier) (sent_over setup word earlier) (reports_counted setup word earlier)
+reports_counted setup word (act ∷ earlier) =
+    let before = session_of setup word earlier in
+    one_step before act (sent_over setup word earlier) (change_by before act) refl (reports_counted setup word earlier)

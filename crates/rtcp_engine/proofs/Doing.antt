@@ -16,7 +16,7 @@ use Rattle.rtcp_engine.specs.OwnStreams.{OwnValue, Adds, packet_sent, check_pass
 use Rattle.rtcp_engine.specs.Outcomes.{Outcome, member_count, timing_of, interval_at, receiver_interval_at}
 use Rattle.rtcp_engine.specs.Reporting.{report_octets}
 use Rattle.rtcp_engine.specs.Leaving.{Backoff, after_wait, backoff_from, is_bye_due, leaving_average, leaving_count, leaving_interval, leaving_load, leaving_timing, with_farewell_of}
-use Rattle.rtcp_engine.specs.Histories.{facts_of_media, media_fact, with_facts_of, with_media, with_packet}
+use Rattle.rtcp_engine.specs.Arrivals.{facts_of_media, media_fact, with_facts_of, with_media, with_packet}
 use Rattle.rtcp_engine.specs.Ticks.{horizons_of, with_check, without_silent, has_come, has_passed, is_report_due, put_off, tried_at, report_due, with_report, reported, after_check as after_check_at}
 use Rattle.rtcp_engine.specs.States.{State, Agrees, Does, DoesWaiting, StandsStill, Stays, Waits}
 use Rattle.rtcp_engine.proofs.Agreeing.{load, facts_agree, media_agree, sizes_agree, rows_in, octets_in, octets_agree, sent_reports_agree}

@@ -1,7 +1,7 @@
 -- Worked rows: how late a report comes at the latest.
 use Rattle.std.proofs.Common.{◌≡◌, List, [], ◌∷◌, None, Ok, refl, arith}
 use Rattle.rtcp_wire.specs.Values.{rr, bye}
-use Rattle.rtcp_engine.specs.Acts.{Act, rtcp_came, ticked}
+use Rattle.rtcp_engine.specs.Acts.{rtcp, Act, arrived, ticked}
 use Rattle.rtcp_engine.specs.Histories.{History}
 use Rattle.rtcp_engine.specs.InTime.{greatest_interval, last_fall, longest_wait, IsOverdue}
 use Rattle.rtcp_engine.proofs.Rows.{setup, named_came}
@@ -30,7 +30,7 @@ a_microsecond_sooner h = omega (arith, h.0)
 
 -- Of two members one leaves: the wait begins anew.
 abbrev fallen : List Act
-fallen = rtcp_came 3026037 1 0 16 (Ok (rr 1 [] [] ∷ bye (1 ∷ []) None ∷ [])) ∷ ticked 1026037 0 4294967295 ∷ named_came 0 1 ∷ []
+fallen = arrived 3026037 1 0 (rtcp 16 (Ok (rr 1 [] [] ∷ bye (1 ∷ []) None ∷ []))) ∷ ticked 1026037 0 4294967295 ∷ named_came 0 1 ∷ []
 
 falls : last_fall setup 0 fallen ≡ 3026037
 falls = refl

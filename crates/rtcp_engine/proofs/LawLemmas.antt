@@ -1,6 +1,6 @@
 -- The laws of this crate as lemmas, for the proofs of the crates above: each has the name of its law, and of the
 -- clause where the law has several.
-use Rattle.std.proofs.Common.{◌≡◌, ◌↔◌, All, map, ℕ, ◌+◌, ◌-◌, ◌*◌, ◌/◌, ◌%◌, ◌≤◌, ◌^◌, ◌<◌, Bool, true, false, is_some, option_map, List, [], ◌∷◌, ◌++◌, length, slice_get, Option, Some, None, Result, Ok, Err, if◌then◌else◌, refl, sym, ap, ◌∙◌, arith, inl, inr, max}
+use Rattle.std.proofs.Common.{◌≡◌, ◌↔◌, All, map, ℕ, ◌+◌, ◌-◌, ◌*◌, ◌/◌, ◌%◌, ◌≤◌, ◌^◌, ◌<◌, Bool, false, is_some, option_map, List, [], ◌∷◌, ◌++◌, length, slice_get, Option, Some, None, Result, Ok, Err, if◌then◌else◌, refl, sym, ap, ◌∙◌, arith, inl, inr, max}
 use Rattle.std.proofs.lemmas.Bool.{ne_eqb, eq-eqb, lt-ltb, le-ltb, cases_lt}
 use Rattle.rtcp_wire.specs.Values.{ItemValue, RtcpPacket}
 use Rattle.rtcp_wire.specs.RtpHeads.{RtpValue}
@@ -14,24 +14,21 @@ use Rattle.rtcp_report.specs.Traced.{with_blocks}
 use Rattle.rtcp_engine.specs.declared.refusal.Refusal.{Refusal}
 use Rattle.rtcp_engine.specs.Setups.{Setup, IsUsable}
 use Rattle.rtcp_engine.specs.Refused.{error_in}
-use Rattle.rtcp_engine.specs.Acts.{Act, rtcp_came, rtp_came, rtp_sent, ticked, left, renamed, moment_of, IsReading, IsRtpReading}
-use Rattle.rtcp_engine.specs.Changes.{change_by, is_taken, new_identifier}
+use Rattle.rtcp_engine.specs.Acts.{Datagram, Act, moment_of, IsReading, IsRtpReading}
+use Rattle.rtcp_engine.specs.Changes.{NewIdentifier, change_by, is_taken, new_identifier}
 use Rattle.rtcp_engine.specs.OwnStreams.{OwnStep, packet_sent, check_passed, report_sent, counts_anew, sending_since}
 use Rattle.rtcp_engine.specs.OwnSending.{OutlastsChecks, IsSendingSince}
 use Rattle.rtcp_engine.specs.Reporting.{extra_item, last_reported_in}
 use Rattle.rtcp_timer.specs.Averages.{IsBetween}
 use Rattle.rtcp_timer.specs.Departures.{last_departure}
 use Rattle.rtcp_engine.specs.Outcomes.{Outcome, timing_of}
-use Rattle.rtcp_engine.specs.Leaving.{Backoff, Life, present, backing_off, gone, leaving_timing}
-use Rattle.rtcp_engine.specs.Histories.{History}
-use Rattle.rtcp_engine.specs.Presence.{with_act, last_moment}
-use Rattle.rtcp_engine.specs.Steps.{OutValue, answer_unless}
-use Rattle.rtcp_engine.specs.Lives.{life_at, out_by}
-use Rattle.rtcp_engine.specs.Answers.{step_by, out_at, out_of, refusal_after, answer_of, followed_by, ssrc_of, with_change_of}
-use Rattle.rtcp_engine.specs.Identities.{setup_now}
-use Rattle.std.specs.Option.{option_or}
+use Rattle.rtcp_engine.specs.Leaving.{Backoff, present, backing_off, leaving_timing}
+use Rattle.rtcp_engine.specs.Histories.{History, brought_by, life_at, session_at, with_act, last_moment}
+use Rattle.rtcp_engine.specs.Refusals.{refusal_after}
+use Rattle.rtcp_engine.specs.Steps.{answer_unless}
+use Rattle.rtcp_engine.specs.Answers.{step_by, answer_of, followed_by}
 use Rattle.rtcp_engine.specs.Taken.{IsHistory, NamesFew}
-use Rattle.rtcp_engine.specs.Sent.{Sent, reports_in, deciding_interval, interval_by, is_change, sent_at, sent_with, handed_out, reports_of, counted_report}
+use Rattle.rtcp_engine.specs.Sent.{reports_in, deciding_interval, sent_at, sent_with, handed_out, reports_of, counted_report}
 use Rattle.rtcp_engine.specs.Spacing.{newest_moment, AreSpaced, count_within, first_leave, EndsWithBye, AllFit, HasFewChanges}
 use Rattle.rtcp_engine.proofs.Choosing.{few_changes, new_is_free}
 use Rattle.rtcp_engine.proofs.Usable.{usable_of_unrefused, unrefused_of_usable}
@@ -68,17 +65,11 @@ usable_is_unrefused setup = (unrefused_of_usable setup, usable_of_unrefused setu
 
 -- ---- Histories
 
--- the history after an act that is taken, with its change before it
-abbrev pub after_taken : History → Act → History
-after_taken history act = with_act (with_change_of (change_by history act) history) act
-
 pub refused_acts_are_forgotten-refused : (history : History) (act : Act) (reason : Refusal) → refusal_after history act ≡ Some reason → followed_by history act ≡ history
-refused_acts_are_forgotten-refused history act reason is =
-    ap (λ r. elim r [ None ↦ after_taken history act | Some refusal ↦ history ]) is
+refused_acts_are_forgotten-refused history act reason is = ap (λ r. elim r [ None ↦ with_act history act | Some refusal ↦ history ]) is
 
-pub refused_acts_are_forgotten-taken : (history : History) (act : Act) → refusal_after history act ≡ None → followed_by history act ≡ after_taken history act
-refused_acts_are_forgotten-taken history act is =
-    ap (λ r. elim r [ None ↦ after_taken history act | Some refusal ↦ history ]) is
+pub refused_acts_are_forgotten-taken : (history : History) (act : Act) → refusal_after history act ≡ None → followed_by history act ≡ with_act history act
+refused_acts_are_forgotten-taken history act is = ap (λ r. elim r [ None ↦ with_act history act | Some refusal ↦ history ]) is
 
 -- ---- The own stream
 
@@ -129,85 +120,21 @@ own_sending_lasts own moment = (
 
 -- ---- Reports
 
-abbrev pub some_act : Act → Option Act
-some_act act = Some act
+is_some_map : {A B : Type 0} → (f : A → B) (found : Option A) → is_some (option_map f found) ≡ is_some found
+is_some_map {A} {B} f None = refl
+is_some_map {A} {B} f (Some x) = refl
 
--- an act that the host tells
-abbrev pub IsTold : Act → Type 0
-IsTold act = is_change act ≡ false
+handed_by : (history : History) (act : Act) (refusal : Option Refusal)
+    → sent_at (elim refusal [ None ↦ with_act history act | Some reason ↦ history ])
+    ≡ handed_out (moment_of act) (deciding_interval (session_at history) act) (answer_unless refusal (step_by history act)) ++ sent_at history
+handed_by history act None =
+    let before = session_at history in
+    sym (ap (λ (changes : Bool). sent_with (moment_of act) (deciding_interval before act) changes (brought_by before act) ++ sent_at history) (is_some_map (λ (new : NewIdentifier). new.ssrc) (change_by before act)))
+handed_by history act (Some reason) = refl
 
--- A datagram brings no compound but the one of its change.
-pub nothing_more : (history : History) (act change : Act) → change_by history act ≡ Some change → (setup : Setup) (life : Life) → out_by setup act life ≡ None
-nothing_more history (rtcp_came moment peer word size reading) change is setup (present outcome) = refl
-nothing_more history (rtcp_came moment peer word size reading) change is setup (backing_off outcome backoff) = refl
-nothing_more history (rtp_came moment peer word reading) change is setup (present outcome) = refl
-nothing_more history (rtp_came moment peer word reading) change is setup (backing_off outcome backoff) = refl
-nothing_more history (rtp_sent moment timestamp octets) change is setup life = absurd cc
-nothing_more history (ticked moment first_word second_word) change is setup life = absurd cc
-nothing_more history (left moment word) change is setup life = absurd cc
-nothing_more history (renamed moment peer ssrc) change is setup life = absurd cc
-nothing_more history act change is setup (gone outcome) = refl
-
-same_act : (one other : Act) → some_act one ≡ some_act other → one ≡ other
-same_act one other same = cc
-
-pub change_if : (brings : Bool) (one other : Act) → (if brings then some_act one else None) ≡ some_act other → one ≡ other
-change_if true one other same = same_act one other same
-change_if false one other same = absurd cc
-
--- A change has the moment of its datagram.
-abbrev IsChangeOf : (moment : ℕ) → Act → Type 0
-IsChangeOf moment change = (peer : ℕ) × (ssrc : ℕ) × (renamed moment peer ssrc ≡ change)
-
-is_change_of : (history : History) (act change : Act) → change_by history act ≡ Some change → IsChangeOf (moment_of act) change
-is_change_of history (rtcp_came moment peer word size reading) change is = (peer, _, change_if _ _ change is)
-is_change_of history (rtp_came moment peer word reading) change is = (peer, _, change_if _ _ change is)
-is_change_of history (rtp_sent moment timestamp octets) change is = absurd cc
-is_change_of history (ticked moment first_word second_word) change is = absurd cc
-is_change_of history (left moment word) change is = absurd cc
-is_change_of history (renamed moment peer ssrc) change is = absurd cc
-
-no_interval : (setup : Setup) (moment peer ssrc : ℕ) (life : Life) → interval_by setup (renamed moment peer ssrc) life ≡ 0
-no_interval setup moment peer ssrc (present outcome) = refl
-no_interval setup moment peer ssrc (backing_off outcome backoff) = refl
-no_interval setup moment peer ssrc (gone outcome) = refl
-
-pub or_none : {A : Type 0} → (found : Option A) → option_or found None ≡ found
-or_none {A} None = refl
-or_none {A} (Some x) = refl
-
--- what is sent with an act that is taken, after its change
-abbrev sent_after : (history : History) (act : Act) → Option Act → List Sent
-sent_after history act change =
-    sent_with (moment_of act) (if is_some change then 0 else interval_by (setup_now history.setup history.acts) act (life_at history)) (is_some (option_map ssrc_of change))
-    (option_or (out_of change history) (out_at (with_change_of change history) act))
-
-hands_on : (history : History) (act : Act) (change : Option Act) → change_by history act ≡ change → IsTold act
-    → sent_at (with_act (with_change_of change history) act) ≡ sent_after history act change ++ sent_at history
-hands_on history act None is told =
-    ap (λ (changes : Bool). sent_with (moment_of act) (interval_by (setup_now history.setup history.acts) act (life_at history)) changes (out_at history act) ++ sent_at history) told
-hands_on history act (Some change) is told =
-    let next = with_act history change in
-    let none = nothing_more history act change is (setup_now next.setup next.acts) (life_at next) in
-    let shape = is_change_of history act change is in
-    let setup = setup_now history.setup history.acts in
-    let interval = interval_by (setup_now next.setup next.acts) act (life_at next) in
-    ap (λ (out : Option OutValue). sent_with (moment_of act) interval (is_change act) out ++ sent_at next) none
-    ∙ sym (ap (λ (c : Act). sent_with (moment_of c) (interval_by setup c (life_at history)) (is_change c) (out_by setup c (life_at history)) ++ sent_at history) shape.2)
-    ∙ ap (λ (i : ℕ). sent_with (moment_of act) i true (out_by setup (renamed (moment_of act) shape.0 shape.1) (life_at history)) ++ sent_at history) (no_interval setup (moment_of act) shape.0 shape.1 (life_at history))
-    ∙ ap (λ (c : Act). sent_with (moment_of act) 0 true (out_at history c) ++ sent_at history) shape.2
-    ∙ sym (ap (λ (out : Option OutValue). sent_with (moment_of act) 0 true out ++ sent_at history) (ap (option_or (out_at history change)) none ∙ or_none (out_at history change)))
-
-handed_by : (history : History) (act : Act) (refusal : Option Refusal) → IsTold act
-    → sent_at (elim refusal [ None ↦ after_taken history act | Some reason ↦ history ])
-    ≡ handed_out (moment_of act) (deciding_interval history act) (answer_unless refusal (step_by history act)) ++ sent_at history
-handed_by history act None told = hands_on history act (change_by history act) refl told
-handed_by history act (Some reason) told = refl
-
-pub answers_hand_out_compounds : (history : History) (act : Act) → IsTold act →
-    sent_at (followed_by history act)
-    ≡ handed_out (moment_of act) (deciding_interval history act) (answer_of history act) ++ sent_at history
-answers_hand_out_compounds history act told = handed_by history act (refusal_after history act) told
+pub answers_hand_out_compounds : (history : History) (act : Act)
+    → sent_at (followed_by history act) ≡ handed_out (moment_of act) (deciding_interval (session_at history) act) (answer_of history act) ++ sent_at history
+answers_hand_out_compounds history act = handed_by history act (refusal_after history act)
 
 pub sent_reports_are_counted : (history : History) → reports_of (life_at history) ≡ map counted_report (reports_in (sent_at history))
 sent_reports_are_counted history = reports_counted history.setup history.word history.acts
@@ -249,8 +176,8 @@ sent_compounds_keep_apart-limit history is = limit_in history.setup.limit (last_
 pub sends_in_time : (history : History) → IsHistory history → AllInTime history.setup history.word history.acts
 sends_in_time history is = all_in_time history.setup history.word history.acts is.usable is.word is.taken
 
-pub new_identifiers_are_free : (history : History) (act : Act) (word : ℕ) → IsHistory history → word < 2 ^ 32 → NamesFew act → is_taken history act (new_identifier word history act) ≡ false
-new_identifiers_are_free history act word is fits few = new_is_free history act word is fits few
+pub new_identifiers_are_free : (history : History) (datagram : Datagram) (word : ℕ) → IsHistory history → word < 2 ^ 32 → NamesFew datagram → let session = session_at history in is_taken session datagram (new_identifier word session datagram) ≡ false
+new_identifiers_are_free history datagram word is fits few = new_is_free history datagram word is fits few
 
 pub sent_compounds_keep_apart-few_changes : (history : History) → IsHistory history → HasFewChanges (sent_at history)
 sent_compounds_keep_apart-few_changes history is = few_changes history.setup history.word history.acts is.taken

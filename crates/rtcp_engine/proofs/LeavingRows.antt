@@ -3,7 +3,7 @@ use Rattle.std.proofs.Common.{◌≡◌, ℕ, zero, suc, List, [], ◌∷◌, �
 use Rattle.rtcp_wire.specs.Values.{rr, bye}
 use Rattle.rtcp_engine.specs.declared.refusal.Refusal.TheVariants.{Left}
 use Rattle.rtcp_engine.specs.declared.step.OutKind.TheVariants.{Bye}
-use Rattle.rtcp_engine.specs.Acts.{Act, rtcp_came, rtp_sent, ticked, left}
+use Rattle.rtcp_engine.specs.Acts.{rtcp, Act, arrived, rtp_sent, ticked, left}
 use Rattle.rtcp_engine.specs.Steps.{AnswerValue}
 use Rattle.rtcp_engine.specs.Answers.{answers_to}
 use Rattle.rtcp_engine.proofs.Rows.{start, ok, sends, empty_report, named_came}
@@ -16,7 +16,7 @@ abbrev says_bye : AnswerValue
 says_bye = Ok (record { out = Some (record { kind = Bye; octets = empty_report ++ 129 ∷ 203 ∷ 0 ∷ 1 ∷ 0 ∷ 0 ∷ 0 ∷ 170 ∷ [] }); members = 0; senders = 0; next = None; changed = None })
 
 -- One that sent nothing leaves silently, and is asked in vain from then on. A tick alone sends nothing.
-unheard : answers_to start (ticked 0 0 0 ∷ left 0 0 ∷ ticked 0 0 0 ∷ left 0 0 ∷ rtcp_came 0 1 0 8 (Ok (rr 7 [] [] ∷ [])) ∷ [])
+unheard : answers_to start (ticked 0 0 0 ∷ left 0 0 ∷ ticked 0 0 0 ∷ left 0 0 ∷ arrived 0 1 0 (rtcp 8 (Ok (rr 7 [] [] ∷ []))) ∷ [])
     ≡ ok 1 0 1026037 ∷ silently_gone ∷ Err Left ∷ Err Left ∷ Err Left ∷ []
 unheard = refl
 
@@ -37,7 +37,7 @@ fifty : drop 50 (answers_to start (rtp_sent 0 0 0 ∷ named 49 ++ left 10000000 
 fifty = refl
 
 -- and with 51 it backs off: others' BYE packets count, and nothing else.
-fifty_one : drop 51 (answers_to start (rtp_sent 0 0 0 ∷ named 50 ++ left 10000000 0 ∷ rtcp_came 10000000 1 0 16 (Ok (rr 1 [] [] ∷ bye (1 ∷ []) None ∷ []))
+fifty_one : drop 51 (answers_to start (rtp_sent 0 0 0 ∷ named 50 ++ left 10000000 0 ∷ arrived 10000000 1 0 (rtcp 16 (Ok (rr 1 [] [] ∷ bye (1 ∷ []) None ∷ [])))
     ∷ left 10000000 4294967295 ∷ rtp_sent 10000000 0 0 ∷ named_came 10000000 99 ∷ ticked 11026036 0 0 ∷ ticked 11026037 0 0 ∷ ticked 11026037 0 0 ∷ []))
     ≡ ok 1 0 11026037 ∷ ok 2 0 11026037 ∷ ok 2 0 11026037 ∷ ok 2 0 11026037 ∷ ok 2 0 11026037 ∷ ok 2 0 11026037 ∷ says_bye ∷ Err Left ∷ []
 fifty_one = refl

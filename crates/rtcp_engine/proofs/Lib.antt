@@ -5,6 +5,7 @@ mod Arriving
 mod Beginning
 mod Bounded
 mod ChangeRows
+mod Changing
 mod Choosing
 mod Counting
 mod Doing

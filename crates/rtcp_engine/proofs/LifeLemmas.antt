@@ -1,20 +1,15 @@
--- The phases of a participant, and what it refuses in them.
+-- The phases of a participant, and what it counts in them.
 use Rattle.std.proofs.Common.{◌≡◌, ℕ, ◌+◌, nat_le, min, sum_by, Bool, true, false, List, Option, Some, None, option_map, if◌then◌else◌, refl, sym, ap, ◌∙◌, arith}
 use Rattle.std.proofs.lemmas.List.Sums.{sum_by-cons}
 use Rattle.rtcp_timer.specs.Schedules.{Happening}
 use Rattle.rtcp_engine.specs.declared.refusal.Refusal.{Refusal}
-use Rattle.rtcp_engine.specs.declared.refusal.Refusal.TheVariants.{Left}
 use Rattle.rtcp_engine.specs.Setups.{Setup}
-use Rattle.rtcp_engine.specs.Acts.{Act, moment_of}
 use Rattle.rtcp_engine.specs.Outcomes.{Outcome, member_count}
-use Rattle.rtcp_engine.specs.Histories.{History}
 use Rattle.rtcp_engine.specs.Reporting.{bye_octets}
-use Rattle.rtcp_engine.specs.Presence.{call_refusal, refusal_of, refusal_of_datagram}
-use Rattle.rtcp_engine.specs.Leaving.{with_farewell_of, Farewell, Backoff, is_unheard, few_members, backoff_from, bye_at_once, Life, present, backing_off, gone, left_at, after_wait, leaving_count, leaving_timing}
-use Rattle.rtcp_engine.specs.Lives.{life_at, bye_out}
-use Rattle.rtcp_engine.specs.Answers.{refusal_in, refusal_after}
-use Rattle.rtcp_engine.specs.States.{PhaseValue, taking_part, leaving, over, ParticipantValue, IsAt, StandsAt, refusal_by, refusal_in_phase}
-use Rattle.rtcp_engine.proofs.Standing.{refused_call, admitted_call as admitted_by, IsThere, refusal_there, IsTaken}
+use Rattle.rtcp_engine.specs.Refusals.{call_refusal}
+use Rattle.rtcp_engine.specs.Leaving.{with_farewell_of, Farewell, Backoff, is_unheard, few_members, backoff_from, bye_at_once, backing_off, gone, left_at, after_wait, leaving_count, leaving_timing}
+use Rattle.rtcp_engine.specs.Lives.{bye_out}
+use Rattle.rtcp_engine.specs.States.{PhaseValue, taking_part, leaving, over, ParticipantValue, refusal_by, refusal_in_phase}
 
 -- ---- Phases
 
@@ -33,68 +28,16 @@ leaving_members taking_part = 0
 leaving_members (leaving members) = members
 leaving_members over = 0
 
--- ---- Gone
+-- ---- Calls
 
-gone_refuses : (p : ParticipantValue) (h : History) (act : Act) (life : Life) → life_at h ≡ life → IsAt p life → p.phase ≡ over → refusal_after h act ≡ Some Left
-gone_refuses p h act (present outcome) is at phase = absurd (cc (sym (ap is_taking_part at.0) ∙ ap is_taking_part phase))
-gone_refuses p h act (backing_off outcome backoff) is at phase = absurd (cc (sym (ap is_leaving at.0) ∙ ap is_leaving phase))
-gone_refuses p h act (gone outcome) is at phase = ap (λ (l : Life). refusal_in l (refusal_of h.setup h.acts act)) is
+not_over : (phase : PhaseValue) (call : Option Refusal) → refusal_in_phase phase call ≡ None → phase ≡ over → ⊥
+not_over taking_part call none ended = absurd (cc (ap is_taking_part ended))
+not_over (leaving members) call none ended = absurd (cc (ap is_leaving ended))
+not_over over call none ended = absurd cc
 
-pub refuses_for_good : (p : ParticipantValue) (h : History) (act : Act) → StandsAt p h → p.phase ≡ over → refusal_after h act ≡ Some Left
-refuses_for_good p h act stands phase = gone_refuses p h act (life_at h) refl stands.life phase
-
--- ---- The call of a participant that is not gone
-
-there_by : (p : ParticipantValue) (life : Life) → IsAt p life → (p.phase ≡ over → ⊥) → IsThere life
-there_by p (present outcome) at here = record { refuses = λ refusal. refl }
-there_by p (backing_off outcome backoff) at here = record { refuses = λ refusal. refl }
-there_by p (gone outcome) at here = absurd (here at)
-
-pub is_there : (p : ParticipantValue) (h : History) → StandsAt p h → (p.phase ≡ over → ⊥) → IsThere (life_at h)
-is_there p h stands here = there_by p (life_at h) stands.life here
-
-pub there_refuses : (p : ParticipantValue) (h : History) (act : Act) (reason : Refusal) → StandsAt p h → (p.phase ≡ over → ⊥) → call_refusal (moment_of act) p.presence.last p.presence.calls ≡ Some reason → refusal_after h act ≡ Some reason
-there_refuses p h act reason stands here is =
-    refusal_there h act (life_at h) (Some reason) refl (is_there p h stands here) (refused_call p h act reason stands is)
-
--- what is refused for its datagram, as a call that is not
-pub there_refuses_datagram : (p : ParticipantValue) (h : History) (act : Act) (refusal : Option Refusal) → StandsAt p h → (p.phase ≡ over → ⊥) → call_refusal (moment_of act) p.presence.last p.presence.calls ≡ None
-    → refusal_of_datagram h.setup h.acts act ≡ refusal → refusal_after h act ≡ refusal
-there_refuses_datagram p h act refusal stands here is datagram =
-    refusal_there h act (life_at h) refusal refl (is_there p h stands here) (admitted_by p h act refusal stands is datagram)
-
-pub there_takes : (p : ParticipantValue) (h : History) (act : Act) → StandsAt p h → (p.phase ≡ over → ⊥) → call_refusal (moment_of act) p.presence.last p.presence.calls ≡ None → refusal_of_datagram h.setup h.acts act ≡ None → IsTaken h act
-there_takes p h act stands here is datagram = record {
-  after = there_refuses_datagram p h act None stands here is datagram;
-  refusal = admitted_by p h act None stands is datagram;
-}
-
-pub part_is_there : (phase : PhaseValue) → phase ≡ taking_part → phase ≡ over → ⊥
-part_is_there phase part ended = absurd (cc (sym (ap is_taking_part part) ∙ ap is_taking_part ended))
-
-pub leaving_is_there : (phase : PhaseValue) (members : ℕ) → phase ≡ leaving members → phase ≡ over → ⊥
-leaving_is_there phase members part ended = absurd (cc (sym (ap is_leaving part) ∙ ap is_leaving ended))
-
-pub record Admitted (t : ℕ) (p : ParticipantValue) : Type 0 where
-  pub there : p.phase ≡ over → ⊥
-  pub admitted : call_refusal t p.presence.last p.presence.calls ≡ None
-
-admitted_in : (t : ℕ) (p : ParticipantValue) (phase : PhaseValue) → p.phase ≡ phase → refusal_in_phase phase (call_refusal t p.presence.last p.presence.calls) ≡ None → Admitted t p
-admitted_in t p taking_part is none = record { there = λ ended. absurd (part_is_there p.phase is ended); admitted = none }
-admitted_in t p (leaving members) is none = record { there = λ ended. absurd (leaving_is_there p.phase members is ended); admitted = none }
-admitted_in t p over is none = absurd cc
-
-pub admitted_call : (t : ℕ) (p : ParticipantValue) → refusal_by t p ≡ None → Admitted t p
-admitted_call t p none = admitted_in t p p.phase refl none
-
-refused_in : (p : ParticipantValue) (h : History) (act : Act) (reason : Refusal) (phase : PhaseValue) → StandsAt p h → p.phase ≡ phase → refusal_in_phase phase (call_refusal (moment_of act) p.presence.last p.presence.calls) ≡ Some reason → refusal_after h act ≡ Some reason
-refused_in p h act reason taking_part stands is same = there_refuses p h act reason stands (part_is_there p.phase is) same
-refused_in p h act reason (leaving members) stands is same = there_refuses p h act reason stands (leaving_is_there p.phase members is) same
-refused_in p h act reason over stands is same = refuses_for_good p h act stands is ∙ same
-
--- a call that is refused whatever it tells
-pub call_refused : (p : ParticipantValue) (h : History) (act : Act) (reason : Refusal) → StandsAt p h → refusal_by (moment_of act) p ≡ Some reason → refusal_after h act ≡ Some reason
-call_refused p h act reason stands same = refused_in p h act reason p.phase stands refl same
+-- One that does not refuse a call is not gone.
+pub is_there : (t : ℕ) (p : ParticipantValue) → refusal_by t p ≡ None → p.phase ≡ over → ⊥
+is_there t p none = not_over p.phase (call_refusal t p.presence.last p.presence.calls) none
 
 -- ---- Farewells
 

@@ -8,23 +8,17 @@ use Rattle.rtcp_report.proofs.LawLemmas.{size_is_that_of_the_octets}
 use Rattle.std.specs.FinMap as finite
 use Rattle.rtcp_members.specs.Entries.{entry_at}
 use Rattle.rtcp_timer.specs.Averages.{average_of, moved_average}
-use Rattle.rtcp_engine.specs.declared.changes.Change.{Change}
 use Rattle.rtcp_engine.specs.Setups.{Setup}
-use Rattle.rtcp_engine.specs.Acts.{renamed}
-use Rattle.rtcp_engine.specs.Identities.{identifiers, named, present_among, setup_now}
-use Rattle.rtcp_engine.specs.OwnStreams.{OwnValue, has_sent, counts_anew, own_of}
+use Rattle.rtcp_engine.specs.Identities.{named}
+use Rattle.rtcp_engine.specs.OwnStreams.{OwnStep, OwnValue, has_sent, counts_anew, own_of}
 use Rattle.rtcp_engine.specs.OwnValues.{own_anew}
 use Rattle.rtcp_engine.specs.Outcomes.{Outcome}
-use Rattle.rtcp_engine.specs.Histories.{History, with_change}
+use Rattle.rtcp_engine.specs.Arrivals.{with_change}
 use Rattle.rtcp_engine.specs.Reporting.{bye_octets}
 use Rattle.rtcp_engine.specs.Leaving.{Farewell, Backoff, Life, present, backing_off, gone, after_own_bye, counted_anew, leaving_average, leaving_count, leaving_timing}
-use Rattle.rtcp_engine.specs.Lives.{lived, life_at, bye_out, out_by}
-use Rattle.rtcp_engine.specs.Presence.{with_act}
-use Rattle.rtcp_engine.specs.Answers.{out_at}
-use Rattle.rtcp_engine.specs.Changes.{is_in_table}
-use Rattle.rtcp_engine.specs.Taken.{HasWords, WasTaken}
-use Rattle.rtcp_engine.specs.States.{State, Agrees, StandsStill, Waits, ParticipantValue, IsAt, StandsAt, leaving, over, own_bye_in}
-use Rattle.rtcp_engine.specs.States as states
+use Rattle.rtcp_engine.specs.Lives.{bye_out, own_bye, with_new_name}
+use Rattle.rtcp_engine.specs.Changes.{NewIdentifier, Session, changed_to, is_in_table}
+use Rattle.rtcp_engine.specs.States.{State, Agrees, StandsStill, Waits, ParticipantValue, IsAt, IsIn, leaving, over, own_bye_in, renamed}
 
 -- ---- Sizes
 
@@ -43,10 +37,10 @@ byes_are_of_one_size ssrc setup = parts ssrc ∙ sym (parts setup.ssrc)
 
 -- ---- Numbers
 
-own_agrees : (s : State) (own : List Rattle.rtcp_engine.specs.OwnStreams.OwnStep) → s.own ≡ own_of own → own_anew s.own ≡ own_of (counts_anew ∷ own)
+own_agrees : (s : State) (own : List OwnStep) → s.own ≡ own_of own → own_anew s.own ≡ own_of (counts_anew ∷ own)
 own_agrees s own same = ap own_anew same
 
-heard_agrees : (s : State) (own : List Rattle.rtcp_engine.specs.OwnStreams.OwnStep) → s.own ≡ own_of own → s.own.heard ≡ has_sent own
+heard_agrees : (s : State) (own : List OwnStep) → s.own ≡ own_of own → s.own.heard ≡ has_sent own
 heard_agrees s own same = ap (λ (x : OwnValue). x.heard) same
 
 -- the average moves as the list of sizes grows
@@ -54,8 +48,8 @@ sizes_by : (heard : Bool) (first size : ℕ) (sizes : List ℕ) → (if heard th
 sizes_by true first size sizes = refl
 sizes_by false first size sizes = refl
 
-pub renamed_agrees : (s : State) (o : Outcome) (t ssrc : ℕ) → Agrees s o → Agrees (states.renamed t ssrc s) (with_change s.setup o)
-renamed_agrees s o t ssrc a = record {
+pub renamed_agrees : (s : State) (o : Outcome) (ssrc : ℕ) → Agrees s o → Agrees (renamed ssrc s) (with_change s.setup o)
+renamed_agrees s o ssrc a = record {
   table = a.table;
   capacity = a.capacity;
   rate = a.rate;
@@ -68,8 +62,8 @@ renamed_agrees s o t ssrc a = record {
   reports = a.reports;
 }
 
-renamed_still : (s : State) (o : Outcome) (t ssrc : ℕ) → StandsStill s o → StandsStill (states.renamed t ssrc s) (counted_anew o)
-renamed_still s o t ssrc still = record { table = still.table; capacity = still.capacity; rate = still.rate; own = own_agrees s o.own still.own }
+renamed_still : (s : State) (o : Outcome) (ssrc : ℕ) → StandsStill s o → StandsStill (renamed ssrc s) (counted_anew o)
+renamed_still s o ssrc still = record { table = still.table; capacity = still.capacity; rate = still.rate; own = own_agrees s o.own still.own }
 
 -- ---- Backoffs
 
@@ -92,9 +86,9 @@ bye_moves_average false size setup backoff = refl
 average_named : (ssrc : ℕ) (setup : Setup) (farewells : List Farewell) → leaving_average (named ssrc setup) farewells ≡ leaving_average setup farewells
 average_named ssrc setup farewells = ap (λ (n : ℕ). average_of n (map (λ (farewell : Farewell). farewell.size) farewells)) (byes_are_of_one_size ssrc setup)
 
-renamed_average : (s : State) (o : Outcome) (backoff : Backoff) (t ssrc : ℕ) → StandsStill s o → s.average ≡ leaving_average s.setup backoff.farewells
-    → (states.renamed t ssrc s).average ≡ leaving_average (named ssrc s.setup) (after_own_bye s.setup o backoff).farewells
-renamed_average s o backoff t ssrc still average =
+renamed_average : (s : State) (o : Outcome) (backoff : Backoff) (ssrc : ℕ) → StandsStill s o → s.average ≡ leaving_average s.setup backoff.farewells
+    → (renamed ssrc s).average ≡ leaving_average (named ssrc s.setup) (after_own_bye s.setup o backoff).farewells
+renamed_average s o backoff ssrc still average =
     let size = length (bye_octets s.setup) in
     ap (λ (heard : Bool). if heard then moved_average s.average size else s.average) (heard_agrees s o.own still.own)
     ∙ ap (λ (n : ℕ). if has_sent o.own then moved_average n size else n) average
@@ -103,11 +97,10 @@ renamed_average s o backoff t ssrc still average =
 
 -- ---- Where it stands
 
-renamed_is_at : (p q : ParticipantValue) (t peer ssrc : ℕ) (life : Life) → IsAt p life → (p.phase ≡ over → ⊥) → q.presence ≡ states.renamed t ssrc p.presence → q.phase ≡ p.phase
-    → IsAt q (lived p.presence.setup (renamed t peer ssrc) life)
-renamed_is_at p q t peer ssrc (present outcome) at there same phase =
-    (phase ∙ at.0, subst (λ (s : State). Agrees s (with_change p.presence.setup outcome)) (sym same) (renamed_agrees p.presence outcome t ssrc at.1))
-renamed_is_at p q t peer ssrc (backing_off outcome backoff) at there same phase =
+renamed_is_at : (p q : ParticipantValue) (ssrc : ℕ) (life : Life) → IsAt p life → (p.phase ≡ over → ⊥) → q.presence ≡ renamed ssrc p.presence → q.phase ≡ p.phase → IsAt q (with_new_name p.presence.setup life)
+renamed_is_at p q ssrc (present outcome) at there same phase =
+    (phase ∙ at.0, subst (λ (s : State). Agrees s (with_change p.presence.setup outcome)) (sym same) (renamed_agrees p.presence outcome ssrc at.1))
+renamed_is_at p q ssrc (backing_off outcome backoff) at there same phase =
     let heard = has_sent outcome.own in
     let size = length (bye_octets p.presence.setup) in
     let next = after_own_bye p.presence.setup outcome backoff in (
@@ -115,26 +108,18 @@ renamed_is_at p q t peer ssrc (backing_off outcome backoff) at there same phase 
       subst (λ (s : State). Waits s (counted_anew outcome) next) (sym same)
           (record {
             timing = at.1.timing ∙ sym (bye_keeps_timing heard size backoff);
-            average = renamed_average p.presence outcome backoff t ssrc at.1.still at.1.average;
-            still = renamed_still p.presence outcome t ssrc at.1.still;
+            average = renamed_average p.presence outcome backoff ssrc at.1.still at.1.average;
+            still = renamed_still p.presence outcome ssrc at.1.still;
           }),
     )
-renamed_is_at p q t peer ssrc (gone outcome) at there same phase = absurd (there at)
+renamed_is_at p q ssrc (gone outcome) at there same phase = absurd (there at)
 
-pub renamed_stands : (p q : ParticipantValue) (h : History) (t peer ssrc : ℕ) → StandsAt p h → (p.phase ≡ over → ⊥) → WasTaken h.setup h.word h.acts (renamed t peer ssrc) → HasWords (renamed t peer ssrc)
-    → q.presence ≡ states.renamed t ssrc p.presence → q.phase ≡ p.phase → q.changes ≡ record { peer = peer; former = p.presence.setup.ssrc } ∷ p.changes → StandsAt q (with_act h (renamed t peer ssrc))
-renamed_stands p q h t peer ssrc stands there was words same phase changes = record {
-  is_history = record { usable = stands.is_history.usable; word = stands.is_history.word; taken = (was, words, stands.is_history.taken) };
-  setup = ap (λ (s : State). s.setup) same ∙ ap (named ssrc) stands.setup;
-  changes = record {
-    peers = ap (map (λ (change : Change). change.peer)) changes ∙ ap (λ (list : List ℕ). peer ∷ list) stands.changes.peers;
-    identifiers_are = ap (λ (s : State). s.setup.ssrc ∷ map (λ (change : Change). change.former) q.changes) same
-        ∙ ap (λ (list : List Change). ssrc ∷ map (λ (change : Change). change.former) list) changes
-        ∙ ap (λ (list : List ℕ). ssrc ∷ list) stands.changes.identifiers_are;
-  };
-  life = subst (λ (setup : Setup). IsAt q (lived setup (renamed t peer ssrc) (life_at h))) stands.setup (renamed_is_at p q t peer ssrc (life_at h) stands.life there same phase);
-  last = ap (λ (s : State). s.last) same;
-  calls = ap (λ (s : State). s.calls) same ∙ stands.calls;
+pub renamed_is_in : (p q : ParticipantValue) (session : Session) (new : NewIdentifier) → IsIn p session → (p.phase ≡ over → ⊥) → q.presence ≡ renamed new.ssrc p.presence → q.phase ≡ p.phase
+    → q.changes ≡ record { peer = new.peer; former = p.presence.setup.ssrc } ∷ p.changes → IsIn q (changed_to new session)
+renamed_is_in p q session new is there same phase changes = record {
+  setup = ap (λ (s : State). s.setup) same ∙ ap (named new.ssrc) is.setup;
+  changes = changes ∙ (λ i. record { peer = new.peer; former = (is.setup i).ssrc } ∷ is.changes i);
+  life = subst (λ (setup : Setup). IsAt q (with_new_name setup session.life)) is.setup (renamed_is_at p q new.ssrc session.life is.life there same phase);
 }
 
 -- ---- What it hands out
@@ -143,33 +128,21 @@ bye_by : (heard : Bool) (octets : List ℕ) → option_map bye_out (if heard the
 bye_by true octets = refl
 bye_by false octets = refl
 
-bye_in_life : (p : ParticipantValue) (setup : Setup) (t peer ssrc : ℕ) (life : Life) → IsAt p life → (p.phase ≡ over → ⊥) → p.presence.setup ≡ setup → option_map bye_out (own_bye_in p.presence) ≡ out_by setup (renamed t peer ssrc) life
-bye_in_life p setup t peer ssrc (present outcome) at there same =
+pub renamed_out : (p : ParticipantValue) (setup : Setup) (life : Life) → IsAt p life → (p.phase ≡ over → ⊥) → p.presence.setup ≡ setup → option_map bye_out (own_bye_in p.presence) ≡ own_bye setup life
+renamed_out p setup (present outcome) at there same =
     bye_by p.presence.own.heard (bye_octets p.presence.setup)
     ∙ (λ i. if heard_agrees p.presence outcome.own at.1.own i then Some (bye_out (bye_octets (same i))) else None)
-bye_in_life p setup t peer ssrc (backing_off outcome backoff) at there same =
+renamed_out p setup (backing_off outcome backoff) at there same =
     bye_by p.presence.own.heard (bye_octets p.presence.setup)
     ∙ (λ i. if heard_agrees p.presence outcome.own at.1.still.own i then Some (bye_out (bye_octets (same i))) else None)
-bye_in_life p setup t peer ssrc (gone outcome) at there same = absurd (there at)
-
-pub renamed_out : (p : ParticipantValue) (h : History) (t peer ssrc : ℕ) → StandsAt p h → (p.phase ≡ over → ⊥) → option_map bye_out (own_bye_in p.presence) ≡ out_at h (renamed t peer ssrc)
-renamed_out p h t peer ssrc stands there = bye_in_life p (setup_now h.setup h.acts) t peer ssrc (life_at h) stands.life there stands.setup
+renamed_out p setup (gone outcome) at there same = absurd (there at)
 
 -- ---- Tables
 
-held_by : (p : ParticipantValue) (setup : Setup) (ssrc : ℕ) (life : Life) → IsAt p life → (p.phase ≡ over → ⊥) → p.presence.setup ≡ setup → is_some (finite.get p.presence.table.entries ssrc) ≡ is_in_table setup life ssrc
-held_by p setup ssrc (present outcome) at there same =
+-- the table of a participant holds who is in the table of its session
+pub held_at : (p : ParticipantValue) (setup : Setup) (ssrc : ℕ) (life : Life) → IsAt p life → (p.phase ≡ over → ⊥) → p.presence.setup ≡ setup → is_some (finite.get p.presence.table.entries ssrc) ≡ is_in_table setup life ssrc
+held_at p setup ssrc (present outcome) at there same =
     ap is_some (at.1.table ssrc) ∙ (λ i. is_some (entry_at ((at.1.capacity ∙ ap (λ (s : Setup). s.capacity) same) i) ((at.1.rate ∙ ap (λ (s : Setup). s.rate) same) i) outcome.trace ssrc))
-held_by p setup ssrc (backing_off outcome backoff) at there same =
+held_at p setup ssrc (backing_off outcome backoff) at there same =
     ap is_some (at.1.still.table ssrc) ∙ (λ i. is_some (entry_at ((at.1.still.capacity ∙ ap (λ (s : Setup). s.capacity) same) i) ((at.1.still.rate ∙ ap (λ (s : Setup). s.rate) same) i) outcome.trace ssrc))
-held_by p setup ssrc (gone outcome) at there same = absurd (there at)
-
-same_table : (setup : Setup) (ssrc new : ℕ) (life : Life) → is_in_table (named new setup) life ssrc ≡ is_in_table setup life ssrc
-same_table setup ssrc new (present outcome) = refl
-same_table setup ssrc new (backing_off outcome backoff) = refl
-same_table setup ssrc new (gone outcome) = refl
-
--- the table of a participant holds who is in the table of its history
-pub held_at : (p : ParticipantValue) (h : History) (ssrc : ℕ) → StandsAt p h → (p.phase ≡ over → ⊥) → is_some (finite.get p.presence.table.entries ssrc) ≡ is_in_table h.setup (life_at h) ssrc
-held_at p h ssrc stands there =
-    held_by p (setup_now h.setup h.acts) ssrc (life_at h) stands.life there stands.setup ∙ same_table h.setup ssrc (present_among h.setup.ssrc (identifiers h.setup h.acts)) (life_at h)
+held_at p setup ssrc (gone outcome) at there same = absurd (there at)

@@ -7,7 +7,7 @@ use Rattle.rtcp_wire.specs.RtpHeads.{RtpValue}
 use Rattle.rtcp_engine.specs.declared.refusal.Refusal.TheVariants.{Backwards, TooFar, Wire, Rtp}
 use Rattle.rtcp_engine.specs.declared.step.OutKind.TheVariants.{Report}
 use Rattle.rtcp_engine.specs.Setups.{Setup}
-use Rattle.rtcp_engine.specs.Acts.{Act, rtcp_came, rtp_came, rtp_sent, ticked}
+use Rattle.rtcp_engine.specs.Acts.{rtcp, rtp, Act, arrived, rtp_sent, ticked}
 use Rattle.rtcp_engine.specs.Outcomes.{timing_of, beginning}
 use Rattle.rtcp_engine.specs.Histories.{History}
 use Rattle.rtcp_engine.specs.Steps.{AnswerValue}
@@ -42,7 +42,7 @@ named ssrc = rr ssrc [] [] ∷ sdes (record { id = ssrc; items = items_a } ∷ [
 
 -- a receiver report of a source, and its CNAME
 abbrev pub named_came : (moment ssrc : ℕ) → Act
-named_came moment ssrc = rtcp_came moment 1 0 20 (Ok (named ssrc))
+named_came moment ssrc = arrived moment 1 0 (rtcp 20 (Ok (named ssrc)))
 
 abbrev packet_of : (ssrc seq : ℕ) → RtpValue
 packet_of ssrc seq = record {
@@ -56,7 +56,7 @@ packet_of ssrc seq = record {
 }
 
 abbrev packet_came : (moment ssrc seq : ℕ) → Act
-packet_came moment ssrc seq = rtp_came moment 1 0 (Ok (packet_of ssrc seq))
+packet_came moment ssrc seq = arrived moment 1 0 (rtp (Ok (packet_of ssrc seq)))
 
 -- ---- Rows
 
@@ -105,7 +105,7 @@ silent = refl
 
 -- A full table admits nobody, and a source that left is held for five seconds.
 full : answers_to (start_of (record setup { capacity = 2 }))
-    (named_came 0 1 ∷ named_came 0 2 ∷ named_came 0 3 ∷ rtcp_came 1000000 1 0 16 (Ok (rr 1 [] [] ∷ bye (1 ∷ []) None ∷ []))
+    (named_came 0 1 ∷ named_came 0 2 ∷ named_came 0 3 ∷ arrived 1000000 1 0 (rtcp 16 (Ok (rr 1 [] [] ∷ bye (1 ∷ []) None ∷ [])))
     ∷ named_came 1000000 3 ∷ ticked 6000000 2147483648 2147483648 ∷ named_came 6000000 3 ∷ [])
     ≡ ok 2 0 1026037 ∷ ok 3 0 1026037 ∷ ok 3 0 1026037 ∷ ok 2 0 1026037 ∷ ok 2 0 1026037 ∷ sends 2 0 10104147 empty_report ∷ ok 3 0 10104147 ∷ []
 full = refl
@@ -116,7 +116,7 @@ last_moments : answers_to start (ticked 1125899906842624 0 0 ∷ ticked 11258999
 last_moments = refl
 
 -- Datagrams that name the participant, or have a fault.
-refused : answers_to start (rtcp_came 0 1 0 8 (Ok (rr 170 [] [] ∷ [])) ∷ rtcp_came 0 1 0 0 (Err (record { reason = Short; place = 0 })) ∷ rtp_came 0 1 0 (Err PayloadType) ∷ [])
+refused : answers_to start (arrived 0 1 0 (rtcp 8 (Ok (rr 170 [] [] ∷ []))) ∷ arrived 0 1 0 (rtcp 0 (Err (record { reason = Short; place = 0 }))) ∷ arrived 0 1 0 (rtp (Err PayloadType)) ∷ [])
     ≡ Ok (record { out = None; members = 1; senders = 0; next = Some 1026037; changed = Some 0 }) ∷ Err (Wire (record { reason = Short; place = 0 })) ∷ Err (Rtp PayloadType) ∷ []
 refused = refl
 

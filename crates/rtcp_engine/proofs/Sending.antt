@@ -1,5 +1,5 @@
 -- What a participant sends keeps its distances and its limit, whatever it is told.
-use Rattle.std.proofs.Common.{◌≡◌, ℕ, ◌+◌, ◌^◌, ◌<◌, ◌≤◌, ◌&&◌, ◌==◌, ◌⊎◌, inl, inr, nat_lt, nat_le, Bool, true, false, List, [], ◌∷◌, ◌++◌, length, All, Option, Some, None, option_map, Ok, Err, if◌then◌else◌, refl, sym, ap, ◌∙◌, arith, subst}
+use Rattle.std.proofs.Common.{◌≡◌, ℕ, ◌+◌, ◌^◌, ◌<◌, ◌≤◌, ◌&&◌, ◌==◌, ◌⊎◌, inl, inr, nat_lt, nat_le, Bool, true, false, is_some, List, [], ◌∷◌, ◌++◌, length, All, Option, Some, None, option_map, Ok, Err, if◌then◌else◌, refl, sym, ap, ◌∙◌, arith, subst}
 use Rattle.std.proofs.lemmas.Bool.{leb-true, and_parts, ltb-false}
 use Rattle.std.proofs.lemmas.Option.{slice_get_cases}
 use Rattle.std.specs.List.{slice_get}
@@ -17,18 +17,22 @@ use Rattle.rtcp_wire.specs.Values.{ItemValue}
 use Rattle.rtcp_engine.specs.declared.refusal.Refusal.{Refusal}
 use Rattle.rtcp_engine.specs.declared.refusal.Refusal.TheVariants.{Backwards}
 use Rattle.rtcp_engine.specs.Setups.{Setup, IsExtraItem, IsUsable}
-use Rattle.rtcp_engine.specs.Acts.{Act, rtcp_came, rtp_came, rtp_sent, ticked, left, renamed, moment_of}
-use Rattle.rtcp_engine.specs.Identities.{call_count, named, setup_now}
+use Rattle.rtcp_engine.specs.Acts.{rtcp, rtp, Act, arrived, rtp_sent, ticked, left, moment_of}
 use Rattle.rtcp_engine.specs.Outcomes.{Outcome, is_initial, interval_at, load_of, member_count}
 use Rattle.rtcp_engine.specs.Ticks.{checked, has_come, has_passed, reported, put_off}
 use Rattle.rtcp_engine.specs.OwnStreams.{has_sent, own_of, sent_of}
 use Rattle.rtcp_engine.specs.Reporting.{bye_octets, report_octets, extra_item, reporter_at, last_reported_in}
-use Rattle.rtcp_engine.specs.Presence.{call_refusal, report_out, last_moment, refusal_of, refusal_of_datagram}
-use Rattle.rtcp_engine.specs.Taken.{HasWords, WasTaken, AllTaken}
+use Rattle.rtcp_engine.specs.Changes.{NewIdentifier, Session, bye_of_change, change_by, changed_by, changed_to}
+use Rattle.rtcp_engine.specs.Histories.{History, last_moment, session_of}
+use Rattle.rtcp_engine.specs.Refusals.{refusal_after}
+use Rattle.rtcp_engine.specs.Steps.{OutValue}
+use Rattle.rtcp_engine.specs.Taken.{HasWords, AllTaken}
 use Rattle.rtcp_engine.specs.Leaving.{Farewell, Backoff, Life, present, backing_off, gone, backoff_from, bye_count, few_members, is_bye_due, is_unheard, after_wait, leaving_interval, leaving_timing}
-use Rattle.rtcp_engine.specs.Lives.{while_present, while_backing_off, lived, life_of, bye_out}
-use Rattle.rtcp_engine.specs.Sent.{Sent, is_report, reports_in, sent_with, sent_by, sent_over}
+use Rattle.rtcp_engine.specs.Lives.{while_present, while_backing_off, lived, bye_out, out_by, own_bye, report_out, with_new_name}
+use Rattle.rtcp_engine.specs.Sent.{Sent, interval_by, is_report, reports_in, sent_by, sent_over, sent_with}
 use Rattle.rtcp_engine.specs.Spacing.{HalfPasses, newest_moment, leave_moment, first_leave, IsLate}
+use Rattle.rtcp_engine.proofs.Changing.{bye_alone, nothing_more, same_but_name, usable_in, usable_named}
+use Rattle.rtcp_engine.proofs.Choosing.{unrefused}
 
 -- ---- Draws
 
@@ -230,34 +234,23 @@ leave_by setup t u word leave outcome sent false false usable order h = record {
   kept = h.kept;
 }
 
--- ---- A change of identifier
-
--- the BYE of the old one, if it is handed out
-abbrev change_sent : (setup : Setup) (moment interval : ℕ) (heard : Bool) → List Sent
-change_sent setup moment interval heard = sent_with moment interval true (if heard then Some (bye_out (bye_octets setup)) else None)
-
-change_kept : (setup : Setup) (moment interval : ℕ) (heard : Bool) (sent : List Sent) → IsUsable setup → AreKept setup.limit sent → AreKept setup.limit (change_sent setup moment interval heard ++ sent)
-change_kept setup moment interval true sent usable h =
-    record { reports = h.reports; all = (record { kind = λ no. refl; fits = bye_is_within setup usable }, h.all) }
-change_kept setup moment interval false sent usable h = h
-
-change_reports : (setup : Setup) (moment interval : ℕ) (heard : Bool) (sent : List Sent) → reports_in (change_sent setup moment interval heard ++ sent) ≡ reports_in sent
-change_reports setup moment interval true sent = refl
-change_reports setup moment interval false sent = refl
-
 stays_on : {limit t : ℕ} {leave other : Option ℕ} {outcome : Outcome} {sent : List Sent} → leave ≡ other → TakesPart limit t leave outcome sent → TakesPart limit t other outcome sent
 stays_on {limit} {t} {leave} {other} {outcome} {sent} same h = subst (λ (l : Option ℕ). TakesPart limit t l outcome sent) same h
 
+-- what an act brings that changes no identifier
+abbrev sent_alone : Setup → Act → Life → List Sent
+sent_alone setup act life = sent_with (moment_of act) (interval_by setup act life) false (out_by setup act life)
+
 still_present : (setup : Setup) (t : ℕ) (leave : Option ℕ) (act : Act) (outcome : Outcome) (sent : List Sent) → IsUsable setup → t ≤ moment_of act → HasWords act → TakesPart setup.limit t leave outcome sent
-    → KeepsApart setup.limit (moment_of act) (option_or leave (leave_moment act)) (while_present setup act outcome) (sent_by setup act (present outcome) ++ sent)
-still_present setup t leave (rtcp_came moment peer drawn size (Ok packets)) outcome sent usable order words h =
-    passes (rtcp_came moment peer drawn size (Ok packets)) _ h refl (one_more (recounted moment _) order h.up_to) refl refl
-still_present setup t leave (rtcp_came moment peer drawn size (Err fault)) outcome sent usable order words h =
-    passes (rtcp_came moment peer drawn size (Err fault)) outcome h refl (later moment order h.up_to) refl refl
-still_present setup t leave (rtp_came moment peer drawn (Ok head)) outcome sent usable order words h =
-    passes (rtp_came moment peer drawn (Ok head)) _ h refl (later moment order h.up_to) refl refl
-still_present setup t leave (rtp_came moment peer drawn (Err fault)) outcome sent usable order words h =
-    passes (rtp_came moment peer drawn (Err fault)) outcome h refl (later moment order h.up_to) refl refl
+    → KeepsApart setup.limit (moment_of act) (option_or leave (leave_moment act)) (while_present setup act outcome) (sent_alone setup act (present outcome) ++ sent)
+still_present setup t leave (arrived moment peer drawn (rtcp size (Ok packets))) outcome sent usable order words h =
+    passes (arrived moment peer drawn (rtcp size (Ok packets))) _ h refl (one_more (recounted moment _) order h.up_to) refl refl
+still_present setup t leave (arrived moment peer drawn (rtcp size (Err fault))) outcome sent usable order words h =
+    passes (arrived moment peer drawn (rtcp size (Err fault))) outcome h refl (later moment order h.up_to) refl refl
+still_present setup t leave (arrived moment peer drawn (rtp (Ok head))) outcome sent usable order words h =
+    passes (arrived moment peer drawn (rtp (Ok head))) _ h refl (later moment order h.up_to) refl refl
+still_present setup t leave (arrived moment peer drawn (rtp (Err fault))) outcome sent usable order words h =
+    passes (arrived moment peer drawn (rtp (Err fault))) outcome h refl (later moment order h.up_to) refl refl
 still_present setup t leave (rtp_sent moment timestamp octets) outcome sent usable order words h =
     passes (rtp_sent moment timestamp octets) _ h refl (later moment order h.up_to) refl refl
 still_present setup t leave (ticked moment first_word second_word) outcome sent usable order words h =
@@ -267,13 +260,6 @@ still_present setup t leave (ticked moment first_word second_word) outcome sent 
     (λ come passed. record { came = leb-true _ moment come; passed = leb-true _ moment passed }) (checks setup moment order h))
 still_present setup t leave (left moment word) outcome sent usable order words h =
     leave_by setup t moment word leave outcome sent (is_unheard outcome) (nat_le (member_count setup outcome) few_members) usable order h
-still_present setup t leave (renamed moment peer ssrc) outcome sent usable order words h = record {
-  up_to = later moment order h.up_to;
-  newest = h.newest ∙ sym (ap newest_moment (change_reports setup moment 0 (has_sent outcome.own) sent));
-  initial = h.initial ∙ sym (ap none_sent (change_reports setup moment 0 (has_sent outcome.own) sent));
-  stays = ap (λ (l : Option ℕ). option_or l None) h.stays;
-  kept = change_kept setup moment 0 (has_sent outcome.own) sent usable h.kept;
-}
 
 -- ---- Backing off
 
@@ -321,13 +307,13 @@ farewell_by setup t moment leave true outcome backoff sent order h = record { up
 farewell_by setup t moment leave false outcome backoff sent order h = record { up_to = later moment order h.up_to; newest = h.newest; left_then = h.left_then; kept = h.kept }
 
 still_backing_off : (setup : Setup) (t : ℕ) (leave : Option ℕ) (act : Act) (outcome : Outcome) (backoff : Backoff) (sent : List Sent) → IsUsable setup → t ≤ moment_of act → HasWords act → BacksOff setup.limit t leave backoff sent
-    → KeepsApart setup.limit (moment_of act) (option_or leave (leave_moment act)) (while_backing_off setup act outcome backoff) (sent_by setup act (backing_off outcome backoff) ++ sent)
-still_backing_off setup t leave (rtcp_came moment peer drawn size (Ok packets)) outcome backoff sent usable order words h =
-    hears (rtcp_came moment peer drawn size (Ok packets)) (bye_count packets == 0) _ order h
-still_backing_off setup t leave (rtcp_came moment peer drawn size (Err fault)) outcome backoff sent usable order words h =
-    waits (rtcp_came moment peer drawn size (Err fault)) backoff h refl (later moment order h.up_to) refl
-still_backing_off setup t leave (rtp_came moment peer drawn reading) outcome backoff sent usable order words h =
-    waits (rtp_came moment peer drawn reading) backoff h refl (later moment order h.up_to) refl
+    → KeepsApart setup.limit (moment_of act) (option_or leave (leave_moment act)) (while_backing_off setup act outcome backoff) (sent_alone setup act (backing_off outcome backoff) ++ sent)
+still_backing_off setup t leave (arrived moment peer drawn (rtcp size (Ok packets))) outcome backoff sent usable order words h =
+    hears (arrived moment peer drawn (rtcp size (Ok packets))) (bye_count packets == 0) _ order h
+still_backing_off setup t leave (arrived moment peer drawn (rtcp size (Err fault))) outcome backoff sent usable order words h =
+    waits (arrived moment peer drawn (rtcp size (Err fault))) backoff h refl (later moment order h.up_to) refl
+still_backing_off setup t leave (arrived moment peer drawn (rtp reading)) outcome backoff sent usable order words h =
+    waits (arrived moment peer drawn (rtp reading)) backoff h refl (later moment order h.up_to) refl
 still_backing_off setup t leave (rtp_sent moment timestamp octets) outcome backoff sent usable order words h =
     waits (rtp_sent moment timestamp octets) backoff h refl (later moment order h.up_to) refl
 still_backing_off setup t leave (ticked moment first_word second_word) outcome backoff sent usable order words h =
@@ -335,14 +321,35 @@ still_backing_off setup t leave (ticked moment first_word second_word) outcome b
     (λ due. let parts = and_parts _ _ due in record { came = leb-true _ moment parts.0; passed = leb-true _ moment parts.1 }) h
 still_backing_off setup t leave (left moment word) outcome backoff sent usable order words h =
     waits (left moment word) backoff h refl (later moment order h.up_to) refl
-still_backing_off setup t leave (renamed moment peer ssrc) outcome backoff sent usable order words h =
+
+-- ---- Changes of identifier
+
+-- the BYE of the old one, if it is handed out
+abbrev change_sent : (setup : Setup) (moment : ℕ) (heard : Bool) → List Sent
+change_sent setup moment heard = sent_with moment 0 true (if heard then Some (bye_out (bye_octets setup)) else None)
+
+change_kept : (setup : Setup) (moment : ℕ) (heard : Bool) (sent : List Sent) → IsUsable setup → AreKept setup.limit sent → AreKept setup.limit (change_sent setup moment heard ++ sent)
+change_kept setup moment true sent usable h =
+    record { reports = h.reports; all = (record { kind = λ no. refl; fits = bye_is_within setup usable }, h.all) }
+change_kept setup moment false sent usable h = h
+
+change_reports : (setup : Setup) (moment : ℕ) (heard : Bool) (sent : List Sent) → reports_in (change_sent setup moment heard ++ sent) ≡ reports_in sent
+change_reports setup moment true sent = refl
+change_reports setup moment false sent = refl
+
+change_apart : (setup : Setup) (t moment : ℕ) (leave : Option ℕ) (life : Life) (sent : List Sent) → IsUsable setup → t ≤ moment → KeepsApart setup.limit t leave life sent
+    → KeepsApart setup.limit moment leave (with_new_name setup life) (sent_with moment 0 true (own_bye setup life) ++ sent)
+change_apart setup t moment leave (present outcome) sent usable order h = record {
+  up_to = later moment order h.up_to;
+  newest = h.newest ∙ sym (ap newest_moment (change_reports setup moment (has_sent outcome.own) sent));
+  initial = h.initial ∙ sym (ap none_sent (change_reports setup moment (has_sent outcome.own) sent));
+  stays = h.stays;
+  kept = change_kept setup moment (has_sent outcome.own) sent usable h.kept;
+}
+change_apart setup t moment leave (backing_off outcome backoff) sent usable order h =
     let waited = farewell_by setup t moment leave (has_sent outcome.own) outcome backoff sent order h in
-    record {
-      up_to = waited.up_to;
-      newest = waited.newest;
-      left_then = ap (λ (l : Option ℕ). option_or l None) waited.left_then;
-      kept = change_kept setup moment 0 (has_sent outcome.own) sent usable h.kept;
-    }
+    record { up_to = waited.up_to; newest = waited.newest; left_then = waited.left_then; kept = change_kept setup moment (has_sent outcome.own) sent usable h.kept }
+change_apart setup t moment leave (gone outcome) sent usable order h = h
 
 -- ---- Sessions
 
@@ -355,51 +362,37 @@ still_ends limit leave act [] h = absurd h
 still_ends limit leave act (bye ∷ earlier) h = (record { kind = h.0.kind; leaves = h.0.leaves; late = still_late leave act bye h.0.late; fits = h.0.fits }, h.1)
 
 keeps_apart : (setup : Setup) (t : ℕ) (leave : Option ℕ) (act : Act) (life : Life) (sent : List Sent) → IsUsable setup → t ≤ moment_of act → HasWords act → KeepsApart setup.limit t leave life sent
-    → KeepsApart setup.limit (moment_of act) (option_or leave (leave_moment act)) (lived setup act life) (sent_by setup act life ++ sent)
+    → KeepsApart setup.limit (moment_of act) (option_or leave (leave_moment act)) (lived setup act life) (sent_alone setup act life ++ sent)
 keeps_apart setup t leave act (present outcome) sent usable order words h = still_present setup t leave act outcome sent usable order words h
 keeps_apart setup t leave act (backing_off outcome backoff) sent usable order words h = still_backing_off setup t leave act outcome backoff sent usable order words h
 keeps_apart setup t leave act (gone outcome) sent usable order words (inl kept) = inl kept
 keeps_apart setup t leave act (gone outcome) sent usable order words (inr ends) = inr (still_ends setup.limit leave act sent ends)
 
--- what is refused neither as any act then nor for its datagram
-pub unrefused : (call datagram : Option Refusal) → option_or call datagram ≡ None → (call ≡ None) × (datagram ≡ None)
-unrefused None datagram none = (refl, none)
-unrefused (Some refusal) datagram none = absurd cc
+-- one act, after the change that it brings
+step_apart : (session : Session) (t : ℕ) (leave : Option ℕ) (act : Act) (sent : List Sent) (change : Option NewIdentifier) → change_by session act ≡ change → IsUsable session.setup → t ≤ moment_of act → HasWords act
+    → KeepsApart session.setup.limit t leave session.life sent → let now = changed_by change session in
+    KeepsApart session.setup.limit (moment_of act) (option_or leave (leave_moment act)) (lived now.setup act now.life)
+    (sent_with (moment_of act) (if is_some change then 0 else interval_by session.setup act session.life) (is_some change) (option_or (bye_of_change change session) (out_by now.setup act now.life)) ++ sent)
+step_apart session t leave act sent None is usable order words h = keeps_apart session.setup t leave act session.life sent usable order words h
+step_apart session t leave act sent (Some new) is usable order words h =
+    let now = changed_to new session in
+    let moment = moment_of act in
+    let before = sent_with moment 0 true (own_bye session.setup session.life) ++ sent in
+    let P : List Sent → Type 0 = KeepsApart session.setup.limit moment (option_or leave (leave_moment act)) (lived now.setup act now.life) in
+    let apart = keeps_apart now.setup moment leave act now.life before (usable_named new.ssrc session.setup usable) (omega arith) words (change_apart session.setup t moment leave session.life sent usable order h) in
+    let alone : P before = subst (λ (out : Option OutValue). P (sent_with moment (interval_by now.setup act now.life) false out ++ before)) (nothing_more session act new is now.setup now.life) apart in
+    subst (λ (out : Option OutValue). P (sent_with moment 0 true out ++ sent)) (sym (bye_alone session act new is)) alone
 
-pub in_order : (back : Bool) (others : Option Refusal) → (if back then Some Backwards else others) ≡ None → (back ≡ false) × (others ≡ None)
+pub in_order : (back : Bool) (others : Option Refusal) → (if back then Some Backwards else others) ≡ None → back ≡ false
 in_order true others none = absurd cc
-in_order false others none = (refl, none)
+in_order false others none = refl
 
 -- an act that is taken does not lie before the last one
-pub in_time : (setup : Setup) (earlier : List Act) (act : Act) → refusal_of setup earlier act ≡ None → last_moment earlier ≤ moment_of act
-in_time setup earlier act none =
-    let call = (unrefused (call_refusal (moment_of act) (last_moment earlier) (call_count earlier)) (refusal_of_datagram setup earlier act) none).0 in
-    ltb-false (moment_of act) (last_moment earlier) (in_order (nat_lt (moment_of act) (last_moment earlier)) _ call).0
-
--- A setup under another identifier is as usable.
-pub usable_named : (ssrc : ℕ) (setup : Setup) → IsUsable setup → IsUsable (named ssrc setup)
-usable_named ssrc setup u = record {
-  cname = u.cname;
-  capacity = u.capacity;
-  limit = u.limit;
-  words = u.words;
-  for_senders = u.for_senders;
-  for_others = u.for_others;
-  rate = u.rate;
-  few_extras = u.few_extras;
-  extras = u.extras;
-}
-
-pub taken_in_order : (setup : Setup) (word : ℕ) (earlier : List Act) (act : Act) → WasTaken setup word earlier act → last_moment earlier ≤ moment_of act
-taken_in_order setup word earlier (rtcp_came moment peer drawn size reading) taken = in_time setup earlier (rtcp_came moment peer drawn size reading) taken
-taken_in_order setup word earlier (rtp_came moment peer drawn reading) taken = in_time setup earlier (rtp_came moment peer drawn reading) taken
-taken_in_order setup word earlier (rtp_sent moment timestamp octets) taken = in_time setup earlier (rtp_sent moment timestamp octets) taken
-taken_in_order setup word earlier (ticked moment first_word second_word) taken = in_time setup earlier (ticked moment first_word second_word) taken
-taken_in_order setup word earlier (left moment drawn) taken = in_time setup earlier (left moment drawn) taken
-taken_in_order setup word earlier (renamed moment peer ssrc) taken = taken.order
+pub in_time : (history : History) (act : Act) → refusal_after history act ≡ None → last_moment history.acts ≤ moment_of act
+in_time history act none = ltb-false (moment_of act) (last_moment history.acts) (in_order (nat_lt (moment_of act) (last_moment history.acts)) _ (unrefused history act none).0)
 
 pub session_keeps_apart : (setup : Setup) (word : ℕ) (acts : List Act) → IsUsable setup → AllTaken setup word acts
-    → KeepsApart setup.limit (last_moment acts) (first_leave acts) (life_of setup word acts) (sent_over setup word acts)
+    → KeepsApart setup.limit (last_moment acts) (first_leave acts) (session_of setup word acts).life (sent_over setup word acts)
 session_keeps_apart setup word [] usable taken = record {
   up_to = record { in_order = (omega arith, tt); past = omega arith };
   newest = refl;
@@ -408,5 +401,9 @@ session_keeps_apart setup word [] usable taken = record {
   kept = record { reports = tt; all = tt };
 }
 session_keeps_apart setup word (act ∷ earlier) usable taken =
-    keeps_apart (setup_now setup earlier) (last_moment earlier) (first_leave earlier) act (life_of setup word earlier) (sent_over setup word earlier) (usable_named _ setup usable)
-    (taken_in_order setup word earlier act taken.0) taken.1 (session_keeps_apart setup word earlier usable taken.2)
+    let before = session_of setup word earlier in
+    let same = ap (λ (s : Setup). s.limit) (same_but_name setup word earlier) in
+    let earlier_apart = subst (λ (limit : ℕ). KeepsApart limit (last_moment earlier) (first_leave earlier) before.life (sent_over setup word earlier)) (sym same) (session_keeps_apart setup word earlier usable taken.2) in
+    subst (λ (limit : ℕ). KeepsApart limit (moment_of act) (option_or (first_leave earlier) (leave_moment act)) (session_of setup word (act ∷ earlier)).life (sent_by before act ++ sent_over setup word earlier)) same
+    (step_apart before (last_moment earlier) (first_leave earlier) act (sent_over setup word earlier) (change_by before act) refl (usable_in setup word earlier usable)
+    (in_time (record { setup = setup; word = word; acts = earlier }) act taken.0) taken.1 earlier_apart)

@@ -13,7 +13,7 @@ use Rattle.rtcp_members.proofs.LawLemmas as tables
 use Rattle.rtcp_report.proofs.LawLemmas.{tables_follow_reports-packets}
 use Rattle.rtcp_timer.specs.Schedules.{Timing}
 use Rattle.rtcp_engine.specs.OwnStreams.{OwnValue}
-use Rattle.rtcp_engine.specs.Histories.{media_fact, facts_of_csrcs, facts_of_media}
+use Rattle.rtcp_engine.specs.Arrivals.{media_fact, facts_of_csrcs, facts_of_media}
 use Rattle.rtcp_engine.specs.States.{State, state_with, IsSound}
 
 -- a table that another became, with its bounds and room, and few packets of each source

@@ -13,21 +13,23 @@ use Rattle.rtcp_timer.specs.Schedules.{Happening, Timing, tried, IsDue, IsInOrde
 use Rattle.rtcp_timer.specs.Departures.{members_known, last_departure}
 use Rattle.rtcp_timer.proofs.LawLemmas.{due_in_time}
 use Rattle.rtcp_engine.specs.Setups.{Setup, IsUsable}
-use Rattle.rtcp_engine.specs.Acts.{Act, rtcp_came, rtp_came, rtp_sent, ticked, left, renamed, moment_of}
-use Rattle.rtcp_engine.specs.Identities.{named, setup_now}
+use Rattle.rtcp_engine.specs.Acts.{rtcp, rtp, Act, arrived, rtp_sent, ticked, left, moment_of}
+use Rattle.rtcp_engine.specs.Identities.{named}
 use Rattle.rtcp_engine.specs.OwnStreams.{has_sent}
 use Rattle.rtcp_engine.specs.Outcomes.{Outcome, interval_at, member_count, nothing_yet}
 use Rattle.rtcp_engine.specs.Ticks.{checked, has_come, has_passed, is_report_due, put_off, reported, with_recount, with_report}
-use Rattle.rtcp_engine.specs.Histories.{History, with_media}
+use Rattle.rtcp_engine.specs.Arrivals.{with_media}
+use Rattle.rtcp_engine.specs.Changes.{NewIdentifier, Session, change_by, changed_by}
+use Rattle.rtcp_engine.specs.Histories.{History, last_moment, life_at, session_of, setup_at}
+use Rattle.rtcp_engine.specs.Refusals.{refusal_after}
 use Rattle.rtcp_engine.specs.Reporting.{bye_octets, report_octets}
-use Rattle.rtcp_engine.specs.Presence.{last_moment, report_out}
-use Rattle.rtcp_engine.specs.Taken.{HasWords, WasTaken, AllTaken, IsHistory}
+use Rattle.rtcp_engine.specs.Taken.{HasWords, AllTaken, IsHistory}
 use Rattle.rtcp_engine.specs.Leaving.{Backoff, Farewell, Life, present, backing_off, gone, after_wait, backoff_from, bye_count, few_members, is_bye_due, is_unheard, leaving_count, leaving_interval, leaving_load, leaving_timing}
-use Rattle.rtcp_engine.specs.Lives.{lived, life_of, life_at, bye_out, out_by}
+use Rattle.rtcp_engine.specs.Lives.{lived, bye_out, out_by, report_out, with_new_name}
 use Rattle.rtcp_engine.specs.Sent.{Sent, interval_by, reports_in, sent_at}
 use Rattle.rtcp_engine.specs.Spacing.{first_leave, newest_moment}
 use Rattle.rtcp_engine.specs.InTime.{AllInTime, HasWaited, IsInTime, greatest_by, greatest_interval, is_fall, last_fall}
-use Rattle.rtcp_engine.proofs.Sending.{AreUpTo, KeepsApart, taken_in_order, session_keeps_apart}
+use Rattle.rtcp_engine.proofs.Sending.{AreUpTo, KeepsApart, in_time, session_keeps_apart}
 
 -- ---- Draws
 
@@ -207,13 +209,13 @@ tick_checks setup fall greatest t moment first_word second_word outcome order h 
 
 while_present_waits : (setup : Setup) (fall greatest t : ℕ) (act : Act) (outcome : Outcome) → t ≤ moment_of act → HasWords act → Waits setup fall greatest t outcome
     → KeepsTime setup (new_fall setup act (present outcome) fall) (greatest_by setup act (present outcome) greatest) (moment_of act) (lived setup act (present outcome))
-while_present_waits setup fall greatest t (rtcp_came moment peer drawn size (Ok packets)) outcome order words h = recounts moment _ refl order h
-while_present_waits setup fall greatest t (rtcp_came moment peer drawn size (Err fault)) outcome order words h =
-    passes moment (is_fall setup (rtcp_came moment peer drawn size (Err fault)) (present outcome)) outcome refl (omega arith) order h
-while_present_waits setup fall greatest t (rtp_came moment peer drawn (Ok head)) outcome order words h =
-    passes moment (is_fall setup (rtp_came moment peer drawn (Ok head)) (present outcome)) (with_media setup moment head outcome) refl (media_keeps setup moment head outcome) order h
-while_present_waits setup fall greatest t (rtp_came moment peer drawn (Err fault)) outcome order words h =
-    passes moment (is_fall setup (rtp_came moment peer drawn (Err fault)) (present outcome)) outcome refl (omega arith) order h
+while_present_waits setup fall greatest t (arrived moment peer drawn (rtcp size (Ok packets))) outcome order words h = recounts moment _ refl order h
+while_present_waits setup fall greatest t (arrived moment peer drawn (rtcp size (Err fault))) outcome order words h =
+    passes moment (is_fall setup (arrived moment peer drawn (rtcp size (Err fault))) (present outcome)) outcome refl (omega arith) order h
+while_present_waits setup fall greatest t (arrived moment peer drawn (rtp (Ok head))) outcome order words h =
+    passes moment (is_fall setup (arrived moment peer drawn (rtp (Ok head))) (present outcome)) (with_media setup moment head outcome) refl (media_keeps setup moment head outcome) order h
+while_present_waits setup fall greatest t (arrived moment peer drawn (rtp (Err fault))) outcome order words h =
+    passes moment (is_fall setup (arrived moment peer drawn (rtp (Err fault))) (present outcome)) outcome refl (omega arith) order h
 while_present_waits setup fall greatest t (rtp_sent moment timestamp octets) outcome order words h =
     passes moment (is_fall setup (rtp_sent moment timestamp octets) (present outcome)) _ refl (omega arith) order h
 while_present_waits setup fall greatest t (ticked moment first_word second_word) outcome order words h =
@@ -221,19 +223,16 @@ while_present_waits setup fall greatest t (ticked moment first_word second_word)
     ticks_by moment first_word second_word now (has_come moment now) (has_passed setup moment first_word now) words.0 words.1 (tick_checks setup fall greatest t moment first_word second_word outcome order h)
 while_present_waits setup fall greatest t (left moment word) outcome order words h =
     leaves_by moment word _ (is_unheard outcome) (nat_le (member_count setup outcome) few_members) words order h
-while_present_waits setup fall greatest t (renamed moment peer ssrc) outcome order words h =
-    passes moment (is_fall setup (renamed moment peer ssrc) (present outcome)) _ refl (omega arith) order h
 
 while_backing_off_waits : (setup : Setup) (fall greatest t : ℕ) (act : Act) (outcome : Outcome) (backoff : Backoff) → HasWords act → WaitsToLeave greatest backoff
     → KeepsTime setup fall (greatest_by setup act (backing_off outcome backoff) greatest) (moment_of act) (lived setup act (backing_off outcome backoff))
-while_backing_off_waits setup fall greatest t (rtcp_came moment peer drawn size (Ok packets)) outcome backoff words h = hears (bye_count packets == 0) backoff _ h
-while_backing_off_waits setup fall greatest t (rtcp_came moment peer drawn size (Err fault)) outcome backoff words h = h
-while_backing_off_waits setup fall greatest t (rtp_came moment peer drawn reading) outcome backoff words h = h
+while_backing_off_waits setup fall greatest t (arrived moment peer drawn (rtcp size (Ok packets))) outcome backoff words h = hears (bye_count packets == 0) backoff _ h
+while_backing_off_waits setup fall greatest t (arrived moment peer drawn (rtcp size (Err fault))) outcome backoff words h = h
+while_backing_off_waits setup fall greatest t (arrived moment peer drawn (rtp reading)) outcome backoff words h = h
 while_backing_off_waits setup fall greatest t (rtp_sent moment timestamp octets) outcome backoff words h = h
 while_backing_off_waits setup fall greatest t (ticked moment first_word second_word) outcome backoff words h =
     waiting_tick setup fall moment first_word outcome backoff (is_bye_due setup moment first_word backoff) words.0 h
 while_backing_off_waits setup fall greatest t (left moment word) outcome backoff words h = h
-while_backing_off_waits setup fall greatest t (renamed moment peer ssrc) outcome backoff words h = hears_own setup (has_sent outcome.own) backoff h
 
 waits_after : (setup : Setup) (fall greatest t : ℕ) (act : Act) (life : Life) → t ≤ moment_of act → HasWords act → KeepsTime setup fall greatest t life
     → KeepsTime setup (new_fall setup act life fall) (greatest_by setup act life greatest) (moment_of act) (lived setup act life)
@@ -243,19 +242,24 @@ waits_after setup fall greatest t act (gone outcome) order words h = tt
 
 -- ---- Sessions
 
--- The identifier makes no difference.
-keeps_renamed : (setup : Setup) (ssrc fall greatest t : ℕ) (life : Life) → KeepsTime setup fall greatest t life → KeepsTime (named ssrc setup) fall greatest t life
-keeps_renamed setup ssrc fall greatest t (present outcome) h = record { known = h.known; fell = h.fell; drawn = h.drawn; past = h.past }
-keeps_renamed setup ssrc fall greatest t (backing_off outcome backoff) h = h
-keeps_renamed setup ssrc fall greatest t (gone outcome) h = tt
+-- A change of identifier makes no difference.
+name_keeps_time : (setup : Setup) (fall greatest t : ℕ) (life : Life) → KeepsTime setup fall greatest t life → KeepsTime setup fall greatest t (with_new_name setup life)
+name_keeps_time setup fall greatest t (present outcome) h = record { known = h.known; fell = h.fell; drawn = h.drawn; past = h.past }
+name_keeps_time setup fall greatest t (backing_off outcome backoff) h = hears_own setup (has_sent outcome.own) backoff h
+name_keeps_time setup fall greatest t (gone outcome) h = tt
 
-renamed_keeps : (setup : Setup) (ssrc fall greatest t : ℕ) (life : Life) → KeepsTime (named ssrc setup) fall greatest t life → KeepsTime setup fall greatest t life
-renamed_keeps setup ssrc fall greatest t (present outcome) h = record { known = h.known; fell = h.fell; drawn = h.drawn; past = h.past }
-renamed_keeps setup ssrc fall greatest t (backing_off outcome backoff) h = h
-renamed_keeps setup ssrc fall greatest t (gone outcome) h = tt
+keeps_named : (setup : Setup) (ssrc fall greatest t : ℕ) (life : Life) → KeepsTime setup fall greatest t life → KeepsTime (named ssrc setup) fall greatest t life
+keeps_named setup ssrc fall greatest t (present outcome) h = record { known = h.known; fell = h.fell; drawn = h.drawn; past = h.past }
+keeps_named setup ssrc fall greatest t (backing_off outcome backoff) h = h
+keeps_named setup ssrc fall greatest t (gone outcome) h = tt
 
-pub session_keeps_time : (setup : Setup) (word : ℕ) (acts : List Act) → word < 2 ^ 32 → AllTaken setup word acts
-    → KeepsTime setup (last_fall setup word acts) (greatest_interval setup word acts) (last_moment acts) (life_of setup word acts)
+change_keeps_time : (session : Session) (fall greatest t : ℕ) (change : Option NewIdentifier) → KeepsTime session.setup fall greatest t session.life → KeepsTime (changed_by change session).setup fall greatest t (changed_by change session).life
+change_keeps_time session fall greatest t None h = h
+change_keeps_time session fall greatest t (Some new) h =
+    keeps_named session.setup new.ssrc fall greatest t (with_new_name session.setup session.life) (name_keeps_time session.setup fall greatest t session.life h)
+
+pub session_keeps_time : (setup : Setup) (word : ℕ) (acts : List Act) → word < 2 ^ 32 → AllTaken setup word acts → let session = session_of setup word acts in
+    KeepsTime session.setup (last_fall setup word acts) (greatest_interval setup word acts) (last_moment acts) session.life
 session_keeps_time setup word [] fits taken = record {
   known = omega arith;
   fell = omega arith;
@@ -263,9 +267,11 @@ session_keeps_time setup word [] fits taken = record {
   past = omega arith;
 }
 session_keeps_time setup word (act ∷ earlier) fits taken =
-    renamed_keeps setup (setup_now setup earlier).ssrc _ _ _ (life_of setup word (act ∷ earlier))
-    (waits_after (setup_now setup earlier) (last_fall setup word earlier) (greatest_interval setup word earlier) (last_moment earlier) act (life_of setup word earlier)
-    (taken_in_order setup word earlier act taken.0) taken.1 (keeps_renamed setup (setup_now setup earlier).ssrc _ _ _ (life_of setup word earlier) (session_keeps_time setup word earlier fits taken.2)))
+    let before = session_of setup word earlier in
+    let change = change_by before act in
+    let now = changed_by change before in
+    waits_after now.setup (last_fall setup word earlier) (greatest_interval setup word earlier) (last_moment earlier) act now.life
+    (in_time (record { setup = setup; word = word; acts = earlier }) act taken.0) taken.1 (change_keeps_time before _ _ _ change (session_keeps_time setup word earlier fits taken.2))
 
 -- ---- Ticks that come late
 
@@ -329,17 +335,14 @@ tick_in_time setup fall greatest t limit leave moment first_word second_word sen
 tick_in_time setup fall greatest t limit leave moment first_word second_word sent (gone outcome) words order apart h late = absurd late
 
 -- after a history, and for an act that is taken
-pub in_time_after : (history : History) (act : Act) → IsHistory history → WasTaken history.setup history.word history.acts act → HasWords act → IsInTime history act
-in_time_after history (rtcp_came moment peer drawn size reading) is taken words = tt
-in_time_after history (rtp_came moment peer drawn reading) is taken words = tt
+pub in_time_after : (history : History) (act : Act) → IsHistory history → refusal_after history act ≡ None → HasWords act → IsInTime history act
+in_time_after history (arrived moment peer drawn datagram) is taken words = tt
 in_time_after history (rtp_sent moment timestamp octets) is taken words = tt
 in_time_after history (ticked moment first_word second_word) is taken words = λ late.
-    tick_in_time (setup_now history.setup history.acts) (last_fall history.setup history.word history.acts) (greatest_interval history.setup history.word history.acts) (last_moment history.acts) history.setup.limit
-    (first_leave history.acts) moment first_word second_word (sent_at history) (life_at history) words (taken_in_order history.setup history.word history.acts (ticked moment first_word second_word) taken)
-    (session_keeps_apart history.setup history.word history.acts is.usable is.taken)
-    (keeps_renamed history.setup (setup_now history.setup history.acts).ssrc _ _ _ (life_at history) (session_keeps_time history.setup history.word history.acts is.word is.taken)) late
+    tick_in_time (setup_at history) (last_fall history.setup history.word history.acts) (greatest_interval history.setup history.word history.acts) (last_moment history.acts) history.setup.limit
+    (first_leave history.acts) moment first_word second_word (sent_at history) (life_at history) words (in_time history (ticked moment first_word second_word) taken)
+    (session_keeps_apart history.setup history.word history.acts is.usable is.taken) (session_keeps_time history.setup history.word history.acts is.word is.taken) late
 in_time_after history (left moment word) is taken words = tt
-in_time_after history (renamed moment peer ssrc) is taken words = tt
 
 pub all_in_time : (setup : Setup) (word : ℕ) (acts : List Act) → IsUsable setup → word < 2 ^ 32 → AllTaken setup word acts → AllInTime setup word acts
 all_in_time setup word [] usable fits taken = tt

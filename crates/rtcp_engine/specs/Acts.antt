@@ -8,29 +8,35 @@ use Rattle.rtcp_wire.specs.Grammar.{IsAccepted}
 use Rattle.rtcp_wire.specs.Faults.{IsFirstFault}
 use Rattle.rtcp_wire.specs.RtpHeads.{RtpValue, IsRtpHead, IsRtpFault}
 
+-- What a datagram says that came.
+pub data Datagram : Type 0 where
+  -- an RTCP datagram of so many octets: its packets, or its first fault
+  rtcp : (size : ℕ) (reading : Result (List RtcpPacket) WireFault) → Datagram
+  -- an RTP datagram: what its head says, or its first fault
+  rtp : (reading : Result RtpValue RtpFault) → Datagram
+
 pub data Act : Type 0 where
-  -- an RTCP datagram of so many octets came from a peer: its packets, or its first fault. The host gave a random word
-  -- for a new identifier.
-  rtcp_came : (moment peer word size : ℕ) (reading : Result (List RtcpPacket) WireFault) → Act
-  -- an RTP datagram came from a peer: what its head says, or its first fault, with a random word too
-  rtp_came : (moment peer word : ℕ) (reading : Result RtpValue RtpFault) → Act
+  -- a datagram came from a peer. The host gave a random word for a new identifier.
+  arrived : (moment peer word : ℕ) (datagram : Datagram) → Act
   -- the participant's host sent an RTP packet with this timestamp and so many octets of payload
   rtp_sent : (moment timestamp octets : ℕ) → Act
   -- the host asked whether a report is due, and gave two random words for the draws of intervals
   ticked : (moment first_word second_word : ℕ) → Act
   -- the host asked the participant to leave, and gave a random word for the draw of a backoff
   left : (moment word : ℕ) → Act
-  -- the participant took another identifier, since a datagram of a peer named its own (RFC 3550, 8.2). It stands in a
-  -- history before the act of that datagram.
-  renamed : (moment peer ssrc : ℕ) → Act
 
 abbrev pub moment_of : Act → ℕ
-moment_of (rtcp_came moment peer word size reading) = moment
-moment_of (rtp_came moment peer word reading) = moment
+moment_of (arrived moment peer word datagram) = moment
 moment_of (rtp_sent moment timestamp octets) = moment
 moment_of (ticked moment first_word second_word) = moment
 moment_of (left moment word) = moment
-moment_of (renamed moment peer ssrc) = moment
+
+-- an RTCP datagram came with these octets, which say so
+abbrev pub rtcp_came : (moment peer word : ℕ) (octets : List ℕ) → Result (List RtcpPacket) WireFault → Act
+rtcp_came moment peer word octets reading = arrived moment peer word (rtcp (length octets) reading)
+
+abbrev pub rtp_came : (moment peer word : ℕ) → Result RtpValue RtpFault → Act
+rtp_came moment peer word reading = arrived moment peer word (rtp reading)
 
 -- ---- Octets
 
@@ -64,7 +70,7 @@ pub data EventValue : Type 0 where
 abbrev pub IsActOfEvent : EventValue → Act → Type 0
 IsActOfEvent (rtcp_arrived moment peer word octets) act =
     (reading : Result (List RtcpPacket) WireFault) × IsReading octets reading
-    × (act ≡ rtcp_came moment peer word (length octets) reading)
+    × (act ≡ rtcp_came moment peer word octets reading)
 IsActOfEvent (rtp_arrived moment peer word octets) act =
     (reading : Result RtpValue RtpFault) × IsRtpReading octets reading × (act ≡ rtp_came moment peer word reading)
 IsActOfEvent (packet_sent moment timestamp octets) act = act ≡ rtp_sent moment timestamp octets

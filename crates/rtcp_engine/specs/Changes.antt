@@ -1,30 +1,50 @@
--- Changes of identifier (RFC 3550, 8.2): which datagrams bring one, and which identifier is taken then.
+-- Changes of identifier (RFC 3550, 8.2): which datagrams bring one, which identifier is taken then, and what becomes of the
+-- session.
 use Rattle.std.specs.Prelude.{ℕ, ◌+◌, ◌==◌, ◌||◌, Bool, false, List, [], ◌∷◌, length, map, is_some, if◌then◌else◌, Option, Some, None, Ok, Err}
+use Rattle.std.specs.List.{list_any}
 use Rattle.rtcp_wire.specs.Facts.{subject, facts_of}
 use Rattle.rtcp_members.specs.Entries.{entry_at}
+use Rattle.rtcp_engine.specs.declared.changes.Change.{Change}
 use Rattle.rtcp_engine.specs.Setups.{Setup}
-use Rattle.rtcp_engine.specs.Acts.{Act, rtcp_came, rtp_came, renamed, moment_of}
-use Rattle.rtcp_engine.specs.Identities.{first_free, identifiers, is_among, most_changes, setup_now}
-use Rattle.rtcp_engine.specs.Histories.{History}
-use Rattle.rtcp_engine.specs.Presence.{speaks_of}
+use Rattle.rtcp_engine.specs.Acts.{Datagram, rtcp, rtp, Act, arrived}
+use Rattle.rtcp_engine.specs.Identities.{first_free, is_among, most_changes, named}
+use Rattle.rtcp_engine.specs.Steps.{OutValue}
 use Rattle.rtcp_engine.specs.Leaving.{Life, present, backing_off, gone}
-use Rattle.rtcp_engine.specs.Lives.{life_at}
+use Rattle.rtcp_engine.specs.Lives.{own_bye, with_new_name}
 
--- A datagram names this identifier: a fact of its compound is about it, or its RTP packet is of it.
-abbrev pub names_own : (ssrc : ℕ) → Act → Bool
-names_own ssrc (rtcp_came moment peer word size (Ok packets)) = speaks_of ssrc packets
-names_own ssrc (rtcp_came moment peer word size (Err fault)) = false
-names_own ssrc (rtp_came moment peer word (Ok head)) = head.ssrc == ssrc
-names_own ssrc (rtp_came moment peer word (Err fault)) = false
-names_own ssrc act = false
+-- What a session has come to.
+pub record Session : Type 0 where
+  -- under the present identifier
+  pub setup : Setup
+  -- the changes of identifier so far, newest first: whose datagrams brought them, and what was given up
+  pub changes : List Change
+  pub life : Life
+
+-- all identifiers so far, the present one first
+abbrev pub identifiers : Session → List ℕ
+identifiers session = session.setup.ssrc ∷ map (λ change. change.former) session.changes
+
+-- the peers whose datagrams changed the identifier
+abbrev pub changing_peers : Session → List ℕ
+changing_peers session = map (λ change. change.peer) session.changes
+
+-- ---- Datagrams
+
+-- A datagram is about this source: a fact of its compound is, or its RTP packet comes from it.
+abbrev pub is_about : (ssrc : ℕ) → Datagram → Bool
+is_about ssrc (rtcp size (Ok packets)) = list_any (λ fact. subject fact == ssrc) (facts_of packets)
+is_about ssrc (rtcp size (Err fault)) = false
+is_about ssrc (rtp (Ok head)) = head.ssrc == ssrc
+is_about ssrc (rtp (Err fault)) = false
 
 -- all identifiers that a datagram names, contributing sources among them
-abbrev pub named_by : Act → List ℕ
-named_by (rtcp_came moment peer word size (Ok packets)) = map subject (facts_of packets)
-named_by (rtcp_came moment peer word size (Err fault)) = []
-named_by (rtp_came moment peer word (Ok head)) = head.ssrc ∷ head.csrcs
-named_by (rtp_came moment peer word (Err fault)) = []
-named_by act = []
+abbrev pub named_by : Datagram → List ℕ
+named_by (rtcp size (Ok packets)) = map subject (facts_of packets)
+named_by (rtcp size (Err fault)) = []
+named_by (rtp (Ok head)) = head.ssrc ∷ head.csrcs
+named_by (rtp (Err fault)) = []
+
+-- ---- A new identifier
 
 -- whether the table has an entry of a source, marked or not: in a backoff as it stood at the leave
 abbrev pub is_in_table : Setup → Life → (ssrc : ℕ) → Bool
@@ -33,27 +53,45 @@ is_in_table setup (backing_off outcome backoff) ssrc = is_some (entry_at setup.c
 is_in_table setup (gone outcome) ssrc = false
 
 -- An identifier is taken if the participant has or had it, if the table has it, or if the datagram names it.
-abbrev pub is_taken : History → Act → (ssrc : ℕ) → Bool
-is_taken history act ssrc =
-    is_among (identifiers history.setup history.acts) ssrc
-    || (is_in_table history.setup (life_at history) ssrc || is_among (named_by act) ssrc)
+abbrev pub is_taken : Session → Datagram → (ssrc : ℕ) → Bool
+is_taken session datagram ssrc =
+    is_among (identifiers session) ssrc
+    || (is_in_table session.setup session.life ssrc || is_among (named_by datagram) ssrc)
 
 -- As many may be taken: those of the participant, those of the table, and those that the datagram names.
-abbrev pub most_taken : History → Act → ℕ
-most_taken history act = most_changes + 1 + history.setup.capacity + length (named_by act)
+abbrev pub most_taken : Session → Datagram → ℕ
+most_taken session datagram = most_changes + 1 + session.setup.capacity + length (named_by datagram)
 
-abbrev pub new_identifier : (word : ℕ) → History → Act → ℕ
-new_identifier word history act = first_free (most_taken history act) (is_taken history act) word
+abbrev pub new_identifier : (word : ℕ) → Session → Datagram → ℕ
+new_identifier word session datagram = first_free (most_taken session datagram) (is_taken session datagram) word
 
--- the change that an act brings, where it is taken: the new identifier's peer and number
-abbrev pub change_from : (peer word : ℕ) → History → Act → Option Act
-change_from peer word history act =
-    if names_own (setup_now history.setup history.acts).ssrc act
-    then Some (renamed (moment_of act) peer (new_identifier word history act))
+-- ---- Changes
+
+-- whose datagram brings a change, and the identifier that is taken
+pub record NewIdentifier : Type 0 where
+  pub peer : ℕ
+  pub ssrc : ℕ
+
+-- the change that an act brings, if it is taken
+abbrev pub change_by : Session → Act → Option NewIdentifier
+change_by session (arrived moment peer word datagram) =
+    if is_about session.setup.ssrc datagram
+    then Some (record { peer = peer; ssrc = new_identifier word session datagram })
     else None
+change_by session act = None
 
-abbrev pub change_by : History → Act → Option Act
-change_by history (rtcp_came moment peer word size reading) =
-    change_from peer word history (rtcp_came moment peer word size reading)
-change_by history (rtp_came moment peer word reading) = change_from peer word history (rtp_came moment peer word reading)
-change_by history act = None
+abbrev pub changed_to : NewIdentifier → Session → Session
+changed_to new session = record {
+  setup = named new.ssrc session.setup;
+  changes = record { peer = new.peer; former = session.setup.ssrc } ∷ session.changes;
+  life = with_new_name session.setup session.life;
+}
+
+abbrev pub changed_by : Option NewIdentifier → Session → Session
+changed_by None session = session
+changed_by (Some new) session = changed_to new session
+
+-- the BYE that a change hands out
+abbrev pub bye_of_change : Option NewIdentifier → Session → Option OutValue
+bye_of_change None session = None
+bye_of_change (Some new) session = own_bye session.setup session.life

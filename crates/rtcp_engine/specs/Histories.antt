@@ -1,86 +1,13 @@
 -- What the acts of a session come to, from its beginning on. A history is a list of acts, newest first.
-use Rattle.std.specs.Prelude.{ℕ, ◌==◌, not, Bool, List, [], ◌∷◌, map, filter, length, if◌then◌else◌, Result, Ok, Err}
-use Rattle.rtcp_wire.specs.declared.fact.Fact.{Fact}
-use Rattle.rtcp_wire.specs.declared.fact.Fact.TheVariants.{Heard, Media}
-use Rattle.rtcp_wire.specs.declared.fault.WireFault.{WireFault}
-use Rattle.rtcp_wire.specs.declared.rtp.fault.RtpFault.{RtpFault}
-use Rattle.rtcp_wire.specs.Values.{RtcpPacket}
-use Rattle.rtcp_wire.specs.Facts.{facts_of}
-use Rattle.rtcp_wire.specs.RtpHeads.{RtpValue}
-use Rattle.rtcp_members.specs.Traces.{with_facts}
-use Rattle.rtcp_members.specs.Entries.{counted_at}
+use Rattle.std.specs.Prelude.{ℕ, List, [], ◌∷◌, Option}
+use Rattle.std.specs.Option.{option_or}
 use Rattle.rtcp_engine.specs.Setups.{Setup}
-use Rattle.rtcp_engine.specs.Acts.{Act, rtcp_came, rtp_came, rtp_sent, ticked, left, renamed}
-use Rattle.rtcp_engine.specs.OwnStreams.{packet_sent, counts_anew, has_sent}
-use Rattle.rtcp_engine.specs.Reporting.{bye_octets}
-use Rattle.rtcp_engine.specs.Outcomes.{Outcome}
-use Rattle.rtcp_engine.specs.Ticks.{with_recount, after_tick}
-
--- ---- Arrivals
-
--- The facts of a compound that came (RFC 3550, 6.3.3, 6.3.7). It moves the average, and members may have
--- departed.
-abbrev pub with_facts_of : (t size : ℕ) → List RtcpPacket → Outcome → Outcome
-with_facts_of t size packets outcome =
-    record outcome { trace = with_facts (facts_of packets) t outcome.trace; sizes = size ∷ outcome.sizes }
-
-abbrev pub with_compound : Setup → (t size : ℕ) → List RtcpPacket → Outcome → Outcome
-with_compound setup t size packets outcome = with_recount setup t (with_facts_of t size packets outcome)
-
-abbrev pub media_fact : RtpValue → Fact
-media_fact head = Media head.ssrc head.sequence head.timestamp
-
--- what the contributing sources give, but for the participant itself
-abbrev pub facts_of_csrcs : (own : ℕ) → (csrcs : List ℕ) → List Fact
-facts_of_csrcs own csrcs = map Heard (filter (λ ssrc. not (ssrc == own)) csrcs)
-
--- The facts of an RTP packet that came (6.3.3): the packet, and if it is counted, its contributing sources
--- too.
-abbrev pub facts_of_media : (own : ℕ) → RtpValue → (is_counted : Bool) → List Fact
-facts_of_media own head is_counted =
-    media_fact head ∷ (if is_counted then facts_of_csrcs own head.csrcs else [])
-
-abbrev pub with_media : Setup → (t : ℕ) → RtpValue → Outcome → Outcome
-with_media setup t head outcome =
-    let is_counted = counted_at setup.capacity setup.rate outcome.trace (media_fact head) in
-    record outcome { trace = with_facts (facts_of_media setup.ssrc head is_counted) t outcome.trace }
-
--- What a datagram with a fault would change is nothing, and so no history holds one.
-abbrev pub with_reading : Setup → (t size : ℕ) → Result (List RtcpPacket) WireFault → Outcome → Outcome
-with_reading setup t size (Ok packets) outcome = with_compound setup t size packets outcome
-with_reading setup t size (Err fault) outcome = outcome
-
-abbrev pub with_rtp_reading : Setup → (t : ℕ) → Result RtpValue RtpFault → Outcome → Outcome
-with_rtp_reading setup t (Ok head) outcome = with_media setup t head outcome
-with_rtp_reading setup t (Err fault) outcome = outcome
-
--- ---- Sent packets
-
-abbrev pub with_packet : (t timestamp octets : ℕ) → Outcome → Outcome
-with_packet t timestamp octets outcome = record outcome { own = packet_sent t timestamp octets ∷ outcome.own }
-
--- ---- Changes of identifier
-
--- The BYE of the old identifier is a compound that was sent, if something was sent under that one. The counts of the own
--- stream begin anew.
-abbrev pub with_change : Setup → Outcome → Outcome
-with_change setup outcome =
-    record outcome {
-      own = counts_anew ∷ outcome.own;
-      sizes = if has_sent outcome.own then length (bye_octets setup) ∷ outcome.sizes else outcome.sizes;
-    }
-
--- ---- Histories
-
--- (A leave ends the participation whose outcome this is, and adds nothing to it.)
-abbrev pub after : Setup → Act → Outcome → Outcome
-after setup (rtcp_came moment peer word size reading) outcome = with_reading setup moment size reading outcome
-after setup (rtp_came moment peer word reading) outcome = with_rtp_reading setup moment reading outcome
-after setup (rtp_sent moment timestamp octets) outcome = with_packet moment timestamp octets outcome
-after setup (ticked moment first_word second_word) outcome =
-    after_tick setup moment first_word second_word outcome
-after setup (left moment word) outcome = outcome
-after setup (renamed moment peer ssrc) outcome = with_change setup outcome
+use Rattle.rtcp_engine.specs.Acts.{Act, moment_of}
+use Rattle.rtcp_engine.specs.Outcomes.{beginning}
+use Rattle.rtcp_engine.specs.Steps.{OutValue}
+use Rattle.rtcp_engine.specs.Leaving.{Life, present}
+use Rattle.rtcp_engine.specs.Lives.{lived, out_by}
+use Rattle.rtcp_engine.specs.Changes.{Session, bye_of_change, change_by, changed_by}
 
 -- A session so far.
 pub record History : Type 0 where
@@ -89,3 +16,42 @@ pub record History : Type 0 where
   pub word : ℕ
   -- the acts that were taken, newest first
   pub acts : List Act
+
+abbrev pub with_act : History → Act → History
+with_act history act = record history { acts = act ∷ history.acts }
+
+abbrev pub last_moment : List Act → ℕ
+last_moment [] = 0
+last_moment (act ∷ earlier) = moment_of act
+
+-- ---- Acts
+
+-- the session in which an act is taken: with the change of identifier that it brings
+abbrev pub session_for : Session → Act → Session
+session_for session act = changed_by (change_by session act) session
+
+abbrev pub after_act : Session → Act → Session
+after_act session act = let now = session_for session act in record now { life = lived now.setup act now.life }
+
+-- The compound that an act brings: the BYE of an identifier that it gives up, or else its own.
+abbrev pub brought_by : Session → Act → Option OutValue
+brought_by session act =
+    let now = session_for session act in
+    option_or (bye_of_change (change_by session act) session) (out_by now.setup act now.life)
+
+-- ---- Histories
+
+-- What a session has come to, from its setup, its start word and all acts that were taken.
+abbrev pub session_of : Setup → (word : ℕ) → List Act → Session
+session_of setup word [] = record { setup = setup; changes = []; life = present (beginning setup word) }
+session_of setup word (act ∷ earlier) = after_act (session_of setup word earlier) act
+
+abbrev pub session_at : History → Session
+session_at history = session_of history.setup history.word history.acts
+
+-- the setup under the present identifier
+abbrev pub setup_at : History → Setup
+setup_at history = (session_at history).setup
+
+abbrev pub life_at : History → Life
+life_at history = (session_at history).life

@@ -4,13 +4,12 @@ use Rattle.std.specs.Prelude.{ℕ, ◌+◌, ◌≤◌, Bool, false, IsTrue, is_s
 use Rattle.rtcp_clock.specs.Intervals.{longest_draw}
 use Rattle.rtcp_timer.specs.Loads.{interval_of}
 use Rattle.rtcp_engine.specs.Setups.{Setup}
-use Rattle.rtcp_engine.specs.Acts.{Act, rtcp_came, ticked, left, moment_of}
-use Rattle.rtcp_engine.specs.Identities.{setup_now}
+use Rattle.rtcp_engine.specs.Acts.{Act, rtcp, arrived, ticked, left, moment_of}
 use Rattle.rtcp_engine.specs.Outcomes.{Outcome, interval_at, member_count, nothing_yet}
 use Rattle.rtcp_engine.specs.Ticks.{checked, is_report_due, with_report}
-use Rattle.rtcp_engine.specs.Histories.{History, with_reading}
+use Rattle.rtcp_engine.specs.Arrivals.{with_reading}
+use Rattle.rtcp_engine.specs.Histories.{History, brought_by, life_at, session_at, session_for, session_of, setup_at}
 use Rattle.rtcp_engine.specs.Leaving.{Backoff, Life, present, backing_off, gone, leaving_interval, leaving_load}
-use Rattle.rtcp_engine.specs.Lives.{life_of, life_at, out_by}
 use Rattle.rtcp_engine.specs.Sent.{Sent, reports_in, interval_by, sent_at}
 use Rattle.rtcp_engine.specs.Spacing.{newest_moment}
 
@@ -18,7 +17,8 @@ use Rattle.rtcp_engine.specs.Spacing.{newest_moment}
 
 -- the session after a compound that came or the check of a tick: all that can lower the members
 abbrev pub recounted_by : Setup → Act → Outcome → Outcome
-recounted_by setup (rtcp_came moment peer word size reading) outcome = with_reading setup moment size reading outcome
+recounted_by setup (arrived moment peer word (rtcp size reading)) outcome =
+    with_reading setup moment size reading outcome
 recounted_by setup (ticked moment first_word second_word) outcome = checked setup moment outcome
 recounted_by setup act outcome = outcome
 
@@ -33,7 +33,8 @@ is_fall setup act (gone outcome) = false
 abbrev pub last_fall : Setup → (word : ℕ) → List Act → ℕ
 last_fall setup word [] = 0
 last_fall setup word (act ∷ earlier) =
-    if is_fall (setup_now setup earlier) act (life_of setup word earlier) then moment_of act else last_fall setup word earlier
+    let now = session_for (session_of setup word earlier) act in
+    if is_fall now.setup act now.life then moment_of act else last_fall setup word earlier
 
 -- ---- The greatest interval
 
@@ -62,7 +63,8 @@ greatest_by setup act (gone outcome) before = before
 abbrev pub greatest_interval : Setup → (word : ℕ) → List Act → ℕ
 greatest_interval setup word [] = interval_at setup nothing_yet
 greatest_interval setup word (act ∷ earlier) =
-    greatest_by (setup_now setup earlier) act (life_of setup word earlier) (greatest_interval setup word earlier)
+    let now = session_for (session_of setup word earlier) act in
+    greatest_by now.setup act now.life (greatest_interval setup word earlier)
 
 -- ---- Overdue
 
@@ -70,7 +72,7 @@ greatest_interval setup word (act ∷ earlier) =
 -- of this tick included
 abbrev pub longest_wait : History → Act → ℕ
 longest_wait history act =
-    longest_draw (max (interval_by (setup_now history.setup history.acts) act (life_at history))
+    longest_draw (max (interval_by (setup_at history) act (life_at history))
     (greatest_interval history.setup history.word history.acts))
 
 -- Since the newest report, or moment 0, and since the newest fall, that of this tick included, so long has passed; in a
@@ -90,7 +92,7 @@ IsOverdue history act =
 -- ---- In time
 
 abbrev pub BringsOut : History → Act → Type 0
-BringsOut history act = IsTrue (is_some (out_by (setup_now history.setup history.acts) act (life_at history)))
+BringsOut history act = IsTrue (is_some (brought_by (session_at history) act))
 
 -- A tick that comes late sends a report, or in a backoff the BYE.
 abbrev pub IsInTime : History → Act → Type 0

@@ -7,12 +7,13 @@ pub mod OwnSending
 pub mod Outcomes
 pub mod Reporting
 pub mod Ticks
-pub mod Histories
+pub mod Arrivals
 pub mod Steps
-pub mod Presence
 pub mod Leaving
 pub mod Lives
 pub mod Changes
+pub mod Histories
+pub mod Refusals
 pub mod Answers
 pub mod Sent
 pub mod Spacing

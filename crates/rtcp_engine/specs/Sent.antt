@@ -2,15 +2,13 @@
 use Rattle.std.specs.Prelude.{ℕ, List, [], ◌∷◌, ◌++◌, filter, Bool, true, false, is_some, if◌then◌else◌, Option, Some, None, Ok, Err}
 use Rattle.rtcp_engine.specs.declared.step.OutKind.TheVariants.{Report as ReportKind, Bye as ByeKind}
 use Rattle.rtcp_engine.specs.Setups.{Setup}
-use Rattle.rtcp_engine.specs.Acts.{Act, ticked, renamed, moment_of}
-use Rattle.rtcp_engine.specs.Identities.{setup_now}
+use Rattle.rtcp_engine.specs.Acts.{Act, ticked, moment_of}
 use Rattle.rtcp_engine.specs.Outcomes.{Outcome, Report, interval_at}
 use Rattle.rtcp_engine.specs.Ticks.{checked}
-use Rattle.rtcp_engine.specs.Histories.{History}
+use Rattle.rtcp_engine.specs.Histories.{History, brought_by, session_of}
 use Rattle.rtcp_engine.specs.Steps.{OutValue, AnswerValue}
 use Rattle.rtcp_engine.specs.Leaving.{Life, present, backing_off, gone, leaving_interval}
-use Rattle.rtcp_engine.specs.Lives.{life_at, life_of, out_by}
-use Rattle.rtcp_engine.specs.Changes.{change_by}
+use Rattle.rtcp_engine.specs.Changes.{Session, change_by}
 
 -- ---- A compound
 
@@ -30,21 +28,21 @@ reports_in sent = filter is_report sent
 
 -- ---- Intervals
 
--- whether an act is a change of identifier, which the participant makes itself
-abbrev pub is_change : Act → Bool
-is_change (renamed moment peer ssrc) = true
-is_change act = false
-
 abbrev pub interval_while_present : Setup → Act → Outcome → ℕ
 interval_while_present setup (ticked moment first_word second_word) outcome =
     interval_at setup (checked setup moment outcome)
 interval_while_present setup act outcome = 0
 
--- the deterministic interval that decides whether an act brings a compound (RFC 3550, 6.3.6, 6.3.7)
 abbrev pub interval_by : Setup → Act → Life → ℕ
 interval_by setup act (present outcome) = interval_while_present setup act outcome
-interval_by setup act (backing_off outcome backoff) = if is_change act then 0 else leaving_interval setup backoff
+interval_by setup act (backing_off outcome backoff) = leaving_interval setup backoff
 interval_by setup act (gone outcome) = 0
+
+-- The deterministic interval that decides whether an act brings a compound (RFC 3550, 6.3.6, 6.3.7): 0 where it changes the
+-- identifier.
+abbrev pub deciding_interval : Session → Act → ℕ
+deciding_interval session act =
+    if is_some (change_by session act) then 0 else interval_by session.setup act session.life
 
 -- ---- Sessions
 
@@ -54,23 +52,17 @@ sent_with moment interval changes (Some out) =
     record { moment = moment; interval = interval; out = out; changes = changes } ∷ []
 
 -- what an act brings
-abbrev pub sent_by : Setup → Act → Life → List Sent
-sent_by setup act life = sent_with (moment_of act) (interval_by setup act life) (is_change act) (out_by setup act life)
+abbrev pub sent_by : Session → Act → List Sent
+sent_by session act =
+    sent_with (moment_of act) (deciding_interval session act) (is_some (change_by session act)) (brought_by session act)
 
 -- All that a session brought, from its setup, its start word and the acts that were taken.
 abbrev pub sent_over : Setup → (word : ℕ) → List Act → List Sent
 sent_over setup word [] = []
-sent_over setup word (act ∷ earlier) =
-    sent_by (setup_now setup earlier) act (life_of setup word earlier) ++ sent_over setup word earlier
+sent_over setup word (act ∷ earlier) = sent_by (session_of setup word earlier) act ++ sent_over setup word earlier
 
 abbrev pub sent_at : History → List Sent
 sent_at history = sent_over history.setup history.word history.acts
-
--- the interval that decides whether an act is answered by a compound: 0 where it brings a change
-abbrev pub deciding_interval : History → Act → ℕ
-deciding_interval history act =
-    if is_some (change_by history act) then 0
-    else interval_by (setup_now history.setup history.acts) act (life_at history)
 
 -- what an answer hands out
 abbrev pub handed_out : (moment interval : ℕ) → AnswerValue → List Sent

@@ -1,5 +1,5 @@
 -- What a participant keeps of its history: a table and a few numbers, and its phase.
-use Rattle.std.specs.Prelude.{ℕ, ◌+◌, ◌-◌, ◌≡◌, ◌≤◌, ◌<◌, ◌^◌, List, [], ◌∷◌, length, map as map_list, if◌then◌else◌, Option, Some, None}
+use Rattle.std.specs.Prelude.{ℕ, ◌+◌, ◌-◌, ◌≡◌, ◌≤◌, ◌<◌, ◌^◌, List, [], length, if◌then◌else◌, Option, Some, None}
 use Rattle.std.specs.FinMap as map
 use Rattle.rtcp_members.specs.Tables.{TableValue, HasFew, StandsAt as IsTableAt}
 use Rattle.rtcp_timer.specs.Averages.{moved_average}
@@ -8,15 +8,16 @@ use Rattle.rtcp_engine.specs.declared.changes.Change.{Change}
 use Rattle.rtcp_engine.specs.declared.refusal.Refusal.{Refusal}
 use Rattle.rtcp_engine.specs.declared.refusal.Refusal.TheVariants.{Left}
 use Rattle.rtcp_engine.specs.Setups.{Setup, IsUsable}
-use Rattle.rtcp_engine.specs.Identities.{call_count, identifiers, named, peers_listed, setup_now}
+use Rattle.rtcp_engine.specs.Identities.{named}
 use Rattle.rtcp_engine.specs.OwnStreams.{OwnValue, own_of}
 use Rattle.rtcp_engine.specs.OwnValues.{own_anew}
 use Rattle.rtcp_engine.specs.Outcomes.{Outcome, average_size, timing_of}
 use Rattle.rtcp_engine.specs.Reporting.{bye_octets, last_reported_in}
-use Rattle.rtcp_engine.specs.Histories.{History}
-use Rattle.rtcp_engine.specs.Presence.{call_refusal, last_moment}
+use Rattle.rtcp_engine.specs.Changes.{Session}
+use Rattle.rtcp_engine.specs.Histories.{History, last_moment, session_at}
+use Rattle.rtcp_engine.specs.Refusals.{call_refusal}
 use Rattle.rtcp_engine.specs.Leaving.{Backoff, Life, present, backing_off, gone, leaving_count, leaving_timing, leaving_average}
-use Rattle.rtcp_engine.specs.Lives.{life_at, lived, out_by}
+use Rattle.rtcp_engine.specs.Lives.{lived, out_by}
 use Rattle.rtcp_engine.specs.Steps.{OutValue}
 use Rattle.rtcp_engine.specs.Acts.{Act}
 use Rattle.rtcp_engine.specs.Taken.{IsHistory}
@@ -71,7 +72,7 @@ pub record Admits (state : State) (now : ℕ) : Type 0 where
   pub moment : now ≤ 2 ^ 50
   pub calls : state.calls < 2 ^ 40 - 1
 
--- What is no call and no change of identifier.
+-- What is no call.
 pub record Stays (old new : State) : Type 0 where
   pub setup : new.setup ≡ old.setup
   pub last : new.last ≡ old.last
@@ -116,9 +117,8 @@ with_own_bye state =
     }
 
 -- The counts of the own stream begin anew.
-abbrev pub renamed : (t ssrc : ℕ) → State → State
-renamed t ssrc state =
-    record (with_own_bye state) { setup = named ssrc state.setup; own = own_anew state.own; last = t }
+abbrev pub renamed : (ssrc : ℕ) → State → State
+renamed ssrc state = record (with_own_bye state) { setup = named ssrc state.setup; own = own_anew state.own }
 
 -- ---- Soundness
 
@@ -187,20 +187,18 @@ pub record Acts (old new : ParticipantValue) (act : Act) (out : Option OutValue)
   pub lives : (life : Life) → IsAt old life → IsAt new (lived old.presence.setup act life)
   pub hands_out : (life : Life) → IsAt old life → out ≡ out_by old.presence.setup act life
 
--- The changes of identifier are those of the acts: whose datagrams brought them, and the identifiers that were given
--- up for the present one.
-pub record HasChanged (changes : List Change) (ssrc : ℕ) (history : History) : Type 0 where
-  pub peers : map_list (λ change. change.peer) changes ≡ peers_listed history.acts
-  pub identifiers_are : ssrc ∷ map_list (λ change. change.former) changes ≡ identifiers history.setup history.acts
+-- A participant is where a session is, under the same identifier.
+pub record IsIn (participant : ParticipantValue) (session : Session) : Type 0 where
+  pub setup : participant.presence.setup ≡ session.setup
+  pub changes : participant.changes ≡ session.changes
+  pub life : IsAt participant session.life
 
 -- A participant equals the one computed from a whole history, or *stands at* it.
 pub record StandsAt (participant : ParticipantValue) (history : History) : Type 0 where
   pub is_history : IsHistory history
-  pub setup : participant.presence.setup ≡ setup_now history.setup history.acts
-  pub changes : HasChanged participant.changes participant.presence.setup.ssrc history
-  pub life : IsAt participant (life_at history)
+  pub session : IsIn participant (session_at history)
   pub last : participant.presence.last ≡ last_moment history.acts
-  pub calls : participant.presence.calls ≡ call_count history.acts
+  pub calls : participant.presence.calls ≡ length history.acts
 
 -- one that takes part, under its first identifier
 abbrev pub newcomer : State → ParticipantValue

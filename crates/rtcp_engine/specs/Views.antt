@@ -12,7 +12,7 @@ use Rattle.rtcp_engine.specs.declared.arrival.Arrival.TheVariants.{Rtcp, Rtp}
 use Rattle.rtcp_engine.specs.declared.event.Event.{Event}
 use Rattle.rtcp_engine.specs.declared.event.Event.TheVariants.{ArriveRtcp, ArriveRtp, SentRtp, Tick, Leave}
 use Rattle.rtcp_engine.specs.Setups.{Setup}
-use Rattle.rtcp_engine.specs.Acts.{Act, rtcp_came, rtp_came, EventValue, rtcp_arrived, rtp_arrived, packet_sent, time_passed, leave_asked, IsActOfEvent}
+use Rattle.rtcp_engine.specs.Acts.{Datagram, rtcp, rtp, Act, EventValue, rtcp_arrived, rtp_arrived, packet_sent, time_passed, leave_asked, IsActOfEvent}
 use Rattle.rtcp_engine.specs.Changes.{named_by}
 use Rattle.rtcp_engine.specs.Steps.{OutValue, StepValue, AnswerValue}
 use Rattle.rtcp_engine.specs.States.{PhaseValue, taking_part, leaving, over}
@@ -42,14 +42,14 @@ abbrev pub size_of : Arrival → ℕ
 size_of (Rtcp compound size) = size
 size_of (Rtp head) = 0
 
--- the act of a datagram that was read
-abbrev pub act_of : (moment peer word : ℕ) → Arrival → Act
-act_of moment peer word (Rtcp compound size) = rtcp_came moment peer word size (Ok compound)
-act_of moment peer word (Rtp head) = rtp_came moment peer word (Ok head)
+-- what a datagram says that was read
+abbrev pub datagram_of : Arrival → Datagram
+datagram_of (Rtcp compound size) = rtcp size (Ok compound)
+datagram_of (Rtp head) = rtp (Ok head)
 
 -- A datagram that was read names fewer than 2^16 sources, as it has fewer octets.
 abbrev pub NamesFewer : Arrival → Type 0
-NamesFewer arrival = (moment peer word : ℕ) → length (named_by (act_of moment peer word arrival)) < 2 ^ 16
+NamesFewer arrival = length (named_by (datagram_of arrival)) < 2 ^ 16
 
 -- ---- Answers
 

@@ -1,9 +1,9 @@
 //! A datagram that came, once it is read.
 
-ghost use Rattle.std.specs.Prelude.{◌≡◌, ℕ};
+ghost use Rattle.std.specs.Prelude.{◌≡◌};
 ghost use Rattle.rtcp_engine.specs.Identities.{is_among};
-ghost use Rattle.rtcp_engine.specs.Changes.{names_own, named_by};
-ghost use Rattle.rtcp_engine.specs.Views.{act_of};
+ghost use Rattle.rtcp_engine.specs.Changes.{is_about, named_by};
+ghost use Rattle.rtcp_engine.specs.Views.{datagram_of};
 
 use rtcp_wire::{Compound, RtpHead, facts};
 
@@ -19,7 +19,7 @@ pub(crate) enum Arrival<'a> {
 impl Arrival<'_> {
     /// Whether it is of this source: a fact of its compound is about it, or its RTP packet comes from it.
     pub(crate) fn is_of(&self, ssrc: u32) -> bool
-        ensures { (moment peer word : ℕ) → result ≡ names_own ssrc (act_of moment peer word self.now) }
+        ensures { result ≡ is_about ssrc (datagram_of self.now) }
     {
         match self {
             Arrival::Rtcp(compound, _) => facts(compound).any(|fact| fact.ssrc() == ssrc),
@@ -29,8 +29,7 @@ impl Arrival<'_> {
 
     /// Whether it names this source, a contributing source of a packet included.
     pub(crate) fn names(&self, ssrc: u32) -> bool
-        ensures { (moment peer word : ℕ) →
-            result ≡ is_among (named_by (act_of moment peer word self.now)) ssrc }
+        ensures { result ≡ is_among (named_by (datagram_of self.now)) ssrc }
     {
         match self {
             Arrival::Rtcp(compound, _) => facts(compound).any(|fact| fact.ssrc() == ssrc),

@@ -1,7 +1,7 @@
 //! The changes of a participant's identifier (RFC 3550, 8.2).
 
 ghost use Rattle.std.specs.Prelude.{◌≡◌, ◌∷◌, ◌<◌, [], length, map};
-ghost use Rattle.rtcp_engine.specs.Identities.{is_among, may_change_after};
+ghost use Rattle.rtcp_engine.specs.Identities.{is_among, may_change};
 
 use arrayvec::ArrayVec;
 
@@ -36,7 +36,7 @@ impl Changes {
     /// Whether a datagram of this peer may change the identifier: it brought no change yet, and there were
     /// fewer than eight.
     pub(crate) fn allows(&self, peer: u64) -> bool
-        ensures exact { result ≡ may_change_after (map (λ change. change.peer) self.now.list.items) peer }
+        ensures exact { result ≡ may_change (map (λ change. change.peer) self.now.list.items) peer }
     {
         self.list.len() < MAX_CHANGES && !self.list.iter().any(|change| change.peer == peer)
     }

@@ -11,21 +11,20 @@ ghost use Rattle.rtcp_members.specs.Pending.{EntryRow, last_reported};
 ghost use Rattle.rtcp_report.specs.Traced.{with_blocks};
 ghost use Rattle.rtcp_engine.specs.Setups.{Setup, IsUsable};
 ghost use Rattle.rtcp_engine.specs.Refused.{error_in};
-ghost use Rattle.rtcp_engine.specs.Acts.{Act, IsReading, IsRtpReading, moment_of};
+ghost use Rattle.rtcp_engine.specs.Acts.{Datagram, Act, IsReading, IsRtpReading, moment_of};
 ghost use Rattle.rtcp_engine.specs.OwnStreams.{OwnStep, sending_since};
 ghost use Rattle.rtcp_engine.specs.OwnSending.{IsSendingSince};
 ghost use Rattle.rtcp_engine.specs.Reporting.{extra_item, last_reported_in};
 ghost use Rattle.rtcp_timer.specs.Averages.{IsBetween};
 ghost use Rattle.rtcp_timer.specs.Departures.{last_departure};
 ghost use Rattle.rtcp_engine.specs.Outcomes.{Outcome, timing_of};
-ghost use Rattle.rtcp_engine.specs.Histories.{History};
+ghost use Rattle.rtcp_engine.specs.Histories.{History, life_at, session_at, with_act};
 ghost use Rattle.rtcp_engine.specs.Leaving.{Backoff, present, backing_off, leaving_timing};
-ghost use Rattle.rtcp_engine.specs.Presence.{with_act};
-ghost use Rattle.rtcp_engine.specs.Lives.{life_at};
-ghost use Rattle.rtcp_engine.specs.Answers.{refusal_after, answer_of, followed_by, with_change_of};
-ghost use Rattle.rtcp_engine.specs.Changes.{change_by, is_taken, new_identifier};
+ghost use Rattle.rtcp_engine.specs.Refusals.{refusal_after};
+ghost use Rattle.rtcp_engine.specs.Answers.{answer_of, followed_by};
+ghost use Rattle.rtcp_engine.specs.Changes.{is_taken, new_identifier};
 ghost use Rattle.rtcp_engine.specs.Taken.{IsHistory, NamesFew};
-ghost use Rattle.rtcp_engine.specs.Sent.{reports_in, deciding_interval, is_change, sent_at, handed_out, reports_of, counted_report};
+ghost use Rattle.rtcp_engine.specs.Sent.{reports_in, deciding_interval, sent_at, handed_out, reports_of, counted_report};
 ghost use Rattle.rtcp_engine.specs.Spacing.{newest_moment, AreSpaced, count_within, first_leave, EndsWithBye, HasFewChanges, AllFit};
 ghost use Rattle.rtcp_engine.specs.InTime.{AllInTime};
 ghost use Rattle.rtcp_engine.specs.declared.refusal.Refusal.{Refusal as Reason};
@@ -47,21 +46,21 @@ pub fn usable_is_unrefused()
     ensures { (setup : Setup) → IsUsable setup ↔ (error_in setup ≡ None) }
 {}
 
-/// An act that is refused changes nothing of a history, and one that is taken becomes its newest, after the change
-/// of identifier that it brings, if it does.
+/// An act that is refused changes nothing of a history, and one that is taken becomes its newest.
 pub fn refused_acts_are_forgotten()
     ensures refused { (history : History) (act : Act) (reason : Reason) →
         refusal_after history act ≡ Some reason → followed_by history act ≡ history }
     ensures taken { (history : History) (act : Act) →
         refusal_after history act ≡ None →
-        followed_by history act ≡ with_act (with_change_of (change_by history act) history) act }
+        followed_by history act ≡ with_act history act }
 {}
 
 /// The identifier that a change takes is free, as far as the participant can tell: it is none of its own so far, no
 /// source of its table has it, and the datagram that brings the change does not name it (RFC 3550, 8.2).
 pub fn new_identifiers_are_free()
-    ensures { (history : History) (act : Act) (word : ℕ) → IsHistory history → word < 2 ^ 32 → NamesFew act →
-        is_taken history act (new_identifier word history act) ≡ false }
+    ensures { (history : History) (datagram : Datagram) (word : ℕ) → IsHistory history → word < 2 ^ 32 →
+        NamesFew datagram → let session = session_at history in
+        is_taken session datagram (new_identifier word session datagram) ≡ false }
 {}
 
 /// The participant sends since a moment exactly where its newest packet was sent then, and no check since has
@@ -71,11 +70,11 @@ pub fn own_sending_lasts()
         (sending_since own ≡ Some moment) ↔ IsSendingSince own moment }
 {}
 
-/// What was sent over a session is what its answers handed out, each compound at the moment of its act. (A change
-/// of identifier is no act of a host: it stands in the answer to the datagram that brought it.)
+/// What was sent over a session is what its answers handed out, each compound at the moment of its act.
 pub fn answers_hand_out_compounds()
-    ensures { (history : History) (act : Act) → is_change act ≡ false → sent_at (followed_by history act)
-        ≡ handed_out (moment_of act) (deciding_interval history act) (answer_of history act) ++ sent_at history }
+    ensures { (history : History) (act : Act) → sent_at (followed_by history act)
+        ≡ handed_out (moment_of act) (deciding_interval (session_at history) act) (answer_of history act)
+        ++ sent_at history }
 {}
 
 /// The reports that a session counts, for its minimum interval and for the turns of its extra items, are those

@@ -1,15 +1,14 @@
 //! A participant of a session, up to its leave and through it (RFC 3550, 6.2, 6.3).
 
-ghost use Rattle.std.specs.Prelude.{◌≡◌, ◌↔◌, ◌<◌, List, Result, Some, Err, IfOk, IsTrue, OnErr, is_some, length};
+ghost use Rattle.std.specs.Prelude.{◌≡◌, ◌↔◌, ◌<◌, List, Result, Some, Err, IfOk, IsTrue, OnErr, is_some};
 ghost use Rattle.rtcp_wire.specs.declared.fault.WireFault.{WireFault as Fault};
 ghost use Rattle.rtcp_wire.specs.declared.rtp.fault.RtpFault.{RtpFault as HeadFault};
 ghost use Rattle.rtcp_wire.specs.Values.{RtcpPacket};
 ghost use Rattle.rtcp_wire.specs.RtpHeads.{RtpValue};
 ghost use Rattle.rtcp_engine.specs.declared.config.ConfigError.{ConfigError as Error};
 ghost use Rattle.rtcp_engine.specs.Acts.{rtcp_came, rtp_came, rtp_sent, ticked, left, IsReading, IsRtpReading};
-ghost use Rattle.rtcp_engine.specs.Histories.{History};
-ghost use Rattle.rtcp_engine.specs.Identities.{setup_now};
-ghost use Rattle.rtcp_engine.specs.Lives.{life_at, members_in_life, senders_in_life, next_in_life};
+ghost use Rattle.rtcp_engine.specs.Histories.{History, life_at, setup_at};
+ghost use Rattle.rtcp_engine.specs.Lives.{members_in_life, senders_in_life, next_in_life};
 ghost use Rattle.rtcp_engine.specs.Refused.{error_in};
 ghost use Rattle.rtcp_engine.specs.States.{KeepsCapacity, StandsAt};
 ghost use Rattle.rtcp_engine.specs.InTime.{IsOverdue};
@@ -96,7 +95,7 @@ impl<T: MemberTable> Participant<T> {
     /// The members of the session, this participant included (RFC 3550, 6.2.1): 0 once it has left.
     pub fn members(&self) -> u32
         ensures { (history : History) → StandsAt self.now history →
-            result ≡ members_in_life (setup_now history.setup history.acts) (life_at history) }
+            result ≡ members_in_life (setup_at history) (life_at history) }
     {
         match self.phase {
             Phase::Present => self.presence.member_count(),
@@ -108,7 +107,7 @@ impl<T: MemberTable> Participant<T> {
     /// The members that send RTP packets, this participant included where it does.
     pub fn senders(&self) -> u32
         ensures { (history : History) → StandsAt self.now history →
-            result ≡ senders_in_life (setup_now history.setup history.acts) (life_at history) }
+            result ≡ senders_in_life (setup_at history) (life_at history) }
     {
         match self.phase {
             Phase::Present => self.presence.sender_count(),
@@ -130,7 +129,7 @@ impl<T: MemberTable> Participant<T> {
     /// The SSRC under which the participant takes part, or did last.
     pub fn ssrc(&self) -> u32
         ensures { (history : History) → StandsAt self.now history →
-            result ≡ (setup_now history.setup history.acts).ssrc }
+            result ≡ (setup_at history).ssrc }
     {
         self.presence.ssrc()
     }
@@ -147,7 +146,7 @@ impl<T: MemberTable> Participant<T> {
     /// The first of E1 to E5 and E7 that applies. Then the participant is unchanged.
     pub fn arrive_rtcp(&mut self, now: u64, peer: u64, w: u32, bytes: &[u8]) -> Answer
         ensures takes { (reading : Result (List RtcpPacket) Fault) → IsReading bytes.now reading →
-            Takes self.old (rtcp_came now peer w (length bytes.now) reading) (answer_value result) self.new }
+            Takes self.old (rtcp_came now peer w bytes.now reading) (answer_value result) self.new }
         ensures within { KeepsCapacity self.new.presence }
         ensures refused { OnErr result (self.new ≡ self.old) }
     {

@@ -7,7 +7,7 @@ ghost use Rattle.rtcp_engine.specs.Views.{setup_of};
 ghost use Rattle.rtcp_engine.specs.Outcomes.{Outcome, one_if, member_count as member_count_of, sender_count as sender_count_of, load_of, interval_at};
 ghost use Rattle.rtcp_engine.specs.Taken.{begun};
 ghost use Rattle.rtcp_engine.specs.States.{Agrees, KeepsCapacity, StandsAt, newcomer};
-ghost use Rattle.rtcp_engine.specs.Presence.{call_refusal};
+ghost use Rattle.rtcp_engine.specs.Refusals.{call_refusal};
 
 use crate::config::{Config, ConfigError};
 use crate::own::OwnStream;

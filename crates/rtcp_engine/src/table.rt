@@ -4,7 +4,7 @@ ghost use Rattle.std.specs.Prelude.{◌≡◌, ◌≤◌, ◌<◌, ◌+◌, ◌^
 ghost use Rattle.std.specs.FinMap as map;
 ghost use Rattle.rtcp_wire.specs.Facts.{is_media};
 ghost use Rattle.rtcp_members.specs.Tables.{HasFew, after_facts, counted, members_in};
-ghost use Rattle.rtcp_engine.specs.Histories.{facts_of_csrcs, facts_of_media, media_fact};
+ghost use Rattle.rtcp_engine.specs.Arrivals.{facts_of_csrcs, facts_of_media, media_fact};
 
 use rtcp_members::MemberTable;
 use rtcp_wire::{Fact, Facts, RtpHead};

@@ -1,14 +1,14 @@
 -- A session over a link: which call comes next, and what the participant is told, call by call. Moments are in
 -- microseconds; lists of acts and of calls are newest first.
-use Rattle.std.specs.Prelude.{◌≡◌, ℕ, zero, suc, ◌==◌, if◌then◌else◌, Bool, true, false, List, [], ◌∷◌, length, Option, Some, None, Result, Ok, Err}
+use Rattle.std.specs.Prelude.{◌≡◌, ℕ, zero, suc, ◌==◌, if◌then◌else◌, Bool, true, false, List, [], ◌∷◌, Option, Some, None, Result, Ok, Err}
 use Rattle.rand_core.specs.Stream.{Stream, next_u32}
 use Rattle.rtcp_wire.specs.declared.fault.WireFault.{WireFault}
 use Rattle.rtcp_wire.specs.declared.rtp.fault.RtpFault.{RtpFault}
 use Rattle.rtcp_wire.specs.Values.{RtcpPacket}
 use Rattle.rtcp_wire.specs.RtpHeads.{RtpValue}
 use Rattle.rtcp_engine.specs.Acts.{Act, rtcp_came, rtp_came, ticked, left, IsReading, IsRtpReading}
-use Rattle.rtcp_engine.specs.Histories.{History}
-use Rattle.rtcp_engine.specs.Lives.{life_at, next_in_life}
+use Rattle.rtcp_engine.specs.Histories.{History, life_at}
+use Rattle.rtcp_engine.specs.Lives.{next_in_life}
 use Rattle.rtcp_engine.specs.Steps.{OutValue, AnswerValue}
 use Rattle.rtcp_engine.specs.Answers.{answer_of, followed_by}
 use Rattle.rtcp_serve.specs.declared.link.Port.{Port}
@@ -151,7 +151,7 @@ heard act_of next failure s =
 
 -- the act of a datagram that came to a port
 abbrev pub arrival_at : Reader → Port → (moment peer word : ℕ) → List ℕ → Act
-arrival_at reader RtcpPort moment peer word octets = rtcp_came moment peer word (length octets) (reader.rtcp octets)
+arrival_at reader RtcpPort moment peer word octets = rtcp_came moment peer word octets (reader.rtcp octets)
 arrival_at reader RtpPort moment peer word octets = rtp_came moment peer word (reader.rtp octets)
 
 -- what comes once a port was listened to

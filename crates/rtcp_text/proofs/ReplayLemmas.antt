@@ -25,7 +25,7 @@ use Rattle.rtcp_text.proofs.ClauseLemmas.{Continues, RunLeaves-weaker, IsPrefixB
 
 pub act_exists : (event : EventValue) → (act : Act) × IsActOfEvent event act
 act_exists (rtcp_arrived moment peer word octets) =
-    let found = one_reading-always octets in (rtcp_came moment peer word _ found.0, (found.0, found.1, refl))
+    let found = one_reading-always octets in (rtcp_came moment peer word octets found.0, (found.0, found.1, refl))
 act_exists (rtp_arrived moment peer word octets) =
     let found = one_reading-rtp_always octets in (rtp_came moment peer word found.0, (found.0, found.1, refl))
 act_exists (packet_sent moment timestamp octets) = (rtp_sent moment timestamp octets, refl)
@@ -33,7 +33,7 @@ act_exists (time_passed moment first_word second_word) = (ticked moment first_wo
 act_exists (leave_asked moment word) = (asked_to_leave moment word, refl)
 
 one_act : (event : EventValue) (act act' : Act) → IsActOfEvent event act → IsActOfEvent event act' → act ≡ act'
-one_act (rtcp_arrived moment peer word octets) act act' h k = h.2 ∙ ap (rtcp_came moment peer word _) (one_reading-once octets h.0 k.0 h.1 k.1) ∙ sym k.2
+one_act (rtcp_arrived moment peer word octets) act act' h k = h.2 ∙ ap (rtcp_came moment peer word octets) (one_reading-once octets h.0 k.0 h.1 k.1) ∙ sym k.2
 one_act (rtp_arrived moment peer word octets) act act' h k = h.2 ∙ ap (rtp_came moment peer word) (one_reading-rtp_once octets h.0 k.0 h.1 k.1) ∙ sym k.2
 one_act (packet_sent moment timestamp octets) act act' h k = h ∙ sym k
 one_act (time_passed moment first_word second_word) act act' h k = h ∙ sym k

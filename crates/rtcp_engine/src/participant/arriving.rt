@@ -1,18 +1,15 @@
 //! What a participant does with a datagram that it takes: it may change its identifier first (RFC 3550, 8.2).
 
 ghost use Rattle.std.specs.Prelude.{◌≡◌, ◌≤◌, ◌<◌, ◌-◌, ◌^◌, ℕ, None, length, option_map, true, OnErr};
-ghost use Rattle.rtcp_engine.specs.Acts.{renamed};
-ghost use Rattle.rtcp_engine.specs.Answers.{out_at};
-ghost use Rattle.rtcp_engine.specs.Changes.{is_taken as is_taken_of, names_own, new_identifier};
-ghost use Rattle.rtcp_engine.specs.Histories.{History};
-ghost use Rattle.rtcp_engine.specs.Identities.{identifiers, is_among};
+ghost use Rattle.rtcp_engine.specs.Acts.{arrived};
+ghost use Rattle.rtcp_engine.specs.Changes.{Session, changed_to, identifiers, is_about, is_taken as is_taken_of, new_identifier};
+ghost use Rattle.rtcp_engine.specs.Histories.{History, session_at};
+ghost use Rattle.rtcp_engine.specs.Identities.{is_among};
 ghost use Rattle.rtcp_engine.specs.Leaving.{Life};
-ghost use Rattle.rtcp_engine.specs.Lives.{step_into};
-ghost use Rattle.rtcp_engine.specs.Presence.{with_act};
+ghost use Rattle.rtcp_engine.specs.Lives.{own_bye, step_into};
 ghost use Rattle.rtcp_engine.specs.Promises.{Takes};
-ghost use Rattle.rtcp_engine.specs.States.{Acts, Admits, IsAt, KeepsCapacity, StandsAt, over, refusal_by};
-ghost use Rattle.rtcp_engine.specs.Taken.{WasTaken};
-ghost use Rattle.rtcp_engine.specs.Views.{NamesFewer, act_of, answer_value, out_value, size_of, step_value};
+ghost use Rattle.rtcp_engine.specs.States.{Acts, Admits, IsAt, IsIn, KeepsCapacity, StandsAt, over, refusal_by};
+ghost use Rattle.rtcp_engine.specs.Views.{NamesFewer, answer_value, datagram_of, out_value, size_of, step_value};
 ghost use Rattle.rtcp_members.specs.Tables.{HasFew};
 
 use super::{Participant, Phase};
@@ -47,7 +44,7 @@ impl<T: MemberTable> Participant<T> {
         requires in_order { Admits self.old.presence now }
         requires size { size_of arrival.now ≤ 65535 }
         requires few { NamesFewer arrival.now }
-        ensures takes { Takes self.old (act_of now peer w arrival.now) (answer_value result) self.new }
+        ensures takes { Takes self.old (arrived now peer w (datagram_of arrival.now)) (answer_value result) self.new }
         ensures within { KeepsCapacity self.new.presence }
         ensures refused { OnErr result (self.new ≡ self.old) }
     {
@@ -62,12 +59,12 @@ impl<T: MemberTable> Participant<T> {
     /// Takes a datagram that names the participant's SSRC, after a change of that, or refuses it.
     #[cold]
     fn arrive_as_own(&mut self, now: u64, peer: u64, w: u32, arrival: &Arrival<'_>) -> Answer
-        requires own { names_own self.old.presence.setup.ssrc (act_of now peer w arrival.now) ≡ true }
+        requires own { is_about self.old.presence.setup.ssrc (datagram_of arrival.now) ≡ true }
         requires admitted { refusal_by now self.old ≡ None }
         requires in_order { Admits self.old.presence now }
         requires size { size_of arrival.now ≤ 65535 }
         requires few { NamesFewer arrival.now }
-        ensures takes { Takes self.old (act_of now peer w arrival.now) (answer_value result) self.new }
+        ensures takes { Takes self.old (arrived now peer w (datagram_of arrival.now)) (answer_value result) self.new }
         ensures within { KeepsCapacity self.new.presence }
         ensures refused { OnErr result (self.new ≡ self.old) }
     {
@@ -75,7 +72,7 @@ impl<T: MemberTable> Participant<T> {
             return Err(Refusal::OwnSsrc);
         }
         let ssrc = self.free_ssrc(w, arrival);
-        let out = self.change(now, peer, ssrc);
+        let out = self.change(peer, ssrc);
         self.take_call(now);
         self.take(now, arrival);
         let mut step = self.step(out);
@@ -87,9 +84,8 @@ impl<T: MemberTable> Participant<T> {
     /// before, nor by a source of its table, nor in the datagram.
     fn free_ssrc(&self, w: u32, arrival: &Arrival<'_>) -> u32
         requires few { NamesFewer arrival.now }
-        ensures { (history : History) (now peer : ℕ) → StandsAt self.now history →
-            (self.now.phase ≡ over → ⊥) →
-            result ≡ new_identifier w history (act_of now peer w arrival.now) }
+        ensures { (history : History) → StandsAt self.now history → (self.now.phase ≡ over → ⊥) →
+            result ≡ new_identifier w (session_at history) (datagram_of arrival.now) }
     {
         'tries: for offset in 0..MAX_TRIES {
             let ssrc = w.wrapping_add(offset);
@@ -102,40 +98,35 @@ impl<T: MemberTable> Participant<T> {
 
     /// Whether a source has this SSRC, as far as the participant knows, or the datagram names it.
     fn is_taken(&self, ssrc: u32, arrival: &Arrival<'_>) -> bool
-        ensures { (history : History) (now peer word : ℕ) → StandsAt self.now history →
-            (self.now.phase ≡ over → ⊥) →
-            result ≡ is_taken_of history (act_of now peer word arrival.now) ssrc }
+        ensures { (session : Session) → IsIn self.now session → (self.now.phase ≡ over → ⊥) →
+            result ≡ is_taken_of session (datagram_of arrival.now) ssrc }
     {
         self.is_own(ssrc) || self.presence.knows(ssrc) || arrival.names(ssrc)
     }
 
     /// Whether this SSRC is the participant's, or was.
     fn is_own(&self, ssrc: u32) -> bool
-        ensures { (history : History) → StandsAt self.now history →
-            result ≡ is_among (identifiers history.setup history.acts) ssrc }
+        ensures { (session : Session) → IsIn self.now session →
+            result ≡ is_among (identifiers session) ssrc }
     {
         self.presence.ssrc() == ssrc || self.changes.gave_up(ssrc)
     }
 
     /// Takes another SSRC, as a datagram of this peer names the present one. The BYE of that one is to be sent,
     /// if something was sent under it.
-    fn change(&mut self, now: u64, peer: u64, ssrc: u32) -> Option<Out>
-        requires order { self.old.presence.last ≤ now }
-        requires moment { now ≤ 2 ^ 50 }
+    fn change(&mut self, peer: u64, ssrc: u32) -> Option<Out>
         requires room { length self.old.changes < 8 }
         requires present { self.old.phase ≡ over → ⊥ }
-        ensures out { (history : History) → StandsAt self.old history →
-            option_map out_value result ≡ out_at history (renamed now peer ssrc) }
-        ensures stands { (history : History) → StandsAt self.old history →
-            WasTaken history.setup history.word history.acts (renamed now peer ssrc) →
-            StandsAt self.new (with_act history (renamed now peer ssrc)) }
-        ensures phase { self.new.phase ≡ self.old.phase }
-        ensures last { self.new.presence.last ≡ now }
+        ensures out { (session : Session) → IsIn self.old session →
+            option_map out_value result ≡ own_bye session.setup session.life }
+        ensures new { (session : Session) → IsIn self.old session →
+            IsIn self.new (changed_to (record { peer = peer; ssrc = ssrc }) session) }
+        ensures last { self.new.presence.last ≡ self.old.presence.last }
         ensures calls { self.new.presence.calls ≡ self.old.presence.calls }
         ensures within { KeepsCapacity self.new.presence }
     {
         self.changes.add(peer, self.presence.ssrc());
-        self.presence.rename(now, ssrc)
+        self.presence.rename(ssrc)
     }
 
     /// Takes a datagram under the present SSRC: nothing of it counts in a backoff but BYE packets.
@@ -144,7 +135,8 @@ impl<T: MemberTable> Participant<T> {
         requires size { size_of arrival.now ≤ 65535 }
         requires reports { self.old.presence.reports < self.old.presence.calls }
         requires few { HasFew (self.old.presence.calls - 1) self.old.presence.table }
-        ensures new { (peer word : ℕ) → Acts self.old self.new (act_of now peer word arrival.now) None }
+        ensures new { (peer word : ℕ) →
+            Acts self.old self.new (arrived now peer word (datagram_of arrival.now)) None }
         ensures within { KeepsCapacity self.new.presence }
     {
         match self.phase {

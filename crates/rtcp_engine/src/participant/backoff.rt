@@ -2,7 +2,7 @@
 
 ghost use Rattle.std.specs.Prelude.{◌≡◌, ◌≤◌, ◌<◌, ◌-◌, ◌^◌, ℕ, None, Ok, option_map};
 ghost use Rattle.rtcp_members.specs.Tables.{HasFew};
-ghost use Rattle.rtcp_engine.specs.Acts.{left, rtcp_came, rtp_sent, ticked};
+ghost use Rattle.rtcp_engine.specs.Acts.{arrived, left, rtcp, rtp_sent, ticked};
 ghost use Rattle.rtcp_engine.specs.Lives.{bye_out};
 ghost use Rattle.rtcp_engine.specs.Reporting.{bye_octets};
 ghost use Rattle.rtcp_engine.specs.States.{Acts, Admits, KeepsCapacity, called, leaving, taking_part};
@@ -91,7 +91,7 @@ impl<T: MemberTable> Participant<T> {
         requires size { size ≤ 65535 }
         requires within { KeepsCapacity self.old.presence }
         ensures new { (now peer word : ℕ) →
-            Acts self.old self.new (rtcp_came now peer word size (Ok compound.now)) None }
+            Acts self.old self.new (arrived now peer word (rtcp size (Ok compound.now))) None }
         ensures within { KeepsCapacity self.new.presence }
     {
         let byes = count_byes(compound.packets());

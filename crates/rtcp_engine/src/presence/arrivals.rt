@@ -1,10 +1,10 @@
 //! What a participant is told of: datagrams that come, and packets that its host sends.
 
-ghost use Rattle.std.specs.Prelude.{◌≡◌, ◌≤◌, ◌<◌, ◌-◌, ◌^◌, ℕ};
+ghost use Rattle.std.specs.Prelude.{◌≡◌, ◌≤◌, ◌<◌, ◌-◌, ◌^◌};
 ghost use Rattle.rtcp_members.specs.Tables.{HasFew};
-ghost use Rattle.rtcp_engine.specs.Histories.{after, with_compound, with_facts_of, with_media, with_packet};
+ghost use Rattle.rtcp_engine.specs.Arrivals.{with_compound, with_datagram, with_facts_of, with_media, with_packet};
 ghost use Rattle.rtcp_engine.specs.States.{Admits, Does, KeepsCapacity, with_call};
-ghost use Rattle.rtcp_engine.specs.Views.{act_of, size_of};
+ghost use Rattle.rtcp_engine.specs.Views.{datagram_of, size_of};
 
 use super::Presence;
 use crate::arrival::Arrival;
@@ -39,8 +39,7 @@ impl<T: MemberTable> Presence<T> {
         requires size { size_of arrival.now ≤ 65535 }
         requires reports { self.old.reports < self.old.calls }
         requires few { HasFew (self.old.calls - 1) self.old.table }
-        ensures new { (peer word : ℕ) →
-            Does self.old self.new (λ setup. after setup (act_of now peer word arrival.now)) }
+        ensures new { Does self.old self.new (λ setup. with_datagram setup now (datagram_of arrival.now)) }
         ensures within { KeepsCapacity self.new }
     {
         match arrival {

@@ -1,6 +1,6 @@
 //! What a participant does as it changes its identifier (RFC 3550, 8.2).
 
-ghost use Rattle.std.specs.Prelude.{◌≡◌, ◌≤◌, ◌^◌, is_some, option_map};
+ghost use Rattle.std.specs.Prelude.{◌≡◌, is_some, option_map};
 ghost use Rattle.std.specs.FinMap as map;
 ghost use Rattle.rtcp_engine.specs.Lives.{bye_out};
 ghost use Rattle.rtcp_engine.specs.States.{KeepsCapacity, own_bye_in, renamed, with_own_bye};
@@ -25,19 +25,16 @@ impl<T: MemberTable> Presence<T> {
         self.table.holds(ssrc)
     }
 
-    /// Gives up the SSRC for another at the moment `now`. If something was sent under the old one, it hands out
-    /// a BYE of that, which moves the average. The own stream's counts begin anew, and nothing else does.
-    pub(crate) fn rename(&mut self, now: u64, ssrc: u32) -> Option<Out>
-        requires order { self.old.last ≤ now }
-        requires moment { now ≤ 2 ^ 50 }
+    /// Gives up the SSRC for another. If something was sent under the old one, it hands out a BYE of that, which
+    /// moves the average. The own stream's counts begin anew, and nothing else does.
+    pub(crate) fn rename(&mut self, ssrc: u32) -> Option<Out>
         ensures bye { option_map out_value result ≡ option_map bye_out (own_bye_in self.old) }
-        ensures new { self.new ≡ renamed now ssrc self.old }
+        ensures new { self.new ≡ renamed ssrc self.old }
         ensures within { KeepsCapacity self.new }
     {
         let bye = self.bye_if_heard();
         self.config.ssrc = ssrc;
         self.own.count_anew();
-        self.last = now;
         bye
     }
 

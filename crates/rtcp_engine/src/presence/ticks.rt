@@ -5,7 +5,7 @@ ghost use Rattle.rtcp_wire.specs.Writing.{written_all};
 ghost use Rattle.rtcp_members.specs.Pending.{after_blocks, last_reported as last_of};
 ghost use Rattle.rtcp_report.specs.Sizes.{reported_rows, report_of};
 ghost use Rattle.rtcp_engine.specs.Setups.{IsUsable};
-ghost use Rattle.rtcp_engine.specs.Presence.{report_out};
+ghost use Rattle.rtcp_engine.specs.Lives.{report_out};
 ghost use Rattle.rtcp_engine.specs.Views.{setup_of, out_value};
 ghost use Rattle.rtcp_engine.specs.States.{Agrees, Does, KeepsCapacity};
 ghost use Rattle.rtcp_engine.specs.Outcomes.{Outcome, receiver_interval_at};

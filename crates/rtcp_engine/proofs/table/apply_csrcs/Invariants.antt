@@ -1,6 +1,6 @@
 use Rattle.std.proofs.Common.{◌≡◌}
 use Rattle.rtcp_members.specs.Tables.{after_facts}
-use Rattle.rtcp_engine.specs.Histories.{facts_of_csrcs}
+use Rattle.rtcp_engine.specs.Arrivals.{facts_of_csrcs}
 use Rattle.rtcp_engine.proofs.table.apply_csrcs.Given as goal
 
 -- the sources that are left bring it to what all bring it to

@@ -1,38 +1,37 @@
-use Rattle.std.proofs.Common.{◌≡◌, ◌∙◌, ℕ, true, List, None, map, ap, sym, subst}
+use Rattle.std.proofs.Common.{◌≡◌, ◌∙◌, ℕ, true, List, Option, Some, None, map, option_map, ap, sym, subst}
 use Rattle.rtcp_engine.specs.declared.changes.Change.{Change}
 use Rattle.rtcp_engine.specs.declared.refusal.Refusal.TheVariants.{OwnSsrc}
-use Rattle.rtcp_engine.specs.Acts.{Act, renamed}
-use Rattle.rtcp_engine.specs.Changes.{names_own}
-use Rattle.rtcp_engine.specs.Histories.{History}
-use Rattle.rtcp_engine.specs.Identities.{may_change, may_change_after, setup_now}
-use Rattle.rtcp_engine.specs.Lives.{life_at}
-use Rattle.rtcp_engine.specs.Presence.{with_act}
+use Rattle.rtcp_engine.specs.Acts.{Datagram, arrived}
+use Rattle.rtcp_engine.specs.Changes.{NewIdentifier, changed_by, changing_peers, is_about}
+use Rattle.rtcp_engine.specs.Histories.{History, session_at, with_act}
+use Rattle.rtcp_engine.specs.Identities.{may_change}
+use Rattle.rtcp_engine.specs.Lives.{step_into}
 use Rattle.rtcp_engine.specs.Setups.{Setup}
-use Rattle.rtcp_engine.specs.States.{Acts, ParticipantValue, StandsAt, called}
-use Rattle.rtcp_engine.specs.Views.{act_of, step_value}
-use Rattle.rtcp_engine.specs.Steps.{StepValue}
-use Rattle.rtcp_engine.proofs.Acting.{acted_stands, acted_step, refuses}
-use Rattle.rtcp_engine.proofs.Arriving.{Changing, changed_answer, changed_history, changing, comes, has_words, moment_is, own_refused}
+use Rattle.rtcp_engine.specs.States.{Acts, IsIn, ParticipantValue, StandsAt}
+use Rattle.rtcp_engine.specs.Steps.{OutValue}
+use Rattle.rtcp_engine.specs.Views.{datagram_of, out_value, step_value}
+use Rattle.rtcp_engine.proofs.Acting.{Takes, acted_stands, acted_step, answered, refuses}
+use Rattle.rtcp_engine.proofs.Arriving.{changing, refused_as_own}
 use Rattle.rtcp_engine.proofs.Bounded.{bounds_after}
-use Rattle.rtcp_engine.proofs.LifeLemmas.{admitted_call}
+use Rattle.rtcp_engine.proofs.Changing.{or_none}
+use Rattle.rtcp_engine.proofs.LifeLemmas.{is_there}
+use Rattle.rtcp_engine.proofs.Standing.{taken_history}
 use Rattle.rtcp_engine.proofs.participant.Participant.arrive_as_own.Goals as goal
 
--- whose identifier an act names, as the history has it
-own_named : (p : ParticipantValue) (history : History) (act : Act) → StandsAt p history → names_own p.presence.setup.ssrc act ≡ true → names_own (setup_now history.setup history.acts).ssrc act ≡ true
-own_named p history act h named = sym (ap (λ (s : Setup). names_own s.ssrc act) h.setup) ∙ named
+-- what a datagram is about, and whose may change the identifier, as the history has it
+is_own : (p : ParticipantValue) (h : History) (datagram : Datagram) → StandsAt p h → is_about p.presence.setup.ssrc datagram ≡ true → is_about (session_at h).setup.ssrc datagram ≡ true
+is_own p h datagram stands own = sym (ap (λ (s : Setup). is_about s.ssrc datagram) stands.session.setup) ∙ own
 
-may_is : (p : ParticipantValue) (history : History) (peer : ℕ) → StandsAt p history → may_change_after (map (λ (change : Change). change.peer) p.changes) peer ≡ may_change peer history.acts
-may_is p history peer h = ap (λ (listed : List ℕ). may_change_after listed peer) h.changes.peers
+may_is : (p : ParticipantValue) (h : History) (peer : ℕ) → StandsAt p h → may_change (map (λ (change : Change). change.peer) p.changes) peer ≡ may_change (changing_peers (session_at h)) peer
+may_is p h peer stands = ap (λ (changes : List Change). may_change (map (λ (change : Change). change.peer) changes) peer) stands.session.changes
 
 pub returns-then-not-allows-clause-takes : goal.returns-then-not-allows-clause-takes
 returns-then-not-allows-clause-takes g c =
     let p = c.args.self.now in
     let arrival = c.args.arrival.now in
-    let act = act_of c.args.now c.args.peer c.args.w arrival in
-    let listed = sym (ap (λ (x : ParticipantValue). may_change_after (map (λ (change : Change). change.peer) x.changes) c.args.peer) c.self.view_is) ∙ sym c.allows.ensures.exact ∙ c.if-not-allows.true in
-    refuses p act OwnSsrc
-    (λ history h. own_refused p history c.args.now c.args.peer c.args.w arrival h (admitted_call c.args.now p c.requires.admitted) (own_named p history act h c.requires.own) (sym (may_is p history c.args.peer h) ∙ listed))
-    (has_words c.args.now c.args.peer c.args.w arrival c.ranges.w.fits (c.requires.few c.args.now c.args.peer c.args.w)) (comes c.args.now c.args.peer c.args.w arrival).told
+    let listed = sym (ap (λ (x : ParticipantValue). may_change (map (λ (change : Change). change.peer) x.changes) c.args.peer) c.self.view_is) ∙ sym c.allows.ensures.exact ∙ c.if-not-allows.true in
+    refuses p (arrived c.args.now c.args.peer c.args.w (datagram_of arrival)) OwnSsrc
+    (λ h stands. refused_as_own p h c.args.now c.args.peer c.args.w arrival stands c.requires.admitted (is_own p h (datagram_of arrival) stands c.requires.own) (sym (may_is p h c.args.peer stands) ∙ listed)) c.ranges.w.fits
 
 pub free_ssrc-ssrc-requires : goal.free_ssrc-ssrc-requires
 free_ssrc-ssrc-requires g c = record { few = c.requires.few }
@@ -43,25 +42,20 @@ returns-clause-takes g c =
     let mid = c.change-out.new.self in
     let q = c.take.new.self in
     let arrival = c.args.arrival.now in
-    let act = act_of c.args.now c.args.peer c.args.w arrival in
-    let ssrc = c.free_ssrc-ssrc.result in
-    let change = renamed c.args.now c.args.peer ssrc in
-    let admitted = admitted_call c.args.now p c.requires.admitted in
-    let words = has_words c.args.now c.args.peer c.args.w arrival c.ranges.w.fits (c.requires.few c.args.now c.args.peer c.args.w) in
-    let told = (comes c.args.now c.args.peer c.args.w arrival).told in
-    let listed = sym (ap (λ (x : ParticipantValue). may_change_after (map (λ (change : Change). change.peer) x.changes) c.args.peer) c.self.view_is) ∙ sym c.allows.ensures.exact ∙ c.if-not-allows.false in
-    let changes : (history : History) → StandsAt p history → Changing history act c.args.now c.args.peer ssrc = λ history h.
-    changing p history c.args.now c.args.peer c.args.w ssrc arrival h admitted (own_named p history act h c.requires.own) (sym (may_is p history c.args.peer h) ∙ listed) words (c.free_ssrc-ssrc.ensures history c.args.now c.args.peer h admitted.there) in
-    let there : (history : History) → StandsAt p history → StandsAt mid (with_act history change) = λ history h. c.change-out.ensures.stands history h (changes history h).was in
-    let call = c.take_call.ensures.new ∙ ap (λ (m : ℕ). called m mid) (sym (moment_is c.args.now c.args.peer c.args.w arrival)) in
-    let acts = subst (λ (x : ParticipantValue). Acts x q act None) call (c.take.ensures.new c.args.peer c.args.w) in
-    let after : (history : History) → StandsAt p history → StandsAt q (with_act (with_act history change) act) = λ history h. acted_stands (with_act history change) (there history h) acts (changes history h).again words told in
-    let step : StepValue = record (step_value c.step-step.result) { out = None } in
+    let act = arrived c.args.now c.args.peer c.args.w (datagram_of arrival) in
+    let new : NewIdentifier = record { peer = c.args.peer; ssrc = c.free_ssrc-ssrc.result } in
+    let bye = option_map out_value c.change-out.result in
+    let listed = sym (ap (λ (x : ParticipantValue). may_change (map (λ (change : Change). change.peer) x.changes) c.args.peer) c.self.view_is) ∙ sym c.allows.ensures.exact ∙ c.if-not-allows.false in
+    let changes : (h : History) → StandsAt p h → Takes h act (Some new) = λ h stands.
+    changing p h c.args.now c.args.peer c.args.w new.ssrc arrival stands c.requires.admitted (is_own p h (datagram_of arrival) stands c.requires.own) (sym (may_is p h c.args.peer stands) ∙ listed)
+    (c.free_ssrc-ssrc.ensures h stands (is_there c.args.now p c.requires.admitted)) in
+    let there : (h : History) → StandsAt p h → IsIn mid (changed_by (Some new) (session_at h)) = λ h stands. c.change-out.ensures.new (session_at h) stands.session in
+    let acts = subst (λ (x : ParticipantValue). Acts x q act None) c.take_call.ensures.new (c.take.ensures.new c.args.peer c.args.w) in
+    let after : (h : History) → StandsAt p h → StandsAt q (with_act h act) = λ h stands. acted_stands h (Some new) stands (changes h stands) c.ranges.w.fits (there h stands) c.change-out.ensures.calls acts in
     record {
-      answer = λ history h.
-          changed_answer history act c.args.now c.args.peer ssrc step (step_value c.step-step.result).out (changes history h)
-          (ap (λ (x : StepValue). x.out) (c.step-step.ensures (life_at (with_act (with_act history change) act)) (after history h).life) ∙ c.change-out.ensures.out history h)
-          (acted_step (with_act history change) step (there history h) acts (after history h) (λ life at. ap (λ (x : StepValue). record x { out = None }) (c.step-step.ensures life at)));
-      stands = λ history h. subst (StandsAt q) (changed_history history act c.args.now c.args.peer ssrc (changes history h)) (after history h);
-      bounded = λ history h. bounds_after history act told words h.is_history;
+      answer = λ h stands. answered h act _ (changes h stands).taken
+          (acted_step h (Some new) bye (step_value c.step-step.result) (changes h stands) (there h stands) acts (after h stands) (c.change-out.ensures.out (session_at h) stands.session)
+          (λ life at. c.step-step.ensures life at ∙ ap (λ (out : Option OutValue). step_into q.presence.setup out life) (sym (or_none bye))));
+      stands = λ h stands. subst (StandsAt q) (taken_history h act (changes h stands).taken) (after h stands);
+      bounded = λ h stands. bounds_after h act c.ranges.w.fits stands.is_history;
     }

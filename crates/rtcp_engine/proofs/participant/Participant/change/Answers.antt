@@ -2,21 +2,21 @@ use Rattle.std.proofs.Common.{◌≡◌, ◌∙◌, ◌∷◌, option_map, ap}
 use Rattle.rtcp_engine.specs.Lives.{bye_out}
 use Rattle.rtcp_engine.specs.States.{ParticipantValue, own_bye_in, renamed}
 use Rattle.rtcp_engine.specs.Views.{phase_value}
-use Rattle.rtcp_engine.proofs.Renaming.{renamed_out, renamed_stands}
+use Rattle.rtcp_engine.proofs.Renaming.{renamed_is_in, renamed_out}
 use Rattle.rtcp_engine.proofs.participant.Participant.change.Goals as goal
 
 pub returns-clause-out : goal.returns-clause-out
-returns-clause-out g c history h =
+returns-clause-out g c session h =
     c.rename.ensures.bye ∙ ap (λ (x : ParticipantValue). option_map bye_out (own_bye_in x.presence)) c.self.view_is
-    ∙ renamed_out c.args.self.now history c.args.now c.args.peer c.args.ssrc h c.requires.present
+    ∙ renamed_out c.args.self.now session.setup session.life h.life c.requires.present h.setup
 
-pub returns-clause-stands : goal.returns-clause-stands
-returns-clause-stands g c history h was =
+pub returns-clause-new : goal.returns-clause-new
+returns-clause-new g c session h =
     let p = c.args.self.now in
     let q : ParticipantValue = record { presence = c.rename.new.self; phase = phase_value c.self.inside.phase; changes = c.add.new.self.list.items } in
     let present : c.ssrc.result ≡ p.presence.setup.ssrc = c.ssrc.ensures ∙ ap (λ (x : ParticipantValue). x.presence.setup.ssrc) c.self.view_is in
     let changes : q.changes ≡ record { peer = c.args.peer; former = p.presence.setup.ssrc } ∷ p.changes =
     c.add.ensures ∙ (λ i. record { peer = c.args.peer; former = present i } ∷ (c.self.view_is i).changes) in
-    renamed_stands p q history c.args.now c.args.peer c.args.ssrc h c.requires.present was c.ranges.ssrc.fits
-    (c.rename.ensures.new ∙ ap (λ (x : ParticipantValue). renamed c.args.now c.args.ssrc x.presence) c.self.view_is)
+    renamed_is_in p q session (record { peer = c.args.peer; ssrc = c.args.ssrc }) h c.requires.present
+    (c.rename.ensures.new ∙ ap (λ (x : ParticipantValue). renamed c.args.ssrc x.presence) c.self.view_is)
     (ap (λ (x : ParticipantValue). x.phase) c.self.view_is) changes

@@ -1,12 +1,12 @@
 use Rattle.std.proofs.Common.{◌≡◌, ℕ, ◌+◌, ◌%◌, ◌^◌, ◌<◌, true}
 use Rattle.rtcp_engine.specs.Changes.{is_taken}
-use Rattle.rtcp_engine.specs.Histories.{History}
+use Rattle.rtcp_engine.specs.Histories.{History, session_at}
 use Rattle.rtcp_engine.specs.States.{StandsAt, over}
-use Rattle.rtcp_engine.specs.Views.{act_of}
+use Rattle.rtcp_engine.specs.Views.{datagram_of}
 use Rattle.rtcp_engine.proofs.participant.Participant.free_ssrc.Given as goal
 
 -- all that were tried are taken
 abbrev pub invariant-tries : goal.invariant-tries
 invariant-tries g l =
-    (history : History) (now peer : ℕ) → StandsAt l.fn.self history → (l.fn.self.phase ≡ over → ⊥) →
-    (place : ℕ) → place < l.offset → is_taken history (act_of now peer l.fn.w l.fn.arrival) ((l.fn.w + place) % 2 ^ 32) ≡ true
+    (history : History) → StandsAt l.fn.self history → (l.fn.self.phase ≡ over → ⊥) →
+    (place : ℕ) → place < l.offset → is_taken (session_at history) (datagram_of l.fn.arrival) ((l.fn.w + place) % 2 ^ 32) ≡ true

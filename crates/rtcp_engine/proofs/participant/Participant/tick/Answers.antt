@@ -9,13 +9,13 @@ use Rattle.rtcp_engine.proofs.participant.Participant.tick.Goals as goal
 pub returns-in-Some-clause-takes : goal.returns-in-Some-clause-takes
 returns-in-Some-clause-takes g c =
     let act = ticked c.args.now c.args.w1 c.args.w2 in
-    refuses c.args.self.now act c.in-Some.refusal (call_refused_by c.args.self.now act c.in-Some.refusal (sym c.refusal.ensures.exact ∙ c.in-Some.is)) (c.ranges.w1.fits, c.ranges.w2.fits) refl
+    refuses c.args.self.now act c.in-Some.refusal (call_refused_by c.args.self.now act c.in-Some.refusal (sym c.refusal.ensures.exact ∙ c.in-Some.is)) (c.ranges.w1.fits, c.ranges.w2.fits)
 
 pub returns-clause-takes : goal.returns-clause-takes
 returns-clause-takes g c =
     let act = ticked c.args.now c.args.w1 c.args.w2 in
-    takes _ (plain_call c.args.self.now act (sym c.refusal.ensures.exact ∙ c.in_default.is) (λ setup earlier. refl) (λ history. refl) (λ setup word earlier none. none))
-    (subst (λ (p : ParticipantValue). Acts p c.take_tick-out.new.self act (option_map out_value c.take_tick-out.result)) c.take_call.ensures.new c.take_tick-out.ensures.new) c.step.ensures (c.ranges.w1.fits, c.ranges.w2.fits) refl
+    takes _ (plain_call c.args.self.now act (sym c.refusal.ensures.exact ∙ c.in_default.is) (λ session. refl) (λ session. refl))
+    (subst (λ (p : ParticipantValue). Acts p c.take_tick-out.new.self act (option_map out_value c.take_tick-out.result)) c.take_call.ensures.new c.take_tick-out.ensures.new) c.step.ensures (c.ranges.w1.fits, c.ranges.w2.fits)
 
 pub returns-clause-not_too_late : goal.returns-clause-not_too_late
 returns-clause-not_too_late g c history h late =

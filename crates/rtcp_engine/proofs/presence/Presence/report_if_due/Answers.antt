@@ -1,5 +1,5 @@
 use Rattle.std.proofs.Common.{◌∙◌, ap, sym, option_map}
-use Rattle.rtcp_engine.specs.Presence.{report_out}
+use Rattle.rtcp_engine.specs.Lives.{report_out}
 use Rattle.rtcp_engine.proofs.Doing.{puts_off, reports_now, hands_out}
 use Rattle.rtcp_engine.proofs.presence.Presence.report_if_due.Goals as goal
 

@@ -1,5 +1,5 @@
 use Rattle.std.proofs.Common.{◌∙◌, ap, option_map}
-use Rattle.rtcp_engine.specs.Presence.{report_out}
+use Rattle.rtcp_engine.specs.Lives.{report_out}
 use Rattle.rtcp_engine.specs.Setups.{Setup}
 use Rattle.rtcp_engine.specs.Ticks.{checked, report_due}
 use Rattle.rtcp_engine.proofs.Doing.{both}

@@ -1,0 +1,85 @@
+-- What the acts of a session make of it, as long as the participant takes part.
+use Rattle.std.specs.Prelude.{ℕ, ◌==◌, not, Bool, List, [], ◌∷◌, map, filter, length, if◌then◌else◌, Result, Ok, Err}
+use Rattle.rtcp_wire.specs.declared.fact.Fact.{Fact}
+use Rattle.rtcp_wire.specs.declared.fact.Fact.TheVariants.{Heard, Media}
+use Rattle.rtcp_wire.specs.declared.fault.WireFault.{WireFault}
+use Rattle.rtcp_wire.specs.declared.rtp.fault.RtpFault.{RtpFault}
+use Rattle.rtcp_wire.specs.Values.{RtcpPacket}
+use Rattle.rtcp_wire.specs.Facts.{facts_of}
+use Rattle.rtcp_wire.specs.RtpHeads.{RtpValue}
+use Rattle.rtcp_members.specs.Traces.{with_facts}
+use Rattle.rtcp_members.specs.Entries.{counted_at}
+use Rattle.rtcp_engine.specs.Setups.{Setup}
+use Rattle.rtcp_engine.specs.Acts.{Datagram, rtcp, rtp, Act, arrived, rtp_sent, ticked, left}
+use Rattle.rtcp_engine.specs.OwnStreams.{packet_sent, counts_anew, has_sent}
+use Rattle.rtcp_engine.specs.Reporting.{bye_octets}
+use Rattle.rtcp_engine.specs.Outcomes.{Outcome}
+use Rattle.rtcp_engine.specs.Ticks.{with_recount, after_tick}
+
+-- ---- Arrivals
+
+-- The facts of a compound that came (RFC 3550, 6.3.3, 6.3.7). It moves the average, and members may have
+-- departed.
+abbrev pub with_facts_of : (t size : ℕ) → List RtcpPacket → Outcome → Outcome
+with_facts_of t size packets outcome =
+    record outcome { trace = with_facts (facts_of packets) t outcome.trace; sizes = size ∷ outcome.sizes }
+
+abbrev pub with_compound : Setup → (t size : ℕ) → List RtcpPacket → Outcome → Outcome
+with_compound setup t size packets outcome = with_recount setup t (with_facts_of t size packets outcome)
+
+abbrev pub media_fact : RtpValue → Fact
+media_fact head = Media head.ssrc head.sequence head.timestamp
+
+-- what the contributing sources give, but for the participant itself
+abbrev pub facts_of_csrcs : (own : ℕ) → (csrcs : List ℕ) → List Fact
+facts_of_csrcs own csrcs = map Heard (filter (λ ssrc. not (ssrc == own)) csrcs)
+
+-- The facts of an RTP packet that came (6.3.3): the packet, and if it is counted, its contributing sources
+-- too.
+abbrev pub facts_of_media : (own : ℕ) → RtpValue → (is_counted : Bool) → List Fact
+facts_of_media own head is_counted =
+    media_fact head ∷ (if is_counted then facts_of_csrcs own head.csrcs else [])
+
+abbrev pub with_media : Setup → (t : ℕ) → RtpValue → Outcome → Outcome
+with_media setup t head outcome =
+    let is_counted = counted_at setup.capacity setup.rate outcome.trace (media_fact head) in
+    record outcome { trace = with_facts (facts_of_media setup.ssrc head is_counted) t outcome.trace }
+
+-- What a datagram with a fault would change is nothing, and so no history holds one.
+abbrev pub with_reading : Setup → (t size : ℕ) → Result (List RtcpPacket) WireFault → Outcome → Outcome
+with_reading setup t size (Ok packets) outcome = with_compound setup t size packets outcome
+with_reading setup t size (Err fault) outcome = outcome
+
+abbrev pub with_rtp_reading : Setup → (t : ℕ) → Result RtpValue RtpFault → Outcome → Outcome
+with_rtp_reading setup t (Ok head) outcome = with_media setup t head outcome
+with_rtp_reading setup t (Err fault) outcome = outcome
+
+abbrev pub with_datagram : Setup → (t : ℕ) → Datagram → Outcome → Outcome
+with_datagram setup t (rtcp size reading) outcome = with_reading setup t size reading outcome
+with_datagram setup t (rtp reading) outcome = with_rtp_reading setup t reading outcome
+
+-- ---- Sent packets
+
+abbrev pub with_packet : (t timestamp octets : ℕ) → Outcome → Outcome
+with_packet t timestamp octets outcome = record outcome { own = packet_sent t timestamp octets ∷ outcome.own }
+
+-- ---- Changes of identifier
+
+-- The BYE of the old identifier is a compound that was sent, if something was sent under that one. The counts of the own
+-- stream begin anew.
+abbrev pub with_change : Setup → Outcome → Outcome
+with_change setup outcome =
+    record outcome {
+      own = counts_anew ∷ outcome.own;
+      sizes = if has_sent outcome.own then length (bye_octets setup) ∷ outcome.sizes else outcome.sizes;
+    }
+
+-- ---- Acts
+
+-- (A leave ends the participation whose outcome this is, and adds nothing to it.)
+abbrev pub after : Setup → Act → Outcome → Outcome
+after setup (arrived moment peer word datagram) outcome = with_datagram setup moment datagram outcome
+after setup (rtp_sent moment timestamp octets) outcome = with_packet moment timestamp octets outcome
+after setup (ticked moment first_word second_word) outcome =
+    after_tick setup moment first_word second_word outcome
+after setup (left moment word) outcome = outcome

@@ -1,0 +1,57 @@
+-- Why an act is refused after the acts that were taken before, if it is.
+use Rattle.std.specs.Prelude.{ℕ, ◌-◌, ◌^◌, ◌&&◌, not, Bool, nat_lt, nat_le, length, if◌then◌else◌, Option, Some, None, Ok, Err}
+use Rattle.std.specs.Option.{option_or}
+use Rattle.rtcp_engine.specs.declared.refusal.Refusal.{Refusal}
+use Rattle.rtcp_engine.specs.declared.refusal.Refusal.TheVariants.{Left, Backwards, TooFar, TooMany, Wire, Rtp, OwnSsrc}
+use Rattle.rtcp_engine.specs.Acts.{Datagram, rtcp, rtp, Act, arrived, moment_of}
+use Rattle.rtcp_engine.specs.Identities.{may_change}
+use Rattle.rtcp_engine.specs.Leaving.{Life, present, backing_off, gone}
+use Rattle.rtcp_engine.specs.Changes.{Session, changing_peers, is_about}
+use Rattle.rtcp_engine.specs.Histories.{History, last_moment, session_at}
+
+-- why any act at a moment is refused, by the last act's moment and how many calls were taken: the first of the reasons
+abbrev pub call_refusal : (moment last calls : ℕ) → Option Refusal
+call_refusal moment last calls =
+    if nat_lt moment last then Some Backwards
+    else (if nat_lt (2 ^ 50) moment then Some TooFar
+    else (if nat_le (2 ^ 40 - 1) calls then Some TooMany
+    else None))
+
+-- ---- Datagrams
+
+abbrev pub fault_in : Datagram → Option Refusal
+fault_in (rtcp size (Ok packets)) = None
+fault_in (rtcp size (Err fault)) = Some (Wire fault)
+fault_in (rtp (Ok head)) = None
+fault_in (rtp (Err fault)) = Some (Rtp fault)
+
+abbrev pub refusal_if : Bool → Refusal → Option Refusal
+refusal_if b refusal = if b then Some refusal else None
+
+-- A datagram that is about the participant itself is refused, unless it changes its identifier.
+abbrev pub refusal_as_own : Session → (peer : ℕ) → Datagram → Option Refusal
+refusal_as_own session peer datagram =
+    refusal_if (is_about session.setup.ssrc datagram && not (may_change (changing_peers session) peer)) OwnSsrc
+
+abbrev pub refusal_of_datagram : Session → Act → Option Refusal
+refusal_of_datagram session (arrived moment peer word datagram) =
+    option_or (fault_in datagram) (refusal_as_own session peer datagram)
+refusal_of_datagram session act = None
+
+-- ---- Acts
+
+-- why an act is refused by one that is not gone: as any act then, or else for its datagram
+abbrev pub refusal_of : History → Act → Option Refusal
+refusal_of history act =
+    option_or (call_refusal (moment_of act) (last_moment history.acts) (length history.acts))
+    (refusal_of_datagram (session_at history) act)
+
+-- One that is gone takes nothing more, whatever else is wrong with an act.
+abbrev pub refusal_in : Life → Option Refusal → Option Refusal
+refusal_in (present outcome) refusal = refusal
+refusal_in (backing_off outcome backoff) refusal = refusal
+refusal_in (gone outcome) refusal = Some Left
+
+-- why an act is refused after a history, if it is
+abbrev pub refusal_after : History → Act → Option Refusal
+refusal_after history act = refusal_in (session_at history).life (refusal_of history act)
