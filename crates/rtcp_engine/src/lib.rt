@@ -58,6 +58,3 @@ pub use rtcp_report::Item;
 pub use runs::{Ran, run};
 pub use sink::{Sink, SinkStop};
 pub use step::{Answer, Out, OutKind, Step};
-
-#[cfg(test)]
-mod tests;

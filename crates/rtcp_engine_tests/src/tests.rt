@@ -1,5 +1,5 @@
-use super::*;
 use arrayvec::ArrayVec;
+use rtcp_engine::*;
 use rtcp_members::{ListTable, MemberTable, SortedTable};
 use rtcp_wire::{Compound, FaultReason, RtpFault, WireFault};
 use std::process::Abort;
