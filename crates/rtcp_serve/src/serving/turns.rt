@@ -3,12 +3,12 @@
 ghost use Rattle.std.specs.Prelude.{◌≡◌, ◌<◌, ◌≤◌, ◌+◌, ◌*◌, ◌^◌, ℕ, suc, zero, true, false, List, [], ◌∷◌, ◌⊎◌, OnOk};
 ghost use Rattle.rand_core.specs.Stream.{Stream, next_u32};
 ghost use Rattle.rtcp_engine.specs.Acts.{Act, ticked, left};
+ghost use Rattle.rtcp_engine.specs.Promises.{Takes};
 ghost use Rattle.rtcp_engine.specs.States.{ParticipantValue, StandsAt};
 ghost use Rattle.rtcp_engine.specs.Views.{answer_value};
-ghost use Rattle.rtcp_serve.specs.declared.link.Port.TheVariants.{Rtcp as RtcpPort, Rtp as RtpPort};
 ghost use Rattle.rtcp_serve.specs.declared.serving.Cause.TheVariants.{Done};
 ghost use Rattle.rtcp_serve.specs.Links.{Call, WereCalled, clock_read};
-ghost use Rattle.rtcp_serve.specs.Serving.{IsReader, Reader, Stage, Standing, deciding, ended, going, hearing, resting, stage_to_send};
+ghost use Rattle.rtcp_serve.specs.Serving.{IsReader, Reader, Stage, Standing, after_port, arrival_at, deciding, ended, going, hearing, resting, stage_to_send};
 ghost use Rattle.rtcp_serve.specs.Sessions.{Comes, EndsAs, EndsTurns, IsLeaveDue, Holds, HasTurn, Leads, Reaches, ReachesBy};
 ghost use Rattle.rtcp_serve.specs.Tallies.{HasRoom, with_moment};
 
@@ -32,9 +32,10 @@ fn read_clock<L: Link>(link: &mut L, tally: &mut Tally)
     tally.clock(link.now());
 }
 
-/// Listens to the RTCP port, and tells the participant what came, with a random word. Sends the BYE of an SSRC that
-/// it gives up for that.
-fn hear_rtcp<L: Link, T: MemberTable, R: Rng>(
+/// Listens to a port, and tells the participant what came, with a random word. Sends the BYE of an SSRC that it gives
+/// up for that.
+fn hear<L: Link, T: MemberTable, R: Rng>(
+    port: Port,
     link: &mut L,
     participant: &mut Participant<T>,
     rng: &mut R,
@@ -44,20 +45,20 @@ fn hear_rtcp<L: Link, T: MemberTable, R: Rng>(
     requires row { tally.old.failures < 64 }
     requires room { HasRoom 2 tally.old (L.value link.old) }
     ensures leads { (reader : Reader) (total : ℕ) (s : Standing) → IsReader reader →
-        Holds s participant.old (R.stream rng.old) tally.old → s.stage ≡ hearing RtcpPort →
+        Holds s participant.old (R.stream rng.old) tally.old → s.stage ≡ hearing port →
         (calls : List Call) × (t : Standing) × Leads reader total calls s t (L.value link.old) (L.value link.new)
-        × Holds t participant.new (R.stream rng.new) tally.new × Reaches (hearing RtpPort) result t
+        × Holds t participant.new (R.stream rng.new) tally.new × Reaches (after_port port) result t
         × (t.turns ≡ s.turns) × (t.leaving ≡ s.leaving) }
     ensures row { OnOk result (tally.new.failures < 64) }
     ensures room { (more : ℕ) → HasRoom (more + 2) tally.old (L.value link.old) →
         HasRoom more tally.new (L.value link.new) }
 {
-    match link.recv(Port::Rtcp, buf, WAIT) {
+    match link.recv(port, buf, WAIT) {
         Received::Got(count, peer) => {
             tally.datagram();
             let (octets, _) = buf.split_at(count);
             let drawn = rng.next_u32();
-            let answer = participant.arrive_rtcp(tally.moment, peer, drawn, octets);
+            let answer = arrive(port, participant, tally.moment, peer, drawn, octets);
             tally.arrival(&answer);
             hand_over(link, tally, answer)?;
             Ok(())
@@ -70,40 +71,21 @@ fn hear_rtcp<L: Link, T: MemberTable, R: Rng>(
     }
 }
 
-/// Listens to the RTP port, and tells the participant what came, as [`hear_rtcp`] does.
-fn hear_rtp<L: Link, T: MemberTable, R: Rng>(
-    link: &mut L,
+/// Tells the participant of a datagram that came to a port.
+fn arrive<T: MemberTable>(
+    port: Port,
     participant: &mut Participant<T>,
-    rng: &mut R,
-    tally: &mut Tally,
-    buf: &mut [u8],
-) -> Result<(), Cause>
-    requires row { tally.old.failures < 64 }
-    requires room { HasRoom 2 tally.old (L.value link.old) }
-    ensures leads { (reader : Reader) (total : ℕ) (s : Standing) → IsReader reader →
-        Holds s participant.old (R.stream rng.old) tally.old → s.stage ≡ hearing RtpPort →
-        (calls : List Call) × (t : Standing) × Leads reader total calls s t (L.value link.old) (L.value link.new)
-        × Holds t participant.new (R.stream rng.new) tally.new × Reaches deciding result t
-        × (t.turns ≡ s.turns) × (t.leaving ≡ s.leaving) }
-    ensures row { OnOk result (tally.new.failures < 64) }
-    ensures room { (more : ℕ) → HasRoom (more + 2) tally.old (L.value link.old) →
-        HasRoom more tally.new (L.value link.new) }
+    now: u64,
+    peer: u64,
+    word: u32,
+    octets: &[u8],
+) -> Answer
+    ensures { (reader : Reader) → IsReader reader → Takes participant.old
+        (arrival_at reader port now peer word octets.now) (answer_value result) participant.new }
 {
-    match link.recv(Port::Rtp, buf, WAIT) {
-        Received::Got(count, peer) => {
-            tally.datagram();
-            let (octets, _) = buf.split_at(count);
-            let drawn = rng.next_u32();
-            let answer = participant.arrive_rtp(tally.moment, peer, drawn, octets);
-            tally.arrival(&answer);
-            hand_over(link, tally, answer)?;
-            Ok(())
-        }
-        Received::Nothing => {
-            tally.silence();
-            Ok(())
-        }
-        Received::Failed => tally.failed_receive(),
+    match port {
+        Port::Rtcp => participant.arrive_rtcp(now, peer, word, octets),
+        Port::Rtp => participant.arrive_rtp(now, peer, word, octets),
     }
 }
 
@@ -191,8 +173,8 @@ fn turn<L: Link, T: MemberTable, R: Rng>(
         HasRoom more tally.new (L.value link.new) }
 {
     read_clock(link, tally);
-    hear_rtcp(link, participant, rng, tally, buf)?;
-    hear_rtp(link, participant, rng, tally, buf)?;
+    hear(Port::Rtcp, link, participant, rng, tally, buf)?;
+    hear(Port::Rtp, link, participant, rng, tally, buf)?;
     tick(link, participant, rng, tally)
 }
 
