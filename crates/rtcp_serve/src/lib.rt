@@ -1,7 +1,7 @@
 //! A participant on a link, which is a clock and two ports: [`serve`] runs it for so many turns, and lets it leave.
 //! Each compound that the participant hands out goes to the link once, and the calls of the link, with the random
 //! words, determine all that it was told. It opens no socket, reads no clock and draws no random number but through
-//! the link and the generator that it is lent, and it does not allocate.
+//! the link and the generator that its caller passes, and it does not allocate.
 //!
 //! ```
 //! let mut buf = [0; 65_535];
