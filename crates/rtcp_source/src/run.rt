@@ -16,7 +16,9 @@ use rtcp_wire::Block;
 #[derive(Clone, Copy)]
 pub(crate) struct Run {
     /// The place of the first packet.
-    pub(crate) first: u64,
+    pub(crate) first: u32,
+    /// The transit of the newest packet: its arrival less its timestamp, modulo 2^32.
+    pub(crate) transit: u32,
     /// The greatest place.
     pub(crate) greatest: u64,
     /// How many packets were counted, late and repeated ones included.
@@ -25,8 +27,6 @@ pub(crate) struct Run {
     pub(crate) expected_before: u64,
     /// How many packets were counted at the last block of this run, 0 if there was none.
     pub(crate) received_before: u64,
-    /// The transit of the newest packet: its arrival less its timestamp, modulo 2^32.
-    pub(crate) transit: u32,
     /// The jitter, in 1/16 of a unit of the media's clock.
     pub(crate) jitter: u64,
 }
@@ -39,7 +39,7 @@ impl Run {
         ensures bounded { IsRunBounded 1 (run_value result) }
     {
         Run {
-            first: FIRST + seq as u64,
+            first: FIRST as u32 + seq as u32,
             greatest: FIRST + seq as u64,
             received: 1,
             expected_before: 0,
@@ -115,7 +115,7 @@ impl Run {
         requires high { self.greatest < 2 ^ 55 }
         ensures { result ≡ expected_in (run_value self) }
     {
-        self.greatest - self.first + 1
+        self.greatest - self.first as u64 + 1
     }
 }
 
