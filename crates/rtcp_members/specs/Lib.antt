@@ -8,3 +8,4 @@ pub mod Least
 pub mod Codes
 pub mod ListViews
 pub mod SortedViews
+pub mod Storages

@@ -19,7 +19,7 @@ use rtcp_wire::{Block, Fact};
 
 /// A source that is present.
 #[derive(Drop)]
-pub(crate) struct Entry {
+pub struct Entry {
     pub(crate) ssrc: u32,
     /// Whether it gave its CNAME, or a packet of it was counted.
     pub(crate) valid: bool,

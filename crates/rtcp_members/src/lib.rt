@@ -1,10 +1,11 @@
 //! Who is in an RTP session, who sends, and who has gone (RFC 3550, 6.2.1, 6.3.3 to 6.3.5, 6.3.7): the trait
-//! `MemberTable`, and two tables of up to 1,024 entries. They are deterministic, read no clock, open no
-//! socket, draw no random number and do not allocate.
+//! `MemberTable`, and tables of up to 1,024 entries. They are deterministic, read no clock, open no socket, draw
+//! no random number, and take no memory but for the making of a `HeapTable`.
 //!
-//! Take `SortedTable` for a session: it keeps its entries by rising SSRC with running counts, so a fact costs
-//! a binary search. `ListTable` keeps them in order of arrival and walks them in each call: it is the plain
-//! one, easy to believe. Both meet the contract of `MemberTable`, so they return the same in each call.
+//! Take a sorted table for a session: it keeps its entries by rising SSRC with running counts, so a fact costs a
+//! binary search. `HeapTable` has them in a block of memory, of the size of its capacity; `SortedTable` has the room
+//! for 1,024 in itself. `ListTable` keeps them in order of arrival and walks them in each call: it is the plain one,
+//! easy to believe. All meet the contract of `MemberTable`, so they return the same in each call.
 //!
 //! ```
 //! let mut table = SortedTable::empty(1_024, 8_000);
@@ -27,10 +28,11 @@ mod entry;
 pub mod laws;
 mod list_table;
 mod sorted_table;
+mod storage;
 mod table;
 pub mod trace_laws;
 pub mod turn_laws;
 
 pub use list_table::ListTable;
-pub use sorted_table::SortedTable;
-pub use table::{Applied, Dropped, MemberTable, Place};
+pub use sorted_table::{HeapTable, SortedTable};
+pub use table::{Applied, Dropped, InlineTable, MemberTable, Place};

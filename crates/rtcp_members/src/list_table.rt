@@ -15,7 +15,7 @@ ghost use Rattle.rtcp_members.specs.Tables.{TableValue, IsApart, IsFew, no_membe
 
 use crate::counts::tally;
 use crate::entry::Entry;
-use crate::table::{Applied, Dropped, MAX_CAPACITY, MemberTable, Place};
+use crate::table::{Applied, Dropped, InlineTable, MAX_CAPACITY, MemberTable, Place};
 use arrayvec::ArrayVec;
 use rtcp_wire::{Block, Fact};
 use std::marker::Model;
@@ -42,9 +42,7 @@ impl Model for ListTable {
     ghost invariant = { λ t. IsListed t.capacity t.entries.items };
 }
 
-impl MemberTable for ListTable {
-    ghost content = { λ t. t };
-
+impl InlineTable for ListTable {
     fn empty(capacity: u32, rate: u32) -> ListTable {
         ListTable {
             capacity,
@@ -52,6 +50,10 @@ impl MemberTable for ListTable {
             entries: ArrayVec::new(),
         }
     }
+}
+
+impl MemberTable for ListTable {
+    ghost content = { λ t. t };
 
     fn apply(&mut self, fact: Fact, t: u64) -> Applied {
         if let Some(at) = place_in(self.entries.as_slice(), fact.ssrc()) {
@@ -149,12 +151,7 @@ fn admit(
 }
 
 /// Drops the entries that do not outlast a check, and ends the sending of the idle ones.
-pub(crate) fn drop_silent(
-    entries: &mut ArrayVec<Entry, MAX_CAPACITY>,
-    silent: u64,
-    idle: u64,
-    gone: u64,
-)
+fn drop_silent(entries: &mut ArrayVec<Entry, MAX_CAPACITY>, silent: u64, idle: u64, gone: u64)
     ensures { entries.new.items
         ≡ retain_mut (outlasts (horizons_at silent idle gone)) (lapsed idle) entries.old.items }
 {

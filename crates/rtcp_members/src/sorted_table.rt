@@ -1,6 +1,6 @@
 //! A table that keeps its entries by rising SSRC, with running counts.
 
-ghost use Rattle.std.specs.Prelude.{◌≡◌, ℕ, ◌<◌, ◌≤◌, ◌^◌, List, length, filter, take, drop, not, IfSome, IfOk, IfErr, IsTrue, Some};
+ghost use Rattle.std.specs.Prelude.{◌≡◌, ℕ, [], ◌<◌, ◌≤◌, ◌^◌, List, length, filter, take, drop, not, IfSome, IfOk, IfErr, IsTrue, Some};
 ghost use Rattle.std.specs.FinMap as finite;
 ghost use Rattle.std.specs.List.{list_all};
 ghost use Rattle.rtcp_wire.specs.Facts.{subject, is_media};
@@ -11,29 +11,31 @@ ghost use Rattle.rtcp_wire.specs.Views.{block_value};
 ghost use Rattle.rtcp_wire.specs.Writing.{IsWritableBlock};
 ghost use Rattle.rtcp_members.specs.Entries.{is_such};
 ghost use Rattle.rtcp_members.specs.Pending.{is_due, is_above, first_ssrc, block_at, after_block};
-ghost use Rattle.rtcp_members.specs.Tables.{IsFew, placed, counted, after_fact};
+ghost use Rattle.rtcp_members.specs.Tables.{IsFew, no_members, placed, counted, after_fact};
 
 use crate::counts::{Counts, tally};
 use crate::entry::Entry;
-use crate::list_table::drop_silent;
-use crate::table::{Applied, Dropped, MAX_CAPACITY, MemberTable, Place};
+use crate::storage::Storage;
+use crate::table::{Applied, Dropped, InlineTable, MAX_CAPACITY, MemberTable, Place};
 use arrayvec::ArrayVec;
 use rtcp_wire::{Block, Fact};
+use std::alloc::{AllocError, Global};
 use std::marker::Model;
 
-/// A table of members by rising SSRC. It finds a source by binary search, and knows its counts without a
-/// walk. A check that drops nobody and ends no sending only reads. No call allocates.
+/// A table of members by rising SSRC, over where its entries lie. It finds a source by binary search, and knows its
+/// counts without a walk. A check that drops nobody and ends no sending only reads. No call allocates.
 #[derive(Drop)]
-pub struct SortedTable {
+pub struct Sorted<S: Storage> {
     capacity: u32,
     rate: u32,
-    entries: ArrayVec<Entry, MAX_CAPACITY>,
+    entries: S,
     counts: Counts,
     /// Where the last source that was looked for stands, or would: the next fact is often of the same one.
     last_place: usize,
 }
 
-impl Model for SortedTable {
+impl<S: Storage> Model for Sorted<S> {
+    ghost use Rattle.std.specs.Prelude.{◌≤◌};
     ghost use Rattle.rtcp_members.specs.Tables.{TableValue};
     ghost use Rattle.rtcp_members.specs.Codes.{table_code};
     ghost use Rattle.rtcp_members.specs.ListViews.{table_of};
@@ -43,19 +45,58 @@ impl Model for SortedTable {
 
     ghost coded = { table_code };
 
-    ghost view = { λ t. table_of t.capacity t.rate t.entries.items };
+    ghost view = { λ t. table_of t.capacity t.rate (S.items t.entries) };
 
-    ghost invariant = { λ t. IsSortedTable t.capacity t.counts.members t.counts.senders t.entries.items };
+    ghost invariant = { λ t. IsSortedTable t.capacity t.counts.members t.counts.senders (S.items t.entries)
+        × (t.capacity ≤ S.room t.entries) };
 }
 
-impl MemberTable for SortedTable {
-    ghost content = { λ t. t };
+/// A sorted table with room for 1,024 entries in itself, whatever its capacity: some 147 KB.
+pub type SortedTable = Sorted<ArrayVec<Entry, MAX_CAPACITY>>;
 
-    fn empty(capacity: u32, rate: u32) -> SortedTable {
-        SortedTable {
+/// A sorted table whose entries lie in a block of memory of their own, with room for its capacity: 144 octets for each
+/// source. The block is taken when the table is made, and none later.
+pub type HeapTable = Sorted<Vec<Entry>>;
+
+impl InlineTable for Sorted<ArrayVec<Entry, MAX_CAPACITY>> {
+    fn empty(capacity: u32, rate: u32) -> Sorted<ArrayVec<Entry, MAX_CAPACITY>> {
+        Sorted::over(ArrayVec::new(), capacity, rate)
+    }
+}
+
+impl Sorted<Vec<Entry>> {
+    /// A table without entries, for at most `capacity` of them, from 1 to 1,024, of a session whose media's
+    /// clock has `rate` units a second. It takes the memory for all of them here, and none later.
+    ///
+    /// # Errors
+    ///
+    /// There is no memory.
+    pub fn with_room(
+        alloc: Global,
+        capacity: u32,
+        rate: u32,
+    ) -> Result<Sorted<Vec<Entry>>, AllocError>
+        requires some { 1 ≤ capacity }
+        requires few { capacity ≤ 1024 }
+        ensures { IfOk result (λ table. table ≡ no_members capacity rate) }
+    {
+        let entries = Vec::with_capacity(alloc, capacity as usize)?;
+        Ok(Sorted::over(entries, capacity, rate))
+    }
+}
+
+impl<S: Storage> Sorted<S> {
+    /// A table without entries, over storage that has none.
+    fn over(entries: S, capacity: u32, rate: u32) -> Sorted<S>
+        requires few { capacity ≤ 1024 }
+        requires vacant { S.items entries ≡ [] }
+        requires room { capacity ≤ S.room entries }
+        ensures { result ≡ no_members capacity rate }
+    {
+        Sorted {
             capacity,
             rate,
-            entries: ArrayVec::new(),
+            entries,
             counts: Counts {
                 members: 0,
                 senders: 0,
@@ -63,6 +104,10 @@ impl MemberTable for SortedTable {
             last_place: 0,
         }
     }
+}
+
+impl<S: Storage> MemberTable for Sorted<S> {
+    ghost content = { λ t. t };
 
     fn apply(&mut self, fact: Fact, t: u64) -> Applied {
         match search(self.entries.as_slice(), self.last_place, fact.ssrc()) {
@@ -102,7 +147,8 @@ impl MemberTable for SortedTable {
             };
         }
         let (entries, senders) = (self.entries.len(), self.counts.senders);
-        drop_silent(&mut self.entries, silent_before, data_before, gone_before);
+        self.entries
+            .drop_silent(silent_before, data_before, gone_before);
         self.counts = tally(self.entries.as_slice());
         let removed = (entries - self.entries.len()) as u32;
         let ended = senders - self.counts.senders;
@@ -179,8 +225,8 @@ fn apply_at(
 }
 
 /// A fact comes whose source has no entry. Where it is added, its entry is put into the gap.
-fn admit(
-    entries: &mut ArrayVec<Entry, MAX_CAPACITY>,
+fn admit<S: Storage>(
+    entries: &mut S,
     counts: &mut Counts,
     gap: usize,
     capacity: u32,
@@ -188,12 +234,15 @@ fn admit(
     t: u64,
     rate: u32,
 ) -> Place
-    requires sorted { IsSortedTable capacity counts.old.members counts.old.senders entries.old.items }
-    requires gap { IsGapFor (subject fact) entries.old.items gap }
-    ensures sorted { IsSortedTable capacity counts.new.members counts.new.senders entries.new.items }
-    ensures place { result ≡ placed (table_of capacity rate entries.old.items) fact }
-    ensures table { table_of capacity rate entries.new.items
-        ≡ after_fact fact t (table_of capacity rate entries.old.items) }
+    requires sorted { IsSortedTable capacity counts.old.members counts.old.senders (S.items entries.old) }
+    requires room { capacity ≤ S.room entries.old }
+    requires gap { IsGapFor (subject fact) (S.items entries.old) gap }
+    ensures sorted { IsSortedTable capacity counts.new.members counts.new.senders (S.items entries.new) }
+    ensures room { capacity ≤ S.room entries.new }
+    ensures in_place { S.block entries.new ≡ S.block entries.old }
+    ensures place { result ≡ placed (table_of capacity rate (S.items entries.old)) fact }
+    ensures table { table_of capacity rate (S.items entries.new)
+        ≡ after_fact fact t (table_of capacity rate (S.items entries.old)) }
 {
     if fact.is_goodbye() {
         return Place::Ignored;

@@ -56,13 +56,6 @@ pub struct Dropped {
 pub trait MemberTable {
     ghost content: { Self → TableValue };
 
-    /// A table without entries, for at most `capacity` of them, from 1 to 1,024, of a session whose media's
-    /// clock has `rate` units a second.
-    fn empty(capacity: u32, rate: u32) -> Self
-        requires some { 1 ≤ capacity }
-        requires few { capacity ≤ 1024 }
-        ensures { content result ≡ no_members capacity rate };
-
     /// A fact came at the moment `t`, in microseconds (RFC 3550, 6.2.1, 6.3.3, 6.3.7). A source takes at most
     /// 2^40 packets, so where the fact is `Media` its source, if present, was given fewer before; any other
     /// fact may always come.
@@ -111,4 +104,14 @@ pub trait MemberTable {
         ensures block { Some (block_value result) ≡ block_at ssrc t (content self.old) }
         ensures content { content self.new ≡ after_block ssrc (content self.old) }
         ensures writable { IsWritableBlock (block_value result) };
+}
+
+/// A table that has the room for its entries in itself, so that its capacity and rate are all it is made from.
+pub trait InlineTable: MemberTable {
+    /// A table without entries, for at most `capacity` of them, from 1 to 1,024, of a session whose media's
+    /// clock has `rate` units a second.
+    fn empty(capacity: u32, rate: u32) -> Self
+        requires some { 1 ≤ capacity }
+        requires few { capacity ≤ 1024 }
+        ensures { Self.content result ≡ no_members capacity rate };
 }

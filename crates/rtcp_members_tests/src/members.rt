@@ -1,6 +1,8 @@
 //! Tables of members: each row runs over both.
 
-use rtcp_members::{Applied, Dropped, ListTable, MemberTable, Place, SortedTable};
+use rtcp_members::{
+    Applied, Dropped, HeapTable, InlineTable, ListTable, MemberTable, Place, SortedTable,
+};
 use rtcp_wire::{Block, Fact};
 use std::test::*;
 

@@ -1,7 +1,7 @@
 //! Reports of the table that keeps a list.
 
 use crate::rows;
-use rtcp_members::{ListTable, MemberTable};
+use rtcp_members::{InlineTable, ListTable};
 use rtcp_report::{Sender, report};
 
 /// The example at the head of `rtcp_report`.

@@ -4,7 +4,7 @@ ghost use Rattle.std.specs.Prelude.{◌≡◌, length};
 
 use crate::session::Session;
 use arrayvec::ArrayVec;
-use rtcp_members::MemberTable;
+use rtcp_members::InlineTable;
 use rtcp_report::{Item, Sender, SrPart};
 use std::process::Abort;
 
@@ -27,7 +27,7 @@ fn named_a(sr: Option<SrPart>) -> Sender<'static>
 }
 
 /// An empty receiver report and the CNAME; the cursor stays.
-pub(crate) fn no_news<T: MemberTable + Drop>(rt: &impl Abort) {
+pub(crate) fn no_news<T: InlineTable + Drop>(rt: &impl Abort) {
     let mut session: Session<T> = Session::new();
     session.packet(rt, 7, 10);
     session.cursor = Some(5);
@@ -43,7 +43,7 @@ pub(crate) fn no_news<T: MemberTable + Drop>(rt: &impl Abort) {
 }
 
 /// 31 blocks in the sender report, and one in a receiver report after it.
-pub(crate) fn two_reports<T: MemberTable + Drop>(rt: &impl Abort) {
+pub(crate) fn two_reports<T: InlineTable + Drop>(rt: &impl Abort) {
     let mut session: Session<T> = Session::new();
     session.sources(rt, 32);
     let octets = session.report(&named_a(Some(SENT)), 1_472, None);
@@ -65,7 +65,7 @@ pub(crate) fn two_reports<T: MemberTable + Drop>(rt: &impl Abort) {
 }
 
 /// Where one block fits, three sources take turns.
-pub(crate) fn one_at_a_time<T: MemberTable + Drop>(rt: &impl Abort) {
+pub(crate) fn one_at_a_time<T: InlineTable + Drop>(rt: &impl Abort) {
     let mut session: Session<T> = Session::new();
     session.sources(rt, 3);
     let mut extra = Item {
@@ -98,7 +98,7 @@ pub(crate) fn one_at_a_time<T: MemberTable + Drop>(rt: &impl Abort) {
 }
 
 /// In the chunk the CNAME stands before the extra item.
-pub(crate) fn name_first<T: MemberTable + Drop>(rt: &impl Abort) {
+pub(crate) fn name_first<T: InlineTable + Drop>(rt: &impl Abort) {
     let mut session: Session<T> = Session::new();
     let mut tool = Item {
         kind: 6,
@@ -118,7 +118,7 @@ pub(crate) fn name_first<T: MemberTable + Drop>(rt: &impl Abort) {
 }
 
 /// All 40 sources fit.
-pub(crate) fn forty<T: MemberTable + Drop>(rt: &impl Abort) {
+pub(crate) fn forty<T: InlineTable + Drop>(rt: &impl Abort) {
     let mut session: Session<T> = Session::new();
     session.sources(rt, 40);
     let octets = session.report(&named_a(None), 1_472, None);
@@ -134,7 +134,7 @@ pub(crate) fn forty<T: MemberTable + Drop>(rt: &impl Abort) {
 }
 
 /// Of 70 sources 60 fit, and the next report has the others.
-pub(crate) fn seventy<T: MemberTable + Drop>(rt: &impl Abort) {
+pub(crate) fn seventy<T: InlineTable + Drop>(rt: &impl Abort) {
     let mut session: Session<T> = Session::new();
     session.sources(rt, 70);
     let octets = session.report(&named_a(None), 1_472, None);

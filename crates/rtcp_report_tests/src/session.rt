@@ -7,7 +7,7 @@ ghost use Rattle.rtcp_members.specs.Tables.{HasFew};
 ghost use Rattle.rtcp_report.specs.Views.{extra_of};
 
 use arrayvec::ArrayVec;
-use rtcp_members::MemberTable;
+use rtcp_members::{InlineTable, MemberTable};
 use rtcp_report::{Item, Sender, report};
 use rtcp_wire::{Fact, MAX_COMPOUND};
 use std::process::Abort;
@@ -22,7 +22,7 @@ pub(crate) struct Session<T: MemberTable> {
     ghost few: { HasFew facts (T.content table) },
 }
 
-impl<T: MemberTable> Session<T> {
+impl<T: InlineTable> Session<T> {
     /// A session without members, whose media's clock has 8,000 units a second.
     pub(crate) fn new() -> Session<T> {
         Session {
@@ -31,7 +31,9 @@ impl<T: MemberTable> Session<T> {
             cursor: None,
         }
     }
+}
 
+impl<T: MemberTable> Session<T> {
     /// An RTP packet of the source with this number.
     pub(crate) fn packet(&mut self, rt: &impl Abort, ssrc: u32, seq: u16) {
         assert!(rt; self.facts < 10_000);

@@ -3,6 +3,7 @@
 ghost use Rattle.std.specs.Prelude.{◌≤◌, ◌+◌, ◌<◌};
 
 use super::*;
+use std::alloc::Global;
 use std::process::Abort;
 use std::test::*;
 
@@ -16,23 +17,30 @@ enum Answer {
 
 #[test]
 fn answers_are_alike(rt: HostRuntime) {
-    alike(&rt, 1);
-    alike(&rt, 2);
-    alike(&rt, 3);
-    alike(&rt, 4);
+    alike(&rt, rt.alloc(), 1);
+    alike(&rt, rt.alloc(), 2);
+    alike(&rt, rt.alloc(), 3);
+    alike(&rt, rt.alloc(), 4);
 }
 
-/// Both tables return the same in each call of a history of 500, and then have the same counts and the same
+/// All tables return the same in each call of a history of 500, and then have the same counts and the same
 /// source next. In some step there are two senders.
-fn alike(rt: &impl Abort, seed: u32) {
+fn alike(rt: &impl Abort, alloc: Global, seed: u32) {
     let mut list: Session<ListTable> = Session::new(4);
     let mut sorted: Session<SortedTable> = Session::new(4);
+    let mut room = Session::with_table(
+        HeapTable::with_room(alloc, 4, 8_000).expect(rt, "no memory"),
+        4,
+    );
     let mut draw = seed;
     let mut most = 0;
     'steps: for step in 0..500 {
         draw = draw.wrapping_mul(1_664_525).wrapping_add(1_013_904_223);
-        assert_eq!(rt; call(&mut sorted, draw, step), call(&mut list, draw, step));
+        let answer = call(&mut sorted, draw, step);
+        assert_eq!(rt; answer, call(&mut list, draw, step));
+        assert_eq!(rt; answer, call(&mut room, draw, step));
         assert_eq!(rt; seen(&sorted, draw), seen(&list, draw));
+        assert_eq!(rt; seen(&sorted, draw), seen(&room, draw));
         most = sorted.senders().max(most);
     }
     assert!(rt; most >= 2);

@@ -5,7 +5,7 @@ use std::process::Abort;
 use std::test::*;
 
 /// A full table of two, in which the first leaves.
-pub(crate) fn room_for_two<T: MemberTable + Drop>(rt: &impl Abort) {
+pub(crate) fn room_for_two<T: InlineTable + Drop>(rt: &impl Abort) {
     let mut session: Session<T> = Session::new(2);
     let seen = [
         (session.place(Fact::Heard(1), 0), session.members()),
@@ -36,7 +36,7 @@ pub(crate) fn room_for_two<T: MemberTable + Drop>(rt: &impl Abort) {
 }
 
 /// A table of 1,024, named in falling order, has no room for one source more.
-pub(crate) fn full<T: MemberTable + Drop>(rt: &impl Abort) {
+pub(crate) fn full<T: InlineTable + Drop>(rt: &impl Abort) {
     let mut session: Session<T> = Session::new(1_024);
     'ssrcs: for below in 0..1_024 {
         let place = session.place(Fact::Named(2_000 - below), 0);
@@ -59,7 +59,7 @@ pub(crate) fn full<T: MemberTable + Drop>(rt: &impl Abort) {
 
 /// A source is dropped where its last sighting lies before the horizon, and not at it. A goodbye is no
 /// sighting.
-pub(crate) fn silence<T: MemberTable + Drop>(rt: &impl Abort) {
+pub(crate) fn silence<T: InlineTable + Drop>(rt: &impl Abort) {
     let mut session: Session<T> = Session::new(2);
     let place = session.place(Fact::Heard(7), 0);
     let at = session.check(1, 0, 0, 0).entries;
@@ -75,7 +75,7 @@ pub(crate) fn silence<T: MemberTable + Drop>(rt: &impl Abort) {
 }
 
 /// Whoever was admitted is held until a check drops it, whether it was only heard or has left.
-pub(crate) fn held<T: MemberTable + Drop>(rt: &impl Abort) {
+pub(crate) fn held<T: InlineTable + Drop>(rt: &impl Abort) {
     let mut session: Session<T> = Session::new(2);
     assert!(rt; !session.holds(1));
     session.place(Fact::Heard(1), 0);

@@ -18,7 +18,7 @@ fn counts<T: MemberTable>(session: &Session<T>) -> (u32, u32) {
 
 /// A source sends from its second packet on, stops at a data horizon after its last one, and sends again only
 /// with another.
-pub(crate) fn one_sender<T: MemberTable + Drop>(rt: &impl Abort) {
+pub(crate) fn one_sender<T: InlineTable + Drop>(rt: &impl Abort) {
     let mut session: Session<T> = Session::new(2);
     let first = session.place(Fact::Media(4, 10, 0), 0);
     assert_eq!(rt; (first, counts(&session)), (Some(Place::Added), (0, 0)));
@@ -36,7 +36,7 @@ pub(crate) fn one_sender<T: MemberTable + Drop>(rt: &impl Abort) {
 
 /// A sender that says goodbye is none from then on, so no check drops it as one; a sender that is dropped for
 /// its silence is.
-pub(crate) fn senders_leave<T: MemberTable + Drop>(rt: &impl Abort) {
+pub(crate) fn senders_leave<T: InlineTable + Drop>(rt: &impl Abort) {
     let mut session: Session<T> = Session::new(2);
     let _ = session.apply(Fact::Media(4, 10, 0), 0);
     let _ = session.apply(Fact::Media(4, 11, 0), 0);
@@ -53,7 +53,7 @@ pub(crate) fn senders_leave<T: MemberTable + Drop>(rt: &impl Abort) {
 }
 
 /// A source that was dropped and comes back is on probation again.
-pub(crate) fn dropped_begins_anew<T: MemberTable + Drop>(rt: &impl Abort) {
+pub(crate) fn dropped_begins_anew<T: InlineTable + Drop>(rt: &impl Abort) {
     let mut session: Session<T> = Session::new(2);
     let _ = session.apply(Fact::Media(4, 10, 0), 0);
     let second = session.apply(Fact::Media(4, 11, 0), 0);

@@ -1,7 +1,7 @@
 //! A table under test, whichever it is.
 
 ghost use Rattle.std.specs.Prelude.{◌≡◌, ◌+◌, ◌≤◌, ◌<◌};
-ghost use Rattle.rtcp_members.specs.Tables.{HasFew};
+ghost use Rattle.rtcp_members.specs.Tables.{HasFew, no_members};
 
 use super::*;
 
@@ -13,17 +13,25 @@ pub(crate) struct Session<T: MemberTable> {
     ghost few: { HasFew facts (T.content table) },
 }
 
-impl<T: MemberTable> Session<T> {
+impl<T: InlineTable> Session<T> {
     /// A session of which the media's clock has 8,000 units a second.
     pub(crate) fn new(capacity: u32) -> Session<T>
         requires some { 1 ≤ capacity }
         requires few { capacity ≤ 1024 }
         ensures { result.facts ≡ 0 }
     {
-        Session {
-            table: T::empty(capacity, 8000),
-            facts: 0,
-        }
+        Session::with_table(T::empty(capacity, 8000), capacity)
+    }
+}
+
+impl<T: MemberTable> Session<T> {
+    /// The same with a table that was made for it, of which the contract alone names the capacity.
+    pub(crate) fn with_table(table: T, capacity: u32) -> Session<T>
+        requires { T.content table ≡ no_members capacity 8000 }
+        ensures { result.facts ≡ 0 }
+    {
+        let _ = capacity;
+        Session { table, facts: 0 }
     }
 
     pub(crate) fn apply(&mut self, fact: Fact, t: u64) -> Applied

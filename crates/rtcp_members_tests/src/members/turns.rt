@@ -7,7 +7,7 @@ use std::process::Abort;
 use std::test::*;
 
 /// A session in which three sources sent two packets each, of which the second is counted.
-fn three_senders<T: MemberTable>() -> Session<T>
+fn three_senders<T: InlineTable>() -> Session<T>
     ensures { result.facts ≡ 6 }
 {
     let mut session: Session<T> = Session::new(3);
@@ -25,7 +25,7 @@ fn whose(block: Option<Block>) -> Option<u32> {
 }
 
 /// Each is reported once, by rising SSRC, after the last one and from the lowest on again.
-pub(crate) fn in_turn<T: MemberTable + Drop>(rt: &impl Abort) {
+pub(crate) fn in_turn<T: InlineTable + Drop>(rt: &impl Abort) {
     let mut session: Session<T> = three_senders();
     let found = [
         whose(session.block(Some(1), 0)),
@@ -41,14 +41,14 @@ pub(crate) fn in_turn<T: MemberTable + Drop>(rt: &impl Abort) {
 }
 
 /// A source that said goodbye is not reported.
-pub(crate) fn not_after_goodbye<T: MemberTable + Drop>(rt: &impl Abort) {
+pub(crate) fn not_after_goodbye<T: InlineTable + Drop>(rt: &impl Abort) {
     let mut session: Session<T> = three_senders();
     let _ = session.apply(Fact::Gone(1), 0);
     assert_eq!(rt; whose(session.block(None, 0)), Some(2));
 }
 
 /// The fraction lost is over what was expected since the last block: of 12 to 14 two came.
-pub(crate) fn fractions<T: MemberTable + Drop>(rt: &impl Abort) {
+pub(crate) fn fractions<T: InlineTable + Drop>(rt: &impl Abort) {
     let mut session: Session<T> = three_senders();
     let first = session.block(None, 0);
     assert_eq!(rt; first.map(|block| block.fraction), Some(0));

@@ -1,0 +1,9 @@
+-- Counted in the list is counted in the table.
+use Rattle.rtcp_members.specs.Entries.{is_sender}
+use Rattle.rtcp_members.proofs.Rising.{rising_apart}
+use Rattle.rtcp_members.proofs.Tallies.{counted_at}
+use Rattle.rtcp_members.proofs.sorted_table.SortedMemberTable.senders.Goals as goal
+
+pub returns : goal.returns
+returns g c =
+    counted_at is_sender c.self.inside.capacity c.self.inside.rate (g.S.Storage.items c.self.inside.entries) c.args.self.now c.self.inside.counts.senders (rising_apart (g.S.Storage.items c.self.inside.entries) c.self.invariant.0.ordered.rising) c.self.view_is c.self.invariant.0.ordered.its_senders
