@@ -1,6 +1,6 @@
 //! How a participant is configured.
 
-ghost use Rattle.std.specs.Prelude.{◌≡◌, ◌-◌, ◌/◌, ℕ, List, map, Option, Some, None};
+ghost use Rattle.std.specs.Prelude.{◌≡◌, ◌≤◌, ◌-◌, ◌/◌, ℕ, List, map, Option, Some, None};
 ghost use Rattle.rtcp_report.specs.Views.{item_value};
 ghost use Rattle.rtcp_engine.specs.Setups.{is_within as within, is_extra_item};
 ghost use Rattle.rtcp_engine.specs.Refused.{error_in, is_bandwidth as is_bandwidth_for, is_limit as is_limit_for, are_extras as extras_are};
@@ -78,9 +78,12 @@ pub fn shares_of(rtcp_bw: u64) -> (u64, u64)
 }
 
 impl Config {
-    /// Why this configuration is refused, if it is.
-    pub(crate) fn error(&self) -> Option<ConfigError>
-        ensures { result ≡ error_in (setup_of self.now) }
+    /// Why this configuration is refused, if it is: the first of C1 to C6 that applies. One that is not has a capacity
+    /// from 1 to 1,024.
+    pub fn error(&self) -> Option<ConfigError>
+        ensures exact { result ≡ error_in (setup_of self.now) }
+        ensures some { result ≡ None → 1 ≤ self.now.capacity }
+        ensures few { result ≡ None → self.now.capacity ≤ 1024 }
     {
         if !is_within(1, 255, self.cname.len() as u32) {
             return Some(ConfigError::Cname);

@@ -1,9 +1,10 @@
 //! A participant of a session, up to its leave and through it (RFC 3550, 6.2, 6.3).
 
-ghost use Rattle.std.specs.Prelude.{◌≡◌, ◌↔◌, ◌<◌, List, Result, Some, Err, IfOk, IsTrue, OnErr, is_some};
+ghost use Rattle.std.specs.Prelude.{◌≡◌, ◌↔◌, ◌≤◌, ◌<◌, List, Result, Some, None, Err, IfOk, IsTrue, OnErr, is_some};
 ghost use Rattle.rtcp_wire.specs.declared.fault.WireFault.{WireFault as Fault};
 ghost use Rattle.rtcp_wire.specs.declared.rtp.fault.RtpFault.{RtpFault as HeadFault};
 ghost use Rattle.rtcp_wire.specs.Values.{RtcpPacket};
+ghost use Rattle.rtcp_members.specs.Tables.{no_members};
 ghost use Rattle.rtcp_wire.specs.RtpHeads.{RtpValue};
 ghost use Rattle.rtcp_engine.specs.declared.config.ConfigError.{ConfigError as Error};
 ghost use Rattle.rtcp_engine.specs.Acts.{rtcp_came, rtp_came, rtp_sent, ticked, left, IsReading, IsRtpReading};
@@ -22,7 +23,7 @@ use crate::config::{Config, ConfigError};
 use crate::presence::Presence;
 use crate::refusal::Refusal;
 use crate::step::Answer;
-use rtcp_members::MemberTable;
+use rtcp_members::{InlineTable, MemberTable};
 use rtcp_wire::{Compound, RtpHead};
 use std::marker::Model;
 
@@ -70,9 +71,9 @@ impl<T: MemberTable> Model for Participant<T> {
     ghost invariant = { λ p. KeepsCapacity p.presence × IsCounted (phase_value p.phase) };
 }
 
-impl<T: MemberTable> Participant<T> {
-    /// A participant of a session that begins now, at moment 0. `word` is a random word, for the draw of the
-    /// first interval. Call `tick` at `next`.
+impl<T: InlineTable> Participant<T> {
+    /// A participant of a session that begins now, at moment 0, over a table that has its room in itself. `word` is a
+    /// random word, for the draw of the first interval. Call `tick` at `next`.
     ///
     /// # Errors
     ///
@@ -82,13 +83,28 @@ impl<T: MemberTable> Participant<T> {
         ensures within { IfOk result (λ participant. KeepsCapacity participant.presence) }
         ensures refused { (error : Error) → (result ≡ Err error) ↔ (error_in (setup_of config) ≡ Some error) }
     {
-        match Presence::new(config, word) {
-            Ok(presence) => Ok(Participant {
-                presence,
-                phase: Phase::Present,
-                changes: Changes::new(),
-            }),
-            Err(error) => Err(error),
+        if let Some(error) = config.error() {
+            return Err(error);
+        }
+        let table = T::empty(config.capacity, config.rate);
+        Ok(Participant::with_table(config, table, word))
+    }
+}
+
+impl<T: MemberTable> Participant<T> {
+    /// A participant of a session that begins now, at moment 0, over an empty table that was made for the
+    /// configuration's capacity and rate. The configuration is one that `Config::error` does not refuse. `word` is a
+    /// random word, for the draw of the first interval. Call `tick` at `next`.
+    pub fn with_table(config: Config, table: T, word: u32) -> Participant<T>
+        requires usable { error_in (setup_of config) ≡ None }
+        requires vacant { T.content table ≡ no_members config.capacity config.rate }
+        ensures begins { StandsAt result (begun (setup_of config) word) }
+        ensures within { KeepsCapacity result.presence }
+    {
+        Participant {
+            presence: Presence::with_table(config, table, word),
+            phase: Phase::Present,
+            changes: Changes::new(),
         }
     }
 

@@ -1,7 +1,7 @@
 //! A participant as long as it takes part in its session (RFC 3550, 6.2, 6.3).
 
-ghost use Rattle.std.specs.Prelude.{◌≡◌, ◌↔◌, ◌≤◌, ◌<◌, ◌*◌, ◌^◌, Option, Some, None, is_some, Err, IfOk};
-ghost use Rattle.rtcp_engine.specs.declared.config.ConfigError.{ConfigError as Error};
+ghost use Rattle.std.specs.Prelude.{◌≡◌, ◌↔◌, ◌≤◌, ◌<◌, ◌*◌, ◌^◌, Option, Some, None, is_some};
+ghost use Rattle.rtcp_members.specs.Tables.{no_members};
 ghost use Rattle.rtcp_engine.specs.Refused.{error_in};
 ghost use Rattle.rtcp_engine.specs.Views.{setup_of};
 ghost use Rattle.rtcp_engine.specs.Outcomes.{Outcome, one_if, member_count as member_count_of, sender_count as sender_count_of, load_of, interval_at};
@@ -9,7 +9,7 @@ ghost use Rattle.rtcp_engine.specs.Taken.{begun};
 ghost use Rattle.rtcp_engine.specs.States.{Agrees, KeepsCapacity, StandsAt, newcomer};
 ghost use Rattle.rtcp_engine.specs.Refusals.{call_refusal};
 
-use crate::config::{Config, ConfigError};
+use crate::config::Config;
 use crate::own::OwnStream;
 use crate::refusal::Refusal;
 use crate::table::member_count;
@@ -67,20 +67,14 @@ impl<T: MemberTable> Model for Presence<T> {
 }
 
 impl<T: MemberTable> Presence<T> {
-    /// A participant of a session that begins now, at moment 0. `word` is a random word, for the draw of the
-    /// first interval. Call `tick` at `next`.
-    ///
-    /// # Errors
-    ///
-    /// The first of C1 to C6 that applies to the configuration.
-    pub(crate) fn new(config: Config, word: u32) -> Result<Presence<T>, ConfigError>
-        ensures begins { IfOk result (λ presence. StandsAt (newcomer presence) (begun (setup_of config) word)) }
-        ensures within { IfOk result (λ presence. KeepsCapacity presence) }
-        ensures refused { (error : Error) → (result ≡ Err error) ↔ (error_in (setup_of config) ≡ Some error) }
+    /// A participant of a session that begins now, at moment 0, with an empty table and a configuration that is
+    /// not refused. `word` is a random word, for the draw of the first interval. Call `tick` at `next`.
+    pub(crate) fn with_table(config: Config, table: T, word: u32) -> Presence<T>
+        requires usable { error_in (setup_of config) ≡ None }
+        requires vacant { T.content table ≡ no_members config.capacity config.rate }
+        ensures begins { StandsAt (newcomer result) (begun (setup_of config) word) }
+        ensures within { KeepsCapacity result }
     {
-        if let Some(error) = config.error() {
-            return Err(error);
-        }
         let average = Average::start(first_size(&config.cname));
         let load = Load {
             members: 1,
@@ -91,8 +85,8 @@ impl<T: MemberTable> Presence<T> {
             sender_bw: config.sender_bw,
             receiver_bw: config.receiver_bw,
         };
-        Ok(Presence {
-            table: T::empty(config.capacity, config.rate),
+        Presence {
+            table,
             schedule: Schedule::begin(interval(&load), word),
             average,
             own: OwnStream::new(),
@@ -101,7 +95,7 @@ impl<T: MemberTable> Presence<T> {
             last: 0,
             calls: 0,
             config,
-        })
+        }
     }
 
     /// The members of the session, this participant included (RFC 3550, 6.2.1).

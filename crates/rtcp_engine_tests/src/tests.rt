@@ -1,6 +1,6 @@
 use arrayvec::ArrayVec;
 use rtcp_engine::*;
-use rtcp_members::{ListTable, MemberTable, SortedTable};
+use rtcp_members::{InlineTable, ListTable, MemberTable, SortedTable};
 use rtcp_wire::{Compound, FaultReason, RtpFault, WireFault};
 use std::process::Abort;
 use std::test::*;
@@ -12,6 +12,7 @@ mod floods;
 mod host;
 mod leaving;
 mod list;
+mod room;
 mod rows;
 mod runs;
 mod session;

@@ -19,14 +19,14 @@ fn packet(ssrc: u8) -> [u8; 12] {
 }
 
 /// A session in which the participant sent a report.
-fn reported<T: MemberTable + Drop>(rt: &impl Abort) -> Session<T> {
+fn reported<T: InlineTable + Drop>(rt: &impl Abort) -> Session<T> {
     let mut session = Session::<T>::usual(rt);
     session.tick(FIRST, 0, 0).sends(rt, 1, 0, SECOND, &REPORT);
     session
 }
 
 /// A peer changes the identifier once, and one that was given up is not taken again.
-pub(crate) fn once_a_peer<T: MemberTable + Drop>(rt: &impl Abort) {
+pub(crate) fn once_a_peer<T: InlineTable + Drop>(rt: &impl Abort) {
     let mut session = Session::<T>::usual(rt);
     session
         .rtcp_from(0, 7, 0xbb, &OURS)
@@ -44,7 +44,7 @@ pub(crate) fn once_a_peer<T: MemberTable + Drop>(rt: &impl Abort) {
 
 /// The participant's own report comes back: the BYE of its old identifier goes out, and that is another source
 /// from then on. The next report is sent when it would have been.
-pub(crate) fn after_a_report<T: MemberTable + Drop>(rt: &impl Abort) {
+pub(crate) fn after_a_report<T: InlineTable + Drop>(rt: &impl Abort) {
     let mut session = reported::<T>(rt);
     session
         .rtcp_from(FIRST, 7, 0xbb, &REPORT)
@@ -55,7 +55,7 @@ pub(crate) fn after_a_report<T: MemberTable + Drop>(rt: &impl Abort) {
 }
 
 /// A leave after a change, with nothing said since, is silent.
-pub(crate) fn silent_leave<T: MemberTable + Drop>(rt: &impl Abort) {
+pub(crate) fn silent_leave<T: InlineTable + Drop>(rt: &impl Abort) {
     let mut session = reported::<T>(rt);
     session
         .rtcp_from(FIRST, 7, 0xbb, &REPORT)
@@ -66,7 +66,7 @@ pub(crate) fn silent_leave<T: MemberTable + Drop>(rt: &impl Abort) {
 
 /// What was sent under the old identifier is not counted in a sender report of the new one, but its stream goes
 /// on: the NTP timestamp is that of 1.026037 seconds, and the RTP timestamp 1000 + 8,208.296, rounded down.
-pub(crate) fn counts_anew<T: MemberTable + Drop>(rt: &impl Abort) {
+pub(crate) fn counts_anew<T: InlineTable + Drop>(rt: &impl Abort) {
     let mut session = Session::<T>::usual(rt);
     assert!(rt; session.participant.sent_rtp(0, 1_000, 160).is_ok());
     session
@@ -81,7 +81,7 @@ pub(crate) fn counts_anew<T: MemberTable + Drop>(rt: &impl Abort) {
 }
 
 /// Eight peers change the identifier, and a ninth does not.
-pub(crate) fn eight<T: MemberTable + Drop>(rt: &impl Abort) {
+pub(crate) fn eight<T: InlineTable + Drop>(rt: &impl Abort) {
     let mut session = Session::<T>::usual(rt);
     for peer in 1..=8u8 {
         let ours = heard(0xaa - 1 + peer);
@@ -99,7 +99,7 @@ pub(crate) fn eight<T: MemberTable + Drop>(rt: &impl Abort) {
 }
 
 /// An identifier is not taken that a source of the table has, whether it is a member or only heard.
-pub(crate) fn in_the_table<T: MemberTable + Drop>(rt: &impl Abort) {
+pub(crate) fn in_the_table<T: InlineTable + Drop>(rt: &impl Abort) {
     let mut session = Session::<T>::usual(rt);
     session.named(0, 0xbb).is(rt, 2, 0, FIRST);
     session.rtcp(0, &heard(0xbc)).is(rt, 2, 0, FIRST);
@@ -111,7 +111,7 @@ pub(crate) fn in_the_table<T: MemberTable + Drop>(rt: &impl Abort) {
 
 /// Nor one that the datagram names: by a BYE, which tells the table nothing, or as a contributing source, of a
 /// packet that is not counted.
-pub(crate) fn in_the_datagram<T: MemberTable + Drop>(rt: &impl Abort) {
+pub(crate) fn in_the_datagram<T: InlineTable + Drop>(rt: &impl Abort) {
     let mut session = Session::<T>::usual(rt);
     let goodbye = [
         0x80, 0xc9, 0, 1, 0, 0, 0, 0xaa, 0x82, 0xcb, 0, 2, 0, 0, 0, 0xbb, 0, 0, 0, 0xbc,
@@ -128,7 +128,7 @@ pub(crate) fn in_the_datagram<T: MemberTable + Drop>(rt: &impl Abort) {
 }
 
 /// After the greatest number comes 0.
-pub(crate) fn around<T: MemberTable + Drop>(rt: &impl Abort) {
+pub(crate) fn around<T: InlineTable + Drop>(rt: &impl Abort) {
     let mut session = Session::<T>::usual(rt);
     let greatest = [0x80, 0xc9, 0, 1, 0xff, 0xff, 0xff, 0xff];
     session.rtcp(0, &greatest).is(rt, 1, 0, FIRST);
@@ -140,7 +140,7 @@ pub(crate) fn around<T: MemberTable + Drop>(rt: &impl Abort) {
 /// The BYE of the old identifier moves the average: with 16 octets a second the draw at the second report is
 /// made from 2 members and an average of 12,408, which is 6,058,594 microseconds, so that the next moment is
 /// 1,231,245 + 2,486,536. Without that BYE the average would be 12,288, and the moment 3,693,734.
-pub(crate) fn moves_average<T: MemberTable + Drop>(rt: &impl Abort) {
+pub(crate) fn moves_average<T: InlineTable + Drop>(rt: &impl Abort) {
     let mut session = Session::<T>::new(
         rt,
         Config {
@@ -161,7 +161,7 @@ pub(crate) fn moves_average<T: MemberTable + Drop>(rt: &impl Abort) {
 /// In a backoff an RTP datagram changes the identifier too, and counts for nothing else. The table stands as it
 /// stood at the leave: sources 1 to 50 are in it. A packet that the host sends then is not sent under the
 /// identifier, so that the next change is silent, and the BYE at the end is of the last one.
-pub(crate) fn in_a_backoff<T: MemberTable + Drop>(rt: &impl Abort) {
+pub(crate) fn in_a_backoff<T: InlineTable + Drop>(rt: &impl Abort) {
     let mut session = leaving::backing_off::<T>(rt);
     session
         .rtp_from(10_000_000, 7, 1, &packet(0xaa))
@@ -178,7 +178,7 @@ pub(crate) fn in_a_backoff<T: MemberTable + Drop>(rt: &impl Abort) {
 }
 
 /// In a backoff the BYE packets of the datagram that brings a change count, and the participant's own does not.
-pub(crate) fn counts_byes<T: MemberTable + Drop>(rt: &impl Abort) {
+pub(crate) fn counts_byes<T: InlineTable + Drop>(rt: &impl Abort) {
     let mut session = leaving::backing_off::<T>(rt);
     session
         .rtcp_from(10_000_000, 7, 0xbb, &BYE)

@@ -92,7 +92,7 @@ struct Pair<T: MemberTable> {
 }
 
 /// While a participant is present, and the table is often full.
-pub(crate) fn present<T: MemberTable + Drop>(rt: &impl Abort) {
+pub(crate) fn present<T: InlineTable + Drop>(rt: &impl Abort) {
     let harmed = Session::new(rt, small());
     let spared = Session::new(rt, small());
     let mut pair = Pair::<T>::new(harmed, spared, 0, true);
@@ -114,7 +114,7 @@ fn small() -> Config {
 }
 
 /// While a participant backs off, until both say goodbye.
-pub(crate) fn backing_off<T: MemberTable + Drop>(rt: &impl Abort) {
+pub(crate) fn backing_off<T: InlineTable + Drop>(rt: &impl Abort) {
     let harmed = leaving::backing_off::<T>(rt);
     let spared = leaving::backing_off::<T>(rt);
     let mut pair = Pair::new(harmed, spared, 10_000_000, false);

@@ -8,7 +8,7 @@ const CROWD: u16 = 1_000;
 /// After the first report the deterministic interval is 5 seconds, and its longest draw 3 · 5,000,000 / (2 · 1.21828)
 /// microseconds, rounded up: 6,156,221. A tick that comes so long after the report sends the next one, whatever its
 /// words are, and here a tick a microsecond sooner does not.
-pub(crate) fn at_the_latest<T: MemberTable + Drop>(rt: &impl Abort) {
+pub(crate) fn at_the_latest<T: InlineTable + Drop>(rt: &impl Abort) {
     let mut session = Session::<T>::usual(rt);
     session
         .tick(1_026_037, 0, u32::MAX)
@@ -20,7 +20,7 @@ pub(crate) fn at_the_latest<T: MemberTable + Drop>(rt: &impl Abort) {
 }
 
 /// One of two members leaves between two reports, and the second comes sooner for it.
-pub(crate) fn after_a_fall<T: MemberTable + Drop>(rt: &impl Abort) {
+pub(crate) fn after_a_fall<T: InlineTable + Drop>(rt: &impl Abort) {
     let mut session = Session::<T>::usual(rt);
     session.named(0, 1).is(rt, 2, 0, 1_026_037);
     session
@@ -68,7 +68,7 @@ impl Reports {
 /// A crowd joins at once, and its members leave one after another. They bring the reports no closer together than
 /// 2,052,074 microseconds, and once they are gone the reports come at that pace: a tick each 10,000 microseconds finds
 /// one due each 2,060,000. (The count and the last moment are those of the model in compare/participant.py.)
-pub(crate) fn crowd_leaves<T: MemberTable + Drop>(rt: &impl Abort) {
+pub(crate) fn crowd_leaves<T: InlineTable + Drop>(rt: &impl Abort) {
     let mut session = Session::<T>::usual(rt);
     for number in 0..CROWD {
         session

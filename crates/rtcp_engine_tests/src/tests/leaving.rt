@@ -14,7 +14,7 @@ const GOODBYE_OF_AB: [u8; 16] = [
 
 /// A session in which the participant sent a report, and in which sources 1 to `others` give their names at
 /// 10,000,000.
-fn reported<T: MemberTable + Drop>(rt: &impl Abort, others: u8) -> Session<T> {
+fn reported<T: InlineTable + Drop>(rt: &impl Abort, others: u8) -> Session<T> {
     let mut session = Session::<T>::usual(rt);
     session
         .tick(1_026_037, 0, 0)
@@ -30,7 +30,7 @@ fn reported<T: MemberTable + Drop>(rt: &impl Abort, others: u8) -> Session<T> {
 /// leaves needs 4,000,000 · 14,336 / (3 · 256 · 400) microseconds, less than 0.2 seconds, so that the
 /// interval is the initial minimum of 2,500,000, and the draw by the word 0 is 2,500,000 / (2 · 1.21828),
 /// rounded up, 1,026,037.
-pub(super) fn backing_off<T: MemberTable + Drop>(rt: &impl Abort) -> Session<T> {
+pub(super) fn backing_off<T: InlineTable + Drop>(rt: &impl Abort) -> Session<T> {
     let mut session = reported::<T>(rt, 50);
     assert_eq!(rt; session.participant.members(), 51);
     session.leave(10_000_000, 0).is(rt, 1, 0, 11_026_037);
@@ -38,7 +38,7 @@ pub(super) fn backing_off<T: MemberTable + Drop>(rt: &impl Abort) -> Session<T> 
 }
 
 /// With 50 members the BYE goes out at once.
-pub(crate) fn few<T: MemberTable + Drop>(rt: &impl Abort) {
+pub(crate) fn few<T: InlineTable + Drop>(rt: &impl Abort) {
     let mut session = reported::<T>(rt, 49);
     assert_eq!(rt; session.participant.members(), 50);
     session.leave(10_000_000, 0).says_bye(rt);
@@ -46,7 +46,7 @@ pub(crate) fn few<T: MemberTable + Drop>(rt: &impl Abort) {
 }
 
 /// With 51 it goes out once its moment has come.
-pub(crate) fn many<T: MemberTable + Drop>(rt: &impl Abort) {
+pub(crate) fn many<T: InlineTable + Drop>(rt: &impl Abort) {
     let mut session = backing_off::<T>(rt);
     session.tick(11_026_036, 0, 0).is(rt, 1, 0, 11_026_037);
     session.tick(11_026_037, 0, 0).says_bye(rt);
@@ -55,13 +55,13 @@ pub(crate) fn many<T: MemberTable + Drop>(rt: &impl Abort) {
 
 /// The word of a leave draws the first interval: the greatest one gives 3/2 of 2,500,000 over 1.21828,
 /// rounded up.
-pub(crate) fn longest_wait<T: MemberTable + Drop>(rt: &impl Abort) {
+pub(crate) fn longest_wait<T: InlineTable + Drop>(rt: &impl Abort) {
     let mut session = reported::<T>(rt, 50);
     session.leave(10_000_000, u32::MAX).is(rt, 1, 0, 13_078_111);
 }
 
 /// BYE packets of others are counted, and a second leave changes nothing.
-pub(crate) fn left_twice<T: MemberTable + Drop>(rt: &impl Abort) {
+pub(crate) fn left_twice<T: InlineTable + Drop>(rt: &impl Abort) {
     let mut session = backing_off::<T>(rt);
     session.goodbye(10_000_000, 1).is(rt, 2, 0, 11_026_037);
     session.leave(10_000_000, u32::MAX).is(rt, 2, 0, 11_026_037);
@@ -74,7 +74,7 @@ pub(crate) fn left_twice<T: MemberTable + Drop>(rt: &impl Abort) {
 }
 
 /// One that sent nothing leaves silently, and then takes nothing more, whatever else is wrong with it.
-pub(crate) fn silently<T: MemberTable + Drop>(rt: &impl Abort) {
+pub(crate) fn silently<T: InlineTable + Drop>(rt: &impl Abort) {
     let mut session = Session::<T>::usual(rt);
     session.leave(0, 0).leaves_silently(rt);
     session.is_gone(rt);
@@ -83,7 +83,7 @@ pub(crate) fn silently<T: MemberTable + Drop>(rt: &impl Abort) {
 }
 
 /// Having left is the reason given for a moment that goes back, too.
-pub(crate) fn silently_later<T: MemberTable + Drop>(rt: &impl Abort) {
+pub(crate) fn silently_later<T: InlineTable + Drop>(rt: &impl Abort) {
     let mut session = Session::<T>::usual(rt);
     session.named(0, 7).is(rt, 2, 0, 1_026_037);
     session.leave(9, 0).leaves_silently(rt);
@@ -92,7 +92,7 @@ pub(crate) fn silently_later<T: MemberTable + Drop>(rt: &impl Abort) {
 }
 
 /// Each call at this moment is refused, as the participant has left.
-fn takes_nothing<T: MemberTable + Drop>(rt: &impl Abort, session: &mut Session<T>, now: u64) {
+fn takes_nothing<T: InlineTable + Drop>(rt: &impl Abort, session: &mut Session<T>, now: u64) {
     session.named(now, 7).refused(rt, Refusal::Left);
     session.rtcp(now, &[]).refused(rt, Refusal::Left);
     session
@@ -107,7 +107,7 @@ fn takes_nothing<T: MemberTable + Drop>(rt: &impl Abort, session: &mut Session<T
 }
 
 /// A tick that sends no report is heard by nobody: the participant still leaves silently.
-pub(crate) fn after_a_tick<T: MemberTable + Drop>(rt: &impl Abort) {
+pub(crate) fn after_a_tick<T: InlineTable + Drop>(rt: &impl Abort) {
     let mut session = Session::<T>::usual(rt);
     session.tick(1_026_037, u32::MAX, 0).is(rt, 1, 0, 3_078_111);
     session.leave(1_026_037, 0).leaves_silently(rt);
@@ -115,7 +115,7 @@ pub(crate) fn after_a_tick<T: MemberTable + Drop>(rt: &impl Abort) {
 }
 
 /// One that sent an RTP packet, and no report, says that it leaves.
-pub(crate) fn after_a_packet<T: MemberTable + Drop>(rt: &impl Abort) {
+pub(crate) fn after_a_packet<T: InlineTable + Drop>(rt: &impl Abort) {
     let mut session = Session::<T>::usual(rt);
     session.sent(0).is(rt, 1, 1, 1_026_037);
     session.leave(0, 0).says_bye(rt);
@@ -126,7 +126,7 @@ pub(crate) fn after_a_packet<T: MemberTable + Drop>(rt: &impl Abort) {
 /// intervals of 2,500,000 before. That tick sends no report. Nine of ten members have departed, which moves
 /// the last transmission from 0 to 10,000,000 less a tenth, 9,000,000, and the interval by the word 0 lasts
 /// 1,026,037 from there.
-pub(crate) fn after_an_old_packet<T: MemberTable + Drop>(rt: &impl Abort) {
+pub(crate) fn after_an_old_packet<T: InlineTable + Drop>(rt: &impl Abort) {
     let mut session = Session::<T>::usual(rt);
     session.sent(0).is(rt, 1, 1, 1_026_037);
     for ssrc in 1..=9 {
@@ -147,7 +147,7 @@ pub(crate) fn after_an_old_packet<T: MemberTable + Drop>(rt: &impl Abort) {
 ///
 /// The average is that of compounds of 20 octets, 256 · (20 + 28) = 12,288, so that the interval is
 /// 4,000,000 · 51 · 12,288 / (3 · 256 · 400) = 8,160,000, and 5 of them are less than 41 seconds.
-pub(crate) fn unchecked<T: MemberTable + Drop>(rt: &impl Abort) {
+pub(crate) fn unchecked<T: InlineTable + Drop>(rt: &impl Abort) {
     let mut session = Session::<T>::usual(rt);
     session
         .tick(1_026_037, 0, 0)
@@ -161,7 +161,7 @@ pub(crate) fn unchecked<T: MemberTable + Drop>(rt: &impl Abort) {
 }
 
 /// The members that leave are counted with 16 bits.
-pub(crate) fn most_leaving<T: MemberTable + Drop>(rt: &impl Abort) {
+pub(crate) fn most_leaving<T: InlineTable + Drop>(rt: &impl Abort) {
     let mut bytes = [0; 65_532];
     fill_with_byes(&mut bytes);
     let mut session = backing_off::<T>(rt);
@@ -174,7 +174,7 @@ pub(crate) fn most_leaving<T: MemberTable + Drop>(rt: &impl Abort) {
 }
 
 /// Nothing else counts in a backoff.
-pub(crate) fn passed_by<T: MemberTable + Drop>(rt: &impl Abort) {
+pub(crate) fn passed_by<T: InlineTable + Drop>(rt: &impl Abort) {
     let mut session = backing_off::<T>(rt);
     session.sent(10_000_000).is(rt, 1, 0, 11_026_037);
     session.named(10_000_000, 7).is(rt, 1, 0, 11_026_037);
@@ -188,7 +188,7 @@ pub(crate) fn passed_by<T: MemberTable + Drop>(rt: &impl Abort) {
 }
 
 /// What is refused in a backoff changes nothing of it.
-pub(crate) fn refused<T: MemberTable + Drop>(rt: &impl Abort) {
+pub(crate) fn refused<T: InlineTable + Drop>(rt: &impl Abort) {
     let mut session = backing_off::<T>(rt);
     let ours = [0x80, 0, 0, 1, 0, 0, 0, 0, 0, 0, 0, 0xaa];
     session
@@ -219,7 +219,7 @@ pub(crate) fn refused<T: MemberTable + Drop>(rt: &impl Abort) {
 /// the draw by the word 0 is 26,500,000 / (2 · 1.21828), rounded up, 10,875,990.
 ///
 /// If the named compound, of 20 octets, counted too, the average would be 19,848, and the draw 10,606,655.
-pub(crate) fn put_off<T: MemberTable + Drop>(rt: &impl Abort) {
+pub(crate) fn put_off<T: InlineTable + Drop>(rt: &impl Abort) {
     let mut bytes = [0; 404];
     fill_with_byes(&mut bytes);
     let mut session = backing_off::<T>(rt);

@@ -5,7 +5,7 @@ use super::*;
 const GREATEST: u32 = u32::MAX;
 
 /// The first interval is drawn by the start word.
-pub(crate) fn starts<T: MemberTable + Drop>(rt: &impl Abort) {
+pub(crate) fn starts<T: InlineTable + Drop>(rt: &impl Abort) {
     for (word, next) in [(0, 1_026_037), (GREATEST, 3_078_111)] {
         match Participant::<T>::new(config(), word) {
             Ok(participant) => {
@@ -19,7 +19,7 @@ pub(crate) fn starts<T: MemberTable + Drop>(rt: &impl Abort) {
 }
 
 /// A report goes out when its moment has come and no sooner, and once.
-pub(crate) fn reports_once<T: MemberTable + Drop>(rt: &impl Abort) {
+pub(crate) fn reports_once<T: InlineTable + Drop>(rt: &impl Abort) {
     let mut session = Session::<T>::usual(rt);
     session.tick(1_026_036, 0, 0).is(rt, 1, 0, 1_026_037);
     session
@@ -29,13 +29,13 @@ pub(crate) fn reports_once<T: MemberTable + Drop>(rt: &impl Abort) {
 }
 
 /// The interval drawn at the tick has not passed.
-pub(crate) fn put_off<T: MemberTable + Drop>(rt: &impl Abort) {
+pub(crate) fn put_off<T: InlineTable + Drop>(rt: &impl Abort) {
     let mut session = Session::<T>::usual(rt);
     session.tick(1_026_037, GREATEST, 0).is(rt, 1, 0, 3_078_111);
 }
 
 /// A receiver report names no member until its source gives a CNAME.
-pub(crate) fn heard_and_named<T: MemberTable + Drop>(rt: &impl Abort) {
+pub(crate) fn heard_and_named<T: InlineTable + Drop>(rt: &impl Abort) {
     let mut session = Session::<T>::usual(rt);
     let heard = [0x80, 0xc9, 0, 1, 0, 0, 0, 7];
     session.rtcp(0, &heard).is(rt, 1, 0, 1_026_037);
@@ -43,7 +43,7 @@ pub(crate) fn heard_and_named<T: MemberTable + Drop>(rt: &impl Abort) {
 }
 
 /// A source is a member and a sender once a packet of it is counted, and then it is reported.
-pub(crate) fn one_sender<T: MemberTable + Drop>(rt: &impl Abort) {
+pub(crate) fn one_sender<T: InlineTable + Drop>(rt: &impl Abort) {
     let mut session = Session::<T>::usual(rt);
     session.packet(0, 9, 10).is(rt, 1, 0, 1_026_037);
     session.packet(0, 9, 11).is(rt, 2, 1, 1_026_037);
@@ -58,7 +58,7 @@ pub(crate) fn one_sender<T: MemberTable + Drop>(rt: &impl Abort) {
 }
 
 /// The participant sends a packet, and reports as a sender.
-fn own_report<T: MemberTable + Drop>(rt: &impl Abort) -> Session<T> {
+fn own_report<T: InlineTable + Drop>(rt: &impl Abort) -> Session<T> {
     let mut session = Session::<T>::usual(rt);
     let sent = session.participant.sent_rtp(0, 1_000, 160);
     assert!(rt; sent.is_ok());
@@ -75,7 +75,7 @@ fn own_report<T: MemberTable + Drop>(rt: &impl Abort) -> Session<T> {
 }
 
 /// It is a sender for two intervals of a receiver, the moment of the last packet included.
-pub(crate) fn still_sender<T: MemberTable + Drop>(rt: &impl Abort) {
+pub(crate) fn still_sender<T: InlineTable + Drop>(rt: &impl Abort) {
     let mut session = own_report::<T>(rt);
     let report = [
         0x80, 0xc8, 0x00, 0x06, 0x00, 0x00, 0x00, 0xaa, 0x00, 0x00, 0x00, 0x0a, 0x00, 0x00, 0x00,
@@ -88,7 +88,7 @@ pub(crate) fn still_sender<T: MemberTable + Drop>(rt: &impl Abort) {
 }
 
 /// And then it is none.
-pub(crate) fn no_sender<T: MemberTable + Drop>(rt: &impl Abort) {
+pub(crate) fn no_sender<T: InlineTable + Drop>(rt: &impl Abort) {
     let mut session = own_report::<T>(rt);
     session
         .tick(10_000_001, 0, 0)
@@ -96,7 +96,7 @@ pub(crate) fn no_sender<T: MemberTable + Drop>(rt: &impl Abort) {
 }
 
 /// A source is held for five intervals of a receiver after its last sighting.
-pub(crate) fn still_held<T: MemberTable + Drop>(rt: &impl Abort) {
+pub(crate) fn still_held<T: InlineTable + Drop>(rt: &impl Abort) {
     let mut session = Session::<T>::usual(rt);
     session.named(1_000_000, 7).is(rt, 2, 0, 1_026_037);
     session
@@ -105,7 +105,7 @@ pub(crate) fn still_held<T: MemberTable + Drop>(rt: &impl Abort) {
 }
 
 /// And then it is dropped, in the tick that finds it so.
-pub(crate) fn silent<T: MemberTable + Drop>(rt: &impl Abort) {
+pub(crate) fn silent<T: InlineTable + Drop>(rt: &impl Abort) {
     let mut session = Session::<T>::usual(rt);
     session.named(1_000_000, 7).is(rt, 2, 0, 1_026_037);
     session
@@ -114,7 +114,7 @@ pub(crate) fn silent<T: MemberTable + Drop>(rt: &impl Abort) {
 }
 
 /// A full table takes nobody until one that left is no longer held.
-pub(crate) fn full<T: MemberTable + Drop>(rt: &impl Abort) {
+pub(crate) fn full<T: InlineTable + Drop>(rt: &impl Abort) {
     let mut session = Session::<T>::new(
         rt,
         Config {
@@ -151,7 +151,7 @@ const REPORT_OF_3: [u8; 20] = [
 ];
 
 /// The last moment that is taken, one beyond it, and one before it.
-pub(crate) fn last_moments<T: MemberTable + Drop>(rt: &impl Abort) {
+pub(crate) fn last_moments<T: InlineTable + Drop>(rt: &impl Abort) {
     let mut session = Session::<T>::usual(rt);
     session
         .tick(1 << 50, 0, 0)
@@ -166,7 +166,7 @@ pub(crate) fn last_moments<T: MemberTable + Drop>(rt: &impl Abort) {
 }
 
 /// What is refused changes nothing.
-pub(crate) fn refused<T: MemberTable + Drop>(rt: &impl Abort) {
+pub(crate) fn refused<T: InlineTable + Drop>(rt: &impl Abort) {
     let mut session = Session::<T>::usual(rt);
     session
         .rtcp_from(0, 1, 0xab, &OURS)
@@ -191,7 +191,7 @@ pub(crate) fn refused<T: MemberTable + Drop>(rt: &impl Abort) {
 }
 
 /// The third report carries the extra item.
-pub(crate) fn third_report<T: MemberTable + Drop>(rt: &impl Abort) {
+pub(crate) fn third_report<T: InlineTable + Drop>(rt: &impl Abort) {
     let mut text = ArrayVec::new();
     let _ = text.try_push(b't');
     let mut extras = ArrayVec::new();
@@ -213,7 +213,7 @@ pub(crate) fn third_report<T: MemberTable + Drop>(rt: &impl Abort) {
 }
 
 /// Contributing sources are heard where their packet is counted, and the participant itself is none of them.
-pub(crate) fn contributing<T: MemberTable + Drop>(rt: &impl Abort) {
+pub(crate) fn contributing<T: InlineTable + Drop>(rt: &impl Abort) {
     let mut session = Session::<T>::new(
         rt,
         Config {
@@ -236,7 +236,7 @@ pub(crate) fn contributing<T: MemberTable + Drop>(rt: &impl Abort) {
 }
 
 /// The largest compound, of 16,382 packets, is taken: a source that is heard, and goodbyes of nobody.
-pub(crate) fn largest<T: MemberTable + Drop>(rt: &impl Abort) {
+pub(crate) fn largest<T: InlineTable + Drop>(rt: &impl Abort) {
     let mut bytes = [0; 65_532];
     fill_with_byes(&mut bytes);
     let mut session = Session::<T>::usual(rt);

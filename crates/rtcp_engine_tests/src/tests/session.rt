@@ -68,7 +68,7 @@ pub(crate) struct Session<T: MemberTable> {
     pub(crate) participant: Participant<T>,
 }
 
-impl<T: MemberTable> Session<T> {
+impl<T: InlineTable> Session<T> {
     /// A session of this configuration, with the start word 0.
     pub(crate) fn new(rt: &impl Abort, config: Config) -> Session<T> {
         match Participant::new(config, 0) {
@@ -81,7 +81,9 @@ impl<T: MemberTable> Session<T> {
     pub(crate) fn usual(rt: &impl Abort) -> Session<T> {
         Session::new(rt, config())
     }
+}
 
+impl<T: MemberTable> Session<T> {
     /// A tick with two words.
     pub(crate) fn tick(&mut self, now: u64, w1: u32, w2: u32) -> Seen {
         answered(self.participant.tick(now, w1, w2))
