@@ -41,9 +41,8 @@ struct rattle_block rattle_realloc(void *at, size_t old_size, size_t size, size_
     return (struct rattle_block){0, at};
 }
 
-void rattle_dealloc(void *at, size_t size, size_t alignment)
+void rattle_dealloc(void *at)
 {
-    (void)size, (void)alignment;
     blocks_held--;
     free(at);
 }
@@ -156,7 +155,8 @@ static int reports(void)
     return 0;
 }
 
-/* Memory is refused as a participant begins, and then there is just one block, which its end gives back. */
+/* Memory is refused as a participant begins, at the first block and at the second, which leaves nothing behind; and then
+ * there are just these two, which its end gives back. */
 static int memory(void)
 {
     jalwedd_handle handle = JALWEDD_EMPTY;
@@ -164,11 +164,15 @@ static int memory(void)
     uint8_t octets[JALWEDD_OCTETS] = {0};
     const jalwedd_item no_item = {0, 0, ""};
     HOLDS(blocks_held == 0);
-    blocks_left = blocks_asked = 0;
-    HOLDS(jalwedd_new(&handle, &CONFIG, OF_SEVEN + 18, 1, &no_item, 0, 0, &step) == JALWEDD_NO_MEMORY);
-    HOLDS(is_blank(&step) && handle.at == NULL && blocks_asked == 1);
-    HOLDS(jalwedd_free(&handle) == JALWEDD_IS_EMPTY);
-    blocks_left = 1;
+    for (int given = 0; given < 2; given++) {
+        blocks_left = given;
+        blocks_asked = 0;
+        HOLDS(jalwedd_new(&handle, &CONFIG, OF_SEVEN + 18, 1, &no_item, 0, 0, &step) == JALWEDD_NO_MEMORY);
+        HOLDS(is_blank(&step) && handle.at == NULL && blocks_asked == given + 1 && blocks_held == 0);
+        HOLDS(jalwedd_free(&handle) == JALWEDD_IS_EMPTY);
+    }
+    blocks_left = 2;
+    blocks_asked = 0;
     HOLDS(jalwedd_new(&handle, &CONFIG, OF_SEVEN + 18, 1, &no_item, 0, 0, &step) == JALWEDD_TAKEN);
     HOLDS(jalwedd_arrive_rtcp(&handle, 0, 1, 0, OF_SEVEN, sizeof OF_SEVEN, &step, octets) == JALWEDD_TAKEN);
     HOLDS(step.members == 2);

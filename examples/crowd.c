@@ -11,7 +11,7 @@
  *     cc -std=c11 -O2 crowd.c crowd_svg.c -o crowd $(pkg-config --cflags --libs jalwedd) -lm
  *     crowd [PARTICIPANTS [SEED]] > crowd-10000.svg          the figures go to standard error
  *
- * A participant takes 158 KB of heap, so 10,000 of them 1.6 GB. The whole takes some three minutes of one core, and
+ * A participant with room for 1,024 others takes 150 KB of heap, so 10,000 of them 1.5 GB. The whole takes some three minutes of one core, and
  * `crowd 300` a second or two.
  */
 #include "crowd_svg.h"

@@ -1,5 +1,6 @@
 /* The memory of the library: malloc and free. A host without them links its own rattle_alloc, rattle_realloc and
- * rattle_dealloc before libjalwedd.a, and this file is left out: jalwedd_new asks for one block, of a fixed size. */
+ * rattle_dealloc before libjalwedd.a, and this file is left out: jalwedd_new asks for two blocks, one of a fixed size and
+ * one of 144 octets for each source of the capacity, and jalwedd_free gives them back. No other call asks for any. */
 #include <stdint.h>
 #include <stddef.h>
 #include <stdlib.h>
@@ -28,9 +29,7 @@ struct rattle_block rattle_realloc(void *at, size_t old_size, size_t size, size_
     return block(realloc(at, size != 0 ? size : alignment));
 }
 
-void rattle_dealloc(void *at, size_t size, size_t alignment)
+void rattle_dealloc(void *at)
 {
-    (void)size;
-    (void)alignment;
     free(at);
 }

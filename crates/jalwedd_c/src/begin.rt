@@ -15,12 +15,12 @@ use crate::showing::Handed;
 use crate::status::{EMPTY, LIVE, NO_MEMORY, TAKEN, of_error};
 use crate::step::Step;
 use rtcp_engine::Participant;
-use rtcp_members::SortedTable;
+use rtcp_members::HeapTable;
 use std::alloc::Global;
 
 /// Puts a participant of a session that begins now, at moment 0, into an empty handle. `word` is a random word, for the
-/// draw of the first interval. Call `jalwedd_tick` at the step's `next`. This call alone takes memory, once: some
-/// 160 KB, whatever the configuration.
+/// draw of the first interval. Call `jalwedd_tick` at the step's `next`. This call alone takes memory, in two blocks:
+/// 144 octets for each source of the capacity, and some 2,500.
 ///
 /// Statuses: 0; 21 where the handle holds a participant, which is then the one that the step tells of; 11 to 16 by the
 /// first of C1 to C6 that applies, where a CNAME of more than 255 octets and more than 7 items are tested before the
@@ -56,10 +56,19 @@ pub extern "C" fn jalwedd_new(
         Ok(given) => given,
         Err(status) => return status,
     };
-    match Participant::new(given, word) {
-        Ok(participant) => begin(alloc, handle, participant, step),
-        Err(error) => of_error(error),
+    if let Some(error) = given.error() {
+        return of_error(error);
     }
+    let table = match HeapTable::with_room(alloc, given.capacity, given.rate) {
+        Ok(table) => table,
+        Err(_) => return NO_MEMORY,
+    };
+    begin(
+        alloc,
+        handle,
+        Participant::with_table(given, table, word),
+        step,
+    )
 }
 
 /// Frees the participant of a handle, which is empty then: it is told nothing of it, and nothing goes out.
@@ -81,7 +90,7 @@ pub extern "C" fn jalwedd_free(alloc: Global, handle: &mut Handle) -> u32
 fn begin(
     alloc: Global,
     handle: &mut Handle,
-    participant: Participant<SortedTable>,
+    participant: Participant<HeapTable>,
     step: &mut Step,
 ) -> u32
     requires { handle.old.owned.held ≡ None }

@@ -8,12 +8,12 @@ ghost use Rattle.jalwedd_c.specs.Answers.{Shows};
 use crate::showing::Handed;
 use crate::step::{NEVER, Step};
 use rtcp_engine::Participant;
-use rtcp_members::SortedTable;
+use rtcp_members::HeapTable;
 
 /// What a host in C has on the heap.
 #[derive(Drop)]
 pub(crate) struct Session {
-    pub(crate) participant: Participant<SortedTable>,
+    pub(crate) participant: Participant<HeapTable>,
 }
 
 impl Session {

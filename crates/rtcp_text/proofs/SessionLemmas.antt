@@ -1,8 +1,7 @@
 -- What a session writes: the line for the start, and then what the answers leave.
-use Rattle.std.proofs.Common.{◌≡◌, ℕ, ◌↔◌, List, [], ◌++◌, Option, Some, None, Result, Ok, Err, sym, ◌∙◌, ap, subst, append_assoc, append-nil}
+use Rattle.std.proofs.Common.{◌≡◌, ℕ, List, [], ◌++◌, Option, Some, None, Result, Err, sym, ◌∙◌, ap, subst, append_assoc, append-nil}
 use Rattle.std.specs.Io.KnownBytes.{Appends}
 use Rattle.std.proofs.KnownBytes.{Appends-nil}
-use Rattle.rtcp_engine.specs.declared.config.ConfigError.{ConfigError}
 use Rattle.rtcp_engine.specs.Histories.{History, life_at}
 use Rattle.rtcp_engine.specs.Lives.{next_in_life}
 use Rattle.rtcp_engine.specs.States.{ParticipantValue, StandsAt}
@@ -10,7 +9,7 @@ use Rattle.rtcp_text.specs.AnswerText.{start_text}
 use Rattle.rtcp_text.specs.declared.fault.TextFault.{TextFault}
 use Rattle.rtcp_text.specs.declared.fault.TextFault.TheVariants.{Write}
 use Rattle.rtcp_text.specs.declared.fault.ReplayFault.{ReplayFault}
-use Rattle.rtcp_text.specs.declared.fault.ReplayFault.TheVariants.{Config, Run}
+use Rattle.rtcp_text.specs.declared.fault.ReplayFault.TheVariants.{Run}
 use Rattle.rtcp_text.specs.Lines.{IsTextFrom, Writes}
 use Rattle.rtcp_text.specs.Progress.{RunLeaves}
 use Rattle.rtcp_text.specs.Replay.{AnswersStanding, IsNoEvent, SessionLeaves, opening}
@@ -66,22 +65,3 @@ pub Writes-run : (A B : Type 0) (history : History) (remaining held holds left :
     → Writes remaining held holds (SessionLeaves history {A = A} (Err wanted) left)
 Writes-run A B history remaining held holds left fault wanted is writes =
     let same : fault ≡ wanted = cc is in subst (λ f. Writes remaining held holds (SessionLeaves history {A = A} (Err f) left)) same writes
-
--- A configuration is refused for one reason.
-pub refused_config : (A B P : Type 0) (found error : ConfigError) → (◌≡◌ {A = Result A ConfigError} (Err found) (Err error) ↔ P) → ◌≡◌ {A = Result B ReplayFault} (Err (Config found)) (Err (Config error)) ↔ P
-refused_config A B P found error h =
-    (λ e. h.0 (let same : found ≡ error = cc e in ap Err same), λ p. (let same : found ≡ error = cc (h.1 p) in ap (λ f. Err (Config f)) same))
-
--- One that is taken has none.
-pub taken_config : (A B P : Type 0) (participant : A) (r : Result B ReplayFault) (error : ConfigError) → ((Ok participant ≡ Err error) ↔ P) → (r ≡ Err (Config error) → ⊥)
-    → (r ≡ Err (Config error)) ↔ P
-taken_config A B P participant r error h never = (λ e. absurd (never e), λ p. absurd (cc (h.1 p)))
-
-pub never_well : (B : Type 0) (x : B) (fault : ReplayFault) → Ok x ≡ Err fault → ⊥
-never_well B x fault e = cc e
-
-pub never_run : (B : Type 0) (fault : TextFault) (error : ConfigError) → ◌≡◌ {A = Result B ReplayFault} (Err (Run fault)) (Err (Config error)) → ⊥
-never_run B fault error e = cc e
-
-pub never_none : (found : Option ConfigError) (error : ConfigError) → found ≡ Some error → found ≡ None → ⊥
-never_none found error is none = cc (is, none)

@@ -19,7 +19,7 @@ use crate::player::Player;
 use crate::text::push_start;
 use crate::writing::write_whole;
 use rtcp_engine::{Config, Participant};
-use rtcp_members::{MemberTable, SortedTable};
+use rtcp_members::{HeapTable, MemberTable};
 use std::alloc::{AllocError, Global};
 use std::io::{Read, Write};
 
@@ -85,10 +85,13 @@ pub fn replay<R: Read, W: Write>(
     ensures read_once { failures_of reader.new ≤ 1 }
     ensures write_once { failures_of writer.new ≤ 1 }
 {
-    let participant = match Participant::<SortedTable>::new(config, word) {
-        Ok(participant) => participant,
-        Err(error) => return Err(ReplayFault::Config(error)),
+    if let Some(error) = config.error() {
+        return Err(ReplayFault::Config(error));
+    }
+    let Ok(table) = HeapTable::with_room(alloc, config.capacity, config.rate) else {
+        return Err(ReplayFault::Run(TextFault::Memory));
     };
+    let participant = Participant::with_table(config, table, word);
     match session(alloc, participant, reader, writer) {
         Ok(()) => Ok(()),
         Err(fault) => Err(ReplayFault::Run(fault)),

@@ -153,8 +153,8 @@ unsafe impl Send for Participant {}
 //   `Copy` nor `Clone`, and `drop` frees it.
 impl Participant {
     /// A participant of a session that begins now, at moment 0, with its CNAME of 1 to 255 octets and at most
-    /// 7 items. `word` is for the draw of the first interval. Takes one block of memory, of some 160 KB, and
-    /// up to 900,000 octets of stack: each thread that Rust starts has more by default.
+    /// 7 items. `word` is for the draw of the first interval. Takes two blocks of memory: some 2.5 KB, and 144
+    /// octets for each source of the capacity.
     pub fn new(
         config: &Config,
         cname: &[u8],
