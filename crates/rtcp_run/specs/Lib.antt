@@ -1,6 +1,1 @@
-pub mod EndText
-pub mod Options
-pub mod Endpoints
-pub mod Listening
-pub mod Orders
-pub mod Status
+pub mod Senders

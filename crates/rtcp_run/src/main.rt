@@ -2,32 +2,21 @@
 //! a session over UDP.
 //!
 //! Only this file touches the process: its command line and its standard streams. It lends its runtime to
-//! `udp_link`, for a clock and sockets. All else works over any reader, writer and link: the texts are those of
-//! `rtcp_text`, and the sessions those of `rtcp_serve`, whose calls are passed on here.
+//! `udp_link`, for a clock and sockets. All else works over any reader, writer and link: the command line is that of
+//! `rtcp_command`, the texts are those of `rtcp_text`, and the sessions those of `rtcp_serve`. The calls of these three
+//! are passed on here.
 #![tactic(auto)]
 
 ghost use Rattle.std.specs.Prelude.{IfOk, ◌≤◌};
-ghost use Rattle.rtcp_run.specs.Listening.{HasTurns};
+ghost use Rattle.rtcp_command.specs.Listening.{HasTurns};
 
-mod command;
-mod endpoint;
-mod ends;
-mod fault;
-mod laws;
-mod listen;
-mod options;
-mod order;
-mod orders;
-#[cfg(test)]
-mod tests;
 mod udp_link;
 
-use ends::end_line;
-use fault::ListenFault;
-use order::refuse;
-use orders::{Order, OrderFault, TextOrder};
 use rand_core::{Rng, SeedableRng};
 use rand_pcg::Pcg32;
+use rtcp_command::ends::end_line;
+use rtcp_command::order::refuse;
+pub use rtcp_command::{ListenFault, Order, OrderFault, TextOrder, command, laws, listen, order};
 use rtcp_engine::{Config, Participant};
 use rtcp_members::SortedTable;
 pub use rtcp_serve::{Cause, End, Link, LinkFault, Port, Received, serve, serve_laws};

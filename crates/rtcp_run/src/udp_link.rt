@@ -1,15 +1,15 @@
 //! A link over two UDP sockets.
 
 ghost use Rattle.std.specs.Prelude.{◌≡◌, IfOk, IfSome, None};
-ghost use Rattle.rtcp_run.specs.Endpoints.{sender_number};
+ghost use Rattle.rtcp_run.specs.Senders.{sender_number};
 ghost use Rattle.rtcp_serve.specs.Links.{LinkValue, IsWithin};
 
 #[cfg(test)]
 mod tests;
 
-use crate::fault::ListenFault;
 use mio::net::UdpSocket;
 use mio::{Events, Interest, Poll, Token};
+use rtcp_command::ListenFault;
 use rtcp_serve::{Link, LinkFault, Port, Received};
 use std::alloc::Global;
 use std::io::{self, ErrorKind};

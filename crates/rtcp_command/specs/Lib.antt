@@ -1,0 +1,6 @@
+pub mod EndText
+pub mod Options
+pub mod Endpoints
+pub mod Listening
+pub mod Orders
+pub mod Status

@@ -1,0 +1,93 @@
+-- What the options of `rtcp listen` say, and the first of them that is refused.
+use Rattle.std.specs.Prelude.{◌≡◌, ℕ, ◌≤◌, nat_le, ◌&&◌, List, if◌then◌else◌, Option, Some, None, option_and_then, Result, Ok, Err, codes}
+use Rattle.std.specs.Option.{ok_or}
+use Rattle.rtcp_engine.specs.Setups.{Setup}
+use Rattle.rtcp_engine.specs.Views.{setup_of}
+use Rattle.rtcp_command.specs.declared.options.LinkOptions.{LinkOptions}
+use Rattle.rtcp_command.specs.declared.orders.Order.{Order}
+use Rattle.rtcp_command.specs.declared.orders.Order.TheVariants.{Text, Listen}
+use Rattle.rtcp_command.specs.declared.orders.OrderFault.{OrderFault}
+use Rattle.rtcp_command.specs.declared.orders.OrderFault.TheVariants.{Clap, Option as BadOption, Memory}
+use Rattle.rtcp_command.specs.Endpoints.{Endpoint, endpoint_in, endpoint_of}
+use Rattle.rtcp_text.specs.Numerals.{decimal_in}
+use Rattle.rtcp_command.specs.Options.{OptionTexts, setup_in, text_found}
+use Rattle.rtcp_text.specs.Results.{◌>>=◌}
+
+-- the texts of the options after those of the participant, in the order in which they are looked at
+pub record LinkTexts : Type 0 where
+  pub rtp : List ℕ
+  pub rtcp : List ℕ
+  pub peer : List ℕ
+  pub seed : List ℕ
+  pub turns : List ℕ
+
+abbrev pub link_texts_of : LinkOptions → LinkTexts
+link_texts_of options = record {
+  rtp = options.rtp.now;
+  rtcp = options.rtcp.now;
+  peer = options.peer.now;
+  seed = options.seed.now;
+  turns = options.turns.now;
+}
+
+-- the texts that a command line gives
+abbrev pub link_texts_found : (List ℕ → Option (List ℕ)) → LinkTexts
+link_texts_found found = record {
+  rtp = text_found found (codes "rtp");
+  rtcp = text_found found (codes "rtcp");
+  peer = text_found found (codes "peer");
+  seed = text_found found (codes "seed");
+  turns = text_found found (codes "turns");
+}
+
+-- 1 to 1,000,000 turns
+abbrev pub turns_in : List ℕ → Option ℕ
+turns_in text =
+    option_and_then (λ turns. if nat_le 1 turns && nat_le turns 1000000 then Some turns else None)
+    (decimal_in 32 text)
+
+-- a session over UDP
+pub record Listening : Type 0 where
+  pub setup : Setup
+  pub rtp : Endpoint
+  pub rtcp : Endpoint
+  pub peer : Endpoint
+  pub seed : ℕ
+  pub turns : ℕ
+
+-- The session, or the name of the first option that is refused.
+abbrev pub listen_in : OptionTexts → LinkTexts → Result Listening (List ℕ)
+listen_in texts link = do
+  setup ← setup_in texts
+  rtp ← ok_or (endpoint_in link.rtp) (codes "rtp")
+  rtcp ← ok_or (endpoint_in link.rtcp) (codes "rtcp")
+  peer ← ok_or (endpoint_in link.peer) (codes "peer")
+  seed ← ok_or (decimal_in 64 link.seed) (codes "seed")
+  turns ← ok_or (turns_in link.turns) (codes "turns")
+  Ok (record { setup = setup; rtp = rtp; rtcp = rtcp; peer = peer; seed = seed; turns = turns })
+
+-- ---- Orders
+
+-- The options come to this order.
+abbrev pub IsListening : Order → Result Listening (List ℕ) → Type 0
+IsListening (Listen config rtp rtcp peer seed turns) expected = expected ≡ Ok (record {
+  setup = setup_of config;
+  rtp = endpoint_of rtp;
+  rtcp = endpoint_of rtcp;
+  peer = endpoint_of peer;
+  seed = seed;
+  turns = turns;
+})
+IsListening (Text order) expected = ⊥
+
+-- What the options come to is this order, or this fault.
+abbrev pub IsListenOrder : Result Order OrderFault → Result Listening (List ℕ) → Type 0
+IsListenOrder (Ok order) expected = IsListening order expected
+IsListenOrder (Err (BadOption name)) expected = expected ≡ Err name.now
+IsListenOrder (Err (Clap text)) expected = ⊥
+IsListenOrder (Err Memory) expected = ⊥
+
+-- A session that is asked for has 1 to 1,000,000 turns.
+abbrev pub HasTurns : Order → Type 0
+HasTurns (Listen config rtp rtcp peer seed turns) = (1 ≤ turns) × (turns ≤ 1000000)
+HasTurns (Text order) = Unit {0}

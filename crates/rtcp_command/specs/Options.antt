@@ -1,0 +1,184 @@
+-- What the options that configure a participant and those of `rtcp replay` say, and the first that is refused.
+use Rattle.std.specs.Prelude.{◌≡◌, ℕ, ◌/◌, ◌^◌, ◌-◌, nat_le, min, List, [], ◌∷◌, ◌++◌, length, if◌then◌else◌, Option, Some, None, option_map, unwrap_or, Result, Ok, Err, codes}
+use Rattle.std.specs.Borrow.{Bor}
+use Rattle.std.specs.Int.{w32, w64}
+use Rattle.std.specs.Option.{ok_or}
+use Rattle.std.specs.Result.{result_ok}
+use Rattle.hex.specs.Hex.{decode_of}
+use Rattle.rtcp_wire.specs.Values.{ItemValue}
+use Rattle.rtcp_engine.specs.Setups.{Setup}
+use Rattle.rtcp_engine.specs.Views.{setup_of}
+use Rattle.rtcp_command.specs.declared.options.Options.{Options}
+use Rattle.rtcp_command.specs.declared.orders.TextOrder.{TextOrder}
+use Rattle.rtcp_command.specs.declared.orders.TextOrder.TheVariants.{Check, Replay}
+use Rattle.rtcp_command.specs.declared.orders.OrderFault.{OrderFault}
+use Rattle.rtcp_command.specs.declared.orders.OrderFault.TheVariants.{Clap, Option as BadOption, Memory}
+use Rattle.rtcp_text.specs.Numerals.{decimal_in, hex_in}
+use Rattle.rtcp_text.specs.Results.{◌>>=◌}
+
+-- ---- Texts
+
+-- the texts of the options, in the order in which they are looked at
+pub record OptionTexts : Type 0 where
+  pub ssrc : List ℕ
+  pub cname : List ℕ
+  pub capacity : List ℕ
+  pub limit : List ℕ
+  pub session_bps : List ℕ
+  pub sender_bw : Option (List ℕ)
+  pub receiver_bw : Option (List ℕ)
+  pub rate : List ℕ
+  pub ntp : List ℕ
+  pub name : Option (List ℕ)
+  pub email : Option (List ℕ)
+  pub phone : Option (List ℕ)
+  pub loc : Option (List ℕ)
+  pub tool : Option (List ℕ)
+  pub note : Option (List ℕ)
+  pub private : Option (List ℕ)
+
+abbrev pub text_given : Option (Bor (List ℕ)) → Option (List ℕ)
+text_given given = option_map (λ text. text.now) given
+
+abbrev pub texts_of : Options → OptionTexts
+texts_of options = record {
+  ssrc = options.ssrc.now;
+  cname = options.cname.now;
+  capacity = options.capacity.now;
+  limit = options.limit.now;
+  session_bps = options.session_bps.now;
+  sender_bw = text_given options.sender_bw;
+  receiver_bw = text_given options.receiver_bw;
+  rate = options.rate.now;
+  ntp = options.ntp.now;
+  name = text_given options.name;
+  email = text_given options.email;
+  phone = text_given options.phone;
+  loc = text_given options.loc;
+  tool = text_given options.tool;
+  note = text_given options.note;
+  private = text_given options.private;
+}
+
+-- the text that a command line gives an option, by the option's name (an empty one where it gives none)
+abbrev pub text_found : (List ℕ → Option (List ℕ)) → (name : List ℕ) → List ℕ
+text_found found name = unwrap_or (found name) []
+
+-- the texts that a command line gives
+abbrev pub texts_found : (List ℕ → Option (List ℕ)) → OptionTexts
+texts_found found = record {
+  ssrc = text_found found (codes "ssrc");
+  cname = text_found found (codes "cname");
+  capacity = text_found found (codes "capacity");
+  limit = text_found found (codes "limit");
+  session_bps = text_found found (codes "session-bps");
+  sender_bw = found (codes "sender-bw");
+  receiver_bw = found (codes "receiver-bw");
+  rate = text_found found (codes "rate");
+  ntp = text_found found (codes "ntp");
+  name = found (codes "name");
+  email = found (codes "email");
+  phone = found (codes "phone");
+  loc = found (codes "loc");
+  tool = found (codes "tool");
+  note = found (codes "note");
+  private = found (codes "priv");
+}
+
+-- ---- Values
+
+-- a text of at most 255 octets
+abbrev pub text_in : List ℕ → Option (List ℕ)
+text_in text = if nat_le (length text) 255 then Some text else None
+
+-- at most 255 octets, in hex of either case
+abbrev pub hex_text_in : List ℕ → Option (List ℕ)
+hex_text_in text = if nat_le (length text) 510 then result_ok (decode_of text) else None
+
+-- RTCP's bandwidth, 5 per cent of the session's, in octets a second: a quarter of it is for senders, and the rest for
+-- the others
+abbrev pub share_of_senders : (session_bps : ℕ) → ℕ
+share_of_senders session_bps = session_bps / 160 / 4
+
+abbrev pub share_of_others : (session_bps : ℕ) → ℕ
+share_of_others session_bps = session_bps / 160 - session_bps / 160 / 4
+
+-- a bandwidth, or the greatest number of 32 bits
+abbrev pub fitted : (bandwidth : ℕ) → ℕ
+fitted bandwidth = min bandwidth (2 ^ 32 - 1)
+
+-- the bandwidth that an option gives, or the share where it is not given
+abbrev pub bandwidth_in : (name : List ℕ) → (share : ℕ) → Option (List ℕ) → Result ℕ (List ℕ)
+bandwidth_in name share None = Ok (fitted share)
+bandwidth_in name share (Some text) = do
+  bandwidth ← ok_or (decimal_in 64 text) name
+  Ok (fitted bandwidth)
+
+-- ---- Extra items
+
+-- an extra item, if its option is given
+abbrev pub item_in : (kind : ℕ) → (name : List ℕ) → (read : List ℕ → Option (List ℕ)) → Option (List ℕ) →
+    Result (List ItemValue) (List ℕ)
+item_in kind name read None = Ok []
+item_in kind name read (Some text) = do
+  octets ← ok_or (read text) name
+  Ok (record { kind = kind; text = octets } ∷ [])
+
+-- Extra items stand in the order of their types.
+abbrev pub extras_in : OptionTexts → Result (List ItemValue) (List ℕ)
+extras_in texts = do
+  name ← item_in 2 (codes "name") text_in texts.name
+  email ← item_in 3 (codes "email") text_in texts.email
+  phone ← item_in 4 (codes "phone") text_in texts.phone
+  place ← item_in 5 (codes "loc") text_in texts.loc
+  tool ← item_in 6 (codes "tool") text_in texts.tool
+  note ← item_in 7 (codes "note") text_in texts.note
+  private ← item_in 8 (codes "priv") hex_text_in texts.private
+  Ok (name ++ email ++ phone ++ place ++ tool ++ note ++ private)
+
+abbrev pub with_extras : Setup → List ItemValue → Setup
+with_extras setup items = record setup { extras = setup.extras ++ items }
+
+-- ---- The setup
+
+-- How the participant is set up, or the name of the first option that is refused.
+abbrev pub setup_in : OptionTexts → Result Setup (List ℕ)
+setup_in texts = do
+  ssrc ← ok_or (hex_in w32 texts.ssrc) (codes "ssrc")
+  cname ← ok_or (text_in texts.cname) (codes "cname")
+  capacity ← ok_or (decimal_in 32 texts.capacity) (codes "capacity")
+  limit ← ok_or (decimal_in 32 texts.limit) (codes "limit")
+  session_bps ← ok_or (decimal_in 64 texts.session_bps) (codes "session-bps")
+  sender_bw ← bandwidth_in (codes "sender-bw") (share_of_senders session_bps) texts.sender_bw
+  receiver_bw ← bandwidth_in (codes "receiver-bw") (share_of_others session_bps) texts.receiver_bw
+  rate ← ok_or (decimal_in 32 texts.rate) (codes "rate")
+  ntp ← ok_or (hex_in w64 texts.ntp) (codes "ntp")
+  extras ← extras_in texts
+  Ok (record {
+    ssrc = ssrc;
+    cname = cname;
+    extras = extras;
+    capacity = capacity;
+    limit = limit;
+    sender_bw = sender_bw;
+    receiver_bw = receiver_bw;
+    rate = rate;
+    ntp_base = ntp;
+  })
+
+-- The word of the start is looked at last.
+abbrev pub replay_in : OptionTexts → (word : List ℕ) → Result (Setup × ℕ) (List ℕ)
+replay_in texts word = do
+  setup ← setup_in texts
+  word ← ok_or (hex_in w32 word) (codes "word")
+  Ok (setup, word)
+
+-- ---- Orders
+
+-- What the options come to is this order, or this fault.
+abbrev pub IsReplayOrder : Result TextOrder OrderFault → Result (Setup × ℕ) (List ℕ) → Type 0
+IsReplayOrder (Ok (Replay config word)) expected = expected ≡ Ok (setup_of config, word)
+IsReplayOrder (Ok Check) expected = ⊥
+IsReplayOrder (Err (BadOption name)) expected = expected ≡ Err name.now
+IsReplayOrder (Err (Clap text)) expected = ⊥
+IsReplayOrder (Err Memory) expected = ⊥

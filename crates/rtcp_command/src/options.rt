@@ -1,0 +1,234 @@
+//! The options of `rtcp replay` and of `rtcp listen`.
+
+ghost use Rattle.std.specs.Prelude.{◌≡◌, ◌≤◌, ◌<◌, ◌+◌, ◌++◌, List, Ok, Err, OnOk, IfOk, IfErr, IfSome, [], length, option_map, codes};
+ghost use Rattle.rtcp_wire.specs.Values.{ItemValue};
+ghost use Rattle.rtcp_engine.specs.Views.{setup_of};
+ghost use Rattle.rtcp_command.specs.Listening.{HasTurns, IsListening, link_texts_of, listen_in, turns_in};
+ghost use Rattle.rtcp_command.specs.Options.{bandwidth_in, extras_in, hex_text_in, item_in, replay_in, setup_in, text_given, text_in, texts_of, with_extras};
+
+use crate::endpoint::read_endpoint;
+use crate::orders::Order;
+use arrayvec::ArrayVec;
+use rtcp_engine::{Config, Item, rtcp_bw_of, shares_of};
+use rtcp_text::numerals::{read_decimal, read_long, read_short_decimal, read_word};
+
+/// The most turns of a session.
+const MAX_TURNS: u32 = 1_000_000;
+
+/// The texts of the options that configure a participant, as a command line or their defaults give them.
+#[derive(Clone, Copy, Debug)]
+pub(crate) struct Options<'a> {
+    pub(crate) ssrc: &'a str,
+    pub(crate) cname: &'a str,
+    pub(crate) capacity: &'a str,
+    pub(crate) limit: &'a str,
+    pub(crate) session_bps: &'a str,
+    pub(crate) sender_bw: Option<&'a str>,
+    pub(crate) receiver_bw: Option<&'a str>,
+    pub(crate) rate: &'a str,
+    pub(crate) ntp: &'a str,
+    pub(crate) name: Option<&'a str>,
+    pub(crate) email: Option<&'a str>,
+    pub(crate) phone: Option<&'a str>,
+    pub(crate) loc: Option<&'a str>,
+    pub(crate) tool: Option<&'a str>,
+    pub(crate) note: Option<&'a str>,
+    pub(crate) private: Option<&'a str>,
+}
+
+/// The texts of the options that `listen` takes after those of the participant.
+#[derive(Clone, Copy, Debug)]
+pub(crate) struct LinkOptions<'a> {
+    pub(crate) rtp: &'a str,
+    pub(crate) rtcp: &'a str,
+    pub(crate) peer: &'a str,
+    pub(crate) seed: &'a str,
+    pub(crate) turns: &'a str,
+}
+
+/// The configuration and the word of the start that the options of `replay` say. Whether a participant takes
+/// the configuration is not tested here.
+///
+/// # Errors
+///
+/// The name of the first option that is refused, in the order of the fields above and then `word`, without its
+/// dashes.
+pub(crate) fn read_replay(options: Options<'_>, word: &str) -> Result<(Config, u32), &'static str>
+    ensures read { IfOk result (λ read.
+        replay_in (texts_of options.entry) word.now ≡ Ok (setup_of read.0, read.1)) }
+    ensures refused { IfErr result (λ name. replay_in (texts_of options.entry) word.now ≡ Err name.now) }
+{
+    let config = read_config(options)?;
+    let word = read_word(word.as_bytes()).ok_or("word")?;
+    Ok((config, word))
+}
+
+/// The session over UDP that the options of `listen` say. Whether a participant takes the configuration is not
+/// tested here.
+///
+/// # Errors
+///
+/// The name of the first option that is refused, in the order of the fields of both structs above, without its
+/// dashes.
+pub(crate) fn read_listen(
+    options: Options<'_>,
+    link: LinkOptions<'_>,
+) -> Result<Order, &'static str>
+    ensures read { IfOk result (λ order.
+        IsListening order (listen_in (texts_of options.entry) (link_texts_of link.entry))) }
+    ensures turns { IfOk result HasTurns }
+    ensures refused { IfErr result (λ name.
+        listen_in (texts_of options.entry) (link_texts_of link.entry) ≡ Err name.now) }
+{
+    let config = read_config(options)?;
+    let rtp = read_endpoint(link.rtp).ok_or("rtp")?;
+    let rtcp = read_endpoint(link.rtcp).ok_or("rtcp")?;
+    let peer = read_endpoint(link.peer).ok_or("peer")?;
+    let seed = read_decimal(link.seed.as_bytes()).ok_or("seed")?;
+    let turns = read_turns(link.turns).ok_or("turns")?;
+    Ok(Order::Listen {
+        config,
+        rtp,
+        rtcp,
+        peer,
+        seed,
+        turns,
+    })
+}
+
+/// How many turns a session has: 1 to 1,000,000.
+fn read_turns(text: &str) -> Option<u32>
+    ensures read { result ≡ turns_in text.now }
+    ensures within { IfSome result (λ turns. (1 ≤ turns) × (turns ≤ 1000000)) }
+{
+    let turns = read_short_decimal(text.as_bytes())?;
+    if (1..=MAX_TURNS).contains(&turns) {
+        Some(turns)
+    } else {
+        None
+    }
+}
+
+fn read_config(options: Options<'_>) -> Result<Config, &'static str>
+    ensures read { IfOk result (λ config. setup_in (texts_of options.entry) ≡ Ok (setup_of config)) }
+    ensures refused { IfErr result (λ name. setup_in (texts_of options.entry) ≡ Err name.now) }
+{
+    let ssrc = read_word(options.ssrc.as_bytes()).ok_or("ssrc")?;
+    let cname = read_text(options.cname).ok_or("cname")?;
+    let capacity = read_short_decimal(options.capacity.as_bytes()).ok_or("capacity")?;
+    let limit = read_short_decimal(options.limit.as_bytes()).ok_or("limit")?;
+    let session_bps = read_decimal(options.session_bps.as_bytes()).ok_or("session-bps")?;
+    let (senders, others) = shares_of(rtcp_bw_of(session_bps));
+    let sender_bw = read_bandwidth(options.sender_bw, "sender-bw", senders)?;
+    let receiver_bw = read_bandwidth(options.receiver_bw, "receiver-bw", others)?;
+    let rate = read_short_decimal(options.rate.as_bytes()).ok_or("rate")?;
+    let ntp_base = read_long(options.ntp.as_bytes()).ok_or("ntp")?;
+    let mut config = Config {
+        ssrc,
+        cname,
+        extras: ArrayVec::new(),
+        capacity,
+        limit,
+        sender_bw,
+        receiver_bw,
+        rate,
+        ntp_base,
+    };
+    add_extras(&mut config, options)?;
+    Ok(config)
+}
+
+/// A bandwidth, in octets a second: what the option says, if it is given, or else this share. The greatest number
+/// of 32 bits stands for one that does not fit those.
+fn read_bandwidth(given: Option<&str>, name: &'static str, share: u64) -> Result<u32, &'static str>
+    ensures read { IfOk result (λ bandwidth.
+        bandwidth_in name.now share (text_given given.entry) ≡ Ok bandwidth) }
+    ensures refused { IfErr result (λ refused.
+        bandwidth_in name.now share (text_given given.entry) ≡ Err refused.now) }
+{
+    let bandwidth = match given {
+        Some(text) => read_decimal(text.as_bytes()).ok_or(name)?,
+        None => share,
+    };
+    Ok(u32::try_from(bandwidth).unwrap_or(u32::MAX))
+}
+
+/// Adds the extra items of the options that are given, in the order of their types.
+fn add_extras(config: &mut Config, options: Options<'_>) -> Result<(), &'static str>
+    requires { (setup_of config.old).extras ≡ [] }
+    ensures added { OnOk result ((items : List ItemValue) × (extras_in (texts_of options.entry) ≡ Ok items)
+        × (setup_of config.new ≡ with_extras (setup_of config.old) items)) }
+    ensures refused { IfErr result (λ name. extras_in (texts_of options.entry) ≡ Err name.now) }
+{
+    add_text(config, 2, "name", options.name)?;
+    add_text(config, 3, "email", options.email)?;
+    add_text(config, 4, "phone", options.phone)?;
+    add_text(config, 5, "loc", options.loc)?;
+    add_text(config, 6, "tool", options.tool)?;
+    add_text(config, 7, "note", options.note)?;
+    add_private(config, options.private)
+}
+
+/// Adds the item of an option that is text, if it is given.
+fn add_text(
+    config: &mut Config,
+    kind: u8,
+    name: &'static str,
+    given: Option<&str>,
+) -> Result<(), &'static str>
+    requires { length (setup_of config.old).extras < 7 }
+    ensures added { OnOk result ((items : List ItemValue)
+        × (item_in kind name.now text_in (text_given given.entry) ≡ Ok items)
+        × (setup_of config.new ≡ with_extras (setup_of config.old) items)) }
+    ensures refused { IfErr result (λ refused.
+        item_in kind name.now text_in (text_given given.entry) ≡ Err refused.now) }
+    ensures one { length (setup_of config.new).extras ≤ length (setup_of config.old).extras + 1 }
+{
+    let Some(given) = given else {
+        return Ok(());
+    };
+    let text = read_text(given).ok_or(name)?;
+    config.extras.push(Item { kind, text });
+    Ok(())
+}
+
+/// Adds the item of `--priv`, which is octets in hex, if it is given.
+fn add_private(config: &mut Config, given: Option<&str>) -> Result<(), &'static str>
+    requires { length (setup_of config.old).extras < 7 }
+    ensures added { OnOk result ((items : List ItemValue)
+        × (item_in 8 (codes "priv") hex_text_in (text_given given.entry) ≡ Ok items)
+        × (setup_of config.new ≡ with_extras (setup_of config.old) items)) }
+    ensures refused { IfErr result (λ refused.
+        item_in 8 (codes "priv") hex_text_in (text_given given.entry) ≡ Err refused.now) }
+{
+    let Some(given) = given else {
+        return Ok(());
+    };
+    let text = read_hex_text(given).ok_or("priv")?;
+    config.extras.push(Item { kind: 8, text });
+    Ok(())
+}
+
+/// A text of at most 255 octets.
+fn read_text(text: &str) -> Option<ArrayVec<u8, 255>>
+    ensures { option_map (λ read. read.items) result ≡ text_in text.now }
+{
+    let mut octets = ArrayVec::new();
+    octets.try_extend_from_slice(text.as_bytes()).ok()?;
+    Some(octets)
+}
+
+/// At most 255 octets, in hex of either case.
+fn read_hex_text(text: &str) -> Option<ArrayVec<u8, 255>>
+    ensures { option_map (λ read. read.items) result ≡ hex_text_in text.now }
+{
+    if text.len() > 510 {
+        return None;
+    }
+    let mut buffer = [0; 255];
+    let decoded = &mut buffer[..text.len() / 2];
+    hex::decode_to_slice(text, decoded).ok()?;
+    let mut octets = ArrayVec::new();
+    octets.try_extend_from_slice(decoded).ok()?;
+    Some(octets)
+}

@@ -1,0 +1,130 @@
+//! The command line.
+
+ghost use Rattle.std.specs.Prelude.{◌≡◌, IfOk};
+ghost use Rattle.rtcp_command.specs.Listening.{HasTurns};
+ghost use Rattle.rtcp_command.specs.Status.{order_status};
+
+mod listen;
+mod options;
+mod replay;
+
+use crate::orders::{Order, OrderFault, TextOrder};
+use clap::Command;
+use clap::error::ErrorKind as ClapErrorKind;
+use std::alloc::{AllocError, Global};
+use std::io::{ErrorKind, Write};
+
+const ABOUT: &str = "The control half of an RTP participant (RFC 3550)";
+
+const AFTER_HELP: &str = "\
+Run `rtcp check --help` or `rtcp replay --help` for what to pipe in and what comes out, and
+`rtcp listen --help` for a session over UDP.";
+
+const CHECK_ABOUT: &str = "Show what RTCP datagrams are, or why they are refused";
+
+const CHECK_LONG: &str = "\
+Show what RTCP datagrams are, or why they are refused.
+
+Pipe in one datagram a line, its octets in hex of either case: for instance the UDP payloads
+that tshark prints of a capture.
+
+    tshark -r call.pcap -Y rtcp -T fields -e udp.payload | rtcp check
+
+One line comes out for each line that goes in: ok and the packets, or the first fault and the
+offset of the packet that has it.
+
+    ok RR(11223344,[],0) SDES([11223344{1=616263}])
+    F2 Version at 8
+
+A line of more than 131200 characters, a line after the first 65536 and a line that is not hex
+end the run: the number of the line and its fault are written to standard error.
+
+The status is 0 if every line was answered, 2 if the command line or a line of the text was
+refused, and 1 if reading, writing or memory failed.";
+
+const NON_UTF8: &str = "\
+error: invalid UTF-8 was detected in one or more arguments
+
+For more information, try '--help'.
+";
+
+/// What the words of a command line ask for. The first word is the name of the program.
+///
+/// # Errors
+///
+/// - [`OrderFault::Clap`] where a subcommand or an option that is required is missing, a word is unknown, or
+///   help is asked for.
+/// - [`OrderFault::Option`] where the value of an option is refused: the first one, in the order in which
+///   docs/FORMATS.md has them.
+/// - [`OrderFault::Memory`] where memory is refused.
+pub fn order<'a>(alloc: Global, words: &'a [&'a str]) -> Result<Order, OrderFault>
+    ensures turns { IfOk result HasTurns }
+{
+    let Ok(mut program) = program(alloc) else {
+        return Err(OrderFault::Memory);
+    };
+    match program.try_get_matches_from_mut(words) {
+        Ok(matches) => match matches.subcommand() {
+            Some(("check", _)) => Ok(Order::Text(TextOrder::Check)),
+            Some(("replay", matches)) => Ok(Order::Text(replay::order(matches)?)),
+            Some(("listen", matches)) => listen::order(matches),
+            _ => Err(shown(program.render_help())),
+        },
+        Err(error) if error.kind() == ClapErrorKind::OutOfMemory => Err(OrderFault::Memory),
+        Err(error) => Err(shown(format!(in alloc; "{error}"))),
+    }
+}
+
+/// The fault of arguments that could not be read, by the kind of the error: they are non-UTF-8 arguments,
+/// unless memory was refused.
+pub fn unreadable(alloc: Global, kind: ErrorKind) -> OrderFault {
+    match kind {
+        ErrorKind::OutOfMemory => OrderFault::Memory,
+        _ => shown(String::from_str(alloc, NON_UTF8)),
+    }
+}
+
+/// Writes why there is no order, and returns the status to end with: 2 where the words are refused or ask for
+/// help, 1 where memory is refused. A failed write is ignored.
+pub fn refuse<W: Write>(fault: &OrderFault, faults: &mut W) -> u8
+    ensures { result ≡ order_status fault.now }
+{
+    match fault {
+        OrderFault::Clap(text) => {
+            let _ = faults.write_all(text.as_bytes());
+            2
+        }
+        OrderFault::Option(name) => {
+            let _ = writeln!(faults, "option {name}");
+            2
+        }
+        OrderFault::Memory => {
+            let _ = faults.write_all(b"memory\n");
+            1
+        }
+    }
+}
+
+/// The command line, as `clap` reads it.
+fn program<'a>(alloc: Global) -> Result<Command<'a>, AllocError> {
+    let check = Command::new(alloc, "check")
+        .about(CHECK_ABOUT)
+        .long_about(CHECK_LONG);
+    Command::new(alloc, "rtcp")
+        .bin_name("rtcp")?
+        .about(ABOUT)
+        .after_help(AFTER_HELP)
+        .disable_help_subcommand(true)
+        .subcommand_required(true)
+        .subcommand(check)?
+        .subcommand(replay::subcommand(alloc)?)?
+        .subcommand(listen::subcommand(alloc)?)
+}
+
+/// The fault that shows a text, unless there was no memory for the text.
+fn shown(text: Result<String, AllocError>) -> OrderFault {
+    match text {
+        Ok(text) => OrderFault::Clap(text),
+        Err(AllocError) => OrderFault::Memory,
+    }
+}

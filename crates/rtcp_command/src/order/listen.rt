@@ -1,0 +1,133 @@
+//! The subcommand `listen` of the command line.
+
+ghost use Rattle.std.specs.Prelude.{◌≡◌, IfOk};
+ghost use Rattle.clap.specs.Matches.{found_of, first_value};
+ghost use Rattle.rtcp_command.specs.Listening.{HasTurns, IsListenOrder, link_texts_found, link_texts_of, listen_in};
+ghost use Rattle.rtcp_command.specs.Options.{texts_found};
+
+use super::options::{Absent, PARTICIPANT, Row, given, participant, with_options};
+use crate::options::{LinkOptions, read_listen};
+use crate::orders::{Order, OrderFault};
+use clap::{ArgMatches, Command};
+use std::alloc::{AllocError, Global};
+
+const ABOUT: &str = "Take part in a session over UDP";
+
+const LONG: &str = "\
+Take part in a session over UDP.
+
+RTP and RTCP come in at a port each, and reports go from the port of RTCP to the peer. In a turn
+the participant takes at most one datagram from each port, and sends what is due; where neither
+has one it waits until one comes, for at most 20 milliseconds. After the last turn it leaves:
+without a word if it has sent no report, else with a BYE. Where more than 50 are known that BYE
+waits for its turn, in at most as many turns again, and may not go out. It sends no RTP, and
+nothing is written before the end.
+
+In a collision, where a datagram names the participant's own SSRC, it takes another one at random
+and sends a BYE for the old one if it has reported under it: once for each sender of such
+datagrams, and at most eight times; later ones are refused.
+
+So turns measure no time. 1000 of them last 20 seconds where nothing comes. A packet takes two or
+three where it comes alone, and less where packets come together, but never less than one. An hour
+of audio in packets of 20 milliseconds takes 360000 to 540000 turns. The most, 1000000, last for
+two to three hours of it, and for 14 to 25 minutes of video of 600 packets a second.
+
+To join a sender of GStreamer on this machine, which reads RTCP at port 5007:
+
+    gst-launch-1.0 rtpbin name=session \\
+        audiotestsrc is-live=true ! mulawenc ! rtppcmupay ! session.send_rtp_sink_0 \\
+        session.send_rtp_src_0 ! udpsink host=127.0.0.1 port=5004 \\
+        session.send_rtcp_src_0 ! udpsink host=127.0.0.1 port=5005 sync=false async=false \\
+        udpsrc port=5007 ! session.recv_rtcp_sink_0
+
+Or one of FFmpeg, which binds that port too:
+
+    ffmpeg -re -f lavfi -i sine -ar 8000 -c:a pcm_mulaw -f rtp \\
+        'rtp://127.0.0.1:5004?rtcpport=5005&localrtcpport=5007'
+
+For either:
+
+    rtcp listen --ssrc 000000aa --cname a \\
+        --rtp 127.0.0.1:5004 --rtcp 127.0.0.1:5005 --peer 127.0.0.1:5007
+
+One line comes out at the end: Done after the last turn, LinkDown where 64 receives in a row
+failed, or Limit where the participant met a limit of its own; how many datagrams came, how many
+of them were refused, how many compounds were sent, how many sends and receives failed, and
+whether the BYE of leaving was sent.
+
+    end Done received=137 refused=0 sent=5 send-failures=0 recv-failures=0 bye=yes
+
+Ctrl-C ends the process as it ends any: no BYE is sent, and no line comes out.
+
+The status is 0 at Done and Limit, 2 if the command line, an option or the configuration was
+refused, and 1 at LinkDown and if a port could not be bound, or writing or memory failed.";
+
+/// The options after those of the participant, in the order in which they are looked at.
+const OWN: [Row; 5] = [
+    (
+        "rtp",
+        "ADDRESS:PORT",
+        Absent::Refused,
+        "Where RTP comes in, as 127.0.0.1:5004",
+    ),
+    (
+        "rtcp",
+        "ADDRESS:PORT",
+        Absent::Refused,
+        "Where RTCP comes in, as 127.0.0.1:5005",
+    ),
+    (
+        "peer",
+        "ADDRESS:PORT",
+        Absent::Refused,
+        "Where RTCP goes, as 127.0.0.1:5007",
+    ),
+    (
+        "seed",
+        "N",
+        Absent::Is("1"),
+        "Seed of the random words, below 2^64",
+    ),
+    (
+        "turns",
+        "N",
+        Absent::Is("1000"),
+        "Turns before the participant leaves, 1 to 1000000",
+    ),
+];
+
+/// The subcommand, as `clap` reads it.
+pub(super) fn subcommand<'a>(alloc: Global) -> Result<Command<'a>, AllocError> {
+    let command = Command::new(alloc, "listen").about(ABOUT).long_about(LONG);
+    let command = with_options(alloc, command, &PARTICIPANT)?;
+    with_options(alloc, command, &OWN)
+}
+
+/// What the words after `listen` ask for.
+///
+/// # Errors
+///
+/// [`OrderFault::Option`] with the first option whose value is refused.
+pub(super) fn order(matches: &ArgMatches<'_>) -> Result<Order, OrderFault>
+    ensures read { IsListenOrder result (listen_in (texts_found (first_value (found_of matches.now)))
+        (link_texts_found (first_value (found_of matches.now)))) }
+    ensures turns { IfOk result HasTurns }
+{
+    match read_listen(participant(matches), link(matches)) {
+        Ok(order) => Ok(order),
+        Err(name) => Err(OrderFault::Option(name)),
+    }
+}
+
+/// The texts of the options after those of the participant.
+fn link<'a>(matches: &ArgMatches<'a>) -> LinkOptions<'a>
+    ensures { link_texts_of result ≡ link_texts_found (first_value (found_of matches.now)) }
+{
+    LinkOptions {
+        rtp: given(matches, "rtp"),
+        rtcp: given(matches, "rtcp"),
+        peer: given(matches, "peer"),
+        seed: given(matches, "seed"),
+        turns: given(matches, "turns"),
+    }
+}

@@ -1,0 +1,135 @@
+//! Options of subcommands: how `clap` is told of them, and those that configure a participant.
+
+ghost use Rattle.std.specs.Prelude.{◌≡◌};
+ghost use Rattle.clap.specs.Matches.{found_of, first_value};
+ghost use Rattle.rtcp_command.specs.Options.{text_found, texts_found, texts_of};
+
+use crate::options::Options;
+use clap::{Arg, ArgAction, ArgMatches, Command};
+use std::alloc::{AllocError, Global};
+
+/// What stands for an option that is not given.
+#[derive(Clone, Copy)]
+pub(super) enum Absent {
+    /// It has to be given.
+    Refused,
+    /// This text.
+    Is(&'static str),
+    /// Nothing.
+    Nothing,
+}
+
+/// An option: the name, the value, what stands for it, and the help.
+pub(super) type Row = (&'static str, &'static str, Absent, &'static str);
+
+/// The options that configure a participant, in the order in which they are looked at.
+pub(super) const PARTICIPANT: [Row; 16] = [
+    ("ssrc", "HEX", Absent::Refused, "SSRC, 8 hex digits"),
+    ("cname", "TEXT", Absent::Refused, "CNAME, 1 to 255 octets"),
+    (
+        "capacity",
+        "N",
+        Absent::Is("1024"),
+        "Other sources that are kept track of, 1 to 1024",
+    ),
+    (
+        "limit",
+        "N",
+        Absent::Is("1472"),
+        "Most octets of a report, a multiple of 4 from 576 to 1472",
+    ),
+    (
+        "session-bps",
+        "N",
+        Absent::Is("64000"),
+        "Bandwidth of the session in bits a second, from 10240",
+    ),
+    (
+        "sender-bw",
+        "N",
+        Absent::Nothing,
+        "RTCP of senders in octets a second, 16 to 2^30, for a quarter of 5 per cent of the session",
+    ),
+    (
+        "receiver-bw",
+        "N",
+        Absent::Nothing,
+        "RTCP of the others in octets a second, 16 to 2^30, for the rest of these 5 per cent",
+    ),
+    (
+        "rate",
+        "N",
+        Absent::Is("8000"),
+        "Units a second of the media's clock, 1 to 1048576",
+    ),
+    (
+        "ntp",
+        "HEX",
+        Absent::Is("0000000000000000"),
+        "NTP timestamp of moment 0, 16 hex digits",
+    ),
+    (
+        "name",
+        "TEXT",
+        Absent::Nothing,
+        "NAME, told in every third report, in turn with the others below",
+    ),
+    ("email", "TEXT", Absent::Nothing, "EMAIL"),
+    ("phone", "TEXT", Absent::Nothing, "PHONE"),
+    ("loc", "TEXT", Absent::Nothing, "LOC"),
+    ("tool", "TEXT", Absent::Nothing, "TOOL"),
+    ("note", "TEXT", Absent::Nothing, "NOTE"),
+    ("priv", "HEX", Absent::Nothing, "PRIV, its octets in hex"),
+];
+
+/// A subcommand with these options too.
+pub(super) fn with_options<'a>(
+    alloc: Global,
+    mut command: Command<'a>,
+    options: &[Row],
+) -> Result<Command<'a>, AllocError> {
+    for (name, value, absent, help) in options {
+        let option = Arg::new(alloc, name)
+            .long(name)
+            .value_name(value)
+            .help(help)
+            .action(ArgAction::Set);
+        command = command.arg(match absent {
+            Absent::Refused => option.required(true),
+            Absent::Is(text) => option.default_value(text),
+            Absent::Nothing => option,
+        })?;
+    }
+    Ok(command)
+}
+
+/// The texts of the options that configure a participant.
+pub(super) fn participant<'a>(matches: &ArgMatches<'a>) -> Options<'a>
+    ensures { texts_of result ≡ texts_found (first_value (found_of matches.now)) }
+{
+    Options {
+        ssrc: given(matches, "ssrc"),
+        cname: given(matches, "cname"),
+        capacity: given(matches, "capacity"),
+        limit: given(matches, "limit"),
+        session_bps: given(matches, "session-bps"),
+        sender_bw: matches.get_str("sender-bw"),
+        receiver_bw: matches.get_str("receiver-bw"),
+        rate: given(matches, "rate"),
+        ntp: given(matches, "ntp"),
+        name: matches.get_str("name"),
+        email: matches.get_str("email"),
+        phone: matches.get_str("phone"),
+        loc: matches.get_str("loc"),
+        tool: matches.get_str("tool"),
+        note: matches.get_str("note"),
+        private: matches.get_str("priv"),
+    }
+}
+
+/// The text of an option that is required or has a default.
+pub(super) fn given<'a>(matches: &ArgMatches<'a>, name: &str) -> &'a str
+    ensures { result.now ≡ text_found (first_value (found_of matches.now)) name.now }
+{
+    matches.get_str(name).unwrap_or("")
+}

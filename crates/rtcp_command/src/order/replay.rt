@@ -1,0 +1,82 @@
+//! The subcommand `replay` of the command line.
+
+ghost use Rattle.std.specs.Prelude.{codes};
+ghost use Rattle.clap.specs.Matches.{found_of, first_value};
+ghost use Rattle.rtcp_command.specs.Options.{IsReplayOrder, replay_in, text_found, texts_found};
+
+use super::options::{Absent, PARTICIPANT, Row, given, participant, with_options};
+use crate::options::read_replay;
+use crate::orders::{OrderFault, TextOrder};
+use clap::{ArgMatches, Command};
+use std::alloc::{AllocError, Global};
+
+const ABOUT: &str = "Show what a participant answers to the events of a session";
+
+const LONG: &str = "\
+Show what a participant answers to the events of a session.
+
+Pipe in one event a line, with its moment in microseconds since the session began:
+
+    rtcp MOMENT PEER WORD HEX     an RTCP datagram came, in hex, - for the empty one
+    rtp MOMENT PEER WORD HEX      an RTP datagram came
+    sent MOMENT TIMESTAMP OCTETS  the host sent an RTP packet with so many octets of payload
+    tick MOMENT WORD WORD         the host asks what is due, with two random words
+    leave MOMENT WORD             the host asks the participant to leave, with a random word
+
+PEER is a number below 2^64 for where a datagram came from, and its random word is for a new SSRC.
+
+For instance:
+
+    rtcp 0 1 00000000 80c900010000000781ca00020000000701016100
+    tick 1026037 00000000 00000000
+    rtcp 1026037 1 00000000 -
+    leave 2000000 00000000
+
+A line for the start comes out, and then one line for each line that goes in: the members and
+senders, the moment to tick next, - once the participant has left, and the report or BYE to send
+now, or why the event was refused. Where a datagram named the participant's own SSRC and so
+changed it, the line ends in ssrc= and the new one.
+
+    start members=1 senders=0 next=1026037
+    ok members=2 senders=0 next=1026037 out=-
+    ok members=2 senders=0 next=3078111 out=report:80c90001000000aa81ca0002000000aa01016100
+    refused E5 Wire: F1 Short at 0
+    ok members=0 senders=0 next=- out=bye:80c90001000000aa81ca0002000000aa0101610081cb0001000000aa
+
+These are the answers of --ssrc 000000aa --cname a.
+
+A line of more than 131200 characters, a line after the first 65536 and a line that is not as
+above end the run: the number of the line and its fault are written to standard error.
+
+The status is 0 if every line was answered, 2 if the command line, an option, the configuration
+or a line of the text was refused, and 1 if reading, writing or memory failed.";
+
+/// The option after those of the participant.
+const OWN: [Row; 1] = [(
+    "word",
+    "HEX",
+    Absent::Is("00000000"),
+    "Random word of the start, 8 hex digits",
+)];
+
+/// The subcommand, as `clap` reads it.
+pub(super) fn subcommand<'a>(alloc: Global) -> Result<Command<'a>, AllocError> {
+    let command = Command::new(alloc, "replay").about(ABOUT).long_about(LONG);
+    let command = with_options(alloc, command, &PARTICIPANT)?;
+    with_options(alloc, command, &OWN)
+}
+
+/// What the words after `replay` ask for.
+///
+/// # Errors
+///
+/// [`OrderFault::Option`] with the first option whose value is refused.
+pub(super) fn order(matches: &ArgMatches<'_>) -> Result<TextOrder, OrderFault>
+    ensures { IsReplayOrder result (replay_in (texts_found (first_value (found_of matches.now)))
+        (text_found (first_value (found_of matches.now)) (codes "word"))) }
+{
+    match read_replay(participant(matches), given(matches, "word")) {
+        Ok((config, word)) => Ok(TextOrder::Replay { config, word }),
+        Err(name) => Err(OrderFault::Option(name)),
+    }
+}

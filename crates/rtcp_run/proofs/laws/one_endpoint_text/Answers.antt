@@ -1,5 +1,0 @@
-use Rattle.rtcp_run.proofs.EndpointLemmas.{endpoint_in-read, endpoint_in-text}
-use Rattle.rtcp_run.proofs.laws.one_endpoint_text.Goals as goal
-
-pub returns : goal.returns
-returns c text endpoint = (endpoint_in-read text endpoint, endpoint_in-text text endpoint)
