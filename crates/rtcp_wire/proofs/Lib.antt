@@ -7,8 +7,8 @@ mod BodyFaults
 mod Spellings
 mod Stops
 mod Refusals
+mod Passing
 mod Deciding
-mod DecidingBodies
 mod Standing
 mod Walking
 mod Rows
@@ -18,9 +18,6 @@ mod RtpHeading
 mod RtpFaults
 mod ReadingRtp
 mod RtpRows
-mod ReadingPackets
-mod Passing
-mod PassingPackets
 mod FactRows
 mod FewFacts
 mod AboutLists

@@ -1,12 +1,18 @@
--- Items and chunks that are passed one after the other.
-use Rattle.std.proofs.Common.{◌≡◌, ◌≢◌, ℕ, ◌+◌, ◌%◌, ◌≤◌, true, Option, Some, None, is_some, MatchOption, List, [], ◌∷◌, ◌++◌, length, take, drop, refl, sym, ap, subst, ◌∙◌, append_assoc, append-nil, arith}
+-- Items and chunks that are passed one after the other: a lemma for each step of the tests, and a walk over any octets by
+-- these steps.
+use Rattle.std.proofs.Common.{◌≡◌, ◌≢◌, ℕ, zero, suc, ◌+◌, ◌%◌, ◌<◌, ◌≤◌, ◌⊎◌, true, Option, Some, None, is_some, MatchOption, List, [], ◌∷◌, ◌++◌, length, take, drop, refl, sym, ap, subst, ◌∙◌, append_assoc, append-nil, arith, inl, inr}
+use Rattle.std.proofs.lemmas.Bool.{cases_lt, cases_eq}
 use Rattle.std.proofs.lemmas.List.{take-append-drop, length-take-le, length-drop, length-append, length-take, nil_from_length}
 use Rattle.byteorder.specs.Endian.{big_number}
+use Rattle.rtcp_wire.specs.declared.fault.FaultReason.{FaultReason}
+use Rattle.rtcp_wire.specs.declared.fault.FaultReason.TheVariants.{Body, Item}
 use Rattle.rtcp_wire.specs.Values.{ItemValue, ChunkValue, sdes}
 use Rattle.rtcp_wire.specs.Grammar.{Joins, IsItem, IsChunk}
+use Rattle.rtcp_wire.specs.Faults.{IsCut, EndsBesideChunks, EndsInsideChunk, FindsInBody}
 use Rattle.rtcp_wire.specs.Parts.{Takes, EndsInItems, EndsInChunk}
 use Rattle.rtcp_wire.specs.Validity.{PassesItems, IsSomeChunk, IsSomeBody}
 use Rattle.rtcp_wire.proofs.Joining.{Joins-push}
+use Rattle.rtcp_wire.proofs.Prefixes.{cons_not_nil}
 
 -- one part more after those that were taken
 one_part_more : {A : Type 0} (S : A → List ℕ → Type 0) (xs : List A) (y : A) (octets old new : List ℕ) → Takes octets old (Joins S xs) → Takes old new (S y) → Takes octets new (Joins S (xs ++ y ∷ []))
@@ -37,10 +43,37 @@ item_taken octets old new kind size text so_far is some room after =
     let one : Takes old new (IsItem item) = rw (is, after) (one_item kind size text some room) in
     (so_far.0 ++ item ∷ [], one_part_more IsItem so_far.0 item octets old new so_far.1 one)
 
+-- a cut item after them
+items_cut : (octets left : List ℕ) → HasTakenItems octets left → IsCut left → EndsInItems octets
+items_cut octets left h ends = record { items = h.0; middle = h.1.0; cut = left; parts = h.1.1; each = h.1.2; ends = ends }
+
+-- the zero octet after them
+items_passed : (octets : List ℕ) (kind : ℕ) (after : List ℕ) → HasTakenItems octets (kind ∷ after) → kind ≡ 0 → PassesItems octets after
+items_passed octets kind after h none = record { items = h.0; middle = h.1.0; parts = h.1.1 ∙ ap (λ (k : ℕ). h.1.0 ++ k ∷ after) none; each = h.1.2 }
+
+-- how items end: too early, or at a zero octet
+abbrev ItemsEnd : List ℕ → Type 0
+ItemsEnd octets = EndsInItems octets ⊎ ((after : List ℕ) × PassesItems octets after)
+
+-- Items are passed until none begins.
+items_from : (bound : ℕ) (octets left : List ℕ) → length left < bound → HasTakenItems octets left → ItemsEnd octets
+items_from zero octets left below h = absurd (omega arith)
+items_from (suc n) octets [] below h = inl (items_cut octets [] h tt)
+items_from (suc n) octets (kind ∷ []) below h =
+    elim (cases_eq kind 0) [ inl none ↦ inr ([], items_passed octets kind [] h none) | inr some ↦ inl (items_cut octets (kind ∷ []) h some) ]
+items_from (suc n) octets (kind ∷ size ∷ text) below h =
+    elim (cases_eq kind 0) [
+      | inl none ↦ inr (size ∷ text, items_passed octets kind (size ∷ text) h none)
+      | inr some ↦ elim (cases_lt (length text) size) [
+        | inl few ↦ inl (items_cut octets (kind ∷ size ∷ text) h (some, few))
+        | inr room ↦ items_from n octets (drop size text) (omega (arith, length-drop size text)) (item_taken octets (kind ∷ size ∷ text) (drop size text) kind size text h refl some room refl)
+      ]
+    ]
+
 -- ---- Chunks
 
 -- an identifier before the items that end too early
-pub chunk_ends : (octets : List ℕ) → 4 ≤ length octets → EndsInItems (drop 4 octets) → EndsInChunk octets
+chunk_ends : (octets : List ℕ) → 4 ≤ length octets → EndsInItems (drop 4 octets) → EndsInChunk octets
 chunk_ends octets room items = record { id = take 4 octets; after = drop 4 octets; parts = sym (take-append-drop 4 octets); id_size = length-take-le 4 octets room; items = items }
 
 -- an identifier, items, their zero octet, and the fill up to the word's end
@@ -70,6 +103,20 @@ chunk_passed octets after room words p =
       aligned = omega arith;
     } in
     ((octets_taken, whole, (chunk, made)), rest_words)
+
+-- In whole words, with room for an identifier, a chunk is passed or ends too early.
+chunk_from : (octets : List ℕ) → 4 ≤ length octets → length octets % 4 ≡ 0 → EndsInChunk octets ⊎ ((left : List ℕ) × (Takes octets left IsSomeChunk × (length left % 4 ≡ 0)))
+chunk_from octets room words =
+    elim (items_from (suc (length (drop 4 octets))) (drop 4 octets) (drop 4 octets) (omega arith) ([], ([], refl, refl))) [
+      | inl cut ↦ inl (chunk_ends octets room cut)
+      | inr passed ↦ inr (drop (length passed.0 % 4) passed.0, chunk_passed octets passed.0 room words passed.1)
+    ]
+
+-- ---- Bodies of chunks
+
+-- A body is some packet's, or the test of a reason finds a fault in it.
+abbrev pub BodyEnd : ℕ → ℕ → List ℕ → Type 0
+BodyEnd kind count body = IsSomeBody kind count body ⊎ ((reason : FaultReason) × FindsInBody reason kind count body)
 
 -- So many chunks were taken from the body, and whole words are left.
 pub record HasTakenChunks (count : ℕ) (body left : List ℕ) : Type 0 where
@@ -101,3 +148,37 @@ pub all_chunks : (turns count : ℕ) (body left : List ℕ) → HasTakenChunks t
 all_chunks turns count body left h all none =
     let whole : body ≡ h.taken.0 = h.taken.1 ∙ ap (λ (t : List ℕ). h.taken.0 ++ t) (nil_from_length left none) ∙ append-nil h.taken.0 in
     (sdes h.chunks, (refl, h.counted ∙ all, subst (Joins IsChunk h.chunks) (sym whole) h.taken.2))
+
+-- Where a chunk is missing or octets are left, the body ends beside its chunks,
+chunks_beside : (turns count : ℕ) (body left : List ℕ) → HasTakenChunks turns body left → ((turns < count) × (length left < 4)) ⊎ ((turns ≡ count) × (left ≢ [])) → EndsBesideChunks count body
+chunks_beside turns count body left h stop = record { chunks = h.chunks; prefix = h.taken.0; rest = left; parts = h.taken.1; each = h.taken.2; stop = rw h.counted stop }
+
+-- and where the next one ends too early, inside it.
+chunks_inside : (turns count : ℕ) (body left : List ℕ) → HasTakenChunks turns body left → turns < count → EndsInChunk left → EndsInsideChunk count body
+chunks_inside turns count body left h expected e = record {
+  chunks = h.chunks;
+  items = e.items.items;
+  prefix = h.taken.0;
+  id = e.id;
+  middle = e.items.middle;
+  cut = e.items.cut;
+  parts = h.taken.1 ∙ ap (λ (t : List ℕ). h.taken.0 ++ t) (e.parts ∙ ap (λ (t : List ℕ). e.id ++ t) e.items.parts);
+  each = h.taken.2;
+  expected = rw h.counted expected;
+  id_size = e.id_size;
+  each_item = e.items.each;
+  ends = e.items.ends;
+}
+
+-- The chunks that are counted are passed one by one, to the body's end or to its fault.
+pub chunks_from : (more turns count : ℕ) (body left : List ℕ) → count ≡ turns + more → HasTakenChunks turns body left → BodyEnd 202 count body
+chunks_from zero turns count body [] sum h = inl (all_chunks turns count body [] h (omega (arith, sum)) refl)
+chunks_from zero turns count body (o ∷ left) sum h = inr (Body, inr (refl, chunks_beside turns count body (o ∷ left) h (inr (omega (arith, sum), cons_not_nil o left))))
+chunks_from (suc more) turns count body left sum h =
+    elim (cases_lt (length left) 4) [
+      | inl few ↦ inr (Body, inr (refl, chunks_beside turns count body left h (inl (omega (arith, sum), few))))
+      | inr room ↦ elim (chunk_from left room h.words) [
+        | inl cut ↦ inr (Item, (refl, chunks_inside turns count body left h (omega (arith, sum)) cut))
+        | inr one ↦ chunks_from more (turns + 1) count body one.0 (omega (arith, sum)) (chunk_taken turns body left one.0 h one.1.0 one.1.1)
+      ]
+    ]

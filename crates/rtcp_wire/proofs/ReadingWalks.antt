@@ -1,12 +1,13 @@
 -- A walk over encodings of packets reads these packets.
-use Rattle.std.proofs.Common.{◌≡◌, ℕ, suc, ◌+◌, ◌-◌, ◌*◌, ◌/◌, ◌%◌, ◌<◌, ◌≤◌, false, ◌==◌, if◌then◌else◌, List, [], ◌∷◌, ◌++◌, length, take, drop, Option, Some, None, refl, sym, ap, ◌∙◌, append_assoc, append-nil, arith}
+use Rattle.std.proofs.Common.{◌≡◌, ℕ, suc, ◌+◌, ◌-◌, ◌*◌, ◌/◌, ◌%◌, ◌<◌, ◌≤◌, false, ◌==◌, if◌then◌else◌, List, [], ◌∷◌, ◌++◌, length, take, drop, Option, Some, None, refl, sym, ap, subst, ◌∙◌, append_assoc, append-nil, arith}
 use Rattle.std.proofs.Math.Seq.{take-append_seam, drop-append_seam}
 use Rattle.std.proofs.lemmas.Bool.{ne_eqb}
 use Rattle.std.proofs.lemmas.List.{length-append}
 use Rattle.std.proofs.lemmas.List.Sums.{sum_by-append}
 use Rattle.byteorder.specs.Endian.{big_number}
 use Rattle.rtcp_wire.specs.Values.{ReportBlock, ItemValue, ChunkValue, RtcpPacket, sr, rr, sdes, bye, app, other}
-use Rattle.rtcp_wire.specs.Grammar.{Joins, type_of, count_of, size_of, body_of, block_in, sender_in, IsItem, IsChunk, IsReportEnd, IsReasonPart, IsOtherType, IsBody, IsSpelling}
+use Rattle.rtcp_wire.specs.Grammar.{Joins, type_of, count_of, size_of, body_of, block_in, sender_in, IsItem, IsChunk, IsReportEnd, IsReasonPart, IsOtherType, IsBody, IsSpelling, IsAccepted}
+use Rattle.rtcp_wire.specs.Validity.{IsSomeDatagram}
 use Rattle.rtcp_wire.specs.Walks.{values_in, blocks_in, ids_in, item_in, items_after, chunk_in, items_size, chunk_size, chunks_in, reason_in, body_says, packet_in, packets_after, packets_in}
 use Rattle.rtcp_wire.proofs.Prefixes.{length_parts}
 use Rattle.rtcp_wire.proofs.Fixed.{Says, fixed_length}
@@ -178,3 +179,7 @@ pub walk_reads : (packets : List RtcpPacket) (octets : List ℕ) → Joins IsSpe
 walk_reads [] octets h = ap (packets_after 0) h
 walk_reads (packet ∷ packets) octets h =
     ap (packets_after 0) h.2 ∙ first_packet packet h.0 h.1 h.3 ∙ ap (λ (t : List RtcpPacket). packet ∷ t) (walk_reads packets h.1 h.4)
+
+-- Where packets are accepted, they are those that the walk reads.
+pub accepted_as_read : (datagram : List ℕ) → IsSomeDatagram datagram → IsAccepted datagram (packets_in datagram)
+accepted_as_read datagram some = subst (IsAccepted datagram) (sym (walk_reads some.0 datagram some.1.joined)) some.1

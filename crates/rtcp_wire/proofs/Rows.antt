@@ -1,13 +1,15 @@
 -- Worked examples: what the definitions say of datagrams that are written out, octet by octet.
-use Rattle.std.proofs.Common.{◌≡◌, ℕ, ◌<◌, ◌≤◌, Bool, true, false, List, [], ◌∷◌, ◌++◌, length, drop, None, refl, arith, inl, inr}
-use Rattle.rtcp_wire.specs.declared.fault.FaultReason.TheVariants.{Short, Version, FirstType, FirstPadding, Length, Padding, Body, Item}
+use Rattle.std.proofs.Common.{◌≡◌, ◌≢◌, ℕ, ◌≤◌, Bool, true, false, List, [], ◌∷◌, ◌++◌, length, drop, None, refl, sym, ◌∙◌, arith, inl, inr}
+use Rattle.rtcp_wire.specs.declared.fault.FaultReason.{FaultReason}
+use Rattle.rtcp_wire.specs.declared.fault.FaultReason.TheVariants.{Short, FirstPadding, Length, Body, Item}
 use Rattle.rtcp_wire.specs.Values.{ItemValue, ChunkValue, rr, sdes, bye}
-use Rattle.rtcp_wire.specs.Grammar.{version_of, is_padded, type_of, size_of, IsSpelling, IsAccepted}
-use Rattle.rtcp_wire.specs.Faults.{EndsInsideChunk, IsFirstFault}
+use Rattle.rtcp_wire.specs.Grammar.{version_of, is_padded, count_of, type_of, size_of, body_of, IsSpelling, IsAccepted}
+use Rattle.rtcp_wire.specs.Faults.{EndsInsideChunk, FindsInBody, IsFirstRow, IsFirstFault}
+use Rattle.rtcp_wire.specs.Parts.{IsWhole}
 use Rattle.rtcp_wire.proofs.Prefixes.{cons_not_nil}
-use Rattle.rtcp_wire.proofs.BodyFaults.{body_or_item}
-use Rattle.rtcp_wire.proofs.Standing.{NoneBefore, none_at_first, next_row}
-use Rattle.rtcp_wire.proofs.Walking.{IsReadTo, stops_at}
+use Rattle.rtcp_wire.proofs.Spellings.{own, is_own}
+use Rattle.rtcp_wire.proofs.Standing.{none_at_first, not_both_bits, before_first_padding, before_length, HasBody, body_row}
+use Rattle.rtcp_wire.proofs.Walking.{HasPassed, none_passed, stops_next}
 
 -- A bit that is clear isn't set.
 pub differs : false ≡ true → ⊥
@@ -125,39 +127,20 @@ padded_accepted = record {
 
 -- ---- Datagrams that are refused
 
--- A bit isn't both.
-pub not_both_bits : (p : Bool) → p ≡ true → p ≡ false → ⊥
-not_both_bits p set clear = cc
-
--- The report is read.
-pub after_report : (octets : List ℕ) → length (report ++ octets) ≤ 65535 → IsReadTo (report ++ octets) report octets
-after_report octets short = record { short = short; parts = refl; before = inr (rr 7 [] [] ∷ [], report_accepted) }
-
--- Nothing is read yet.
-from_start : (octets : List ℕ) → length octets ≤ 65535 → IsReadTo octets [] octets
-from_start octets short = record { short = short; parts = refl; before = inl refl }
+-- The report is passed.
+pub after_report : (octets : List ℕ) → octets ≢ [] → length (report ++ octets) ≤ 65535 → HasPassed (report ++ octets) octets
+after_report octets some short = record { prefix = report; short = short; parts = refl; before = inr (rr 7 [] [] ∷ [], report_accepted); more = inl some }
 
 -- the datagram of no octets
 pub nothing_refused : IsFirstFault [] (record { reason = Short; place = 0 })
-nothing_refused = stops_at [] [] [] Short (from_start [] (omega arith)) (inr refl) (record { found = omega arith; no_earlier = none_at_first true [] })
+nothing_refused = stops_next [] [] 0 (none_passed [] (omega arith)) refl Short (record { found = omega arith; no_earlier = none_at_first true [] })
 
 -- 80c9000100000007 81ca0002 00000007 01016100 00
 pub one_octet_more_refused : IsFirstFault (report ++ description ++ 0 ∷ []) (record { reason = Short; place = 20 })
 one_octet_more_refused =
-    stops_at (report ++ description ++ 0 ∷ []) (report ++ description) (0 ∷ []) Short
-    (record { short = omega arith; parts = refl; before = inr (rr 7 [] [] ∷ sdes (source ∷ []) ∷ [], description_accepted) })
-    (inl (cons_not_nil 0 [])) (record { found = omega arith; no_earlier = none_at_first false (0 ∷ []) })
-
--- No test before that of the padding bit finds a fault in a first report of version 2.
-before_padding : (octets : List ℕ) → 4 ≤ length octets → version_of octets ≡ 2 → type_of octets ≡ 201 → NoneBefore 4 true octets
-before_padding octets enough version kind =
-    let none2 : NoneBefore 2 true octets = next_row Short true octets (none_at_first true octets) (λ (few : length octets < 4). omega (arith, few, enough)) in
-    let none3 : NoneBefore 3 true octets = next_row Version true octets none2 (λ wrong. wrong version) in
-    next_row FirstType true octets none3 (λ wrong. wrong.2 kind)
-
--- Nor does that of the padding bit in one without padding.
-before_length : (octets : List ℕ) → 4 ≤ length octets → version_of octets ≡ 2 → type_of octets ≡ 201 → is_padded octets ≡ false → NoneBefore 5 true octets
-before_length octets enough version kind unpadded = next_row FirstPadding true octets (before_padding octets enough version kind) (λ wrong. not_both_bits (is_padded octets) wrong.1 unpadded)
+    stops_next (report ++ description ++ 0 ∷ []) (0 ∷ []) 20
+    (record { prefix = report ++ description; short = omega arith; parts = refl; before = inr (rr 7 [] [] ∷ sdes (source ∷ []) ∷ [], description_accepted); more = inl (cons_not_nil 0 []) })
+    refl Short (record { found = omega arith; no_earlier = none_at_first false (0 ∷ []) })
 
 -- a0c90002 00000007 00000004
 abbrev padded_first : List ℕ
@@ -166,8 +149,8 @@ padded_first = 160 ∷ 201 ∷ 0 ∷ 2 ∷ 0 ∷ 0 ∷ 0 ∷ 7 ∷ 0 ∷ 0 ∷ 0
 -- A first packet is not padded.
 pub padded_first_refused : IsFirstFault padded_first (record { reason = FirstPadding; place = 0 })
 padded_first_refused =
-    stops_at padded_first [] padded_first FirstPadding (from_start padded_first (omega arith)) (inl (cons_not_nil 160 (drop 1 padded_first)))
-    (record { found = (refl, refl); no_earlier = before_padding padded_first (omega arith) refl refl })
+    stops_next padded_first padded_first 0 (none_passed padded_first (omega arith)) refl FirstPadding
+    (record { found = (refl, refl); no_earlier = before_first_padding true padded_first (omega arith) refl (λ e. inr refl) })
 
 -- 80c90001000000
 abbrev cut_off : List ℕ
@@ -176,8 +159,16 @@ cut_off = 128 ∷ 201 ∷ 0 ∷ 1 ∷ 0 ∷ 0 ∷ 0 ∷ []
 -- Seven octets are no packet of eight.
 pub cut_off_refused : IsFirstFault cut_off (record { reason = Length; place = 0 })
 cut_off_refused =
-    stops_at cut_off [] cut_off Length (from_start cut_off (omega arith)) (inl (cons_not_nil 128 (drop 1 cut_off)))
-    (record { found = omega arith; no_earlier = before_length cut_off (omega arith) refl refl refl })
+    stops_next cut_off cut_off 0 (none_passed cut_off (omega arith)) refl Length
+    (record { found = omega arith; no_earlier = before_length true cut_off (omega arith) refl (λ e. (inr refl, refl)) })
+
+-- What is found in the body of a whole packet without padding is found first.
+pub first_row : (reason : FaultReason) (first : Bool) (octets : List ℕ) → IsWhole first octets → is_padded octets ≡ false → FindsInBody reason (type_of octets) (count_of octets) (body_of octets) → IsFirstRow reason first octets
+first_row reason first octets good unpadded found =
+    let padded = (is_own octets good.size).parts.header.padded in
+    let has : HasBody first octets (body_of (own octets)) (type_of octets) (count_of octets) =
+    record { good = good; unpadded = (refl, λ set. absurd (not_both_bits (is_padded (own octets)) set (sym padded ∙ unpadded))); kind_is = refl; count_is = refl } in
+    body_row first octets (body_of (own octets)) (type_of octets) (count_of octets) has reason found
 
 -- 81c9000100000007
 abbrev no_block : List ℕ
@@ -186,9 +177,8 @@ no_block = 129 ∷ 201 ∷ 0 ∷ 1 ∷ 0 ∷ 0 ∷ 0 ∷ 7 ∷ []
 -- A report that counts one block has it.
 pub no_block_refused : IsFirstFault no_block (record { reason = Body; place = 0 })
 no_block_refused =
-    let none6 : NoneBefore 6 true no_block = next_row Length true no_block (before_length no_block (omega arith) refl refl refl) (λ (few : 8 < 8). omega arith) in
-    let none7 : NoneBefore 7 true no_block = next_row Padding true no_block none6 (λ wrong. differs wrong.0) in
-    stops_at no_block [] no_block Body (from_start no_block (omega arith)) (inl (cons_not_nil 129 (drop 1 no_block))) (record { found = inl (omega arith); no_earlier = none7 })
+    stops_next no_block no_block 0 (none_passed no_block (omega arith)) refl Body
+    (first_row Body true no_block (record { header = omega arith; version = refl; size = omega arith; may_stand = λ e. (inr refl, refl) }) refl (inl (omega arith)))
 
 -- a description whose one item says five octets of text, and has two
 abbrev long_item : List ℕ
@@ -211,22 +201,12 @@ ends_inside = record {
   ends = (λ e. absurd (omega arith), omega arith);
 }
 
--- No test before those of the body finds a fault in a later packet without padding.
-pub before_body : (octets : List ℕ) → 4 ≤ length octets → version_of octets ≡ 2 → is_padded octets ≡ false → size_of octets ≤ length octets → NoneBefore 7 false octets
-before_body octets enough version unpadded room =
-    let none2 : NoneBefore 2 false octets = next_row Short false octets (none_at_first false octets) (λ (few : length octets < 4). omega (arith, few, enough)) in
-    let none3 : NoneBefore 3 false octets = next_row Version false octets none2 (λ wrong. wrong version) in
-    let none4 : NoneBefore 4 false octets = next_row FirstType false octets none3 (λ wrong. differs wrong.0) in
-    let none5 : NoneBefore 5 false octets = next_row FirstPadding false octets none4 (λ wrong. differs wrong.0) in
-    let none6 : NoneBefore 6 false octets = next_row Length false octets none5 (λ (few : length octets < size_of octets). omega (arith, few, room)) in
-    next_row Padding false octets none6 (λ wrong. not_both_bits (is_padded octets) wrong.0 unpadded)
-
--- No test before that of the items finds a fault.
-before_item : NoneBefore 8 false long_item
-before_item =
-    next_row Body false long_item (before_body long_item (omega arith) refl refl (omega arith))
-    (λ found. body_or_item 202 1 (0 ∷ 0 ∷ 0 ∷ 7 ∷ 1 ∷ 5 ∷ 97 ∷ 0 ∷ []) found (refl, ends_inside))
+-- A whole packet may stand after the first.
+pub later : (octets : List ℕ) → 4 ≤ length octets → version_of octets ≡ 2 → size_of octets ≤ length octets → IsWhole false octets
+later octets enough version room = record { header = enough; version = version; size = room; may_stand = λ e. absurd (differs e) }
 
 -- 80c9000100000007 81ca0002 00000007 01056100
 pub long_item_refused : IsFirstFault (report ++ long_item) (record { reason = Item; place = 8 })
-long_item_refused = stops_at (report ++ long_item) report long_item Item (after_report long_item (omega arith)) (inl (cons_not_nil 129 (drop 1 long_item))) (record { found = (refl, ends_inside); no_earlier = before_item })
+long_item_refused =
+    stops_next (report ++ long_item) long_item 8 (after_report long_item (cons_not_nil 129 (drop 1 long_item)) (omega arith)) refl Item
+    (first_row Item false long_item (later long_item (omega arith) refl (omega arith)) refl (refl, ends_inside))

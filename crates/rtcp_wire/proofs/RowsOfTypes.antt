@@ -1,15 +1,13 @@
 -- Worked examples: sender reports, goodbyes and applications' packets, octet by octet.
-use Rattle.std.proofs.Common.{◌≡◌, ℕ, ◌≤◌, List, [], ◌∷◌, ◌++◌, length, drop, false, Some, None, refl, arith, inl, inr}
-use Rattle.rtcp_wire.specs.declared.fault.FaultReason.{FaultReason}
+use Rattle.std.proofs.Common.{ℕ, ◌≤◌, List, [], ◌∷◌, ◌++◌, length, drop, false, Some, None, refl, arith, inl, inr}
 use Rattle.rtcp_wire.specs.declared.fault.FaultReason.TheVariants.{Body, Reason}
 use Rattle.rtcp_wire.specs.Values.{SenderValue, RtcpPacket, sr, rr, bye, app}
-use Rattle.rtcp_wire.specs.Grammar.{version_of, is_padded, count_of, type_of, size_of, body_of, IsSpelling, IsAccepted}
-use Rattle.rtcp_wire.specs.Faults.{FindsInBody, IsFirstRow, IsFirstFault}
+use Rattle.rtcp_wire.specs.Grammar.{IsSpelling, IsAccepted}
+use Rattle.rtcp_wire.specs.Faults.{IsFirstFault}
 use Rattle.rtcp_wire.proofs.Joining.{Joins-one}
 use Rattle.rtcp_wire.proofs.Prefixes.{cons_not_nil}
-use Rattle.rtcp_wire.proofs.Standing.{body_row}
-use Rattle.rtcp_wire.proofs.Walking.{stops_at}
-use Rattle.rtcp_wire.proofs.Rows.{differs, not_both_bits, report, report_spelled, after_report, before_body}
+use Rattle.rtcp_wire.proofs.Walking.{stops_next}
+use Rattle.rtcp_wire.proofs.Rows.{differs, report, report_spelled, after_report, later, first_row}
 
 -- ---- Sender reports
 
@@ -143,22 +141,6 @@ applied_accepted = after_accepted (app 5 7 (65 ∷ 66 ∷ 67 ∷ 68 ∷ []) (1 �
 
 -- ---- Refused
 
--- Where the test of a reason finds a fault in the body of a later packet, it is the first that does.
-first_row : (reason : FaultReason) (octets : List ℕ) → 4 ≤ length octets → version_of octets ≡ 2 → is_padded octets ≡ false → size_of octets ≤ length octets
-    → FindsInBody reason (type_of octets) (count_of octets) (body_of octets) → IsFirstRow reason false octets
-first_row reason octets enough version unpadded room found =
-    body_row reason false octets
-    (record {
-      enough = enough;
-      version = version;
-      kind = λ first. absurd (differs first);
-      unpadded = λ first. absurd (differs first);
-      room = room;
-      padding = λ set. absurd (not_both_bits (is_padded octets) set unpadded);
-      none = before_body octets enough version unpadded room;
-    })
-    found
-
 -- 81cb0002 00000007 05616263
 abbrev long_reason : List ℕ
 long_reason = 129 ∷ 203 ∷ 0 ∷ 2 ∷ 0 ∷ 0 ∷ 0 ∷ 7 ∷ 5 ∷ 97 ∷ 98 ∷ 99 ∷ []
@@ -166,8 +148,8 @@ long_reason = 129 ∷ 203 ∷ 0 ∷ 2 ∷ 0 ∷ 0 ∷ 0 ∷ 7 ∷ 5 ∷ 97 ∷ 9
 -- A text of five octets is no three.
 pub long_reason_refused : IsFirstFault (report ++ long_reason) (record { reason = Reason; place = 8 })
 long_reason_refused =
-    stops_at (report ++ long_reason) report long_reason Reason (after_report long_reason (omega arith)) (inl (cons_not_nil 129 (drop 1 long_reason)))
-    (first_row Reason long_reason (omega arith) refl refl (omega arith) (refl, inl (omega arith)))
+    stops_next (report ++ long_reason) long_reason 8 (after_report long_reason (cons_not_nil 129 (drop 1 long_reason)) (omega arith)) refl Reason
+    (first_row Reason false long_reason (later long_reason (omega arith) refl (omega arith)) refl (refl, inl (omega arith)))
 
 -- 81cb0003 00000007 02616200 00000000
 abbrev word_more : List ℕ
@@ -176,8 +158,8 @@ word_more = 129 ∷ 203 ∷ 0 ∷ 3 ∷ 0 ∷ 0 ∷ 0 ∷ 7 ∷ 2 ∷ 97 ∷ 98 
 -- After a reason no word is left.
 pub word_more_refused : IsFirstFault (report ++ word_more) (record { reason = Reason; place = 8 })
 word_more_refused =
-    stops_at (report ++ word_more) report word_more Reason (after_report word_more (omega arith)) (inl (cons_not_nil 129 (drop 1 word_more)))
-    (first_row Reason word_more (omega arith) refl refl (omega arith) (refl, inr (omega arith)))
+    stops_next (report ++ word_more) word_more 8 (after_report word_more (cons_not_nil 129 (drop 1 word_more)) (omega arith)) refl Reason
+    (first_row Reason false word_more (later word_more (omega arith) refl (omega arith)) refl (refl, inr (omega arith)))
 
 -- 82cb0001 00000007
 abbrev one_id_short : List ℕ
@@ -186,8 +168,8 @@ one_id_short = 130 ∷ 203 ∷ 0 ∷ 1 ∷ 0 ∷ 0 ∷ 0 ∷ 7 ∷ []
 -- A goodbye that counts two identifiers has them.
 pub one_id_short_refused : IsFirstFault (report ++ one_id_short) (record { reason = Body; place = 8 })
 one_id_short_refused =
-    stops_at (report ++ one_id_short) report one_id_short Body (after_report one_id_short (omega arith)) (inl (cons_not_nil 130 (drop 1 one_id_short)))
-    (first_row Body one_id_short (omega arith) refl refl (omega arith) (inl (omega arith)))
+    stops_next (report ++ one_id_short) one_id_short 8 (after_report one_id_short (cons_not_nil 130 (drop 1 one_id_short)) (omega arith)) refl Body
+    (first_row Body false one_id_short (later one_id_short (omega arith) refl (omega arith)) refl (inl (omega arith)))
 
 -- 80cc0001 00000007
 abbrev no_name : List ℕ
@@ -196,5 +178,5 @@ no_name = 128 ∷ 204 ∷ 0 ∷ 1 ∷ 0 ∷ 0 ∷ 0 ∷ 7 ∷ []
 -- An application's packet has a name.
 pub no_name_refused : IsFirstFault (report ++ no_name) (record { reason = Body; place = 8 })
 no_name_refused =
-    stops_at (report ++ no_name) report no_name Body (after_report no_name (omega arith)) (inl (cons_not_nil 128 (drop 1 no_name)))
-    (first_row Body no_name (omega arith) refl refl (omega arith) (inl (omega arith)))
+    stops_next (report ++ no_name) no_name 8 (after_report no_name (cons_not_nil 128 (drop 1 no_name)) (omega arith)) refl Body
+    (first_row Body false no_name (later no_name (omega arith) refl (omega arith)) refl (inl (omega arith)))

@@ -1,17 +1,18 @@
 -- Where a packet should begin, one does, or a row of the tests is the first that finds a fault.
-use Rattle.std.proofs.Common.{◌≡◌, ◌≢◌, ℕ, suc, ◌+◌, ◌-◌, ◌*◌, ◌%◌, ◌<◌, ◌≤◌, ◌⊎◌, Bool, true, false, cond, List, ◌++◌, length, get_or, drop, refl, sym, ap, subst, ◌∙◌, arith, inl, inr}
+use Rattle.std.proofs.Common.{◌≡◌, ◌≢◌, ℕ, suc, ◌+◌, ◌-◌, ◌*◌, ◌%◌, ◌<◌, ◌≤◌, ◌⊎◌, Bool, true, false, cond, List, length, get_or, drop, Result, Ok, Err, MatchResult, refl, sym, subst, ◌∙◌, arith, inl, inr}
 use Rattle.std.proofs.lemmas.Bool.{cases_lt, cases_eq, cases_order, cases_Bool}
 use Rattle.std.proofs.lemmas.List.{take-append-drop, length-drop, length-take-le}
 use Rattle.byteorder.specs.Endian.{big_number}
 use Rattle.rtcp_wire.specs.declared.fault.FaultReason.{FaultReason}
 use Rattle.rtcp_wire.specs.declared.fault.FaultReason.TheVariants.{Short, Version, FirstType, FirstPadding, Length, Padding, Body, Item, Reason, TooLong}
-use Rattle.rtcp_wire.specs.Values.{RtcpPacket}
-use Rattle.rtcp_wire.specs.Grammar.{version_of, is_padded, count_of, type_of, size_of, padding_of, body_of, IsPadding, IsBody, IsSpelling}
+use Rattle.rtcp_wire.specs.Grammar.{version_of, is_padded, count_of, type_of, size_of, padding_of, body_of, IsPadding, IsSpelling}
 use Rattle.rtcp_wire.specs.Faults.{FindsInBody, Finds, row_of, IsFirstRow, MayStand}
+use Rattle.rtcp_wire.specs.Parts.{Takes, IsWhole, IsUnpadded}
+use Rattle.rtcp_wire.specs.Validity.{IsSomeBody, IsSomePacket}
 use Rattle.rtcp_wire.proofs.Spellings.{own, is_own}
 use Rattle.rtcp_wire.proofs.Stops.{body_at, padding_at, begins_at, same_row}
 use Rattle.rtcp_wire.proofs.BodyFaults.{body_or_item, body_or_reason, item_or_reason}
-use Rattle.rtcp_wire.proofs.DecidingBodies.{BodyEnd, body_from}
+use Rattle.rtcp_wire.proofs.Deciding.{body_from}
 
 -- ---- Rows
 
@@ -37,7 +38,7 @@ pub none_at_first : (first : Bool) (b : List ℕ) → NoneBefore 1 first b
 none_at_first first b earlier below found = omega (arith, row_is_some earlier)
 
 -- one row further, where its test finds nothing
-pub next_row : (r : FaultReason) (first : Bool) (b : List ℕ) → NoneBefore (row_of r) first b → (Finds r first b → ⊥) → NoneBefore (suc (row_of r)) first b
+next_row : (r : FaultReason) (first : Bool) (b : List ℕ) → NoneBefore (row_of r) first b → (Finds r first b → ⊥) → NoneBefore (suc (row_of r)) first b
 next_row r first b none not_here earlier below found =
     elim (cases_order (row_of earlier) (row_of r)) [
       | inl same ↦ not_here (subst (λ (q : FaultReason). Finds q first b) (same_row earlier r same) found)
@@ -50,7 +51,7 @@ abbrev pub IsFaulty : Bool → List ℕ → Type 0
 IsFaulty first b = (reason : FaultReason) × IsFirstRow reason first b
 
 -- The row that comes next finds one.
-pub faulty : (r : FaultReason) (first : Bool) (b : List ℕ) → NoneBefore (row_of r) first b → Finds r first b → IsFaulty first b
+faulty : (r : FaultReason) (first : Bool) (b : List ℕ) → NoneBefore (row_of r) first b → Finds r first b → IsFaulty first b
 faulty r first b none found = (r, record { found = found; no_earlier = none })
 
 -- ---- Single tests
@@ -89,64 +90,59 @@ padding_is_good padded size padding =
       | inr clear ↦ inr (λ set. absurd cc)
     ]
 
--- ---- The tests before the body's
+-- One bit isn't both.
+pub not_both_bits : (p : Bool) → p ≡ true → p ≡ false → ⊥
+not_both_bits p set clear = cc
 
--- No test of a header finds a fault.
-pub record IsSound (first : Bool) (b : List ℕ) : Type 0 where
-  pub enough : 4 ≤ length b
-  pub version : version_of b ≡ 2
-  pub kind : first ≡ true → (type_of b ≡ 200) ⊎ (type_of b ≡ 201)
-  pub unpadded : first ≡ true → is_padded b ≡ false
-  pub room : size_of b ≤ length b
-  pub padding : is_padded b ≡ true → IsPadding (size_of b) (padding_of b)
-  pub none : NoneBefore 7 first b
+-- ---- The header
 
--- the tests of the length and the padding
-with_padding : (first : Bool) (b : List ℕ) → 4 ≤ length b → version_of b ≡ 2 → (first ≡ true → (type_of b ≡ 200) ⊎ (type_of b ≡ 201)) → (first ≡ true → is_padded b ≡ false) → NoneBefore 5 first b → IsSound first b ⊎ IsFaulty first b
-with_padding first b enough version kind unpadded none =
-    elim (cases_lt (length b) (size_of b)) [
-      | inl few ↦ inr (faulty Length first b none few)
-      | inr room ↦ (let none6 : NoneBefore 6 first b = next_row Length first b none (λ (few : length b < size_of b). omega (arith, few, room)) in
-          elim (padding_is_good (is_padded b) (size_of b) (padding_of b)) [
-            | inl bad ↦ inr (faulty Padding first b none6 bad)
-            | inr good ↦ inl (record {
-              enough = enough;
-              version = version;
-              kind = kind;
-              unpadded = unpadded;
-              room = room;
-              padding = good;
-              none = next_row Padding first b none6 (λ bad. bad.1 (good bad.0));
-            })
-          ])
-    ]
+module _ (first : Bool) (b : List ℕ) where
+  -- Each test of a header that finds nothing leads to the next row.
+  before_version : 4 ≤ length b → NoneBefore 2 first b
+  before_version enough = next_row Short first b (none_at_first first b) (λ (few : length b < 4). omega (arith, few, enough))
 
--- the tests of the first packet
-with_first : (first : Bool) (b : List ℕ) → 4 ≤ length b → version_of b ≡ 2 → NoneBefore 3 first b → IsSound first b ⊎ IsFaulty first b
-with_first first b enough version none =
-    elim (may_be_first first (type_of b)) [
-      | inl bad ↦ inr (faulty FirstType first b none bad)
-      | inr kind ↦ (let none4 : NoneBefore 4 first b = next_row FirstType first b none (λ bad. elim (kind bad.0) [ inl e ↦ bad.1 e | inr e ↦ bad.2 e ]) in
-          elim (may_be_padded first (is_padded b)) [
-            | inl bad ↦ inr (faulty FirstPadding first b none4 bad)
-            | inr unpadded ↦ with_padding first b enough version kind unpadded (next_row FirstPadding first b none4 (λ bad. not_both_bits (is_padded b) bad.1 (unpadded bad.0)))
-          ])
-    ]
-  where
-    not_both_bits : (p : Bool) → p ≡ true → p ≡ false → ⊥
-    not_both_bits p set clear = cc
+  before_type : 4 ≤ length b → version_of b ≡ 2 → NoneBefore 3 first b
+  before_type enough version = next_row Version first b (before_version enough) (λ differs. differs version)
 
--- all tests before the body's
-pub sound_or_not : (first : Bool) (b : List ℕ) → IsSound first b ⊎ IsFaulty first b
-sound_or_not first b =
-    elim (cases_lt (length b) 4) [
-      | inl few ↦ inr (faulty Short first b (none_at_first first b) few)
-      | inr enough ↦ (let none2 : NoneBefore 2 first b = next_row Short first b (none_at_first first b) (λ (few : length b < 4). omega (arith, few, enough)) in
-          elim (cases_eq (version_of b) 2) [
-            | inr differs ↦ inr (faulty Version first b none2 differs)
-            | inl version ↦ with_first first b enough version (next_row Version first b none2 (λ differs. differs version))
-          ])
-    ]
+  pub before_first_padding : 4 ≤ length b → version_of b ≡ 2 → (first ≡ true → (type_of b ≡ 200) ⊎ (type_of b ≡ 201)) → NoneBefore 4 first b
+  before_first_padding enough version kind = next_row FirstType first b (before_type enough version) (λ bad. elim (kind bad.0) [ inl e ↦ bad.1 e | inr e ↦ bad.2 e ])
+
+  pub before_length : 4 ≤ length b → version_of b ≡ 2 → MayStand first b → NoneBefore 5 first b
+  before_length enough version may =
+      next_row FirstPadding first b (before_first_padding enough version (λ is_first. (may is_first).0)) (λ bad. not_both_bits (is_padded b) bad.1 (may bad.0).1)
+
+  before_padding : IsWhole first b → NoneBefore 6 first b
+  before_padding good = next_row Length first b (before_length good.header good.version good.may_stand) (λ (few : length b < size_of b). omega (arith, few, good.size))
+
+  -- A header is good, or a first row finds a fault.
+  header_from : IsWhole first b ⊎ IsFaulty first b
+  header_from =
+      elim (cases_lt (length b) 4) [
+        | inl few ↦ inr (faulty Short first b (none_at_first first b) few)
+        | inr enough ↦ elim (cases_eq (version_of b) 2) [
+          | inr differs ↦ inr (faulty Version first b (before_version enough) differs)
+          | inl version ↦ elim (may_be_first first (type_of b)) [
+            | inl bad ↦ inr (faulty FirstType first b (before_type enough version) bad)
+            | inr kind ↦ elim (may_be_padded first (is_padded b)) [
+              | inl bad ↦ inr (faulty FirstPadding first b (before_first_padding enough version kind) bad)
+              | inr unpadded ↦ (let may : MayStand first b = λ is_first. (kind is_first, unpadded is_first) in
+                  elim (cases_lt (length b) (size_of b)) [
+                    | inl few ↦ inr (faulty Length first b (before_length enough version may) few)
+                    | inr room ↦ inl (record { header = enough; version = version; size = room; may_stand = may })
+                  ])
+            ]
+          ]
+        ]
+      ]
+
+-- A padding that is not good is the first fault.
+padding_row : (first : Bool) (b : List ℕ) → IsWhole first b → Finds Padding false (own b) → IsFirstRow Padding first b
+padding_row first b good found =
+    let same = (is_own b good.size).parts in
+    record {
+      found = (same.header.padded ∙ found.0, λ padding. found.1 (padding_at (size_of b) (size_of (own b)) (padding_of b) (padding_of (own b)) same.header.size same.padding padding));
+      no_earlier = before_padding first b good;
+    }
 
 -- ---- The body
 
@@ -156,63 +152,76 @@ padding_is_words true size octet h = (h refl).1
 padding_is_words false size octet h = refl
 
 -- Without the header and the padding whole words are left.
-words_are_left : (size words padding : ℕ) → size ≡ 4 * (words + 1) → padding % 4 ≡ 0 → (size - 4 - padding) % 4 ≡ 0
-words_are_left size words padding e even = omega arith
+words_are_left : (n size words padding : ℕ) → n ≡ size - 4 - padding → size ≡ 4 * (words + 1) → padding % 4 ≡ 0 → n % 4 ≡ 0
+words_are_left n size words padding is e even = omega arith
 
--- A sound packet's body is whole words.
-pub body_is_words : (first : Bool) (b : List ℕ) → IsSound first b → length (body_of b) % 4 ≡ 0
-body_is_words first b h =
-    let fits : size_of b - 4 - padding_of b ≤ length (drop 4 b) = within (size_of b) (padding_of b) (length b) (length (drop 4 b)) h.room (length-drop 4 b) in
-    ap (λ (n : ℕ). n % 4) (length-take-le (size_of b - 4 - padding_of b) (drop 4 b) fits)
-    ∙ words_are_left (size_of b) (big_number 2 (drop 2 b)) (padding_of b) refl (padding_is_words (is_padded b) (size_of b) (get_or b (size_of b - 1) 0) h.padding)
+-- The body of a packet with good padding is whole words.
+body_is_words : (s : List ℕ) → length s ≡ size_of s → (is_padded s ≡ true → IsPadding (size_of s) (padding_of s)) → length (body_of s) % 4 ≡ 0
+body_is_words s size good =
+    let fits : size_of s - 4 - padding_of s ≤ length (drop 4 s) = within (size_of s) (padding_of s) (length s) (length (drop 4 s)) size (length-drop 4 s) in
+    words_are_left (length (body_of s)) (size_of s) (big_number 2 (drop 2 s)) (padding_of s) (length-take-le (size_of s - 4 - padding_of s) (drop 4 s) fits) refl
+    (padding_is_words (is_padded s) (size_of s) (get_or s (size_of s - 1) 0) good)
   where
-    within : (size padding n rest : ℕ) → size ≤ n → rest ≡ n - 4 → size - 4 - padding ≤ rest
-    within size padding n rest room e = omega arith
+    within : (size padding n rest : ℕ) → n ≡ size → rest ≡ n - 4 → size - 4 - padding ≤ rest
+    within size padding n rest same e = omega arith
+
+-- A whole packet stands here, and this is its body, with the header's type and count.
+pub record HasBody (first : Bool) (b body : List ℕ) (kind count : ℕ) : Type 0 where
+  pub good : IsWhole first b
+  pub unpadded : IsUnpadded (own b) body
+  pub kind_is : kind ≡ type_of b
+  pub count_is : count ≡ count_of b
+
+module _ (first : Bool) (b body : List ℕ) (kind count : ℕ) (h : HasBody first b body kind count) where
+  -- No test before the body's finds a fault.
+  before_body : NoneBefore 7 first b
+  before_body =
+      let same = (is_own b h.good.size).parts in
+      next_row Padding first b (before_padding first b h.good) (λ bad. bad.1 (
+      padding_at (size_of (own b)) (size_of b) (padding_of (own b)) (padding_of b) (sym same.header.size) (sym same.padding) (h.unpadded.1 (sym same.header.padded ∙ bad.0))
+      ))
+
+  -- The fault of a body is the first one.
+  pub body_row : (r : FaultReason) → FindsInBody r (type_of b) (count_of b) (body_of b) → IsFirstRow r first b
+  body_row Body found = record { found = found; no_earlier = before_body }
+  body_row Item found = record { found = found; no_earlier = next_row Body first b before_body (λ body. body_or_item (type_of b) (count_of b) (body_of b) body found) }
+  body_row Reason found =
+      let none8 : NoneBefore 8 first b = next_row Body first b before_body (λ body. body_or_reason (type_of b) (count_of b) (body_of b) body found) in
+      record { found = found; no_earlier = next_row Item first b none8 (λ item. item_or_reason (type_of b) (count_of b) (body_of b) item found) }
+  body_row r found = absurd found
+
+  -- What is found in a body is found of the packet.
+  pub packet_passed : (tested : Result Unit FaultReason) → MatchResult tested (λ _. IsSomeBody kind count body) (λ reason. FindsInBody reason kind count body)
+      → MatchResult tested (λ _. Takes b (drop (size_of b) b) (λ s. IsSomePacket s × MayStand first s)) (λ reason. IsFirstRow reason first b)
+  packet_passed (Ok done) made =
+      let mine = is_own b h.good.size in
+      let header = mine.parts.header in
+      let spelled : IsSpelling made.0 (own b) = record {
+        version = sym header.version ∙ h.good.version;
+        size = mine.size;
+        padding = h.unpadded.1;
+        body = body_at made.0 kind (type_of (own b)) count (count_of (own b)) body (body_of (own b)) (h.kind_is ∙ header.kind) (h.count_is ∙ header.count) h.unpadded.0 made.1;
+      } in
+      (own b, sym (take-append-drop (size_of b) b), ((made.0, spelled), λ is_first. begins_at (own b) b header (h.good.may_stand is_first)))
+  packet_passed (Err reason) found = body_row reason (rw (← h.kind_is, ← h.count_is, ← (h.unpadded.0 ∙ sym (is_own b h.good.size).parts.body)) found)
 
 -- ---- The packet
 
--- A packet's octets stand first, and may stand there.
-pub record Stands (first : Bool) (b : List ℕ) : Type 0 where
-  pub packet : RtcpPacket
-  pub spelling : List ℕ
-  pub after : List ℕ
-  pub parts : b ≡ spelling ++ after
-  pub spelled : IsSpelling packet spelling
-  pub may : MayStand first spelling
+-- A packet was taken, which may stand here.
+abbrev pub TakesPacket : Bool → List ℕ → List ℕ → Type 0
+TakesPacket first old new = Takes old new (λ octets. IsSomePacket octets × MayStand first octets)
 
--- A sound header with a body that says a packet is the packet: its own octets spell it, and may stand here.
-pub spelled_here : (first : Bool) (b : List ℕ) → IsSound first b → (p : RtcpPacket) → IsBody p (type_of b) (count_of b) (body_of b) → IsSpelling p (own b) × MayStand first (own b)
-spelled_here first b h p body =
-    let mine = is_own b h.room in
-    let same = mine.parts in (
-      record {
-        version = sym same.header.version ∙ h.version;
-        size = mine.size;
-        padding = λ set. padding_at (size_of b) (size_of (own b)) (padding_of b) (padding_of (own b)) same.header.size same.padding (h.padding (same.header.padded ∙ set));
-        body = body_at p (type_of b) (type_of (own b)) (count_of b) (count_of (own b)) (body_of b) (body_of (own b)) same.header.kind same.header.count same.body body;
-      },
-      λ is_first. begins_at (own b) b same.header (h.kind is_first, h.unpadded is_first),
-    )
-
-pub stands : (first : Bool) (b : List ℕ) → IsSound first b → (p : RtcpPacket) → IsBody p (type_of b) (count_of b) (body_of b) → Stands first b
-stands first b h p body =
-    let here = spelled_here first b h p body in
-    record { packet = p; spelling = own b; after = drop (size_of b) b; parts = sym (take-append-drop (size_of b) b); spelled = here.0; may = here.1 }
-
--- The fault of a body is the first one.
-pub body_row : (r : FaultReason) (first : Bool) (b : List ℕ) → IsSound first b → FindsInBody r (type_of b) (count_of b) (body_of b) → IsFirstRow r first b
-body_row Body first b h found = record { found = found; no_earlier = h.none }
-body_row Item first b h found = record { found = found; no_earlier = next_row Body first b h.none (λ body. body_or_item (type_of b) (count_of b) (body_of b) body found) }
-body_row Reason first b h found =
-    let none8 : NoneBefore 8 first b = next_row Body first b h.none (λ body. body_or_reason (type_of b) (count_of b) (body_of b) body found) in
-    record { found = found; no_earlier = next_row Item first b none8 (λ item. item_or_reason (type_of b) (count_of b) (body_of b) item found) }
-body_row r first b h found = absurd found
-
--- A body decides.
-of_body : (first : Bool) (b : List ℕ) → IsSound first b → BodyEnd (type_of b) (count_of b) (body_of b) → Stands first b ⊎ IsFaulty first b
-of_body first b h (inl read) = inl (stands first b h read.0 read.1)
-of_body first b h (inr fault) = inr (fault.0, body_row fault.0 first b h fault.1)
-
--- A packet stands, or a first row finds a fault.
-pub stands_or_not : (first : Bool) (b : List ℕ) → Stands first b ⊎ IsFaulty first b
-stands_or_not first b = elim (sound_or_not first b) [ inl sound ↦ of_body first b sound (body_from (type_of b) (count_of b) (body_of b) (body_is_words first b sound)) | inr fault ↦ inr fault ]
+-- A packet is taken, or a first row finds a fault: by the steps of the tests.
+pub packet_from : (first : Bool) (b : List ℕ) → TakesPacket first b (drop (size_of b) b) ⊎ IsFaulty first b
+packet_from first b =
+    elim (header_from first b) [
+      | inr fault ↦ inr fault
+      | inl good ↦ elim (padding_is_good (is_padded (own b)) (size_of (own b)) (padding_of (own b))) [
+        | inl bad ↦ inr (Padding, padding_row first b good bad)
+        | inr padding ↦ (let has : HasBody first b (body_of (own b)) (type_of b) (count_of b) = record { good = good; unpadded = (refl, padding); kind_is = refl; count_is = refl } in
+            elim (body_from (type_of b) (count_of b) (body_of (own b)) (body_is_words (own b) (is_own b good.size).size padding)) [
+              | inl some ↦ inl (packet_passed first b (body_of (own b)) (type_of b) (count_of b) has (Ok tt) some)
+              | inr fault ↦ inr (fault.0, packet_passed first b (body_of (own b)) (type_of b) (count_of b) has (Err fault.0) fault.1)
+            ])
+      ]
+    ]

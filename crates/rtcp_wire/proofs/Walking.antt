@@ -1,110 +1,118 @@
--- Each datagram is read, or has a first fault.
-use Rattle.std.proofs.Common.{◌≡◌, ◌≢◌, ℕ, zero, suc, ◌+◌, ◌<◌, ◌≤◌, ◌⊎◌, ◌==◌, true, List, [], ◌∷◌, ◌++◌, length, refl, sym, ap, subst, ◌∙◌, append_assoc, append-nil, arith, inl, inr}
-use Rattle.std.proofs.lemmas.Bool.{cases_lt, eq-eqb}
+-- Packets that are passed one after the other, to the datagram's end or to its first fault: a lemma for each step of the
+-- tests, and a walk over any datagram by these steps.
+use Rattle.std.proofs.Common.{◌≡◌, ◌≢◌, ℕ, zero, suc, ◌-◌, ◌<◌, ◌≤◌, ◌⊎◌, ◌==◌, true, List, [], ◌∷◌, ◌++◌, length, drop, refl, sym, ap, subst, ◌∙◌, append_assoc, append-nil, arith, inl, inr}
+use Rattle.std.proofs.lemmas.Bool.{cases_lt, cases_eq, eq-eqb}
+use Rattle.std.proofs.lemmas.List.{nil_from_length}
 use Rattle.rtcp_wire.specs.declared.fault.FaultReason.{FaultReason}
 use Rattle.rtcp_wire.specs.declared.fault.FaultReason.TheVariants.{TooLong}
 use Rattle.rtcp_wire.specs.declared.fault.WireFault.{WireFault}
 use Rattle.rtcp_wire.specs.Values.{RtcpPacket}
-use Rattle.rtcp_wire.specs.Grammar.{IsSpelling, MayBegin, IsAccepted}
+use Rattle.rtcp_wire.specs.Grammar.{size_of, IsSpelling, MayBegin}
 use Rattle.rtcp_wire.specs.Faults.{IsFirstRow, IsFirstFault}
+use Rattle.rtcp_wire.specs.Validity.{IsSomeDatagram}
 use Rattle.rtcp_wire.proofs.Joining.{Joins-push}
 use Rattle.rtcp_wire.proofs.Prefixes.{cons_not_nil, length_parts}
 use Rattle.rtcp_wire.proofs.Spellings.{same_header, spelling_length}
 use Rattle.rtcp_wire.proofs.Stops.{finds_no_spelling, begins_on}
 use Rattle.rtcp_wire.proofs.Refusals.{IsBefore, packets_before}
-use Rattle.rtcp_wire.proofs.Standing.{Stands, IsFaulty, stands_or_not}
+use Rattle.rtcp_wire.proofs.Standing.{TakesPacket, packet_from}
 
--- the two outcomes
-abbrev pub IsDecided : List ℕ → Type 0
-IsDecided octets = ((packets : List RtcpPacket) × IsAccepted octets packets) ⊎ ((fault : WireFault) × IsFirstFault octets fault)
-
--- how far the datagram is read
-pub record IsReadTo (octets prefix rest : List ℕ) : Type 0 where
-  pub short : length octets ≤ 65535
-  pub parts : octets ≡ prefix ++ rest
+-- Packets were passed up to what is left, and something is left to read.
+pub record HasPassed (datagram left : List ℕ) : Type 0 where
+  pub prefix : List ℕ
+  pub short : length datagram ≤ 65535
+  pub parts : datagram ≡ prefix ++ left
   pub before : IsBefore prefix
+  pub more : (left ≢ []) ⊎ (datagram ≡ [])
 
--- Where the datagram is read so far, and a first row finds a fault after that, the fault is the datagram's first.
-pub stops_at : (octets prefix rest : List ℕ) (reason : FaultReason) → IsReadTo octets prefix rest → (rest ≢ []) ⊎ (octets ≡ []) → IsFirstRow reason (length prefix == 0) rest → IsFirstFault octets (record { reason = reason; place = length prefix })
-stops_at octets prefix rest reason h more row =
-    inr (record {
-      short = h.short;
-      prefix = prefix;
-      rest = rest;
-      parts = h.parts;
-      place = refl;
-      before = h.before;
-      more = more;
-      unreadable = finds_no_spelling reason (length prefix == 0) rest row.found;
-      row = row;
-    })
-
--- So it is decided.
-stops_here : (octets prefix rest : List ℕ) → IsReadTo octets prefix rest → (rest ≢ []) ⊎ (octets ≡ []) → IsFaulty (length prefix == 0) rest → IsDecided octets
-stops_here octets prefix rest h more fault = inr (record { reason = fault.0; place = length prefix }, stops_at octets prefix rest fault.0 h more fault.1)
+-- at the start
+pub none_passed : (datagram : List ℕ) → length datagram ≤ 65535 → HasPassed datagram datagram
+none_passed datagram short = record { prefix = []; short = short; parts = refl; before = inl refl; more = some_or_none datagram }
+  where
+    some_or_none : (octets : List ℕ) → (octets ≢ []) ⊎ (octets ≡ [])
+    some_or_none [] = inr refl
+    some_or_none (o ∷ octets) = inl (cons_not_nil o octets)
 
 -- A prefix with one packet more may begin a datagram.
-pub longer_begins : (prefix : List ℕ) (p : RtcpPacket) (s : List ℕ) → IsBefore prefix → IsSpelling p s → ((length prefix == 0) ≡ true → MayBegin s) → MayBegin (prefix ++ s)
+longer_begins : (prefix : List ℕ) (p : RtcpPacket) (s : List ℕ) → IsBefore prefix → IsSpelling p s → ((length prefix == 0) ≡ true → MayBegin s) → MayBegin (prefix ++ s)
 longer_begins prefix p s (inl none) h may = subst (λ (t : List ℕ). MayBegin (t ++ s)) (sym none) (may (eq-eqb (length prefix) 0 (ap length none)))
 longer_begins prefix p s (inr ([], accepted)) h may = subst (λ (t : List ℕ). MayBegin (t ++ s)) (sym accepted.joined) (may (eq-eqb (length prefix) 0 (ap length accepted.joined)))
 longer_begins prefix p s (inr (q ∷ packets, accepted)) h may =
     let enough : 4 ≤ length prefix = omega (arith, length_parts prefix accepted.joined.0 accepted.joined.1 accepted.joined.2, spelling_length q accepted.joined.0 accepted.joined.3) in
     begins_on prefix (prefix ++ s) (same_header prefix s enough) accepted.begins
 
--- One packet further the datagram is still read.
-pub one_further : (octets prefix rest : List ℕ) (h : IsReadTo octets prefix rest) (st : Stands (length prefix == 0) rest) → IsReadTo octets (prefix ++ st.spelling) st.after
-one_further octets prefix rest h st =
-    let so_far = packets_before prefix h.before in
-    let parts : octets ≡ (prefix ++ st.spelling) ++ st.after = h.parts ∙ ap (λ (t : List ℕ). prefix ++ t) st.parts ∙ sym (append_assoc prefix st.spelling st.after) in
-    record {
-      short = h.short;
-      parts = parts;
-      before = inr (
-        so_far.0 ++ st.packet ∷ [],
-        record {
-          short = omega (arith, h.short, length_parts octets (prefix ++ st.spelling) st.after parts);
-          begins = longer_begins prefix st.packet st.spelling h.before st.spelled st.may;
-          joined = Joins-push IsSpelling so_far.0 st.packet prefix st.spelling so_far.1 st.spelled;
-        },
-      );
-    }
+module _ (datagram old : List ℕ) (place : ℕ) (h : HasPassed datagram old) (is : place ≡ length datagram - length old) where
+  -- where the next packet begins
+  place_is : place ≡ length h.prefix
+  place_is = omega (arith, is, length_parts datagram h.prefix old h.parts)
 
--- At the end of a datagram that has octets all of it is read.
-pub all_is_read : (octets prefix : List ℕ) → octets ≢ [] → IsReadTo octets prefix [] → IsDecided octets
-all_is_read octets prefix some h =
-    let whole : octets ≡ prefix = h.parts ∙ append-nil prefix in
-    elim h.before [ inl none ↦ absurd (some (whole ∙ none)) | inr read ↦ inl (read.0, subst (λ (t : List ℕ). IsAccepted t read.0) (sym whole) read.1) ]
+  -- The next packet's fault is the datagram's first.
+  pub stops_next : (reason : FaultReason) → IsFirstRow reason (place == 0) old → IsFirstFault datagram (record { reason = reason; place = place })
+  stops_next reason row =
+      let here : IsFirstRow reason (length h.prefix == 0) old = subst (λ (n : ℕ). IsFirstRow reason (n == 0) old) place_is row in
+      inr (record {
+        short = h.short;
+        prefix = h.prefix;
+        rest = old;
+        parts = h.parts;
+        place = place_is;
+        before = h.before;
+        more = h.more;
+        unreadable = finds_no_spelling reason (length h.prefix == 0) old here.found;
+        row = here;
+      })
 
--- packets to the end, or up to where none stands
-walk : (bound : ℕ) (octets prefix rest : List ℕ) → octets ≢ [] → length rest < bound → IsReadTo octets prefix rest → IsDecided octets
-walk zero octets prefix rest some below h = absurd (omega arith)
-walk (suc n) octets prefix [] some below h = all_is_read octets prefix some h
-walk (suc n) octets prefix (o ∷ rest) some below h =
-    elim (stands_or_not (length prefix == 0) (o ∷ rest)) [
-      | inl st ↦ walk n octets (prefix ++ st.spelling) st.after some (shorter (length (o ∷ rest)) (length st.spelling) (length st.after) n (length_parts (o ∷ rest) st.spelling st.after st.parts) (spelling_length st.packet st.spelling st.spelled) below) (one_further octets prefix (o ∷ rest) h st)
-      | inr fault ↦ stops_here octets prefix (o ∷ rest) h (inl (cons_not_nil o rest)) fault
+  module _ (new : List ℕ) (taken : TakesPacket (place == 0) old new) where
+    -- the prefix with the packet that was taken
+    abbrev longer : List ℕ
+    longer = h.prefix ++ taken.0
+
+    parts_of : datagram ≡ longer ++ new
+    parts_of = h.parts ∙ ap (λ (t : List ℕ). h.prefix ++ t) taken.1 ∙ sym (append_assoc h.prefix taken.0 new)
+
+    accepted : IsSomeDatagram longer
+    accepted =
+        let so_far = packets_before h.prefix h.before in (
+          so_far.0 ++ taken.2.0.0 ∷ [],
+          record {
+            short = omega (arith, h.short, length_parts datagram longer new parts_of);
+            begins = longer_begins h.prefix taken.2.0.0 taken.0 h.before taken.2.0.1 (λ is_first. taken.2.1 (subst (λ (n : ℕ). (n == 0) ≡ true) (sym place_is) is_first));
+            joined = Joins-push IsSpelling so_far.0 taken.2.0.0 h.prefix taken.0 so_far.1 taken.2.0.1;
+          },
+        )
+
+    -- one packet more, where octets are left after it
+    pub passed_more : length new ≢ 0 → HasPassed datagram new
+    passed_more left = record { prefix = longer; short = h.short; parts = parts_of; before = inr accepted; more = inl (λ none. left (ap length none)) }
+
+    -- one packet more, to the end
+    pub passed_all : length new ≡ 0 → IsSomeDatagram datagram
+    passed_all none =
+        let whole : datagram ≡ longer = parts_of ∙ ap (λ (t : List ℕ). longer ++ t) (nil_from_length new none) ∙ append-nil longer in
+        subst IsSomeDatagram (sym whole) accepted
+
+-- the two outcomes
+abbrev IsDecided : List ℕ → Type 0
+IsDecided datagram = IsSomeDatagram datagram ⊎ ((fault : WireFault) × IsFirstFault datagram fault)
+
+-- packet after packet, to the end or to the first fault
+walk : (bound : ℕ) (datagram left : List ℕ) → length left < bound → HasPassed datagram left → IsDecided datagram
+walk zero datagram left below h = absurd (omega arith)
+walk (suc n) datagram left below h =
+    let place : ℕ = length datagram - length left in
+    let new : List ℕ = drop (size_of left) left in
+    elim (packet_from (place == 0) left) [
+      | inr fault ↦ inr (record { reason = fault.0; place = place }, stops_next datagram left place h refl fault.0 fault.1)
+      | inl taken ↦ elim (cases_eq (length new) 0) [
+        | inl none ↦ inl (passed_all datagram left place h refl new taken none)
+        | inr some ↦ walk n datagram new (omega (arith, below, length_parts left taken.0 new taken.1, spelling_length taken.2.0.0 taken.0 taken.2.0.1)) (passed_more datagram left place h refl new taken some)
+      ]
     ]
-  where
-    shorter : (whole s after n : ℕ) → whole ≡ s + after → 4 ≤ s → whole < suc n → after < n
-    shorter whole s after n e enough below = omega arith
-
--- The empty datagram stops at once.
-none_is_refused : IsReadTo [] [] [] → IsDecided []
-none_is_refused h =
-    elim (stands_or_not true []) [
-      | inl st ↦ absurd (omega (arith, length_parts [] st.spelling st.after st.parts, spelling_length st.packet st.spelling st.spelled))
-      | inr fault ↦ stops_here [] [] [] h (inr refl) fault
-    ]
-
--- a datagram that isn't too long
-decided : (octets : List ℕ) → length octets ≤ 65535 → IsDecided octets
-decided [] short = none_is_refused (record { short = short; parts = refl; before = inl refl })
-decided (o ∷ octets) short = walk (suc (length (o ∷ octets))) (o ∷ octets) [] (o ∷ octets) (cons_not_nil o octets) (omega arith) (record { short = short; parts = refl; before = inl refl })
 
 -- Each datagram is read, or has a first fault.
-pub always_one : (octets : List ℕ) → IsDecided octets
-always_one octets =
-    elim (cases_lt 65535 (length octets)) [
+pub always_one : (datagram : List ℕ) → IsDecided datagram
+always_one datagram =
+    elim (cases_lt 65535 (length datagram)) [
       | inl long ↦ inr (record { reason = TooLong; place = 0 }, inl (long, refl, refl))
-      | inr short ↦ decided octets short
+      | inr short ↦ walk (suc (length datagram)) datagram datagram (omega arith) (none_passed datagram short)
     ]

@@ -1,5 +1,5 @@
 use Rattle.std.proofs.Common.{◌≤◌, length, subst, arith}
-use Rattle.rtcp_wire.proofs.PassingPackets.{body_is_some, goodbye_checked}
+use Rattle.rtcp_wire.proofs.Deciding.{plain_body, goodbye_checked}
 use Rattle.rtcp_wire.proofs.validity.check_body.Goals as goal
 
 pub returns-in-203 : goal.returns-in-203
@@ -12,4 +12,4 @@ pub returns-in_default : goal.returns-in_default
 returns-in_default c =
     let enough : c.fewest_octets.result ≤ length c.args.body.now = omega arith in
     let room = subst (λ n. n ≤ length c.args.body.now) c.fewest_octets.ensures enough in
-    body_is_some c.args.kind c.args.count c.args.body.now c.requires room (λ e. omega (arith, e)) (λ e. omega (arith, e))
+    plain_body c.args.kind c.args.count c.args.body.now room (λ e. omega (arith, e)) (λ e. omega (arith, e))

@@ -1,5 +1,5 @@
 use Rattle.std.proofs.Common.{length}
-use Rattle.rtcp_wire.proofs.PassingPackets.{HasPassed}
+use Rattle.rtcp_wire.proofs.Walking.{HasPassed}
 use Rattle.rtcp_wire.proofs.validity.check_packets.Given as goal
 
 abbrev pub invariant-packets : goal.invariant-packets

@@ -1,6 +1,6 @@
 use Rattle.std.proofs.Common.{Err, ap}
 use Rattle.rtcp_wire.proofs.LawLemmas.{accepted_or_faulty-never_both, one_fault, walks_read_encodings}
-use Rattle.rtcp_wire.proofs.PassingPackets.{accepted_as_read}
+use Rattle.rtcp_wire.proofs.ReadingWalks.{accepted_as_read}
 use Rattle.rtcp_wire.proofs.compound.Compound.read.Goals as goal
 
 pub invariant_of-result : goal.invariant_of-result
