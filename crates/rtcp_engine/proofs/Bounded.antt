@@ -13,7 +13,7 @@ use Rattle.rtcp_engine.specs.Answers.{answer_of, followed_by, step_by}
 use Rattle.rtcp_engine.specs.Taken.{HasWords, IsHistory}
 use Rattle.rtcp_engine.specs.Spacing.{KeepsBounds}
 use Rattle.rtcp_engine.proofs.Waiting.{in_time_after}
-use Rattle.rtcp_engine.proofs.LawLemmas.{sent_compounds_keep_apart-spaced, sent_compounds_keep_apart-first, sent_compounds_keep_apart-window, sent_compounds_keep_apart-leaves_once, sent_compounds_keep_apart-few_changes, sent_compounds_keep_apart-limit}
+use Rattle.rtcp_engine.proofs.LawLemmas.{sent_compounds_keep_apart}
 use Rattle.rtcp_engine.proofs.Following.{is_history_after}
 
 abbrev taken : StepValue → AnswerValue
@@ -43,15 +43,5 @@ sends_if_late history moment first_word second_word (Ok step) words is answer la
         (in_time_after history (ticked moment first_word second_word) is none words late)
     handed_out (Some refusal) some same = absurd cc
 
-pub bounds_of : (history : History) → IsHistory history → KeepsBounds history
-bounds_of history is = record {
-  spaced = sent_compounds_keep_apart-spaced history is;
-  first = sent_compounds_keep_apart-first history is;
-  window = λ from width. sent_compounds_keep_apart-window history from width is;
-  leaves_once = sent_compounds_keep_apart-leaves_once history is;
-  few_changes = sent_compounds_keep_apart-few_changes history is;
-  limit = sent_compounds_keep_apart-limit history is;
-}
-
 pub bounds_after : (history : History) (act : Act) → HasWords act → IsHistory history → KeepsBounds (followed_by history act)
-bounds_after history act words is = bounds_of (followed_by history act) (is_history_after history act words is)
+bounds_after history act words is = sent_compounds_keep_apart (followed_by history act) (is_history_after history act words is)

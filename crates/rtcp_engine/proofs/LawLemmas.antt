@@ -1,11 +1,8 @@
 -- The laws of this crate as lemmas, for the proofs of the crates above: each has the name of its law, and of the
 -- clause where the law has several.
-use Rattle.std.proofs.Common.{◌≡◌, ◌↔◌, All, map, ℕ, ◌+◌, ◌-◌, ◌*◌, ◌/◌, ◌%◌, ◌≤◌, ◌^◌, ◌<◌, Bool, false, is_some, option_map, List, [], ◌∷◌, ◌++◌, length, slice_get, Option, Some, None, Result, Ok, Err, if◌then◌else◌, refl, sym, ap, ◌∙◌, arith, inl, inr, max}
+use Rattle.std.proofs.Common.{◌≡◌, ◌↔◌, map, ℕ, ◌+◌, ◌-◌, ◌*◌, ◌/◌, ◌%◌, ◌≤◌, ◌^◌, ◌<◌, Bool, false, is_some, option_map, List, [], ◌∷◌, ◌++◌, length, slice_get, Option, Some, None, Ok, Err, if◌then◌else◌, refl, sym, ap, ◌∙◌, arith, inl, inr, max}
 use Rattle.std.proofs.lemmas.Bool.{ne_eqb, eq-eqb, lt-ltb, le-ltb, cases_lt}
-use Rattle.rtcp_wire.specs.Values.{ItemValue, RtcpPacket}
-use Rattle.rtcp_wire.specs.RtpHeads.{RtpValue}
-use Rattle.rtcp_wire.specs.declared.fault.WireFault.{WireFault}
-use Rattle.rtcp_wire.specs.declared.rtp.fault.RtpFault.{RtpFault}
+use Rattle.rtcp_wire.specs.Values.{ItemValue}
 use Rattle.rtcp_wire.proofs.LawLemmas as wire
 use Rattle.rtcp_members.specs.Traces.{TraceStep, block_taken}
 use Rattle.rtcp_members.specs.Stays.{is_before}
@@ -14,7 +11,7 @@ use Rattle.rtcp_report.specs.Traced.{with_blocks}
 use Rattle.rtcp_engine.specs.declared.refusal.Refusal.{Refusal}
 use Rattle.rtcp_engine.specs.Setups.{Setup, IsUsable}
 use Rattle.rtcp_engine.specs.Refused.{error_in}
-use Rattle.rtcp_engine.specs.Acts.{Datagram, Act, moment_of, IsReading, IsRtpReading}
+use Rattle.rtcp_engine.specs.Acts.{Datagram, Act, moment_of, IsReading, IsRtpReading, IsTotal, IsUnique}
 use Rattle.rtcp_engine.specs.Changes.{NewIdentifier, change_by, is_taken, new_identifier}
 use Rattle.rtcp_engine.specs.OwnStreams.{OwnStep, packet_sent, check_passed, report_sent, counts_anew, sending_since}
 use Rattle.rtcp_engine.specs.OwnSending.{OutlastsChecks, IsSendingSince}
@@ -29,7 +26,7 @@ use Rattle.rtcp_engine.specs.Steps.{answer_unless}
 use Rattle.rtcp_engine.specs.Answers.{step_by, answer_of, followed_by}
 use Rattle.rtcp_engine.specs.Taken.{IsHistory, NamesFew}
 use Rattle.rtcp_engine.specs.Sent.{reports_in, deciding_interval, sent_at, sent_with, handed_out, reports_of, counted_report}
-use Rattle.rtcp_engine.specs.Spacing.{newest_moment, AreSpaced, count_within, first_leave, EndsWithBye, AllFit, HasFewChanges}
+use Rattle.rtcp_engine.specs.Spacing.{newest_moment, first_leave, KeepsBounds}
 use Rattle.rtcp_engine.proofs.Choosing.{few_changes, new_is_free}
 use Rattle.rtcp_engine.proofs.Usable.{usable_of_unrefused, unrefused_of_usable}
 use Rattle.rtcp_engine.proofs.Counting.{reports_counted}
@@ -40,19 +37,19 @@ use Rattle.rtcp_engine.proofs.Windows.{last_in_present, last_in_backoff, spaced_
 
 -- ---- Readings
 
-pub one_reading-always : (octets : List ℕ) → (reading : Result (List RtcpPacket) WireFault) × IsReading octets reading
+pub one_reading-always : IsTotal IsReading
 one_reading-always octets = elim (wire.accepted_or_faulty-always_one octets) [ inl read ↦ (Ok read.0, read.1) | inr fault ↦ (Err fault.0, fault.1) ]
 
-pub one_reading-once : (octets : List ℕ) (one other : Result (List RtcpPacket) WireFault) → IsReading octets one → IsReading octets other → one ≡ other
+pub one_reading-once : IsUnique IsReading
 one_reading-once octets (Ok ps) (Ok qs) h k = ap Ok (wire.one_reading octets ps qs h k)
 one_reading-once octets (Ok ps) (Err fault) h k = absurd (wire.accepted_or_faulty-never_both octets ps fault h k)
 one_reading-once octets (Err fault) (Ok qs) h k = absurd (wire.accepted_or_faulty-never_both octets qs fault k h)
 one_reading-once octets (Err fault) (Err other) h k = ap Err (wire.one_fault octets fault other h k)
 
-pub one_reading-rtp_always : (octets : List ℕ) → (reading : Result RtpValue RtpFault) × IsRtpReading octets reading
+pub one_reading-rtp_always : IsTotal IsRtpReading
 one_reading-rtp_always octets = elim (wire.packet_or_fault-always_one octets) [ inl read ↦ (Ok read.0, read.1) | inr fault ↦ (Err fault.0, fault.1) ]
 
-pub one_reading-rtp_once : (octets : List ℕ) (one other : Result RtpValue RtpFault) → IsRtpReading octets one → IsRtpReading octets other → one ≡ other
+pub one_reading-rtp_once : IsUnique IsRtpReading
 one_reading-rtp_once octets (Ok g) (Ok h) a b = ap Ok (wire.one_head octets g h a b)
 one_reading-rtp_once octets (Ok g) (Err fault) a b = absurd (wire.packet_or_fault-never_both octets g fault a b)
 one_reading-rtp_once octets (Err fault) (Ok h) a b = absurd (wire.packet_or_fault-never_both octets h fault b a)
@@ -158,29 +155,28 @@ last_lies_after_what_was_sent-backing_off history outcome backoff is life =
     last_in_backoff history.setup.limit (last_moment history.acts) (first_leave history.acts) (sent_at history) (life_at history) outcome backoff
     (session_keeps_apart history.setup history.word history.acts is.usable is.taken) life
 
-pub sent_compounds_keep_apart-spaced : (history : History) → IsHistory history → AreSpaced (reports_in (sent_at history))
-sent_compounds_keep_apart-spaced history is = spaced_in history.setup.limit (last_moment history.acts) (first_leave history.acts) (sent_at history) (life_at history) (session_keeps_apart history.setup history.word history.acts is.usable is.taken)
-
-pub sent_compounds_keep_apart-first : (history : History) → IsHistory history → All (λ report. 1026037 ≤ report.moment) (reports_in (sent_at history))
-sent_compounds_keep_apart-first history is = first_in history.setup.limit (last_moment history.acts) (first_leave history.acts) (sent_at history) (life_at history) (session_keeps_apart history.setup history.word history.acts is.usable is.taken)
-
-pub sent_compounds_keep_apart-window : (history : History) (from width : ℕ) → IsHistory history → count_within from width (reports_in (sent_at history)) ≤ 1 + width / 2052074
-sent_compounds_keep_apart-window history from width is = window_in history.setup.limit (last_moment history.acts) (first_leave history.acts) (sent_at history) from width (life_at history) (session_keeps_apart history.setup history.word history.acts is.usable is.taken)
-
-pub sent_compounds_keep_apart-leaves_once : (history : History) → IsHistory history → EndsWithBye (first_leave history.acts) (sent_at history)
-sent_compounds_keep_apart-leaves_once history is = ends_in history.setup.limit (last_moment history.acts) (first_leave history.acts) (sent_at history) (life_at history) (session_keeps_apart history.setup history.word history.acts is.usable is.taken)
-
-pub sent_compounds_keep_apart-limit : (history : History) → IsHistory history → AllFit history.setup.limit (sent_at history)
-sent_compounds_keep_apart-limit history is = limit_in history.setup.limit (last_moment history.acts) (first_leave history.acts) (sent_at history) (life_at history) (session_keeps_apart history.setup history.word history.acts is.usable is.taken)
+pub sent_compounds_keep_apart : (history : History) → IsHistory history → KeepsBounds history
+sent_compounds_keep_apart history is =
+    let limit = history.setup.limit in
+    let now = last_moment history.acts in
+    let leave = first_leave history.acts in
+    let sent = sent_at history in
+    let life = life_at history in
+    let apart = session_keeps_apart history.setup history.word history.acts is.usable is.taken in
+    record {
+      spaced = spaced_in limit now leave sent life apart;
+      first = first_in limit now leave sent life apart;
+      window = λ from width. window_in limit now leave sent from width life apart;
+      leaves_once = ends_in limit now leave sent life apart;
+      few_changes = few_changes history.setup history.word history.acts is.taken;
+      limit = limit_in limit now leave sent life apart;
+    }
 
 pub sends_in_time : (history : History) → IsHistory history → AllInTime history.setup history.word history.acts
 sends_in_time history is = all_in_time history.setup history.word history.acts is.usable is.word is.taken
 
 pub new_identifiers_are_free : (history : History) (datagram : Datagram) (word : ℕ) → IsHistory history → word < 2 ^ 32 → NamesFew datagram → let session = session_at history in is_taken session datagram (new_identifier word session datagram) ≡ false
 new_identifiers_are_free history datagram word is fits few = new_is_free history datagram word is fits few
-
-pub sent_compounds_keep_apart-few_changes : (history : History) → IsHistory history → HasFewChanges (sent_at history)
-sent_compounds_keep_apart-few_changes history is = few_changes history.setup history.word history.acts is.taken
 
 -- ---- Extra items
 

@@ -51,6 +51,14 @@ abbrev pub IsRtpReading : List ℕ → Result RtpValue RtpFault → Type 0
 IsRtpReading octets (Ok head) = IsRtpHead octets head
 IsRtpReading octets (Err fault) = IsRtpFault octets fault
 
+-- Any octets say something,
+abbrev pub IsTotal : {A : Type 0} → (List ℕ → A → Type 0) → Type 0
+IsTotal {A = A} Says = (octets : List ℕ) → (reading : A) × Says octets reading
+
+-- and no two things.
+abbrev pub IsUnique : {A : Type 0} → (List ℕ → A → Type 0) → Type 0
+IsUnique {A = A} Says = (octets : List ℕ) (one other : A) → Says octets one → Says octets other → one ≡ other
+
 -- ---- Events
 
 -- What a host tells a participant, with the octets of a datagram as they came.

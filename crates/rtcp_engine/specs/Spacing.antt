@@ -74,13 +74,19 @@ AllFit limit sent = All (λ compound. length compound.out.octets ≤ limit) sent
 
 -- ---- All together
 
--- What holds of all that was sent over a history: reports lie apart, the first one too, and so few lie in a
--- window; a BYE comes last; no compound passes the limit.
+-- What holds of all that was sent over a history, the BYEs included (RFC 3550, 6.2, 6.3, 8.2).
 pub record KeepsBounds (history : History) : Type 0 where
+  -- Two successive reports lie at least half the interval then computed for the later one apart, over 1.21828.
   pub spaced : AreSpaced (reports_in (sent_at history))
+  -- None comes before 1,026,037 microseconds.
   pub first : All (λ report. 1026037 ≤ report.moment) (reports_in (sent_at history))
+  -- In a window of any width at most one more lies than 2,052,074 microseconds fit into it.
   pub window : (from width : ℕ) →
       count_within from width (reports_in (sent_at history)) ≤ 1 + width / 2052074
+  -- There is at most one BYE of leaving, nothing comes after it, and after a backoff it comes no sooner than half
+  -- its interval after the leave, over 1.21828.
   pub leaves_once : EndsWithBye (first_leave history.acts) (sent_at history)
+  -- At most eight identifiers are given up with a BYE.
   pub few_changes : HasFewChanges (sent_at history)
+  -- No compound passes the limit.
   pub limit : AllFit history.setup.limit (sent_at history)

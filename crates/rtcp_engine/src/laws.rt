@@ -1,17 +1,14 @@
 //! Laws of the definitions of a participant's answers. Each is an empty function whose postcondition is the
 //! law; `proofs/LawLemmas` has a lemma of its name, or one for each clause.
 
-ghost use Rattle.std.specs.Prelude.{◌≡◌, ◌↔◌, ◌≤◌, ◌^◌, ◌<◌, max, ℕ, ◌+◌, ◌*◌, ◌/◌, ◌%◌, All, map, List, [], ◌∷◌, ◌++◌, length, slice_get, Option, Some, None, Result, false};
-ghost use Rattle.rtcp_wire.specs.Values.{ItemValue, RtcpPacket};
-ghost use Rattle.rtcp_wire.specs.RtpHeads.{RtpValue};
-ghost use Rattle.rtcp_wire.specs.declared.fault.WireFault.{WireFault};
-ghost use Rattle.rtcp_wire.specs.declared.rtp.fault.RtpFault.{RtpFault};
+ghost use Rattle.std.specs.Prelude.{◌≡◌, ◌↔◌, ◌≤◌, ◌^◌, ◌<◌, max, ℕ, ◌+◌, ◌*◌, ◌%◌, map, List, [], ◌++◌, length, slice_get, Some, None, false};
+ghost use Rattle.rtcp_wire.specs.Values.{ItemValue};
 ghost use Rattle.rtcp_members.specs.Traces.{TraceStep};
 ghost use Rattle.rtcp_members.specs.Pending.{EntryRow, last_reported};
 ghost use Rattle.rtcp_report.specs.Traced.{with_blocks};
 ghost use Rattle.rtcp_engine.specs.Setups.{Setup, IsUsable};
 ghost use Rattle.rtcp_engine.specs.Refused.{error_in};
-ghost use Rattle.rtcp_engine.specs.Acts.{Datagram, Act, IsReading, IsRtpReading, moment_of};
+ghost use Rattle.rtcp_engine.specs.Acts.{Datagram, Act, IsReading, IsRtpReading, IsTotal, IsUnique, moment_of};
 ghost use Rattle.rtcp_engine.specs.OwnStreams.{OwnStep, sending_since};
 ghost use Rattle.rtcp_engine.specs.OwnSending.{IsSendingSince};
 ghost use Rattle.rtcp_engine.specs.Reporting.{extra_item, last_reported_in};
@@ -25,20 +22,16 @@ ghost use Rattle.rtcp_engine.specs.Answers.{answer_of, followed_by};
 ghost use Rattle.rtcp_engine.specs.Changes.{is_taken, new_identifier};
 ghost use Rattle.rtcp_engine.specs.Taken.{IsHistory, NamesFew};
 ghost use Rattle.rtcp_engine.specs.Sent.{reports_in, deciding_interval, sent_at, handed_out, reports_of, counted_report};
-ghost use Rattle.rtcp_engine.specs.Spacing.{newest_moment, AreSpaced, count_within, first_leave, EndsWithBye, HasFewChanges, AllFit};
+ghost use Rattle.rtcp_engine.specs.Spacing.{newest_moment, KeepsBounds};
 ghost use Rattle.rtcp_engine.specs.InTime.{AllInTime};
 ghost use Rattle.rtcp_engine.specs.declared.refusal.Refusal.{Refusal as Reason};
 
 /// The octets of a datagram have exactly one reading: packets, or a first fault.
 pub fn one_reading()
-    ensures always { (octets : List ℕ) →
-        (reading : Result (List RtcpPacket) WireFault) × IsReading octets reading }
-    ensures once { (octets : List ℕ) (one other : Result (List RtcpPacket) WireFault) →
-        IsReading octets one → IsReading octets other → one ≡ other }
-    ensures rtp_always { (octets : List ℕ) →
-        (reading : Result RtpValue RtpFault) × IsRtpReading octets reading }
-    ensures rtp_once { (octets : List ℕ) (one other : Result RtpValue RtpFault) →
-        IsRtpReading octets one → IsRtpReading octets other → one ≡ other }
+    ensures always { IsTotal IsReading }
+    ensures once { IsUnique IsReading }
+    ensures rtp_always { IsTotal IsRtpReading }
+    ensures rtp_once { IsUnique IsRtpReading }
 {}
 
 /// A setup is usable exactly where no reason to refuse it applies.
@@ -98,21 +91,14 @@ pub fn last_lies_after_what_was_sent()
         (leaving_timing backoff).last }
 {}
 
-/// Whatever a participant is told, and whenever: two successive reports lie at least half the interval then
-/// computed for the later one apart, over 1.21828, and none comes before 1,026,037 microseconds; so in a window
-/// of some width at most one report more lies than 2,052,074 microseconds fit into it (RFC 3550, 6.3.1, 6.3.6).
-/// The BYE of leaving is the last compound, and after a backoff it comes no sooner than half its interval after the leave,
-/// over 1.21828 (6.3.7). At most eight identifiers are given up with a BYE (8.2). No compound passes the limit.
+/// Whatever a participant is told, and whenever, what it sends keeps these bounds: two successive reports lie at least
+/// half the interval then computed for the later one apart, over 1.21828, and none comes before 1,026,037
+/// microseconds; so in a window of some width at most one report more lies than 2,052,074 microseconds fit into it
+/// (RFC 3550, 6.3.1, 6.3.6). The BYE of leaving is the last compound, and after a backoff it comes no sooner than half
+/// its interval after the leave, over 1.21828 (6.3.7). At most eight identifiers are given up with a BYE (8.2). No
+/// compound passes the limit.
 pub fn sent_compounds_keep_apart()
-    ensures spaced { (history : History) → IsHistory history → AreSpaced (reports_in (sent_at history)) }
-    ensures first { (history : History) → IsHistory history →
-        All (λ report. 1026037 ≤ report.moment) (reports_in (sent_at history)) }
-    ensures window { (history : History) (from width : ℕ) → IsHistory history →
-        count_within from width (reports_in (sent_at history)) ≤ 1 + width / 2052074 }
-    ensures leaves_once { (history : History) → IsHistory history →
-        EndsWithBye (first_leave history.acts) (sent_at history) }
-    ensures few_changes { (history : History) → IsHistory history → HasFewChanges (sent_at history) }
-    ensures limit { (history : History) → IsHistory history → AllFit history.setup.limit (sent_at history) }
+    ensures { (history : History) → IsHistory history → KeepsBounds history }
 {}
 
 /// Whatever a participant is told, a tick sends a report where it comes as long after the last report, or the

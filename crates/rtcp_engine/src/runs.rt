@@ -1,13 +1,12 @@
 //! Runs of a participant over events.
 
-ghost use Rattle.std.specs.Prelude.{◌≡◌, ◌≤◌, ◌<◌, ◌+◌, ◌-◌, ◌/◌, ◌^◌, ◌++◌, ℕ, All, true, false, List, length, take, OnErr};
+ghost use Rattle.std.specs.Prelude.{◌≡◌, ◌≤◌, ◌<◌, ◌+◌, ◌-◌, ◌^◌, ◌++◌, true, false, List, length, take, OnErr};
 ghost use Rattle.rtcp_engine.specs.Acts.{Act};
 ghost use Rattle.rtcp_engine.specs.Outcomes.{one_if};
 ghost use Rattle.rtcp_engine.specs.Histories.{History};
 ghost use Rattle.rtcp_engine.specs.Answers.{answers_to, followed_by_all};
 ghost use Rattle.rtcp_engine.specs.Views.{answer_value, IsActOf, AreActsOf};
-ghost use Rattle.rtcp_engine.specs.Sent.{reports_in, sent_at};
-ghost use Rattle.rtcp_engine.specs.Spacing.{AllFit, AreSpaced, EndsWithBye, HasFewChanges, count_within, first_leave};
+ghost use Rattle.rtcp_engine.specs.Spacing.{KeepsBounds};
 ghost use Rattle.rtcp_engine.specs.InTime.{AllInTime};
 ghost use Rattle.rtcp_engine.specs.Promises.{Takes};
 ghost use Rattle.rtcp_engine.specs.States.{KeepsCapacity, StandsAt};
@@ -61,25 +60,13 @@ pub fn run<T: MemberTable, S: Sink>(
         AreActsOf events.now acts →
         StandsAt participant.new (followed_by_all history (take result.taken acts)) }
 
-    // The table never passes its capacity, and no compound the limit.
+    // The table never passes its capacity.
     ensures within { KeepsCapacity participant.old.presence → KeepsCapacity participant.new.presence }
-    ensures limit { (history : History) (acts : List Act) → StandsAt participant.old history →
-        AreActsOf events.now acts → let told = followed_by_all history (take result.taken acts) in
-        AllFit told.setup.limit (sent_at told) }
 
-    // Two successive reports of the whole history lie at least half the interval then computed for the later
-    // one apart, over 1.21828; none comes before 1,026,037 microseconds; and in a window of any width at most
-    // one more lies than 2,052,074 microseconds fit into it.
-    ensures spaced { (history : History) (acts : List Act) → StandsAt participant.old history →
-        AreActsOf events.now acts → let told = followed_by_all history (take result.taken acts) in
-        AreSpaced (reports_in (sent_at told)) }
-    ensures first { (history : History) (acts : List Act) → StandsAt participant.old history →
-        AreActsOf events.now acts → let told = followed_by_all history (take result.taken acts) in
-        All (λ report. 1026037 ≤ report.moment) (reports_in (sent_at told)) }
-    ensures window { (history : History) (acts : List Act) (from width : ℕ) →
-        StandsAt participant.old history → AreActsOf events.now acts →
-        let told = followed_by_all history (take result.taken acts) in
-        count_within from width (reports_in (sent_at told)) ≤ 1 + width / 2052074 }
+    // All that was sent over the whole history keeps its bounds: reports lie apart, the first one too, and few lie
+    // in a window; the BYE of leaving comes last, and few identifiers are given up; no compound passes the limit.
+    ensures bounded { (history : History) (acts : List Act) → StandsAt participant.old history →
+        AreActsOf events.now acts → KeepsBounds (followed_by_all history (take result.taken acts)) }
 
     // Each tick of the whole history that came late sent a report, or in a backoff the BYE: late by the longest
     // draw from the greatest interval computed since the last report, or the start, and as long after the last
@@ -87,15 +74,6 @@ pub fn run<T: MemberTable, S: Sink>(
     ensures not_too_late { (history : History) (acts : List Act) → StandsAt participant.old history →
         AreActsOf events.now acts → let told = followed_by_all history (take result.taken acts) in
         AllInTime told.setup told.word told.acts }
-
-    // There is at most one BYE of leaving, nothing comes after it, and after a backoff it comes no sooner than half
-    // its interval after the leave, over 1.21828. At most eight identifiers are given up with a BYE.
-    ensures leaves_once { (history : History) (acts : List Act) → StandsAt participant.old history →
-        AreActsOf events.now acts → let told = followed_by_all history (take result.taken acts) in
-        EndsWithBye (first_leave told.acts) (sent_at told) }
-    ensures few_changes { (history : History) (acts : List Act) → StandsAt participant.old history →
-        AreActsOf events.now acts → let told = followed_by_all history (take result.taken acts) in
-        HasFewChanges (sent_at told) }
 {
     let mut taken = 0;
     'events: for event in events {

@@ -5,7 +5,7 @@ use Rattle.rtcp_engine.specs.Steps.{AnswerValue}
 use Rattle.rtcp_engine.specs.Answers.{answer_of, answers_to, followed_by_all}
 use Rattle.rtcp_engine.specs.Views.{answer_value}
 use Rattle.rtcp_engine.specs.States.{StandsAt}
-use Rattle.rtcp_engine.proofs.LawLemmas.{sent_compounds_keep_apart-spaced, sent_compounds_keep_apart-first, sent_compounds_keep_apart-window, sent_compounds_keep_apart-leaves_once, sent_compounds_keep_apart-few_changes, sent_compounds_keep_apart-limit, sends_in_time}
+use Rattle.rtcp_engine.proofs.LawLemmas.{sent_compounds_keep_apart, sends_in_time}
 use Rattle.rtcp_engine.proofs.OneMore.{answers_more, followed_more, next_act, of_no_error}
 use Rattle.rtcp_engine.proofs.runs.run.Goals as goal
 
@@ -16,41 +16,17 @@ returns-then-is_err-clause-stands g c history acts h are =
     subst (λ (hs : History). StandsAt c.tell-answer.new.participant hs) (sym (ap (followed_by_all history) next.more ∙ followed_more history (take c.events.taken acts) next.act))
     ((c.tell-answer.ensures.takes next.act (next.is_act _)).stands told (c.events.invariant.stands history acts h are))
 
-pub returns-then-is_err-clause-spaced : goal.returns-then-is_err-clause-spaced
-returns-then-is_err-clause-spaced g c history acts h are = sent_compounds_keep_apart-spaced _ (returns-then-is_err-clause-stands g c history acts h are).is_history
-
-pub returns-then-is_err-clause-first : goal.returns-then-is_err-clause-first
-returns-then-is_err-clause-first g c history acts h are = sent_compounds_keep_apart-first _ (returns-then-is_err-clause-stands g c history acts h are).is_history
-
-pub returns-then-is_err-clause-window : goal.returns-then-is_err-clause-window
-returns-then-is_err-clause-window g c history acts from width h are = sent_compounds_keep_apart-window _ from width (returns-then-is_err-clause-stands g c history acts h are).is_history
-
 pub returns-then-is_err-clause-not_too_late : goal.returns-then-is_err-clause-not_too_late
 returns-then-is_err-clause-not_too_late g c history acts h are = sends_in_time _ (returns-then-is_err-clause-stands g c history acts h are).is_history
 
-pub returns-then-is_err-clause-leaves_once : goal.returns-then-is_err-clause-leaves_once
-returns-then-is_err-clause-leaves_once g c history acts h are = sent_compounds_keep_apart-leaves_once _ (returns-then-is_err-clause-stands g c history acts h are).is_history
-
-pub returns-then-is_err-clause-limit : goal.returns-then-is_err-clause-limit
-returns-then-is_err-clause-limit g c history acts h are = sent_compounds_keep_apart-limit _ (returns-then-is_err-clause-stands g c history acts h are).is_history
-
-pub returns-clause-spaced : goal.returns-clause-spaced
-returns-clause-spaced g c history acts h are = sent_compounds_keep_apart-spaced _ (c.events.invariant.stands history acts h are).is_history
-
-pub returns-clause-first : goal.returns-clause-first
-returns-clause-first g c history acts h are = sent_compounds_keep_apart-first _ (c.events.invariant.stands history acts h are).is_history
-
-pub returns-clause-window : goal.returns-clause-window
-returns-clause-window g c history acts from width h are = sent_compounds_keep_apart-window _ from width (c.events.invariant.stands history acts h are).is_history
+pub returns-then-is_err-clause-bounded : goal.returns-then-is_err-clause-bounded
+returns-then-is_err-clause-bounded g c history acts h are = sent_compounds_keep_apart _ (returns-then-is_err-clause-stands g c history acts h are).is_history
 
 pub returns-clause-not_too_late : goal.returns-clause-not_too_late
 returns-clause-not_too_late g c history acts h are = sends_in_time _ (c.events.invariant.stands history acts h are).is_history
 
-pub returns-clause-leaves_once : goal.returns-clause-leaves_once
-returns-clause-leaves_once g c history acts h are = sent_compounds_keep_apart-leaves_once _ (c.events.invariant.stands history acts h are).is_history
-
-pub returns-clause-limit : goal.returns-clause-limit
-returns-clause-limit g c history acts h are = sent_compounds_keep_apart-limit _ (c.events.invariant.stands history acts h are).is_history
+pub returns-clause-bounded : goal.returns-clause-bounded
+returns-clause-bounded g c history acts h are = sent_compounds_keep_apart _ (c.events.invariant.stands history acts h are).is_history
 
 pub events-preserved : goal.events-preserved
 events-preserved g c =
@@ -79,9 +55,3 @@ events-preserved g c =
           subst (λ (hs : History). StandsAt c.tell-answer.new.participant hs) (sym (ap (followed_by_all history) next.more ∙ followed_more history (take c.events.taken acts) next.act))
           ((c.tell-answer.ensures.takes next.act (next.is_act _)).stands told (c.events.invariant.stands history acts h are));
     }
-
-pub returns-then-is_err-clause-few_changes : goal.returns-then-is_err-clause-few_changes
-returns-then-is_err-clause-few_changes g c history acts h are = sent_compounds_keep_apart-few_changes _ (returns-then-is_err-clause-stands g c history acts h are).is_history
-
-pub returns-clause-few_changes : goal.returns-clause-few_changes
-returns-clause-few_changes g c history acts h are = sent_compounds_keep_apart-few_changes _ (c.events.invariant.stands history acts h are).is_history
