@@ -1,6 +1,6 @@
 -- The laws of this crate as lemmas, for the proofs of the crates above: each has the name of its law, and of the
 -- clause where the law has several.
-use Rattle.std.proofs.Common.{◌≡◌, ◌↔◌, map, ℕ, ◌+◌, ◌-◌, ◌*◌, ◌/◌, ◌%◌, ◌≤◌, ◌^◌, ◌<◌, Bool, false, is_some, option_map, List, [], ◌∷◌, ◌++◌, length, slice_get, Option, Some, None, Ok, Err, if◌then◌else◌, refl, sym, ap, ◌∙◌, arith, inl, inr, max}
+use Rattle.std.proofs.Common.{◌≡◌, ◌↔◌, map, ℕ, ◌+◌, ◌-◌, ◌*◌, ◌/◌, ◌%◌, ◌≤◌, ◌^◌, ◌<◌, Bool, false, is_some, option_map, List, [], ◌∷◌, ◌++◌, length, slice_get, Option, Some, None, Ok, Err, if◌then◌else◌, refl, sym, ap, ◌∙◌, arith, inl, inr}
 use Rattle.std.proofs.lemmas.Bool.{ne_eqb, eq-eqb, lt-ltb, le-ltb, cases_lt}
 use Rattle.rtcp_wire.specs.Values.{ItemValue}
 use Rattle.rtcp_wire.proofs.LawLemmas as wire
@@ -16,24 +16,21 @@ use Rattle.rtcp_engine.specs.Changes.{NewIdentifier, change_by, is_taken, new_id
 use Rattle.rtcp_engine.specs.OwnStreams.{OwnStep, packet_sent, check_passed, report_sent, counts_anew, sending_since}
 use Rattle.rtcp_engine.specs.OwnSending.{OutlastsChecks, IsSendingSince}
 use Rattle.rtcp_engine.specs.Reporting.{extra_item, last_reported_in}
-use Rattle.rtcp_timer.specs.Averages.{IsBetween}
-use Rattle.rtcp_timer.specs.Departures.{last_departure}
 use Rattle.rtcp_engine.specs.Outcomes.{Outcome, timing_of}
 use Rattle.rtcp_engine.specs.Leaving.{Backoff, present, backing_off, leaving_timing}
-use Rattle.rtcp_engine.specs.Histories.{History, brought_by, life_at, session_at, with_act, last_moment}
+use Rattle.rtcp_engine.specs.Histories.{History, brought_by, life_at, session_at, with_act}
 use Rattle.rtcp_engine.specs.Refusals.{refusal_after}
 use Rattle.rtcp_engine.specs.Steps.{answer_unless}
 use Rattle.rtcp_engine.specs.Answers.{step_by, answer_of, followed_by}
 use Rattle.rtcp_engine.specs.Taken.{IsHistory, NamesFew}
 use Rattle.rtcp_engine.specs.Sent.{reports_in, deciding_interval, sent_at, sent_with, handed_out, reports_of, counted_report}
-use Rattle.rtcp_engine.specs.Spacing.{newest_moment, first_leave, KeepsBounds}
-use Rattle.rtcp_engine.proofs.Choosing.{few_changes, new_is_free}
+use Rattle.rtcp_engine.specs.Spacing.{newest_moment, LiesAfter, KeepsBounds}
+use Rattle.rtcp_engine.proofs.Choosing.{new_is_free}
 use Rattle.rtcp_engine.proofs.Usable.{usable_of_unrefused, unrefused_of_usable}
 use Rattle.rtcp_engine.proofs.Counting.{reports_counted}
-use Rattle.rtcp_engine.proofs.Sending.{session_keeps_apart}
 use Rattle.rtcp_engine.specs.InTime.{AllInTime}
 use Rattle.rtcp_engine.proofs.Waiting.{all_in_time}
-use Rattle.rtcp_engine.proofs.Windows.{last_in_present, last_in_backoff, spaced_in, first_in, window_in, ends_in, limit_in}
+use Rattle.rtcp_engine.proofs.Windows.{last_in_present, last_in_backoff, bounds_of}
 
 -- ---- Readings
 
@@ -143,34 +140,16 @@ last_block_is_newest (row ∷ rows) trace = last_block_is_newest rows (block_tak
 
 -- ---- Distances, sizes and the BYE
 
-pub last_lies_after_what_was_sent-present : (history : History) (outcome : Outcome) → IsHistory history → life_at history ≡ present outcome
-    → IsBetween (newest_moment (reports_in (sent_at history))) (max (newest_moment (reports_in (sent_at history))) (last_departure outcome.happenings)) (timing_of outcome).last
-last_lies_after_what_was_sent-present history outcome is life =
-    last_in_present history.setup.limit (last_moment history.acts) (first_leave history.acts) (sent_at history) (life_at history) outcome
-    (session_keeps_apart history.setup history.word history.acts is.usable is.taken) life
+pub last_lies_after_what_was_sent-present : (history : History) (outcome : Outcome) → IsHistory history → life_at history ≡ present outcome →
+    LiesAfter (newest_moment (reports_in (sent_at history))) outcome.happenings (timing_of outcome)
+last_lies_after_what_was_sent-present = last_in_present
 
-pub last_lies_after_what_was_sent-backing_off : (history : History) (outcome : Outcome) (backoff : Backoff) → IsHistory history → life_at history ≡ backing_off outcome backoff
-    → IsBetween backoff.since (max backoff.since (last_departure backoff.happenings)) (leaving_timing backoff).last
-last_lies_after_what_was_sent-backing_off history outcome backoff is life =
-    last_in_backoff history.setup.limit (last_moment history.acts) (first_leave history.acts) (sent_at history) (life_at history) outcome backoff
-    (session_keeps_apart history.setup history.word history.acts is.usable is.taken) life
+pub last_lies_after_what_was_sent-backing_off : (history : History) (outcome : Outcome) (backoff : Backoff) → IsHistory history →
+    life_at history ≡ backing_off outcome backoff → LiesAfter backoff.since backoff.happenings (leaving_timing backoff)
+last_lies_after_what_was_sent-backing_off = last_in_backoff
 
 pub sent_compounds_keep_apart : (history : History) → IsHistory history → KeepsBounds history
-sent_compounds_keep_apart history is =
-    let limit = history.setup.limit in
-    let now = last_moment history.acts in
-    let leave = first_leave history.acts in
-    let sent = sent_at history in
-    let life = life_at history in
-    let apart = session_keeps_apart history.setup history.word history.acts is.usable is.taken in
-    record {
-      spaced = spaced_in limit now leave sent life apart;
-      first = first_in limit now leave sent life apart;
-      window = λ from width. window_in limit now leave sent from width life apart;
-      leaves_once = ends_in limit now leave sent life apart;
-      few_changes = few_changes history.setup history.word history.acts is.taken;
-      limit = limit_in limit now leave sent life apart;
-    }
+sent_compounds_keep_apart = bounds_of
 
 pub sends_in_time : (history : History) → IsHistory history → AllInTime history.setup history.word history.acts
 sends_in_time history is = all_in_time history.setup history.word history.acts is.usable is.word is.taken

@@ -2,16 +2,18 @@
 use Rattle.std.proofs.Common.{◌≡◌, ℕ, suc, ◌+◌, ◌-◌, ◌*◌, ◌/◌, ◌<◌, ◌≤◌, ◌&&◌, not, ◌⊎◌, inl, inr, nat_le, Bool, true, false, cond, List, [], ◌∷◌, length, filter, All, Option, refl, sym, ap, ◌∙◌, arith, subst, max}
 use Rattle.std.proofs.lemmas.Bool.{cases_lt, le-leb, lt-leb}
 use Rattle.std.proofs.lemmas.List.Elements.{All-nil, All-cons}
-use Rattle.rtcp_timer.specs.Averages.{IsBetween}
 use Rattle.rtcp_timer.specs.Departures.{last_departure}
 use Rattle.rtcp_timer.specs.Loads.{minimum_of}
 use Rattle.rtcp_timer.specs.Schedules.{Happening, IsInOrder, newest_transmission, schedule_at}
 use Rattle.rtcp_timer.proofs.LawLemmas.{last_lies_between-not_before_sent, last_lies_between-not_after_departure}
 use Rattle.rtcp_engine.specs.Outcomes.{Outcome, timing_of}
 use Rattle.rtcp_engine.specs.Leaving.{Backoff, Life, present, backing_off, gone, leaving_timing}
-use Rattle.rtcp_engine.specs.Sent.{Sent, is_report, reports_in}
-use Rattle.rtcp_engine.specs.Spacing.{newest_moment, AreSpaced, is_between, is_last_bye, count_within, EndsWithBye, AllFit}
-use Rattle.rtcp_engine.proofs.Sending.{none_sent, AllStay, AreReports, EndsSo, IsLast, KeepsApart, Stays, TakesPart, BacksOff}
+use Rattle.rtcp_engine.specs.Sent.{Sent, is_report, reports_in, sent_at}
+use Rattle.rtcp_engine.specs.Histories.{History, last_moment, life_at}
+use Rattle.rtcp_engine.specs.Taken.{IsHistory}
+use Rattle.rtcp_engine.specs.Spacing.{newest_moment, AreSpaced, is_between, first_leave, is_last_bye, EndsWithBye, LiesAfter, AllFit, KeepsBounds}
+use Rattle.rtcp_engine.proofs.Choosing.{few_changes}
+use Rattle.rtcp_engine.proofs.Sending.{none_sent, AllStay, AreReports, EndsSo, IsLast, KeepsApart, Stays, TakesPart, BacksOff, session_keeps_apart}
 
 -- ---- Reports alone
 
@@ -134,44 +136,60 @@ bye_fits limit leave (bye ∷ earlier) h = All-cons (λ (compound : Sent). lengt
 
 -- ---- The last transmission
 
-between : (events : List Happening) (sent : ℕ) → IsInOrder events → newest_transmission events ≡ sent → IsBetween sent (max sent (last_departure events)) (schedule_at events).last
+-- what was sent over a history, in the life that it comes to
+apart_in : (history : History) (life : Life) → IsHistory history → life_at history ≡ life → KeepsApart history.setup.limit (last_moment history.acts) (first_leave history.acts) life (sent_at history)
+apart_in history life is same =
+    subst (λ (l : Life). KeepsApart history.setup.limit (last_moment history.acts) (first_leave history.acts) l (sent_at history)) same
+    (session_keeps_apart history.setup history.word history.acts is.usable is.taken)
+
+between : (events : List Happening) (sent : ℕ) → IsInOrder events → newest_transmission events ≡ sent → LiesAfter sent events (schedule_at events)
 between events sent in_order newest = (
   subst (λ (n : ℕ). n ≤ (schedule_at events).last) newest (last_lies_between-not_before_sent events in_order),
   subst (λ (n : ℕ). (schedule_at events).last ≤ max n (last_departure events)) newest (last_lies_between-not_after_departure events),
 )
 
-pub last_in_present : (limit t : ℕ) (leave : Option ℕ) (sent : List Sent) (life : Life) (outcome : Outcome) → KeepsApart limit t leave life sent → life ≡ present outcome
-    → IsBetween (newest_moment (reports_in sent)) (max (newest_moment (reports_in sent)) (last_departure outcome.happenings)) (timing_of outcome).last
-last_in_present limit t leave sent life outcome h is =
-    let part : TakesPart limit t leave outcome sent = subst (λ (l : Life). KeepsApart limit t leave l sent) is h in
-    between outcome.happenings (newest_moment (reports_in sent)) part.up_to.in_order part.newest
+pub last_in_present : (history : History) (outcome : Outcome) → IsHistory history → life_at history ≡ present outcome
+    → LiesAfter (newest_moment (reports_in (sent_at history))) outcome.happenings (timing_of outcome)
+last_in_present history outcome is life =
+    let part : TakesPart history.setup.limit (last_moment history.acts) (first_leave history.acts) outcome (sent_at history) = apart_in history (present outcome) is life in
+    between outcome.happenings (newest_moment (reports_in (sent_at history))) part.up_to.in_order part.newest
 
-pub last_in_backoff : (limit t : ℕ) (leave : Option ℕ) (sent : List Sent) (life : Life) (outcome : Outcome) (backoff : Backoff) → KeepsApart limit t leave life sent → life ≡ backing_off outcome backoff
-    → IsBetween backoff.since (max backoff.since (last_departure backoff.happenings)) (leaving_timing backoff).last
-last_in_backoff limit t leave sent life outcome backoff h is =
-    let waiting : BacksOff limit t leave backoff sent = subst (λ (l : Life). KeepsApart limit t leave l sent) is h in
+pub last_in_backoff : (history : History) (outcome : Outcome) (backoff : Backoff) → IsHistory history → life_at history ≡ backing_off outcome backoff
+    → LiesAfter backoff.since backoff.happenings (leaving_timing backoff)
+last_in_backoff history outcome backoff is life =
+    let waiting : BacksOff history.setup.limit (last_moment history.acts) (first_leave history.acts) backoff (sent_at history) = apart_in history (backing_off outcome backoff) is life in
     between backoff.happenings backoff.since waiting.up_to.in_order waiting.newest
 
 -- ---- Of a life
 
-pub spaced_in : (limit t : ℕ) (leave : Option ℕ) (sent : List Sent) (life : Life) → KeepsApart limit t leave life sent → AreSpaced (reports_in sent)
-spaced_in limit t leave sent life h = spaced limit (reports_in sent) (reports_apart limit t leave sent life h)
-
-pub first_in : (limit t : ℕ) (leave : Option ℕ) (sent : List Sent) (life : Life) → KeepsApart limit t leave life sent → All (λ report. 1026037 ≤ report.moment) (reports_in sent)
-first_in limit t leave sent life h = none_too_soon limit (reports_in sent) (reports_apart limit t leave sent life h)
-
-pub window_in : (limit t : ℕ) (leave : Option ℕ) (sent : List Sent) (from width : ℕ) (life : Life) → KeepsApart limit t leave life sent → count_within from width (reports_in sent) ≤ 1 + width / 2052074
-window_in limit t leave sent from width life h =
-    few_fit from width (newest_moment (reports_in sent)) _ (fills limit from (from + width) (reports_in sent) (reports_apart limit t leave sent life h))
-
-pub ends_in : (limit t : ℕ) (leave : Option ℕ) (sent : List Sent) (life : Life) → KeepsApart limit t leave life sent → EndsWithBye leave sent
+ends_in : (limit t : ℕ) (leave : Option ℕ) (sent : List Sent) (life : Life) → KeepsApart limit t leave life sent → EndsWithBye leave sent
 ends_in limit t leave sent (present outcome) h = kept_end limit leave sent h.kept.all
 ends_in limit t leave sent (backing_off outcome backoff) h = kept_end limit leave sent h.kept.all
 ends_in limit t leave sent (gone outcome) (inl h) = kept_end limit leave sent h.all
 ends_in limit t leave sent (gone outcome) (inr h) = bye_ends limit leave sent h
 
-pub limit_in : (limit t : ℕ) (leave : Option ℕ) (sent : List Sent) (life : Life) → KeepsApart limit t leave life sent → AllFit limit sent
+limit_in : (limit t : ℕ) (leave : Option ℕ) (sent : List Sent) (life : Life) → KeepsApart limit t leave life sent → AllFit limit sent
 limit_in limit t leave sent (present outcome) h = kept_fit limit sent h.kept.all
 limit_in limit t leave sent (backing_off outcome backoff) h = kept_fit limit sent h.kept.all
 limit_in limit t leave sent (gone outcome) (inl h) = kept_fit limit sent h.all
 limit_in limit t leave sent (gone outcome) (inr h) = bye_fits limit leave sent h
+
+-- ---- All together
+
+pub bounds_of : (history : History) → IsHistory history → KeepsBounds history
+bounds_of history is =
+    let limit : ℕ = history.setup.limit in
+    let now : ℕ = last_moment history.acts in
+    let leave : Option ℕ = first_leave history.acts in
+    let sent : List Sent = sent_at history in
+    let life : Life = life_at history in
+    let apart : KeepsApart limit now leave life sent = apart_in history life is refl in
+    let reports : AreReports limit (reports_in sent) = reports_apart limit now leave sent life apart in
+    record {
+      spaced = spaced limit (reports_in sent) reports;
+      first = none_too_soon limit (reports_in sent) reports;
+      window = λ from width. few_fit from width (newest_moment (reports_in sent)) _ (fills limit from (from + width) (reports_in sent) reports);
+      leaves_once = ends_in limit now leave sent life apart;
+      few_changes = few_changes history.setup history.word history.acts is.taken;
+      limit = limit_in limit now leave sent life apart;
+    }

@@ -1,7 +1,10 @@
 -- How far apart the compounds of a participant lie, and how large they are. Lists are newest first, and moments
 -- and intervals are in microseconds.
-use Rattle.std.specs.Prelude.{ℕ, ◌≡◌, ◌+◌, ◌-◌, ◌*◌, ◌/◌, ◌≤◌, ◌&&◌, not, Bool, true, false, List, [], ◌∷◌, length, filter, All, Option, Some, None}
+use Rattle.std.specs.Prelude.{ℕ, ◌≡◌, ◌+◌, ◌-◌, ◌*◌, ◌/◌, ◌≤◌, ◌&&◌, not, Bool, true, false, max, List, [], ◌∷◌, length, filter, All, Option, Some, None}
 use Rattle.std.specs.Option.{option_or}
+use Rattle.rtcp_timer.specs.Averages.{IsBetween}
+use Rattle.rtcp_timer.specs.Departures.{last_departure}
+use Rattle.rtcp_timer.specs.Schedules.{Happening, Timing}
 use Rattle.rtcp_engine.specs.Setups.{is_within}
 use Rattle.rtcp_engine.specs.Acts.{Act, left}
 use Rattle.rtcp_engine.specs.Identities.{most_changes}
@@ -66,6 +69,13 @@ EndsWithBye leave (newest ∷ earlier) =
 -- At most eight identifiers are given up with a BYE.
 abbrev pub HasFewChanges : List Sent → Type 0
 HasFewChanges sent = length (filter is_change_bye sent) ≤ most_changes
+
+-- ---- The schedule
+
+-- The last transmission as a schedule knows it (tp) lies no sooner than what was sent last, and no later than the later of
+-- that and the last departure (RFC 3550, 6.3.4).
+abbrev pub LiesAfter : (sent : ℕ) → List Happening → Timing → Type 0
+LiesAfter sent happenings timing = IsBetween sent (max sent (last_departure happenings)) timing.last
 
 -- ---- Sizes
 

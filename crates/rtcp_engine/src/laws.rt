@@ -1,7 +1,7 @@
 //! Laws of the definitions of a participant's answers. Each is an empty function whose postcondition is the
 //! law; `proofs/LawLemmas` has a lemma of its name, or one for each clause.
 
-ghost use Rattle.std.specs.Prelude.{◌≡◌, ◌↔◌, ◌≤◌, ◌^◌, ◌<◌, max, ℕ, ◌+◌, ◌*◌, ◌%◌, map, List, [], ◌++◌, length, slice_get, Some, None, false};
+ghost use Rattle.std.specs.Prelude.{◌≡◌, ◌↔◌, ◌≤◌, ◌^◌, ◌<◌, ℕ, ◌+◌, ◌*◌, ◌%◌, map, List, [], ◌++◌, length, slice_get, Some, None, false};
 ghost use Rattle.rtcp_wire.specs.Values.{ItemValue};
 ghost use Rattle.rtcp_members.specs.Traces.{TraceStep};
 ghost use Rattle.rtcp_members.specs.Pending.{EntryRow, last_reported};
@@ -12,8 +12,6 @@ ghost use Rattle.rtcp_engine.specs.Acts.{Datagram, Act, IsReading, IsRtpReading,
 ghost use Rattle.rtcp_engine.specs.OwnStreams.{OwnStep, sending_since};
 ghost use Rattle.rtcp_engine.specs.OwnSending.{IsSendingSince};
 ghost use Rattle.rtcp_engine.specs.Reporting.{extra_item, last_reported_in};
-ghost use Rattle.rtcp_timer.specs.Averages.{IsBetween};
-ghost use Rattle.rtcp_timer.specs.Departures.{last_departure};
 ghost use Rattle.rtcp_engine.specs.Outcomes.{Outcome, timing_of};
 ghost use Rattle.rtcp_engine.specs.Histories.{History, life_at, session_at, with_act};
 ghost use Rattle.rtcp_engine.specs.Leaving.{Backoff, present, backing_off, leaving_timing};
@@ -22,7 +20,7 @@ ghost use Rattle.rtcp_engine.specs.Answers.{answer_of, followed_by};
 ghost use Rattle.rtcp_engine.specs.Changes.{is_taken, new_identifier};
 ghost use Rattle.rtcp_engine.specs.Taken.{IsHistory, NamesFew};
 ghost use Rattle.rtcp_engine.specs.Sent.{reports_in, deciding_interval, sent_at, handed_out, reports_of, counted_report};
-ghost use Rattle.rtcp_engine.specs.Spacing.{newest_moment, KeepsBounds};
+ghost use Rattle.rtcp_engine.specs.Spacing.{newest_moment, LiesAfter, KeepsBounds};
 ghost use Rattle.rtcp_engine.specs.InTime.{AllInTime};
 ghost use Rattle.rtcp_engine.specs.declared.refusal.Refusal.{Refusal as Reason};
 
@@ -82,13 +80,10 @@ pub fn sent_reports_are_counted()
 pub fn last_lies_after_what_was_sent()
     ensures present { (history : History) (outcome : Outcome) → IsHistory history →
         life_at history ≡ present outcome →
-        IsBetween (newest_moment (reports_in (sent_at history)))
-        (max (newest_moment (reports_in (sent_at history))) (last_departure outcome.happenings))
-        (timing_of outcome).last }
+        LiesAfter (newest_moment (reports_in (sent_at history))) outcome.happenings (timing_of outcome) }
     ensures backing_off { (history : History) (outcome : Outcome) (backoff : Backoff) → IsHistory history →
         life_at history ≡ backing_off outcome backoff →
-        IsBetween backoff.since (max backoff.since (last_departure backoff.happenings))
-        (leaving_timing backoff).last }
+        LiesAfter backoff.since backoff.happenings (leaving_timing backoff) }
 {}
 
 /// Whatever a participant is told, and whenever, what it sends keeps these bounds: two successive reports lie at least
