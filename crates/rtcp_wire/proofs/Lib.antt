@@ -1,3 +1,4 @@
+mod FirstRows
 mod Joining
 mod Prefixes
 mod Fixed

@@ -1,9 +1,10 @@
 -- Octets are an RTP packet or have a first fault, and never both.
-use Rattle.std.proofs.Common.{◌≡◌, ◌≢◌, ℕ, suc, ◌<◌, ◌≤◌, ◌⊎◌, Bool, true, false, List, [], length, refl, sym, ap, subst, ◌∙◌, arith, inl, inr, Result, Err}
-use Rattle.std.proofs.lemmas.Bool.{cases_lt, cases_eq, cases_order}
+use Rattle.std.proofs.Common.{◌≡◌, ◌≢◌, ℕ, suc, ◌<◌, ◌≤◌, ◌⊎◌, ◌==◌, if◌then◌else◌, lit<, Bool, true, false, List, [], length, refl, sym, ap, subst, ◌∙◌, arith, inl, inr, Result, Err}
+use Rattle.std.proofs.lemmas.Bool.{cases_lt, cases_eq}
 use Rattle.rtcp_wire.specs.declared.rtp.fault.RtpFault.{RtpFault}
 use Rattle.rtcp_wire.specs.declared.rtp.fault.RtpFault.TheVariants.{Short, Version, PayloadType, Extension, Padding}
 use Rattle.rtcp_wire.specs.RtpHeads.{RtpValue, rtp_version_of, has_padding, has_extension, payload_type_of, IsReserved, extension_size, IsRtpHead, lists_size, after_csrcs, after_extension, last_of, FindsRtp, rtp_row_of, IsRtpFault, IsPadded}
+use Rattle.rtcp_wire.proofs.FirstRows.{first_of_all, one_further, one_first}
 use Rattle.rtcp_wire.proofs.RtpHeading.{head_in, IsSoundRtp, sound_head, head_made}
 
 -- ---- Packets
@@ -32,42 +33,21 @@ never_both octets head fault h f = sound_faultless octets head (sound_head octet
 
 -- ---- Rows
 
--- One row is one fault.
-same_row : (f g : RtpFault) → rtp_row_of f ≡ rtp_row_of g → f ≡ g
-same_row Short Short e = refl
-same_row Version Version e = refl
-same_row PayloadType PayloadType e = refl
-same_row Extension Extension e = refl
-same_row Padding Padding e = refl
-same_row Short Version e = absurd (omega arith)
-same_row Short PayloadType e = absurd (omega arith)
-same_row Short Extension e = absurd (omega arith)
-same_row Short Padding e = absurd (omega arith)
-same_row Version Short e = absurd (omega arith)
-same_row Version PayloadType e = absurd (omega arith)
-same_row Version Extension e = absurd (omega arith)
-same_row Version Padding e = absurd (omega arith)
-same_row PayloadType Short e = absurd (omega arith)
-same_row PayloadType Version e = absurd (omega arith)
-same_row PayloadType Extension e = absurd (omega arith)
-same_row PayloadType Padding e = absurd (omega arith)
-same_row Extension Short e = absurd (omega arith)
-same_row Extension Version e = absurd (omega arith)
-same_row Extension PayloadType e = absurd (omega arith)
-same_row Extension Padding e = absurd (omega arith)
-same_row Padding Short e = absurd (omega arith)
-same_row Padding Version e = absurd (omega arith)
-same_row Padding PayloadType e = absurd (omega arith)
-same_row Padding Extension e = absurd (omega arith)
+-- the fault in this row
+abbrev fault_in : ℕ → RtpFault
+fault_in n = if n == 1 then Short else if n == 2 then Version else if n == 3 then PayloadType else if n == 4 then Extension else Padding
+
+-- Each fault is the one in its row.
+in_row : (f : RtpFault) → fault_in (rtp_row_of f) ≡ f
+in_row Short = refl
+in_row Version = refl
+in_row PayloadType = refl
+in_row Extension = refl
+in_row Padding = refl
 
 -- Octets have at most one first fault.
 pub one_fault : (octets : List ℕ) (f g : RtpFault) → IsRtpFault octets f → IsRtpFault octets g → f ≡ g
-one_fault octets f g is_f is_g =
-    elim (cases_order (rtp_row_of f) (rtp_row_of g)) [
-      | inl same ↦ same_row f g same
-      | inr (inl lower) ↦ absurd (is_g.no_earlier f lower is_f.found)
-      | inr (inr higher) ↦ absurd (is_f.no_earlier g higher is_g.found)
-    ]
+one_fault octets f g is_f is_g = one_first rtp_row_of fault_in in_row (lit< tt) (λ fault. FindsRtp fault octets) f g is_f.found is_f.no_earlier is_g.found is_g.no_earlier
 
 -- The fault that is returned is the first one.
 pub same_fault : (octets : List ℕ) (f g : RtpFault) → IsRtpFault octets f → ◌≡◌ {A = Result RtpValue RtpFault} (Err f) (Err g) → IsRtpFault octets g
@@ -77,26 +57,13 @@ same_fault octets f g is_f e = let same : f ≡ g = cc in subst (IsRtpFault octe
 abbrev pub NoneBefore : ℕ → List ℕ → Type 0
 NoneBefore n octets = (earlier : RtpFault) → rtp_row_of earlier < n → FindsRtp earlier octets → ⊥
 
--- Rows count from 1.
-row_is_some : (f : RtpFault) → 0 < rtp_row_of f
-row_is_some Short = omega arith
-row_is_some Version = omega arith
-row_is_some PayloadType = omega arith
-row_is_some Extension = omega arith
-row_is_some Padding = omega arith
-
 -- No test comes before the first.
 none_at_first : (octets : List ℕ) → NoneBefore 1 octets
-none_at_first octets earlier below found = omega (arith, row_is_some earlier)
+none_at_first octets = first_of_all rtp_row_of fault_in in_row (lit< tt) (λ fault. FindsRtp fault octets)
 
 -- one row further, where its test finds nothing
 next_row : (f : RtpFault) (octets : List ℕ) → NoneBefore (rtp_row_of f) octets → (FindsRtp f octets → ⊥) → NoneBefore (suc (rtp_row_of f)) octets
-next_row f octets none not_here earlier below found =
-    elim (cases_order (rtp_row_of earlier) (rtp_row_of f)) [
-      | inl same ↦ not_here (subst (λ (g : RtpFault). FindsRtp g octets) (same_row earlier f same) found)
-      | inr (inl lower) ↦ none earlier lower found
-      | inr (inr higher) ↦ absurd (omega arith)
-    ]
+next_row f octets = one_further rtp_row_of fault_in in_row (lit< tt) (λ fault. FindsRtp fault octets) f
 
 -- ---- Each first fault
 

@@ -1,18 +1,19 @@
 -- Where a packet should begin, one does, or a row of the tests is the first that finds a fault.
-use Rattle.std.proofs.Common.{◌≡◌, ◌≢◌, ℕ, suc, ◌+◌, ◌-◌, ◌*◌, ◌%◌, ◌<◌, ◌≤◌, ◌⊎◌, Bool, true, false, cond, List, length, get_or, drop, Result, Ok, Err, MatchResult, refl, sym, subst, ◌∙◌, arith, inl, inr}
-use Rattle.std.proofs.lemmas.Bool.{cases_lt, cases_eq, cases_order, cases_Bool}
+use Rattle.std.proofs.Common.{◌≡◌, ◌≢◌, ℕ, suc, ◌+◌, ◌-◌, ◌*◌, ◌%◌, ◌<◌, ◌≤◌, ◌⊎◌, Bool, true, false, cond, List, length, get_or, drop, Result, Ok, Err, MatchResult, refl, sym, ◌∙◌, arith, inl, inr, lit<}
+use Rattle.std.proofs.lemmas.Bool.{cases_lt, cases_eq, cases_Bool}
 use Rattle.std.proofs.lemmas.List.{take-append-drop, length-drop, length-take-le}
 use Rattle.byteorder.specs.Endian.{big_number}
 use Rattle.rtcp_wire.specs.declared.fault.FaultReason.{FaultReason}
-use Rattle.rtcp_wire.specs.declared.fault.FaultReason.TheVariants.{Short, Version, FirstType, FirstPadding, Length, Padding, Body, Item, Reason, TooLong}
+use Rattle.rtcp_wire.specs.declared.fault.FaultReason.TheVariants.{Short, Version, FirstType, FirstPadding, Length, Padding, Body, Item, Reason}
 use Rattle.rtcp_wire.specs.Grammar.{version_of, is_padded, count_of, type_of, size_of, padding_of, body_of, IsPadding, IsSpelling}
 use Rattle.rtcp_wire.specs.Faults.{FindsInBody, Finds, row_of, IsFirstRow, MayStand}
 use Rattle.rtcp_wire.specs.Parts.{Takes, IsWhole, IsUnpadded}
 use Rattle.rtcp_wire.specs.Validity.{IsSomeBody, IsSomePacket}
 use Rattle.rtcp_wire.proofs.Spellings.{own, is_own}
-use Rattle.rtcp_wire.proofs.Stops.{body_at, padding_at, begins_at, same_row}
+use Rattle.rtcp_wire.proofs.Stops.{body_at, padding_at, begins_at, reason_in, reason_in_row}
 use Rattle.rtcp_wire.proofs.BodyFaults.{body_or_item, body_or_reason, item_or_reason}
 use Rattle.rtcp_wire.proofs.Deciding.{body_from}
+use Rattle.rtcp_wire.proofs.FirstRows.{first_of_all, one_further}
 
 -- ---- Rows
 
@@ -20,31 +21,13 @@ use Rattle.rtcp_wire.proofs.Deciding.{body_from}
 abbrev pub NoneBefore : ℕ → Bool → List ℕ → Type 0
 NoneBefore n first b = (earlier : FaultReason) → row_of earlier < n → Finds earlier first b → ⊥
 
--- Rows count from 1.
-row_is_some : (r : FaultReason) → 0 < row_of r
-row_is_some Short = omega arith
-row_is_some Version = omega arith
-row_is_some FirstType = omega arith
-row_is_some FirstPadding = omega arith
-row_is_some Length = omega arith
-row_is_some Padding = omega arith
-row_is_some Body = omega arith
-row_is_some Item = omega arith
-row_is_some Reason = omega arith
-row_is_some TooLong = omega arith
-
 -- No test comes before the first.
 pub none_at_first : (first : Bool) (b : List ℕ) → NoneBefore 1 first b
-none_at_first first b earlier below found = omega (arith, row_is_some earlier)
+none_at_first first b = first_of_all row_of reason_in reason_in_row (lit< tt) (λ reason. Finds reason first b)
 
 -- one row further, where its test finds nothing
 next_row : (r : FaultReason) (first : Bool) (b : List ℕ) → NoneBefore (row_of r) first b → (Finds r first b → ⊥) → NoneBefore (suc (row_of r)) first b
-next_row r first b none not_here earlier below found =
-    elim (cases_order (row_of earlier) (row_of r)) [
-      | inl same ↦ not_here (subst (λ (q : FaultReason). Finds q first b) (same_row earlier r same) found)
-      | inr (inl lower) ↦ none earlier lower found
-      | inr (inr higher) ↦ absurd (omega arith)
-    ]
+next_row r first b = one_further row_of reason_in reason_in_row (lit< tt) (λ reason. Finds reason first b) r
 
 -- Some row is the first that finds a fault.
 abbrev pub IsFaulty : Bool → List ℕ → Type 0

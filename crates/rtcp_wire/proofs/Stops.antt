@@ -1,6 +1,5 @@
 -- Where the test of a reason finds a fault, no packet's octets stand; and the first reason is one.
-use Rattle.std.proofs.Common.{◌≡◌, ℕ, ◌+◌, ◌<◌, ◌⊎◌, ◌==◌, if◌then◌else◌, Bool, true, false, List, ◌++◌, length, refl, sym, ap, subst, ◌∙◌, arith, inl, inr}
-use Rattle.std.proofs.lemmas.Bool.{cases_order}
+use Rattle.std.proofs.Common.{◌≡◌, ℕ, ◌+◌, ◌<◌, ◌⊎◌, ◌==◌, if◌then◌else◌, Bool, true, false, List, ◌++◌, length, refl, sym, subst, ◌∙◌, arith, inl, inr, lit<}
 use Rattle.std.proofs.lemmas.List.{length-append}
 use Rattle.rtcp_wire.specs.declared.fault.FaultReason.{FaultReason}
 use Rattle.rtcp_wire.specs.declared.fault.FaultReason.TheVariants.{Short, Version, FirstType, FirstPadding, Length, Padding, Body, Item, Reason, TooLong}
@@ -8,6 +7,7 @@ use Rattle.rtcp_wire.specs.Values.{RtcpPacket}
 use Rattle.rtcp_wire.specs.Grammar.{is_padded, count_of, type_of, size_of, padding_of, body_of, IsPadding, IsBody, IsSpelling, MayBegin}
 use Rattle.rtcp_wire.specs.Faults.{FindsInBody, Finds, row_of, IsFirstRow, MayStand}
 use Rattle.rtcp_wire.proofs.BodyFaults.{no_body_fault}
+use Rattle.rtcp_wire.proofs.FirstRows.{one_first}
 use Rattle.rtcp_wire.proofs.Spellings.{SameHeader, spelling_length, spelling_parts}
 
 -- ---- No spelling at a fault
@@ -77,13 +77,13 @@ finds_no_spelling r first b found p s after e h may = at_spelling r first p s af
 -- ---- The order of the tests
 
 -- the reason in this row
-abbrev reason_in : ℕ → FaultReason
+abbrev pub reason_in : ℕ → FaultReason
 reason_in n =
     if n == 1 then Short else if n == 2 then Version else if n == 3 then FirstType else if n == 4 then FirstPadding else if n == 5 then Length
     else if n == 6 then Padding else if n == 7 then Body else if n == 8 then Item else if n == 9 then Reason else TooLong
 
 -- Each reason is the one in its row.
-reason_in_row : (r : FaultReason) → reason_in (row_of r) ≡ r
+pub reason_in_row : (r : FaultReason) → reason_in (row_of r) ≡ r
 reason_in_row Short = refl
 reason_in_row Version = refl
 reason_in_row FirstType = refl
@@ -95,15 +95,6 @@ reason_in_row Item = refl
 reason_in_row Reason = refl
 reason_in_row TooLong = refl
 
--- No two reasons have one row.
-pub same_row : (r q : FaultReason) → row_of r ≡ row_of q → r ≡ q
-same_row r q e = sym (reason_in_row r) ∙ ap reason_in e ∙ reason_in_row q
-
 -- The first row that finds a fault is one.
 pub one_row : (r q : FaultReason) (first : Bool) (b : List ℕ) → IsFirstRow r first b → IsFirstRow q first b → r ≡ q
-one_row r q first b h k =
-    elim (cases_order (row_of r) (row_of q)) [
-      | inl same ↦ same_row r q same
-      | inr (inl below) ↦ absurd (k.no_earlier r below h.found)
-      | inr (inr above) ↦ absurd (h.no_earlier q above k.found)
-    ]
+one_row r q first b h k = one_first row_of reason_in reason_in_row (lit< tt) (λ reason. Finds reason first b) r q h.found h.no_earlier k.found k.no_earlier
