@@ -1,5 +1,5 @@
 -- Chunks that are read one after the other, of octets that begin with as many chunks.
-use Rattle.std.proofs.Common.{◌≡◌, ℕ, suc, ◌≤◌, List, [], ◌∷◌, ◌++◌, length, drop, refl, sym, ap, subst, ◌∙◌, append_assoc, arith}
+use Rattle.std.proofs.Common.{◌≡◌, ℕ, ◌-◌, ◌≤◌, List, [], ◌∷◌, ◌++◌, length, drop, refl, sym, ap, subst, ◌∙◌, append_assoc, arith}
 use Rattle.std.proofs.lemmas.List.{length-append}
 use Rattle.rtcp_wire.specs.Values.{ChunkValue}
 use Rattle.rtcp_wire.specs.Grammar.{Joins, IsChunk}
@@ -31,14 +31,14 @@ here others chunk a r h more =
       more = subst (HasChunks others) (sym (after_chunk chunk a r h)) more;
     }
 
--- Octets that begin with a chunk more begin with a chunk.
-pub chunk_step : (count others : ℕ) (octets : List ℕ) → HasChunks count octets → count ≡ suc others → ChunkStep others octets
-chunk_step count others octets h is = step h.chunks h.middle h.counted h.parts h.each
+-- Octets that begin with some chunks begin with a chunk.
+pub chunk_step : (count : ℕ) (octets : List ℕ) → HasChunks count octets → (count ≡ 0 → ⊥) → ChunkStep (count - 1) octets
+chunk_step count octets h some = step h.chunks h.middle h.counted h.parts h.each
   where
-    step : (chunks : List ChunkValue) (middle : List ℕ) → length chunks ≡ count → octets ≡ middle ++ h.after → Joins IsChunk chunks middle → ChunkStep others octets
-    step [] middle counted parts each = absurd (omega (arith, counted, is))
+    step : (chunks : List ChunkValue) (middle : List ℕ) → length chunks ≡ count → octets ≡ middle ++ h.after → Joins IsChunk chunks middle → ChunkStep (count - 1) octets
+    step [] middle counted parts each = absurd (some (sym counted))
     step (chunk ∷ chunks) middle counted parts each =
         let rest = each.1 ++ h.after in
         let whole : octets ≡ each.0 ++ rest = parts ∙ ap (λ (t : List ℕ). t ++ h.after) each.2 ∙ append_assoc each.0 each.1 h.after in
-        let more : HasChunks others rest = record { chunks = chunks; middle = each.1; after = h.after; counted = omega (arith, counted, is); parts = refl; each = each.4 } in
-        subst (ChunkStep others) (sym whole) (here others chunk each.0 rest each.3 more)
+        let more : HasChunks (count - 1) rest = record { chunks = chunks; middle = each.1; after = h.after; counted = omega (arith, counted, some); parts = refl; each = each.4 } in
+        subst (ChunkStep (count - 1)) (sym whole) (here (count - 1) chunk each.0 rest each.3 more)

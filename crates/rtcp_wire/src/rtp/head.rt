@@ -142,6 +142,7 @@ impl<'a> RtpHead<'a> {
     }
 
     /// The contributing sources (RFC 3550, 5.1), in their order: at most 15.
+    #[tactic(auto, using(crate::proofs::WalkSteps::csrcs_are_ids))]
     pub fn csrcs(&self) -> Ids<'a>
         ensures items { result ≡ self.now.csrcs }
         ensures few { length result ≤ 15 }

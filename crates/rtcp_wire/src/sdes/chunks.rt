@@ -2,8 +2,8 @@
 
 ghost use Rattle.std.specs.Prelude.{◌≡◌, []};
 ghost use Rattle.std.specs.Iterator.{YieldsFirst, item_count};
-ghost use Rattle.rtcp_wire.specs.Validity.{HasChunks};
-ghost use Rattle.rtcp_wire.specs.Walks.{chunks_in};
+ghost use Rattle.rtcp_wire.specs.Validity.{HasItems, HasChunks};
+ghost use Rattle.rtcp_wire.specs.Walks.{items_after, chunk_size, chunks_in};
 
 use super::items::{Items, octets_of_items};
 use crate::layout::{ID_SIZE, WORD_SIZE};
@@ -137,9 +137,7 @@ impl<'a> Iterator for Chunks<'a> {
             return None;
         }
         let (id, item_octets) = self.octets.split_at(ID_SIZE);
-        // The zero octet after the items is in the chunk's last word.
-        let words = (octets_of_items(item_octets) + ID_SIZE + WORD_SIZE) / WORD_SIZE;
-        let (_, others) = self.octets.split_at(WORD_SIZE * words);
+        let (_, others) = self.octets.split_at(size_with_items(item_octets));
         self.count -= 1;
         self.octets = others;
         Some(Chunk {
@@ -147,4 +145,15 @@ impl<'a> Iterator for Chunks<'a> {
             item_octets,
         })
     }
+}
+
+/// The size of the chunk whose items these octets begin with: its identifier, the items with their zero octet,
+/// and the fill of the last word.
+fn size_with_items(item_octets: &[u8]) -> usize
+    requires { HasItems item_octets.now }
+    ensures { result ≡ chunk_size (items_after 0 item_octets.now) }
+{
+    // The zero octet after the items is in the chunk's last word.
+    let words = (octets_of_items(item_octets) + ID_SIZE + WORD_SIZE) / WORD_SIZE;
+    WORD_SIZE * words
 }

@@ -1,6 +1,6 @@
 //! The items of a chunk (RFC 3550, 6.5).
 
-ghost use Rattle.std.specs.Prelude.{◌≡◌};
+ghost use Rattle.std.specs.Prelude.{◌≡◌, ◌≢◌, ◌≤◌, length, take, drop, slice_index};
 ghost use Rattle.std.specs.Iterator.{YieldsFirstBy, item_count};
 ghost use Rattle.rtcp_wire.specs.Validity.{HasItems};
 ghost use Rattle.rtcp_wire.specs.Walks.{items_after, items_size};
@@ -52,9 +52,7 @@ impl<'a> Iterator for Items<'a> {
         if kind == 0 {
             return None;
         }
-        let size = self.octets[1] as usize;
-        let (_, rest) = self.octets.split_at(2);
-        let (text, others) = rest.split_at(size);
+        let (text, others) = split_item(self.octets);
         self.octets = others;
         Some(ItemRef { kind, text })
     }
@@ -63,12 +61,23 @@ impl<'a> Iterator for Items<'a> {
 /// How many octets the items have that these octets begin with.
 pub(super) fn octets_of_items(octets: &[u8]) -> usize
     requires { HasItems octets.now }
-    ensures { result ≡ items_size (items_after 0 octets.now) }
+    ensures size { result ≡ items_size (items_after 0 octets.now) }
+    ensures within { result ≤ length octets.now }
 {
     let mut rest = octets;
     'items: while rest[0] != 0 {
-        let size = rest[1] as usize;
-        rest = rest.split_at(2).1.split_at(size).1;
+        rest = split_item(rest).1;
     }
     octets.len() - rest.len()
+}
+
+/// The text of the item that these octets begin with, and what follows it.
+fn split_item(octets: &[u8]) -> (&[u8], &[u8])
+    requires items { HasItems octets.now }
+    requires some { slice_index octets.now 0 ≢ 0 }
+    ensures text { result.0.now ≡ take (slice_index octets.now 1) (drop 2 octets.now) }
+    ensures rest { result.1.now ≡ drop (slice_index octets.now 1) (drop 2 octets.now) }
+{
+    let size = octets[1] as usize;
+    octets.split_at(2).1.split_at(size)
 }
