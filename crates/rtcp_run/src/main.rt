@@ -18,7 +18,7 @@ use rtcp_command::ends::end_line;
 use rtcp_command::order::refuse;
 pub use rtcp_command::{ListenFault, Order, OrderFault, TextOrder, command, laws, listen, order};
 use rtcp_engine::{Config, Participant};
-use rtcp_members::SortedTable;
+use rtcp_members::HeapTable;
 pub use rtcp_serve::{Cause, End, Link, LinkFault, Port, Received, serve, serve_laws};
 pub use rtcp_text::{Counted, LineFault, ReplayFault, TextFault, check, replay};
 use std::env;
@@ -105,9 +105,13 @@ fn run_listen(
 {
     let mut rng = Pcg32::seed_from_u64(seed);
     let word = rng.next_u32();
-    let mut participant = Participant::<SortedTable>::new(config, word).map_err(
-        ListenFault::Config,
+    if let Some(error) = config.error() {
+        return Err(ListenFault::Config(error));
+    }
+    let table = HeapTable::with_room(rt.alloc(), config.capacity, config.rate).map_err(
+        |_| ListenFault::Memory,
     )?;
+    let mut participant = Participant::with_table(config, table, word);
     let mut link = UdpLink::bind(rt, rt.alloc(), rtp, rtcp, peer)?;
     let mut buf = [0; 65_535];
     let end = serve(&mut link, &mut participant, &mut rng, turns, &mut buf);
