@@ -64,11 +64,44 @@ pub fn report<T: MemberTable>(
     ensures cursor { cursor.new ≡ last_reported cursor.old
         (reported_by sender.now extra.entry limit cursor.old (T.content table.old)) }
 {
+    let mut octets = ArrayVec::new();
+    write_report(sender, table, t, limit, cursor, extra, &mut octets);
+    octets
+}
+
+/// Writes the compound of [`report`] into the caller's room, in place of what stood there: `octets` are
+/// cleared first. What it takes from the table, and where it leaves the cursor, is as there.
+pub fn write_report<T: MemberTable>(
+    sender: &Sender<'_>,
+    table: &mut T,
+    t: u64,
+    limit: u32,
+    cursor: &mut Option<u32>,
+    extra: Option<&Item>,
+    octets: &mut ArrayVec<u8, MAX_COMPOUND>,
+)
+    requires least { 576 ≤ limit }
+    requires most { limit ≤ 1472 }
+    requires cname { length sender.now.cname.now ≤ 255 }
+    requires extra { ForSome (extra_of extra) IsWritableItem }
+    ensures octets { octets.new.items
+        ≡ written_all (compound_by sender.now extra.entry limit t cursor.old (T.content table.old)) }
+    ensures within { length octets.new.items ≤ limit }
+    ensures size { length octets.new.items ≡ report_size (reporter_of sender.now extra.entry)
+        (length (reported_by sender.now extra.entry limit cursor.old (T.content table.old))) }
+    ensures reads_back { IsAccepted octets.new.items
+        (compound_by sender.now extra.entry limit t cursor.old (T.content table.old)) }
+    ensures content { T.content table.new
+        ≡ after_blocks (reported_by sender.now extra.entry limit cursor.old (T.content table.old))
+        (T.content table.old) }
+    ensures cursor { cursor.new ≡ last_reported cursor.old
+        (reported_by sender.now extra.entry limit cursor.old (T.content table.old)) }
+{
     let description = Description::new(sender.cname, extra);
     let items = description.items();
     let most = most_blocks(sender, items, limit);
     let blocks = gather(table, t, cursor, most);
-    write(sender, items, blocks.as_slice())
+    write(sender, items, blocks.as_slice(), octets);
 }
 
 /// The octets of the first compound that a participant with this CNAME, of at most 255 octets, expects to

@@ -21,6 +21,6 @@ pub mod laws;
 mod sender;
 mod writing;
 
-pub use compound::{first_size, report};
-pub use goodbye::bye;
+pub use compound::{first_size, report, write_report};
+pub use goodbye::{bye, bye_size, write_bye};
 pub use sender::{Item, Sender, SrPart};

@@ -16,43 +16,47 @@ use rtcp_wire::{Block, ChunkRef, ItemRef, MAX_COMPOUND, PacketRef, write_compoun
 /// The most blocks of a packet (RFC 3550, 6.4.1).
 pub(crate) const BLOCKS_OF_PACKET: usize = 31;
 
-/// The compound of a report with these blocks and a description of these items.
+/// Writes the compound of a report with these blocks and a description of these items, in place of what stood in
+/// `octets`.
 pub(crate) fn write(
     sender: &Sender<'_>,
     items: &[ItemRef<'_>],
     blocks: &[Block],
-) -> ArrayVec<u8, MAX_COMPOUND>
+    octets: &mut ArrayVec<u8, MAX_COMPOUND>,
+)
     requires few { length blocks.now ≤ 60 }
     requires writable_blocks { All IsWritableBlock (map block_value blocks.now) }
     requires writable_items { All IsWritableItem (map item_ref_of items.now) }
     requires fits { report_size (reporter_with sender.now (map item_ref_of items.now)) (length blocks.now)
         ≤ 1472 }
-    ensures octets { result.items ≡ written_all (packets_by sender.now items.now blocks.now) }
-    ensures reads_back { IsAccepted result.items (packets_by sender.now items.now blocks.now) }
+    ensures octets { octets.new.items ≡ written_all (packets_by sender.now items.now blocks.now) }
+    ensures reads_back { IsAccepted octets.new.items (packets_by sender.now items.now blocks.now) }
 {
     let chunks = [ChunkRef {
         id: sender.ssrc,
         items: &*items,
     }];
     let description = PacketRef::Sdes { chunks: &chunks };
-    compound_with(sender, &*blocks, description)
+    compound_with(sender, &*blocks, description, octets);
 }
 
-/// The reports with these blocks, and the description after them.
+/// Writes the reports with these blocks, and the description after them.
 fn compound_with<'a>(
     sender: &Sender<'_>,
     blocks: &'a [Block],
     description: PacketRef<'a>,
-) -> ArrayVec<u8, MAX_COMPOUND>
+    octets: &mut ArrayVec<u8, MAX_COMPOUND>,
+)
     requires few { length blocks.now ≤ 60 }
     requires writable { All IsWritableBlock (map block_value blocks.now) }
     requires described { IsWritable (packet_ref_of description) }
     requires fits { length (written_all (described_by sender.now blocks.now description)) ≤ 1472 }
-    ensures octets { result.items ≡ written_all (described_by sender.now blocks.now description.entry) }
-    ensures reads_back { IsAccepted result.items (described_by sender.now blocks.now description.entry) }
+    ensures octets { octets.new.items ≡ written_all (described_by sender.now blocks.now description.entry) }
+    ensures reads_back { IsAccepted octets.new.items (described_by sender.now blocks.now description.entry) }
 {
     if blocks.len() <= BLOCKS_OF_PACKET {
-        return compound_of(&[first_report(sender, blocks), description]);
+        compound_of(&[first_report(sender, blocks), description], octets);
+        return;
     }
     let (first, others) = blocks.split_at(BLOCKS_OF_PACKET);
     let further = PacketRef::Rr {
@@ -60,21 +64,20 @@ fn compound_with<'a>(
         blocks: others,
         extension: &[],
     };
-    compound_of(&[first_report(sender, first), further, description])
+    compound_of(&[first_report(sender, first), further, description], octets);
 }
 
-/// The packets' octets, for which there is room.
-pub(crate) fn compound_of(packets: &[PacketRef<'_>]) -> ArrayVec<u8, MAX_COMPOUND>
+/// Writes the packets, for which there is room, in place of what stood in `octets`.
+pub(crate) fn compound_of(packets: &[PacketRef<'_>], octets: &mut ArrayVec<u8, MAX_COMPOUND>)
     requires writable { All IsWritable (packet_refs_of packets.now) }
     requires begins { BeginsWithReport (packet_refs_of packets.now) }
     requires fits { length (written_all (packet_refs_of packets.now)) ≤ 1472 }
-    ensures octets { result.items ≡ written_all (packet_refs_of packets.now) }
-    ensures reads_back { IsAccepted result.items (packet_refs_of packets.now) }
+    ensures octets { octets.new.items ≡ written_all (packet_refs_of packets.now) }
+    ensures reads_back { IsAccepted octets.new.items (packet_refs_of packets.now) }
 {
-    let mut octets = ArrayVec::new();
-    let fits = write_compound(packets, &mut octets).is_ok();
+    octets.clear();
+    let fits = write_compound(packets, octets).is_ok();
     prove!(fits);
-    octets
 }
 
 /// The first report of a compound.

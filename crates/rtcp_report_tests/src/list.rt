@@ -24,6 +24,11 @@ fn no_news(rt: HostRuntime) {
 }
 
 #[test]
+fn in_place(rt: HostRuntime) {
+    rows::in_place::<ListTable>(&rt);
+}
+
+#[test]
 fn two_reports(rt: HostRuntime) {
     rows::two_reports::<ListTable>(&rt);
 }

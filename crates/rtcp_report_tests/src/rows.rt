@@ -5,7 +5,7 @@ ghost use Rattle.std.specs.Prelude.{◌≡◌, length};
 use crate::session::Session;
 use arrayvec::ArrayVec;
 use rtcp_members::InlineTable;
-use rtcp_report::{Item, Sender, SrPart};
+use rtcp_report::{Item, Sender, SrPart, write_bye, write_report};
 use std::process::Abort;
 
 const SENT: SrPart = SrPart {
@@ -40,6 +40,31 @@ pub(crate) fn no_news<T: InlineTable + Drop>(rt: &impl Abort) {
         .as_slice()
     );
     assert_eq!(rt; session.cursor, Some(5));
+}
+
+/// A compound replaces what stood in the caller's room.
+pub(crate) fn in_place<T: InlineTable + Drop>(rt: &impl Abort) {
+    let mut table = T::empty(1_024, 8_000);
+    let mut cursor = None;
+    let mut octets = ArrayVec::new();
+    write_bye(0xaa, &[0x61; 255], &mut octets);
+    assert_eq!(rt; octets.len(), 284);
+    write_report(
+        &named_a(None),
+        &mut table,
+        0,
+        1_472,
+        &mut cursor,
+        None,
+        &mut octets,
+    );
+    assert_eq!(rt;
+        octets.as_slice(),
+        [
+            0x80, 0xc9, 0, 1, 0, 0, 0, 0xaa, 0x81, 0xca, 0, 2, 0, 0, 0, 0xaa, 1, 1, 0x61, 0
+        ]
+        .as_slice()
+    );
 }
 
 /// 31 blocks in the sender report, and one in a receiver report after it.

@@ -1,6 +1,6 @@
 //! The sizes of the first compound and of the last.
 
-use rtcp_report::{bye, first_size};
+use rtcp_report::{bye, bye_size, first_size};
 
 #[test]
 fn of_shortest_and_longest_names(rt: HostRuntime) {
@@ -19,4 +19,5 @@ fn of_byes(rt: HostRuntime) {
     ];
     assert_eq!(rt; octets.as_slice(), expected.as_slice());
     assert_eq!(rt; bye(0xaa, &[0x61; 255]).len(), 284);
+    assert_eq!(rt; (bye_size(b"a"), bye_size(&[0x61; 255])), (28, 284));
 }

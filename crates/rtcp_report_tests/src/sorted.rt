@@ -9,6 +9,11 @@ fn no_news(rt: HostRuntime) {
 }
 
 #[test]
+fn in_place(rt: HostRuntime) {
+    rows::in_place::<SortedTable>(&rt);
+}
+
+#[test]
 fn two_reports(rt: HostRuntime) {
     rows::two_reports::<SortedTable>(&rt);
 }

@@ -5,7 +5,7 @@ use Rattle.rtcp_wire.specs.Views.{block_value}
 use Rattle.rtcp_wire.specs.WriterViews.{item_ref_of}
 use Rattle.rtcp_report.specs.Views.{extra_of, reporter_with, reporter_of}
 use Rattle.rtcp_report.proofs.WholeReports.{least_fits, whole_report}
-use Rattle.rtcp_report.proofs.compound.report.Goals as goal
+use Rattle.rtcp_report.proofs.compound.write_report.Goals as goal
 
 pub most_blocks-most-requires-clause-least : goal.most_blocks-most-requires-clause-least
 most_blocks-most-requires-clause-least g c =
@@ -17,7 +17,7 @@ returns g c =
     let items = map item_ref_of c.items-items.result.now in
     let same = ap (reporter_with c.args.sender.now) (c.items-items.ensures ∙ c.new-description.ensures) in
     let is = whole_report c.args.limit c.most_blocks-most.result c.args.t c.args.cursor.now start (reporter_with c.args.sender.now items) (reporter_of c.args.sender.now c.args.extra) same c.most_blocks-most.ensures.fits c.most_blocks-most.ensures.greatest
-    (map block_value c.as_slice.result.now) c.write.result.items (g.T.MemberTable.content c.gather-blocks.new.table) c.gather-blocks.new.cursor
+    (map block_value c.as_slice.result.now) c.write.new.octets.items (g.T.MemberTable.content c.gather-blocks.new.table) c.gather-blocks.new.cursor
     (record {
       blocks_are = ap (λ b. map block_value b) c.as_slice.ensures.value ∙ c.gather-blocks.ensures.blocks;
       count = length-map c.as_slice.result.now block_value ∙ ap (λ b. length b) c.as_slice.ensures.value ∙ c.gather-blocks.ensures.count;
