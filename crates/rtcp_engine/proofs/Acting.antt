@@ -174,3 +174,7 @@ call_refused_by p act reason same h stands = refusal_is p h act (Some reason) (r
 -- a call of the host without a datagram
 pub plain_call : (p : ParticipantValue) (act : Act) → refusal_by (moment_of act) p ≡ None → ((session : Session) → refusal_of_datagram session act ≡ None) → ((session : Session) → change_by session act ≡ None) → (h : History) → StandsAt p h → Takes h act None
 plain_call p act none datagram unchanged h stands = record { taken = refusal_is p h act None None stands none (datagram (session_at h)); changes = unchanged (session_at h) }
+
+-- the same step, said otherwise
+pub retold : {p q : ParticipantValue} {act : Act} {one other : StepValue} → other ≡ one → Promised p act (Ok one) q → Promised p act (Ok other) q
+retold {p} {q} {act} same promised = subst (λ (step : StepValue). Promised p act (Ok step) q) (sym same) promised

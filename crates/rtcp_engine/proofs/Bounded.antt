@@ -1,14 +1,14 @@
 -- What was sent keeps its bounds after one act more.
-use Rattle.std.proofs.Common.{◌≡◌, ℕ, false, true, IsTrue, is_some, Option, Some, None, option_map, Result, Ok, Err, IfOk, refl, ap, ◌∙◌}
+use Rattle.std.proofs.Common.{◌≡◌, ℕ, List, false, true, IsTrue, is_some, Option, Some, None, Result, Ok, Err, IfOk, refl, ap, ◌∙◌}
 use Rattle.rtcp_engine.specs.declared.refusal.Refusal.{Refusal}
-use Rattle.rtcp_engine.specs.declared.step.Out.{Out}
-use Rattle.rtcp_engine.specs.declared.step.Step.{Step}
+use Rattle.rtcp_engine.specs.declared.step.OutKind.{OutKind}
+use Rattle.rtcp_engine.specs.declared.step.Told.{Told}
 use Rattle.rtcp_engine.specs.Acts.{Act, ticked}
 use Rattle.rtcp_engine.specs.Histories.{History, brought_by, session_at}
 use Rattle.rtcp_engine.specs.Refusals.{refusal_after}
 use Rattle.rtcp_engine.specs.Steps.{AnswerValue, OutValue, StepValue, answer_unless}
 use Rattle.rtcp_engine.specs.InTime.{IsOverdue}
-use Rattle.rtcp_engine.specs.Views.{answer_value, out_value, step_value}
+use Rattle.rtcp_engine.specs.Views.{reply_value, out_with, told_value}
 use Rattle.rtcp_engine.specs.Answers.{answer_of, followed_by, step_by}
 use Rattle.rtcp_engine.specs.Taken.{HasWords, IsHistory}
 use Rattle.rtcp_engine.specs.Spacing.{KeepsBounds}
@@ -23,13 +23,13 @@ same_out : (one other : StepValue) → taken one ≡ taken other → one.out ≡
 same_out one other same = cc
 
 -- a tick that comes late is answered by a compound, if it is taken
-pub sends_if_late : (history : History) (moment first_word second_word : ℕ) (result : Result Step Refusal) → HasWords (ticked moment first_word second_word) → IsHistory history
-    → answer_value result ≡ answer_of history (ticked moment first_word second_word) → IsOverdue history (ticked moment first_word second_word) → IfOk result (λ step. IsTrue (is_some step.out))
-sends_if_late history moment first_word second_word (Err refusal) words is answer late = tt
-sends_if_late history moment first_word second_word (Ok step) words is answer late =
+pub sends_if_late : (history : History) (moment first_word second_word : ℕ) (octets : List ℕ) (result : Result Told Refusal) → HasWords (ticked moment first_word second_word) → IsHistory history
+    → reply_value octets result ≡ answer_of history (ticked moment first_word second_word) → IsOverdue history (ticked moment first_word second_word) → IfOk result (λ told. IsTrue (is_some told.out))
+sends_if_late history moment first_word second_word octets (Err refusal) words is answer late = tt
+sends_if_late history moment first_word second_word octets (Ok told) words is answer late =
     handed_out (refusal_after history (ticked moment first_word second_word)) refl answer
   where
-    some_before : (out : Option Out) (found : Option OutValue) → option_map out_value out ≡ found → IsTrue (is_some found) → IsTrue (is_some out)
+    some_before : (out : Option OutKind) (found : Option OutValue) → out_with octets out ≡ found → IsTrue (is_some found) → IsTrue (is_some out)
     some_before (Some out) found same some = refl
     some_before None found same some = absurd (none_is_no_some (ap is_some same ∙ some))
       where
@@ -37,9 +37,9 @@ sends_if_late history moment first_word second_word (Ok step) words is answer la
         none_is_no_some e = cc
 
     handed_out : (refusal : Option Refusal) → refusal_after history (ticked moment first_word second_word) ≡ refusal
-        → taken (step_value step) ≡ answer_unless refusal (step_by history (ticked moment first_word second_word)) → IsTrue (is_some step.out)
+        → taken (told_value octets told) ≡ answer_unless refusal (step_by history (ticked moment first_word second_word)) → IsTrue (is_some told.out)
     handed_out None none same =
-        some_before step.out (brought_by (session_at history) (ticked moment first_word second_word)) (same_out (step_value step) (step_by history (ticked moment first_word second_word)) same)
+        some_before told.out (brought_by (session_at history) (ticked moment first_word second_word)) (same_out (told_value octets told) (step_by history (ticked moment first_word second_word)) same)
         (in_time_after history (ticked moment first_word second_word) is none words late)
     handed_out (Some refusal) some same = absurd cc
 

@@ -1,12 +1,14 @@
 -- What the crate's types say, as values of the definitions.
-use Rattle.std.specs.Prelude.{ℕ, ◌<◌, ◌^◌, length, List, [], ◌∷◌, map, option_map, Result, Ok, Err}
+use Rattle.std.specs.Prelude.{ℕ, ◌<◌, ◌^◌, length, List, [], ◌∷◌, map, Option, None, option_map, Result, Ok, Err}
 use Rattle.rtcp_report.specs.Views.{item_value}
 use Rattle.rtcp_engine.specs.declared.config.Config.{Config}
 use Rattle.rtcp_engine.specs.declared.participant.Phase.{Phase}
 use Rattle.rtcp_engine.specs.declared.participant.Phase.TheVariants.{Present, BackingOff, Gone}
 use Rattle.rtcp_engine.specs.declared.refusal.Refusal.{Refusal}
 use Rattle.rtcp_engine.specs.declared.step.Out.{Out}
+use Rattle.rtcp_engine.specs.declared.step.OutKind.{OutKind}
 use Rattle.rtcp_engine.specs.declared.step.Step.{Step}
+use Rattle.rtcp_engine.specs.declared.step.Told.{Told}
 use Rattle.rtcp_engine.specs.declared.arrival.Arrival.{Arrival}
 use Rattle.rtcp_engine.specs.declared.arrival.Arrival.TheVariants.{Rtcp, Rtp}
 use Rattle.rtcp_engine.specs.declared.event.Event.{Event}
@@ -68,6 +70,30 @@ step_value step = record {
 abbrev pub answer_value : Result Step Refusal → AnswerValue
 answer_value (Ok step) = Ok (step_value step)
 answer_value (Err refusal) = Err refusal
+
+-- ---- Replies, whose compound stands in octets of the caller's
+
+-- the compound that stands there, if one was told
+abbrev pub out_with : (octets : List ℕ) → Option OutKind → Option OutValue
+out_with octets told = option_map (λ kind. record { kind = kind; octets = octets }) told
+
+abbrev pub told_value : (octets : List ℕ) → Told → StepValue
+told_value octets told = record {
+  out = out_with octets told.out;
+  members = told.members;
+  senders = told.senders;
+  next = told.next;
+  changed = told.changed;
+}
+
+abbrev pub reply_value : (octets : List ℕ) → Result Told Refusal → AnswerValue
+reply_value octets (Ok told) = Ok (told_value octets told)
+reply_value octets (Err refusal) = Err refusal
+
+-- the kind of compound that a reply tells of
+abbrev pub kind_told : Result Told Refusal → Option OutKind
+kind_told (Ok told) = told.out
+kind_told (Err refusal) = None
 
 -- ---- Events
 

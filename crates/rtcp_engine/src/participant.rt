@@ -17,18 +17,17 @@ ghost use Rattle.rtcp_engine.specs.Promises.{Takes};
 ghost use Rattle.rtcp_engine.specs.Taken.{begun};
 ghost use Rattle.rtcp_engine.specs.Views.{setup_of, answer_value};
 
-use crate::arrival::Arrival;
 use crate::changes::Changes;
 use crate::config::{Config, ConfigError};
 use crate::presence::Presence;
-use crate::refusal::Refusal;
 use crate::step::Answer;
+use arrayvec::ArrayVec;
 use rtcp_members::{InlineTable, MemberTable};
-use rtcp_wire::{Compound, RtpHead};
 use std::marker::Model;
 
 mod arriving;
 mod backoff;
+mod telling;
 
 /// The most members with which a BYE goes out at once (RFC 3550, 6.3.7).
 const FEW_MEMBERS: u32 = 50;
@@ -166,12 +165,10 @@ impl<T: MemberTable> Participant<T> {
         ensures within { KeepsCapacity self.new.presence }
         ensures refused { OnErr result (self.new ≡ self.old) }
     {
-        if let Some(refusal) = self.refusal(now) {
-            return Err(refusal);
-        }
-        match Compound::read(bytes) {
-            Ok(compound) => self.arrive(now, peer, w, &Arrival::Rtcp(compound, bytes.len())),
-            Err(fault) => Err(Refusal::Wire(fault)),
+        let mut octets = ArrayVec::new();
+        match self.arrive_rtcp_into(now, peer, w, bytes, &mut octets) {
+            Ok(told) => Ok(told.step(octets)),
+            Err(refusal) => Err(refusal),
         }
     }
 
@@ -187,12 +184,10 @@ impl<T: MemberTable> Participant<T> {
         ensures within { KeepsCapacity self.new.presence }
         ensures refused { OnErr result (self.new ≡ self.old) }
     {
-        if let Some(refusal) = self.refusal(now) {
-            return Err(refusal);
-        }
-        match RtpHead::read(bytes) {
-            Ok(head) => self.arrive(now, peer, w, &Arrival::Rtp(head)),
-            Err(fault) => Err(Refusal::Rtp(fault)),
+        let mut octets = ArrayVec::new();
+        match self.arrive_rtp_into(now, peer, w, bytes, &mut octets) {
+            Ok(told) => Ok(told.step(octets)),
+            Err(refusal) => Err(refusal),
         }
     }
 
@@ -207,12 +202,10 @@ impl<T: MemberTable> Participant<T> {
         ensures within { KeepsCapacity self.new.presence }
         ensures refused { OnErr result (self.new ≡ self.old) }
     {
-        if let Some(refusal) = self.refusal(now) {
-            return Err(refusal);
+        match self.sent_rtp_told(now, rtp_ts, octets) {
+            Ok(told) => Ok(told.step(ArrayVec::new())),
+            Err(refusal) => Err(refusal),
         }
-        self.take_call(now);
-        self.take_sent(now, rtp_ts, octets);
-        Ok(self.step(None))
     }
 
     /// Asks at the moment `now` whether a report is due, or the BYE of a participant that backs off, with two
@@ -232,12 +225,11 @@ impl<T: MemberTable> Participant<T> {
         ensures within { KeepsCapacity self.new.presence }
         ensures refused { OnErr result (self.new ≡ self.old) }
     {
-        if let Some(refusal) = self.refusal(now) {
-            return Err(refusal);
+        let mut octets = ArrayVec::new();
+        match self.tick_into(now, w1, w2, &mut octets) {
+            Ok(told) => Ok(told.step(octets)),
+            Err(refusal) => Err(refusal),
         }
-        self.take_call(now);
-        let out = self.take_tick(now, w1, w2);
-        Ok(self.step(out))
     }
 
     /// Leaves the session at the moment `now`, with a random word for the draw of a backoff (RFC 3550, 6.3.7).
@@ -255,11 +247,10 @@ impl<T: MemberTable> Participant<T> {
         ensures within { KeepsCapacity self.new.presence }
         ensures refused { OnErr result (self.new ≡ self.old) }
     {
-        if let Some(refusal) = self.refusal(now) {
-            return Err(refusal);
+        let mut octets = ArrayVec::new();
+        match self.leave_into(now, w, &mut octets) {
+            Ok(told) => Ok(told.step(octets)),
+            Err(refusal) => Err(refusal),
         }
-        self.take_call(now);
-        let out = self.take_leave(now, w);
-        Ok(self.step(out))
     }
 }

@@ -1,5 +1,8 @@
 //! What a participant answers.
 
+ghost use Rattle.std.specs.Prelude.{◌≡◌, is_some};
+ghost use Rattle.rtcp_engine.specs.Views.{step_value, told_value};
+
 use crate::refusal::Refusal;
 use arrayvec::ArrayVec;
 use rtcp_wire::MAX_COMPOUND;
@@ -44,3 +47,45 @@ pub struct Step {
 
 /// A step, or why the call was refused.
 pub type Answer = Result<Step, Refusal>;
+
+/// What a call that was taken answers, where its compound stands in the caller's room: a [`Step`] that has the
+/// compound's kind in place of the compound.
+#[derive(Clone, Copy, Debug, PartialEq, Eq)]
+pub struct Told {
+    /// What the compound is that the call wrote into the room, and that is to be sent now, if there is one.
+    pub out: Option<OutKind>,
+    /// The members of the session, as in [`Step::members`].
+    pub members: u32,
+    /// Those of them that send RTP packets, as in [`Step::senders`].
+    pub senders: u32,
+    /// When to call `tick` next, as in [`Step::next`].
+    pub next: Option<u64>,
+    /// The participant's new SSRC, where the call changed it, as in [`Step::changed`].
+    pub changed: Option<u32>,
+}
+
+/// What was told, or why the call was refused.
+pub type Reply = Result<Told, Refusal>;
+
+impl Told {
+    /// The step that has these octets as its compound, if a compound was written.
+    pub(crate) fn step(self, octets: ArrayVec<u8, MAX_COMPOUND>) -> Step
+        ensures value { step_value result ≡ told_value octets.items self }
+        ensures out { is_some result.out ≡ is_some self.out }
+    {
+        let out = match self.out {
+            Some(kind) => Some(Out {
+                kind,
+                bytes: octets,
+            }),
+            None => None,
+        };
+        Step {
+            members: self.members,
+            senders: self.senders,
+            next: self.next,
+            changed: self.changed,
+            out,
+        }
+    }
+}

@@ -1,6 +1,6 @@
 //! What a participant does with a datagram that it takes: it may change its identifier first (RFC 3550, 8.2).
 
-ghost use Rattle.std.specs.Prelude.{◌≡◌, ◌≤◌, ◌<◌, ◌-◌, ◌^◌, ℕ, None, length, option_map, true, OnErr};
+ghost use Rattle.std.specs.Prelude.{◌≡◌, ◌≤◌, ◌<◌, ◌-◌, ◌^◌, ℕ, List, None, length, true, OnErr};
 ghost use Rattle.rtcp_engine.specs.Acts.{arrived};
 ghost use Rattle.rtcp_engine.specs.Changes.{Session, changed_to, identifiers, is_about, is_taken as is_taken_of, new_identifier};
 ghost use Rattle.rtcp_engine.specs.Histories.{History, session_at};
@@ -9,14 +9,16 @@ ghost use Rattle.rtcp_engine.specs.Leaving.{Life};
 ghost use Rattle.rtcp_engine.specs.Lives.{own_bye, step_into};
 ghost use Rattle.rtcp_engine.specs.Promises.{Takes};
 ghost use Rattle.rtcp_engine.specs.States.{Acts, Admits, IsAt, IsIn, KeepsCapacity, StandsAt, over, refusal_by};
-ghost use Rattle.rtcp_engine.specs.Views.{NamesFewer, answer_value, datagram_of, out_value, size_of, step_value};
+ghost use Rattle.rtcp_engine.specs.Views.{NamesFewer, datagram_of, kind_told, out_with, reply_value, size_of, told_value};
 ghost use Rattle.rtcp_members.specs.Tables.{HasFew};
 
 use super::{Participant, Phase};
 use crate::arrival::Arrival;
 use crate::refusal::Refusal;
-use crate::step::{Answer, Out, Step};
+use crate::step::{OutKind, Reply, Told};
+use arrayvec::ArrayVec;
 use rtcp_members::MemberTable;
+use rtcp_wire::MAX_COMPOUND;
 
 /// More than can be taken of the identifiers that follow one another: at most nine are or were the participant's
 /// own, 1,024 are in its table, and fewer than 2^16 are in a datagram.
@@ -36,48 +38,65 @@ impl<T: MemberTable> Participant<T> {
     }
 
     /// Takes a datagram, after a change of identifier if it brings one, or refuses it for its SSRC.
-    // Inlined, and a change kept out of line, so that any other answer is made where it goes: it has room for a
-    // compound, which else is cleared and copied in each call on its way.
+    // Inlined, and a change kept out of line, which is rare.
     #[inline(always)]
-    pub(super) fn arrive(&mut self, now: u64, peer: u64, w: u32, arrival: &Arrival<'_>) -> Answer
+    pub(super) fn arrive(
+        &mut self,
+        now: u64,
+        peer: u64,
+        w: u32,
+        arrival: &Arrival<'_>,
+        octets: &mut ArrayVec<u8, MAX_COMPOUND>,
+    ) -> Reply
         requires admitted { refusal_by now self.old ≡ None }
         requires in_order { Admits self.old.presence now }
         requires size { size_of arrival.now ≤ 65535 }
         requires few { NamesFewer arrival.now }
-        ensures takes { Takes self.old (arrived now peer w (datagram_of arrival.now)) (answer_value result) self.new }
+        ensures takes { Takes self.old (arrived now peer w (datagram_of arrival.now))
+            (reply_value octets.new.items result) self.new }
         ensures within { KeepsCapacity self.new.presence }
         ensures refused { OnErr result (self.new ≡ self.old) }
+        ensures untouched { kind_told result ≡ None → octets.new ≡ octets.old }
     {
         if arrival.is_of(self.presence.ssrc()) {
-            return self.arrive_as_own(now, peer, w, arrival);
+            return self.arrive_as_own(now, peer, w, arrival, octets);
         }
         self.take_call(now);
         self.take(now, arrival);
-        Ok(self.step(None))
+        Ok(self.told(None))
     }
 
     /// Takes a datagram that names the participant's SSRC, after a change of that, or refuses it.
     #[cold]
-    fn arrive_as_own(&mut self, now: u64, peer: u64, w: u32, arrival: &Arrival<'_>) -> Answer
+    fn arrive_as_own(
+        &mut self,
+        now: u64,
+        peer: u64,
+        w: u32,
+        arrival: &Arrival<'_>,
+        octets: &mut ArrayVec<u8, MAX_COMPOUND>,
+    ) -> Reply
         requires own { is_about self.old.presence.setup.ssrc (datagram_of arrival.now) ≡ true }
         requires admitted { refusal_by now self.old ≡ None }
         requires in_order { Admits self.old.presence now }
         requires size { size_of arrival.now ≤ 65535 }
         requires few { NamesFewer arrival.now }
-        ensures takes { Takes self.old (arrived now peer w (datagram_of arrival.now)) (answer_value result) self.new }
+        ensures takes { Takes self.old (arrived now peer w (datagram_of arrival.now))
+            (reply_value octets.new.items result) self.new }
         ensures within { KeepsCapacity self.new.presence }
         ensures refused { OnErr result (self.new ≡ self.old) }
+        ensures untouched { kind_told result ≡ None → octets.new ≡ octets.old }
     {
         if !self.changes.allows(peer) {
             return Err(Refusal::OwnSsrc);
         }
         let ssrc = self.free_ssrc(w, arrival);
-        let out = self.change(peer, ssrc);
+        let out = self.change(peer, ssrc, octets);
         self.take_call(now);
         self.take(now, arrival);
-        let mut step = self.step(out);
-        step.changed = Some(ssrc);
-        Ok(step)
+        let mut told = self.told(out);
+        told.changed = Some(ssrc);
+        Ok(told)
     }
 
     /// The first of `w`, the number after it, and so on that is not taken: neither by the participant, now or
@@ -112,21 +131,27 @@ impl<T: MemberTable> Participant<T> {
         self.presence.ssrc() == ssrc || self.changes.gave_up(ssrc)
     }
 
-    /// Takes another SSRC, as a datagram of this peer names the present one. The BYE of that one is to be sent,
-    /// if something was sent under it.
-    fn change(&mut self, peer: u64, ssrc: u32) -> Option<Out>
+    /// Takes another SSRC, as a datagram of this peer names the present one. The BYE of that one is written, to
+    /// be sent, if something was sent under it.
+    fn change(
+        &mut self,
+        peer: u64,
+        ssrc: u32,
+        octets: &mut ArrayVec<u8, MAX_COMPOUND>,
+    ) -> Option<OutKind>
         requires room { length self.old.changes < 8 }
         requires present { self.old.phase ≡ over → ⊥ }
         ensures out { (session : Session) → IsIn self.old session →
-            option_map out_value result ≡ own_bye session.setup session.life }
+            out_with octets.new.items result ≡ own_bye session.setup session.life }
         ensures new { (session : Session) → IsIn self.old session →
             IsIn self.new (changed_to (record { peer = peer; ssrc = ssrc }) session) }
         ensures last { self.new.presence.last ≡ self.old.presence.last }
         ensures calls { self.new.presence.calls ≡ self.old.presence.calls }
         ensures within { KeepsCapacity self.new.presence }
+        ensures untouched { result ≡ None → octets.new ≡ octets.old }
     {
         self.changes.add(peer, self.presence.ssrc());
-        self.presence.rename(ssrc)
+        self.presence.rename(ssrc, octets)
     }
 
     /// Takes a datagram under the present SSRC: nothing of it counts in a backoff but BYE packets.
@@ -149,12 +174,11 @@ impl<T: MemberTable> Participant<T> {
         }
     }
 
-    /// The answer of a call that was taken.
-    // Inlined, so that a compound is moved into the answer once, and none is where there is none.
-    #[inline(always)]
-    pub(super) fn step(&self, out: Option<Out>) -> Step
-        ensures { (life : Life) → IsAt self.now life →
-            step_value result ≡ step_into self.now.presence.setup (option_map out_value out) life }
+    /// The answer of a call that was taken, and wrote a compound of this kind, if it wrote one.
+    pub(super) fn told(&self, out: Option<OutKind>) -> Told
+        ensures exact { (octets : List ℕ) (life : Life) → IsAt self.now life →
+            told_value octets result ≡ step_into self.now.presence.setup (out_with octets out) life }
+        ensures out { result.out ≡ out }
     {
         let (members, senders, next) = match self.phase {
             Phase::Present => {
@@ -168,7 +192,7 @@ impl<T: MemberTable> Participant<T> {
             Phase::BackingOff(members) => (members, 0, Some(self.presence.next_moment())),
             Phase::Gone => (0, 0, None),
         };
-        Step {
+        Told {
             out,
             members,
             senders,

@@ -1,18 +1,19 @@
 //! What a participant does with an act in each phase, and from its leave until its BYE is sent (RFC 3550, 6.3.7).
 
-ghost use Rattle.std.specs.Prelude.{◌≡◌, ◌≤◌, ◌<◌, ◌-◌, ◌^◌, ℕ, None, Ok, option_map};
+ghost use Rattle.std.specs.Prelude.{◌≡◌, ◌≤◌, ◌<◌, ◌-◌, ◌^◌, ℕ, Some, None, Ok};
 ghost use Rattle.rtcp_members.specs.Tables.{HasFew};
 ghost use Rattle.rtcp_engine.specs.Acts.{arrived, left, rtcp, rtp_sent, ticked};
 ghost use Rattle.rtcp_engine.specs.Lives.{bye_out};
 ghost use Rattle.rtcp_engine.specs.Reporting.{bye_octets};
 ghost use Rattle.rtcp_engine.specs.States.{Acts, Admits, KeepsCapacity, called, leaving, taking_part};
-ghost use Rattle.rtcp_engine.specs.Views.{out_value};
+ghost use Rattle.rtcp_engine.specs.Views.{out_with};
 
 use super::{FEW_MEMBERS, Participant, Phase};
 use crate::byes::{MAX_LEAVING, count_byes};
-use crate::step::{Out, OutKind};
+use crate::step::OutKind;
+use arrayvec::ArrayVec;
 use rtcp_members::MemberTable;
-use rtcp_wire::Compound;
+use rtcp_wire::{Compound, MAX_COMPOUND};
 
 impl<T: MemberTable> Participant<T> {
     /// Takes a call.
@@ -37,40 +38,52 @@ impl<T: MemberTable> Participant<T> {
         }
     }
 
-    /// Makes a report or sends the BYE, if it is due.
-    // Inlined, and a backoff kept out of line, so that a report is moved into the answer once.
-    #[inline(always)]
-    pub(super) fn take_tick(&mut self, now: u64, w1: u32, w2: u32) -> Option<Out>
+    /// Writes a report or the BYE, if it is due.
+    pub(super) fn take_tick(
+        &mut self,
+        now: u64,
+        w1: u32,
+        w2: u32,
+        octets: &mut ArrayVec<u8, MAX_COMPOUND>,
+    ) -> Option<OutKind>
         requires order { self.old.presence.last ≡ now }
         requires reports { self.old.presence.reports < self.old.presence.calls }
-        ensures new { Acts self.old self.new (ticked now w1 w2) (option_map out_value result) }
+        ensures new { Acts self.old self.new (ticked now w1 w2) (out_with octets.new.items result) }
         ensures within { KeepsCapacity self.new.presence }
+        ensures untouched { result ≡ None → octets.new ≡ octets.old }
     {
         match self.phase {
-            Phase::Present => self.presence.tick(now, w1, w2),
-            Phase::BackingOff(members) => self.wait(now, w1, members),
+            Phase::Present => self.presence.tick(now, w1, w2, octets),
+            Phase::BackingOff(members) => self.wait(now, w1, members, octets),
             Phase::Gone => None,
         }
     }
 
     /// Leaves, if it has not left yet.
-    pub(super) fn take_leave(&mut self, now: u64, w: u32) -> Option<Out>
+    pub(super) fn take_leave(
+        &mut self,
+        now: u64,
+        w: u32,
+        octets: &mut ArrayVec<u8, MAX_COMPOUND>,
+    ) -> Option<OutKind>
         requires order { self.old.presence.last ≡ now }
-        ensures new { Acts self.old self.new (left now w) (option_map out_value result) }
+        ensures new { Acts self.old self.new (left now w) (out_with octets.new.items result) }
         ensures within { KeepsCapacity self.new.presence }
+        ensures untouched { result ≡ None → octets.new ≡ octets.old }
     {
         match self.phase {
-            Phase::Present => self.depart(w),
+            Phase::Present => self.depart(w, octets),
             Phase::BackingOff(_) => None,
             Phase::Gone => None,
         }
     }
 
     /// Leaves: silently, with a BYE at once, or into a backoff.
-    fn depart(&mut self, w: u32) -> Option<Out>
+    fn depart(&mut self, w: u32, octets: &mut ArrayVec<u8, MAX_COMPOUND>) -> Option<OutKind>
         requires phase { self.old.phase ≡ taking_part }
-        ensures new { Acts self.old self.new (left self.old.presence.last w) (option_map out_value result) }
+        ensures new { Acts self.old self.new (left self.old.presence.last w) (out_with octets.new.items result) }
         ensures within { KeepsCapacity self.new.presence }
+        ensures untouched { result ≡ None → octets.new ≡ octets.old }
     {
         if self.presence.is_unheard() {
             self.phase = Phase::Gone;
@@ -78,7 +91,7 @@ impl<T: MemberTable> Participant<T> {
         }
         if self.presence.member_count() <= FEW_MEMBERS {
             self.phase = Phase::Gone;
-            return Some(self.bye());
+            return Some(self.bye(octets));
         }
         self.presence.back_off(w);
         self.phase = Phase::BackingOff(1);
@@ -102,27 +115,32 @@ impl<T: MemberTable> Participant<T> {
         self.phase = Phase::BackingOff(MAX_LEAVING.min(members + byes));
     }
 
-    /// Sends the BYE if it is due, and is gone then.
+    /// Writes the BYE if it is due, and is gone then.
     #[cold]
-    fn wait(&mut self, now: u64, w1: u32, members: u32) -> Option<Out>
+    fn wait(
+        &mut self,
+        now: u64,
+        w1: u32,
+        members: u32,
+        octets: &mut ArrayVec<u8, MAX_COMPOUND>,
+    ) -> Option<OutKind>
         requires phase { self.old.phase ≡ leaving members }
-        ensures new { (w2 : ℕ) → Acts self.old self.new (ticked now w1 w2) (option_map out_value result) }
+        ensures new { (w2 : ℕ) → Acts self.old self.new (ticked now w1 w2) (out_with octets.new.items result) }
         ensures within { KeepsCapacity self.new.presence }
+        ensures untouched { result ≡ None → octets.new ≡ octets.old }
     {
         if !self.presence.wait(now, w1, members) {
             return None;
         }
         self.phase = Phase::Gone;
-        Some(self.bye())
+        Some(self.bye(octets))
     }
 
-    /// The participant's BYE, to be sent.
-    fn bye(&self) -> Out
-        ensures { out_value result ≡ bye_out (bye_octets self.now.presence.setup) }
+    /// Writes the participant's BYE, to be sent.
+    fn bye(&self, octets: &mut ArrayVec<u8, MAX_COMPOUND>) -> OutKind
+        ensures { out_with octets.new.items (Some result) ≡ Some (bye_out (bye_octets self.now.presence.setup)) }
     {
-        Out {
-            kind: OutKind::Bye,
-            bytes: self.presence.bye(),
-        }
+        self.presence.write_bye(octets);
+        OutKind::Bye
     }
 }

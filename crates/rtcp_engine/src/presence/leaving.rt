@@ -9,7 +9,7 @@ ghost use Rattle.rtcp_engine.specs.States.{Agrees, DoesWaiting, KeepsCapacity, S
 use super::Presence;
 use arrayvec::ArrayVec;
 use rtcp_members::MemberTable;
-use rtcp_report::bye;
+use rtcp_report::{bye_size, write_bye};
 use rtcp_timer::{Average, Load, Verdict, interval};
 use rtcp_wire::MAX_COMPOUND;
 
@@ -21,12 +21,12 @@ impl<T: MemberTable> Presence<T> {
         !self.own.is_heard()
     }
 
-    /// The compound with the participant's BYE.
-    pub(crate) fn bye(&self) -> ArrayVec<u8, MAX_COMPOUND>
-        ensures octets { result.items ≡ bye_octets self.now.setup }
-        ensures small { length result.items ≤ 284 }
+    /// Writes the compound with the participant's BYE.
+    pub(crate) fn write_bye(&self, octets: &mut ArrayVec<u8, MAX_COMPOUND>)
+        ensures octets { octets.new.items ≡ bye_octets self.now.setup }
+        ensures small { length octets.new.items ≤ 284 }
     {
-        bye(self.config.ssrc, &self.config.cname)
+        write_bye(self.config.ssrc, &self.config.cname, octets);
     }
 
     /// Begins to back off at the moment of the last call, with a random word for the draw.
@@ -36,7 +36,7 @@ impl<T: MemberTable> Presence<T> {
             Waits self.new outcome (backoff_from self.old.setup self.old.last w outcome) }
         ensures within { KeepsCapacity self.new }
     {
-        self.average = Average::start(self.bye().len() as u32);
+        self.average = Average::start(bye_size(&self.config.cname));
         let td = self.backoff_interval(1);
         self.schedule.leave(self.last, td, w);
     }

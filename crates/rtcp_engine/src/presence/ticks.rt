@@ -1,12 +1,12 @@
 //! What a participant does as time passes (RFC 3550, 6.3.4 to 6.3.6).
 
-ghost use Rattle.std.specs.Prelude.{◌≡◌, ◌≤◌, ◌<◌, ◌-◌, ◌^◌, length, Option, option_map};
+ghost use Rattle.std.specs.Prelude.{◌≡◌, ◌≤◌, ◌<◌, ◌-◌, ◌^◌, length, Option, None, option_map};
 ghost use Rattle.rtcp_wire.specs.Writing.{written_all};
 ghost use Rattle.rtcp_members.specs.Pending.{after_blocks, last_reported as last_of};
 ghost use Rattle.rtcp_report.specs.Sizes.{reported_rows, report_of};
 ghost use Rattle.rtcp_engine.specs.Setups.{IsUsable};
 ghost use Rattle.rtcp_engine.specs.Lives.{report_out};
-ghost use Rattle.rtcp_engine.specs.Views.{setup_of, out_value};
+ghost use Rattle.rtcp_engine.specs.Views.{setup_of, out_with};
 ghost use Rattle.rtcp_engine.specs.States.{Agrees, Does, KeepsCapacity};
 ghost use Rattle.rtcp_engine.specs.Outcomes.{Outcome, receiver_interval_at};
 ghost use Rattle.rtcp_engine.specs.Reporting.{report_octets, reporter_by};
@@ -16,10 +16,10 @@ use super::Presence;
 use crate::config::Config;
 use crate::extra::extra_item;
 use crate::own::OwnStream;
-use crate::step::{Out, OutKind};
+use crate::step::OutKind;
 use arrayvec::ArrayVec;
 use rtcp_members::MemberTable;
-use rtcp_report::{Sender, report};
+use rtcp_report::{Sender, write_report};
 use rtcp_timer::{Load, Verdict, interval};
 use rtcp_wire::MAX_COMPOUND;
 
@@ -27,18 +27,25 @@ use rtcp_wire::MAX_COMPOUND;
 const GOODBYE_TIME: u64 = 5_000_000;
 
 impl<T: MemberTable> Presence<T> {
-    /// Drops those who are silent for too long, and makes a report if one is due, with two random words: `w1` for
+    /// Drops those who are silent for too long, and writes a report if one is due, with two random words: `w1` for
     /// the draw that decides it, and `w2` for that of the next interval.
-    pub(crate) fn tick(&mut self, now: u64, w1: u32, w2: u32) -> Option<Out>
+    pub(crate) fn tick(
+        &mut self,
+        now: u64,
+        w1: u32,
+        w2: u32,
+        octets: &mut ArrayVec<u8, MAX_COMPOUND>,
+    ) -> Option<OutKind>
         requires order { self.old.last ≡ now }
         requires reports { self.old.reports < self.old.calls }
-        ensures report { (outcome : Outcome) → Agrees self.old outcome → option_map out_value result
+        ensures report { (outcome : Outcome) → Agrees self.old outcome → out_with octets.new.items result
             ≡ option_map report_out (report_due self.old.setup now w1 (checked self.old.setup now outcome)) }
         ensures new { Does self.old self.new (λ setup. after_tick setup now w1 w2) }
         ensures within { KeepsCapacity self.new }
+        ensures untouched { result ≡ None → octets.new ≡ octets.old }
     {
         self.check_members(now);
-        self.report_if_due(now, w1, w2)
+        self.report_if_due(now, w1, w2, octets)
     }
 
     /// Drops those who are silent for too long, and counts the members again.
@@ -91,22 +98,27 @@ impl<T: MemberTable> Presence<T> {
         })
     }
 
-    /// Makes a report if one is due, and draws the next interval; else puts it off, if its moment has come.
-    fn report_if_due(&mut self, now: u64, w1: u32, w2: u32) -> Option<Out>
+    /// Writes a report if one is due, and draws the next interval; else puts it off, if its moment has come.
+    fn report_if_due(
+        &mut self,
+        now: u64,
+        w1: u32,
+        w2: u32,
+        octets: &mut ArrayVec<u8, MAX_COMPOUND>,
+    ) -> Option<OutKind>
         requires order { self.old.last ≡ now }
         requires reports { self.old.reports < self.old.calls }
         ensures report { (outcome : Outcome) → Agrees self.old outcome →
-            option_map out_value result ≡ option_map report_out (report_due self.old.setup now w1 outcome) }
+            out_with octets.new.items result ≡ option_map report_out (report_due self.old.setup now w1 outcome) }
         ensures new { Does self.old self.new (λ setup. after_check setup now w1 w2) }
         ensures within { KeepsCapacity self.new }
+        ensures untouched { result ≡ None → octets.new ≡ octets.old }
     {
         if !self.is_due(now, w1) {
             return None;
         }
-        Some(Out {
-            kind: OutKind::Report,
-            bytes: self.send_report(now, w2),
-        })
+        self.send_report(now, w2, octets);
+        Some(OutKind::Report)
     }
 
     /// Whether a report is due. If its moment has come, it is put off until it is sent.
@@ -122,18 +134,17 @@ impl<T: MemberTable> Presence<T> {
         self.schedule.expire(now, td, w1, members) == Verdict::Due
     }
 
-    /// Makes the report, and draws the interval after it.
-    fn send_report(&mut self, now: u64, w2: u32) -> ArrayVec<u8, MAX_COMPOUND>
+    /// Writes the report, and draws the interval after it.
+    fn send_report(&mut self, now: u64, w2: u32, octets: &mut ArrayVec<u8, MAX_COMPOUND>)
         requires order { self.old.last ≡ now }
         requires reports { self.old.reports < self.old.calls }
         ensures report { (outcome : Outcome) → Agrees self.old outcome →
-            result.items ≡ report_octets self.old.setup now outcome }
+            octets.new.items ≡ report_octets self.old.setup now outcome }
         ensures new { Does self.old self.new (λ setup. reported setup now w2) }
         ensures within { KeepsCapacity self.new }
     {
-        let bytes = self.make_report(now);
+        self.make_report(now, octets);
         self.draw_next(now, w2);
-        bytes
     }
 
     /// Draws the next interval.
@@ -147,44 +158,45 @@ impl<T: MemberTable> Presence<T> {
         self.schedule.sent(now, td, w2, members);
     }
 
-    /// Makes the report: the next one goes on after its last source.
-    fn make_report(&mut self, now: u64) -> ArrayVec<u8, MAX_COMPOUND>
+    /// Writes the report: the next one goes on after its last source.
+    fn make_report(&mut self, now: u64, octets: &mut ArrayVec<u8, MAX_COMPOUND>)
         requires reports { self.old.reports < self.old.calls }
         ensures report { (outcome : Outcome) → Agrees self.old outcome →
-            result.items ≡ report_octets self.old.setup now outcome }
+            octets.new.items ≡ report_octets self.old.setup now outcome }
         ensures new { Does self.old self.new (λ setup. with_report setup now) }
     {
         let number = self.reports + 1;
-        let bytes = write_report(
+        write_numbered(
             &self.config,
             &self.own,
             &mut self.table,
             &mut self.cursor,
             number,
             now,
+            octets,
         );
         self.reports = number;
-        self.average.add(bytes.len() as u32);
+        self.average.add(octets.len() as u32);
         self.own.reported();
-        bytes
     }
 }
 
-/// The report with this number, at the moment `now`: the cursor is left at its last source.
-fn write_report<T: MemberTable>(
+/// Writes the report with this number, at the moment `now`: the cursor is left at its last source.
+fn write_numbered<T: MemberTable>(
     config: &Config,
     own: &OwnStream,
     table: &mut T,
     cursor: &mut Option<u32>,
     number: u64,
     now: u64,
-) -> ArrayVec<u8, MAX_COMPOUND>
+    octets: &mut ArrayVec<u8, MAX_COMPOUND>,
+)
     requires usable { IsUsable (setup_of config.now) }
     requires some { 0 < number }
-    ensures octets { result.items ≡ written_all (report_of
+    ensures octets { octets.new.items ≡ written_all (report_of
         (reporter_by (setup_of config.now) own.now number now) config.now.limit now cursor.old
         (T.content table.old)) }
-    ensures within { length result.items ≤ 1472 }
+    ensures within { length octets.new.items ≤ 1472 }
     ensures content { T.content table.new ≡ after_blocks (reported_rows
         (reporter_by (setup_of config.now) own.now number now) config.now.limit cursor.old (T.content table.old))
         (T.content table.old) }
@@ -198,5 +210,5 @@ fn write_report<T: MemberTable>(
         sr: own.report(config.ntp_base, config.rate, now),
     };
     let extra = extra_item(&config.extras, number);
-    report(&sender, table, now, config.limit, cursor, extra)
+    write_report(&sender, table, now, config.limit, cursor, extra, octets);
 }

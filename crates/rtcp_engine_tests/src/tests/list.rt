@@ -13,6 +13,21 @@ fn reports_once(rt: HostRuntime) {
 }
 
 #[test]
+fn report_in_place(rt: HostRuntime) {
+    rooms::report_in_place::<ListTable>(&rt);
+}
+
+#[test]
+fn byes_in_place(rt: HostRuntime) {
+    rooms::byes_in_place::<ListTable>(&rt);
+}
+
+#[test]
+fn room_left_alone(rt: HostRuntime) {
+    rooms::left_alone::<ListTable>(&rt);
+}
+
+#[test]
 fn put_off(rt: HostRuntime) {
     rows::put_off::<ListTable>(&rt);
 }

@@ -20,6 +20,21 @@ fn reports_once(rt: HostRuntime) {
 }
 
 #[test]
+fn report_in_place(rt: HostRuntime) {
+    rooms::report_in_place::<SortedTable>(&rt);
+}
+
+#[test]
+fn byes_in_place(rt: HostRuntime) {
+    rooms::byes_in_place::<SortedTable>(&rt);
+}
+
+#[test]
+fn room_left_alone(rt: HostRuntime) {
+    rooms::left_alone::<SortedTable>(&rt);
+}
+
+#[test]
 fn put_off(rt: HostRuntime) {
     rows::put_off::<SortedTable>(&rt);
 }

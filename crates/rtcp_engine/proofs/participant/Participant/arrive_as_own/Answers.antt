@@ -1,4 +1,4 @@
-use Rattle.std.proofs.Common.{◌≡◌, ◌∙◌, ℕ, true, List, Option, Some, None, map, option_map, ap, sym, subst}
+use Rattle.std.proofs.Common.{◌≡◌, ◌∙◌, ℕ, true, List, Option, Some, None, map, ap, sym, subst}
 use Rattle.rtcp_engine.specs.declared.changes.Change.{Change}
 use Rattle.rtcp_engine.specs.declared.refusal.Refusal.TheVariants.{OwnSsrc}
 use Rattle.rtcp_engine.specs.Acts.{Datagram, arrived}
@@ -9,7 +9,7 @@ use Rattle.rtcp_engine.specs.Lives.{step_into}
 use Rattle.rtcp_engine.specs.Setups.{Setup}
 use Rattle.rtcp_engine.specs.States.{Acts, IsIn, ParticipantValue, StandsAt}
 use Rattle.rtcp_engine.specs.Steps.{OutValue}
-use Rattle.rtcp_engine.specs.Views.{datagram_of, out_value, step_value}
+use Rattle.rtcp_engine.specs.Views.{datagram_of, out_with, told_value}
 use Rattle.rtcp_engine.proofs.Acting.{Takes, acted_stands, acted_step, answered, refuses}
 use Rattle.rtcp_engine.proofs.Arriving.{changing, refused_as_own}
 use Rattle.rtcp_engine.proofs.Bounded.{bounds_after}
@@ -44,7 +44,8 @@ returns-clause-takes g c =
     let arrival = c.args.arrival.now in
     let act = arrived c.args.now c.args.peer c.args.w (datagram_of arrival) in
     let new : NewIdentifier = record { peer = c.args.peer; ssrc = c.free_ssrc-ssrc.result } in
-    let bye = option_map out_value c.change-out.result in
+    let octets = c.change-out.new.octets.items in
+    let bye = out_with octets c.change-out.result in
     let listed = sym (ap (λ (x : ParticipantValue). may_change (map (λ (change : Change). change.peer) x.changes) c.args.peer) c.self.view_is) ∙ sym c.allows.ensures.exact ∙ c.if-not-allows.false in
     let changes : (h : History) → StandsAt p h → Takes h act (Some new) = λ h stands.
     changing p h c.args.now c.args.peer c.args.w new.ssrc arrival stands c.requires.admitted (is_own p h (datagram_of arrival) stands c.requires.own) (sym (may_is p h c.args.peer stands) ∙ listed)
@@ -54,8 +55,8 @@ returns-clause-takes g c =
     let after : (h : History) → StandsAt p h → StandsAt q (with_act h act) = λ h stands. acted_stands h (Some new) stands (changes h stands) c.ranges.w.fits (there h stands) c.change-out.ensures.calls acts in
     record {
       answer = λ h stands. answered h act _ (changes h stands).taken
-          (acted_step h (Some new) bye (step_value c.step-step.result) (changes h stands) (there h stands) acts (after h stands) (c.change-out.ensures.out (session_at h) stands.session)
-          (λ life at. c.step-step.ensures life at ∙ ap (λ (out : Option OutValue). step_into q.presence.setup out life) (sym (or_none bye))));
+          (acted_step h (Some new) bye (told_value octets c.told-told.result) (changes h stands) (there h stands) acts (after h stands) (c.change-out.ensures.out (session_at h) stands.session)
+          (λ life at. c.told-told.ensures.exact octets life at ∙ ap (λ (out : Option OutValue). step_into q.presence.setup out life) (sym (or_none bye))));
       stands = λ h stands. subst (StandsAt q) (taken_history h act (changes h stands).taken) (after h stands);
       bounded = λ h stands. bounds_after h act c.ranges.w.fits stands.is_history;
     }

@@ -23,10 +23,10 @@ returns-then-member_count-le-FEW_MEMBERS-clause-new g c =
     let w = c.args.w in
     let q : ParticipantValue = record { presence = s; phase = over; changes = c.self.inside.changes.list.items } in
     let few : (outcome : Outcome) → Agrees s outcome → nat_le (member_count s.setup outcome) 50 ≡ true = λ outcome agrees. le-leb _ 50 (subst (λ (n : ℕ). n ≤ 50) (c.member_count.ensures.exact outcome agrees) c.if-member_count-le-FEW_MEMBERS.true) in
-    subst (λ (x : ParticipantValue). Acts x q (left x.presence.last w) (Some (Rattle.rtcp_engine.specs.Views.out_value c.bye.result))) c.self.view_is
+    subst (λ (x : ParticipantValue). Acts x q (left x.presence.last w) (Rattle.rtcp_engine.specs.Views.out_with c.bye.new.octets.items (Some c.bye.result))) c.self.view_is
     (acts_from_present (ap (λ (p : ParticipantValue). p.phase) c.self.view_is ∙ c.requires.phase) (same_stays s) refl
     (λ outcome agrees. subst (IsAt q) (sym (left_lives s.setup s.last w outcome false true (sym (c.is_unheard.ensures outcome agrees) ∙ c.if-is_unheard.false) (few outcome agrees))) refl)
-    (λ outcome agrees. ap Some c.bye.ensures ∙ sym (left_byes s.setup outcome false true (sym (c.is_unheard.ensures outcome agrees) ∙ c.if-is_unheard.false) (few outcome agrees))))
+    (λ outcome agrees. c.bye.ensures ∙ sym (left_byes s.setup outcome false true (sym (c.is_unheard.ensures outcome agrees) ∙ c.if-is_unheard.false) (few outcome agrees))))
 
 pub returns-clause-new : goal.returns-clause-new
 returns-clause-new g c =

@@ -1,22 +1,6 @@
-use Rattle.std.proofs.Common.{option_map, Ok, ◌∙◌, refl, sym, subst}
-use Rattle.rtcp_engine.specs.Acts.{ticked}
-use Rattle.rtcp_engine.specs.States.{Acts, ParticipantValue}
-use Rattle.rtcp_engine.specs.Views.{out_value}
-use Rattle.rtcp_engine.proofs.Acting.{call_refused_by, plain_call, refuses, takes}
-use Rattle.rtcp_engine.proofs.Bounded.{sends_if_late}
+-- The step is what was told, with the compound of the room.
+use Rattle.rtcp_engine.proofs.Acting.{retold}
 use Rattle.rtcp_engine.proofs.participant.Participant.tick.Goals as goal
 
-pub returns-in-Some-clause-takes : goal.returns-in-Some-clause-takes
-returns-in-Some-clause-takes g c =
-    let act = ticked c.args.now c.args.w1 c.args.w2 in
-    refuses c.args.self.now act c.in-Some.refusal (call_refused_by c.args.self.now act c.in-Some.refusal (sym c.refusal.ensures.exact ∙ c.in-Some.is)) (c.ranges.w1.fits, c.ranges.w2.fits)
-
-pub returns-clause-takes : goal.returns-clause-takes
-returns-clause-takes g c =
-    let act = ticked c.args.now c.args.w1 c.args.w2 in
-    takes _ (plain_call c.args.self.now act (sym c.refusal.ensures.exact ∙ c.in_default.is) (λ session. refl) (λ session. refl))
-    (subst (λ (p : ParticipantValue). Acts p c.take_tick-out.new.self act (option_map out_value c.take_tick-out.result)) c.take_call.ensures.new c.take_tick-out.ensures.new) c.step.ensures (c.ranges.w1.fits, c.ranges.w2.fits)
-
-pub returns-clause-not_too_late : goal.returns-clause-not_too_late
-returns-clause-not_too_late g c history h late =
-    sends_if_late history c.args.now c.args.w1 c.args.w2 (Ok c.step.result) (c.ranges.w1.fits, c.ranges.w2.fits) h.is_history ((returns-clause-takes g c).answer history h) late
+pub returns-in-Ok-clause-takes : goal.returns-in-Ok-clause-takes
+returns-in-Ok-clause-takes g c = retold c.step.ensures.value c.in-Ok.ensures.takes

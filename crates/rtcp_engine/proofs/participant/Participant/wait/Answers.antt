@@ -30,5 +30,5 @@ returns-clause-new g c w2 =
     let due = sym (c.wait.ensures.due outcome backoff waits count) ∙ c.if-not-wait.false in
     subst (λ (b : Bool). IsAt q (if b then gone outcome else backing_off outcome (after_wait setup c.args.now c.args.w1 backoff))) (sym due) refl)
     (λ outcome backoff waits count.
-    ap Some (c.bye.ensures ∙ ap (λ (st : Setup). bye_out (bye_octets st)) c.wait.ensures.new.stays.setup)
+    c.bye.ensures ∙ ap (λ (st : Setup). Some (bye_out (bye_octets st))) c.wait.ensures.new.stays.setup
     ∙ ap (λ (b : Bool). if b then Some (bye_out (bye_octets setup)) else None) (sym c.if-not-wait.false ∙ c.wait.ensures.due outcome backoff waits count)))

@@ -14,7 +14,7 @@ invariant_of-self g c =
     let content = g.T.MemberTable.content in
     let inside = c.self.inside in
     let rows = reported_rows (reporter_by (setup_of inside.config) inside.own (inside.reports + 1) c.args.now) inside.config.limit inside.cursor (content inside.table) in
-    let is_kept = subst (λ (table : TableValue). IsKept (content inside.table) table inside.calls) (sym c.write_report-bytes.ensures.content) (blocks_kept c.self.invariant rows) in
+    let is_kept = subst (λ (table : TableValue). IsKept (content inside.table) table inside.calls) (sym c.write_numbered.ensures.content) (blocks_kept c.self.invariant rows) in
     let fewer : inside.reports + 1 ≤ inside.calls = omega (arith, c.requires.reports, ap (λ (s : State). s.reports) c.self.view_is, ap (λ (s : State). s.calls) c.self.view_is) in
     let in_step : IsInStep inside.schedule.last (inside.reports + 1) inside.last inside.calls = record {
       is_past = c.self.invariant.timing;
@@ -22,13 +22,13 @@ invariant_of-self g c =
       fewer = fewer;
       few = c.self.invariant.calls;
     } in
-    kept c.self.invariant (content c.write_report-bytes.new.table) inside.schedule c.add.new.self c.reported.new.self c.write_report-bytes.new.cursor (inside.reports + 1) inside.last inside.calls is_kept in_step
+    kept c.self.invariant (content c.write_numbered.new.table) inside.schedule c.add.new.self c.reported.new.self c.write_numbered.new.cursor (inside.reports + 1) inside.last inside.calls is_kept in_step
 
 pub returns-clause-report : goal.returns-clause-report
-returns-clause-report g c outcome agrees = c.write_report-bytes.ensures.octets ∙ octets_of c.self.view_is c.args.now outcome agrees
+returns-clause-report g c outcome agrees = c.write_numbered.ensures.octets ∙ octets_of c.self.view_is c.args.now outcome agrees
 
 pub returns-clause-new : goal.returns-clause-new
 returns-clause-new g c =
-    let size = c.add.ensures.moves ∙ ap (moved_average c.self.inside.average) (c.len.ensures.value ∙ ap length c.write_report-bytes.ensures.octets) in
-    makes c.self.view_is c.args.now (g.T.MemberTable.content c.write_report-bytes.new.table) c.add.new.self c.reported.new.self c.write_report-bytes.new.cursor
-    c.write_report-bytes.ensures.content size c.reported.ensures c.write_report-bytes.ensures.cursor
+    let size = c.add.ensures.moves ∙ ap (moved_average c.self.inside.average) (c.len.ensures.value ∙ ap length c.write_numbered.ensures.octets) in
+    makes c.self.view_is c.args.now (g.T.MemberTable.content c.write_numbered.new.table) c.add.new.self c.reported.new.self c.write_numbered.new.cursor
+    c.write_numbered.ensures.content size c.reported.ensures c.write_numbered.ensures.cursor

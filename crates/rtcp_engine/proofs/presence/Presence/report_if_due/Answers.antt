@@ -9,7 +9,7 @@ returns-then-not-is_due-clause-new g c =
 
 pub returns-clause-report : goal.returns-clause-report
 returns-clause-report g c outcome agrees =
-    ap (option_map report_out) (hands_out c.args.now c.args.w1 c.send_report.result.items (λ o a. sym c.if-not-is_due.false ∙ c.is_due.ensures.due o a) c.is_due.ensures.new c.send_report.ensures.report outcome agrees)
+    ap (option_map report_out) (hands_out c.args.now c.args.w1 c.send_report.new.octets.items (λ o a. sym c.if-not-is_due.false ∙ c.is_due.ensures.due o a) c.is_due.ensures.new c.send_report.ensures.report outcome agrees)
 
 pub returns-clause-new : goal.returns-clause-new
 returns-clause-new g c =

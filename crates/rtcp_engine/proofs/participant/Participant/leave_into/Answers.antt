@@ -1,0 +1,17 @@
+use Rattle.std.proofs.Common.{◌∙◌, refl, sym, subst}
+use Rattle.rtcp_engine.specs.Acts.{left}
+use Rattle.rtcp_engine.specs.States.{Acts, ParticipantValue}
+use Rattle.rtcp_engine.specs.Views.{out_with}
+use Rattle.rtcp_engine.proofs.Acting.{call_refused_by, plain_call, refuses, takes}
+use Rattle.rtcp_engine.proofs.participant.Participant.leave_into.Goals as goal
+
+pub returns-in-Some-clause-takes : goal.returns-in-Some-clause-takes
+returns-in-Some-clause-takes g c =
+    let act = left c.args.now c.args.w in
+    refuses c.args.self.now act c.in-Some.refusal (call_refused_by c.args.self.now act c.in-Some.refusal (sym c.refusal.ensures.exact ∙ c.in-Some.is)) c.ranges.w.fits
+
+pub returns-clause-takes : goal.returns-clause-takes
+returns-clause-takes g c =
+    let act = left c.args.now c.args.w in
+    takes _ (plain_call c.args.self.now act (sym c.refusal.ensures.exact ∙ c.in_default.is) (λ session. refl) (λ session. refl))
+    (subst (λ (p : ParticipantValue). Acts p c.take_leave-out.new.self act (out_with c.take_leave-out.new.octets.items c.take_leave-out.result)) c.take_call.ensures.new c.take_leave-out.ensures.new) (c.told.ensures.exact c.take_leave-out.new.octets.items) c.ranges.w.fits

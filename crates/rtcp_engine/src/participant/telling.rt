@@ -1,0 +1,151 @@
+//! The calls of a participant whose compound goes into the caller's room: it is written there once, and nothing of its
+//! size is handed on. `octets` changes only where the reply says what was written: a refusal leaves it as it was, and
+//! so does a call without a compound.
+
+ghost use Rattle.std.specs.Prelude.{◌≡◌, ℕ, List, None, Result, IfOk, IsTrue, OnErr, is_some};
+ghost use Rattle.rtcp_wire.specs.declared.fault.WireFault.{WireFault as Fault};
+ghost use Rattle.rtcp_wire.specs.declared.rtp.fault.RtpFault.{RtpFault as HeadFault};
+ghost use Rattle.rtcp_wire.specs.Values.{RtcpPacket};
+ghost use Rattle.rtcp_wire.specs.RtpHeads.{RtpValue};
+ghost use Rattle.rtcp_engine.specs.Acts.{rtcp_came, rtp_came, rtp_sent, ticked, left, IsReading, IsRtpReading};
+ghost use Rattle.rtcp_engine.specs.Histories.{History};
+ghost use Rattle.rtcp_engine.specs.InTime.{IsOverdue};
+ghost use Rattle.rtcp_engine.specs.Promises.{Takes};
+ghost use Rattle.rtcp_engine.specs.States.{KeepsCapacity, StandsAt};
+ghost use Rattle.rtcp_engine.specs.Views.{kind_told, reply_value};
+
+use super::Participant;
+use crate::arrival::Arrival;
+use crate::refusal::Refusal;
+use crate::step::Reply;
+use arrayvec::ArrayVec;
+use rtcp_members::MemberTable;
+use rtcp_wire::{Compound, MAX_COMPOUND, RtpHead};
+
+impl<T: MemberTable> Participant<T> {
+    /// [`arrive_rtcp`](Participant::arrive_rtcp), where the BYE of an SSRC that is given up replaces what stood in
+    /// `octets`.
+    ///
+    /// # Errors
+    ///
+    /// The first of E1 to E5 and E7 that applies. Then the participant and `octets` are unchanged.
+    pub fn arrive_rtcp_into(
+        &mut self,
+        now: u64,
+        peer: u64,
+        w: u32,
+        bytes: &[u8],
+        octets: &mut ArrayVec<u8, MAX_COMPOUND>,
+    ) -> Reply
+        ensures takes { (reading : Result (List RtcpPacket) Fault) → IsReading bytes.now reading →
+            Takes self.old (rtcp_came now peer w bytes.now reading) (reply_value octets.new.items result) self.new }
+        ensures within { KeepsCapacity self.new.presence }
+        ensures refused { OnErr result (self.new ≡ self.old) }
+        ensures untouched { kind_told result ≡ None → octets.new ≡ octets.old }
+    {
+        if let Some(refusal) = self.refusal(now) {
+            return Err(refusal);
+        }
+        match Compound::read(bytes) {
+            Ok(compound) => {
+                let arrival = Arrival::Rtcp(compound, bytes.len());
+                self.arrive(now, peer, w, &arrival, octets)
+            }
+            Err(fault) => Err(Refusal::Wire(fault)),
+        }
+    }
+
+    /// [`arrive_rtp`](Participant::arrive_rtp), where the BYE of an SSRC that is given up replaces what stood in
+    /// `octets`.
+    ///
+    /// # Errors
+    ///
+    /// The first of E1 to E4, E6 and E7 that applies. Then the participant and `octets` are unchanged.
+    pub fn arrive_rtp_into(
+        &mut self,
+        now: u64,
+        peer: u64,
+        w: u32,
+        bytes: &[u8],
+        octets: &mut ArrayVec<u8, MAX_COMPOUND>,
+    ) -> Reply
+        ensures takes { (reading : Result RtpValue HeadFault) → IsRtpReading bytes.now reading →
+            Takes self.old (rtp_came now peer w reading) (reply_value octets.new.items result) self.new }
+        ensures within { KeepsCapacity self.new.presence }
+        ensures refused { OnErr result (self.new ≡ self.old) }
+        ensures untouched { kind_told result ≡ None → octets.new ≡ octets.old }
+    {
+        if let Some(refusal) = self.refusal(now) {
+            return Err(refusal);
+        }
+        match RtpHead::read(bytes) {
+            Ok(head) => self.arrive(now, peer, w, &Arrival::Rtp(head), octets),
+            Err(fault) => Err(Refusal::Rtp(fault)),
+        }
+    }
+
+    /// [`sent_rtp`](Participant::sent_rtp), which never has a compound: so it takes no room for one.
+    ///
+    /// # Errors
+    ///
+    /// The first of E1 to E4 that applies. Then the participant is unchanged.
+    pub fn sent_rtp_told(&mut self, now: u64, rtp_ts: u32, octets: u32) -> Reply
+        ensures takes { (room : List ℕ) →
+            Takes self.old (rtp_sent now rtp_ts octets) (reply_value room result) self.new }
+        ensures within { KeepsCapacity self.new.presence }
+        ensures refused { OnErr result (self.new ≡ self.old) }
+    {
+        if let Some(refusal) = self.refusal(now) {
+            return Err(refusal);
+        }
+        self.take_call(now);
+        self.take_sent(now, rtp_ts, octets);
+        Ok(self.told(None))
+    }
+
+    /// [`tick`](Participant::tick), where a report or the BYE replaces what stood in `octets`.
+    ///
+    /// # Errors
+    ///
+    /// The first of E1 to E4 that applies. Then the participant and `octets` are unchanged.
+    pub fn tick_into(
+        &mut self,
+        now: u64,
+        w1: u32,
+        w2: u32,
+        octets: &mut ArrayVec<u8, MAX_COMPOUND>,
+    ) -> Reply
+        ensures takes { Takes self.old (ticked now w1 w2) (reply_value octets.new.items result) self.new }
+        ensures not_too_late { (history : History) → StandsAt self.old history →
+            IsOverdue history (ticked now w1 w2) → IfOk result (λ told. IsTrue (is_some told.out)) }
+        ensures within { KeepsCapacity self.new.presence }
+        ensures refused { OnErr result (self.new ≡ self.old) }
+        ensures untouched { kind_told result ≡ None → octets.new ≡ octets.old }
+    {
+        if let Some(refusal) = self.refusal(now) {
+            return Err(refusal);
+        }
+        self.take_call(now);
+        let out = self.take_tick(now, w1, w2, octets);
+        Ok(self.told(out))
+    }
+
+    /// [`leave`](Participant::leave), where the BYE replaces what stood in `octets`.
+    ///
+    /// # Errors
+    ///
+    /// The first of E1 to E4 that applies. Then the participant and `octets` are unchanged.
+    pub fn leave_into(&mut self, now: u64, w: u32, octets: &mut ArrayVec<u8, MAX_COMPOUND>) -> Reply
+        ensures takes { Takes self.old (left now w) (reply_value octets.new.items result) self.new }
+        ensures within { KeepsCapacity self.new.presence }
+        ensures refused { OnErr result (self.new ≡ self.old) }
+        ensures untouched { kind_told result ≡ None → octets.new ≡ octets.old }
+    {
+        if let Some(refusal) = self.refusal(now) {
+            return Err(refusal);
+        }
+        self.take_call(now);
+        let out = self.take_leave(now, w, octets);
+        Ok(self.told(out))
+    }
+}
