@@ -1,15 +1,11 @@
 -- An IPv4 address and a port, as options of a command line write them.
-use Rattle.std.specs.Prelude.{◌≡◌, ℕ, ◌^◌, ◌<◌, nat_lt, ◌==◌, List, [], ◌∷◌, ◌++◌, length, if◌then◌else◌, Option, Some, None, option_and_then, codes, decimal}
-use Rattle.std.specs.List.{after_first, before_first, position_or_len}
+use Rattle.std.specs.Prelude.{◌≡◌, ℕ, ◌^◌, ◌<◌, nat_lt, ◌==◌, ◌&&◌, Bool, List, [], ◌∷◌, ◌++◌, length, slice_index, if◌then◌else◌, Option, None, option_map, codes, decimal}
+use Rattle.std.specs.List.{after_first}
 use Rattle.std.specs.Net.Addr.{ipv4_octets}
+use Rattle.std.specs.Net.Reader.{read_socket_v4, whole_value}
 use Rattle.std.specs.Net.Socket.{v4_ip, v4_port}
 use Rattle.std.specs.Net.Text.{dotted_text}
 use Rattle.std.specs.declared.net.socket_addr.SocketAddrV4.{SocketAddrV4}
-use Rattle.rtcp_text.specs.Numerals.{plain_decimal_in}
-
-infixl 10 ◌>>=◌
-abbrev pub ◌>>=◌ : {A B : Type 0} → Option A → (A → Option B) → Option B
-found >>= next = option_and_then next found
 
 pub record Endpoint : Type 0 where
   pub octets : List ℕ
@@ -18,27 +14,19 @@ pub record Endpoint : Type 0 where
 abbrev pub endpoint_of : SocketAddrV4 → Endpoint
 endpoint_of address = record { octets = ipv4_octets (v4_ip address); port = v4_port address }
 
--- the text before the first such character and the text after it, where there is one
-abbrev pub split_at : (character : ℕ) → List ℕ → Option (List ℕ × List ℕ)
-split_at character text =
-    if nat_lt (position_or_len (λ c. c == character) text) (length text)
-    then Some (before_first (λ c. c == character) text, after_first (λ c. c == character) text)
-    else None
+-- more than one digit, and the first of them a zero (48)
+abbrev pub leads_with_zero : (digits : List ℕ) → Bool
+leads_with_zero digits = nat_lt 1 (length digits) && slice_index digits 0 == 48
 
--- `a.b.c.d:port`: dots (46) and a colon (58) part five decimals without leading zeros, four below 2 ^ 8 and one
--- below 2 ^ 16.
+-- What follows the first colon (58) is the port.
+abbrev pub has_leading_zero : (text : List ℕ) → Bool
+has_leading_zero text = leads_with_zero (after_first (λ c. c == 58) text)
+
+-- `a.b.c.d:port`, as std's parser reads it. The parser lets a port have leading zeros; here it has none.
 abbrev pub endpoint_in : (text : List ℕ) → Option Endpoint
-endpoint_in text = do
-  first ← split_at 46 text
-  second ← split_at 46 first.1
-  third ← split_at 46 second.1
-  fourth ← split_at 58 third.1
-  a ← plain_decimal_in 8 first.0
-  b ← plain_decimal_in 8 second.0
-  c ← plain_decimal_in 8 third.0
-  d ← plain_decimal_in 8 fourth.0
-  port ← plain_decimal_in 16 fourth.1
-  Some (record { octets = a ∷ b ∷ c ∷ d ∷ []; port = port })
+endpoint_in text =
+    if has_leading_zero text then None
+    else option_map (λ read. record { octets = read.0; port = read.1 }) (whole_value (read_socket_v4 text))
 
 -- ---- What the texts of endpoints are
 
