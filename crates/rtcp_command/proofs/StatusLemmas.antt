@@ -1,38 +1,48 @@
 -- What a status says of the outcome.
-use Rattle.std.proofs.Common.{◌≡◌, ℕ, ◌⊎◌, inl, inr, List, Option, Result, Ok, Err, Some, None, OnOk, refl, ap, subst}
+use Rattle.std.proofs.Common.{◌≡◌, ◌≢◌, ℕ, ◌⊎◌, inl, inr, List, Option, Some, None, refl, subst, ap}
 use Rattle.std.specs.Io.KnownBytes.{Keeps}
-use Rattle.rtcp_text.specs.declared.fault.LineFault.{LineFault}
-use Rattle.rtcp_text.specs.declared.fault.TextFault.{TextFault}
-use Rattle.rtcp_text.specs.declared.fault.TextFault.TheVariants.{Text, Read, Write, Memory}
-use Rattle.rtcp_text.specs.declared.fault.ReplayFault.{ReplayFault}
-use Rattle.rtcp_text.specs.declared.fault.ReplayFault.TheVariants.{Config, Run}
 use Rattle.rtcp_engine.specs.declared.config.ConfigError.{ConfigError}
+use Rattle.rtcp_text.specs.declared.fault.LineFault.{LineFault}
+use Rattle.rtcp_text.specs.declared.fault.ReplayFault.{ReplayFault}
+use Rattle.rtcp_text.specs.declared.fault.ReplayFault.TheVariants.{Config as BadConfig, Run}
+use Rattle.rtcp_text.specs.declared.fault.TextFault.{TextFault}
+use Rattle.rtcp_text.specs.declared.fault.TextFault.TheVariants.{Text as BadText, Read as Unread, Write as Unwritten, Memory as NoMemory}
 use Rattle.rtcp_text.specs.declared.counted.Counted.{Counted}
 use Rattle.rtcp_text.specs.Lines.{Writes, Wrote}
 use Rattle.rtcp_text.specs.Counted.{inner_of}
-use Rattle.rtcp_command.specs.Status.{text_status}
+use Rattle.rtcp_command.specs.declared.fault.RunFault.{RunFault}
+use Rattle.rtcp_command.specs.declared.fault.RunFault.TheVariants.{Config, Text, Link, Read, Write, Memory}
+use Rattle.rtcp_command.specs.Status.{fault_status, replay_fault, text_fault}
 
-pub well_at_zero : {A : Type 0} (P : Type 0) (r : Result A ReplayFault) (status : ℕ) → status ≡ text_status r → status ≡ 0 → OnOk r P → P
-well_at_zero P (Ok x) status is zero holds = holds
-well_at_zero P (Err (Config error)) status is zero holds = absurd (cc (is, zero))
-well_at_zero P (Err (Run (Text line fault))) status is zero holds = absurd (cc (is, zero))
-well_at_zero P (Err (Run Read)) status is zero holds = absurd (cc (is, zero))
-well_at_zero P (Err (Run Write)) status is zero holds = absurd (cc (is, zero))
-well_at_zero P (Err (Run Memory)) status is zero holds = absurd (cc (is, zero))
+pub refuses : (fault : RunFault) → fault_status fault ≡ 2
+    → ((error : ConfigError) × (fault ≡ Config error)) ⊎ ((line : ℕ) × (refused : LineFault) × (fault ≡ Text line refused))
+refuses (Config error) two = inl (error, refl)
+refuses (Text line fault) two = inr (line, fault, refl)
+refuses Link two = absurd (cc two)
+refuses Read two = absurd (cc two)
+refuses Write two = absurd (cc two)
+refuses Memory two = absurd (cc two)
 
-pub refused_at_two : {A : Type 0} (Q : ConfigError → Type 0) (P : ℕ → LineFault → Type 0) (r : Result A ReplayFault) (status : ℕ) → status ≡ text_status r → status ≡ 2
-    → ((error : ConfigError) → r ≡ Err (Config error) → Q error) → ((line : ℕ) (fault : LineFault) → r ≡ Err (Run (Text line fault)) → P line fault)
-    → ((error : ConfigError) × Q error) ⊎ ((line : ℕ) × (fault : LineFault) × P line fault)
-refused_at_two Q P (Ok x) status is two config holds = absurd (cc (is, two))
-refused_at_two Q P (Err (Config error)) status is two config holds = inl (error, config error refl)
-refused_at_two Q P (Err (Run (Text line fault))) status is two config holds = inr (line, fault, holds line fault refl)
-refused_at_two Q P (Err (Run Read)) status is two config holds = absurd (cc (is, two))
-refused_at_two Q P (Err (Run Write)) status is two config holds = absurd (cc (is, two))
-refused_at_two Q P (Err (Run Memory)) status is two config holds = absurd (cc (is, two))
+-- What a fault of a run was.
+pub check_refused : (found : TextFault) (line : ℕ) (fault : LineFault) → text_fault found ≡ Text line fault → found ≡ BadText line fault
+check_refused (BadText line' fault') line fault is = cc is
+check_refused Unread line fault is = absurd (cc is)
+check_refused Unwritten line fault is = absurd (cc is)
+check_refused NoMemory line fault is = absurd (cc is)
 
--- The fault of a run is that of a replay.
-pub run_fault : (A B : Type 0) (found wanted : TextFault) → ◌≡◌ {A = Result A ReplayFault} (Err (Run found)) (Err (Run wanted)) → ◌≡◌ {A = Result B TextFault} (Err found) (Err wanted)
-run_fault A B found wanted is = let same : found ≡ wanted = cc is in ap Err same
+pub replay_refused : (found : ReplayFault) (line : ℕ) (fault : LineFault) → replay_fault found ≡ Text line fault → found ≡ Run (BadText line fault)
+replay_refused (BadConfig error) line fault is = absurd (cc is)
+replay_refused (Run found) line fault is = ap Run (check_refused found line fault is)
+
+no_config : (found : TextFault) (error : ConfigError) → text_fault found ≢ Config error
+no_config (BadText line fault) error is = absurd (cc is)
+no_config Unread error is = absurd (cc is)
+no_config Unwritten error is = absurd (cc is)
+no_config NoMemory error is = absurd (cc is)
+
+pub replay_config : (found : ReplayFault) (error : ConfigError) → replay_fault found ≡ Config error → found ≡ BadConfig error
+replay_config (BadConfig error') error is = cc is
+replay_config (Run found) error is = absurd (no_config found error is)
 
 -- A writer that counts is left with what the writer inside holds.
 pub Writes-inner : {R W : Type 0} (remaining : R → Option (List ℕ)) (contents : W → Option (List ℕ)) (reader : Counted R) (writer writer' : Counted W)

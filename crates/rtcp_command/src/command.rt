@@ -1,17 +1,18 @@
 //! A run over text, from its order to its status.
 
-ghost use Rattle.std.specs.Prelude.{◌≡◌, ◌≢◌, ◌≤◌, ◌⊎◌, ◌↔◌, ℕ, Some, None, OnOk};
+ghost use Rattle.std.specs.Prelude.{◌≡◌, ◌≢◌, ◌≤◌, ◌⊎◌, ◌↔◌, ℕ, Some, None, OnOk, IfErr};
+ghost use Rattle.std.specs.Io.KnownBytes.{Keeps};
 ghost use Rattle.rtcp_engine.specs.declared.config.ConfigError.{ConfigError as Refused};
 ghost use Rattle.rtcp_text.specs.Counted.{failures_of, inner_of};
 ghost use Rattle.rtcp_text.specs.Lines.{Writes, Wrote};
 ghost use Rattle.rtcp_command.specs.Orders.{IsTextOfOrder, RefusesConfig};
 ghost use Rattle.rtcp_text.specs.declared.fault.LineFault.{LineFault as Fault};
-ghost use Rattle.rtcp_command.specs.Status.{text_status};
 
+use crate::fault::{RunFault, fail};
 use crate::orders::TextOrder;
+use rtcp_text::Counted;
 use rtcp_text::check::check;
 use rtcp_text::replay::replay;
-use rtcp_text::{Counted, ReplayFault, TextFault};
 use std::alloc::Global;
 use std::io::{Read, Write};
 
@@ -39,85 +40,59 @@ pub fn command<R: Read + Drop, W: Write + Drop, F: Write>(
 {
     let mut reader = Counted::new(reader);
     let mut writer = Counted::new(writer);
-    let outcome = run(alloc, order, &mut reader, &mut writer);
-    if let Err(fault) = &outcome {
-        let _ = writeln!(faults, "{fault}");
+    match run(alloc, order, &mut reader, &mut writer) {
+        Ok(()) => 0,
+        Err(fault) => fail(fault, faults),
     }
-    status(&outcome)
 }
 
-/// Runs an order over text and flushes what was written.
+/// Runs an order over text, and flushes what was written.
 ///
 /// # Errors
 ///
-/// Those of [`check`] or [`replay`], and [`TextFault::Write`] where the flush fails, whatever failed before.
+/// Those of [`check`] or [`replay`], and [`RunFault::Write`] where the flush fails, whatever failed before.
 fn run<R: Read, W: Write>(
     alloc: Global,
     order: TextOrder,
     reader: &mut Counted<R>,
     writer: &mut Counted<W>,
-) -> Result<(), ReplayFault>
+) -> Result<(), RunFault>
     requires reader_unfailed { failures_of reader.old ≡ 0 }
     requires writer_unfailed { failures_of writer.old ≡ 0 }
 
     ensures whole { OnOk result
         (Wrote R.remaining W.contents reader.old writer.old writer.new (IsTextOfOrder order None)) }
-    ensures refused { (line : ℕ) (fault : Fault) → result ≡ Err (ReplayFault.Run (TextFault.Text line fault))
+    ensures refused { (line : ℕ) (fault : Fault) → result ≡ Err (RunFault.Text line fault)
         → Wrote R.remaining W.contents reader.old writer.old writer.new
         (IsTextOfOrder order (Some (line, fault))) }
-    ensures config { (error : Refused) → result ≡ Err (ReplayFault.Config error) → RefusesConfig order error }
+    ensures config { (error : Refused) → result ≡ Err (RunFault.Config error) → RefusesConfig order error }
 
     // A failed flush comes before what else failed.
-    ensures read_failed { result ≡ Err (ReplayFault.Run TextFault.Read) → failures_of reader.new ≢ 0 }
-    ensures write_failed { (result ≡ Err (ReplayFault.Run TextFault.Write)) ↔ (failures_of writer.new ≢ 0) }
+    ensures read_failed { result ≡ Err RunFault.Read → failures_of reader.new ≢ 0 }
+    ensures write_failed { (result ≡ Err RunFault.Write) ↔ (failures_of writer.new ≢ 0) }
     ensures whole_read { OnOk result (failures_of reader.new ≡ 0) }
 {
-    let outcome = answer(alloc, order, reader, writer);
-    match writer.flush() {
-        Ok(()) => outcome,
-        Err(_) => Err(ReplayFault::Run(TextFault::Write)),
-    }
-}
-
-/// Runs an order over text. What is answered after the last read is left for the caller to flush.
-///
-/// # Errors
-///
-/// Those of [`check`] or [`replay`].
-fn answer<R: Read, W: Write>(
-    alloc: Global,
-    order: TextOrder,
-    reader: &mut Counted<R>,
-    writer: &mut Counted<W>,
-) -> Result<(), ReplayFault>
-    requires reader_unfailed { failures_of reader.old ≡ 0 }
-    requires writer_unfailed { failures_of writer.old ≡ 0 }
-    ensures whole { OnOk result
-        (Wrote R.remaining W.contents reader.old writer.old writer.new (IsTextOfOrder order None)) }
-    ensures refused { (line : ℕ) (fault : Fault) → result ≡ Err (ReplayFault.Run (TextFault.Text line fault))
-        → Wrote R.remaining W.contents reader.old writer.old writer.new
-        (IsTextOfOrder order (Some (line, fault))) }
-    ensures config { (error : Refused) → result ≡ Err (ReplayFault.Config error) → RefusesConfig order error }
-    ensures read_failed { (result ≡ Err (ReplayFault.Run TextFault.Read)) ↔ (failures_of reader.new ≢ 0) }
-    ensures write_failed { (result ≡ Err (ReplayFault.Run TextFault.Write)) ↔ (failures_of writer.new ≢ 0) }
-    ensures write_once { failures_of writer.new ≤ 1 }
-{
     match order {
-        TextOrder::Check => match check(alloc, reader, writer) {
-            Ok(()) => Ok(()),
-            Err(fault) => Err(ReplayFault::Run(fault)),
-        },
-        TextOrder::Replay { config, word } => replay(alloc, reader, writer, config, word),
+        TextOrder::Check => {
+            let outcome = check(alloc, reader, writer);
+            flush(writer)?;
+            outcome?;
+        }
+        TextOrder::Replay { config, word } => {
+            let outcome = replay(alloc, reader, writer, config, word);
+            flush(writer)?;
+            outcome?;
+        }
     }
+    Ok(())
 }
 
-/// The status of an outcome.
-fn status(outcome: &Result<(), ReplayFault>) -> u8
-    ensures { result ≡ text_status outcome.now }
+/// Flushes what was written.
+fn flush<W: Write>(writer: &mut Counted<W>) -> Result<(), RunFault>
+    requires { failures_of writer.old ≤ 1 }
+    ensures kept { Keeps (W.contents (inner_of writer.old)) (W.contents (inner_of writer.new)) }
+    ensures unfailed { OnOk result (failures_of writer.new ≡ failures_of writer.old) }
+    ensures failed { IfErr result (λ fault. (fault ≡ RunFault.Write) × (failures_of writer.new ≢ 0)) }
 {
-    match outcome {
-        Ok(()) => 0,
-        Err(ReplayFault::Config(_) | ReplayFault::Run(TextFault::Text { .. })) => 2,
-        Err(ReplayFault::Run(TextFault::Read | TextFault::Write | TextFault::Memory)) => 1,
-    }
+    writer.flush().map_err(|_| RunFault::Write)
 }

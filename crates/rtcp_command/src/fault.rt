@@ -1,29 +1,80 @@
-//! How a session over UDP ends where it does not end well.
+//! How a run ends, over text or on a link, where it does not end well.
+
+ghost use Rattle.std.specs.Prelude.{◌≡◌};
+ghost use Rattle.rtcp_command.specs.Status.{fault_status, replay_fault, text_fault};
 
 use rtcp_engine::ConfigError;
-use rtcp_text::config_name;
+use rtcp_text::{LineFault, ReplayFault, TextFault, config_name};
 use std::fmt;
+use std::io::Write;
 
-/// Why a session over UDP did not begin, or its end was not written.
+/// Why a check, a replay or a session on a link did not end well.
 #[derive(Clone, Copy, Debug, PartialEq, Eq)]
-pub enum ListenFault {
+pub enum RunFault {
     /// The configuration of the participant was refused.
     Config(ConfigError),
+    /// The text was refused at this line, counted from 1.
+    Text {
+        /// The line's number.
+        line: u64,
+        /// What is wrong with it.
+        fault: LineFault,
+    },
     /// A port could not be bound or waited for, or the clock not be read.
     Link,
+    /// A call of the reader failed.
+    Read,
     /// A call of the writer failed, or took nothing.
     Write,
     /// Memory was asked for and refused.
     Memory,
 }
 
-impl fmt::Display for ListenFault {
+/// Writes the line of a fault to `faults`, and returns the status to end with: 2 where the text or the configuration
+/// is refused, and 1 where something failed. A failed write is ignored.
+pub(crate) fn fail<F: Write>(fault: RunFault, faults: &mut F) -> u8
+    ensures { result ≡ fault_status fault }
+{
+    let _ = writeln!(faults, "{fault}");
+    match fault {
+        RunFault::Config(_) | RunFault::Text { .. } => 2,
+        RunFault::Link | RunFault::Read | RunFault::Write | RunFault::Memory => 1,
+    }
+}
+
+impl fmt::Display for RunFault {
     fn fmt<W: fmt::Write>(&self, f: &mut fmt::Formatter<W>) -> fmt::Result {
         match self {
-            ListenFault::Config(error) => write!(f, "config {}", config_name(*error)),
-            ListenFault::Link => f.write_str("link"),
-            ListenFault::Write => f.write_str("write"),
-            ListenFault::Memory => f.write_str("memory"),
+            RunFault::Config(error) => write!(f, "config {}", config_name(*error)),
+            RunFault::Text { line, fault } => write!(f, "line {line}: {fault}"),
+            RunFault::Link => f.write_str("link"),
+            RunFault::Read => f.write_str("read"),
+            RunFault::Write => f.write_str("write"),
+            RunFault::Memory => f.write_str("memory"),
+        }
+    }
+}
+
+impl From<TextFault> for RunFault {
+    ghost from_gives = { λ fault gives. gives ≡ text_fault fault };
+
+    fn from(fault: TextFault) -> RunFault {
+        match fault {
+            TextFault::Text { line, fault } => RunFault::Text { line, fault },
+            TextFault::Read => RunFault::Read,
+            TextFault::Write => RunFault::Write,
+            TextFault::Memory => RunFault::Memory,
+        }
+    }
+}
+
+impl From<ReplayFault> for RunFault {
+    ghost from_gives = { λ fault gives. gives ≡ replay_fault fault };
+
+    fn from(fault: ReplayFault) -> RunFault {
+        match fault {
+            ReplayFault::Config(error) => RunFault::Config(error),
+            ReplayFault::Run(fault) => RunFault::from(fault),
         }
     }
 }

@@ -28,5 +28,5 @@ mod options;
 pub mod order;
 mod orders;
 
-pub use fault::ListenFault;
+pub use fault::RunFault;
 pub use orders::{Order, OrderFault, TextOrder};

@@ -16,7 +16,7 @@ use rand_core::{Rng, SeedableRng};
 use rand_pcg::Pcg32;
 use rtcp_command::ends::end_line;
 use rtcp_command::order::refuse;
-pub use rtcp_command::{ListenFault, Order, OrderFault, TextOrder, command, laws, listen, order};
+pub use rtcp_command::{Order, OrderFault, RunFault, TextOrder, command, laws, listen, order};
 use rtcp_engine::{Config, Participant};
 use rtcp_members::HeapTable;
 pub use rtcp_serve::{Cause, End, Link, LinkFault, Port, Received, serve, serve_laws};
@@ -91,7 +91,7 @@ fn run_text(rt: &HostRuntime, order: TextOrder) -> u8 {
 ///
 /// # Errors
 ///
-/// Each of [`ListenFault`]. A refused configuration is found before a port is bound.
+/// Each of [`RunFault`]. A refused configuration is found before a port is bound.
 fn run_listen(
     rt: &HostRuntime,
     config: Config,
@@ -100,24 +100,21 @@ fn run_listen(
     peer: SocketAddrV4,
     seed: u64,
     turns: u32,
-) -> Result<End, ListenFault>
+) -> Result<End, RunFault>
     requires { (1 ≤ turns) × (turns ≤ 1000000) }
 {
     let mut rng = Pcg32::seed_from_u64(seed);
     let word = rng.next_u32();
     if let Some(error) = config.error() {
-        return Err(ListenFault::Config(error));
+        return Err(RunFault::Config(error));
     }
-    let table = HeapTable::with_room(rt.alloc(), config.capacity, config.rate).map_err(
-        |_| ListenFault::Memory,
-    )?;
+    let table = HeapTable::with_room(rt.alloc(), config.capacity, config.rate)
+        .map_err(|_| RunFault::Memory)?;
     let mut participant = Participant::with_table(config, table, word);
     let mut link = UdpLink::bind(rt, rt.alloc(), rtp, rtcp, peer)?;
     let mut buf = [0; 65_535];
     let end = serve(&mut link, &mut participant, &mut rng, turns, &mut buf);
-    let line = end_line(rt.alloc(), &end).map_err(|_| ListenFault::Memory)?;
-    rt.stdout()
-        .write_all(&line)
-        .map_err(|_| ListenFault::Write)?;
+    let line = end_line(rt.alloc(), &end).map_err(|_| RunFault::Memory)?;
+    rt.stdout().write_all(&line).map_err(|_| RunFault::Write)?;
     Ok(end)
 }

@@ -9,7 +9,7 @@ mod tests;
 
 use mio::net::UdpSocket;
 use mio::{Events, Interest, Poll, Token};
-use rtcp_command::ListenFault;
+use rtcp_command::RunFault;
 use rtcp_serve::{Link, LinkFault, Port, Received};
 use std::alloc::Global;
 use std::io::{self, ErrorKind};
@@ -48,29 +48,29 @@ impl<'r, R: Net + Clock> UdpLink<'r, R> {
     ///
     /// # Errors
     ///
-    /// - [`ListenFault::Link`] where a port cannot be bound or waited for, or the clock cannot be read.
-    /// - [`ListenFault::Memory`] where memory is refused.
+    /// - [`RunFault::Link`] where a port cannot be bound or waited for, or the clock cannot be read.
+    /// - [`RunFault::Memory`] where memory is refused.
     pub fn bind(
         runtime: &'r R,
         alloc: Global,
         rtp: SocketAddrV4,
         rtcp: SocketAddrV4,
         peer: SocketAddrV4,
-    ) -> Result<UdpLink<'r, R>, ListenFault>
+    ) -> Result<UdpLink<'r, R>, RunFault>
         ensures receives { IfOk result (λ link. link.failed_receives ≡ 0) }
         ensures sends { IfOk result (λ link. link.failed_sends ≡ 0) }
     {
         let Ok(events) = Events::with_capacity(alloc, 2) else {
-            return Err(ListenFault::Memory);
+            return Err(RunFault::Memory);
         };
         let Ok(poll) = Poll::new(runtime) else {
-            return Err(ListenFault::Link);
+            return Err(RunFault::Link);
         };
         let (Ok(rtp), Ok(rtcp)) = (open(runtime, &poll, rtp), open(runtime, &poll, rtcp)) else {
-            return Err(ListenFault::Link);
+            return Err(RunFault::Link);
         };
         let Ok(began) = Instant::now(runtime) else {
-            return Err(ListenFault::Link);
+            return Err(RunFault::Link);
         };
         Ok(UdpLink {
             runtime,

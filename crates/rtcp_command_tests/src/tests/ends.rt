@@ -1,7 +1,7 @@
 //! Statuses, fault lines and the line of the end.
 
 use super::same;
-use rtcp_command::ListenFault;
+use rtcp_command::RunFault;
 use rtcp_command::ends::end_line;
 use rtcp_command::listen::conclude;
 use rtcp_engine::ConfigError;
@@ -53,14 +53,10 @@ fn statuses(rt: HostRuntime) {
         assert!(rt; faults.is_empty());
     }
     let rows = [
-        (
-            ListenFault::Config(ConfigError::Cname),
-            2,
-            "config C1 Cname\n",
-        ),
-        (ListenFault::Link, 1, "link\n"),
-        (ListenFault::Write, 1, "write\n"),
-        (ListenFault::Memory, 1, "memory\n"),
+        (RunFault::Config(ConfigError::Cname), 2, "config C1 Cname\n"),
+        (RunFault::Link, 1, "link\n"),
+        (RunFault::Write, 1, "write\n"),
+        (RunFault::Memory, 1, "memory\n"),
     ];
     for (fault, want, line) in rows {
         let mut faults = Vec::new(rt.alloc());
