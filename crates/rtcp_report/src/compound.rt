@@ -100,7 +100,8 @@ pub fn write_report<T: MemberTable>(
     let description = Description::new(sender.cname, extra);
     let items = description.items();
     let most = most_blocks(sender, items, limit);
-    let blocks = gather(table, t, cursor, most);
+    let mut blocks = ArrayVec::new();
+    gather(table, t, cursor, most, &mut blocks);
     write(sender, items, blocks.as_slice(), octets);
 }
 

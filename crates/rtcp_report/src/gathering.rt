@@ -12,25 +12,26 @@ use rtcp_wire::Block;
 /// The most blocks of a compound: 61 of them have 1,464 octets, and what stands around them has at least 28.
 pub(crate) const MOST_BLOCKS: usize = 60;
 
-/// The blocks of the first `most` pending sources after the cursor, or of all of them, at the moment `t`. The
-/// cursor goes to the last one.
+/// Puts the blocks of the first `most` pending sources after the cursor, or of all of them, at the moment `t`, in
+/// place of what stood in `blocks`. The cursor goes to the last one.
 pub(crate) fn gather<T: MemberTable>(
     table: &mut T,
     t: u64,
     cursor: &mut Option<u32>,
     most: usize,
-) -> ArrayVec<Block, MOST_BLOCKS>
+    blocks: &mut ArrayVec<Block, MOST_BLOCKS>,
+)
     requires { most ≤ 60 }
-    ensures blocks { map block_value result.items
+    ensures blocks { map block_value blocks.new.items
         ≡ blocks_of t (take most (pending cursor.old (T.content table.old))) }
-    ensures count { length result.items ≡ length (take most (pending cursor.old (T.content table.old))) }
-    ensures writable { All IsWritableBlock (map block_value result.items) }
+    ensures count { length blocks.new.items ≡ length (take most (pending cursor.old (T.content table.old))) }
+    ensures writable { All IsWritableBlock (map block_value blocks.new.items) }
     ensures content { T.content table.new
         ≡ after_blocks (take most (pending cursor.old (T.content table.old))) (T.content table.old) }
     ensures cursor { cursor.new
         ≡ last_reported cursor.old (take most (pending cursor.old (T.content table.old))) }
 {
-    let mut blocks = ArrayVec::new();
+    blocks.clear();
     'sources: for _ in 0..most {
         let Some(ssrc) = table.next_with_news(*cursor) else {
             break;
@@ -38,5 +39,4 @@ pub(crate) fn gather<T: MemberTable>(
         blocks.push(table.block_of(ssrc, t));
         *cursor = Some(ssrc);
     }
-    blocks
 }

@@ -17,13 +17,13 @@ returns g c =
     let items = map item_ref_of c.items-items.result.now in
     let same = ap (reporter_with c.args.sender.now) (c.items-items.ensures ∙ c.new-description.ensures) in
     let is = whole_report c.args.limit c.most_blocks-most.result c.args.t c.args.cursor.now start (reporter_with c.args.sender.now items) (reporter_of c.args.sender.now c.args.extra) same c.most_blocks-most.ensures.fits c.most_blocks-most.ensures.greatest
-    (map block_value c.as_slice.result.now) c.write.new.octets.items (g.T.MemberTable.content c.gather-blocks.new.table) c.gather-blocks.new.cursor
+    (map block_value c.as_slice.result.now) c.write.new.octets.items (g.T.MemberTable.content c.gather.new.table) c.gather.new.cursor
     (record {
-      blocks_are = ap (λ b. map block_value b) c.as_slice.ensures.value ∙ c.gather-blocks.ensures.blocks;
-      count = length-map c.as_slice.result.now block_value ∙ ap (λ b. length b) c.as_slice.ensures.value ∙ c.gather-blocks.ensures.count;
+      blocks_are = ap (λ b. map block_value b) c.as_slice.ensures.value ∙ c.gather.ensures.blocks;
+      count = length-map c.as_slice.result.now block_value ∙ ap (λ b. length b) c.as_slice.ensures.value ∙ c.gather.ensures.count;
       octets_are = c.write.ensures.octets;
       reads_back = c.write.ensures.reads_back;
-      content = c.gather-blocks.ensures.content;
-      cursor_is = c.gather-blocks.ensures.cursor;
+      content = c.gather.ensures.content;
+      cursor_is = c.gather.ensures.cursor;
     }) in
     record { octets = is.octets_are; within = is.within; size = is.size; reads_back = is.reads_back; content = is.content; cursor = is.cursor_is }
