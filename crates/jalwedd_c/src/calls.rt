@@ -16,6 +16,7 @@ ghost use Rattle.jalwedd_c.specs.Handles.{KeepsWithin, LeadsTo};
 use crate::handle::Handle;
 use crate::status::EMPTY;
 use crate::step::Step;
+use arrayvec::ArrayVec;
 use std::alloc::Global;
 
 /// An RTCP datagram came at the moment `now`, in microseconds since the session began, with the octets that UDP
@@ -56,8 +57,11 @@ pub extern "C" fn jalwedd_arrive_rtcp(
     let Some(mut session) = handle.take(alloc) else {
         return empty(step);
     };
-    let answer = session.participant.arrive_rtcp(now, peer, word, datagram);
-    handle.put_back(session, &answer, step, octets)
+    let mut room = ArrayVec::new();
+    let reply = session
+        .participant
+        .arrive_rtcp_into(now, peer, word, datagram, &mut room);
+    handle.put_back(session, &reply, &room, step, octets)
 }
 
 /// An RTP datagram came, with the octets that UDP carried: as `jalwedd_arrive_rtcp`.
@@ -96,8 +100,11 @@ pub extern "C" fn jalwedd_arrive_rtp(
     let Some(mut session) = handle.take(alloc) else {
         return empty(step);
     };
-    let answer = session.participant.arrive_rtp(now, peer, word, datagram);
-    handle.put_back(session, &answer, step, octets)
+    let mut room = ArrayVec::new();
+    let reply = session
+        .participant
+        .arrive_rtp_into(now, peer, word, datagram, &mut room);
+    handle.put_back(session, &reply, &room, step, octets)
 }
 
 /// The host sent an RTP packet at the moment `now`, with this RTP timestamp and so many octets of payload, without
@@ -131,8 +138,8 @@ pub extern "C" fn jalwedd_sent_rtp(
     let Some(mut session) = handle.take(alloc) else {
         return empty(step);
     };
-    let answer = session.participant.sent_rtp(now, timestamp, size);
-    handle.put_back(session, &answer, step, octets)
+    let reply = session.participant.sent_rtp_told(now, timestamp, size);
+    handle.put_back(session, &reply, &ArrayVec::new(), step, octets)
 }
 
 /// Asks at the moment `now` whether a report is due, or the BYE of a participant that backs off, with two random words:
@@ -168,8 +175,11 @@ pub extern "C" fn jalwedd_tick(
     let Some(mut session) = handle.take(alloc) else {
         return empty(step);
     };
-    let answer = session.participant.tick(now, first_word, second_word);
-    handle.put_back(session, &answer, step, octets)
+    let mut room = ArrayVec::new();
+    let reply = session
+        .participant
+        .tick_into(now, first_word, second_word, &mut room);
+    handle.put_back(session, &reply, &room, step, octets)
 }
 
 /// Leaves the session at the moment `now`, with a random word for the draw of a backoff (RFC 3550, 6.3.7). The BYE goes
@@ -202,8 +212,9 @@ pub extern "C" fn jalwedd_leave(
     let Some(mut session) = handle.take(alloc) else {
         return empty(step);
     };
-    let answer = session.participant.leave(now, word);
-    handle.put_back(session, &answer, step, octets)
+    let mut room = ArrayVec::new();
+    let reply = session.participant.leave_into(now, word, &mut room);
+    handle.put_back(session, &reply, &room, step, octets)
 }
 
 /// Tells that a handle holds no participant.

@@ -2,7 +2,7 @@
 
 ghost use Rattle.std.specs.Prelude.{◌≡◌, MatchOption, Some, None};
 ghost use Rattle.rtcp_engine.specs.Histories.{History};
-ghost use Rattle.rtcp_engine.specs.Views.{answer_value};
+ghost use Rattle.rtcp_engine.specs.Views.{reply_value};
 ghost use Rattle.jalwedd_c.specs.Answers.{HandsOut, IsBlank, Shows, status_of};
 ghost use Rattle.jalwedd_c.specs.Handles.{LeadsTo};
 
@@ -12,7 +12,9 @@ use crate::session::Session;
 use crate::showing::{Handed, hand_out};
 use crate::status::TAKEN;
 use crate::step::Step;
-use rtcp_engine::Answer;
+use arrayvec::ArrayVec;
+use rtcp_engine::Reply;
+use rtcp_wire::MAX_COMPOUND;
 use std::alloc::Global;
 use std::mem;
 
@@ -52,21 +54,23 @@ impl Handle {
         self.owned = Owned::of_loose(Loose::of(session));
     }
 
-    /// Puts back a session, tells what its participant answered, as which it stands now, and returns the status.
+    /// Puts back a session, tells what its participant answered and how it stands now, and returns the status. The
+    /// compound that the reply tells of, if it tells of one, stands in `room`.
     pub(crate) fn put_back(
         &mut self,
         session: Box<Session>,
-        answer: &Answer,
+        reply: &Reply,
+        room: &ArrayVec<u8, MAX_COMPOUND>,
         step: &mut Step,
         octets: &mut [u8; 1472],
     ) -> u32
         requires { self.old.owned.held ≡ None }
         ensures held { self.new.owned.held ≡ Some session.value }
-        ensures status { result ≡ status_of (answer_value answer.now) }
-        ensures handed { HandsOut step.new octets.old octets.new (answer_value answer.now) }
+        ensures status { result ≡ status_of (reply_value room.now.items reply.now) }
+        ensures handed { HandsOut step.new octets.old octets.new (reply_value room.now.items reply.now) }
         ensures shown { (history : History) → LeadsTo self.new.owned.held history → Shows step.new history }
     {
-        let handed = hand_out(answer, octets);
+        let handed = hand_out(reply, room, octets);
         *step = session.step(handed);
         self.put(session);
         handed.status

@@ -1,11 +1,13 @@
 //! What an answer hands out.
 
 ghost use Rattle.std.specs.Prelude.{◌≡◌, ◌≤◌, ◌++◌, length, drop};
-ghost use Rattle.rtcp_engine.specs.Views.{answer_value};
+ghost use Rattle.rtcp_engine.specs.Views.{reply_value};
 ghost use Rattle.jalwedd_c.specs.Answers.{IsHanded, kind_of, status_of};
 
 use crate::status::{TAKEN, of_refusal};
-use rtcp_engine::{Answer, Out, OutKind};
+use arrayvec::ArrayVec;
+use rtcp_engine::{OutKind, Reply};
+use rtcp_wire::MAX_COMPOUND;
 
 /// What a call handed out, and its status.
 #[derive(Clone, Copy)]
@@ -30,19 +32,23 @@ impl Handed {
     }
 }
 
-/// Writes the compound of an answer, if it has one, to the start of the host's octets.
-pub(crate) fn hand_out(answer: &Answer, octets: &mut [u8; 1472]) -> Handed
-    ensures status { result.status ≡ status_of (answer_value answer.now) }
-    ensures handed { IsHanded result octets.old octets.new (answer_value answer.now) }
+/// Copies the compound that a reply tells of, if it tells of one, to the start of the host's octets.
+pub(crate) fn hand_out(
+    reply: &Reply,
+    room: &ArrayVec<u8, MAX_COMPOUND>,
+    octets: &mut [u8; 1472],
+) -> Handed
+    ensures status { result.status ≡ status_of (reply_value room.now.items reply.now) }
+    ensures handed { IsHanded result octets.old octets.new (reply_value room.now.items reply.now) }
 {
-    match answer {
-        Ok(step) => {
-            let changed = if step.changed.is_some() { 1 } else { 0 };
-            match &step.out {
-                Some(out) => Handed {
+    match reply {
+        Ok(told) => {
+            let changed = if told.changed.is_some() { 1 } else { 0 };
+            match told.out {
+                Some(kind) => Handed {
                     status: TAKEN,
-                    kind: number_of(out.kind),
-                    size: copy_out(out, octets),
+                    kind: number_of(kind),
+                    size: copy_out(room, octets),
                     changed,
                 },
                 None => Handed {
@@ -67,11 +73,11 @@ fn number_of(kind: OutKind) -> u32
 }
 
 /// Copies a compound to the start of the host's octets, and returns its size.
-fn copy_out(out: &Out, octets: &mut [u8; 1472]) -> u32
-    ensures size { result ≡ length out.now.bytes.items }
-    ensures octets { octets.new ≡ out.now.bytes.items ++ drop (length out.now.bytes.items) octets.old }
+fn copy_out(room: &ArrayVec<u8, MAX_COMPOUND>, octets: &mut [u8; 1472]) -> u32
+    ensures size { result ≡ length room.now.items }
+    ensures octets { octets.new ≡ room.now.items ++ drop (length room.now.items) octets.old }
 {
-    let bytes = out.bytes.as_slice();
+    let bytes = room.as_slice();
     octets[..bytes.len()].copy_from_slice(bytes);
     bytes.len() as u32
 }
