@@ -104,7 +104,7 @@ int main(void)
     for (size_t at = 0; at < sizeof calls / sizeof *calls; at++) {
         const size_t octets_taken = taken(calls[at].call) - none;
         printf("stack of %s: %zu octets\n", calls[at].name, octets_taken);
-        is_more |= octets_taken > (calls[at].call == begin ? 500000 : 32768);
+        is_more |= octets_taken > 8192;
     }
     return is_more || jalwedd_free(&session) != JALWEDD_TAKEN;
 }

@@ -23,7 +23,7 @@
  * each call returns, with a status. A call whose status is not JALWEDD_TAKEN changes nothing of the participant, and
  * hands out nothing. The step is written whatever the status is, so its next can always be waited for.
  *
- * No call takes more than 16,384 octets of stack (as measured, at 1,000 members).
+ * No call takes more than 8,192 octets of stack (as measured, at 1,000 members).
  *
  * Moments are microseconds since the session began, from 0 to 2^50, and never go back. Words are random, from 0 to
  * 2^32 - 1, each used once.
