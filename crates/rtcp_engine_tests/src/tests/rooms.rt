@@ -12,7 +12,7 @@ fn room() -> ArrayVec<u8, 1_472> {
     room
 }
 
-/// What is told where the identifier stays, and the participant is alone.
+/// What is told where the identifier stays, and nobody sends.
 fn told(out: Option<OutKind>, members: u32, next: Option<u64>) -> Reply {
     Ok(Told {
         out,
