@@ -1,5 +1,5 @@
 -- How far the reader of an RTP packet has come, and what it returns from there.
-use Rattle.std.proofs.Common.{◌≡◌, ℕ, ◌*◌, ◌<◌, ◌≤◌, ◌⊎◌, Bool, true, List, length, take, drop, sym, ap, subst, ◌∙◌, arith, inl, inr}
+use Rattle.std.proofs.Common.{◌≡◌, ◌↔◌, ℕ, ◌*◌, ◌<◌, ◌≤◌, Bool, true, false, List, length, take, drop, sym, ap, subst, ◌∙◌, arith}
 use Rattle.std.proofs.lemmas.List.{drop-drop, length-drop, length-take-le}
 use Rattle.byteorder.specs.Endian.{big_number}
 use Rattle.rtcp_wire.specs.declared.rtp.fault.RtpFault.TheVariants.{Extension, Padding}
@@ -34,10 +34,9 @@ few_csrcs octets reader csrcs_size h =
     let size : length words ≡ 4 * count = length-take-le (4 * count) (drop 12 octets) (omega (arith, h.room, length-drop 12 octets)) in
     omega (arith, ap (λ (t : List ℕ). length (csrcs_in t)) (list_taken octets reader csrcs_size h), (words_joined count words size).1)
 
--- A type beside the reserved ones is free.
-pub free_type : (octets : List ℕ) (kind : ℕ) → kind ≡ payload_type_of octets → ((72 ≤ kind) × (76 < kind)) ⊎ (kind < 72) → IsReserved (payload_type_of octets) → ⊥
-free_type octets kind is (inl high) reserved = omega (arith, is, high.1, reserved.1)
-free_type octets kind is (inr low) reserved = omega (arith, is, low, reserved.0)
+-- A type that was not found reserved is free.
+pub free_type : (octets : List ℕ) (kind : ℕ) (reserved : Bool) → kind ≡ payload_type_of octets → (reserved ≡ true) ↔ IsReserved kind → reserved ≡ false → IsReserved (payload_type_of octets) → ⊥
+free_type octets kind reserved is tested free h = (let found : reserved ≡ true = tested.1 (subst IsReserved (sym is) h) in cc)
 
 -- The tests before the extension's were passed, and this is left, and may begin with one.
 pub record IsBeforeExtension (octets rest : List ℕ) (extended : Bool) : Type 0 where

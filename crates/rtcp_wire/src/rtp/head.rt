@@ -1,7 +1,7 @@
 //! RTP packets, from their octets.
 
-ghost use Rattle.std.specs.Prelude.{◌≡◌, ◌<◌, ◌≤◌, length, IfOk, IsOkAnd, Err, MatchResult, true};
-ghost use Rattle.rtcp_wire.specs.RtpHeads.{RtpValue, IsRtpHead, IsRtpFault, extension_size, without_extension, IsPadded, without_padding};
+ghost use Rattle.std.specs.Prelude.{◌≡◌, ◌↔◌, ◌<◌, ◌≤◌, length, IfOk, IsOkAnd, Err, MatchResult, true};
+ghost use Rattle.rtcp_wire.specs.RtpHeads.{RtpValue, IsReserved, IsRtpHead, IsRtpFault, extension_size, without_extension, IsPadded, without_padding};
 ghost use Rattle.rtcp_wire.specs.declared.rtp.fault.RtpFault.{RtpFault as Fault};
 
 use crate::ids::Ids;
@@ -89,7 +89,7 @@ impl<'a> RtpHead<'a> {
         if fixed.version != VERSION {
             return Err(RtpFault::Version);
         }
-        if fixed.payload_type >= FIRST_RESERVED && fixed.payload_type <= LAST_RESERVED {
+        if is_reserved(fixed.payload_type) {
             return Err(RtpFault::PayloadType);
         }
         let csrcs = reader.take(csrcs_size);
@@ -156,6 +156,13 @@ impl<'a> RtpHead<'a> {
     {
         self.payload
     }
+}
+
+/// Whether this payload type is one of those that are reserved (RFC 3551, 6).
+fn is_reserved(payload_type: u8) -> bool
+    ensures { (result ≡ true) ↔ IsReserved payload_type }
+{
+    payload_type >= FIRST_RESERVED && payload_type <= LAST_RESERVED
 }
 
 /// What follows the header extension (RFC 3550, 5.3.1), where there is one.

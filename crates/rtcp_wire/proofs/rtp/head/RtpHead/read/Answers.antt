@@ -29,7 +29,7 @@ before_extension c room =
     record {
       room = room.room;
       version = sym (fixed.version ∙ ap rtp_version_of made) ∙ c.if-fixed-ne-VERSION.false;
-      not_reserved = free_type octets c.take_fixed-fixed.result.payload_type (fixed.payload_type ∙ ap payload_type_of made) c.else-fixed-ge-FIRST_RESERVED.either;
+      not_reserved = free_type octets c.take_fixed-fixed.result.payload_type c.is_reserved.result (fixed.payload_type ∙ ap payload_type_of made) c.is_reserved.ensures c.if-is_reserved.false;
       bit = fixed.has_extension ∙ ap has_extension made;
       following = c.rest.ensures ∙ c.take-csrcs.ensures.rest ∙ after_list octets c.take_fixed-fixed.new.reader (4 * c.from-csrcs_size.result) room;
     }
@@ -64,14 +64,14 @@ returns-then-fixed-ne-VERSION-clause-finds c =
 
 -- ---- A payload type that is reserved
 
-pub returns-then-fixed-le-LAST_RESERVED-clause-finds : goal.returns-then-fixed-le-LAST_RESERVED-clause-finds
-returns-then-fixed-le-LAST_RESERVED-clause-finds c =
+pub returns-then-is_reserved-clause-finds : goal.returns-then-is_reserved-clause-finds
+returns-then-is_reserved-clause-finds c =
     let octets = c.args.octets.now in
     let fixed = c.take_fixed-fixed.ensures in
     let made = c.new-reader.ensures in
-    let room = begun (goal.at.returns-then-fixed-le-LAST_RESERVED-clause-finds c).After-left c.if-left-csrcs_size.false in
+    let room = begun (goal.at.returns-then-is_reserved-clause-finds c).After-left c.if-left-csrcs_size.false in
     let kind = fixed.payload_type ∙ ap payload_type_of made in
-    let reserved : IsReserved (payload_type_of octets) = subst IsReserved kind (c.if-fixed-ge-FIRST_RESERVED.true, c.if-fixed-le-LAST_RESERVED.true) in
+    let reserved : IsReserved (payload_type_of octets) = subst IsReserved kind (c.is_reserved.ensures.0 c.if-is_reserved.true) in
     let first = is_payload_type octets room.room (sym (fixed.version ∙ ap rtp_version_of made) ∙ c.if-fixed-ne-VERSION.false) reserved in
     λ fault found. ap Err (one_fault octets PayloadType fault first found)
 
