@@ -54,8 +54,8 @@ impl Handle {
         self.owned = Owned::of_loose(Loose::of(session));
     }
 
-    /// Puts back a session, tells what its participant answered and how it stands now, and returns the status. The
-    /// compound that the reply tells of, if it tells of one, stands in `room`.
+    /// Puts back a session, tells what its participant answered and how it stands now, and returns the status.
+    /// The compound that the reply tells of, if it tells of one, stands in `room`.
     pub(crate) fn put_back(
         &mut self,
         session: Box<Session>,

@@ -29,8 +29,9 @@
 //! To leave, a host calls `leave`, sends what that gives, and goes on until `next` is `None`: in a large
 //! session the BYE comes later, from a tick (6.3.7).
 //!
-//! Each answer has its compound with it, 1.5 KB. A host with little stack keeps room for one compound and calls
-//! [`tick_into`](Participant::tick_into) and its like: the compound is written there, and a [`Told`] says what it is.
+//! Each answer has room for a compound, 1.5 KB. A host with little stack keeps that room itself, and calls
+//! [`tick_into`](Participant::tick_into) and its like: a compound is written there, and a [`Told`] says what
+//! it is.
 //!
 //! A call that is refused (`Refusal`) changes nothing. What each call answers is defined over all that the
 //! participant was told, in `specs/` (`Histories`, `Ticks`, `Lives`, `Answers`); `laws` has what holds of these

@@ -48,8 +48,8 @@ pub struct Step {
 /// A step, or why the call was refused.
 pub type Answer = Result<Step, Refusal>;
 
-/// What a call that was taken answers, where its compound stands in the caller's room: a [`Step`] that has the
-/// compound's kind in place of the compound.
+/// What a call that was taken answers, where its compound stands in the caller's room: a [`Step`] that has
+/// the compound's kind in place of the compound.
 #[derive(Clone, Copy, Debug, PartialEq, Eq)]
 pub struct Told {
     /// What the compound is that the call wrote into the room, and that is to be sent now, if there is one.

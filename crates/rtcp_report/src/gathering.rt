@@ -12,8 +12,8 @@ use rtcp_wire::Block;
 /// The most blocks of a compound: 61 of them have 1,464 octets, and what stands around them has at least 28.
 pub(crate) const MOST_BLOCKS: usize = 60;
 
-/// Puts the blocks of the first `most` pending sources after the cursor, or of all of them, at the moment `t`, in
-/// place of what stood in `blocks`. The cursor goes to the last one.
+/// Puts the blocks of the first `most` pending sources after the cursor, or of all of them, at the moment
+/// `t`, in place of what stood in `blocks`. The cursor goes to the last one.
 pub(crate) fn gather<T: MemberTable>(
     table: &mut T,
     t: u64,

@@ -32,7 +32,8 @@ pub fn bye(ssrc: u32, cname: &[u8]) -> ArrayVec<u8, MAX_COMPOUND>
     octets
 }
 
-/// Writes the compound of [`bye`] into the caller's room, in place of what stood there: `octets` are cleared first.
+/// Writes the compound of [`bye`] into the caller's room, in place of what stood there: `octets` are cleared
+/// first.
 pub fn write_bye(ssrc: u32, cname: &[u8], octets: &mut ArrayVec<u8, MAX_COMPOUND>)
     requires { length cname.now ≤ 255 }
     ensures octets { octets.new.items ≡ written_all (bye_of ssrc cname.now) }

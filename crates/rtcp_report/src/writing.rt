@@ -16,8 +16,8 @@ use rtcp_wire::{Block, ChunkRef, ItemRef, MAX_COMPOUND, PacketRef, write_compoun
 /// The most blocks of a packet (RFC 3550, 6.4.1).
 pub(crate) const BLOCKS_OF_PACKET: usize = 31;
 
-/// Writes the compound of a report with these blocks and a description of these items, in place of what stood in
-/// `octets`.
+/// Writes the compound of a report with these blocks and a description of these items, in place of what stood
+/// in `octets`.
 pub(crate) fn write(
     sender: &Sender<'_>,
     items: &[ItemRef<'_>],

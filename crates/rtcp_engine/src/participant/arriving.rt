@@ -131,8 +131,8 @@ impl<T: MemberTable> Participant<T> {
         self.presence.ssrc() == ssrc || self.changes.gave_up(ssrc)
     }
 
-    /// Takes another SSRC, as a datagram of this peer names the present one. The BYE of that one is written, to
-    /// be sent, if something was sent under it.
+    /// Takes another SSRC, as a datagram of this peer names the present one. The BYE of that one is written,
+    /// if something was sent under it.
     fn change(
         &mut self,
         peer: u64,

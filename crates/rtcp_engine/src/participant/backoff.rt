@@ -81,7 +81,8 @@ impl<T: MemberTable> Participant<T> {
     /// Leaves: silently, with a BYE at once, or into a backoff.
     fn depart(&mut self, w: u32, octets: &mut ArrayVec<u8, MAX_COMPOUND>) -> Option<OutKind>
         requires phase { self.old.phase ≡ taking_part }
-        ensures new { Acts self.old self.new (left self.old.presence.last w) (out_with octets.new.items result) }
+        ensures new { Acts self.old self.new (left self.old.presence.last w)
+            (out_with octets.new.items result) }
         ensures within { KeepsCapacity self.new.presence }
         ensures untouched { result ≡ None → octets.new ≡ octets.old }
     {
@@ -125,7 +126,8 @@ impl<T: MemberTable> Participant<T> {
         octets: &mut ArrayVec<u8, MAX_COMPOUND>,
     ) -> Option<OutKind>
         requires phase { self.old.phase ≡ leaving members }
-        ensures new { (w2 : ℕ) → Acts self.old self.new (ticked now w1 w2) (out_with octets.new.items result) }
+        ensures new { (w2 : ℕ) →
+            Acts self.old self.new (ticked now w1 w2) (out_with octets.new.items result) }
         ensures within { KeepsCapacity self.new.presence }
         ensures untouched { result ≡ None → octets.new ≡ octets.old }
     {
@@ -138,7 +140,8 @@ impl<T: MemberTable> Participant<T> {
 
     /// Writes the participant's BYE, to be sent.
     fn bye(&self, octets: &mut ArrayVec<u8, MAX_COMPOUND>) -> OutKind
-        ensures { out_with octets.new.items (Some result) ≡ Some (bye_out (bye_octets self.now.presence.setup)) }
+        ensures { out_with octets.new.items (Some result)
+            ≡ Some (bye_out (bye_octets self.now.presence.setup)) }
     {
         self.presence.write_bye(octets);
         OutKind::Bye

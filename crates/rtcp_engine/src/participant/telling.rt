@@ -1,6 +1,6 @@
-//! The calls of a participant whose compound goes into the caller's room: it is written there once, and nothing of its
-//! size is handed on. `octets` changes only where the reply says what was written: a refusal leaves it as it was, and
-//! so does a call without a compound.
+//! The calls of a participant whose compound goes into the caller's room: it is written there once, and nothing
+//! of its size is handed on. `octets` changes only where the reply says what was written: a refusal leaves it as
+//! it was, and so does a call without a compound.
 
 ghost use Rattle.std.specs.Prelude.{◌≡◌, ℕ, List, None, Result, IfOk, IsTrue, OnErr, is_some};
 ghost use Rattle.rtcp_wire.specs.declared.fault.WireFault.{WireFault as Fault};
@@ -23,8 +23,8 @@ use rtcp_members::MemberTable;
 use rtcp_wire::{Compound, MAX_COMPOUND, RtpHead};
 
 impl<T: MemberTable> Participant<T> {
-    /// [`arrive_rtcp`](Participant::arrive_rtcp), where the BYE of an SSRC that is given up replaces what stood in
-    /// `octets`.
+    /// [`arrive_rtcp`](Participant::arrive_rtcp), where the BYE of an SSRC that is given up replaces what stood
+    /// in `octets`.
     ///
     /// # Errors
     ///
@@ -38,7 +38,8 @@ impl<T: MemberTable> Participant<T> {
         octets: &mut ArrayVec<u8, MAX_COMPOUND>,
     ) -> Reply
         ensures takes { (reading : Result (List RtcpPacket) Fault) → IsReading bytes.now reading →
-            Takes self.old (rtcp_came now peer w bytes.now reading) (reply_value octets.new.items result) self.new }
+            Takes self.old (rtcp_came now peer w bytes.now reading) (reply_value octets.new.items result)
+            self.new }
         ensures within { KeepsCapacity self.new.presence }
         ensures refused { OnErr result (self.new ≡ self.old) }
         ensures untouched { kind_told result ≡ None → octets.new ≡ octets.old }
@@ -55,8 +56,8 @@ impl<T: MemberTable> Participant<T> {
         }
     }
 
-    /// [`arrive_rtp`](Participant::arrive_rtp), where the BYE of an SSRC that is given up replaces what stood in
-    /// `octets`.
+    /// [`arrive_rtp`](Participant::arrive_rtp), where the BYE of an SSRC that is given up replaces what stood
+    /// in `octets`.
     ///
     /// # Errors
     ///

@@ -27,8 +27,8 @@ use rtcp_wire::MAX_COMPOUND;
 const GOODBYE_TIME: u64 = 5_000_000;
 
 impl<T: MemberTable> Presence<T> {
-    /// Drops those who are silent for too long, and writes a report if one is due, with two random words: `w1` for
-    /// the draw that decides it, and `w2` for that of the next interval.
+    /// Drops those who are silent for too long, and writes a report if one is due, with two random words: `w1`
+    /// for the draw that decides it, and `w2` for that of the next interval.
     pub(crate) fn tick(
         &mut self,
         now: u64,
@@ -108,8 +108,8 @@ impl<T: MemberTable> Presence<T> {
     ) -> Option<OutKind>
         requires order { self.old.last ≡ now }
         requires reports { self.old.reports < self.old.calls }
-        ensures report { (outcome : Outcome) → Agrees self.old outcome →
-            out_with octets.new.items result ≡ option_map report_out (report_due self.old.setup now w1 outcome) }
+        ensures report { (outcome : Outcome) → Agrees self.old outcome → out_with octets.new.items result
+            ≡ option_map report_out (report_due self.old.setup now w1 outcome) }
         ensures new { Does self.old self.new (λ setup. after_check setup now w1 w2) }
         ensures within { KeepsCapacity self.new }
         ensures untouched { result ≡ None → octets.new ≡ octets.old }
