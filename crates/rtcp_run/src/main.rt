@@ -108,8 +108,9 @@ fn run_listen(
     if let Some(error) = config.error() {
         return Err(RunFault::Config(error));
     }
-    let table = HeapTable::with_room(rt.alloc(), config.capacity, config.rate)
-        .map_err(|_| RunFault::Memory)?;
+    let table = HeapTable::with_room(rt.alloc(), config.capacity, config.rate).map_err(
+        |_| RunFault::Memory,
+    )?;
     let mut participant = Participant::with_table(config, table, word);
     let mut link = UdpLink::bind(rt, rt.alloc(), rtp, rtcp, peer)?;
     let mut buf = [0; 65_535];
