@@ -1,6 +1,6 @@
 //! A line of a session, as `rtcp replay` reads it.
 
-ghost use Rattle.std.specs.Prelude.{◌≡◌, ◌≢◌, ℕ, List, ◌∷◌, [], Ok, Err, IfOk, IfErr, IfSome, IfNone, length};
+ghost use Rattle.std.specs.Prelude.{◌≡◌, ℕ, List, ◌∷◌, [], Ok, Err, IfOk, IfErr, IfSome, IfNone};
 ghost use Rattle.rtcp_engine.specs.Acts.{EventValue};
 ghost use Rattle.rtcp_engine.specs.Views.{event_value};
 ghost use Rattle.rtcp_text.specs.EventLines.{arrival, event_in, fields_left, fields_of, kind_named, leave, moment_in, octets_in, sending, tick};
@@ -46,7 +46,8 @@ pub fn read_event<'a>(line: &[u8], datagram: &'a mut Vec<u8>) -> Result<Event<'a
     ensures event { IfOk result (λ event. event_in line.now ≡ Ok (event_value event)) }
     ensures fault { (fault : Fault) → result ≡ Err (Line fault) → event_in line.now ≡ Err fault }
 {
-    let (name, fields) = split_field(line);
+    let (name, rest) = split_field(line);
+    let fields = Fields { rest };
     match kind_of(name).ok_or(LineFault::Words)? {
         LineKind::Rtcp => {
             let came = read_arrival(fields, datagram)?;
@@ -115,16 +116,24 @@ struct Came<'a> {
 
 /// The datagram that a line says came.
 fn read_arrival<'a>(
-    fields: Option<&[u8]>,
+    mut fields: Fields<'_>,
     datagram: &'a mut Vec<u8>,
 ) -> Result<Came<'a>, EventFault>
     ensures arrival { IfOk result (λ came. (arrived : (moment peer word : ℕ) → List ℕ → EventValue) →
-        arrival arrived (fields_left fields.entry) ≡ Ok (arrived came.now came.peer came.word came.bytes.now)) }
+        arrival arrived (fields_left fields.entry.rest) ≡ Ok (arrived came.now came.peer came.word came.bytes.now)) }
     ensures fault { (fault : Fault) → result ≡ Err (Line fault) →
         (arrived : (moment peer word : ℕ) → List ℕ → EventValue) →
-        arrival arrived (fields_left fields.entry) ≡ Err fault }
+        arrival arrived (fields_left fields.entry.rest) ≡ Err fault }
 {
-    let (moment, peer, word, octets) = four_fields(fields).ok_or(LineFault::Words)?;
+    let (Some(moment), Some(peer), Some(word), Some(octets), None) = (
+        fields.next(),
+        fields.next(),
+        fields.next(),
+        fields.next(),
+        fields.next(),
+    ) else {
+        return Err(EventFault::Line(LineFault::Words));
+    };
     let now = read_moment(moment)?;
     let peer = read_decimal(peer).ok_or(LineFault::Number)?;
     let word = read_word(word).ok_or(LineFault::Hex)?;
@@ -138,11 +147,18 @@ fn read_arrival<'a>(
 }
 
 /// The event of a packet that the host sent.
-fn read_sending(fields: Option<&[u8]>) -> Result<Event<'static>, LineFault>
-    ensures event { IfOk result (λ event. sending (fields_left fields.entry) ≡ Ok (event_value event)) }
-    ensures fault { IfErr result (λ fault. sending (fields_left fields.entry) ≡ Err fault) }
+fn read_sending(mut fields: Fields<'_>) -> Result<Event<'static>, LineFault>
+    ensures event { IfOk result (λ event. sending (fields_left fields.entry.rest) ≡ Ok (event_value event)) }
+    ensures fault { IfErr result (λ fault. sending (fields_left fields.entry.rest) ≡ Err fault) }
 {
-    let (moment, timestamp, octets) = three_fields(fields).ok_or(LineFault::Words)?;
+    let (Some(moment), Some(timestamp), Some(octets), None) = (
+        fields.next(),
+        fields.next(),
+        fields.next(),
+        fields.next(),
+    ) else {
+        return Err(LineFault::Words);
+    };
     Ok(Event::SentRtp {
         now: read_moment(moment)?,
         rtp_ts: read_short_decimal(timestamp).ok_or(LineFault::Number)?,
@@ -151,11 +167,18 @@ fn read_sending(fields: Option<&[u8]>) -> Result<Event<'static>, LineFault>
 }
 
 /// The event of a tick.
-fn read_tick(fields: Option<&[u8]>) -> Result<Event<'static>, LineFault>
-    ensures event { IfOk result (λ event. tick (fields_left fields.entry) ≡ Ok (event_value event)) }
-    ensures fault { IfErr result (λ fault. tick (fields_left fields.entry) ≡ Err fault) }
+fn read_tick(mut fields: Fields<'_>) -> Result<Event<'static>, LineFault>
+    ensures event { IfOk result (λ event. tick (fields_left fields.entry.rest) ≡ Ok (event_value event)) }
+    ensures fault { IfErr result (λ fault. tick (fields_left fields.entry.rest) ≡ Err fault) }
 {
-    let (moment, first, second) = three_fields(fields).ok_or(LineFault::Words)?;
+    let (Some(moment), Some(first), Some(second), None) = (
+        fields.next(),
+        fields.next(),
+        fields.next(),
+        fields.next(),
+    ) else {
+        return Err(LineFault::Words);
+    };
     Ok(Event::Tick {
         now: read_moment(moment)?,
         w1: read_word(first).ok_or(LineFault::Hex)?,
@@ -164,11 +187,13 @@ fn read_tick(fields: Option<&[u8]>) -> Result<Event<'static>, LineFault>
 }
 
 /// The event of a leave.
-fn read_leave(fields: Option<&[u8]>) -> Result<Event<'static>, LineFault>
-    ensures event { IfOk result (λ event. leave (fields_left fields.entry) ≡ Ok (event_value event)) }
-    ensures fault { IfErr result (λ fault. leave (fields_left fields.entry) ≡ Err fault) }
+fn read_leave(mut fields: Fields<'_>) -> Result<Event<'static>, LineFault>
+    ensures event { IfOk result (λ event. leave (fields_left fields.entry.rest) ≡ Ok (event_value event)) }
+    ensures fault { IfErr result (λ fault. leave (fields_left fields.entry.rest) ≡ Err fault) }
 {
-    let (moment, word) = two_fields(fields).ok_or(LineFault::Words)?;
+    let (Some(moment), Some(word), None) = (fields.next(), fields.next(), fields.next()) else {
+        return Err(LineFault::Words);
+    };
     Ok(Event::Leave {
         now: read_moment(moment)?,
         w: read_word(word).ok_or(LineFault::Hex)?,
@@ -197,38 +222,22 @@ fn read_octets<'a>(field: &[u8], datagram: &'a mut Vec<u8>) -> Result<&'a [u8], 
     }
 }
 
-/// The four fields after a first one, if there are just four.
-fn four_fields(rest: Option<&[u8]>) -> Option<(&[u8], &[u8], &[u8], &[u8])>
-    ensures some { IfSome result (λ fields.
-        fields_left rest.entry ≡ fields.0.now ∷ fields.1.now ∷ fields.2.now ∷ fields.3.now ∷ []) }
-    ensures none { IfNone result (length (fields_left rest.entry) ≢ 4) }
-{
-    let (first, rest) = split_field(rest?);
-    let (second, third, fourth) = three_fields(rest)?;
-    Some((first, second, third, fourth))
+/// The fields that are left of a line.
+#[derive(Clone, Copy, Debug)]
+struct Fields<'a> {
+    /// What comes after the space of the last field, if it has one.
+    rest: Option<&'a [u8]>,
 }
 
-/// The three fields after a first one, if there are just three.
-fn three_fields(rest: Option<&[u8]>) -> Option<(&[u8], &[u8], &[u8])>
-    ensures some { IfSome result (λ fields.
-        fields_left rest.entry ≡ fields.0.now ∷ fields.1.now ∷ fields.2.now ∷ []) }
-    ensures none { IfNone result (length (fields_left rest.entry) ≢ 3) }
-{
-    let (first, rest) = split_field(rest?);
-    let (second, third) = two_fields(rest)?;
-    Some((first, second, third))
-}
-
-/// The two fields after a first one, if there are just two.
-fn two_fields(rest: Option<&[u8]>) -> Option<(&[u8], &[u8])>
-    ensures some { IfSome result (λ fields. fields_left rest.entry ≡ fields.0.now ∷ fields.1.now ∷ []) }
-    ensures none { IfNone result (length (fields_left rest.entry) ≢ 2) }
-{
-    let (first, rest) = split_field(rest?);
-    let (second, rest) = split_field(rest?);
-    match rest {
-        Some(_) => None,
-        None => Some((first, second)),
+impl<'a> Fields<'a> {
+    /// The next field, if there is one.
+    fn next(&mut self) -> Option<&'a [u8]>
+        ensures some { IfSome result (λ field. fields_left self.old.rest ≡ field.now ∷ fields_left self.new.rest) }
+        ensures none { IfNone result (fields_left self.old.rest ≡ []) }
+    {
+        let (field, rest) = split_field(self.rest?);
+        self.rest = rest;
+        Some(field)
     }
 }
 
