@@ -1,5 +1,5 @@
 -- Numbers and octets as fields of a line and options of a command line write them.
-use Rattle.std.specs.Prelude.{ℕ, ◌^◌, ◌==◌, ◌&&◌, Bool, nat_le, nat_lt, List, [], length, slice_index, if◌then◌else◌, Option, Some, None, option_map, codes}
+use Rattle.std.specs.Prelude.{ℕ, ◌^◌, ◌==◌, ◌&&◌, Bool, nat_le, nat_lt, List, [], length, if◌then◌else◌, Option, Some, None, option_map, codes}
 use Rattle.std.specs.Char.{is_digit}
 use Rattle.std.specs.Int.{Width, byte_len, from_be_bytes}
 use Rattle.std.specs.List.{list_all}
@@ -18,11 +18,6 @@ is_decimal text =
 abbrev pub decimal_in : (bits : ℕ) → List ℕ → Option ℕ
 decimal_in bits text =
     if is_decimal text && nat_lt (digits_value 10 text) (2 ^ bits) then Some (digits_value 10 text) else None
-
--- The number of a decimal without leading zeros, where it is below 2 ^ bits.
-abbrev pub plain_decimal_in : (bits : ℕ) → List ℕ → Option ℕ
-plain_decimal_in bits text =
-    if nat_lt 1 (length text) && slice_index text 0 == 48 then None else decimal_in bits text
 
 -- ---- Hex of either case
 

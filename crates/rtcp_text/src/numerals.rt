@@ -4,7 +4,7 @@ ghost use Rattle.std.specs.Prelude.{◌≡◌};
 ghost use Rattle.std.specs.Char.{is_digit};
 ghost use Rattle.std.specs.Int.{w32, w64};
 ghost use Rattle.std.specs.List.{list_all};
-ghost use Rattle.rtcp_text.specs.Numerals.{decimal_in, hex_in, plain_decimal_in};
+ghost use Rattle.rtcp_text.specs.Numerals.{decimal_in, hex_in};
 
 /// The most digits of a decimal number. That is as many as the greatest number of 64 bits has.
 const MAX_DIGITS: usize = 20;
@@ -27,16 +27,6 @@ pub fn read_short_decimal(text: &[u8]) -> Option<u32>
     ensures { result ≡ decimal_in 32 text.now }
 {
     u32::try_from(read_decimal(text)?).ok()
-}
-
-/// The number that 1 to 20 decimal digits without leading zeros write, unless it takes more than 64 bits.
-pub fn read_plain_decimal(text: &[u8]) -> Option<u64>
-    ensures { result ≡ plain_decimal_in 64 text.now }
-{
-    if text.len() > 1 && text[0] == b'0' {
-        return None;
-    }
-    read_decimal(text)
 }
 
 fn are_digits(text: &[u8]) -> bool
