@@ -1,10 +1,11 @@
 -- Chunks that are read one after the other, of octets that begin with as many chunks.
-use Rattle.std.proofs.Common.{◌≡◌, ℕ, ◌-◌, ◌≤◌, List, [], ◌∷◌, ◌++◌, length, drop, refl, sym, ap, subst, ◌∙◌, append_assoc, arith}
+use Rattle.std.proofs.Common.{◌≡◌, ℕ, suc, ◌-◌, ◌≤◌, List, [], ◌∷◌, ◌++◌, length, take, drop, refl, sym, ap, subst, ◌∙◌, append_assoc, arith}
 use Rattle.std.proofs.lemmas.List.{length-append}
+use Rattle.byteorder.specs.Endian.{big_number}
 use Rattle.rtcp_wire.specs.Values.{ChunkValue}
 use Rattle.rtcp_wire.specs.Grammar.{Joins, IsChunk}
 use Rattle.rtcp_wire.specs.Validity.{HasItems, HasChunks}
-use Rattle.rtcp_wire.specs.Walks.{items_after, chunk_size}
+use Rattle.rtcp_wire.specs.Walks.{items_after, chunk_size, chunks_in}
 use Rattle.rtcp_wire.proofs.ReadingWalks.{other_part, chunk_parts, chunk_read, chunk_length, after_chunk}
 
 -- the octets of the chunk that stands first
@@ -42,3 +43,14 @@ chunk_step count octets h some = step h.chunks h.middle h.counted h.parts h.each
         let whole : octets ≡ each.0 ++ rest = parts ∙ ap (λ (t : List ℕ). t ++ h.after) each.2 ∙ append_assoc each.0 each.1 h.after in
         let more : HasChunks (count - 1) rest = record { chunks = chunks; middle = each.1; after = h.after; counted = omega (arith, counted, some); parts = refl; each = each.4 } in
         subst (ChunkStep (count - 1)) (sym whole) (here (count - 1) chunk each.0 rest each.3 more)
+
+-- one chunk, and those after it
+pub chunks_step : (count : ℕ) (octets id_octets after_id others : List ℕ) (id size : ℕ) → (count ≡ 0 → ⊥) → id_octets ≡ take 4 octets → after_id ≡ drop 4 octets → id ≡ big_number 4 id_octets
+    → size ≡ chunk_size (items_after 0 after_id) → others ≡ drop size octets → chunks_in count octets ≡ record { id = id; items = items_after 0 after_id } ∷ chunks_in (count - 1) others
+chunks_step count octets id_octets after_id others id size some id_is after is sized others_is =
+    let counted : count ≡ suc (count - 1) = omega (arith, some) in
+    let source : id ≡ big_number 4 (take 4 octets) = is ∙ ap (big_number 4) id_is in
+    let size_is : size ≡ first_size octets = sized ∙ ap (λ t. chunk_size (items_after 0 t)) after in
+    let left : others ≡ drop (first_size octets) octets = others_is ∙ ap (λ (n : ℕ). drop n octets) size_is in
+    ap (λ (n : ℕ). chunks_in n octets) counted
+    ∙ (λ i. record { id = sym source i; items = items_after 0 (sym after i) } ∷ chunks_in (count - 1) (sym left i))

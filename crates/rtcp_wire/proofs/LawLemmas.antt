@@ -1,16 +1,20 @@
 -- The laws of this crate as lemmas, for the proofs of the crates above: each has the name of its law, and of the clause
 -- where the law has several.
-use Rattle.std.proofs.Common.{◌≡◌, ◌+◌, ◌*◌, ◌≤◌, ◌⊎◌, ℕ, false, List, [], ◌++◌, All, length, sum_by}
+use Rattle.std.proofs.Common.{◌≡◌, ◌==◌, ◌+◌, ◌*◌, ◌≤◌, ◌⊎◌, ℕ, false, List, [], ◌++◌, All, length, sum_by}
+use Rattle.std.specs.Prelude.{filter}
 use Rattle.std.proofs.lemmas.List.Concat.{length-flat_map}
 use Rattle.rtcp_wire.specs.declared.fault.WireFault.{WireFault}
 use Rattle.rtcp_wire.specs.declared.rtp.fault.RtpFault.{RtpFault}
 use Rattle.rtcp_wire.specs.Values.{RtcpPacket, ReportBlock, SenderValue, rr, sr}
+use Rattle.rtcp_wire.specs.About.{blocks_about}
+use Rattle.rtcp_wire.specs.Contents.{all_blocks}
 use Rattle.rtcp_wire.specs.Grammar.{is_padded, IsSpelling, IsAccepted}
 use Rattle.rtcp_wire.specs.Faults.{IsFirstFault}
 use Rattle.rtcp_wire.specs.Facts.{is_media, facts_of}
 use Rattle.rtcp_wire.specs.RtpHeads.{RtpValue, IsRtpHead, IsRtpFault}
 use Rattle.rtcp_wire.specs.Walks.{packets_in}
 use Rattle.rtcp_wire.specs.Writing.{written, written_all, IsWritable, IsInRange, BeginsWithReport, IsWritableBlock}
+use Rattle.rtcp_wire.proofs.BlockLists as blocks
 use Rattle.rtcp_wire.proofs.FewFacts.{few_facts}
 use Rattle.rtcp_wire.proofs.NoMedia.{packets_give_none}
 use Rattle.rtcp_wire.proofs.Refusals as refusals
@@ -50,6 +54,9 @@ facts_are_few = few_facts
 pub walks_read_encodings : (octets : List ℕ) (packets : List RtcpPacket) → IsAccepted octets packets →
     packets_in octets ≡ packets
 walks_read_encodings octets packets accepted = walk_reads packets octets accepted.joined
+
+pub about_of_all : (ssrc : ℕ) (packets : List RtcpPacket) → blocks_about ssrc packets ≡ filter (λ block. block.1.ssrc == ssrc) (all_blocks packets)
+about_of_all = blocks.about_of_all
 
 -- ---- RTP (src/rtp_laws.rt)
 

@@ -34,4 +34,11 @@ mod ItemSteps
 mod ChunkSteps
 mod PacketSteps
 mod WalkRows
+mod Finding
+mod Places
+mod ItemPlaces
+mod PacketPlaces
+mod GoodbyePlaces
+mod ContentRows
+mod BlockLists
 pub mod LawLemmas

@@ -8,6 +8,8 @@ pub mod RtpHeads
 pub mod Facts
 pub mod FactsLeft
 pub mod About
+pub mod Contents
+pub mod Placed
 pub mod Writing
 pub mod WriterViews
 pub mod Walks

@@ -2,7 +2,9 @@
 //! is an empty function whose postcondition is the law; `proofs/LawLemmas` has a lemma of its name, or one
 //! for each clause.
 
-ghost use Rattle.std.specs.Prelude.{◌≡◌, ℕ, ◌≤◌, ◌++◌, ◌⊎◌, false, List, All, length};
+ghost use Rattle.std.specs.Prelude.{◌≡◌, ℕ, ◌==◌, ◌≤◌, ◌++◌, ◌⊎◌, false, List, All, filter, length};
+ghost use Rattle.rtcp_wire.specs.About.{blocks_about};
+ghost use Rattle.rtcp_wire.specs.Contents.{all_blocks};
 ghost use Rattle.rtcp_wire.specs.Grammar.{IsSpelling, IsAccepted};
 ghost use Rattle.rtcp_wire.specs.Faults.{IsFirstFault};
 ghost use Rattle.rtcp_wire.specs.Facts.{is_media, facts_of};
@@ -52,4 +54,10 @@ pub fn facts_are_few()
 pub fn walks_read_encodings()
     ensures { (octets : List ℕ) (packets : List RtcpPacket) → IsAccepted octets packets →
         packets_in octets ≡ packets }
+{}
+
+/// The blocks of a compound that name a source are those of all its blocks that do, in the same order.
+pub fn about_of_all()
+    ensures { (ssrc : ℕ) (packets : List RtcpPacket) → blocks_about ssrc packets
+        ≡ filter (λ block. block.1.ssrc == ssrc) (all_blocks packets) }
 {}
