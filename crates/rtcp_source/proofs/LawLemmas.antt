@@ -1,13 +1,14 @@
 -- The laws, as lemmas that the proofs of other crates can cite.
-use Rattle.std.proofs.Common.{◌≡◌, ℕ, ◌+◌, ◌-◌, ◌%◌, ◌^◌, ◌<◌, ◌≤◌, ◌↔◌, ℤ, pos, unsigned_abs, true, List, [], ◌∷◌, refl, rules}
+use Rattle.std.proofs.Common.{◌≡◌, ℕ, ◌+◌, ◌-◌, ◌%◌, ◌^◌, ◌<◌, ◌≤◌, ◌↔◌, ℤ, pos, unsigned_abs, option_map, Option, true, List, [], ◌∷◌, refl, rules}
 use Rattle.std.specs.Int.{cast_signed, w32}
 use Rattle.rtcp_source.specs.declared.taken.Taken.TheVariants.{Counted}
 use Rattle.rtcp_source.specs.Packets.{Given, packet_at, with_counted, packet_came, report_came, block_made, HasCounted, greatest_place, is_near, place_near, taken_in, transit_of, run_of, has_news_since, newest, PacketRun}
 use Rattle.rtcp_source.specs.Integers.{IsIntegerNear, HasIntegerNear, HasPlaceNear, IsPlaceOfInteger, place_of, greatest_integer}
-use Rattle.rtcp_source.specs.Summary.{summary_of, last_told, transit_distance}
-use Rattle.rtcp_source.specs.Blocks.{block_for, block_over, news_of}
+use Rattle.rtcp_source.specs.Summary.{ToldValue, summary_of, last_told, transit_distance}
+use Rattle.rtcp_source.specs.Blocks.{block_for, block_over, lsr_of, dlsr_of, news_of}
+use Rattle.rtcp_source.specs.Receptions.{reception_in, reception_over, figures_of, figures_in}
 use Rattle.rtcp_source.specs.Steps.{no_source, taken_by, after_packet, after_told, after_block_made}
-use Rattle.rtcp_source.proofs.Summing.{same_taken, same_block}
+use Rattle.rtcp_source.proofs.Summing.{same_taken, same_block, same_reception, same_figures}
 use Rattle.rtcp_source.proofs.Stepping.{packet_moves, block_moves}
 use Rattle.rtcp_source.proofs.News.{news_of_summary}
 use Rattle.rtcp_source.proofs.Integers.{has_integer, has_place, same_integer, greatest_high, counted_exactly, enters_run}
@@ -22,6 +23,18 @@ summary_suffices-news = news_of_summary
 
 pub summary_suffices-block : (given : List Given) (ssrc t : ℕ) → block_for ssrc t (summary_of given) ≡ block_over ssrc t given
 summary_suffices-block given ssrc t = let run : PacketRun = run_of given in same_block run.counted run.reported ssrc t (last_told given)
+
+pub summary_suffices-reception : (given : List Given) → reception_in (summary_of given) ≡ reception_over given
+summary_suffices-reception given = let run : PacketRun = run_of given in same_reception run.counted run.reported
+
+pub reception_is_that_of_blocks-figures : (ssrc t : ℕ) (given : List Given) → option_map figures_of (reception_over given) ≡ option_map figures_in (block_over ssrc t given)
+reception_is_that_of_blocks-figures ssrc t given =
+    let run : PacketRun = run_of given in
+    let told : Option ToldValue = last_told given in
+    same_figures run.counted run.reported ssrc (lsr_of told) (dlsr_of told t)
+
+pub reception_is_that_of_blocks-kept : (given : List Given) → reception_over (block_made ∷ given) ≡ reception_over given
+reception_is_that_of_blocks-kept given = refl
 
 pub summary_moves-none : summary_of [] ≡ no_source
 summary_moves-none = refl

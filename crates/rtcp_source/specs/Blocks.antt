@@ -18,9 +18,13 @@ lost_of expected received = int_max (negsuc 8388607) (int_min (pos 8388607) (pos
 abbrev pub fraction_of : (expected received : ℕ) → ℕ
 fraction_of expected received = 256 * (expected - received) / expected
 
+abbrev pub middle_bits : ℕ → ℕ
+middle_bits ntp = ntp / 65536 % 2 ^ 32
+
+-- the middle 32 bits of the last sender report's NTP timestamp, or 0 if there was none
 abbrev pub lsr_of : Option ToldValue → ℕ
 lsr_of None = 0
-lsr_of (Some told) = told.lsr
+lsr_of (Some told) = middle_bits told.ntp
 
 -- the time since the last sender report, in 1/65,536 of a second, or 0 if there was none
 abbrev pub dlsr_of : Option ToldValue → (t : ℕ) → ℕ

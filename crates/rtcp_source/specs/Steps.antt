@@ -3,7 +3,7 @@ use Rattle.std.specs.Prelude.{ℕ, ◌+◌, max, Option, Some, None}
 use Rattle.rtcp_source.specs.declared.taken.Taken.{Taken}
 use Rattle.rtcp_source.specs.declared.taken.Taken.TheVariants.{Probation, Counted, Became, Restarted, Bad}
 use Rattle.rtcp_source.specs.Packets.{place_near, taken_as, transit_of}
-use Rattle.rtcp_source.specs.Summary.{RunValue, SourceValue, transit_distance, jitter_with, middle_bits}
+use Rattle.rtcp_source.specs.Summary.{RunValue, SourceValue, transit_distance, jitter_with}
 use Rattle.rtcp_source.specs.Blocks.{expected_in}
 
 -- a source that was given nothing
@@ -62,7 +62,7 @@ after_packet seq timestamp arrival source =
 
 abbrev pub after_told : (ntp moment : ℕ) → SourceValue → SourceValue
 after_told ntp moment source =
-    record source { told = Some (record { lsr = middle_bits ntp; moment = moment }) }
+    record source { told = Some (record { ntp = ntp; moment = moment }) }
 
 abbrev pub run_reported : Option RunValue → Option RunValue
 run_reported None = None

@@ -17,9 +17,9 @@ pub record RunValue : Type 0 where
   -- its jitter, in 1/16 of a unit of the media's clock
   pub jitter : ℕ
 
--- The last sender report: the middle 32 bits of its NTP timestamp, and the moment at which it came.
+-- The last sender report: its NTP timestamp, and the moment at which it came.
 pub record ToldValue : Type 0 where
-  pub lsr : ℕ
+  pub ntp : ℕ
   pub moment : ℕ
 
 pub record SourceValue : Type 0 where
@@ -75,13 +75,10 @@ packet_count (packet_came seq timestamp arrival ∷ given) = packet_count given 
 packet_count (report_came ntp moment ∷ given) = packet_count given
 packet_count (block_made ∷ given) = packet_count given
 
-abbrev pub middle_bits : ℕ → ℕ
-middle_bits ntp = ntp / 65536 % 2 ^ 32
-
 abbrev pub last_told : List Given → Option ToldValue
 last_told [] = None
 last_told (packet_came seq timestamp arrival ∷ given) = last_told given
-last_told (report_came ntp moment ∷ given) = Some (record { lsr = middle_bits ntp; moment = moment })
+last_told (report_came ntp moment ∷ given) = Some (record { ntp = ntp; moment = moment })
 last_told (block_made ∷ given) = last_told given
 
 abbrev pub summary_of : List Given → SourceValue

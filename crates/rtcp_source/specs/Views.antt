@@ -1,7 +1,9 @@
--- The crate's private types, as values of the definitions.
+-- The crate's types, as values of the definitions.
 use Rattle.rtcp_source.specs.declared.run.Run.{Run}
-use Rattle.rtcp_source.specs.declared.source.Told.{Told}
+use Rattle.rtcp_source.specs.declared.reception.Told.{Told}
+use Rattle.rtcp_source.specs.declared.reception.Reception.{Reception}
 use Rattle.rtcp_source.specs.Summary.{RunValue, ToldValue}
+use Rattle.rtcp_source.specs.Receptions.{ReceptionValue}
 
 abbrev pub run_value : Run → RunValue
 run_value r =
@@ -16,4 +18,8 @@ run_value r =
     }
 
 abbrev pub told_value : Told → ToldValue
-told_value t = record { lsr = t.lsr; moment = t.moment }
+told_value t = record { ntp = t.ntp; moment = t.moment }
+
+abbrev pub reception_value : Reception → ReceptionValue
+reception_value r =
+    record { received = r.received; lost = r.lost; highest = r.highest; jitter = r.jitter }

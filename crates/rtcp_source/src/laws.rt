@@ -1,22 +1,32 @@
 //! Laws of the definitions of a source: each is an empty function whose postcondition is the law.
 
-ghost use Rattle.std.specs.Prelude.{◌≡◌, [], ◌∷◌, ◌+◌, ◌≤◌, ◌<◌, ◌↔◌, ℕ, ℤ, pos, true, List, ◌-◌, ◌%◌, ◌^◌, unsigned_abs};
+ghost use Rattle.std.specs.Prelude.{◌≡◌, [], ◌∷◌, ◌+◌, ◌≤◌, ◌<◌, ◌↔◌, ℕ, ℤ, pos, true, List, ◌-◌, ◌%◌, ◌^◌, unsigned_abs, option_map};
 ghost use Rattle.std.specs.Int.{cast_signed, w32};
 ghost use Rattle.rtcp_source.specs.declared.taken.Taken.TheVariants.{Counted};
 ghost use Rattle.rtcp_source.specs.Packets.{Given, packet_came, report_came, block_made, HasCounted, packet_at, with_counted, greatest_place, is_near, place_near, taken_in, transit_of, run_of, has_news_since};
 ghost use Rattle.rtcp_source.specs.Integers.{IsIntegerNear, HasIntegerNear, HasPlaceNear, IsPlaceOfInteger, place_of, greatest_integer};
 ghost use Rattle.rtcp_source.specs.Blocks.{block_for, block_over, news_of};
+ghost use Rattle.rtcp_source.specs.Receptions.{reception_in, reception_over, figures_of, figures_in};
 ghost use Rattle.rtcp_source.specs.Steps.{no_source, taken_by, after_packet, after_told, after_block_made};
 ghost use Rattle.rtcp_source.specs.Summary.{summary_of, transit_distance};
 
 /// What is kept of a source gives the same results as the list of all that it was given: what a packet is,
-/// whether there is news, and the report block.
+/// whether there is news, how its packets are received, and the report block.
 pub fn summary_suffices()
     ensures taken { (given : List Given) (seq : ℕ) →
         taken_by (summary_of given) seq ≡ taken_in (run_of given) seq }
     ensures news { (given : List Given) → news_of (summary_of given).run ≡ has_news_since given }
     ensures block { (given : List Given) (ssrc t : ℕ) →
         block_for ssrc t (summary_of given) ≡ block_over ssrc t given }
+    ensures reception { (given : List Given) → reception_in (summary_of given) ≡ reception_over given }
+{}
+
+/// How a source's packets are received is what its report block would say at any moment, but for the fraction
+/// lost; and no block changes it.
+pub fn reception_is_that_of_blocks()
+    ensures figures { (ssrc t : ℕ) (given : List Given) →
+        option_map figures_of (reception_over given) ≡ option_map figures_in (block_over ssrc t given) }
+    ensures kept { (given : List Given) → reception_over (block_made ∷ given) ≡ reception_over given }
 {}
 
 /// What is kept of a source after one thing more is computed from what was kept before it.

@@ -15,10 +15,12 @@
 #![tactic(auto)]
 
 pub mod laws;
+mod reception;
 mod run;
 mod sequence;
 mod source;
 mod taken;
 
+pub use reception::{Reception, Told};
 pub use source::Source;
 pub use taken::Taken;

@@ -1,14 +1,16 @@
 //! A run of counted packets (RFC 3550, 6.4.1, appendices A.1, A.3 and A.8).
 
-ghost use Rattle.std.specs.Prelude.{◌≡◌, ◌+◌, ◌≤◌, ◌<◌, ◌^◌, Some};
+ghost use Rattle.std.specs.Prelude.{◌≡◌, ◌+◌, ◌≤◌, ◌<◌, ◌^◌, ◌≤ℤ◌, pos, negsuc, Some};
 ghost use Rattle.rtcp_wire.specs.Views.{block_value};
 ghost use Rattle.rtcp_wire.specs.Writing.{IsWritableBlock};
 ghost use Rattle.rtcp_source.specs.Blocks.{expected_in, fraction_of, lost_of, block_of_run, news_of};
 ghost use Rattle.rtcp_source.specs.Bounds.{IsRunBounded};
 ghost use Rattle.rtcp_source.specs.Steps.{run_from, run_after, run_reported};
 ghost use Rattle.rtcp_source.specs.Summary.{transit_distance, jitter_with};
-ghost use Rattle.rtcp_source.specs.Views.{run_value};
+ghost use Rattle.rtcp_source.specs.Receptions.{reception_of_run};
+ghost use Rattle.rtcp_source.specs.Views.{run_value, reception_value};
 
+use crate::reception::Reception;
 use crate::sequence::{FIRST, nearest_place};
 use rtcp_wire::Block;
 
@@ -88,17 +90,34 @@ impl Run {
         ensures writable { IsWritableBlock (block_value result) }
     {
         let expected = self.expected();
+        let reception = self.reception();
         Block {
             ssrc,
             fraction: fraction(
                 expected - self.expected_before,
                 self.received - self.received_before,
             ),
-            lost: lost(expected, self.received),
-            highest: ((self.greatest - FIRST) % (1 << 32)) as u32,
-            jitter: (self.jitter / 16) as u32,
+            lost: reception.lost,
+            highest: reception.highest,
+            jitter: reception.jitter,
             lsr,
             dlsr,
+        }
+    }
+
+    /// How the run's packets are received.
+    pub(crate) fn reception(self) -> Reception
+        requires few { self.received ≤ 2 ^ 40 }
+        requires bounded { IsRunBounded self.received (run_value self) }
+        ensures reception { reception_value result ≡ reception_of_run (run_value self) }
+        ensures low { negsuc 8388607 ≤ℤ result.lost }
+        ensures high { result.lost ≤ℤ pos 8388607 }
+    {
+        Reception {
+            received: self.received,
+            lost: lost(self.expected(), self.received),
+            highest: ((self.greatest - FIRST) % (1 << 32)) as u32,
+            jitter: (self.jitter / 16) as u32,
         }
     }
 

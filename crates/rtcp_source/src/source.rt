@@ -1,13 +1,16 @@
 //! One source, from its first packet on (RFC 3550, 6.4.1, appendices A.1, A.3 and A.8).
 
-ghost use Rattle.std.specs.Prelude.{◌≡◌, ◌∷◌, [], ◌<◌, ◌^◌, List, Some, IsSome};
+ghost use Rattle.std.specs.Prelude.{◌≡◌, ◌∷◌, [], ◌<◌, ◌^◌, List, Some, IsSome, option_map};
 ghost use Rattle.rtcp_wire.specs.Views.{block_value};
 ghost use Rattle.rtcp_wire.specs.Writing.{IsWritableBlock};
 ghost use Rattle.rtcp_source.specs.Packets.{Given, packet_came, report_came, block_made, taken_in, run_of, has_news_since};
-ghost use Rattle.rtcp_source.specs.Summary.{StandsAt, StandsWith};
-ghost use Rattle.rtcp_source.specs.Blocks.{block_for, block_over, news_of};
+ghost use Rattle.rtcp_source.specs.Summary.{StandsAt, StandsWith, last_told};
+ghost use Rattle.rtcp_source.specs.Blocks.{block_for, block_over, news_of, middle_bits};
+ghost use Rattle.rtcp_source.specs.Receptions.{reception_in, reception_over};
+ghost use Rattle.rtcp_source.specs.Views.{told_value, reception_value};
 ghost use Rattle.rtcp_source.specs.Steps.{no_source, taken_by, after_packet, after_told, after_block_made};
 
+use crate::reception::{Reception, Told};
 use crate::run::Run;
 use crate::sequence::judge;
 use crate::taken::Taken;
@@ -94,10 +97,7 @@ impl Source {
         ensures step { self.new ≡ after_told ntp t self.old }
         ensures stands { StandsWith self.old self.new (report_came ntp t) }
     {
-        self.told = Some(Told {
-            lsr: (ntp / 65_536 % (1 << 32)) as u32,
-            moment: t,
-        });
+        self.told = Some(Told { ntp, moment: t });
     }
 
     /// Makes the reception report block of the source, `ssrc`, at the moment `t`, in microseconds (6.4.1,
@@ -116,7 +116,10 @@ impl Source {
     {
         let run = self.run.unwrap();
         let (lsr, dlsr) = match self.told {
-            Some(told) => (told.lsr, short_delay(t.saturating_sub(told.moment))),
+            Some(told) => (
+                middle_bits(told.ntp),
+                short_delay(t.saturating_sub(told.moment)),
+            ),
             None => (0, 0),
         };
         self.run = Some(run.reported());
@@ -130,13 +133,30 @@ impl Source {
     {
         self.run.is_some_and(|run| run.has_news())
     }
+
+    /// How the source's packets are received, as its report block would say it, but for the fraction lost.
+    /// `None` where no packet of it was counted. It changes nothing: no loss interval ends with it.
+    pub fn reception(&self) -> Option<Reception>
+        ensures reception { option_map reception_value result ≡ reception_in self.now }
+        ensures of_list { (given : List Given) → StandsAt self.now given →
+            option_map reception_value result ≡ reception_over given }
+    {
+        self.run.map(|run| run.reception())
+    }
+
+    /// The last sender report of the source, if one came.
+    pub fn last_report(&self) -> Option<Told>
+        ensures told { option_map told_value result ≡ self.now.told }
+        ensures of_list { (given : List Given) → StandsAt self.now given →
+            option_map told_value result ≡ last_told given }
+    {
+        self.told
+    }
 }
 
-/// The last sender report of a source.
-#[derive(Clone, Copy)]
-pub(crate) struct Told {
-    /// The middle 32 bits of its NTP timestamp.
-    pub(crate) lsr: u32,
-    /// The moment at which it came, in microseconds.
-    pub(crate) moment: u64,
+/// The middle 32 bits of an NTP timestamp.
+fn middle_bits(ntp: u64) -> u32
+    ensures { result ≡ middle_bits ntp }
+{
+    (ntp / 65_536 % (1 << 32)) as u32
 }

@@ -9,3 +9,6 @@ returns-clause-news c = law.summary_suffices-news
 
 pub returns-clause-block : goal.returns-clause-block
 returns-clause-block c = law.summary_suffices-block
+
+pub returns-clause-reception : goal.returns-clause-reception
+returns-clause-reception c = law.summary_suffices-reception

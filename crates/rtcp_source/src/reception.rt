@@ -1,0 +1,25 @@
+//! What is told of a source on request, and never sent (RFC 3550, 6.4.1).
+
+/// How the packets of a source are received. All but `received` are as in a report block (RFC 3550, 6.4.1,
+/// A.3, A.8).
+#[derive(Clone, Copy, Debug, PartialEq, Eq)]
+pub struct Reception {
+    /// How many packets were counted since the first one, or since the last restart, late and repeated ones
+    /// included.
+    pub received: u64,
+    /// The packets lost, as a signed number of 24 bits.
+    pub lost: i32,
+    /// The extended highest sequence number.
+    pub highest: u32,
+    /// The jitter, in units of the media's clock.
+    pub jitter: u32,
+}
+
+/// The last sender report of a source.
+#[derive(Clone, Copy, Debug, PartialEq, Eq)]
+pub struct Told {
+    /// Its NTP timestamp.
+    pub ntp: u64,
+    /// The moment at which it came, in microseconds.
+    pub moment: u64,
+}
