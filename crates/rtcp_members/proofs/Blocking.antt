@@ -26,14 +26,14 @@ other_block : (rate ssrc other : ℕ) (stay : List TraceStep) → (other == ssrc
 other_block rate ssrc other stay apart = rw apart refl
 
 -- an entry after a block of its source, if it has no mark
-abbrev reported_if : EntryValue → EntryValue
+abbrev pub reported_if : EntryValue → EntryValue
 reported_if entry = if is_some entry.mark then entry else reported_entry entry
 
 module _ (capacity rate ssrc other : ℕ) (trace : List TraceStep) where
-  abbrev said_after_block : Option (List TraceStep) → Option EntryValue
+  abbrev pub said_after_block : Option (List TraceStep) → Option EntryValue
   said_after_block stay = option_map (entry_of rate ssrc) (stay_with capacity (block_taken other) (names trace) (stay_of capacity trace) ssrc stay)
 
-  own_stay : (other == ssrc) ≡ true → (stay : Option (List TraceStep)) → said_after_block stay ≡ option_map reported_if (option_map (entry_of rate ssrc) stay)
+  pub own_stay : (other == ssrc) ≡ true → (stay : Option (List TraceStep)) → said_after_block stay ≡ option_map reported_if (option_map (entry_of rate ssrc) stay)
   own_stay own None = refl
   own_stay own (Some stay) =
       elim (mark_of ssrc stay) as (λ m. mark_of ssrc stay ≡ m → said_after_block (Some stay) ≡ Some (if is_some m then entry_of rate ssrc stay else reported_entry (entry_of rate ssrc stay))) [
@@ -41,7 +41,7 @@ module _ (capacity rate ssrc other : ℕ) (trace : List TraceStep) where
         | Some mark ↦ λ marked. ap Some (entry_marked rate ssrc (block_taken other) stay mark marked)
       ] refl
 
-  other_stay : (other == ssrc) ≡ false → (stay : Option (List TraceStep)) → said_after_block stay ≡ option_map (entry_of rate ssrc) stay
+  pub other_stay : (other == ssrc) ≡ false → (stay : Option (List TraceStep)) → said_after_block stay ≡ option_map (entry_of rate ssrc) stay
   other_stay apart None = refl
   other_stay apart (Some stay) =
       elim (mark_of ssrc stay) as (λ m. mark_of ssrc stay ≡ m → said_after_block (Some stay) ≡ Some (entry_of rate ssrc stay)) [

@@ -21,7 +21,7 @@ IsOnce (key ∷ keys) = (has key keys ≡ false) × IsOnce keys
 abbrev pub passing : {X : Type 0} → (X → Bool) → List X → ℕ
 passing test xs = length (filter test xs)
 
-pub one_or_none : Bool → ℕ
+unfoldable pub one_or_none : Bool → ℕ
 one_or_none b = cond b 1 0
 
 -- ---- Two tests of keys
@@ -40,7 +40,7 @@ none_pass (key ∷ keys) = none_pass keys
 swapped : (a b n : ℕ) → a + (b + n) ≡ b + (a + n)
 swapped a b n = omega arith
 
-no_more : (n : ℕ) → one_or_none false + n ≡ n
+pub no_more : (n : ℕ) → one_or_none false + n ≡ n
 unfolding one_or_none
 no_more n = omega arith
 
@@ -63,7 +63,7 @@ module _ (f g : ℕ → Bool) (here : ℕ) (value : Bool) (differs : (key : ℕ)
       first_and_rest g key keys ∙ (λ i. one_or_none (passes i) + rest i) ∙ ap (λ n. one_or_none value + n) (sym none)
 
   -- Where g is f but at one key, at which f fails, it passes as many as f, and one more if it passes there.
-  one_more : f here ≡ false → (keys : List ℕ) → IsOnce keys → has here keys ≡ true → passing g keys ≡ one_or_none value + passing f keys
+  pub one_more : f here ≡ false → (keys : List ℕ) → IsOnce keys → has here keys ≡ true → passing g keys ≡ one_or_none value + passing f keys
   one_more fails [] once present = absurd (true≢false (sym present))
   one_more fails (key ∷ keys) once present =
       elim (key == here) as (λ b. (key == here) ≡ b → (b || has here keys) ≡ true → passing g (key ∷ keys) ≡ one_or_none value + passing f (key ∷ keys)) [

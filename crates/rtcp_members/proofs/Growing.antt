@@ -20,7 +20,7 @@ use Rattle.rtcp_members.proofs.TraceTables.{tied}
 
 -- ---- Two tests
 
-more_pass : {X : Type 0} (f g : X → Bool) → ((x : X) → f x ≡ true → g x ≡ true) → (xs : List X) → passing f xs ≤ passing g xs
+pub more_pass : {X : Type 0} (f g : X → Bool) → ((x : X) → f x ≡ true → g x ≡ true) → (xs : List X) → passing f xs ≤ passing g xs
 more_pass f g more [] = le_refl 0
 more_pass f g more (x ∷ xs) =
     let rest = more_pass f g more xs in
@@ -114,7 +114,7 @@ was_there : (step : EntryValue → Option EntryValue) (entry : Option EntryValue
 was_there step None found = found
 was_there step (Some e) found = refl
 
-checked_sender : (horizons : Horizons) (entry : Option EntryValue) → is_such is_sender (option_and_then (entry_after_check horizons) entry) ≡ true → is_such is_sender entry ≡ true
+pub checked_sender : (horizons : Horizons) (entry : Option EntryValue) → is_such is_sender (option_and_then (entry_after_check horizons) entry) ≡ true → is_such is_sender entry ≡ true
 checked_sender horizons None sends = sends
 checked_sender horizons (Some entry) sends =
     elim (is_removed horizons entry.sighting entry.mark) as (λ b. is_such is_sender (if b then None else Some (if is_some entry.mark then entry else record entry { sending = still_sending horizons entry.sending })) ≡ true → is_sender entry ≡ true) [

@@ -69,7 +69,7 @@ cut_nowhere entries above is =
 
 -- ---- In turn
 
-entries_of_rising : (entries : List Entry) → IsRising entries → finite.entries (map_of entries) ≡ rows_of entries
+pub entries_of_rising : (entries : List Entry) → IsRising entries → finite.entries (map_of entries) ≡ rows_of entries
 entries_of_rising entries rising =
     same_entries nat_cmp nat_cmp_total nat_cmp-IsAntisymmetric (finite.entries (map_of entries)) (rows_of entries) (finite.entries_sorted (map_of entries)) rising
     (λ q. sym (finite.get-entries (map_of entries) q) ∙ get_rows entries q)

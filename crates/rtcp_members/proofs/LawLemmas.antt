@@ -1,15 +1,20 @@
 -- The laws of this crate as lemmas, for the proofs of the crates above: each has the name of its law, and of the clause where the law has
 -- several. Nothing here names a representation.
-use Rattle.std.proofs.Common.{◌≡◌, ◌==◌, ◌<◌, ◌≤◌, ◌+◌, ◌^◌, ◌↔◌, ◌∙◌, ap, rules, is_some, if◌then◌else◌, true, false, All, IfSome, IsTrue, ℕ, List, [], ◌∷◌, Option, Some, map, count_by}
+use Rattle.std.proofs.Common.{◌≡◌, ◌==◌, ◌&&◌, ◌<◌, ◌≤◌, ◌+◌, ◌^◌, ◌↔◌, ◌∙◌, ap, rules, is_some, if◌then◌else◌, true, false, All, IfSome, IsTrue, length, drop, ℕ, List, [], ◌∷◌, Option, Some, None, map, count_by}
 use Rattle.std.specs.FinMap as finite
 use Rattle.rtcp_wire.specs.declared.fact.Fact.{Fact}
 use Rattle.rtcp_wire.specs.Facts.{subject, is_gone, is_media}
 use Rattle.rtcp_members.specs.Traces.{Horizons, TraceStep, fact_came, check_made, block_taken, names, with_facts}
 use Rattle.rtcp_members.specs.Stays.{present_among, stay_of, IsStay}
 use Rattle.rtcp_members.specs.Entries.{counted_at, members_at, senders_at, sending_of, is_such, is_member, is_sender, entry_at, IsSendingSince, IsSenderAt}
-use Rattle.rtcp_members.specs.Pending.{EntryRow, first_ssrc, is_due, is_due_at, pending, block_at, block_of_row, after_block, after_blocks}
+use Rattle.rtcp_members.specs.Pending.{EntryRow, is_after, first_ssrc, is_due, is_due_at, pending, block_at, block_of_row, after_block, after_blocks}
 use Rattle.rtcp_members.specs.News.{is_due_by, pending_at, pending_rows_at}
+use Rattle.rtcp_members.specs.Roles.{IsSameRole, step_moves, moved_within, facts_move, check_moves}
+use Rattle.rtcp_members.proofs.RoleCounts.{same_roles_stay, step_keeps, steps_keep}
+use Rattle.rtcp_members.proofs.Roles.{facts_alone_moved, check_moved}
+use Rattle.rtcp_members.specs.Told.{StateValue, state_above, states_above, RiseAbove, TellsAbove, IsWalk}
 use Rattle.rtcp_members.specs.Tables.{TableValue, StandsAt, KeepsBounds, table_at, HasFew, IsFew, no_members, counted, after_fact, after_facts, entry_after_check, after_check, members_in, senders_in}
+use Rattle.rtcp_members.proofs.Above.{tells_above, told_once, told_more, told_none, states_are_walk, walk_counts, walk_rises}
 use Rattle.rtcp_members.proofs.Agreeing.{counted_agrees}
 use Rattle.rtcp_members.proofs.Blocking.{block_follows, block_keeps_capacity, blocks_keep_capacity, few_block}
 use Rattle.rtcp_members.proofs.Capacity.{fact_keeps_bounds, facts_keep_bounds, check_keeps_bounds, block_keeps_bounds, blocks_keep_bounds, none_within, fact_keeps_capacity, facts_keep_capacity, check_keeps_capacity, len_updated}
@@ -208,3 +213,48 @@ turns_follow_traces-rows = pending_is_traced
 pub turns_follow_traces-due : (capacity rate : ℕ) (trace : List TraceStep) (ssrc : ℕ) →
     is_such is_due (entry_at capacity rate trace ssrc) ≡ is_due_by capacity rate trace ssrc
 turns_follow_traces-due = due_at_trace
+
+-- ---- What is told
+
+pub told_follows_traces-told : (after : Option ℕ) (table : TableValue) (trace : List TraceStep) → StandsAt table trace → TellsAbove after table.capacity table.rate trace (state_above after table)
+told_follows_traces-told = tells_above
+
+pub told_follows_traces-only : (after : Option ℕ) (capacity rate : ℕ) (trace : List TraceStep) (a b : Option StateValue) → TellsAbove after capacity rate trace a → TellsAbove after capacity rate trace b → a ≡ b
+told_follows_traces-only = told_once
+
+pub walks_tell_each_once-once : (after : Option ℕ) (capacity rate : ℕ) (trace : List TraceStep) (ssrc : ℕ) (states : List StateValue) → IsWalk after capacity rate trace states
+    → count_by (λ (state : StateValue). state.ssrc == ssrc) states ≡ (if is_after after ssrc && is_some (stay_of capacity trace ssrc) then 1 else 0)
+walks_tell_each_once-once after capacity rate trace ssrc = walk_counts capacity rate trace ssrc after
+
+pub walks_tell_each_once-rising : (after : Option ℕ) (capacity rate : ℕ) (trace : List TraceStep) (states : List StateValue) → IsWalk after capacity rate trace states → RiseAbove after states
+walks_tell_each_once-rising = walk_rises
+
+pub tables_tell_walks-walk : (after : Option ℕ) (table : TableValue) (trace : List TraceStep) → StandsAt table trace → IsWalk after table.capacity table.rate trace (states_above after table)
+tables_tell_walks-walk = states_are_walk
+
+pub tables_tell_walks-more : (after : Option ℕ) (table : TableValue) (state : StateValue) → state_above after table ≡ Some state → states_above after table ≡ state ∷ states_above (Some state.ssrc) table
+tables_tell_walks-more = told_more
+
+pub tables_tell_walks-none : (after : Option ℕ) (table : TableValue) → state_above after table ≡ None → states_above after table ≡ []
+tables_tell_walks-none = told_none
+
+-- ---- Who is a member, and who sends
+
+pub roles_move_with_counts-kept : (capacity rate : ℕ) (step : TraceStep) (earlier : List TraceStep) → step_moves capacity rate step earlier ≡ false → (ssrc : ℕ)
+    → IsSameRole (entry_at capacity rate earlier ssrc) (entry_at capacity rate (step ∷ earlier) ssrc)
+roles_move_with_counts-kept = step_keeps
+
+pub roles_move_with_counts-moved : (capacity rate : ℕ) (step : TraceStep) (earlier : List TraceStep)
+    → ((ssrc : ℕ) → IsSameRole (entry_at capacity rate earlier ssrc) (entry_at capacity rate (step ∷ earlier) ssrc)) → step_moves capacity rate step earlier ≡ false
+roles_move_with_counts-moved = same_roles_stay
+
+pub roles_move_with_counts-within : (capacity rate : ℕ) (steps : ℕ) (trace : List TraceStep) → moved_within capacity rate steps trace ≡ false → (ssrc : ℕ)
+    → IsSameRole (entry_at capacity rate (drop steps trace) ssrc) (entry_at capacity rate trace ssrc)
+roles_move_with_counts-within = steps_keep
+
+pub moves_follow_traces-facts : (facts : List Fact) (moment : ℕ) (table : TableValue) (trace : List TraceStep) → StandsAt table trace
+    → facts_move facts moment table ≡ moved_within table.capacity table.rate (length facts) (with_facts facts moment trace)
+moves_follow_traces-facts = facts_alone_moved
+
+pub moves_follow_traces-check : (table : TableValue) (trace : List TraceStep) (horizons : Horizons) → StandsAt table trace → check_moves horizons table ≡ step_moves table.capacity table.rate (check_made horizons) trace
+moves_follow_traces-check = check_moved

@@ -25,6 +25,7 @@ mod Inserting
 mod Checking
 mod Crowding
 mod InCyclicTurn
+mod Above
 mod TurnsSamples
 mod TraceTables
 mod Rows
@@ -34,4 +35,6 @@ mod SenderLaws
 mod NewsOfTraces
 mod Agreeing
 mod Growing
+mod Roles
+mod RoleCounts
 pub mod LawLemmas

@@ -1,4 +1,5 @@
 -- A list of entries, each of another source, as a map.
+use Rattle.std.proofs.lemmas.List.{length-map}
 use Rattle.std.proofs.Common.{◌≡◌, ◌<◌, ◌+◌, ℕ, zero, suc, slice_index_or, Bool, true, false, cond, List, [], ◌∷◌, length, set, Some, None, slice_get, unwrap_or, filter, nat_cmp, is_some, is_eq, Less, Equal, Greater, arith, refl, sym, ap, ◌∙◌, drop}
 use Rattle.std.specs.Ordering.{eq_by_cmp}
 use Rattle.std.proofs.lemmas.Bool.{eqb-true}
@@ -11,8 +12,8 @@ use Rattle.std.specs.FinMap.{nat_cmp-IsAntisymmetric}
 use Rattle.std.specs.FinMap.Entries.{put, by_order}
 use Rattle.rtcp_members.specs.declared.entry.Entry.{Entry}
 use Rattle.rtcp_members.specs.Entries.{EntryValue}
-use Rattle.rtcp_members.specs.Tables.{IsApart}
-use Rattle.rtcp_members.specs.ListViews.{entry_value, row_of, rows_of, map_of, IsPlaceOf}
+use Rattle.rtcp_members.specs.Tables.{TableValue, IsApart}
+use Rattle.rtcp_members.specs.ListViews.{table_of, entry_value, row_of, rows_of, map_of, IsPlaceOf}
 
 not_both : {b : Bool} → b ≡ true → b ≡ false → ⊥
 not_both is isnt = absurd cc
@@ -76,6 +77,11 @@ len_rows (row ∷ rows) apart =
     finite.len-insert nat_cmp_total rest row.0 row.1
     ∙ ap (λ o. cond (is_some o) (finite.len rest) (finite.len rest + 1)) (finite.get-from_entries nat_cmp_total rows row.0 ∙ apart.0)
     ∙ omega (arith, len_rows rows apart.1)
+
+-- As many as in the list are in a table that is seen as it.
+pub entries_of : (capacity rate : ℕ) (entries : List Entry) (table : TableValue) (count : ℕ) → IsApart (rows_of entries) → table_of capacity rate entries ≡ table → count ≡ length entries → count ≡ finite.len table.entries
+entries_of capacity rate entries table count apart view is =
+    is ∙ sym (len_rows (rows_of entries) apart ∙ length-map entries row_of) ∙ ap (λ (t : TableValue). finite.len t.entries) view
 
 -- ---- One entry changed
 

@@ -45,7 +45,7 @@ naming_is_named (fact_came fact moment) trace ssrc naming =
 naming_is_named (check_made horizons) trace ssrc naming = absurd (true≢false (sym naming))
 naming_is_named (block_taken other) trace ssrc naming = absurd (true≢false (sym naming))
 
-still_named : (step : TraceStep) (trace : List TraceStep) (ssrc : ℕ) → has ssrc (names trace) ≡ true → has ssrc (names (step ∷ trace)) ≡ true
+pub still_named : (step : TraceStep) (trace : List TraceStep) (ssrc : ℕ) → has ssrc (names trace) ≡ true → has ssrc (names (step ∷ trace)) ≡ true
 still_named (fact_came fact moment) trace ssrc known = still_with fact ssrc (names trace) known
 still_named (check_made horizons) trace ssrc known = known
 still_named (block_taken other) trace ssrc known = known

@@ -25,20 +25,20 @@ above_due ssrc rows h = above_filter (λ row. is_due row.1) ssrc rows h
 
 -- ---- Keys in rows
 
-abbrev found : ℕ → List EntryRow → Option EntryValue
+abbrev pub found : ℕ → List EntryRow → Option EntryValue
 found ssrc rows = finite.find nat_cmp ssrc rows
 
 tied_itself : (ssrc : ℕ) → eq_by_cmp nat_cmp ssrc ssrc ≡ true
 tied_itself ssrc = unsigned_tied ssrc ssrc ∙ grind (arith, nat_tests)
 
-not_tied : (x y : ℕ) → (x == y) ≡ false → eq_by_cmp nat_cmp x y ≡ false
+pub not_tied : (x y : ℕ) → (x == y) ≡ false → eq_by_cmp nat_cmp x y ≡ false
 not_tied x y other = unsigned_tied x y ∙ other
 
-found_above : (ssrc : ℕ) (rows : List EntryRow) → AllAbove ssrc rows → found ssrc rows ≡ None
+pub found_above : (ssrc : ℕ) (rows : List EntryRow) → AllAbove ssrc rows → found ssrc rows ≡ None
 found_above ssrc [] h = refl
 found_above ssrc (row ∷ rows) h = ap (λ b. cond b (Some row.1) (found ssrc rows)) (not_tied ssrc row.0 (grind (arith, nat_tests, h.0))) ∙ found_above ssrc rows h.1
 
-found_middle : (front : List EntryRow) (row : EntryRow) (back : List EntryRow) → AllBelow row.0 front → found row.0 (front ++ row ∷ back) ≡ Some row.1
+pub found_middle : (front : List EntryRow) (row : EntryRow) (back : List EntryRow) → AllBelow row.0 front → found row.0 (front ++ row ∷ back) ≡ Some row.1
 found_middle [] row back h = ap (λ b. cond b (Some row.1) (found row.0 back)) (tied_itself row.0)
 found_middle (first ∷ front) row back h =
     ap (λ b. cond b (Some first.1) (found row.0 (front ++ row ∷ back))) (not_tied row.0 first.0 (grind (arith, nat_tests, h.0))) ∙ found_middle front row back h.1

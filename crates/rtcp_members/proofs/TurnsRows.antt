@@ -75,23 +75,23 @@ rising_around (first ∷ front) row back h =
 -- ---- Tests of rows
 
 -- No test passes on a row of the list that fails; what passes is the whole list.
-abbrev AllSuch : (EntryRow → Bool) → Bool → List EntryRow → Type 0
+abbrev pub AllSuch : (EntryRow → Bool) → Bool → List EntryRow → Type 0
 AllSuch test answer [] = Unit {0}
 AllSuch test answer (row ∷ rows) = (test row ≡ answer) × AllSuch test answer rows
 
-filter_all : (test : EntryRow → Bool) (rows : List EntryRow) → AllSuch test true rows → filter test rows ≡ rows
+pub filter_all : (test : EntryRow → Bool) (rows : List EntryRow) → AllSuch test true rows → filter test rows ≡ rows
 filter_all test [] h = refl
 filter_all test (row ∷ rows) h = ap (λ b. cond b (row ∷ filter test rows) (filter test rows)) h.0 ∙ ap (λ (t : List EntryRow). row ∷ t) (filter_all test rows h.1)
 
-filter_none : (test : EntryRow → Bool) (rows : List EntryRow) → AllSuch test false rows → filter test rows ≡ []
+pub filter_none : (test : EntryRow → Bool) (rows : List EntryRow) → AllSuch test false rows → filter test rows ≡ []
 filter_none test [] h = refl
 filter_none test (row ∷ rows) h = ap (λ b. cond b (row ∷ filter test rows) (filter test rows)) h.0 ∙ filter_none test rows h.1
 
-passes_above : (ssrc : ℕ) (rows : List EntryRow) → AllAbove ssrc rows → AllSuch (is_above (Some ssrc)) true rows
+pub passes_above : (ssrc : ℕ) (rows : List EntryRow) → AllAbove ssrc rows → AllSuch (is_above (Some ssrc)) true rows
 passes_above ssrc [] h = tt
 passes_above ssrc (row ∷ rows) h = (grind (arith, nat_tests, h.0), passes_above ssrc rows h.1)
 
-fails_below : (ssrc : ℕ) (rows : List EntryRow) → AllBelow ssrc rows → AllSuch (is_above (Some ssrc)) false rows
+pub fails_below : (ssrc : ℕ) (rows : List EntryRow) → AllBelow ssrc rows → AllSuch (is_above (Some ssrc)) false rows
 fails_below ssrc [] h = tt
 fails_below ssrc (row ∷ rows) h = (grind (arith, nat_tests, h.0), fails_below ssrc rows h.1)
 

@@ -15,7 +15,7 @@ run_code =
 
 abbrev pub told_code : Coded ToldValue
 told_code =
-    code_by (ℕ × ℕ) (coded× coded_ℕ coded_ℕ) (λ t. (t.lsr, t.moment)) (λ p. record { lsr = p.0; moment = p.1 }) (λ _. refl)
+    code_by (ℕ × ℕ) (coded× coded_ℕ coded_ℕ) (λ t. (t.ntp, t.moment)) (λ p. record { ntp = p.0; moment = p.1 }) (λ _. refl)
 
 abbrev pub source_code : Coded SourceValue
 source_code =

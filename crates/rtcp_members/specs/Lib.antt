@@ -4,6 +4,8 @@ pub mod Entries
 pub mod Tables
 pub mod Pending
 pub mod News
+pub mod Told
+pub mod Roles
 pub mod Least
 pub mod Codes
 pub mod ListViews

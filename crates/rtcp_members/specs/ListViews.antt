@@ -1,15 +1,30 @@
 -- What the entries of a list say, in the values of the definitions.
-use Rattle.std.specs.Prelude.{ℕ, ◌≡◌, Bool, List, map, length, filter, Bool, not, ◌&&◌, ◌≤◌, if◌then◌else◌, Some, None, is_none, slice_get}
+use Rattle.std.specs.Prelude.{ℕ, ◌≡◌, Bool, List, map, length, filter, Bool, not, ◌&&◌, ◌≤◌, if◌then◌else◌, Some, None, is_none, slice_get, option_map}
 use Rattle.std.specs.FinMap as finite
+use Rattle.rtcp_source.specs.Views.{reception_value, told_value}
 use Rattle.rtcp_members.specs.declared.entry.Entry.{Entry}
+use Rattle.rtcp_members.specs.declared.state.SourceState.{SourceState}
 use Rattle.rtcp_members.specs.Entries.{EntryValue}
 use Rattle.rtcp_members.specs.Traces.{Horizons}
 use Rattle.rtcp_members.specs.Stays.{is_before, is_removed}
 use Rattle.rtcp_members.specs.Tables.{EntryMap, IsApart, TableValue}
+use Rattle.rtcp_members.specs.Told.{StateValue}
 
 abbrev pub entry_value : Entry → EntryValue
 entry_value e =
     record { valid = e.valid; mark = e.mark; sighting = e.sighting; sending = e.sending; source = e.source }
+
+abbrev pub state_value : SourceState → StateValue
+state_value s =
+    record {
+      ssrc = s.ssrc;
+      member = s.is_member;
+      sender = s.is_sender;
+      left = s.left;
+      heard = s.heard;
+      reception = option_map reception_value s.reception;
+      told = option_map told_value s.told;
+    }
 
 abbrev pub row_of : Entry → ℕ × EntryValue
 row_of e = (e.ssrc, entry_value e)

@@ -1,7 +1,8 @@
 //! What a table keeps of a source (RFC 3550, 6.2.1, 6.3.3 to 6.3.5 and 6.3.7).
 
 ghost use Rattle.std.specs.Prelude.{◌≡◌, nat_lt, ◌||◌, ◌<◌, ◌^◌, None, Some, Bool, IsTrue, not};
-ghost use Rattle.rtcp_members.specs.ListViews.{entry_value, lapses, lapsed, outlasts, is_left};
+ghost use Rattle.rtcp_members.specs.Told.{state_of};
+ghost use Rattle.rtcp_members.specs.ListViews.{entry_value, row_of, state_value, lapses, lapsed, outlasts, is_left};
 ghost use Rattle.rtcp_wire.specs.Facts.{is_media};
 ghost use Rattle.rtcp_members.specs.Traces.{horizons_at};
 ghost use Rattle.rtcp_members.specs.Stays.{is_before, is_removed};
@@ -12,6 +13,7 @@ ghost use Rattle.rtcp_source.specs.Blocks.{block_for};
 ghost use Rattle.rtcp_members.specs.Pending.{is_due, reported_entry};
 ghost use Rattle.rtcp_members.specs.Tables.{new_entry, counts, counted_of, entry_after, entry_with_fact, place_of};
 
+use crate::state::SourceState;
 use crate::table::{Applied, Place};
 use rtcp_clock::rtp_units;
 use rtcp_source::Source;
@@ -136,6 +138,21 @@ impl Entry {
         ensures writable { IsWritableBlock (block_value result) }
     {
         self.source.block(self.ssrc, t)
+    }
+
+    /// What is told of the source.
+    pub(crate) fn state(&self) -> SourceState
+        ensures { state_value result ≡ state_of (row_of self.now) }
+    {
+        SourceState {
+            ssrc: self.ssrc,
+            is_member: self.is_member(),
+            is_sender: self.is_sender(),
+            left: self.mark,
+            heard: self.sighting,
+            reception: self.source.reception(),
+            told: self.source.last_report(),
+        }
     }
 
     /// Takes a check with these horizons: ends the sending of a source whose last counted packet lies before

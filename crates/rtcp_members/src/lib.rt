@@ -27,12 +27,18 @@ mod counts;
 mod entry;
 pub mod laws;
 mod list_table;
+pub mod role_laws;
 mod sorted_table;
+mod sources;
+mod state;
 mod storage;
 mod table;
+pub mod told_laws;
 pub mod trace_laws;
 pub mod turn_laws;
 
 pub use list_table::ListTable;
 pub use sorted_table::{HeapTable, SortedTable};
+pub use sources::Sources;
+pub use state::SourceState;
 pub use table::{Applied, Dropped, InlineTable, MemberTable, Place};

@@ -1,20 +1,21 @@
 //! A table that keeps its entries in a list, in order of arrival, and walks it.
 
-ghost use Rattle.std.specs.Prelude.{◌≡◌, ℕ, ◌<◌, ◌^◌, true, List, length, filter, IfSome, MatchOption, IsTrue, Some, None};
+ghost use Rattle.std.specs.Prelude.{◌≡◌, ℕ, ◌<◌, ◌^◌, true, List, length, filter, IfSome, MatchOption, IsTrue, Some, None, option_map};
 ghost use Rattle.std.specs.FinMap as finite;
 ghost use Rattle.std.specs.List.{retain_mut};
 ghost use Rattle.rtcp_wire.specs.Facts.{subject, is_media};
 ghost use Rattle.rtcp_members.specs.Traces.{horizons_at};
-ghost use Rattle.rtcp_members.specs.ListViews.{entry_value, rows_of, map_of, table_of, tally_of, lapsed, outlasts, IsListed, IsPlaceOf};
+ghost use Rattle.rtcp_members.specs.ListViews.{entry_value, state_value, rows_of, map_of, table_of, tally_of, lapsed, outlasts, IsListed, IsPlaceOf};
 ghost use Rattle.rtcp_wire.specs.Views.{block_value};
 ghost use Rattle.rtcp_wire.specs.Writing.{IsWritableBlock};
 ghost use Rattle.rtcp_members.specs.Entries.{is_member, is_sender, is_such};
-ghost use Rattle.rtcp_members.specs.Pending.{is_due, block_at, after_block};
-ghost use Rattle.rtcp_members.specs.Least.{is_due_above, least, lesser_of};
+ghost use Rattle.rtcp_members.specs.Pending.{is_due, is_above, block_at, after_block};
+ghost use Rattle.rtcp_members.specs.Least.{state_for, is_due_above, least, lesser_of};
 ghost use Rattle.rtcp_members.specs.Tables.{TableValue, IsApart, IsFew, no_members, placed, counted, after_fact, after_check, dropped_entries, dropped_senders, members_in, senders_in, count_in};
 
 use crate::counts::tally;
 use crate::entry::Entry;
+use crate::state::SourceState;
 use crate::table::{Applied, Dropped, InlineTable, MAX_CAPACITY, MemberTable, Place};
 use arrayvec::ArrayVec;
 use rtcp_wire::{Block, Fact};
@@ -87,6 +88,10 @@ impl MemberTable for ListTable {
         place_in(self.entries.as_slice(), ssrc).is_some()
     }
 
+    fn entries(&self) -> u32 {
+        self.entries.len() as u32
+    }
+
     fn members(&self) -> u32 {
         tally(self.entries.as_slice()).members
     }
@@ -106,6 +111,14 @@ impl MemberTable for ListTable {
     fn block_of(&mut self, ssrc: u32, t: u64) -> Block {
         let at = place_in(self.entries.as_slice(), ssrc).unwrap();
         report_at(self.entries.as_mut_slice(), at, ssrc, t)
+    }
+
+    fn source_above(&self, after: Option<u32>) -> Option<SourceState> {
+        let entries = self.entries.as_slice();
+        match least_above(entries, after) {
+            Some(ssrc) => state_in(entries, ssrc),
+            None => None,
+        }
     }
 }
 
@@ -169,6 +182,29 @@ fn least_due(entries: &[Entry], above: Option<u32>) -> Option<u32>
         }
     }
     found
+}
+
+/// The least SSRC above `above`.
+fn least_above(entries: &[Entry], above: Option<u32>) -> Option<u32>
+    ensures { result ≡ least (is_above above) (rows_of entries.now) }
+{
+    let mut found = None;
+    'entries: for entry in entries {
+        if above.is_none_or(|above| above < entry.ssrc) {
+            found = lesser(found, entry.ssrc);
+        }
+    }
+    found
+}
+
+/// What is told of a source, if it has an entry.
+fn state_in(entries: &[Entry], ssrc: u32) -> Option<SourceState>
+    ensures { option_map state_value result ≡ state_for ssrc (finite.get (map_of entries.now) ssrc) }
+{
+    match place_in(entries, ssrc) {
+        Some(at) => Some(entries[at].state()),
+        None => None,
+    }
 }
 
 /// The lesser of what was found and of one more SSRC.

@@ -1,11 +1,12 @@
 //! A table that keeps its entries by rising SSRC, with running counts.
 
-ghost use Rattle.std.specs.Prelude.{◌≡◌, ℕ, [], ◌<◌, ◌≤◌, ◌^◌, List, length, filter, take, drop, not, IfSome, IfOk, IfErr, IsTrue, Some};
+ghost use Rattle.std.specs.Prelude.{◌≡◌, ℕ, [], ◌<◌, ◌≤◌, ◌^◌, List, length, filter, take, drop, not, IfSome, IfOk, IfErr, IsTrue, Some, option_map};
 ghost use Rattle.std.specs.FinMap as finite;
 ghost use Rattle.std.specs.List.{list_all};
 ghost use Rattle.rtcp_wire.specs.Facts.{subject, is_media};
 ghost use Rattle.rtcp_members.specs.Traces.{horizons_at};
-ghost use Rattle.rtcp_members.specs.ListViews.{entry_value, rows_of, map_of, table_of, is_left, IsPlaceOf};
+ghost use Rattle.rtcp_members.specs.Told.{first_state};
+ghost use Rattle.rtcp_members.specs.ListViews.{entry_value, state_value, rows_of, map_of, table_of, is_left, IsPlaceOf};
 ghost use Rattle.rtcp_members.specs.SortedViews.{IsRising, IsOrdered, IsSortedTable, IsGapFor};
 ghost use Rattle.rtcp_wire.specs.Views.{block_value};
 ghost use Rattle.rtcp_wire.specs.Writing.{IsWritableBlock};
@@ -15,6 +16,7 @@ ghost use Rattle.rtcp_members.specs.Tables.{IsFew, no_members, placed, counted, 
 
 use crate::counts::{Counts, tally};
 use crate::entry::Entry;
+use crate::state::SourceState;
 use crate::storage::Storage;
 use crate::table::{Applied, Dropped, InlineTable, MAX_CAPACITY, MemberTable, Place};
 use arrayvec::ArrayVec;
@@ -162,6 +164,10 @@ impl<S: Storage> MemberTable for Sorted<S> {
         search(self.entries.as_slice(), self.last_place, ssrc).is_ok()
     }
 
+    fn entries(&self) -> u32 {
+        self.entries.len() as u32
+    }
+
     fn members(&self) -> u32 {
         self.counts.members
     }
@@ -183,6 +189,11 @@ impl<S: Storage> MemberTable for Sorted<S> {
         let at = search(self.entries.as_slice(), self.last_place, ssrc).unwrap();
         self.last_place = at;
         report_at(self.entries.as_mut_slice(), at, ssrc, t)
+    }
+
+    fn source_above(&self, after: Option<u32>) -> Option<SourceState> {
+        let entries = self.entries.as_slice();
+        state_at(entries, first_above(entries, after))
     }
 }
 
@@ -280,6 +291,16 @@ fn first_above(entries: &[Entry], above: Option<u32>) -> usize
     match above {
         Some(above) => entries.partition_point(|entry| entry.ssrc <= above),
         None => 0,
+    }
+}
+
+/// What is told of the source whose entry stands at `at`, if one does.
+fn state_at(entries: &[Entry], at: usize) -> Option<SourceState>
+    ensures { option_map state_value result ≡ first_state (rows_of (drop at entries.now)) }
+{
+    match entries.get(at) {
+        Some(entry) => Some(entry.state()),
+        None => None,
     }
 }
 

@@ -1,6 +1,6 @@
 //! Tables of members (RFC 3550, 6.2.1, 6.3.3 to 6.3.5 and 6.3.7).
 
-ghost use Rattle.std.specs.Prelude.{◌≡◌, ◌≤◌, ◌^◌, IfSome, IsTrue, Some, is_some};
+ghost use Rattle.std.specs.Prelude.{◌≡◌, ◌≤◌, ◌^◌, IfSome, IsTrue, Some, is_some, option_map};
 ghost use Rattle.std.specs.FinMap as map;
 ghost use Rattle.rtcp_wire.specs.Facts.{subject, is_media};
 ghost use Rattle.rtcp_members.specs.Traces.{horizons_at};
@@ -8,7 +8,10 @@ ghost use Rattle.rtcp_members.specs.Tables.{TableValue, IsFew, no_members, place
 ghost use Rattle.rtcp_wire.specs.Views.{block_value};
 ghost use Rattle.rtcp_wire.specs.Writing.{IsWritableBlock};
 ghost use Rattle.rtcp_members.specs.Pending.{pending, first_ssrc, is_due_at, block_at, after_block};
+ghost use Rattle.rtcp_members.specs.Told.{state_above};
+ghost use Rattle.rtcp_members.specs.ListViews.{state_value};
 
+use crate::state::SourceState;
 use rtcp_wire::{Block, Fact};
 
 /// The greatest capacity of a table.
@@ -81,6 +84,11 @@ pub trait MemberTable {
     fn holds(&self, ssrc: u32) -> bool
         ensures { result ≡ is_some (map.get (content self.now).entries ssrc) };
 
+    /// How many entries the table has, at most its capacity: of members, of sources that are not yet valid, and of
+    /// those that left and are held for a while.
+    fn entries(&self) -> u32
+        ensures { result ≡ map.len (content self.now).entries };
+
     /// How many members are in the table: entries that are valid and did not leave. The participant itself is
     /// not counted.
     fn members(&self) -> u32
@@ -104,6 +112,12 @@ pub trait MemberTable {
         ensures block { Some (block_value result) ≡ block_at ssrc t (content self.old) }
         ensures content { content self.new ≡ after_block ssrc (content self.old) }
         ensures writable { IsWritableBlock (block_value result) };
+
+    /// What is known of the source of least SSRC above `after`, or of all sources: of one that is not yet valid
+    /// or that left, too. It changes nothing. Begun with `None` and gone on with the SSRC of each answer, it goes
+    /// through all sources, by rising SSRC.
+    fn source_above(&self, after: Option<u32>) -> Option<SourceState>
+        ensures { option_map state_value result ≡ state_above after (content self.now) };
 }
 
 /// A table that has the room for its entries in itself, so that its capacity and rate are all it is made from.

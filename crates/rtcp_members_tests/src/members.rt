@@ -2,6 +2,7 @@
 
 use rtcp_members::{
     Applied, Dropped, HeapTable, InlineTable, ListTable, MemberTable, Place, SortedTable,
+    SourceState, Sources,
 };
 use rtcp_wire::{Block, Fact};
 use std::test::*;
@@ -12,6 +13,7 @@ mod rooms;
 mod senders;
 mod session;
 mod sorted;
+mod told;
 mod turns;
 
 use session::Session;

@@ -17,7 +17,7 @@ fn example(rt: HostRuntime) {
     assert_eq!(rt; source.block(9, 0).highest, 11);
 }
 
-/// The example of README: how others receive a source's packets, and how far away they are. The moments are
+/// How others receive a source's packets, and how far away they are. The moments are
 /// those of RFC 3550, figure 2.
 #[test]
 fn what_others_receive(rt: HostRuntime) -> Result<(), Fail> {

@@ -70,6 +70,20 @@ impl<T: MemberTable> Session<T> {
         self.table.next_with_news(after)
     }
 
+    /// What is told of the source of least SSRC above this one.
+    pub(crate) fn told(&self, after: Option<u32>) -> Option<SourceState> {
+        self.table.source_above(after)
+    }
+
+    /// How many entries the table has.
+    pub(crate) fn entries(&self) -> u32 {
+        self.table.entries()
+    }
+
+    pub(crate) fn sources(&self) -> Sources<'_, T> {
+        Sources::of(&self.table)
+    }
+
     /// Whether the table has an entry of a source.
     pub(crate) fn holds(&self, ssrc: u32) -> bool {
         self.table.holds(ssrc)

@@ -64,3 +64,8 @@ fn fractions(rt: HostRuntime) {
 fn held(rt: HostRuntime) {
     rooms::held::<SortedTable>(&rt);
 }
+
+#[test]
+fn told_in_turn(rt: HostRuntime) {
+    told::each_in_turn::<SortedTable>(&rt);
+}

@@ -1,0 +1,32 @@
+//! Laws of who is a member and who sends. Each is an empty function whose postcondition is the law.
+
+ghost use Rattle.std.specs.Prelude.{◌≡◌, ℕ, false, List, ◌∷◌, drop, length};
+ghost use Rattle.rtcp_wire.specs.declared.fact.Fact.{Fact};
+ghost use Rattle.rtcp_members.specs.Traces.{Horizons, TraceStep, check_made, with_facts};
+ghost use Rattle.rtcp_members.specs.Entries.{entry_at};
+ghost use Rattle.rtcp_members.specs.Tables.{TableValue, StandsAt};
+ghost use Rattle.rtcp_members.specs.Roles.{IsSameRole, step_moves, moved_within, facts_move, check_moves};
+
+/// A step changes who is a member or who sends exactly where it changes how many are members or how many send; and
+/// where none of the newest steps does, who is a member and who sends is as it was before them.
+pub fn roles_move_with_counts()
+    ensures kept { (capacity rate : ℕ) (step : TraceStep) (earlier : List TraceStep) →
+        step_moves capacity rate step earlier ≡ false → (ssrc : ℕ) →
+        IsSameRole (entry_at capacity rate earlier ssrc) (entry_at capacity rate (step ∷ earlier) ssrc) }
+    ensures moved { (capacity rate : ℕ) (step : TraceStep) (earlier : List TraceStep) →
+        ((ssrc : ℕ) →
+        IsSameRole (entry_at capacity rate earlier ssrc) (entry_at capacity rate (step ∷ earlier) ssrc)) →
+        step_moves capacity rate step earlier ≡ false }
+    ensures within { (capacity rate : ℕ) (steps : ℕ) (trace : List TraceStep) →
+        moved_within capacity rate steps trace ≡ false → (ssrc : ℕ) →
+        IsSameRole (entry_at capacity rate (drop steps trace) ssrc) (entry_at capacity rate trace ssrc) }
+{}
+
+/// Facts and checks change who is a member or who sends by the table where they do by the trace that it stands at.
+pub fn moves_follow_traces()
+    ensures facts { (facts : List Fact) (moment : ℕ) (table : TableValue) (trace : List TraceStep) →
+        StandsAt table trace → facts_move facts moment table
+        ≡ moved_within table.capacity table.rate (length facts) (with_facts facts moment trace) }
+    ensures check { (table : TableValue) (trace : List TraceStep) (horizons : Horizons) → StandsAt table trace →
+        check_moves horizons table ≡ step_moves table.capacity table.rate (check_made horizons) trace }
+{}

@@ -1,0 +1,40 @@
+//! Laws of what is told of the sources of a session. Each is an empty function whose postcondition is the law.
+
+ghost use Rattle.std.specs.Prelude.{◌≡◌, ◌==◌, ◌&&◌, ℕ, List, [], ◌∷◌, Option, Some, None, is_some, count_by, if◌then◌else◌};
+ghost use Rattle.rtcp_members.specs.Traces.{TraceStep};
+ghost use Rattle.rtcp_members.specs.Stays.{stay_of};
+ghost use Rattle.rtcp_members.specs.Pending.{is_after};
+ghost use Rattle.rtcp_members.specs.Tables.{TableValue, StandsAt};
+ghost use Rattle.rtcp_members.specs.Told.{StateValue, state_above, states_above, RiseAbove, TellsAbove, IsWalk};
+
+/// What a table that stands at a trace tells of the sources above an SSRC is what the trace says: of the one of
+/// least SSRC that is present, what its stay tells. There is only one answer that the trace allows.
+pub fn told_follows_traces()
+    ensures told { (after : Option ℕ) (table : TableValue) (trace : List TraceStep) → StandsAt table trace →
+        TellsAbove after table.capacity table.rate trace (state_above after table) }
+    ensures only { (after : Option ℕ) (capacity rate : ℕ) (trace : List TraceStep) (a b : Option StateValue) →
+        TellsAbove after capacity rate trace a → TellsAbove after capacity rate trace b → a ≡ b }
+{}
+
+/// Who asks for the source above `after`, and each time for the one above the last answer, until there is none, is
+/// told of each source above `after` that is present once, by rising SSRC.
+pub fn walks_tell_each_once()
+    ensures once { (after : Option ℕ) (capacity rate : ℕ) (trace : List TraceStep) (ssrc : ℕ)
+        (states : List StateValue) → IsWalk after capacity rate trace states →
+        count_by (λ (state : StateValue). state.ssrc == ssrc) states
+        ≡ (if is_after after ssrc && is_some (stay_of capacity trace ssrc) then 1 else 0) }
+    ensures rising { (after : Option ℕ) (capacity rate : ℕ) (trace : List TraceStep) (states : List StateValue) →
+        IsWalk after capacity rate trace states → RiseAbove after states }
+{}
+
+/// What a table has to tell, one source after the other, is such a walk: each answer is the first of it, and what is
+/// left is the walk above that source.
+pub fn tables_tell_walks()
+    ensures walk { (after : Option ℕ) (table : TableValue) (trace : List TraceStep) → StandsAt table trace →
+        IsWalk after table.capacity table.rate trace (states_above after table) }
+    ensures more { (after : Option ℕ) (table : TableValue) (state : StateValue) →
+        state_above after table ≡ Some state →
+        states_above after table ≡ state ∷ states_above (Some state.ssrc) table }
+    ensures none { (after : Option ℕ) (table : TableValue) → state_above after table ≡ None →
+        states_above after table ≡ [] }
+{}

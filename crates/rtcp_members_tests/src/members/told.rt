@@ -1,0 +1,67 @@
+//! What is told of each source, over any table.
+
+use super::*;
+use rtcp_source::{Reception, Told};
+use std::process::Abort;
+use std::test::*;
+
+/// A source with its name and a sender report, one that sends, and one that was only heard and left.
+pub(crate) fn each_in_turn<T: InlineTable + Drop>(rt: &impl Abort) {
+    let mut session: Session<T> = Session::new(4);
+    session.place(Fact::Heard(9), 5);
+    session.place(Fact::Named(3), 7);
+    session.place(Fact::Told(3, 0x0000_0001_8000_0000), 8);
+    session.apply(Fact::Media(4, 10, 0), 10);
+    session.apply(Fact::Media(4, 11, 0), 20);
+    session.apply(Fact::Media(4, 14, 0), 30);
+    session.place(Fact::Gone(9), 40);
+    let three = SourceState {
+        ssrc: 3,
+        is_member: true,
+        is_sender: false,
+        left: None,
+        heard: 8,
+        reception: None,
+        told: Some(Told {
+            ntp: 0x0000_0001_8000_0000,
+            moment: 8,
+        }),
+    };
+    // 11 and 14 of 11 to 14 were counted
+    let four = SourceState {
+        ssrc: 4,
+        is_member: true,
+        is_sender: true,
+        left: None,
+        heard: 30,
+        reception: Some(Reception {
+            received: 2,
+            lost: 2,
+            highest: 14,
+            jitter: 0,
+        }),
+        told: None,
+    };
+    let nine = SourceState {
+        ssrc: 9,
+        is_member: false,
+        is_sender: false,
+        left: Some(40),
+        heard: 5,
+        reception: None,
+        told: None,
+    };
+    assert_eq!(rt; (session.entries(), session.members()), (3, 2));
+    assert!(rt; session.told(None) == Some(three));
+    assert!(rt; session.told(Some(2)) == Some(three));
+    assert!(rt; session.told(Some(3)) == Some(four));
+    assert!(rt; session.told(Some(4)) == Some(nine));
+    assert!(rt; session.told(Some(9)) == None);
+    let all = [three, four, nine];
+    let mut told = 0usize;
+    for source in session.sources() {
+        assert!(rt; all.get(told) == Some(&source));
+        told = told.saturating_add(1);
+    }
+    assert_eq!(rt; told, 3);
+}
