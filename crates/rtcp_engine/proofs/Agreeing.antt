@@ -1,5 +1,5 @@
 -- A table and numbers that agree with an outcome agree, once they moved, with the outcome after the same act.
-use Rattle.std.proofs.Common.{◌≡◌, ℕ, ◌+◌, ◌==◌, Bool, List, [], ◌∷◌, length, Option, is_some, refl, sym, ap, ◌∙◌, arith, subst}
+use Rattle.std.proofs.Common.{None, ◌≡◌, ℕ, ◌+◌, ◌==◌, Bool, List, [], ◌∷◌, length, Option, is_some, refl, sym, ap, ◌∙◌, arith, subst}
 use Rattle.std.proofs.lemmas.Bool.{ne_eqb}
 use Rattle.rtcp_wire.specs.declared.fact.Fact.{Fact}
 use Rattle.rtcp_wire.specs.RtpHeads.{RtpValue}
@@ -9,6 +9,10 @@ use Rattle.rtcp_members.specs.Entries.{members_at, senders_at, counted_at}
 use Rattle.rtcp_members.specs.Tables.{StandsAt as IsTableAt, counted, after_facts, members_in, senders_in}
 use Rattle.rtcp_members.specs.Pending.{EntryRow, pending, after_blocks, blocks_of, last_reported}
 use Rattle.rtcp_members.specs.News.{pending_rows_at}
+use Rattle.std.specs.FinMap as finite
+use Rattle.rtcp_members.specs.Traces.{names}
+use Rattle.rtcp_members.specs.Stays.{present_among, stay_of}
+use Rattle.rtcp_members.specs.Told.{StateValue, state_above, states_above, TellsAbove, IsWalk}
 use Rattle.rtcp_members.proofs.LawLemmas as tables
 use Rattle.rtcp_report.specs.Reports.{Reporter, packets_with}
 use Rattle.rtcp_report.specs.Sizes.{fitting, reported_rows, report_of}
@@ -33,6 +37,21 @@ members_agree s o a =
 
 we_sent_agrees : (s : State) (o : Outcome) → Agrees s o → is_some s.own.sending ≡ is_some (sending_since o.own)
 we_sent_agrees s o a = ap (λ (own : OwnValue). is_some own.sending) a.own
+
+pub entries_agree : (s : State) (o : Outcome) → Agrees s o → finite.len s.table.entries ≡ present_among (names o.trace) (stay_of s.setup.capacity o.trace)
+entries_agree s o a = tables.counts_agree-entries s.table o.trace a.table ∙ ap (λ (c : ℕ). present_among (names o.trace) (stay_of c o.trace)) a.capacity
+
+pub tells_agree : (s : State) (o : Outcome) → Agrees s o → (after : Option ℕ) (told : Option StateValue) → told ≡ state_above after s.table → TellsAbove after s.setup.capacity s.setup.rate o.trace told
+tells_agree s o a after told is =
+    subst (λ (r : ℕ). TellsAbove after s.setup.capacity r o.trace told) a.rate
+    (subst (λ (c : ℕ). TellsAbove after c s.table.rate o.trace told) a.capacity
+    (subst (λ (t : Option StateValue). TellsAbove after s.table.capacity s.table.rate o.trace t) (sym is) (tables.told_follows_traces-told after s.table o.trace a.table)))
+
+pub walks_agree : (s : State) (o : Outcome) → Agrees s o → (states : List StateValue) → states ≡ states_above None s.table → IsWalk None s.setup.capacity s.setup.rate o.trace states
+walks_agree s o a states is =
+    subst (λ (r : ℕ). IsWalk None s.setup.capacity r o.trace states) a.rate
+    (subst (λ (c : ℕ). IsWalk None c s.table.rate o.trace states) a.capacity
+    (subst (λ (l : List StateValue). IsWalk None s.table.capacity s.table.rate o.trace l) (sym is) (tables.tables_tell_walks-walk None s.table o.trace a.table)))
 
 pub senders_agree : (s : State) (o : Outcome) → Agrees s o → senders_in s.table + one_if (is_some s.own.sending) ≡ sender_count s.setup o
 senders_agree s o a =

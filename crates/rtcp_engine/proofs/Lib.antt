@@ -8,6 +8,9 @@ mod ChangeRows
 mod Changing
 mod Choosing
 mod Counting
+mod DifferenceLaws
+mod DifferenceRows
+mod Differing
 mod Doing
 mod Following
 mod LateRows

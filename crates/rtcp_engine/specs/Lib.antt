@@ -24,3 +24,4 @@ pub mod OwnValues
 pub mod States
 pub mod Promises
 pub mod Codes
+pub mod Differences

@@ -1,7 +1,10 @@
 -- What the acts of a session make of it, its leave included: the participant takes part, backs off, or is gone.
-use Rattle.std.specs.Prelude.{ℕ, List, if◌then◌else◌, Option, Some, None, option_map, Result, Ok, Err}
+use Rattle.std.specs.Prelude.{ℕ, ◌≡◌, List, [], if◌then◌else◌, Option, Some, None, option_map, Result, Ok, Err}
 use Rattle.rtcp_wire.specs.declared.fault.WireFault.{WireFault}
 use Rattle.rtcp_wire.specs.Values.{RtcpPacket}
+use Rattle.rtcp_members.specs.Traces.{names}
+use Rattle.rtcp_members.specs.Stays.{present_among, stay_of}
+use Rattle.rtcp_members.specs.Told.{StateValue, TellsAbove, IsWalk}
 use Rattle.rtcp_engine.specs.declared.step.OutKind.TheVariants.{Report, Bye}
 use Rattle.rtcp_engine.specs.Setups.{Setup}
 use Rattle.rtcp_engine.specs.Acts.{Act, rtcp, arrived, ticked, left}
@@ -54,6 +57,26 @@ abbrev pub senders_in_life : Setup → Life → ℕ
 senders_in_life setup (present outcome) = sender_count setup outcome
 senders_in_life setup (backing_off outcome backoff) = 0
 senders_in_life setup (gone outcome) = 0
+
+-- how many sources are present, members or not, until the participant leaves
+abbrev pub entries_in_life : Setup → Life → ℕ
+entries_in_life setup (present outcome) = present_among (names outcome.trace) (stay_of setup.capacity outcome.trace)
+entries_in_life setup (backing_off outcome backoff) = 0
+entries_in_life setup (gone outcome) = 0
+
+-- Of the sources above `after` the one of least SSRC is told, by the trace, as long as the participant takes part.
+-- In a backoff it follows nobody any more, so nobody is told from its leave on.
+abbrev pub TellsInLife : Setup → (after : Option ℕ) → Life → Option StateValue → Type 0
+TellsInLife setup after (present outcome) told =
+    TellsAbove after setup.capacity setup.rate outcome.trace told
+TellsInLife setup after (backing_off outcome backoff) told = told ≡ None
+TellsInLife setup after (gone outcome) told = told ≡ None
+
+-- what is told of all sources, one after the other
+abbrev pub WalksInLife : Setup → Life → List StateValue → Type 0
+WalksInLife setup (present outcome) states = IsWalk None setup.capacity setup.rate outcome.trace states
+WalksInLife setup (backing_off outcome backoff) states = states ≡ []
+WalksInLife setup (gone outcome) states = states ≡ []
 
 -- the moment to ask again, until the participant is gone
 abbrev pub next_in_life : Life → Option ℕ

@@ -42,6 +42,8 @@ mod arrival;
 mod byes;
 mod changes;
 mod config;
+pub mod difference_laws;
+mod differences;
 mod event;
 mod extra;
 pub mod laws;
@@ -55,6 +57,7 @@ mod step;
 mod table;
 
 pub use config::{Config, ConfigError, rtcp_bw_of, shares_of};
+pub use differences::{Change, Changes, Listed, Role, is_rising};
 pub use event::Event;
 pub use participant::Participant;
 pub use refusal::Refusal;

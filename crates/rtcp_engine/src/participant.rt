@@ -1,15 +1,16 @@
 //! A participant of a session, up to its leave and through it (RFC 3550, 6.2, 6.3).
 
-ghost use Rattle.std.specs.Prelude.{◌≡◌, ◌↔◌, ◌≤◌, ◌<◌, List, Result, Some, None, Err, IfOk, IsTrue, OnErr, is_some};
+ghost use Rattle.std.specs.Prelude.{option_map, ◌≡◌, ◌↔◌, ◌≤◌, ◌<◌, List, Result, Some, None, Err, IfOk, IsTrue, OnErr, is_some};
 ghost use Rattle.rtcp_wire.specs.declared.fault.WireFault.{WireFault as Fault};
 ghost use Rattle.rtcp_wire.specs.declared.rtp.fault.RtpFault.{RtpFault as HeadFault};
 ghost use Rattle.rtcp_wire.specs.Values.{RtcpPacket};
 ghost use Rattle.rtcp_members.specs.Tables.{no_members};
 ghost use Rattle.rtcp_wire.specs.RtpHeads.{RtpValue};
+ghost use Rattle.rtcp_members.specs.ListViews.{state_value};
 ghost use Rattle.rtcp_engine.specs.declared.config.ConfigError.{ConfigError as Error};
 ghost use Rattle.rtcp_engine.specs.Acts.{rtcp_came, rtp_came, rtp_sent, ticked, left, IsReading, IsRtpReading};
 ghost use Rattle.rtcp_engine.specs.Histories.{History, life_at, setup_at};
-ghost use Rattle.rtcp_engine.specs.Lives.{members_in_life, senders_in_life, next_in_life};
+ghost use Rattle.rtcp_engine.specs.Lives.{members_in_life, senders_in_life, entries_in_life, TellsInLife, WalksInLife, next_in_life};
 ghost use Rattle.rtcp_engine.specs.Refused.{error_in};
 ghost use Rattle.rtcp_engine.specs.States.{KeepsCapacity, StandsAt};
 ghost use Rattle.rtcp_engine.specs.InTime.{IsOverdue};
@@ -22,7 +23,7 @@ use crate::config::{Config, ConfigError};
 use crate::presence::Presence;
 use crate::step::Answer;
 use arrayvec::ArrayVec;
-use rtcp_members::{InlineTable, MemberTable};
+use rtcp_members::{InlineTable, MemberTable, SourceState, Sources};
 use std::marker::Model;
 
 mod arriving;
@@ -128,6 +129,45 @@ impl<T: MemberTable> Participant<T> {
             Phase::Present => self.presence.sender_count(),
             Phase::BackingOff(_) | Phase::Gone => 0,
         }
+    }
+
+    /// What is known of the source of least SSRC above `after`, or of all sources: members, those that are not
+    /// yet valid, and those that left and are held for a while. It changes nothing. The participant itself is
+    /// none of them. Begun with `None` and gone on with the SSRC of each answer, it goes through all sources, by
+    /// rising SSRC. `None` where there is no such source, and once the participant leaves, as it then follows
+    /// nobody any more.
+    pub fn source_above(&self, after: Option<u32>) -> Option<SourceState>
+        ensures { (history : History) → StandsAt self.now history →
+            TellsInLife (setup_at history) after (life_at history) (option_map state_value result) }
+    {
+        match self.phase {
+            Phase::Present => self.presence.source_above(after),
+            Phase::BackingOff(_) | Phase::Gone => None,
+        }
+    }
+
+    /// How many places of the table are taken: by members, by sources that are not yet valid, and by those that left and
+    /// are held for a while. As many as the configuration's `capacity` say that the table is full, as under a flood of
+    /// invented SSRCs: then no other source is taken up until a check drops one. 0 once the participant leaves.
+    pub fn entries(&self) -> u32
+        ensures { (history : History) → StandsAt self.now history →
+            result ≡ entries_in_life (setup_at history) (life_at history) }
+    {
+        match self.phase {
+            Phase::Present => self.presence.entries(),
+            Phase::Gone | Phase::BackingOff(_) => 0,
+        }
+    }
+
+    /// What is known of each source, by rising SSRC: an iterator over all answers of `source_above`.
+    pub fn sources(&self) -> Sources<'_, T>
+        ensures { (history : History) → StandsAt self.now history →
+            WalksInLife (setup_at history) (life_at history) result }
+    {
+        if let Phase::Present = self.phase {
+            return self.presence.sources();
+        }
+        Sources::none()
     }
 
     /// When to call `tick` next, in microseconds since the session began: `None` once the participant has left.

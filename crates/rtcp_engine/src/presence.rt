@@ -1,6 +1,9 @@
 //! A participant as long as it takes part in its session (RFC 3550, 6.2, 6.3).
 
-ghost use Rattle.std.specs.Prelude.{◌≡◌, ◌↔◌, ◌≤◌, ◌<◌, ◌*◌, ◌^◌, Option, Some, None, is_some};
+ghost use Rattle.std.specs.Prelude.{◌≡◌, ◌↔◌, ◌≤◌, ◌<◌, ◌*◌, ◌^◌, Option, Some, None, is_some, option_map};
+ghost use Rattle.std.specs.FinMap as map;
+ghost use Rattle.rtcp_members.specs.Told.{state_above, states_above};
+ghost use Rattle.rtcp_members.specs.ListViews.{state_value};
 ghost use Rattle.rtcp_members.specs.Tables.{no_members};
 ghost use Rattle.rtcp_engine.specs.Refused.{error_in};
 ghost use Rattle.rtcp_engine.specs.Views.{setup_of};
@@ -13,7 +16,7 @@ use crate::config::Config;
 use crate::own::OwnStream;
 use crate::refusal::Refusal;
 use crate::table::member_count;
-use rtcp_members::MemberTable;
+use rtcp_members::{MemberTable, SourceState, Sources};
 use rtcp_report::first_size;
 use rtcp_timer::{Average, Load, Schedule, interval};
 use std::marker::Model;
@@ -114,6 +117,27 @@ impl<T: MemberTable> Presence<T> {
             result ≡ sender_count_of self.now.setup outcome }
     {
         self.table.senders() + one_if_sending(&self.own)
+    }
+
+    /// How many sources the table has.
+    pub(crate) fn entries(&self) -> u32
+        ensures { result ≡ map.len self.now.table.entries }
+    {
+        self.table.entries()
+    }
+
+    /// What is known of the source of least SSRC above `after`, or of all sources.
+    pub(crate) fn source_above(&self, after: Option<u32>) -> Option<SourceState>
+        ensures { option_map state_value result ≡ state_above after self.now.table }
+    {
+        self.table.source_above(after)
+    }
+
+    /// What is known of each source, by rising SSRC.
+    pub(crate) fn sources(&self) -> Sources<'_, T>
+        ensures { result ≡ states_above None self.now.table }
+    {
+        Sources::of(&self.table)
     }
 
     pub(crate) fn next_moment(&self) -> u64

@@ -241,3 +241,13 @@ fn in_a_backoff(rt: HostRuntime) {
 fn counts_byes(rt: HostRuntime) {
     changes::counts_byes::<ListTable>(&rt);
 }
+
+#[test]
+fn each_source_once(rt: HostRuntime) {
+    listing::each_once::<ListTable>(&rt);
+}
+
+#[test]
+fn no_source_from_the_leave_on(rt: HostRuntime) {
+    listing::none_from_the_leave_on::<ListTable>(&rt);
+}

@@ -248,3 +248,13 @@ fn in_a_backoff(rt: HostRuntime) {
 fn counts_byes(rt: HostRuntime) {
     changes::counts_byes::<SortedTable>(&rt);
 }
+
+#[test]
+fn each_source_once(rt: HostRuntime) {
+    listing::each_once::<SortedTable>(&rt);
+}
+
+#[test]
+fn no_source_from_the_leave_on(rt: HostRuntime) {
+    listing::none_from_the_leave_on::<SortedTable>(&rt);
+}

@@ -1,0 +1,37 @@
+//! Laws of the changes between two listings. Each is an empty function whose postcondition is the law.
+
+ghost use Rattle.std.specs.Prelude.{◌≡◌, ◌==◌, ℕ, List, map, count_by, true, None, if◌then◌else◌};
+ghost use Rattle.rtcp_members.specs.Told.{StateValue, RiseAbove};
+ghost use Rattle.rtcp_engine.specs.Differences.{
+  ListedValue,
+  listed_of,
+  rises_from,
+  role_in,
+  is_same,
+  changes,
+  changed,
+  changes_rise_from,
+};
+ghost use Rattle.rtcp_engine.specs.declared.differences.change.Change.{Change};
+
+/// The changes tell of a source once where its roles in both listings differ, and else not at all; and they tell
+/// of the sources by rising SSRC.
+pub fn changes_tell_each_once()
+    ensures once { (before after : List ListedValue) (ssrc : ℕ) →
+        count_by (λ (change : Change). change.ssrc == ssrc) (changes before after)
+        ≡ (if is_same (role_in before ssrc) (role_in after ssrc) then 0 else 1) }
+    ensures rising { (before after : List ListedValue) → changes_rise_from 0 (changes before after) ≡ true }
+{}
+
+/// Who knows each role by the earlier listing, and follows the changes, knows each role by the later one.
+pub fn changes_lead_to_the_later()
+    ensures { (before after : List ListedValue) (ssrc : ℕ) →
+        changed (changes before after) (role_in before) ssrc ≡ role_in after ssrc }
+{}
+
+/// What is told of the sources of a session, one after the other, is a listing that [`Changes`](crate::Changes)
+/// takes.
+pub fn told_sources_are_listings()
+    ensures { (states : List StateValue) → RiseAbove None states →
+        rises_from 0 (map listed_of states) ≡ true }
+{}
