@@ -62,6 +62,7 @@ static int empty(void)
 {
     jalwedd_handle handle = JALWEDD_EMPTY;
     jalwedd_step step;
+    jalwedd_source_state source = {.ssrc = 99};
     uint8_t octets[JALWEDD_OCTETS] = {0};
     HOLDS(jalwedd_arrive_rtcp(&handle, 0, 1, 0, OF_SEVEN, sizeof OF_SEVEN, &step, octets) == JALWEDD_IS_EMPTY);
     HOLDS(is_blank(&step));
@@ -70,6 +71,7 @@ static int empty(void)
     HOLDS(jalwedd_tick(&handle, 0, 0, 0, &step, octets) == JALWEDD_IS_EMPTY);
     HOLDS(jalwedd_leave(&handle, 0, 0, &step, octets) == JALWEDD_IS_EMPTY);
     HOLDS(jalwedd_members(&handle) == 0 && jalwedd_senders(&handle) == 0 && jalwedd_ssrc(&handle) == 0);
+    HOLDS(jalwedd_source(&handle, 0, &source) == JALWEDD_NO_SOURCE && source.ssrc == 99 && jalwedd_entries(&handle) == 0);
     HOLDS(jalwedd_next(&handle) == JALWEDD_NEVER);
     HOLDS(jalwedd_free(&handle) == JALWEDD_IS_EMPTY && handle.at == NULL);
     return 0;
@@ -155,6 +157,90 @@ static int reports(void)
     return 0;
 }
 
+/* The parts of a datagram: an SR of 9 with a block about aa, an SDES of 9 with the items "ab" and one of 0 octets, and
+ * BYEs of 9 and 7 with the reason "c", of 5 with one of 0 octets, and of 4 with none. */
+static int parts(void)
+{
+    static const uint8_t datagram[] = {
+        0x81, 0xc8, 0, 12, 0, 0, 0, 9, 0xb7, 0x10, 0x80, 0, 0, 0, 0, 5, 0, 0, 0x23, 0xf8, 0, 0, 0, 2, 0, 0, 1, 0x40,
+        0, 0, 0, 0xaa, 25, 0, 0, 3, 0, 0, 0, 11, 0, 0, 0, 4, 0, 0, 0, 1, 0, 0, 0, 2,
+        0x81, 0xca, 0, 3, 0, 0, 0, 9, 1, 2, 'a', 'b', 7, 0, 0, 0,
+        0x82, 0xcb, 0, 3, 0, 0, 0, 9, 0, 0, 0, 7, 1, 'c', 0, 0,
+        0x81, 0xcb, 0, 2, 0, 0, 0, 5, 0, 0, 0, 0,
+        0x81, 0xcb, 0, 1, 0, 0, 0, 4};
+    static const jalwedd_goodbye_place leaving[] = {{81, 1, 9, 1}, {81, 1, 7, 1}, {93, 0, 5, 1}, {0, 0, 4, 0}};
+    jalwedd_sender_info sender;
+    jalwedd_report report;
+    jalwedd_item_place item;
+    jalwedd_goodbye_place goodbye;
+    HOLDS(jalwedd_sender(datagram, sizeof datagram, 0, &sender) == JALWEDD_TAKEN && sender.ssrc == 9);
+    HOLDS(sender.ntp == 0xb710800000000005 && sender.rtp == 9208 && sender.packets == 2 && sender.octets == 320);
+    HOLDS(jalwedd_sender(datagram, sizeof datagram, 1, &sender) == JALWEDD_NO_PART && sender.ssrc == 9);
+    HOLDS(jalwedd_block(datagram, sizeof datagram, 0, &report) == JALWEDD_TAKEN && report.reporter == 9);
+    HOLDS(report.ssrc == 0xaa && report.lost == 3 && report.lsr == 1 && report.dlsr == 2);
+    HOLDS(jalwedd_block(datagram, sizeof datagram, 1, &report) == JALWEDD_NO_PART && report.ssrc == 0xaa);
+    HOLDS(jalwedd_sdes_item(datagram, sizeof datagram, 0, &item) == JALWEDD_TAKEN && item.ssrc == 9 && item.kind == 1);
+    HOLDS(item.size == 2 && memcmp(datagram + item.offset, "ab", 2) == 0);
+    HOLDS(jalwedd_sdes_item(datagram, sizeof datagram, 1, &item) == JALWEDD_TAKEN && item.ssrc == 9 && item.kind == 7);
+    HOLDS(item.size == 0 && item.offset == 66);
+    HOLDS(jalwedd_sdes_item(datagram, sizeof datagram, 2, &item) == JALWEDD_NO_PART && item.kind == 7);
+    for (uint32_t index = 0; index < 4; index++) {
+        HOLDS(jalwedd_goodbye(datagram, sizeof datagram, index, &goodbye) == JALWEDD_TAKEN);
+        HOLDS(memcmp(&goodbye, &leaving[index], sizeof goodbye) == 0);
+    }
+    HOLDS(datagram[leaving[0].offset] == 'c');
+    HOLDS(jalwedd_goodbye(datagram, sizeof datagram, 4, &goodbye) == JALWEDD_NO_PART && goodbye.ssrc == 4);
+    HOLDS(jalwedd_goodbye(datagram, sizeof datagram, UINT32_MAX, &goodbye) == JALWEDD_NO_PART && goodbye.ssrc == 4);
+    return 0;
+}
+
+/* Of a datagram that is refused, and of one of 0 octets, no part is told. */
+static int no_parts(void)
+{
+    uint8_t *cut = malloc(18), *none = calloc(1, 1);
+    jalwedd_sender_info sender = {.ssrc = 99};
+    jalwedd_report report = {.ssrc = 99};
+    jalwedd_item_place item = {.ssrc = 99};
+    jalwedd_goodbye_place goodbye = {.ssrc = 99};
+    memcpy(cut, OF_SEVEN, 18);
+    for (size_t size = 0; size <= 18; size += 18) {
+        const uint8_t *datagram = size == 0 ? none : cut;
+        HOLDS(jalwedd_sender(datagram, size, 0, &sender) == JALWEDD_NO_COMPOUND && sender.ssrc == 99);
+        HOLDS(jalwedd_block(datagram, size, 0, &report) == JALWEDD_NO_COMPOUND && report.ssrc == 99);
+        HOLDS(jalwedd_sdes_item(datagram, size, 0, &item) == JALWEDD_NO_COMPOUND && item.ssrc == 99);
+        HOLDS(jalwedd_goodbye(datagram, size, 0, &goodbye) == JALWEDD_NO_COMPOUND && goodbye.ssrc == 99);
+    }
+    free(cut);
+    free(none);
+    return 0;
+}
+
+/* Who is there: one source, from any number up to its own on, and nobody from the leave on. */
+static int sources(void)
+{
+    jalwedd_handle handle = JALWEDD_EMPTY;
+    jalwedd_step step;
+    uint8_t octets[JALWEDD_OCTETS] = {0};
+    const jalwedd_item no_item = {0, 0, ""};
+    jalwedd_source_state source = {.ssrc = 99};
+    HOLDS(jalwedd_new(&handle, &CONFIG, OF_SEVEN + 18, 1, &no_item, 0, 0, &step) == JALWEDD_TAKEN);
+    HOLDS(jalwedd_source(&handle, 0, &source) == JALWEDD_NO_SOURCE && source.ssrc == 99);
+    HOLDS(jalwedd_arrive_rtcp(&handle, 5, 1, 0, OF_SEVEN, sizeof OF_SEVEN, &step, octets) == JALWEDD_TAKEN);
+    HOLDS(jalwedd_source(&handle, 0, &source) == JALWEDD_TAKEN && jalwedd_entries(&handle) == 1);
+    HOLDS(source.ssrc == 7 && source.member == 1 && source.sender == 0 && source.heard == 5);
+    HOLDS(source.left == JALWEDD_NEVER && source.told == JALWEDD_NEVER && source.received == 0 && source.ntp == 0);
+    source.ssrc = 99;
+    HOLDS(jalwedd_source(&handle, 7, &source) == JALWEDD_TAKEN && source.ssrc == 7);
+    source.ssrc = 99;
+    HOLDS(jalwedd_source(&handle, 8, &source) == JALWEDD_NO_SOURCE && source.ssrc == 99);
+    HOLDS(jalwedd_source(&handle, UINT64_MAX, &source) == JALWEDD_NO_SOURCE && source.ssrc == 99);
+    HOLDS(jalwedd_tick(&handle, 1026037, 0, 0, &step, octets) == JALWEDD_TAKEN && step.kind == JALWEDD_REPORT);
+    HOLDS(jalwedd_leave(&handle, 1026037, 0, &step, octets) == JALWEDD_TAKEN && step.kind == JALWEDD_BYE);
+    HOLDS(jalwedd_source(&handle, 0, &source) == JALWEDD_NO_SOURCE && jalwedd_entries(&handle) == 0);
+    HOLDS(jalwedd_free(&handle) == JALWEDD_TAKEN);
+    return 0;
+}
+
 /* Memory is refused as a participant begins, at the first block and at the second, which leaves nothing behind; and then
  * there are just these two, which its end gives back. */
 static int memory(void)
@@ -184,5 +270,5 @@ static int memory(void)
 
 int main(void)
 {
-    return empty() || begun() || lengths() || reports() || memory();
+    return empty() || begun() || lengths() || reports() || parts() || no_parts() || sources() || memory();
 }

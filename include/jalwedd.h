@@ -53,6 +53,8 @@ enum {
     JALWEDD_OWN_SSRC = 7,       /* E7: the datagram names the own SSRC, and changes it no more (8.2) */
 
     JALWEDD_NO_BLOCK = 8,       /* jalwedd_about: there is no such block */
+    JALWEDD_NO_PART = 8,        /* jalwedd_sender, _block, _sdes_item, _goodbye: no such part */
+    JALWEDD_NO_SOURCE = 9,      /* jalwedd_source: there is no such source */
 
     /* A configuration that is refused: the first of these that applies, but that a CNAME of more than 255 octets and
      * more than 7 items come before the others. */
@@ -138,6 +140,48 @@ typedef struct jalwedd_report {
     uint32_t dlsr;          /* the time since that report, in 1/65,536 of a second, or 0 */
 } jalwedd_report;
 
+/* What a sender report says of its sender (6.4.1). */
+typedef struct jalwedd_sender_info {
+    uint64_t ntp;           /* when it was sent, as an NTP timestamp: seconds since 1900 in the upper 32 bits, their
+                               fraction in the lower */
+    uint32_t ssrc;          /* the SSRC of the source that sent it */
+    uint32_t rtp;           /* the same moment in units of the sender's RTP timestamps */
+    uint32_t packets;       /* how many RTP packets were sent up to then */
+    uint32_t octets;        /* how many octets their payloads have, without headers and padding */
+} jalwedd_sender_info;
+
+/* An SDES item (6.5), and where its text stands in the datagram. */
+typedef struct jalwedd_item_place {
+    uint64_t offset;        /* the octets before the text */
+    uint64_t size;          /* the octets of the text, 0 to 255: no zero octet follows it */
+    uint32_t ssrc;          /* the SSRC of the source that it describes */
+    uint32_t kind;          /* CNAME 1, NAME 2, EMAIL 3, PHONE 4, LOC 5, TOOL 6, NOTE 7, PRIV 8, or another */
+} jalwedd_item_place;
+
+/* A source that leaves (6.6), and where the reason stands in the datagram. */
+typedef struct jalwedd_goodbye_place {
+    uint64_t offset;        /* the octets before the reason's text, or 0 where there is none */
+    uint64_t size;          /* the octets of the text, 0 to 255 */
+    uint32_t ssrc;          /* the SSRC of the source */
+    uint32_t has_reason;    /* 1 if the BYE gives a reason, also one of 0 octets, else 0 */
+} jalwedd_goodbye_place;
+
+/* What is known of a source. */
+typedef struct jalwedd_source_state {
+    uint64_t heard;         /* when it was last heard before it left */
+    uint64_t left;          /* when it said goodbye, or JALWEDD_NEVER */
+    uint64_t told;          /* when its last sender report came, or JALWEDD_NEVER */
+    uint64_t ntp;           /* the NTP timestamp of that report, or 0 */
+    uint64_t received;      /* how many of its packets were counted, late and repeated ones included. Where none was, it
+                               is 0, and so are the next three */
+    int32_t lost;           /* how many were lost: negative where packets came twice */
+    uint32_t highest;       /* the highest sequence number in the low 16 bits, and above them how often they wrapped */
+    uint32_t jitter;        /* the jitter of their arrival, in units of their RTP timestamps */
+    uint32_t ssrc;
+    uint32_t member;        /* 1 if it is a member (6.2.1), else 0: it is not yet valid, or it left */
+    uint32_t sender;        /* 1 if it sends RTP packets, else 0 */
+} jalwedd_source_state;
+
 /* ---- A participant */
 
 /* Puts a participant of a session that begins now, at moment 0, into an empty handle. `word` is for the draw of the
@@ -185,6 +229,18 @@ uint32_t jalwedd_senders(jalwedd_handle *handle);
 uint64_t jalwedd_next(jalwedd_handle *handle);
 uint32_t jalwedd_ssrc(jalwedd_handle *handle);
 
+/* How many places of the participant's table are taken: by members, by sources that are not yet valid, and by those that
+ * left and are held for a while. As many as config.capacity say that it is full, as under a flood of invented SSRCs:
+ * then no other source is taken up until one is dropped. 0 once the participant leaves, and for an empty handle. */
+uint32_t jalwedd_entries(jalwedd_handle *handle);
+
+/* Tells what is known of the source of least SSRC from `from` on: of members, of those that are not yet valid, and of
+ * those that left and are held for a while, but not of the participant itself. It changes nothing. Begin with 0, and go
+ * on with (uint64_t)ssrc + 1 until the status is not TAKEN: then each source was told once. `source` is left as it is
+ * where there is no such source, once the participant leaves, and for an empty handle.
+ * Statuses: TAKEN; NO_SOURCE. */
+uint32_t jalwedd_source(jalwedd_handle *handle, uint64_t from, jalwedd_source_state *source);
+
 /* ---- Datagrams */
 
 /* Tells whether a datagram is a compound (6.1). Where it is, `fault` is left as it is.
@@ -195,6 +251,15 @@ uint32_t jalwedd_check(const uint8_t *datagram, size_t size, jalwedd_fault *faul
  * `index`, from 0 on. Ask until the status is not TAKEN; then `report` is left as it is.
  * Statuses: TAKEN; NO_COMPOUND; NO_BLOCK. */
 uint32_t jalwedd_about(const uint8_t *datagram, size_t size, uint32_t ssrc, uint32_t index, jalwedd_report *report);
+
+/* Tells of a datagram the part at `index`, from 0 on, of those of a kind, in their order: of its sender reports, of the
+ * blocks of all its reports, of the items of all its source descriptions, and of the sources that its BYEs name. Ask
+ * with 0, 1, .. until the status is not TAKEN: then each was told once. What is written to is left as it is then.
+ * Statuses: TAKEN; NO_COMPOUND; NO_PART. */
+uint32_t jalwedd_sender(const uint8_t *datagram, size_t size, uint32_t index, jalwedd_sender_info *sender);
+uint32_t jalwedd_block(const uint8_t *datagram, size_t size, uint32_t index, jalwedd_report *report);
+uint32_t jalwedd_sdes_item(const uint8_t *datagram, size_t size, uint32_t index, jalwedd_item_place *item);
+uint32_t jalwedd_goodbye(const uint8_t *datagram, size_t size, uint32_t index, jalwedd_goodbye_place *goodbye);
 
 /* The round-trip time by a report, in 1/65,536 of a second and modulo 2^32: `arrival` is the middle 32 bits of the NTP
  * timestamp of the moment at which it came, (uint32_t)(jalwedd_ntp_of(ntp_base, now) >> 16). A report whose lsr is 0

@@ -4,3 +4,5 @@ pub mod Owned
 pub mod Answers
 pub mod Configs
 pub mod Readings
+pub mod Parts
+pub mod Sources

@@ -1,19 +1,24 @@
 //! What a host keeps.
 
-ghost use Rattle.std.specs.Prelude.{◌≡◌, MatchOption, Some, None};
-ghost use Rattle.rtcp_engine.specs.Histories.{History};
+ghost use Rattle.std.specs.Prelude.{◌≡◌, MatchOption, Some, None, option_map};
+ghost use Rattle.rtcp_members.specs.ListViews.{state_value};
+ghost use Rattle.rtcp_engine.specs.Histories.{History, life_at, setup_at};
+ghost use Rattle.rtcp_engine.specs.Lives.{TellsInLife, entries_in_life};
 ghost use Rattle.rtcp_engine.specs.Views.{reply_value};
 ghost use Rattle.jalwedd_c.specs.Answers.{HandsOut, IsBlank, Shows, status_of};
 ghost use Rattle.jalwedd_c.specs.Handles.{LeadsTo};
+ghost use Rattle.jalwedd_c.specs.Sources.{after_of};
 
 use crate::owned::Owned;
 use crate::owned::loose::Loose;
 use crate::session::Session;
 use crate::showing::{Handed, hand_out};
+use crate::source::before;
 use crate::status::TAKEN;
 use crate::step::Step;
 use arrayvec::ArrayVec;
 use rtcp_engine::Reply;
+use rtcp_members::SourceState;
 use rtcp_wire::MAX_COMPOUND;
 use std::alloc::Global;
 use std::mem;
@@ -74,6 +79,41 @@ impl Handle {
         *step = session.step(handed);
         self.put(session);
         handed.status
+    }
+
+    /// How many places of the table are taken: none where the handle is empty.
+    pub(crate) fn entries(&mut self, alloc: Global) -> u32
+        ensures entries { (history : History) → LeadsTo self.old.owned.held history →
+            result ≡ entries_in_life (setup_at history) (life_at history) }
+        ensures none { self.old.owned.held ≡ None → result ≡ 0 }
+        ensures kept { self.new.owned.held ≡ self.old.owned.held }
+    {
+        match self.take(alloc) {
+            Some(session) => {
+                let entries = session.participant.entries();
+                self.put(session);
+                entries
+            }
+            None => 0,
+        }
+    }
+
+    /// What is known of the source of least SSRC from `from` on: nothing where the handle is empty.
+    pub(crate) fn source(&mut self, alloc: Global, from: u64) -> Option<SourceState>
+        ensures told { (history : History) → LeadsTo self.old.owned.held history →
+            TellsInLife (setup_at history) (after_of from) (life_at history)
+            (option_map state_value result) }
+        ensures none { self.old.owned.held ≡ None → result ≡ None }
+        ensures kept { self.new.owned.held ≡ self.old.owned.held }
+    {
+        match self.take(alloc) {
+            Some(session) => {
+                let state = session.participant.source_above(before(from));
+                self.put(session);
+                state
+            }
+            None => None,
+        }
     }
 
     /// What there is to tell at any time: a blank step where it is empty.

@@ -3,8 +3,8 @@
 //! and writes a [`Step`] whatever that is. docs/EMBEDDING.md shows a host.
 //!
 //! Statuses: 0 taken; 1 to 7 a call that the participant refused, by E1 to E7, of which 5 is also a datagram that is
-//! no compound; 8 no such block; 11 to 16 a configuration that is refused, by C1 to C6; 20 a handle that holds no
-//! participant; 21 one that holds one already; 22 no memory.
+//! no compound; 8 no such block, or no such other part of a datagram; 9 no such source; 11 to 16 a configuration that
+//! is refused, by C1 to C6; 20 a handle that holds no participant; 21 one that holds one already; 22 no memory.
 //!
 //! Nobody proves a C caller, so no call asks for anything of values: moments out of order, too many calls and bad
 //! configurations are statuses. What a caller has to keep, and nothing tests: that pointers are valid for the sizes
@@ -19,9 +19,11 @@ mod calls;
 mod config;
 mod handle;
 mod owned;
+mod parts;
 mod reading;
 mod session;
 mod showing;
+mod source;
 mod status;
 mod step;
 #[cfg(test)]
@@ -31,5 +33,7 @@ mod views;
 pub use config::{Config, Item};
 pub use handle::Handle;
 pub use owned::Owned;
+pub use parts::{GoodbyePlace, ItemPlace, SenderInfo};
 pub use reading::{Fault, Report};
+pub use source::Source;
 pub use step::Step;

@@ -129,7 +129,7 @@ fn reason_number(reason: FaultReason) -> u32
     }
 }
 
-fn shown(reporter: u32, block: &Block) -> Report
+pub(crate) fn shown(reporter: u32, block: &Block) -> Report
     ensures { ShowsBlock result (reporter, block_value block.now) }
 {
     Report {

@@ -15,6 +15,12 @@ pub(crate) const NO_COMPOUND: u32 = 5;
 /// There is no such block.
 pub(crate) const NO_BLOCK: u32 = 8;
 
+/// The datagram has no such part.
+pub(crate) const NO_PART: u32 = 8;
+
+/// There is no such source.
+pub(crate) const NO_SOURCE: u32 = 9;
+
 /// The CNAME is refused (C1).
 pub(crate) const CNAME: u32 = 11;
 

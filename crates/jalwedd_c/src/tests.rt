@@ -5,9 +5,12 @@ use crate::begin::{jalwedd_free, jalwedd_new};
 use crate::calls::{
     jalwedd_arrive_rtcp, jalwedd_arrive_rtp, jalwedd_leave, jalwedd_sent_rtp, jalwedd_tick,
 };
+use crate::parts::{jalwedd_block, jalwedd_goodbye, jalwedd_sdes_item, jalwedd_sender};
 use crate::reading::{jalwedd_about, jalwedd_check, jalwedd_ntp_of, jalwedd_round_trip};
 use crate::step::NEVER;
-use crate::views::{jalwedd_members, jalwedd_next, jalwedd_senders, jalwedd_ssrc};
+use crate::views::{
+    jalwedd_entries, jalwedd_members, jalwedd_next, jalwedd_senders, jalwedd_source, jalwedd_ssrc,
+};
 use std::alloc::Global;
 use std::test::*;
 
@@ -26,6 +29,28 @@ const OF_SEVEN: [u8; 20] = [
     0x80, 0xc9, 0x00, 0x01, 0x00, 0x00, 0x00, 0x07, 0x81, 0xca, 0x00, 0x02, 0x00, 0x00, 0x00, 0x07,
     0x01, 0x01, 0x61, 0x00,
 ];
+
+/// What is known of it.
+const SEVEN: Source = Source {
+    heard: 1_026_037,
+    ssrc: 7,
+    member: 1,
+    ..NOBODY
+};
+
+const NOBODY: Source = Source {
+    heard: 0,
+    left: NEVER,
+    told: NEVER,
+    ntp: 0,
+    received: 0,
+    lost: 0,
+    highest: 0,
+    jitter: 0,
+    ssrc: 0,
+    member: 0,
+    sender: 0,
+};
 
 /// The sender report of a participant that sent one packet of 160 octets, with its CNAME `a`.
 const SENDER_REPORT: [u8; 40] = [
@@ -85,6 +110,18 @@ fn session(rt: HostRuntime) {
         jalwedd_ssrc(alloc, &mut handle),
     );
     assert_eq!(rt; shown, (2, 1, 3_078_111, 0xaa));
+    let mut source = NOBODY;
+    let first = jalwedd_source(alloc, &mut handle, 0, &mut source);
+    assert_eq!(rt; first, 0);
+    assert!(rt; source == SEVEN);
+    let mut other = NOBODY;
+    let own = jalwedd_source(alloc, &mut handle, 7, &mut other);
+    assert_eq!(rt; own, 0);
+    assert!(rt; other == SEVEN);
+    assert_eq!(rt; jalwedd_entries(alloc, &mut handle), 1);
+    let after = jalwedd_source(alloc, &mut handle, 8, &mut other);
+    let beyond = jalwedd_source(alloc, &mut handle, u64::MAX, &mut other);
+    assert_eq!(rt; (after, beyond), (9, 9));
 
     let left = jalwedd_leave(alloc, &mut handle, 1_026_037, 0, &mut step, &mut octets);
     assert_eq!(rt; (left, step.next, step.kind, step.size), (0, NEVER, 2, 28));
@@ -234,6 +271,11 @@ fn empty(rt: HostRuntime) {
         (statuses, step == Step::blank(), octets == [7; 1_472]),
         ([20; 6], true, true)
     );
+    let mut source = SEVEN;
+    let nobody = jalwedd_source(alloc, &mut handle, 0, &mut source);
+    assert_eq!(rt; nobody, 9);
+    assert_eq!(rt; jalwedd_entries(alloc, &mut handle), 0);
+    assert!(rt; source == SEVEN);
     let counts = (
         jalwedd_members(alloc, &mut handle),
         jalwedd_senders(alloc, &mut handle),
@@ -245,6 +287,17 @@ fn empty(rt: HostRuntime) {
     );
     assert_eq!(rt; shown, ((0, 0), NEVER, 0));
 }
+
+const NO_REPORT: Report = Report {
+    reporter: 0,
+    ssrc: 0,
+    fraction: 0,
+    lost: 0,
+    highest: 0,
+    jitter: 0,
+    lsr: 0,
+    dlsr: 0,
+};
 
 /// A datagram cut short, and one that reports twice of source 161: 2 packets more came than were sent, then 5 are lost.
 #[test]
@@ -278,16 +331,7 @@ fn readings(rt: HostRuntime) {
         0, 1, 0, 0, 0, 0, 0x80, 0, 0, 0, 0, 0xa1, 0, 0, 0, 5, 0, 0, 0, 9, 0, 0, 0, 8, 0, 0, 0, 0,
         0, 0, 0, 0,
     ];
-    let mut report = Report {
-        reporter: 0,
-        ssrc: 0,
-        fraction: 0,
-        lost: 0,
-        highest: 0,
-        jitter: 0,
-        lsr: 0,
-        dlsr: 0,
-    };
+    let mut report = NO_REPORT;
     let first = (jalwedd_about(&datagram, 0xa1, 0, &mut report), report);
     let second = (
         jalwedd_about(&datagram, 0xa1, 1, &mut report),
@@ -313,5 +357,126 @@ fn readings(rt: HostRuntime) {
     assert_eq!(rt;
         (trip, jalwedd_ntp_of(0, 1_500_000)),
         (0x0006_2000, 0x1_8000_0000)
+    );
+}
+
+/// A sender report of 9, with a block about 0xaa; a receiver report of 7, with one about 0xbb; chunks of 5, with no
+/// items, and of 9; and three goodbyes.
+const ALL_PARTS: [u8; 144] = [
+    0x81, 0xc8, 0, 12, 0, 0, 0, 9, 0xb7, 0x10, 0x80, 0, 0, 0, 0, 5, 0, 0, 0x23, 0xf8, 0, 0, 0, 2,
+    0, 0, 1, 0x40, // of 9: NTP and RTP timestamps, packets, octets
+    0, 0, 0, 0xaa, 25, 0, 0, 3, 0, 0, 0, 11, 0, 0, 0, 4, 0, 0, 0, 1, 0, 0, 0, 2, // about 0xaa
+    0x81, 0xc9, 0, 7, 0, 0, 0, 7, // of 7
+    0, 0, 0, 0xbb, 0, 0xff, 0xff, 0xff, 0, 0, 0, 12, 0, 0, 0, 0, 0, 0, 0, 0, 0, 0, 0, 0, // about 0xbb
+    0x82, 0xca, 0, 5, 0, 0, 0, 5, 0, 0, 0, 0, // octet 84: a chunk without items
+    0, 0, 0, 9, 1, 2, 0x61, 0x62, 7, 0, 0, 0, // octet 96: the CNAME `ab`, and a NOTE of 0 octets
+    0x82, 0xcb, 0, 3, 0, 0, 0, 9, 0, 0, 0, 7, 1, 0x63, 0, 0, // octet 108: 9 and 7 leave, and say `c`
+    0x81, 0xcb, 0, 2, 0, 0, 0, 5, 0, 0, 0, 0, // octet 124: 5 leaves, with a reason of 0 octets
+    0x81, 0xcb, 0, 1, 0, 0, 0, 4, // octet 136: 4 leaves, with none
+];
+
+#[test]
+fn senders_and_blocks(rt: HostRuntime) {
+    let mut sender = SenderInfo {
+        ntp: 0,
+        ssrc: 0,
+        rtp: 0,
+        packets: 0,
+        octets: 0,
+    };
+    let told = (jalwedd_sender(&ALL_PARTS, 0, &mut sender), sender);
+    let wanted = SenderInfo {
+        ntp: 0xb710_8000_0000_0005,
+        ssrc: 9,
+        rtp: 9_208,
+        packets: 2,
+        octets: 320,
+    };
+    assert!(rt; told == (0, wanted));
+    assert_eq!(rt;
+        (
+            jalwedd_sender(&ALL_PARTS, 1, &mut sender),
+            jalwedd_sender(&[], 0, &mut sender)
+        ),
+        (8, 5)
+    );
+    let mut report = NO_REPORT;
+    let first = (
+        jalwedd_block(&ALL_PARTS, 0, &mut report),
+        report.reporter,
+        report.ssrc,
+        report.lost,
+    );
+    let second = (
+        jalwedd_block(&ALL_PARTS, 1, &mut report),
+        report.reporter,
+        report.ssrc,
+        report.lost,
+    );
+    assert!(rt; first == (0, 9, 0xaa, 3) && second == (0, 7, 0xbb, -1));
+    assert_eq!(rt;
+        (
+            jalwedd_block(&ALL_PARTS, 2, &mut report),
+            jalwedd_block(&[], 0, &mut report)
+        ),
+        (8, 5)
+    );
+}
+
+#[test]
+fn items_and_goodbyes(rt: HostRuntime) {
+    let mut item = ItemPlace {
+        offset: 0,
+        size: 0,
+        ssrc: 0,
+        kind: 0,
+    };
+    let name = (
+        jalwedd_sdes_item(&ALL_PARTS, 0, &mut item),
+        item.offset,
+        item.size,
+        item.ssrc,
+        item.kind,
+    );
+    let note = (
+        jalwedd_sdes_item(&ALL_PARTS, 1, &mut item),
+        item.offset,
+        item.size,
+        item.ssrc,
+        item.kind,
+    );
+    assert!(rt; name == (0, 102, 2, 9, 1) && note == (0, 106, 0, 9, 7));
+    assert_eq!(rt;
+        (
+            jalwedd_sdes_item(&ALL_PARTS, 2, &mut item),
+            jalwedd_sdes_item(&[], 0, &mut item)
+        ),
+        (8, 5)
+    );
+    let mut goodbye = GoodbyePlace {
+        offset: 0,
+        size: 0,
+        ssrc: 0,
+        has_reason: 0,
+    };
+    for (index, wanted) in [(121, 1, 9, 1), (121, 1, 7, 1), (133, 0, 5, 1), (0, 0, 4, 0)]
+        .into_iter()
+        .enumerate()
+    {
+        let status = jalwedd_goodbye(&ALL_PARTS, index as u32, &mut goodbye);
+        let told = (
+            goodbye.offset,
+            goodbye.size,
+            goodbye.ssrc,
+            goodbye.has_reason,
+        );
+        assert!(rt; status == 0 && told == wanted);
+    }
+    assert_eq!(rt;
+        (
+            jalwedd_goodbye(&ALL_PARTS, 4, &mut goodbye),
+            jalwedd_goodbye(&[], 0, &mut goodbye)
+        ),
+        (8, 5)
     );
 }

@@ -1,12 +1,16 @@
 //! What a handle tells at any time.
 
-ghost use Rattle.std.specs.Prelude.{◌≡◌, ◌^◌, ◌-◌, None};
+ghost use Rattle.std.specs.Prelude.{◌≡◌, ◌^◌, ◌-◌, Option, None};
 ghost use Rattle.rtcp_engine.specs.Histories.{History, life_at, setup_at};
-ghost use Rattle.rtcp_engine.specs.Lives.{members_in_life, senders_in_life, next_in_life};
+ghost use Rattle.rtcp_engine.specs.Lives.{members_in_life, senders_in_life, entries_in_life, next_in_life, TellsInLife};
 ghost use Rattle.jalwedd_c.specs.Answers.{moment_shown};
+ghost use Rattle.rtcp_members.specs.Told.{StateValue};
 ghost use Rattle.jalwedd_c.specs.Handles.{LeadsTo};
+ghost use Rattle.jalwedd_c.specs.Sources.{ShowsSource, after_of};
 
 use crate::handle::Handle;
+use crate::source::Source;
+use crate::status::{NO_SOURCE, TAKEN};
 use std::alloc::Global;
 
 /// The members of the session, the participant included (RFC 3550, 6.2.1): 0 once it has left, and for an empty handle.
@@ -52,4 +56,46 @@ pub extern "C" fn jalwedd_ssrc(alloc: Global, handle: &mut Handle) -> u32
     ensures kept { handle.new.owned.held ≡ handle.old.owned.held }
 {
     handle.step(alloc).ssrc
+}
+
+/// How many places of the participant's table are taken: by members, by sources that are not yet valid, and by those
+/// that left and are held for a while. As many as the configuration's `capacity` say that it is full, as under a flood
+/// of invented SSRCs: then no other source is taken up until one is dropped. 0 once the participant leaves, and for an
+/// empty handle.
+#[unsafe(no_mangle)]
+pub extern "C" fn jalwedd_entries(alloc: Global, handle: &mut Handle) -> u32
+    ensures entries { (history : History) → LeadsTo handle.old.owned.held history →
+        result ≡ entries_in_life (setup_at history) (life_at history) }
+    ensures empty { handle.old.owned.held ≡ None → result ≡ 0 }
+    ensures kept { handle.new.owned.held ≡ handle.old.owned.held }
+{
+    handle.entries(alloc)
+}
+
+/// Tells what is known of the source of least SSRC from `from` on: of members, of those that are not yet valid, and of
+/// those that left and are held for a while, but not of the participant itself. Begin with 0, and go on with the SSRC
+/// told and 1, until the status is not 0: then each source is told once. Else `source` is left as it is.
+///
+/// Statuses: 0; 9 where there is no such source, once the participant leaves, and for an empty handle.
+#[unsafe(no_mangle)]
+pub extern "C" fn jalwedd_source(
+    alloc: Global,
+    handle: &mut Handle,
+    from: u64,
+    source: &mut Source,
+) -> u32
+    ensures told { (history : History) → LeadsTo handle.old.owned.held history →
+        (told : Option StateValue)
+        × TellsInLife (setup_at history) (after_of from) (life_at history) told
+        × ShowsSource result source.old source.new told }
+    ensures empty { handle.old.owned.held ≡ None → (result ≡ 9) × (source.new ≡ source.old) }
+    ensures kept { handle.new.owned.held ≡ handle.old.owned.held }
+{
+    match handle.source(alloc, from) {
+        Some(state) => {
+            *source = Source::of(&state);
+            TAKEN
+        }
+        None => NO_SOURCE,
+    }
 }

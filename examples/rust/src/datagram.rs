@@ -67,7 +67,7 @@ pub struct Report {
 }
 
 impl Report {
-    fn of(report: &sys::jalwedd_report) -> Report {
+    pub(crate) fn of(report: &sys::jalwedd_report) -> Report {
         Report {
             reporter: report.reporter,
             ssrc: report.ssrc,

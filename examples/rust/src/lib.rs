@@ -23,10 +23,14 @@
 
 mod datagram;
 mod errors;
+mod parts;
+mod sources;
 pub mod sys;
 
 pub use datagram::{Report, Reports, about, check, ntp_of, round_trip};
 pub use errors::{Fault, FaultReason, NewError, Refusal};
+pub use parts::{Goodbye, Parts, SdesItem, SenderReport, blocks, goodbyes, items, senders};
+pub use sources::{Reception, SourceState, Sources, Told};
 use std::fmt;
 
 /// The session as its host knows it.
@@ -282,6 +286,20 @@ impl Participant {
     /// The participant's SSRC: RTP packets go out under it.
     pub fn ssrc(&self) -> u32 {
         self.step.ssrc
+    }
+
+    /// How many places of the participant's table are taken: by members, by sources that are not yet valid, and
+    /// by those that left and are held for a while. As many as [`Config::capacity`] say that it is full. 0 once
+    /// the participant leaves.
+    pub fn entries(&mut self) -> u32 {
+        // SAFETY: VALID, ALONE, OWNED
+        unsafe { sys::jalwedd_entries(&mut *self.handle) }
+    }
+
+    /// Who is there: what is known of each source, by rising SSRC, but for the participant itself. None once it
+    /// leaves.
+    pub fn sources(&mut self) -> Sources<'_> {
+        Sources::of(self)
     }
 
     fn answer(&self, status: u32) -> Result<Answer<'_>, Refusal> {

@@ -16,6 +16,8 @@ pub const JALWEDD_NO_COMPOUND: u32 = 5;
 pub const JALWEDD_NO_RTP: u32 = 6;
 pub const JALWEDD_OWN_SSRC: u32 = 7;
 pub const JALWEDD_NO_BLOCK: u32 = 8;
+pub const JALWEDD_NO_PART: u32 = 8;
+pub const JALWEDD_NO_SOURCE: u32 = 9;
 pub const JALWEDD_CNAME: u32 = 11;
 pub const JALWEDD_CAPACITY: u32 = 12;
 pub const JALWEDD_LIMIT: u32 = 13;
@@ -95,6 +97,50 @@ pub struct jalwedd_report {
     pub dlsr: u32,
 }
 
+#[repr(C)]
+#[derive(Clone, Copy, Default)]
+pub struct jalwedd_sender_info {
+    pub ntp: u64,
+    pub ssrc: u32,
+    pub rtp: u32,
+    pub packets: u32,
+    pub octets: u32,
+}
+
+#[repr(C)]
+#[derive(Clone, Copy, Default)]
+pub struct jalwedd_item_place {
+    pub offset: u64,
+    pub size: u64,
+    pub ssrc: u32,
+    pub kind: u32,
+}
+
+#[repr(C)]
+#[derive(Clone, Copy, Default)]
+pub struct jalwedd_goodbye_place {
+    pub offset: u64,
+    pub size: u64,
+    pub ssrc: u32,
+    pub has_reason: u32,
+}
+
+#[repr(C)]
+#[derive(Clone, Copy, Default)]
+pub struct jalwedd_source_state {
+    pub heard: u64,
+    pub left: u64,
+    pub told: u64,
+    pub ntp: u64,
+    pub received: u64,
+    pub lost: i32,
+    pub highest: u32,
+    pub jitter: u32,
+    pub ssrc: u32,
+    pub member: u32,
+    pub sender: u32,
+}
+
 unsafe extern "C" {
     // ---- A participant
 
@@ -164,6 +210,14 @@ unsafe extern "C" {
     pub fn jalwedd_next(handle: *mut jalwedd_handle) -> u64;
     pub fn jalwedd_ssrc(handle: *mut jalwedd_handle) -> u32;
 
+    pub fn jalwedd_entries(handle: *mut jalwedd_handle) -> u32;
+
+    pub fn jalwedd_source(
+        handle: *mut jalwedd_handle,
+        from: u64,
+        source: *mut jalwedd_source_state,
+    ) -> u32;
+
     // ---- Datagrams
 
     pub fn jalwedd_check(datagram: *const u8, size: usize, fault: *mut jalwedd_fault) -> u32;
@@ -174,6 +228,29 @@ unsafe extern "C" {
         ssrc: u32,
         index: u32,
         report: *mut jalwedd_report,
+    ) -> u32;
+
+    pub fn jalwedd_sender(
+        datagram: *const u8,
+        size: usize,
+        index: u32,
+        sender: *mut jalwedd_sender_info,
+    ) -> u32;
+
+    pub fn jalwedd_block(datagram: *const u8, size: usize, index: u32, report: *mut jalwedd_report) -> u32;
+
+    pub fn jalwedd_sdes_item(
+        datagram: *const u8,
+        size: usize,
+        index: u32,
+        item: *mut jalwedd_item_place,
+    ) -> u32;
+
+    pub fn jalwedd_goodbye(
+        datagram: *const u8,
+        size: usize,
+        index: u32,
+        goodbye: *mut jalwedd_goodbye_place,
     ) -> u32;
 
     // these two take numbers alone, so that any call of them is safe

@@ -1,6 +1,9 @@
 //! What datagrams say, and the formulas of times.
 
-use jalwedd::{Fault, FaultReason, Report, about, check, ntp_of, round_trip};
+use jalwedd::{
+    Fault, FaultReason, Goodbye, Report, SdesItem, SenderReport, about, blocks, check, goodbyes, items,
+    ntp_of, round_trip, senders,
+};
 use std::time::Duration;
 
 /// An RR of 7 with two blocks about a1.
@@ -69,4 +72,56 @@ fn times() {
     assert_eq!(round_trip(0, 1, 1), 0xffff_fffe);
     assert_eq!(ntp_of(5 << 32, 1_500_000), (6 << 32) + (1 << 31));
     assert_eq!(ntp_of(0xffff_ffff_8000_0000, 500_000), 0);
+}
+
+/// An SR of 9 with a block about aa, chunks of 5 and 9, and BYEs.
+const PARTS: [u8; 108] = [
+    0x81, 0xc8, 0, 12, 0, 0, 0, 9, 0xb7, 0x10, 0x80, 0, 0, 0, 0, 5, // one block; an NTP timestamp
+    0, 0, 0x23, 0xf8, 0, 0, 0, 2, 0, 0, 1, 0x40, // RTP timestamp, packets, octets
+    0, 0, 0, 0xaa, 25, 0, 0, 3, 0, 0, 0, 11, 0, 0, 0, 4, 0, 0, 0, 1, 0, 0, 0, 2, // the block
+    0x82, 0xca, 0, 5, 0, 0, 0, 5, 0, 0, 0, 0, // a chunk without items
+    0, 0, 0, 9, 1, 2, 0x61, 0x62, 7, 0, 0, 0, // the CNAME "ab", and a NOTE of 0 octets
+    0x82, 0xcb, 0, 3, 0, 0, 0, 9, 0, 0, 0, 7, 1, 0x63, 0, 0, // 9 and 7 leave, and say "c"
+    0x81, 0xcb, 0, 2, 0, 0, 0, 5, 0, 0, 0, 0, // 5 leaves, with a reason of 0 octets
+    0x81, 0xcb, 0, 1, // and a BYE of 4 follows, cut off here
+];
+
+/// With its end.
+fn parts() -> Vec<u8> {
+    [&PARTS[..], &[0, 0, 0, 4]].concat()
+}
+
+#[test]
+fn senders_and_blocks_are_told_each_once() {
+    let datagram = parts();
+    let sender = SenderReport { ssrc: 9, ntp: 0xb710_8000_0000_0005, rtp: 9208, packets: 2, octets: 320 };
+    assert_eq!(senders(&datagram).unwrap().collect::<Vec<_>>(), [sender]);
+    let (reporter, ssrc, fraction, lost) = (9, 0xaa, 25, 3);
+    let block = Report { reporter, ssrc, fraction, lost, highest: 11, jitter: 4, lsr: 1, dlsr: 2 };
+    assert_eq!(blocks(&datagram).unwrap().collect::<Vec<_>>(), [block]);
+    assert_eq!(blocks(&TWO_BLOCKS).unwrap().count(), 2);
+    assert_eq!(senders(&TWO_BLOCKS).unwrap().next(), None);
+}
+
+#[test]
+fn items_borrow_their_texts() {
+    let datagram = parts();
+    let cname = SdesItem { ssrc: 9, kind: 1, text: b"ab" };
+    let note = SdesItem { ssrc: 9, kind: 7, text: b"" };
+    assert_eq!(items(&datagram).unwrap().collect::<Vec<_>>(), [cname, note]);
+}
+
+#[test]
+fn goodbyes_tell_no_reason_from_an_empty_one() {
+    let datagram = parts();
+    let told: Vec<_> = goodbyes(&datagram).unwrap().map(|Goodbye { ssrc, reason }| (ssrc, reason)).collect();
+    assert_eq!(told, [(9, Some(&b"c"[..])), (7, Some(b"c")), (5, Some(b"")), (4, None)]);
+}
+
+#[test]
+fn a_datagram_that_is_refused_tells_no_parts() {
+    assert_eq!(senders(&PARTS).unwrap_err(), Fault { reason: FaultReason::Length, offset: 104 });
+    assert_eq!(blocks(&[]).unwrap_err().reason, FaultReason::Short);
+    assert_eq!(items(&[]).unwrap_err().reason, FaultReason::Short);
+    assert_eq!(goodbyes(&PARTS).unwrap_err().offset, 104);
 }

@@ -23,6 +23,11 @@ fn structures() {
     assert_layout!(jalwedd_fault, 16, 8, offset: 0, reason: 8);
     assert_layout!(jalwedd_report, 32, 4, reporter: 0, ssrc: 4, fraction: 8, lost: 12, highest: 16,
         jitter: 20, lsr: 24, dlsr: 28);
+    assert_layout!(jalwedd_sender_info, 24, 8, ntp: 0, ssrc: 8, rtp: 12, packets: 16, octets: 20);
+    assert_layout!(jalwedd_item_place, 24, 8, offset: 0, size: 8, ssrc: 16, kind: 20);
+    assert_layout!(jalwedd_goodbye_place, 24, 8, offset: 0, size: 8, ssrc: 16, has_reason: 20);
+    assert_layout!(jalwedd_source_state, 64, 8, heard: 0, left: 8, told: 16, ntp: 24, received: 32, lost: 40,
+        highest: 44, jitter: 48, ssrc: 52, member: 56, sender: 60);
 }
 
 #[test]

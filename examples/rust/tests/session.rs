@@ -1,7 +1,9 @@
 //! Sessions of a participant 000000aa with the CNAME `a`, and its answers: some of those that were worked by
 //! hand in compare/rows.py.
 
-use jalwedd::{Answer, Config, Item, ItemKind, Kind, NewError, Participant, Refusal, Step, sys};
+use jalwedd::{
+    Answer, Config, Item, ItemKind, Kind, NewError, Participant, Reception, Refusal, SourceState, Step, Told, sys,
+};
 use std::thread;
 
 const CONFIG: Config = Config {
@@ -178,6 +180,45 @@ fn a_participant_may_go_to_another_thread() {
     std::mem::swap(&mut first, &mut second);
     drop(first);
     assert_eq!(out(second.leave(FIRST, 0)), bye(BYE));
+}
+
+/// Source 9 gives its name, and a packet of it is counted; source 3 sends a sender report, and leaves.
+#[test]
+fn who_is_there() {
+    let mut session = begun(&[]);
+    assert_eq!((session.sources().next(), session.entries()), (None, 0));
+    session.arrive_rtcp(1, 1, 0, &named(9).last().unwrap()).unwrap();
+    session.arrive_rtp(2, 1, 0, &rtp(10, 9)).unwrap();
+    session.arrive_rtp(3, 1, 0, &rtp(11, 9)).unwrap();
+    session.arrive_rtp(4, 1, 0, &rtp(13, 9)).unwrap();
+    let sr = [0x80, 0xc8, 0, 6, 0, 0, 0, 3, 0, 0, 0, 1, 0x80, 0, 0, 0, 0, 0, 0, 7, 0, 0, 0, 1, 0, 0, 0, 160];
+    session.arrive_rtcp(5, 1, 0, &sr).unwrap();
+    let bye = [0x80, 0xc9, 0, 1, 0, 0, 0, 3, 0x81, 0xcb, 0, 1, 0, 0, 0, 3];
+    session.arrive_rtcp(6, 1, 0, &bye).unwrap();
+    let three = SourceState {
+        ssrc: 3,
+        is_member: false,
+        is_sender: false,
+        left: Some(6),
+        heard: 6,
+        reception: None,
+        told: Some(Told { ntp: 0x0000_0001_8000_0000, moment: 5 }),
+    };
+    let nine = SourceState {
+        ssrc: 9,
+        is_member: true,
+        is_sender: true,
+        left: None,
+        heard: 4,
+        // 11 and 13 of 11 to 13 were counted
+        reception: Some(Reception { received: 2, lost: 1, highest: 13, jitter: 0 }),
+        told: None,
+    };
+    assert_eq!(session.sources().collect::<Vec<_>>(), [three, nine]);
+    assert_eq!(session.entries(), 2);
+    session.tick(FIRST, 0, 0).unwrap();
+    session.leave(2_000_000, 0).unwrap();
+    assert_eq!((session.sources().next(), session.entries()), (None, 0));
 }
 
 #[test]

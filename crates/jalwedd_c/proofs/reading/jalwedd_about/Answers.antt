@@ -1,13 +1,11 @@
 -- The block at the index is that of the list of all blocks that name the source.
-use Rattle.std.proofs.Common.{◌≡◌, Some, None, refl, ap, ◌∙◌, subst, slice_get}
+use Rattle.std.proofs.Common.{Some, None, refl, ap, ◌∙◌, subst, slice_get}
 use Rattle.std.proofs.lemmas.Iterator.Consumers.{nth_from_yields_List, YieldsList-from_first}
 use Rattle.rtcp_wire.specs.About.{blocks_about}
 use Rattle.rtcp_wire.specs.Views.{reported_value}
 use Rattle.jalwedd_c.specs.Readings.{ShowsBlock}
+use Rattle.jalwedd_c.proofs.Options.{some_same}
 use Rattle.jalwedd_c.proofs.reading.jalwedd_about.Goals as goal
-
-some_same : {A : Type 0} (a b : A) → Some a ≡ Some b → a ≡ b
-some_same a b is = ap (λ o. elim o [ None ↦ a | Some x ↦ x ]) is
 
 pub returns-in-Some-clause-found : goal.returns-in-Some-clause-found
 returns-in-Some-clause-found c packets block accepted at =

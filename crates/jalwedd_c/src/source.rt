@@ -1,0 +1,100 @@
+//! What is told of one source.
+
+ghost use Rattle.std.specs.Prelude.{◌≡◌, option_map};
+ghost use Rattle.rtcp_members.specs.ListViews.{state_value};
+ghost use Rattle.rtcp_source.specs.Views.{reception_value, told_value};
+ghost use Rattle.jalwedd_c.specs.Answers.{moment_shown, one_if};
+ghost use Rattle.jalwedd_c.specs.Sources.{IsReceived, IsLastTold, IsShown, after_of};
+
+use crate::step::NEVER;
+use rtcp_members::SourceState;
+use rtcp_source::{Reception, Told};
+
+/// What is known of a source.
+#[repr(C)]
+#[derive(Clone, Copy, Debug, PartialEq, Eq)]
+pub struct Source {
+    /// When it was last heard before it left, in microseconds since the session began.
+    pub heard: u64,
+    /// When it said goodbye: 2^64 - 1 where it did not leave.
+    pub left: u64,
+    /// When its last sender report came: 2^64 - 1 where none came.
+    pub told: u64,
+    /// The NTP timestamp of that report, or 0.
+    pub ntp: u64,
+    /// How many of its packets were counted: 0 where none was, and then the next three are 0 too.
+    pub received: u64,
+    /// How many were lost.
+    pub lost: i32,
+    /// The highest sequence number received, extended by how often they wrapped.
+    pub highest: u32,
+    /// The jitter of their arrival, in units of their RTP timestamps.
+    pub jitter: u32,
+    /// Its SSRC.
+    pub ssrc: u32,
+    /// 1 if it is a member, else 0: it is not yet valid, or it left.
+    pub member: u32,
+    /// 1 if it sends RTP packets, else 0.
+    pub sender: u32,
+}
+
+impl Source {
+    /// How what is known of a source is told.
+    pub(crate) fn of(state: &SourceState) -> Source
+        ensures { IsShown result (state_value state.now) }
+    {
+        let reception = received(state.reception);
+        let told = last_told(state.told);
+        Source {
+            heard: state.heard,
+            left: state.left.unwrap_or(NEVER),
+            told: told.moment,
+            ntp: told.ntp,
+            received: reception.received,
+            lost: reception.lost,
+            highest: reception.highest,
+            jitter: reception.jitter,
+            ssrc: state.ssrc,
+            member: u32::from(state.is_member),
+            sender: u32::from(state.is_sender),
+        }
+    }
+}
+
+/// The SSRC above which the sources from `from` on are, if there is one. From 2^32 on there is no source.
+pub(crate) fn before(from: u64) -> Option<u32>
+    ensures { result ≡ after_of from }
+{
+    if from == 0 {
+        return None;
+    }
+    Some((from - 1).min(4_294_967_295) as u32)
+}
+
+/// Zeros where no packet was counted.
+fn received(reception: Option<Reception>) -> Reception
+    ensures { IsReceived result (option_map reception_value reception) }
+{
+    match reception {
+        Some(reception) => reception,
+        None => Reception {
+            received: 0,
+            lost: 0,
+            highest: 0,
+            jitter: 0,
+        },
+    }
+}
+
+/// 2^64 - 1 and 0 where no sender report came.
+fn last_told(told: Option<Told>) -> Told
+    ensures { IsLastTold result (option_map told_value told) }
+{
+    match told {
+        Some(told) => told,
+        None => Told {
+            ntp: 0,
+            moment: NEVER,
+        },
+    }
+}

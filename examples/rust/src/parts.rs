@@ -1,0 +1,124 @@
+//! The parts of a datagram, one after the other.
+
+use crate::datagram::{Report, check};
+use crate::errors::Fault;
+use crate::sys;
+use std::fmt;
+
+/// The sender reports of a datagram, in their order.
+pub fn senders(datagram: &[u8]) -> Result<Parts<'_, SenderReport>, Fault> {
+    Parts::of(datagram, |datagram, index| {
+        let told = ask(sys::jalwedd_sender, datagram, index)?;
+        let sys::jalwedd_sender_info { ntp, ssrc, rtp, packets, octets } = told;
+        Some(SenderReport { ssrc, ntp, rtp, packets, octets })
+    })
+}
+
+/// The blocks of all reports of a datagram, in their order.
+pub fn blocks(datagram: &[u8]) -> Result<Parts<'_, Report>, Fault> {
+    Parts::of(datagram, |datagram, index| {
+        ask(sys::jalwedd_block, datagram, index).map(|told| Report::of(&told))
+    })
+}
+
+/// The SDES items of a datagram, in their order.
+pub fn items(datagram: &[u8]) -> Result<Parts<'_, SdesItem<'_>>, Fault> {
+    Parts::of(datagram, |datagram, index| {
+        let told = ask(sys::jalwedd_sdes_item, datagram, index)?;
+        let text = text_at(datagram, told.offset, told.size);
+        Some(SdesItem { ssrc: told.ssrc, kind: told.kind, text })
+    })
+}
+
+/// The sources that the BYEs of a datagram name, in their order.
+pub fn goodbyes(datagram: &[u8]) -> Result<Parts<'_, Goodbye<'_>>, Fault> {
+    Parts::of(datagram, |datagram, index| {
+        let told = ask(sys::jalwedd_goodbye, datagram, index)?;
+        let reason = (told.has_reason == 1).then(|| text_at(datagram, told.offset, told.size));
+        Some(Goodbye { ssrc: told.ssrc, reason })
+    })
+}
+
+/// The parts of a kind of a datagram, in their order, each once.
+#[derive(Clone)]
+pub struct Parts<'a, T> {
+    datagram: &'a [u8],
+    index: u32,
+    part_at: fn(&'a [u8], u32) -> Option<T>,
+}
+
+impl<'a, T> Parts<'a, T> {
+    fn of(datagram: &'a [u8], part_at: fn(&'a [u8], u32) -> Option<T>) -> Result<Parts<'a, T>, Fault> {
+        check(datagram)?;
+        Ok(Parts { datagram, index: 0, part_at })
+    }
+}
+
+impl<T> Iterator for Parts<'_, T> {
+    type Item = T;
+
+    fn next(&mut self) -> Option<T> {
+        let part = (self.part_at)(self.datagram, self.index)?;
+        self.index += 1;
+        Some(part)
+    }
+}
+
+impl<T> fmt::Debug for Parts<'_, T> {
+    fn fmt(&self, to: &mut fmt::Formatter<'_>) -> fmt::Result {
+        to.debug_struct("Parts").field("datagram", &self.datagram).field("index", &self.index).finish()
+    }
+}
+
+/// What a sender report says of its sender (RFC 3550, 6.4.1).
+#[derive(Clone, Copy, Debug, PartialEq, Eq)]
+pub struct SenderReport {
+    /// The SSRC of the source that sent it.
+    pub ssrc: u32,
+    /// When it was sent, as an NTP timestamp: seconds since 1900 in the upper 32 bits, their fraction in the
+    /// lower.
+    pub ntp: u64,
+    /// The same moment in units of the sender's RTP timestamps.
+    pub rtp: u32,
+    /// How many RTP packets were sent up to then.
+    pub packets: u32,
+    /// How many octets their payloads have, without headers and padding.
+    pub octets: u32,
+}
+
+/// What a source says of itself (RFC 3550, 6.5).
+#[derive(Clone, Copy, Debug, PartialEq, Eq)]
+pub struct SdesItem<'a> {
+    /// The SSRC of the source.
+    pub ssrc: u32,
+    /// What the text is: CNAME 1, NAME 2, EMAIL 3, PHONE 4, LOC 5, TOOL 6, NOTE 7, PRIV 8, or another.
+    pub kind: u32,
+    /// The text, at most 255 octets. It need not be UTF-8.
+    pub text: &'a [u8],
+}
+
+/// A source that leaves (RFC 3550, 6.6).
+#[derive(Clone, Copy, Debug, PartialEq, Eq)]
+pub struct Goodbye<'a> {
+    /// The SSRC of the source.
+    pub ssrc: u32,
+    /// Why it leaves, at most 255 octets, where the BYE says so. It need not be UTF-8.
+    pub reason: Option<&'a [u8]>,
+}
+
+/// What one of the library's calls writes of the part at the index, if there is one.
+fn ask<T: Default>(
+    call: unsafe extern "C" fn(*const u8, usize, u32, *mut T) -> u32,
+    datagram: &[u8],
+    index: u32,
+) -> Option<T> {
+    let mut told = T::default();
+    // SAFETY: valid pointers: a slice's is not NULL, also where it is empty. `told` lies apart from it. T is
+    // the structure that the call writes.
+    let status = unsafe { call(datagram.as_ptr(), datagram.len(), index, &mut told) };
+    (status == sys::JALWEDD_TAKEN).then_some(told)
+}
+
+fn text_at(datagram: &[u8], offset: u64, size: u64) -> &[u8] {
+    &datagram[offset as usize..][..size as usize]
+}

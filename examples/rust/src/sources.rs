@@ -1,0 +1,89 @@
+//! Who is there.
+
+use crate::Participant;
+use crate::sys;
+
+/// What is known of a source: of a member, of one that is not yet valid, or of one that left and is held for a
+/// while.
+#[derive(Clone, Copy, Debug, PartialEq, Eq)]
+pub struct SourceState {
+    /// Its SSRC.
+    pub ssrc: u32,
+    /// Whether it is a member (RFC 3550, 6.2.1): it is valid, and did not leave.
+    pub is_member: bool,
+    /// Whether it sends RTP packets.
+    pub is_sender: bool,
+    /// When it said goodbye, in microseconds.
+    pub left: Option<u64>,
+    /// When it was last heard before it left, in microseconds.
+    pub heard: u64,
+    /// How its packets are received, if one was counted.
+    pub reception: Option<Reception>,
+    /// Its last sender report, if one came.
+    pub told: Option<Told>,
+}
+
+/// How the packets of a source are received (RFC 3550, A.1, A.3, A.8).
+#[derive(Clone, Copy, Debug, PartialEq, Eq)]
+pub struct Reception {
+    /// How many were counted, late and repeated ones included.
+    pub received: u64,
+    /// How many were lost: negative where packets came twice.
+    pub lost: i32,
+    /// The highest sequence number in the low 16 bits, and above them how often they wrapped.
+    pub highest: u32,
+    /// The jitter of their arrival, in units of their RTP timestamps.
+    pub jitter: u32,
+}
+
+/// A sender report that came.
+#[derive(Clone, Copy, Debug, PartialEq, Eq)]
+pub struct Told {
+    /// Its NTP timestamp.
+    pub ntp: u64,
+    /// When it came, in microseconds.
+    pub moment: u64,
+}
+
+/// The sources of a session by rising SSRC, each once. It asks the participant, which stays as it is.
+#[derive(Debug)]
+pub struct Sources<'a> {
+    participant: &'a mut Participant,
+    from: u64,
+}
+
+impl<'a> Sources<'a> {
+    pub(crate) fn of(participant: &'a mut Participant) -> Sources<'a> {
+        Sources { participant, from: 0 }
+    }
+}
+
+impl Iterator for Sources<'_> {
+    type Item = SourceState;
+
+    fn next(&mut self) -> Option<SourceState> {
+        let mut source = sys::jalwedd_source_state::default();
+        // SAFETY: VALID, APART, ALONE, OWNED
+        let status = unsafe { sys::jalwedd_source(&mut *self.participant.handle, self.from, &mut source) };
+        if status != sys::JALWEDD_TAKEN {
+            return None;
+        }
+        self.from = u64::from(source.ssrc) + 1;
+        Some(SourceState::of(&source))
+    }
+}
+
+impl SourceState {
+    fn of(source: &sys::jalwedd_source_state) -> SourceState {
+        let sys::jalwedd_source_state { heard, left, told, ntp, received, lost, highest, jitter, .. } = *source;
+        SourceState {
+            ssrc: source.ssrc,
+            is_member: source.member != 0,
+            is_sender: source.sender != 0,
+            left: (left != sys::JALWEDD_NEVER).then_some(left),
+            heard,
+            reception: (received != 0).then_some(Reception { received, lost, highest, jitter }),
+            told: (told != sys::JALWEDD_NEVER).then_some(Told { ntp, moment: told }),
+        }
+    }
+}
