@@ -119,6 +119,9 @@ typedef struct jalwedd_step {
     uint32_t changed;       /* 1 if the call changed that (8.2): media goes on under the new one. Else 0 */
     uint32_t kind;          /* what the call hands out: send it now, in one datagram, to the other participants */
     uint32_t size;          /* its octets */
+    uint32_t entries;       /* as jalwedd_entries: config.capacity of them fill the table */
+    uint32_t others_changed;    /* 1 if the call changed who of the others is a member or who of them sends, if only for a
+                               moment: then jalwedd_source lists them anew. Else 0, and each has the role that it had */
 } jalwedd_step;
 
 /* Why a datagram is not a compound. */

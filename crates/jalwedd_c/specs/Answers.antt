@@ -5,7 +5,7 @@ use Rattle.rtcp_engine.specs.declared.refusal.Refusal.TheVariants.{Left, Backwar
 use Rattle.rtcp_engine.specs.declared.step.OutKind.{OutKind}
 use Rattle.rtcp_engine.specs.declared.step.OutKind.TheVariants.{Report, Bye}
 use Rattle.rtcp_engine.specs.Histories.{History, life_at, setup_at}
-use Rattle.rtcp_engine.specs.Lives.{members_in_life, senders_in_life, next_in_life}
+use Rattle.rtcp_engine.specs.Lives.{entries_in_life, members_in_life, senders_in_life, next_in_life}
 use Rattle.rtcp_engine.specs.Steps.{OutValue, AnswerValue}
 use Rattle.jalwedd_c.specs.declared.showing.Handed.{Handed}
 use Rattle.jalwedd_c.specs.declared.step.Step.{Step}
@@ -44,23 +44,30 @@ abbrev pub one_if : Bool → ℕ
 one_if true = 1
 one_if false = 0
 
--- What an answer hands out: its kind, its size, whether it changes the identifier, and its octets, which stand at the
--- start of the host's; the others of these are as they were.
-abbrev pub IsHandedOut : (kind size changed : ℕ) → (before after : List ℕ) → AnswerValue → Type 0
-IsHandedOut kind size changed before after (Ok answer) =
+-- What an answer hands out: its kind, its size, whether it changes the identifier and whether the role of another source,
+-- and its octets, which stand at the start of the host's; the others of these are as they were.
+abbrev pub IsHandedOut : (kind size changed others_changed : ℕ) → (before after : List ℕ) → AnswerValue → Type 0
+IsHandedOut kind size changed others_changed before after (Ok answer) =
     (kind ≡ kind_shown answer.out)
     × (size ≡ length (octets_of answer.out))
     × (changed ≡ one_if (is_some answer.changed))
+    × (others_changed ≡ one_if answer.others_changed)
     × (after ≡ octets_of answer.out ++ drop (length (octets_of answer.out)) before)
-IsHandedOut kind size changed before after (Err refusal) =
-    (kind ≡ 0) × (size ≡ 0) × (changed ≡ 0) × (after ≡ before)
+IsHandedOut kind size changed others_changed before after (Err refusal) =
+    (kind ≡ 0) × (size ≡ 0) × (changed ≡ 0) × (others_changed ≡ 0) × (after ≡ before)
 
 abbrev pub IsHanded : Handed → (before after : List ℕ) → AnswerValue → Type 0
-IsHanded handed before after answer = IsHandedOut handed.kind handed.size handed.changed before after answer
+IsHanded handed before after answer =
+    IsHandedOut handed.kind handed.size handed.changed handed.others_changed before after answer
 
 -- A step says it.
 abbrev pub HandsOut : Step → (before after : List ℕ) → AnswerValue → Type 0
-HandsOut step before after answer = IsHandedOut step.kind step.size step.changed before after answer
+HandsOut step before after answer =
+    IsHandedOut step.kind step.size step.changed step.others_changed before after answer
+
+-- A step says that nothing is handed out, and that nothing changed.
+abbrev pub HandsNothing : Step → Type 0
+HandsNothing step = (step.kind ≡ 0) × (step.size ≡ 0) × (step.changed ≡ 0) × (step.others_changed ≡ 0)
 
 -- ---- The participant
 
@@ -76,8 +83,9 @@ Shows step history =
     × (step.senders ≡ senders_in_life (setup_at history) (life_at history))
     × (step.next ≡ moment_shown (next_in_life (life_at history)))
     × (step.ssrc ≡ (setup_at history).ssrc)
+    × (step.entries ≡ entries_in_life (setup_at history) (life_at history))
 
 -- A step of no participant.
 abbrev pub IsBlank : Step → Type 0
 IsBlank step = (step.next ≡ 2 ^ 64 - 1) × (step.members ≡ 0) × (step.senders ≡ 0) × (step.ssrc ≡ 0) × (step.changed ≡ 0)
-    × (step.kind ≡ 0) × (step.size ≡ 0)
+    × (step.kind ≡ 0) × (step.size ≡ 0) × (step.entries ≡ 0) × (step.others_changed ≡ 0)

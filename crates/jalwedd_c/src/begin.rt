@@ -4,7 +4,7 @@ ghost use Rattle.std.specs.Prelude.{◌≡◌, ◌≢◌, ◌⊎◌, ℕ, Some, 
 ghost use Rattle.rtcp_engine.specs.Histories.{History};
 ghost use Rattle.rtcp_engine.specs.States.{StandsAt};
 ghost use Rattle.rtcp_engine.specs.Taken.{begun};
-ghost use Rattle.jalwedd_c.specs.Answers.{Shows};
+ghost use Rattle.jalwedd_c.specs.Answers.{HandsNothing, IsBlank, Shows};
 ghost use Rattle.jalwedd_c.specs.Configs.{refusal_of, setup_given};
 ghost use Rattle.jalwedd_c.specs.Handles.{KeepsWithin, LeadsTo};
 
@@ -38,6 +38,9 @@ pub extern "C" fn jalwedd_new(
     ensures begins { result ≡ 0 →
         LeadsTo handle.new.owned.held (begun (setup_given config.now cname.now items.now) word) }
     ensures shows { result ≡ 0 → Shows step.new (begun (setup_given config.now cname.now items.now) word) }
+    ensures shows_live { (history : History) → LeadsTo handle.old.owned.held history → Shows step.new history }
+    ensures blank { handle.old.owned.held ≡ None → result ≢ 0 → IsBlank step.new }
+    ensures nothing_handed { HandsNothing step.new }
     ensures within { handle.old.owned.held ≡ None → KeepsWithin handle.new.owned.held }
     ensures refused { (status : ℕ) → handle.old.owned.held ≡ None →
         refusal_of config.now cname.now items.now ≡ Some status → result ≡ status }
@@ -96,6 +99,8 @@ fn begin(
     requires { handle.old.owned.held ≡ None }
     ensures begun { result ≡ 0 → handle.new.owned.held ≡ Some (record { participant = participant }) }
     ensures shows { (history : History) → StandsAt participant history → result ≡ 0 → Shows step.new history }
+    ensures untouched { result ≢ 0 → step.new ≡ step.old }
+    ensures nothing_handed { result ≡ 0 → HandsNothing step.new }
     ensures status { (result ≡ 0) ⊎ (result ≡ 22) }
     ensures kept { result ≢ 0 → handle.new.owned.held ≡ None }
 {

@@ -21,7 +21,7 @@ impl Session {
     pub(crate) fn step(&self, handed: Handed) -> Step
         ensures shown { (history : History) → StandsAt self.now.participant history → Shows result history }
         ensures handed { (result.kind ≡ handed.kind) × (result.size ≡ handed.size)
-            × (result.changed ≡ handed.changed) }
+            × (result.changed ≡ handed.changed) × (result.others_changed ≡ handed.others_changed) }
     {
         Step {
             next: self.participant.next().unwrap_or(NEVER),
@@ -31,6 +31,8 @@ impl Session {
             changed: handed.changed,
             kind: handed.kind,
             size: handed.size,
+            entries: self.participant.entries(),
+            others_changed: handed.others_changed,
         }
     }
 }

@@ -16,18 +16,21 @@ pub(crate) struct Handed {
     pub(crate) kind: u32,
     pub(crate) size: u32,
     pub(crate) changed: u32,
+    pub(crate) others_changed: u32,
 }
 
 impl Handed {
     /// Nothing.
     pub(crate) fn nothing(status: u32) -> Handed
-        ensures { (result.status ≡ status) × (result.kind ≡ 0) × (result.size ≡ 0) × (result.changed ≡ 0) }
+        ensures { (result.status ≡ status) × (result.kind ≡ 0) × (result.size ≡ 0) × (result.changed ≡ 0)
+            × (result.others_changed ≡ 0) }
     {
         Handed {
             status,
             kind: 0,
             size: 0,
             changed: 0,
+            others_changed: 0,
         }
     }
 }
@@ -43,19 +46,22 @@ pub(crate) fn hand_out(
 {
     match reply {
         Ok(told) => {
-            let changed = if told.changed.is_some() { 1 } else { 0 };
+            let changed = u32::from(told.changed.is_some());
+            let others_changed = u32::from(told.others_changed);
             match told.out {
                 Some(kind) => Handed {
                     status: TAKEN,
                     kind: number_of(kind),
                     size: copy_out(room, octets),
                     changed,
+                    others_changed,
                 },
                 None => Handed {
                     status: TAKEN,
                     kind: 0,
                     size: 0,
                     changed,
+                    others_changed,
                 },
             }
         }

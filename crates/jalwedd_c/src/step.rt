@@ -24,6 +24,11 @@ pub struct Step {
     pub kind: u32,
     /// The octets of it.
     pub size: u32,
+    /// How many places of the table are taken, as `jalwedd_entries` says.
+    pub entries: u32,
+    /// 1 if the call changed the role of another source (away, member or sender), if only for a moment, else 0: then
+    /// each source that `jalwedd_source` tells of has the role that it had.
+    pub others_changed: u32,
 }
 
 impl Step {
@@ -39,6 +44,8 @@ impl Step {
             changed: 0,
             kind: 0,
             size: 0,
+            entries: 0,
+            others_changed: 0,
         }
     }
 }

@@ -1,18 +1,18 @@
 -- A participant that takes an act: in each phase, and in a history.
-use Rattle.std.proofs.Common.{◌≡◌, ℕ, ◌+◌, Option, Some, None, option_map, Ok, Err, refl, sym, ap, ◌∙◌, subst, arith}
+use Rattle.std.proofs.Common.{◌≡◌, ℕ, ◌+◌, Bool, false, Option, Some, None, option_map, Ok, Err, refl, sym, ap, ◌∙◌, subst, arith}
 use Rattle.std.specs.Option.{option_or}
 use Rattle.rtcp_engine.specs.declared.refusal.Refusal.{Refusal}
 use Rattle.rtcp_engine.specs.Setups.{Setup}
 use Rattle.rtcp_engine.specs.Acts.{Act, moment_of}
 use Rattle.rtcp_engine.specs.Leaving.{Backoff, Life, present, backing_off, gone, leaving_count}
-use Rattle.rtcp_engine.specs.Lives.{lived, out_by, out_while_backing_off, out_while_present, step_into, while_backing_off, while_present}
+use Rattle.rtcp_engine.specs.Lives.{lived, others_moved_by, others_moved_into, out_by, out_while_backing_off, out_while_present, step_into, while_backing_off, while_present}
 use Rattle.rtcp_engine.specs.Outcomes.{Outcome}
 use Rattle.rtcp_engine.specs.Changes.{NewIdentifier, Session, bye_of_change, change_by, changed_by}
 use Rattle.rtcp_engine.specs.Histories.{History, life_at, session_at, with_act}
 use Rattle.rtcp_engine.specs.Refusals.{refusal_after, refusal_of_datagram}
 use Rattle.rtcp_engine.specs.Answers.{answer_of, step_by}
 use Rattle.rtcp_engine.specs.Promises.{Takes as Promised}
-use Rattle.rtcp_engine.specs.States.{State, Acts, Agrees, Does, IsAt, IsIn, Stays, ParticipantValue, StandsAt, Waits, called, leaving, over, refusal_by, taking_part}
+use Rattle.rtcp_engine.specs.States.{State, Acts, Agrees, Does, IsAt, IsIn, Moves, Stays, ParticipantValue, StandsAt, Waits, called, leaving, over, refusal_by, taking_part}
 use Rattle.rtcp_engine.specs.Steps.{OutValue, StepValue, answer_unless}
 use Rattle.rtcp_engine.specs.Taken.{HasWords}
 use Rattle.rtcp_engine.proofs.Agreeing.{calls_agree}
@@ -42,52 +42,57 @@ pub inside_at : {p w : ParticipantValue} → p ≡ w → (life : Life) → IsAt 
 inside_at {p} {w} is life at = subst (λ (x : ParticipantValue). IsAt x life) (sym is) at
 
 -- what is known of the parts inside is known of those outside
-pub outside : {p w q : ParticipantValue} {act : Act} {out : Option OutValue} → p ≡ w → Acts p q act out → Acts w q act out
-outside {p} {w} {q} {act} {out} is acts = subst (λ (x : ParticipantValue). Acts x q act out) is acts
+pub outside : {p w q : ParticipantValue} {act : Act} {out : Option OutValue} {moved : Bool} → p ≡ w → Acts p q act out moved → Acts w q act out moved
+outside {p} {w} {q} {act} {out} {moved} is acts = subst (λ (x : ParticipantValue). Acts x q act out moved) is acts
 
 pub same_stays : (s : State) → Stays s s
 same_stays s = record { setup = refl; last = refl; calls = refl }
 
 -- what one does that takes part
-pub acts_from_present : {p q : ParticipantValue} {act : Act} {out : Option OutValue} → p.phase ≡ taking_part → Stays p.presence q.presence → q.changes ≡ p.changes
-    → ((outcome : Outcome) → Agrees p.presence outcome → IsAt q (while_present p.presence.setup act outcome)) → ((outcome : Outcome) → Agrees p.presence outcome → out ≡ out_while_present p.presence.setup act outcome) → Acts p q act out
-acts_from_present {p} {q} {act} {out} phase stays changes lives outs = record {
+pub acts_from_present : {p q : ParticipantValue} {act : Act} {out : Option OutValue} {moved : Bool} → p.phase ≡ taking_part → Stays p.presence q.presence → q.changes ≡ p.changes
+    → ((outcome : Outcome) → Agrees p.presence outcome → IsAt q (while_present p.presence.setup act outcome)) → ((outcome : Outcome) → Agrees p.presence outcome → out ≡ out_while_present p.presence.setup act outcome)
+    → ((outcome : Outcome) → Agrees p.presence outcome → moved ≡ others_moved_into p.presence.setup outcome (while_present p.presence.setup act outcome)) → Acts p q act out moved
+acts_from_present {p} {q} {act} {out} {moved} phase stays changes lives outs others = record {
   stays = stays;
   changes = changes;
   lives = at_present p phase (λ life. IsAt q (lived p.presence.setup act life)) lives;
   hands_out = at_present p phase (λ life. out ≡ out_by p.presence.setup act life) outs;
+  others = at_present p phase (λ life. moved ≡ others_moved_by p.presence.setup act life) others;
 }
 
 -- what one that goes on taking part does, by its step
-pub acts_present : {p q : ParticipantValue} {act : Act} {out : Option OutValue} {step : Setup → Outcome → Outcome} → p.phase ≡ taking_part → q.phase ≡ taking_part → q.changes ≡ p.changes → Does p.presence q.presence step
-    → ((setup : Setup) (outcome : Outcome) → while_present setup act outcome ≡ present (step setup outcome)) → ((outcome : Outcome) → Agrees p.presence outcome → out ≡ out_while_present p.presence.setup act outcome) → Acts p q act out
-acts_present {p} {q} {act} {out} {step} phase new_phase changes does lives outs =
+pub acts_present : {p q : ParticipantValue} {act : Act} {out : Option OutValue} {moved : Bool} {step : Setup → Outcome → Outcome} → p.phase ≡ taking_part → q.phase ≡ taking_part → q.changes ≡ p.changes → Does p.presence q.presence step
+    → ((setup : Setup) (outcome : Outcome) → while_present setup act outcome ≡ present (step setup outcome)) → ((outcome : Outcome) → Agrees p.presence outcome → out ≡ out_while_present p.presence.setup act outcome) → Moves p.presence moved step → Acts p q act out moved
+acts_present {p} {q} {act} {out} {moved} {step} phase new_phase changes does lives outs moves =
     acts_from_present phase does.stays changes (λ outcome agrees. subst (IsAt q) (sym (lives p.presence.setup outcome)) (new_phase, does.follows outcome agrees)) outs
+    (λ outcome agrees. moves outcome agrees ∙ ap (others_moved_into p.presence.setup outcome) (sym (lives p.presence.setup outcome)))
 
 -- what one does that backs off
 pub acts_from_backoff : {p q : ParticipantValue} {act : Act} {out : Option OutValue} (members : ℕ) → p.phase ≡ leaving members → Stays p.presence q.presence → q.changes ≡ p.changes
     → ((outcome : Outcome) (backoff : Backoff) → Waits p.presence outcome backoff → members ≡ leaving_count backoff → IsAt q (while_backing_off p.presence.setup act outcome backoff))
-    → ((outcome : Outcome) (backoff : Backoff) → Waits p.presence outcome backoff → members ≡ leaving_count backoff → out ≡ out_while_backing_off p.presence.setup act outcome backoff) → Acts p q act out
+    → ((outcome : Outcome) (backoff : Backoff) → Waits p.presence outcome backoff → members ≡ leaving_count backoff → out ≡ out_while_backing_off p.presence.setup act outcome backoff) → Acts p q act out false
 acts_from_backoff {p} {q} {act} {out} members phase stays changes lives outs = record {
   stays = stays;
   changes = changes;
   lives = at_backing_off p members phase (λ life. IsAt q (lived p.presence.setup act life)) lives;
   hands_out = at_backing_off p members phase (λ life. out ≡ out_by p.presence.setup act life) outs;
+  others = at_backing_off p members phase (λ life. false ≡ others_moved_by p.presence.setup act life) (λ outcome backoff waits count. refl);
 }
 
 -- what one that backs off passes by
 pub acts_passing : {p : ParticipantValue} {act : Act} (members : ℕ) → p.phase ≡ leaving members → ((setup : Setup) (outcome : Outcome) (backoff : Backoff) → while_backing_off setup act outcome backoff ≡ backing_off outcome backoff)
-    → ((setup : Setup) (outcome : Outcome) (backoff : Backoff) → out_while_backing_off setup act outcome backoff ≡ None) → Acts p p act None
+    → ((setup : Setup) (outcome : Outcome) (backoff : Backoff) → out_while_backing_off setup act outcome backoff ≡ None) → Acts p p act None false
 acts_passing {p} {act} members phase lives outs =
     acts_from_backoff members phase (same_stays p.presence) refl (λ outcome backoff waits count. subst (IsAt p) (sym (lives p.presence.setup outcome backoff)) (phase ∙ ap leaving count, waits))
     (λ outcome backoff waits count. sym (outs p.presence.setup outcome backoff))
 
-pub acts_gone : {p : ParticipantValue} {act : Act} → p.phase ≡ over → Acts p p act None
+pub acts_gone : {p : ParticipantValue} {act : Act} → p.phase ≡ over → Acts p p act None false
 acts_gone {p} {act} phase = record {
   stays = same_stays p.presence;
   changes = refl;
   lives = at_gone p phase (λ life. IsAt p (lived p.presence.setup act life)) (λ outcome. phase);
   hands_out = at_gone p phase (λ life. None ≡ out_by p.presence.setup act life) (λ outcome. refl);
+  others = at_gone p phase (λ life. false ≡ others_moved_by p.presence.setup act life) (λ outcome. refl);
 }
 
 -- a counted call leaves a participant where it is
@@ -106,12 +111,12 @@ pub record Takes (h : History) (act : Act) (change : Option NewIdentifier) : Typ
   pub changes : change_by (session_at h) act ≡ change
 
 -- a step is the one that is answered wherever a participant is
-abbrev pub IsStepOf : ParticipantValue → Option OutValue → StepValue → Type 0
-IsStepOf q out step = (life : Life) → IsAt q life → step ≡ step_into q.presence.setup out life
+abbrev pub IsStepOf : ParticipantValue → Option OutValue → (others_changed : Bool) → StepValue → Type 0
+IsStepOf q out others_changed step = (life : Life) → IsAt q life → step ≡ step_into q.presence.setup out others_changed life
 
-pub acted_stands : {p mid q : ParticipantValue} {act : Act} {out : Option OutValue} (h : History) (change : Option NewIdentifier) → StandsAt p h → Takes h act change → HasWords act
-    → IsIn mid (changed_by change (session_at h)) → mid.presence.calls ≡ p.presence.calls → Acts (called (moment_of act) mid) q act out → StandsAt q (with_act h act)
-acted_stands {p} {mid} {q} {act} {out} h change stands takes words at calls acts =
+pub acted_stands : {p mid q : ParticipantValue} {act : Act} {out : Option OutValue} {moved : Bool} (h : History) (change : Option NewIdentifier) → StandsAt p h → Takes h act change → HasWords act
+    → IsIn mid (changed_by change (session_at h)) → mid.presence.calls ≡ p.presence.calls → Acts (called (moment_of act) mid) q act out moved → StandsAt q (with_act h act)
+acted_stands {p} {mid} {q} {act} {out} {moved} h change stands takes words at calls acts =
     let now = changed_by change (session_at h) in
     let lives = acts.lives now.life (call_keeps (moment_of act) mid now.life at.life) in
     record {
@@ -126,19 +131,20 @@ acted_stands {p} {mid} {q} {act} {out} h change stands takes words at calls acts
       calls = acts.stays.calls ∙ ap (λ (n : ℕ). n + 1) (calls ∙ stands.calls) ∙ omega arith;
     }
 
-pub acted_step : {mid q : ParticipantValue} {act : Act} {out : Option OutValue} (h : History) (change : Option NewIdentifier) (bye : Option OutValue) (step : StepValue) → Takes h act change
-    → IsIn mid (changed_by change (session_at h)) → Acts (called (moment_of act) mid) q act out → StandsAt q (with_act h act) → bye ≡ bye_of_change change (session_at h)
-    → IsStepOf q (option_or bye out) step → record step { changed = option_map (λ (new : NewIdentifier). new.ssrc) change } ≡ step_by h act
-acted_step {mid} {q} {act} {out} h change bye step takes at acts after byes is_step =
+pub acted_step : {mid q : ParticipantValue} {act : Act} {out : Option OutValue} {moved : Bool} (h : History) (change : Option NewIdentifier) (bye : Option OutValue) (step : StepValue) → Takes h act change
+    → IsIn mid (changed_by change (session_at h)) → Acts (called (moment_of act) mid) q act out moved → StandsAt q (with_act h act) → bye ≡ bye_of_change change (session_at h)
+    → IsStepOf q (option_or bye out) moved step → record step { changed = option_map (λ (new : NewIdentifier). new.ssrc) change } ≡ step_by h act
+acted_step {mid} {q} {act} {out} {moved} h change bye step takes at acts after byes is_step =
     let now = changed_by change (session_at h) in
     let next = session_at (with_act h act) in
     let number : NewIdentifier → ℕ = λ new. new.ssrc in
     let outs = acts.hands_out now.life (call_keeps (moment_of act) mid now.life at.life) ∙ ap (λ (setup : Setup). out_by setup act now.life) at.setup in
-    let steps : step ≡ step_into next.setup (option_or (bye_of_change change (session_at h)) (out_by now.setup act now.life)) next.life =
-    is_step next.life after.session.life ∙ (λ i. step_into (after.session.setup i) (option_or (byes i) (outs i)) next.life) in
+    let others = acts.others now.life (call_keeps (moment_of act) mid now.life at.life) ∙ ap (λ (setup : Setup). others_moved_by setup act now.life) at.setup in
+    let steps : step ≡ step_into next.setup (option_or (bye_of_change change (session_at h)) (out_by now.setup act now.life)) (others_moved_by now.setup act now.life) next.life =
+    is_step next.life after.session.life ∙ (λ i. step_into (after.session.setup i) (option_or (byes i) (outs i)) (others i) next.life) in
     (λ i. record (steps i) { changed = option_map number change })
     ∙ sym (ap (λ (c : Option NewIdentifier). let s = changed_by c (session_at h) in
-    record (step_into next.setup (option_or (bye_of_change c (session_at h)) (out_by s.setup act s.life)) next.life) { changed = option_map number c }) takes.changes)
+    record (step_into next.setup (option_or (bye_of_change c (session_at h)) (out_by s.setup act s.life)) (others_moved_by s.setup act s.life) next.life) { changed = option_map number c }) takes.changes)
 
 -- ---- What a call promises
 
@@ -146,9 +152,9 @@ pub answered : (h : History) (act : Act) (step : StepValue) → refusal_after h 
 answered h act step none is = ap Ok is ∙ sym (ap (λ (r : Option Refusal). answer_unless r (step_by h act)) none)
 
 -- an act that changes no identifier
-pub takes : {p q : ParticipantValue} {act : Act} {out : Option OutValue} (step : StepValue) → ((h : History) → StandsAt p h → Takes h act None) → Acts (called (moment_of act) p) q act out → IsStepOf q out step
+pub takes : {p q : ParticipantValue} {act : Act} {out : Option OutValue} {moved : Bool} (step : StepValue) → ((h : History) → StandsAt p h → Takes h act None) → Acts (called (moment_of act) p) q act out moved → IsStepOf q out moved step
     → HasWords act → Promised p act (Ok step) q
-takes {p} {q} {act} {out} step plainly acts is_step words = record {
+takes {p} {q} {act} {out} {moved} step plainly acts is_step words = record {
   answer = λ h stands. answered h act step (plainly h stands).taken
       ((λ i. record step { changed = unchanged h stands i }) ∙ acted_step h None None step (plainly h stands) stands.session acts (after h stands) refl is_step);
   stands = λ h stands. subst (StandsAt q) (taken_history h act (plainly h stands).taken) (after h stands);

@@ -30,10 +30,11 @@ use Rattle.rtcp_engine.proofs.LawLemmas.{last_block_is_newest}
 
 -- ---- Counts and intervals
 
+pub others_agree : (s : State) (o : Outcome) → Agrees s o → members_in s.table ≡ members_at s.setup.capacity s.setup.rate o.trace
+others_agree s o a = tables.counts_agree-members s.table o.trace a.table ∙ (λ i. members_at (a.capacity i) (a.rate i) o.trace)
+
 pub members_agree : (s : State) (o : Outcome) → Agrees s o → 1 + members_in s.table ≡ member_count s.setup o
-members_agree s o a =
-    let counts = tables.counts_agree-members s.table o.trace a.table in
-    ap (λ (n : ℕ). 1 + n) (counts ∙ ap (λ (c : ℕ). members_at c s.table.rate o.trace) a.capacity ∙ ap (λ (r : ℕ). members_at s.setup.capacity r o.trace) a.rate)
+members_agree s o a = ap (λ (n : ℕ). 1 + n) (others_agree s o a)
 
 we_sent_agrees : (s : State) (o : Outcome) → Agrees s o → is_some s.own.sending ≡ is_some (sending_since o.own)
 we_sent_agrees s o a = ap (λ (own : OwnValue). is_some own.sending) a.own

@@ -6,19 +6,18 @@ use Rattle.rtcp_engine.specs.declared.step.OutKind.TheVariants.{Bye}
 use Rattle.rtcp_engine.specs.Acts.{rtcp, Act, arrived, rtp_sent, ticked, left}
 use Rattle.rtcp_engine.specs.Steps.{AnswerValue}
 use Rattle.rtcp_engine.specs.Answers.{answers_to}
-use Rattle.rtcp_engine.proofs.Rows.{start, ok, sends, empty_report, items_a}
+use Rattle.rtcp_engine.proofs.Rows.{start, ok, moved, sends, step_with, empty_report, items_a}
 
 -- an empty report of a source that came from a peer, with a random word
 abbrev report_came : (moment peer word ssrc : ℕ) → Act
 report_came moment peer word ssrc = arrived moment peer word (rtcp 8 (Ok (rr ssrc [] [] ∷ [])))
 
-abbrev changes_to : (members senders next ssrc : ℕ) → AnswerValue
-changes_to members senders next ssrc =
-    Ok (record { out = None; members = members; senders = senders; next = Some next; changed = Some ssrc })
+abbrev changes_to : (members senders entries next ssrc : ℕ) → AnswerValue
+changes_to members senders entries next ssrc = Ok (step_with None members senders entries (Some next) (Some ssrc))
 
-abbrev says_bye : (members senders next ssrc : ℕ) → List ℕ → AnswerValue
-says_bye members senders next ssrc octets =
-    Ok (record { out = Some (record { kind = Bye; octets = octets }); members = members; senders = senders; next = Some next; changed = Some ssrc })
+abbrev says_bye : (members senders entries next ssrc : ℕ) → List ℕ → AnswerValue
+says_bye members senders entries next ssrc octets =
+    Ok (step_with (Some (record { kind = Bye; octets = octets })) members senders entries (Some next) (Some ssrc))
 
 abbrev bye_of_170 : List ℕ
 bye_of_170 = empty_report ++ 129 ∷ 203 ∷ 0 ∷ 1 ∷ 0 ∷ 0 ∷ 0 ∷ 170 ∷ []
@@ -29,7 +28,7 @@ empty_report_of_187 = 128 ∷ 201 ∷ 0 ∷ 1 ∷ 0 ∷ 0 ∷ 0 ∷ 187 ∷ 129 
 -- The participant takes the word as its identifier, and hears its old one from then on as another's. A peer brings one
 -- change; and an identifier that it had is not taken again.
 changes : answers_to start (report_came 0 7 187 170 ∷ report_came 0 7 187 170 ∷ report_came 0 7 204 187 ∷ report_came 0 8 170 187 ∷ [])
-    ≡ changes_to 1 0 1026037 187 ∷ ok 1 0 1026037 ∷ Err OwnSsrc ∷ changes_to 1 0 1026037 171 ∷ []
+    ≡ changes_to 1 0 1 1026037 187 ∷ ok 1 0 1 1026037 ∷ Err OwnSsrc ∷ changes_to 1 0 2 1026037 171 ∷ []
 changes = refl
 
 -- After a report the old identifier says goodbye, and the next report is under the new one.
@@ -38,13 +37,13 @@ own_report_came moment peer word =
     arrived moment peer word (rtcp 20 (Ok (rr 170 [] [] ∷ sdes (record { id = 170; items = items_a } ∷ []) ∷ [])))
 
 after_a_report : answers_to start (ticked 1026037 0 0 ∷ own_report_came 1026037 7 187 ∷ ticked 3078111 0 0 ∷ [])
-    ≡ sends 1 0 3078111 empty_report ∷ says_bye 2 0 3078111 187 bye_of_170 ∷ sends 2 0 5130185 empty_report_of_187 ∷ []
+    ≡ sends 1 0 0 3078111 empty_report ∷ moved (says_bye 2 0 1 3078111 187 bye_of_170) ∷ sends 2 0 1 5130185 empty_report_of_187 ∷ []
 after_a_report = refl
 
 -- After a packet too. The counts begin anew, and the participant is still a sender.
 after_a_packet : answers_to start (rtp_sent 0 1000 160 ∷ report_came 0 7 187 170 ∷ ticked 1026037 0 0 ∷ [])
-    ≡ ok 1 1 1026037 ∷ says_bye 1 1 1026037 187 bye_of_170
-    ∷ sends 1 1 3078111 (128 ∷ 200 ∷ 0 ∷ 6 ∷ 0 ∷ 0 ∷ 0 ∷ 187 ∷ 0 ∷ 0 ∷ 0 ∷ 1 ∷ 6 ∷ 170 ∷ 92 ∷ 95 ∷ 0 ∷ 0 ∷ 35 ∷ 248 ∷ 0 ∷ 0 ∷ 0 ∷ 0 ∷ 0 ∷ 0 ∷ 0 ∷ 0 ∷ 129 ∷ 202 ∷ 0 ∷ 2 ∷ 0 ∷ 0 ∷ 0 ∷ 187 ∷ 1 ∷ 1 ∷ 97 ∷ 0 ∷ []) ∷ []
+    ≡ ok 1 1 0 1026037 ∷ says_bye 1 1 1 1026037 187 bye_of_170
+    ∷ sends 1 1 1 3078111 (128 ∷ 200 ∷ 0 ∷ 6 ∷ 0 ∷ 0 ∷ 0 ∷ 187 ∷ 0 ∷ 0 ∷ 0 ∷ 1 ∷ 6 ∷ 170 ∷ 92 ∷ 95 ∷ 0 ∷ 0 ∷ 35 ∷ 248 ∷ 0 ∷ 0 ∷ 0 ∷ 0 ∷ 0 ∷ 0 ∷ 0 ∷ 0 ∷ 129 ∷ 202 ∷ 0 ∷ 2 ∷ 0 ∷ 0 ∷ 0 ∷ 187 ∷ 1 ∷ 1 ∷ 97 ∷ 0 ∷ []) ∷ []
 after_a_packet = refl
 
 -- Eight peers bring a change, and no ninth.
@@ -55,5 +54,5 @@ eight = refl
 
 -- A leave with nothing said since the change is silent.
 leaves_silently : drop 2 (answers_to start (ticked 1026037 0 0 ∷ own_report_came 1026037 7 187 ∷ left 1026037 0 ∷ []))
-    ≡ Ok (record { out = None; members = 0; senders = 0; next = None; changed = None }) ∷ []
+    ≡ moved (Ok (step_with None 0 0 0 None None)) ∷ []
 leaves_silently = refl

@@ -14,8 +14,10 @@ mod Differing
 mod Doing
 mod Following
 mod LateRows
+mod Keeping
 mod LeavingRows
 mod LifeLemmas
+mod Moving
 mod OneMore
 mod Renaming
 mod Rows

@@ -2,7 +2,7 @@
 use Rattle.std.specs.Prelude.{List, [], ◌∷◌, Some, None, option_map}
 use Rattle.rtcp_engine.specs.Acts.{Act}
 use Rattle.rtcp_engine.specs.Changes.{change_by}
-use Rattle.rtcp_engine.specs.Histories.{History, brought_by, session_at, with_act}
+use Rattle.rtcp_engine.specs.Histories.{History, brought_by, others_changed_by, session_at, with_act}
 use Rattle.rtcp_engine.specs.Lives.{step_into}
 use Rattle.rtcp_engine.specs.Refusals.{refusal_after}
 use Rattle.rtcp_engine.specs.Steps.{StepValue, AnswerValue, answer_unless}
@@ -12,7 +12,7 @@ abbrev pub step_by : History → Act → StepValue
 step_by history act =
     let before = session_at history in
     let next = session_at (with_act history act) in
-    record (step_into next.setup (brought_by before act) next.life) {
+    record (step_into next.setup (brought_by before act) (others_changed_by before act) next.life) {
       changed = option_map (λ new. new.ssrc) (change_by before act);
     }
 

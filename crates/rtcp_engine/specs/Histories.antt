@@ -1,12 +1,12 @@
 -- What the acts of a session come to, from its beginning on. A history is a list of acts, newest first.
-use Rattle.std.specs.Prelude.{ℕ, List, [], ◌∷◌, Option}
+use Rattle.std.specs.Prelude.{ℕ, Bool, List, [], ◌∷◌, Option}
 use Rattle.std.specs.Option.{option_or}
 use Rattle.rtcp_engine.specs.Setups.{Setup}
 use Rattle.rtcp_engine.specs.Acts.{Act, moment_of}
 use Rattle.rtcp_engine.specs.Outcomes.{beginning}
 use Rattle.rtcp_engine.specs.Steps.{OutValue}
 use Rattle.rtcp_engine.specs.Leaving.{Life, present}
-use Rattle.rtcp_engine.specs.Lives.{lived, out_by}
+use Rattle.rtcp_engine.specs.Lives.{lived, others_moved_by, out_by}
 use Rattle.rtcp_engine.specs.Changes.{Session, bye_of_change, change_by, changed_by}
 
 -- A session so far.
@@ -38,6 +38,10 @@ abbrev pub brought_by : Session → Act → Option OutValue
 brought_by session act =
     let now = session_for session act in
     option_or (bye_of_change (change_by session act) session) (out_by now.setup act now.life)
+
+-- Whether an act changes who of the others is a member, or who of them sends. A change of identifier alone does not.
+abbrev pub others_changed_by : Session → Act → Bool
+others_changed_by session act = let now = session_for session act in others_moved_by now.setup act now.life
 
 -- ---- Histories
 

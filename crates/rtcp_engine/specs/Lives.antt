@@ -1,9 +1,11 @@
 -- What the acts of a session make of it, its leave included: the participant takes part, backs off, or is gone.
-use Rattle.std.specs.Prelude.{ℕ, ◌≡◌, List, [], if◌then◌else◌, Option, Some, None, option_map, Result, Ok, Err}
+use Rattle.std.specs.Prelude.{ℕ, ◌≡◌, ◌-◌, ◌==◌, not, Bool, false, List, [], length, if◌then◌else◌, Option, Some, None, option_map, Result, Ok, Err}
 use Rattle.rtcp_wire.specs.declared.fault.WireFault.{WireFault}
 use Rattle.rtcp_wire.specs.Values.{RtcpPacket}
 use Rattle.rtcp_members.specs.Traces.{names}
 use Rattle.rtcp_members.specs.Stays.{present_among, stay_of}
+use Rattle.rtcp_members.specs.Entries.{EntryValue, entry_at, members_at}
+use Rattle.rtcp_members.specs.Roles.{moved_within}
 use Rattle.rtcp_members.specs.Told.{StateValue, TellsAbove, IsWalk}
 use Rattle.rtcp_engine.specs.declared.step.OutKind.TheVariants.{Report, Bye}
 use Rattle.rtcp_engine.specs.Setups.{Setup}
@@ -64,6 +66,12 @@ entries_in_life setup (present outcome) = present_among (names outcome.trace) (s
 entries_in_life setup (backing_off outcome backoff) = 0
 entries_in_life setup (gone outcome) = 0
 
+-- what the participant tells of a source goes by this, if it tells of it
+abbrev pub entry_in_life : Setup → Life → (ssrc : ℕ) → Option EntryValue
+entry_in_life setup (present outcome) ssrc = entry_at setup.capacity setup.rate outcome.trace ssrc
+entry_in_life setup (backing_off outcome backoff) ssrc = None
+entry_in_life setup (gone outcome) ssrc = None
+
 -- Of the sources above `after` the one of least SSRC is told, by the trace, as long as the participant takes part.
 -- In a backoff it follows nobody any more, so nobody is told from its leave on.
 abbrev pub TellsInLife : Setup → (after : Option ℕ) → Life → Option StateValue → Type 0
@@ -77,6 +85,29 @@ abbrev pub WalksInLife : Setup → Life → List StateValue → Type 0
 WalksInLife setup (present outcome) states = IsWalk None setup.capacity setup.rate outcome.trace states
 WalksInLife setup (backing_off outcome backoff) states = states ≡ []
 WalksInLife setup (gone outcome) states = states ≡ []
+
+-- ---- Changes of the others
+
+-- whether some other source is a member
+abbrev pub has_others : Setup → Outcome → Bool
+has_others setup outcome = not (members_at setup.capacity setup.rate outcome.trace == 0)
+
+-- Whether one of the steps since changed who of the others is a member, or who of them sends.
+abbrev pub moved_since : Setup → (before after : Outcome) → Bool
+moved_since setup before after =
+    moved_within setup.capacity setup.rate (length after.trace - length before.trace) after.trace
+
+-- the same of a life that began as this outcome: nobody is told of from a leave on
+abbrev pub others_moved_into : Setup → (before : Outcome) → Life → Bool
+others_moved_into setup before (present after) = moved_since setup before after
+others_moved_into setup before (backing_off after backoff) = has_others setup before
+others_moved_into setup before (gone after) = has_others setup before
+
+-- Whether an act changes who of the others is a member, or who of them sends, as far as the participant tells.
+abbrev pub others_moved_by : Setup → Act → Life → Bool
+others_moved_by setup act (present outcome) = others_moved_into setup outcome (while_present setup act outcome)
+others_moved_by setup act (backing_off outcome backoff) = false
+others_moved_by setup act (gone outcome) = false
 
 -- the moment to ask again, until the participant is gone
 abbrev pub next_in_life : Life → Option ℕ
@@ -118,12 +149,17 @@ own_bye setup (present outcome) = bye_if_heard setup outcome
 own_bye setup (backing_off outcome backoff) = bye_if_heard setup outcome
 own_bye setup (gone outcome) = None
 
--- What is answered where a session has come to this.
-abbrev pub step_into : Setup → Option OutValue → Life → StepValue
-step_into setup out life = record {
+-- ---- Answers
+
+-- What is answered where a session has come to this, by an act that brought a compound, if it brought one, and that
+-- changed who of the others is there or sends, if it did.
+abbrev pub step_into : Setup → Option OutValue → (others_changed : Bool) → Life → StepValue
+step_into setup out others_changed life = record {
   out = out;
   members = members_in_life setup life;
   senders = senders_in_life setup life;
+  entries = entries_in_life setup life;
   next = next_in_life life;
   changed = None;
+  others_changed = others_changed;
 }

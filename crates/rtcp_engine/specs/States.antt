@@ -1,5 +1,5 @@
 -- What a participant keeps of its history: a table and a few numbers, and its phase.
-use Rattle.std.specs.Prelude.{ℕ, ◌+◌, ◌-◌, ◌≡◌, ◌≤◌, ◌<◌, ◌^◌, List, [], length, if◌then◌else◌, Option, Some, None}
+use Rattle.std.specs.Prelude.{ℕ, ◌+◌, ◌-◌, ◌≡◌, ◌≤◌, ◌<◌, ◌^◌, Bool, List, [], length, if◌then◌else◌, Option, Some, None}
 use Rattle.std.specs.FinMap as map
 use Rattle.rtcp_members.specs.Tables.{TableValue, HasFew, StandsAt as IsTableAt}
 use Rattle.rtcp_timer.specs.Averages.{moved_average}
@@ -17,7 +17,7 @@ use Rattle.rtcp_engine.specs.Changes.{Session}
 use Rattle.rtcp_engine.specs.Histories.{History, last_moment, session_at}
 use Rattle.rtcp_engine.specs.Refusals.{call_refusal}
 use Rattle.rtcp_engine.specs.Leaving.{Backoff, Life, present, backing_off, gone, leaving_count, leaving_timing, leaving_average}
-use Rattle.rtcp_engine.specs.Lives.{lived, out_by}
+use Rattle.rtcp_engine.specs.Lives.{has_others, lived, moved_since, others_moved_by, out_by}
 use Rattle.rtcp_engine.specs.Steps.{OutValue}
 use Rattle.rtcp_engine.specs.Acts.{Act}
 use Rattle.rtcp_engine.specs.Taken.{IsHistory}
@@ -82,6 +82,15 @@ pub record Stays (old new : State) : Type 0 where
 pub record Does (old new : State) (step : Setup → Outcome → Outcome) : Type 0 where
   pub stays : Stays old new
   pub follows : (outcome : Outcome) → Agrees old outcome → Agrees new (step old.setup outcome)
+
+-- A participant says whether a step changes who of the others is a member, or who of them sends.
+abbrev pub Moves : (old : State) → (others_changed : Bool) → (step : Setup → Outcome → Outcome) → Type 0
+Moves old others_changed step =
+    (outcome : Outcome) → Agrees old outcome → others_changed ≡ moved_since old.setup outcome (step old.setup outcome)
+
+-- It says whether some other source is a member.
+abbrev pub HasOthers : State → (others : Bool) → Type 0
+HasOthers state others = (outcome : Outcome) → Agrees state outcome → others ≡ has_others state.setup outcome
 
 -- In a backoff the table and the own stream stand still: they are those of the outcome at the leave.
 pub record StandsStill (state : State) (outcome : Outcome) : Type 0 where
@@ -180,12 +189,14 @@ abbrev pub refusal_by : (moment : ℕ) → ParticipantValue → Option Refusal
 refusal_by moment participant =
     refusal_in_phase participant.phase (call_refusal moment participant.presence.last participant.presence.calls)
 
--- A participant whose call was counted does as its session does with an act, and hands this out.
-pub record Acts (old new : ParticipantValue) (act : Act) (out : Option OutValue) : Type 0 where
+-- A participant whose call was counted does as its session does with an act, hands this out, and says whether the act
+-- changed who of the others is there or sends.
+pub record Acts (old new : ParticipantValue) (act : Act) (out : Option OutValue) (others_changed : Bool) : Type 0 where
   pub stays : Stays old.presence new.presence
   pub changes : new.changes ≡ old.changes
   pub lives : (life : Life) → IsAt old life → IsAt new (lived old.presence.setup act life)
   pub hands_out : (life : Life) → IsAt old life → out ≡ out_by old.presence.setup act life
+  pub others : (life : Life) → IsAt old life → others_changed ≡ others_moved_by old.presence.setup act life
 
 -- A participant is where a session is, under the same identifier.
 pub record IsIn (participant : ParticipantValue) (session : Session) : Type 0 where

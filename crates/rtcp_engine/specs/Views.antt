@@ -63,8 +63,10 @@ step_value step = record {
   out = option_map out_value step.out;
   members = step.members;
   senders = step.senders;
+  entries = step.entries;
   next = step.next;
   changed = step.changed;
+  others_changed = step.others_changed;
 }
 
 abbrev pub answer_value : Result Step Refusal → AnswerValue
@@ -82,8 +84,10 @@ told_value octets told = record {
   out = out_with octets told.out;
   members = told.members;
   senders = told.senders;
+  entries = told.entries;
   next = told.next;
   changed = told.changed;
+  others_changed = told.others_changed;
 }
 
 abbrev pub reply_value : (octets : List ℕ) → Result Told Refusal → AnswerValue

@@ -9,7 +9,7 @@ ghost use Rattle.rtcp_engine.specs.Refused.{error_in};
 ghost use Rattle.rtcp_engine.specs.Views.{setup_of};
 ghost use Rattle.rtcp_engine.specs.Outcomes.{Outcome, one_if, member_count as member_count_of, sender_count as sender_count_of, load_of, interval_at};
 ghost use Rattle.rtcp_engine.specs.Taken.{begun};
-ghost use Rattle.rtcp_engine.specs.States.{Agrees, KeepsCapacity, StandsAt, newcomer};
+ghost use Rattle.rtcp_engine.specs.States.{Agrees, HasOthers, KeepsCapacity, StandsAt, newcomer};
 ghost use Rattle.rtcp_engine.specs.Refusals.{call_refusal};
 
 use crate::config::Config;
@@ -109,6 +109,13 @@ impl<T: MemberTable> Presence<T> {
         ensures within { KeepsCapacity self.now }
     {
         member_count(&self.table)
+    }
+
+    /// Whether some other source is a member.
+    pub(crate) fn has_others(&self) -> bool
+        ensures { HasOthers self.now result }
+    {
+        self.table.members() != 0
     }
 
     /// The members that send RTP packets, this participant included where it does.

@@ -35,11 +35,18 @@ pub struct Step {
     pub members: u32,
     /// Those of them that send RTP packets, the participant included where it does: 0 from a leave on.
     pub senders: u32,
+    /// How many places of the table are taken, as [`Participant::entries`](crate::Participant::entries) says: 0
+    /// from a leave on.
+    pub entries: u32,
     /// When to call `tick` next, in microseconds since the session began, or `None` once the participant has
     /// left. It may lie before the moment of the call: then a report or the BYE is overdue.
     pub next: Option<u64>,
     /// The participant's new SSRC, where the call changed it (RFC 3550, 8.2).
     pub changed: Option<u32>,
+    /// Whether the call changed the [`Role`](crate::Role) of another source, if only for a moment of the call. Where it
+    /// did not, each source that [`Participant::sources`](crate::Participant::sources) tells of has the role that it
+    /// had. A leave changes it of each member, as nobody is told of from then on.
+    pub others_changed: bool,
     /// A compound to send now, if there is one. A datagram brings one where it changes the identifier
     /// (`changed`): the BYE of the old one.
     pub out: Option<Out>,
@@ -58,14 +65,33 @@ pub struct Told {
     pub members: u32,
     /// Those of them that send RTP packets, as in [`Step::senders`].
     pub senders: u32,
+    /// How many places of the table are taken, as in [`Step::entries`].
+    pub entries: u32,
     /// When to call `tick` next, as in [`Step::next`].
     pub next: Option<u64>,
     /// The participant's new SSRC, where the call changed it, as in [`Step::changed`].
     pub changed: Option<u32>,
+    /// Whether the call changed the role of another source, as in [`Step::others_changed`].
+    pub others_changed: bool,
 }
 
 /// What was told, or why the call was refused.
 pub type Reply = Result<Told, Refusal>;
+
+/// What an act brought, beside what it left of the participant.
+#[derive(Clone, Copy)]
+pub(crate) struct Brought {
+    /// What the compound is that was written, if one was.
+    pub(crate) out: Option<OutKind>,
+    /// Whether the act changed the role of another source.
+    pub(crate) others_changed: bool,
+}
+
+/// What an act brings that brings nothing.
+pub(crate) const NOTHING: Brought = Brought {
+    out: None,
+    others_changed: false,
+};
 
 impl Told {
     /// The step that has these octets as its compound, if a compound was written.
@@ -83,8 +109,10 @@ impl Told {
         Step {
             members: self.members,
             senders: self.senders,
+            entries: self.entries,
             next: self.next,
             changed: self.changed,
+            others_changed: self.others_changed,
             out,
         }
     }

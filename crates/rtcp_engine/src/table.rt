@@ -1,9 +1,11 @@
-//! What arrives, applied to a table of members.
+//! What arrives, applied to a table of members, and whether that changes who is a member or who sends.
 
-ghost use Rattle.std.specs.Prelude.{◌≡◌, ◌≤◌, ◌<◌, ◌+◌, ◌^◌, ℕ, All, false};
+ghost use Rattle.std.specs.Prelude.{◌≡◌, ◌≤◌, ◌<◌, ◌+◌, ◌^◌, ℕ, All, IfSome, IsTrue, false};
 ghost use Rattle.std.specs.FinMap as map;
-ghost use Rattle.rtcp_wire.specs.Facts.{is_media};
-ghost use Rattle.rtcp_members.specs.Tables.{HasFew, after_facts, counted, members_in};
+ghost use Rattle.rtcp_wire.specs.Facts.{is_media, subject};
+ghost use Rattle.rtcp_members.specs.Roles.{check_moves, counts_differ, facts_move};
+ghost use Rattle.rtcp_members.specs.Tables.{HasFew, IsFew, after_check, after_fact, after_facts, counted, members_in, senders_in};
+ghost use Rattle.rtcp_members.specs.Traces.{horizons_at};
 ghost use Rattle.rtcp_engine.specs.Arrivals.{facts_of_csrcs, facts_of_media, media_fact};
 
 use rtcp_members::MemberTable;
@@ -18,35 +20,117 @@ pub(crate) fn member_count<T: MemberTable>(table: &T) -> u32
     1 + table.members()
 }
 
-/// Applies facts of one moment, one after the other.
-pub(crate) fn apply_facts<T: MemberTable>(table: &mut T, facts: Facts<'_>, t: u64)
+/// Applies facts of one moment, one after the other, and returns whether one of them changed who is a member or who
+/// sends.
+pub(crate) fn apply_facts<T: MemberTable>(table: &mut T, facts: Facts<'_>, t: u64) -> bool
     requires { All (λ fact. is_media fact ≡ false) facts }
-    ensures { T.content table.new ≡ after_facts facts.entry t (T.content table.old) }
+    ensures content { T.content table.new ≡ after_facts facts.entry t (T.content table.old) }
+    ensures moved { result ≡ facts_move facts.entry t (T.content table.old) }
 {
+    let mut moved = false;
     'facts: for fact in facts {
-        table.apply(fact, t);
+        let effect = apply_fact(table, fact, t);
+        moved |= effect.moved;
     }
+    moved
 }
 
-/// Applies an RTP packet, and its contributing sources but for the participant itself, `own`, if it is counted.
-pub(crate) fn apply_media<T: MemberTable>(table: &mut T, head: &RtpHead<'_>, own: u32, t: u64)
+/// Applies an RTP packet, and its contributing sources but for the participant itself, `own`, if it is counted. Returns
+/// whether that changed who is a member or who sends.
+pub(crate) fn apply_media<T: MemberTable>(
+    table: &mut T,
+    head: &RtpHead<'_>,
+    own: u32,
+    t: u64,
+) -> bool
     requires { (packets : ℕ) × (packets < 2 ^ 40) × HasFew packets (T.content table.old) }
-    ensures { T.content table.new ≡ after_facts
+    ensures content { T.content table.new ≡ after_facts
+        (facts_of_media own head.now (counted (T.content table.old) (media_fact head.now))) t (T.content table.old) }
+    ensures moved { result ≡ facts_move
         (facts_of_media own head.now (counted (T.content table.old) (media_fact head.now))) t (T.content table.old) }
 {
     let packet = Fact::Media(head.ssrc(), head.sequence(), head.timestamp());
-    if table.apply(packet, t).counted {
-        apply_csrcs(table, head, own, t);
+    let effect = apply_fact(table, packet, t);
+    if !effect.counted {
+        return effect.moved;
+    }
+    let others = apply_csrcs(table, head, own, t);
+    effect.moved || others
+}
+
+/// Applies the contributing sources of a packet but for the participant itself, `own`, and returns whether that changed
+/// who is a member or who sends.
+fn apply_csrcs<T: MemberTable>(table: &mut T, head: &RtpHead<'_>, own: u32, t: u64) -> bool
+    ensures content { T.content table.new ≡ after_facts (facts_of_csrcs own head.now.csrcs) t (T.content table.old) }
+    ensures moved { result ≡ facts_move (facts_of_csrcs own head.now.csrcs) t (T.content table.old) }
+{
+    let mut moved = false;
+    'csrcs: for csrc in head.csrcs() {
+        if csrc != own {
+            let effect = apply_fact(table, Fact::Heard(csrc), t);
+            moved |= effect.moved;
+        }
+    }
+    moved
+}
+
+/// Makes a check, by its horizons, and returns whether it changed who is a member or who sends.
+pub(crate) fn check<T: MemberTable>(
+    table: &mut T,
+    now: u64,
+    silent_before: u64,
+    data_before: u64,
+    gone_before: u64,
+) -> bool
+    ensures content { T.content table.new
+        ≡ after_check (horizons_at silent_before data_before gone_before) (T.content table.old) }
+    ensures moved { result ≡ check_moves (horizons_at silent_before data_before gone_before) (T.content table.old) }
+{
+    let before = Counts::of(table);
+    table.check(now, silent_before, data_before, gone_before);
+    Counts::of(table) != before
+}
+
+/// What a fact did.
+#[derive(Clone, Copy)]
+struct Effect {
+    /// whether it was an RTP packet that was counted
+    counted: bool,
+    /// whether it changed who is a member or who sends
+    moved: bool,
+}
+
+/// Applies a fact.
+fn apply_fact<T: MemberTable>(table: &mut T, fact: Fact, t: u64) -> Effect
+    requires { IsTrue (is_media fact) → IfSome (map.get (T.content table.old).entries (subject fact)) IsFew }
+    ensures content { T.content table.new ≡ after_fact fact t (T.content table.old) }
+    ensures counted { result.counted ≡ counted (T.content table.old) fact }
+    ensures moved { result.moved ≡ counts_differ (T.content table.old) (T.content table.new) }
+{
+    let before = Counts::of(table);
+    let applied = table.apply(fact, t);
+    Effect {
+        counted: applied.counted,
+        moved: Counts::of(table) != before,
     }
 }
 
-/// Applies the contributing sources of a packet but for the participant itself, `own`.
-fn apply_csrcs<T: MemberTable>(table: &mut T, head: &RtpHead<'_>, own: u32, t: u64)
-    ensures { T.content table.new ≡ after_facts (facts_of_csrcs own head.now.csrcs) t (T.content table.old) }
-{
-    'csrcs: for csrc in head.csrcs() {
-        if csrc != own {
-            table.apply(Fact::Heard(csrc), t);
+/// How many sources of a table are members, and how many send. A fact changes who they are where it changes one of
+/// these numbers, as it is about one source, and so does a check, as it adds nobody.
+#[derive(Clone, Copy, PartialEq, Eq)]
+struct Counts {
+    members: u32,
+    senders: u32,
+}
+
+impl Counts {
+    fn of<T: MemberTable>(table: &T) -> Counts
+        ensures members { result.members ≡ members_in (T.content table.now) }
+        ensures senders { result.senders ≡ senders_in (T.content table.now) }
+    {
+        Counts {
+            members: table.members(),
+            senders: table.senders(),
         }
     }
 }

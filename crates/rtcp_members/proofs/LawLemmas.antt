@@ -1,16 +1,16 @@
 -- The laws of this crate as lemmas, for the proofs of the crates above: each has the name of its law, and of the clause where the law has
 -- several. Nothing here names a representation.
-use Rattle.std.proofs.Common.{◌≡◌, ◌==◌, ◌&&◌, ◌<◌, ◌≤◌, ◌+◌, ◌^◌, ◌↔◌, ◌∙◌, ap, rules, is_some, if◌then◌else◌, true, false, All, IfSome, IsTrue, length, drop, ℕ, List, [], ◌∷◌, Option, Some, None, map, count_by}
+use Rattle.std.proofs.Common.{◌≡◌, ◌==◌, ◌&&◌, ◌<◌, ◌≤◌, ◌+◌, ◌^◌, ◌↔◌, ◌∙◌, ap, sym, refl, rules, is_some, if◌then◌else◌, true, false, All, IfSome, IsTrue, length, drop, ℕ, List, [], ◌∷◌, Option, Some, None, map, count_by}
 use Rattle.std.specs.FinMap as finite
 use Rattle.rtcp_wire.specs.declared.fact.Fact.{Fact}
 use Rattle.rtcp_wire.specs.Facts.{subject, is_gone, is_media}
 use Rattle.rtcp_members.specs.Traces.{Horizons, TraceStep, fact_came, check_made, block_taken, names, with_facts}
 use Rattle.rtcp_members.specs.Stays.{present_among, stay_of, IsStay}
-use Rattle.rtcp_members.specs.Entries.{counted_at, members_at, senders_at, sending_of, is_such, is_member, is_sender, entry_at, IsSendingSince, IsSenderAt}
+use Rattle.rtcp_members.specs.Entries.{EntryValue, counted_at, members_at, senders_at, sending_of, is_such, is_member, is_sender, entry_at, IsSendingSince, IsSenderAt}
 use Rattle.rtcp_members.specs.Pending.{EntryRow, is_after, first_ssrc, is_due, is_due_at, pending, block_at, block_of_row, after_block, after_blocks}
 use Rattle.rtcp_members.specs.News.{is_due_by, pending_at, pending_rows_at}
 use Rattle.rtcp_members.specs.Roles.{IsSameRole, step_moves, moved_within, facts_move, check_moves}
-use Rattle.rtcp_members.proofs.RoleCounts.{same_roles_stay, step_keeps, steps_keep}
+use Rattle.rtcp_members.proofs.RoleCounts.{block_moves_none, nobody_passes, same_roles_stay, step_keeps, steps_keep}
 use Rattle.rtcp_members.proofs.Roles.{facts_alone_moved, check_moved}
 use Rattle.rtcp_members.specs.Told.{StateValue, state_above, states_above, RiseAbove, TellsAbove, IsWalk}
 use Rattle.rtcp_members.specs.Tables.{TableValue, StandsAt, KeepsBounds, table_at, HasFew, IsFew, no_members, counted, after_fact, after_facts, entry_after_check, after_check, members_in, senders_in}
@@ -251,6 +251,18 @@ roles_move_with_counts-moved = same_roles_stay
 pub roles_move_with_counts-within : (capacity rate : ℕ) (steps : ℕ) (trace : List TraceStep) → moved_within capacity rate steps trace ≡ false → (ssrc : ℕ)
     → IsSameRole (entry_at capacity rate (drop steps trace) ssrc) (entry_at capacity rate trace ssrc)
 roles_move_with_counts-within = steps_keep
+
+pub roles_move_with_counts-block : (capacity rate ssrc : ℕ) (trace : List TraceStep) → step_moves capacity rate (block_taken ssrc) trace ≡ false
+roles_move_with_counts-block = block_moves_none
+
+pub roles_move_with_counts-none : (capacity rate : ℕ) (trace : List TraceStep) → members_at capacity rate trace ≡ 0 → (ssrc : ℕ) → IsSameRole None (entry_at capacity rate trace ssrc)
+roles_move_with_counts-none = λ capacity rate trace none ssrc.
+    let no_member = nobody_passes is_member capacity rate trace none ssrc in
+    (sym no_member, sym (no_sender (entry_at capacity rate trace ssrc) no_member))
+  where
+    no_sender : (entry : Option EntryValue) → is_such is_member entry ≡ false → is_such is_sender entry ≡ false
+    no_sender None none = refl
+    no_sender (Some entry) none = ap (λ b. b && is_some entry.sending) none
 
 pub moves_follow_traces-facts : (facts : List Fact) (moment : ℕ) (table : TableValue) (trace : List TraceStep) → StandsAt table trace
     → facts_move facts moment table ≡ moved_within table.capacity table.rate (length facts) (with_facts facts moment trace)

@@ -18,6 +18,21 @@ use Rattle.rtcp_members.proofs.Blocking.{reported_if, own_stay, other_stay}
 
 -- ---- Two tests of keys
 
+no_part : (b : Bool) (n : ℕ) → one_or_none b + n ≡ 0 → (b ≡ false) × (n ≡ 0)
+unfolding one_or_none
+no_part true n e = absurd (omega arith)
+no_part false n e = (refl, omega arith)
+
+-- Where none passes, no key does.
+none_in : (f : ℕ → Bool) (keys : List ℕ) → passing f keys ≡ 0 → (key : ℕ) → has key keys ≡ true → f key ≡ false
+none_in f [] none key present = absurd (true≢false (sym present))
+none_in f (first ∷ rest) none key present =
+    let parts = no_part (f first) (passing f rest) (sym (first_and_rest f first rest) ∙ none) in
+    elim (first == key) as (λ b. (first == key) ≡ b → (b || has key rest) ≡ true → f key ≡ false) [
+      | true ↦ λ same _. ap f (sym (eqb-true first key same)) ∙ parts.0
+      | false ↦ λ _ later. none_in f rest parts.1 key later
+    ] refl present
+
 not_as_many : (n : ℕ) → n ≡ one_or_none true + n → ⊥
 unfolding one_or_none
 not_as_many n e = absurd (omega arith)
@@ -103,6 +118,14 @@ module _ (test : EntryValue → Bool) (capacity rate : ℕ) where
   count_stays : (step : TraceStep) (trace : List TraceStep) → ((ssrc : ℕ) → passes trace ssrc ≡ passes (step ∷ trace) ssrc) → count_at test capacity rate (step ∷ trace) ≡ count_at test capacity rate trace
   count_stays step trace same =
       same_passing (passes (step ∷ trace)) (passes trace) (λ ssrc. sym (same ssrc)) (names (step ∷ trace)) ∙ by_later_names step trace
+
+  -- Where nobody counts, nobody passes.
+  pub nobody_passes : (trace : List TraceStep) → count_at test capacity rate trace ≡ 0 → (ssrc : ℕ) → passes trace ssrc ≡ false
+  nobody_passes trace none ssrc =
+      elim (has ssrc (names trace)) as (λ b. has ssrc (names trace) ≡ b → passes trace ssrc ≡ false) [
+        | true ↦ λ named. none_in (passes trace) (names trace) none ssrc named
+        | false ↦ λ unnamed. not_here trace ssrc unnamed
+      ] refl
 
   -- one that none of the two traces names
   neither : (step : TraceStep) (trace : List TraceStep) (ssrc : ℕ) → has ssrc (names (step ∷ trace)) ≡ false → has ssrc (names trace) ≡ false → passes trace ssrc ≡ passes (step ∷ trace) ssrc
@@ -194,6 +217,11 @@ module _ (capacity rate : ℕ) where
         check_keeps is_sender capacity rate horizons trace (λ other is. checked_sender horizons (entry trace other) (ap (is_such is_sender) (sym (checked_entry_at capacity rate other horizons trace)) ∙ is)) counts.1 ssrc,
       )
   step_keeps (block_taken reported) trace still ssrc = (block_keeps_role is_member reported_member capacity rate reported trace ssrc, block_keeps_role is_sender reported_sender capacity rate reported trace ssrc)
+
+  -- A block moves nobody.
+  pub block_moves_none : (reported : ℕ) (trace : List TraceStep) → step_moves capacity rate (block_taken reported) trace ≡ false
+  block_moves_none reported trace =
+      same_roles_stay (block_taken reported) trace (λ ssrc. (block_keeps_role is_member reported_member capacity rate reported trace ssrc, block_keeps_role is_sender reported_sender capacity rate reported trace ssrc))
 
   -- ---- Some steps
 

@@ -63,7 +63,3 @@ pub check_moved : (table : TableValue) (trace : List TraceStep) (horizons : Hori
     → check_moves horizons table ≡ step_moves table.capacity table.rate (check_made horizons) trace
 check_moved table trace horizons stands =
     step_agrees table (after_check horizons table) (check_made horizons) trace (check_keeps_bounds table horizons) stands (check_follows table trace horizons stands)
-
-pub length_with_facts : (facts : List Fact) (moment : ℕ) (trace : List TraceStep) → length (with_facts facts moment trace) ≡ length facts + length trace
-length_with_facts [] moment trace = omega arith
-length_with_facts (fact ∷ facts) moment trace = omega (arith, length_with_facts facts moment (fact_came fact moment ∷ trace))

@@ -1,14 +1,15 @@
 //! Laws of who is a member and who sends. Each is an empty function whose postcondition is the law.
 
-ghost use Rattle.std.specs.Prelude.{◌≡◌, ℕ, false, List, ◌∷◌, drop, length};
+ghost use Rattle.std.specs.Prelude.{◌≡◌, ℕ, false, List, ◌∷◌, None, drop, length};
 ghost use Rattle.rtcp_wire.specs.declared.fact.Fact.{Fact};
-ghost use Rattle.rtcp_members.specs.Traces.{Horizons, TraceStep, check_made, with_facts};
-ghost use Rattle.rtcp_members.specs.Entries.{entry_at};
+ghost use Rattle.rtcp_members.specs.Traces.{Horizons, TraceStep, block_taken, check_made, with_facts};
+ghost use Rattle.rtcp_members.specs.Entries.{entry_at, members_at};
 ghost use Rattle.rtcp_members.specs.Tables.{TableValue, StandsAt};
 ghost use Rattle.rtcp_members.specs.Roles.{IsSameRole, step_moves, moved_within, facts_move, check_moves};
 
 /// A step changes who is a member or who sends exactly where it changes how many are members or how many send; and
-/// where none of the newest steps does, who is a member and who sends is as it was before them.
+/// where none of the newest steps does, who is a member and who sends is as it was before them. A block changes neither. Where there
+/// is no member, no source is one.
 pub fn roles_move_with_counts()
     ensures kept { (capacity rate : ℕ) (step : TraceStep) (earlier : List TraceStep) →
         step_moves capacity rate step earlier ≡ false → (ssrc : ℕ) →
@@ -20,6 +21,10 @@ pub fn roles_move_with_counts()
     ensures within { (capacity rate : ℕ) (steps : ℕ) (trace : List TraceStep) →
         moved_within capacity rate steps trace ≡ false → (ssrc : ℕ) →
         IsSameRole (entry_at capacity rate (drop steps trace) ssrc) (entry_at capacity rate trace ssrc) }
+    ensures block { (capacity rate ssrc : ℕ) (trace : List TraceStep) →
+        step_moves capacity rate (block_taken ssrc) trace ≡ false }
+    ensures none { (capacity rate : ℕ) (trace : List TraceStep) → members_at capacity rate trace ≡ 0 → (ssrc : ℕ) →
+        IsSameRole None (entry_at capacity rate trace ssrc) }
 {}
 
 /// Facts and checks change who is a member or who sends by the table where they do by the trace that it stands at.

@@ -1,4 +1,5 @@
 //! Where parts of a compound stand in its datagram: the texts of SDES items (RFC 3550, 6.5) and the reasons of
+//! BYEs (6.6), so that a caller in another language finds them by offset and size.
 
 ghost use Rattle.std.specs.Prelude.{◌≡◌, ◌+◌, ◌<◌, ◌^◌, List, Err, IsOkAnd};
 ghost use Rattle.rtcp_wire.specs.declared.fault.WireFault.{WireFault as Fault};

@@ -95,6 +95,11 @@ pub struct Step {
     pub ssrc: u32,
     /// Whether the call changed that (8.2): media goes on under the new one.
     pub changed: bool,
+    /// How many places of the table are taken, as [`Participant::entries`] says.
+    pub entries: u32,
+    /// Whether the call changed who of the others is a member or who of them sends, if only for a moment: then
+    /// [`Participant::sources`] lists them anew. Else each has the role that it had.
+    pub others_changed: bool,
 }
 
 /// What a call tells that was taken.
@@ -265,6 +270,8 @@ impl Participant {
             senders: self.step.senders,
             ssrc: self.step.ssrc,
             changed: self.step.changed != 0,
+            entries: self.step.entries,
+            others_changed: self.step.others_changed != 0,
         }
     }
 
@@ -291,9 +298,8 @@ impl Participant {
     /// How many places of the participant's table are taken: by members, by sources that are not yet valid, and
     /// by those that left and are held for a while. As many as [`Config::capacity`] say that it is full. 0 once
     /// the participant leaves.
-    pub fn entries(&mut self) -> u32 {
-        // SAFETY: VALID, ALONE, OWNED
-        unsafe { sys::jalwedd_entries(&mut *self.handle) }
+    pub fn entries(&self) -> u32 {
+        self.step.entries
     }
 
     /// Who is there: what is known of each source, by rising SSRC, but for the participant itself. None once it

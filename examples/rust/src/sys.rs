@@ -75,6 +75,8 @@ pub struct jalwedd_step {
     pub changed: u32,
     pub kind: u32,
     pub size: u32,
+    pub entries: u32,
+    pub others_changed: u32,
 }
 
 #[repr(C)]

@@ -18,8 +18,8 @@ fn structures() {
     assert_layout!(jalwedd_config, 32, 8, ntp_base: 0, ssrc: 8, capacity: 12, limit: 16, sender_bw: 20,
         receiver_bw: 24, rate: 28);
     assert_layout!(jalwedd_item, 257, 1, kind: 0, size: 1, text: 2);
-    assert_layout!(jalwedd_step, 32, 8, next: 0, members: 8, senders: 12, ssrc: 16, changed: 20, kind: 24,
-        size: 28);
+    assert_layout!(jalwedd_step, 40, 8, next: 0, members: 8, senders: 12, ssrc: 16, changed: 20, kind: 24,
+        size: 28, entries: 32, others_changed: 36);
     assert_layout!(jalwedd_fault, 16, 8, offset: 0, reason: 8);
     assert_layout!(jalwedd_report, 32, 4, reporter: 0, ssrc: 4, fraction: 8, lost: 12, highest: 16,
         jitter: 20, lsr: 24, dlsr: 28);

@@ -26,8 +26,14 @@ fn begun(items: &[Item]) -> Participant {
     Participant::new(&CONFIG, b"a", items, 0).unwrap().0
 }
 
-fn step(next: Option<u64>, members: u32, senders: u32) -> Step {
-    Step { next, members, senders, ssrc: 0xaa, changed: false }
+/// A step after which nothing is said of the others,
+fn step(next: Option<u64>, members: u32, senders: u32, entries: u32) -> Step {
+    Step { next, members, senders, ssrc: 0xaa, changed: false, entries, others_changed: false }
+}
+
+/// and one after which they are others.
+fn moved(step: Step) -> Step {
+    Step { others_changed: true, ..step }
 }
 
 fn hex(octets: &[u8]) -> String {
@@ -60,18 +66,18 @@ fn rtp(sequence: u8, ssrc: u8) -> [u8; 12] {
 #[test]
 fn a_session_from_its_begin_to_its_bye() {
     let (mut session, first) = Participant::new(&CONFIG, b"a", &[], 0).unwrap();
-    assert_eq!(first, step(Some(FIRST), 1, 0));
+    assert_eq!(first, step(Some(FIRST), 1, 0, 0));
     let answer = session.arrive_rtcp(0, 1, 0, &named(1).next().unwrap()).unwrap();
-    assert_eq!(answer, Answer { step: step(Some(FIRST), 2, 0), out: None });
+    assert_eq!(answer, Answer { step: moved(step(Some(FIRST), 2, 0, 1)), out: None });
     assert_eq!(out(session.tick(FIRST - 1, 0, 0)), None);
     assert_eq!(out(session.tick(FIRST, 0, 0)), report(REPORT));
-    assert_eq!(session.step(), step(Some(SECOND), 2, 0));
+    assert_eq!(session.step(), step(Some(SECOND), 2, 0, 1));
     assert_eq!(
         (session.next(), session.members(), session.senders(), session.ssrc()),
         (Some(SECOND), 2, 0, 0xaa)
     );
     assert_eq!(out(session.leave(2_000_000, 0)), bye(BYE));
-    assert_eq!(session.step(), step(None, 0, 0));
+    assert_eq!(session.step(), moved(step(None, 0, 0, 0)));
     assert_eq!(session.tick(SECOND, 0, 0), Err(Refusal::Left));
     assert_eq!(session.next(), None);
 }
@@ -81,14 +87,14 @@ fn media_of_the_others_and_of_its_own() {
     let mut session = begun(&[]);
     session.arrive_rtp(0, 1, 0, &rtp(10, 9)).unwrap();
     let answer = session.arrive_rtp(0, 1, 0, &rtp(11, 9)).unwrap();
-    assert_eq!(answer, Answer { step: step(Some(FIRST), 2, 1), out: None });
+    assert_eq!(answer, Answer { step: moved(step(Some(FIRST), 2, 1, 1)), out: None });
     let on_9 = "00000009000000000000000b000000000000000000000000";
     let report_on_9 = format!("81c90007000000aa{on_9}81ca0002000000aa01016100");
     assert_eq!(out(session.tick(FIRST, 0, 0)), report(&report_on_9));
 
     // the session begins at 5 seconds of 1900
     let (mut session, _) = Participant::new(&Config { ntp_base: 5 << 32, ..CONFIG }, b"a", &[], 0).unwrap();
-    assert_eq!(session.sent_rtp(0, 1000, 160).unwrap().step, step(Some(FIRST), 1, 1));
+    assert_eq!(session.sent_rtp(0, 1000, 160).unwrap().step, step(Some(FIRST), 1, 1, 0));
     let of_sender = "80c80006000000aa0000000606aa5c5f000023f800000001000000a081ca0002000000aa01016100";
     assert_eq!(out(session.tick(FIRST, 0, 0)), report(of_sender));
 }
@@ -118,7 +124,7 @@ fn a_refused_call_changes_nothing() {
     let mut session = begun(&[]);
     assert_eq!(out(session.tick(1 << 50, 0, 0)), report(REPORT));
     let after = session.step();
-    assert_eq!(after, step(Some(1_125_899_908_894_698), 1, 0));
+    assert_eq!(after, step(Some(1_125_899_908_894_698), 1, 0, 0));
     assert_eq!(session.tick((1 << 50) + 1, 0, 0), Err(Refusal::TooFar));
     assert_eq!(session.tick(0, 0, 0), Err(Refusal::Backwards));
     assert_eq!(session.arrive_rtcp(1 << 50, 1, 0, &[]), Err(Refusal::NoCompound));
@@ -147,7 +153,7 @@ fn among_51_the_bye_waits_for_its_turn() {
         session.arrive_rtcp(10_000_000, 1, 0, &datagram).unwrap();
     }
     assert_eq!(session.members(), 51);
-    assert_eq!(session.leave(10_000_000, 0).unwrap().step, step(Some(11_026_037), 1, 0));
+    assert_eq!(session.leave(10_000_000, 0).unwrap().step, moved(step(Some(11_026_037), 1, 0, 0)));
     assert_eq!(out(session.tick(11_026_037, 0, 0)), bye(BYE));
     assert_eq!(session.next(), None);
 }

@@ -15,7 +15,7 @@ ghost use Rattle.rtcp_members.specs.Tables.{HasFew};
 use super::{Participant, Phase};
 use crate::arrival::Arrival;
 use crate::refusal::Refusal;
-use crate::step::{OutKind, Reply, Told};
+use crate::step::{Brought, OutKind, Reply, Told};
 use arrayvec::ArrayVec;
 use rtcp_members::MemberTable;
 use rtcp_wire::MAX_COMPOUND;
@@ -62,8 +62,11 @@ impl<T: MemberTable> Participant<T> {
             return self.arrive_as_own(now, peer, w, arrival, octets);
         }
         self.take_call(now);
-        self.take(now, arrival);
-        Ok(self.told(None))
+        let others_changed = self.take(now, arrival);
+        Ok(self.told(Brought {
+            out: None,
+            others_changed,
+        }))
     }
 
     /// Takes a datagram that names the participant's SSRC, after a change of that, or refuses it.
@@ -93,8 +96,11 @@ impl<T: MemberTable> Participant<T> {
         let ssrc = self.free_ssrc(w, arrival);
         let out = self.change(peer, ssrc, octets);
         self.take_call(now);
-        self.take(now, arrival);
-        let mut told = self.told(out);
+        let others_changed = self.take(now, arrival);
+        let mut told = self.told(Brought {
+            out,
+            others_changed,
+        });
         told.changed = Some(ssrc);
         Ok(told)
     }
@@ -154,50 +160,54 @@ impl<T: MemberTable> Participant<T> {
         self.presence.rename(ssrc, octets)
     }
 
-    /// Takes a datagram under the present SSRC: nothing of it counts in a backoff but BYE packets.
-    fn take(&mut self, now: u64, arrival: &Arrival<'_>)
+    /// Takes a datagram under the present SSRC: nothing of it counts in a backoff but BYE packets. Returns whether it
+    /// changed who of the others is a member or who sends.
+    fn take(&mut self, now: u64, arrival: &Arrival<'_>) -> bool
         requires order { self.old.presence.last ≡ now }
         requires size { size_of arrival.now ≤ 65535 }
         requires reports { self.old.presence.reports < self.old.presence.calls }
         requires few { HasFew (self.old.presence.calls - 1) self.old.presence.table }
         ensures new { (peer word : ℕ) →
-            Acts self.old self.new (arrived now peer word (datagram_of arrival.now)) None }
+            Acts self.old self.new (arrived now peer word (datagram_of arrival.now)) None result }
         ensures within { KeepsCapacity self.new.presence }
     {
         match self.phase {
             Phase::Present => self.presence.take(now, arrival),
-            Phase::BackingOff(members) => match arrival {
-                Arrival::Rtcp(compound, size) => self.count_farewell(compound, *size, members),
-                Arrival::Rtp(_) => {}
-            },
-            Phase::Gone => {}
+            Phase::BackingOff(members) => {
+                if let Arrival::Rtcp(compound, size) = arrival {
+                    self.count_farewell(compound, *size, members);
+                }
+                false
+            }
+            Phase::Gone => false,
         }
     }
 
-    /// The answer of a call that was taken, and wrote a compound of this kind, if it wrote one.
-    pub(super) fn told(&self, out: Option<OutKind>) -> Told
-        ensures exact { (octets : List ℕ) (life : Life) → IsAt self.now life →
-            told_value octets result ≡ step_into self.now.presence.setup (out_with octets out) life }
-        ensures out { result.out ≡ out }
+    /// The answer of a call that was taken, and brought this.
+    pub(super) fn told(&self, brought: Brought) -> Told
+        ensures exact { (octets : List ℕ) (life : Life) → IsAt self.now life → told_value octets result
+            ≡ step_into self.now.presence.setup (out_with octets brought.out) brought.others_changed life }
+        ensures out { result.out ≡ brought.out }
     {
-        let (members, senders, next) = match self.phase {
-            Phase::Present => {
-                let presence = &self.presence;
-                (
-                    presence.member_count(),
-                    presence.sender_count(),
-                    Some(presence.next_moment()),
-                )
-            }
-            Phase::BackingOff(members) => (members, 0, Some(self.presence.next_moment())),
-            Phase::Gone => (0, 0, None),
+        let presence = &self.presence;
+        let (members, senders, entries, next) = match self.phase {
+            Phase::Present => (
+                presence.member_count(),
+                presence.sender_count(),
+                presence.entries(),
+                Some(presence.next_moment()),
+            ),
+            Phase::BackingOff(members) => (members, 0, 0, Some(presence.next_moment())),
+            Phase::Gone => (0, 0, 0, None),
         };
         Told {
-            out,
+            out: brought.out,
             members,
             senders,
+            entries,
             next,
             changed: None,
+            others_changed: brought.others_changed,
         }
     }
 }

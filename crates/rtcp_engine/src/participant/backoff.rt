@@ -1,16 +1,16 @@
 //! What a participant does with an act in each phase, and from its leave until its BYE is sent (RFC 3550, 6.3.7).
 
-ghost use Rattle.std.specs.Prelude.{◌≡◌, ◌≤◌, ◌<◌, ◌-◌, ◌^◌, ℕ, Some, None, Ok};
+ghost use Rattle.std.specs.Prelude.{◌≡◌, ◌≤◌, ◌<◌, ◌-◌, ◌^◌, ℕ, Bool, false, Some, None, Ok};
 ghost use Rattle.rtcp_members.specs.Tables.{HasFew};
 ghost use Rattle.rtcp_engine.specs.Acts.{arrived, left, rtcp, rtp_sent, ticked};
 ghost use Rattle.rtcp_engine.specs.Lives.{bye_out};
 ghost use Rattle.rtcp_engine.specs.Reporting.{bye_octets};
-ghost use Rattle.rtcp_engine.specs.States.{Acts, Admits, KeepsCapacity, called, leaving, taking_part};
+ghost use Rattle.rtcp_engine.specs.States.{Acts, Admits, HasOthers, KeepsCapacity, called, leaving, taking_part};
 ghost use Rattle.rtcp_engine.specs.Views.{out_with};
 
 use super::{FEW_MEMBERS, Participant, Phase};
 use crate::byes::{MAX_LEAVING, count_byes};
-use crate::step::OutKind;
+use crate::step::{Brought, NOTHING, OutKind};
 use arrayvec::ArrayVec;
 use rtcp_members::MemberTable;
 use rtcp_wire::{Compound, MAX_COMPOUND};
@@ -28,7 +28,7 @@ impl<T: MemberTable> Participant<T> {
 
     /// Takes a packet that the host sent, which counts as long as the participant takes part.
     pub(super) fn take_sent(&mut self, now: u64, rtp_ts: u32, octets: u32)
-        ensures new { Acts self.old self.new (rtp_sent now rtp_ts octets) None }
+        ensures new { Acts self.old self.new (rtp_sent now rtp_ts octets) None false }
         ensures within { KeepsCapacity self.new.presence }
     {
         match self.phase {
@@ -45,17 +45,21 @@ impl<T: MemberTable> Participant<T> {
         w1: u32,
         w2: u32,
         octets: &mut ArrayVec<u8, MAX_COMPOUND>,
-    ) -> Option<OutKind>
+    ) -> Brought
         requires order { self.old.presence.last ≡ now }
         requires reports { self.old.presence.reports < self.old.presence.calls }
-        ensures new { Acts self.old self.new (ticked now w1 w2) (out_with octets.new.items result) }
+        ensures new { Acts self.old self.new (ticked now w1 w2) (out_with octets.new.items result.out)
+            result.others_changed }
         ensures within { KeepsCapacity self.new.presence }
-        ensures untouched { result ≡ None → octets.new ≡ octets.old }
+        ensures untouched { result.out ≡ None → octets.new ≡ octets.old }
     {
         match self.phase {
             Phase::Present => self.presence.tick(now, w1, w2, octets),
-            Phase::BackingOff(members) => self.wait(now, w1, members, octets),
-            Phase::Gone => None,
+            Phase::BackingOff(members) => Brought {
+                out: self.wait(now, w1, members, octets),
+                others_changed: false,
+            },
+            Phase::Gone => NOTHING,
         }
     }
 
@@ -65,24 +69,32 @@ impl<T: MemberTable> Participant<T> {
         now: u64,
         w: u32,
         octets: &mut ArrayVec<u8, MAX_COMPOUND>,
-    ) -> Option<OutKind>
+    ) -> Brought
         requires order { self.old.presence.last ≡ now }
-        ensures new { Acts self.old self.new (left now w) (out_with octets.new.items result) }
+        ensures new { Acts self.old self.new (left now w) (out_with octets.new.items result.out)
+            result.others_changed }
         ensures within { KeepsCapacity self.new.presence }
-        ensures untouched { result ≡ None → octets.new ≡ octets.old }
+        ensures untouched { result.out ≡ None → octets.new ≡ octets.old }
     {
         match self.phase {
-            Phase::Present => self.depart(w, octets),
-            Phase::BackingOff(_) => None,
-            Phase::Gone => None,
+            Phase::Present => {
+                let others_changed = self.presence.has_others();
+                Brought {
+                    out: self.depart(w, octets),
+                    others_changed,
+                }
+            }
+            Phase::BackingOff(_) => NOTHING,
+            Phase::Gone => NOTHING,
         }
     }
 
-    /// Leaves: silently, with a BYE at once, or into a backoff.
+    /// Leaves: silently, with a BYE at once, or into a backoff. If some other is a member, nobody is told of any more.
     fn depart(&mut self, w: u32, octets: &mut ArrayVec<u8, MAX_COMPOUND>) -> Option<OutKind>
         requires phase { self.old.phase ≡ taking_part }
-        ensures new { Acts self.old self.new (left self.old.presence.last w)
-            (out_with octets.new.items result) }
+        ensures new { (others_changed : Bool) → HasOthers self.old.presence others_changed →
+            Acts self.old self.new (left self.old.presence.last w) (out_with octets.new.items result)
+            others_changed }
         ensures within { KeepsCapacity self.new.presence }
         ensures untouched { result ≡ None → octets.new ≡ octets.old }
     {
@@ -105,7 +117,7 @@ impl<T: MemberTable> Participant<T> {
         requires size { size ≤ 65535 }
         requires within { KeepsCapacity self.old.presence }
         ensures new { (now peer word : ℕ) →
-            Acts self.old self.new (arrived now peer word (rtcp size (Ok compound.now))) None }
+            Acts self.old self.new (arrived now peer word (rtcp size (Ok compound.now))) None false }
         ensures within { KeepsCapacity self.new.presence }
     {
         let byes = count_byes(compound.packets());
@@ -127,7 +139,7 @@ impl<T: MemberTable> Participant<T> {
     ) -> Option<OutKind>
         requires phase { self.old.phase ≡ leaving members }
         ensures new { (w2 : ℕ) →
-            Acts self.old self.new (ticked now w1 w2) (out_with octets.new.items result) }
+            Acts self.old self.new (ticked now w1 w2) (out_with octets.new.items result) false }
         ensures within { KeepsCapacity self.new.presence }
         ensures untouched { result ≡ None → octets.new ≡ octets.old }
     {

@@ -17,7 +17,7 @@ ghost use Rattle.rtcp_engine.specs.Views.{kind_told, reply_value};
 use super::Participant;
 use crate::arrival::Arrival;
 use crate::refusal::Refusal;
-use crate::step::Reply;
+use crate::step::{NOTHING, Reply};
 use arrayvec::ArrayVec;
 use rtcp_members::MemberTable;
 use rtcp_wire::{Compound, MAX_COMPOUND, RtpHead};
@@ -101,7 +101,7 @@ impl<T: MemberTable> Participant<T> {
         }
         self.take_call(now);
         self.take_sent(now, rtp_ts, octets);
-        Ok(self.told(None))
+        Ok(self.told(NOTHING))
     }
 
     /// [`tick`](Participant::tick), where a report or the BYE replaces what stood in `octets`.
@@ -127,8 +127,8 @@ impl<T: MemberTable> Participant<T> {
             return Err(refusal);
         }
         self.take_call(now);
-        let out = self.take_tick(now, w1, w2, octets);
-        Ok(self.told(out))
+        let brought = self.take_tick(now, w1, w2, octets);
+        Ok(self.told(brought))
     }
 
     /// [`leave`](Participant::leave), where the BYE replaces what stood in `octets`.
@@ -146,7 +146,7 @@ impl<T: MemberTable> Participant<T> {
             return Err(refusal);
         }
         self.take_call(now);
-        let out = self.take_leave(now, w, octets);
-        Ok(self.told(out))
+        let brought = self.take_leave(now, w, octets);
+        Ok(self.told(brought))
     }
 }

@@ -3,7 +3,7 @@
 ghost use Rattle.std.specs.Prelude.{◌≡◌, ◌≤◌, ◌<◌, ◌-◌, ◌^◌};
 ghost use Rattle.rtcp_members.specs.Tables.{HasFew};
 ghost use Rattle.rtcp_engine.specs.Arrivals.{with_compound, with_datagram, with_facts_of, with_media, with_packet};
-ghost use Rattle.rtcp_engine.specs.States.{Admits, Does, KeepsCapacity, with_call};
+ghost use Rattle.rtcp_engine.specs.States.{Admits, Does, KeepsCapacity, Moves, with_call};
 ghost use Rattle.rtcp_engine.specs.Views.{datagram_of, size_of};
 
 use super::Presence;
@@ -33,13 +33,15 @@ impl<T: MemberTable> Presence<T> {
         self.own.sent(now, rtp_ts, octets);
     }
 
-    /// Takes a datagram that came at the moment of the last call.
-    pub(crate) fn take(&mut self, now: u64, arrival: &Arrival<'_>)
+    /// Takes a datagram that came at the moment of the last call, and returns whether that changed who of the others
+    /// is a member or who sends.
+    pub(crate) fn take(&mut self, now: u64, arrival: &Arrival<'_>) -> bool
         requires order { self.old.last ≡ now }
         requires size { size_of arrival.now ≤ 65535 }
         requires reports { self.old.reports < self.old.calls }
         requires few { HasFew (self.old.calls - 1) self.old.table }
         ensures new { Does self.old self.new (λ setup. with_datagram setup now (datagram_of arrival.now)) }
+        ensures moved { Moves self.old result (λ setup. with_datagram setup now (datagram_of arrival.now)) }
         ensures within { KeepsCapacity self.new }
     {
         match arrival {
@@ -49,32 +51,37 @@ impl<T: MemberTable> Presence<T> {
     }
 
     /// Takes a compound of `size` octets, and counts the members again, as some may have departed.
-    fn take_compound(&mut self, now: u64, size: usize, compound: &Compound<'_>)
+    fn take_compound(&mut self, now: u64, size: usize, compound: &Compound<'_>) -> bool
         requires order { self.old.last ≡ now }
         requires size { size ≤ 65535 }
         ensures new { Does self.old self.new (λ setup. with_compound setup now size compound.now) }
+        ensures moved { Moves self.old result (λ setup. with_compound setup now size compound.now) }
         ensures within { KeepsCapacity self.new }
     {
-        self.take_facts(now, size, compound);
+        let moved = self.take_facts(now, size, compound);
         self.recount(now);
+        moved
     }
 
     /// Takes the facts of a compound of `size` octets, which moves the average.
-    fn take_facts(&mut self, now: u64, size: usize, compound: &Compound<'_>)
+    fn take_facts(&mut self, now: u64, size: usize, compound: &Compound<'_>) -> bool
         requires size { size ≤ 65535 }
-        ensures { Does self.old self.new (λ setup. with_facts_of now size compound.now) }
+        ensures new { Does self.old self.new (λ setup. with_facts_of now size compound.now) }
+        ensures moved { Moves self.old result (λ setup. with_facts_of now size compound.now) }
     {
-        apply_facts(&mut self.table, facts(compound), now);
+        let moved = apply_facts(&mut self.table, facts(compound), now);
         self.average.add(size as u32);
+        moved
     }
 
     /// Takes an RTP packet, and its contributing sources if it is counted.
-    fn take_media(&mut self, now: u64, head: &RtpHead<'_>)
+    fn take_media(&mut self, now: u64, head: &RtpHead<'_>) -> bool
         requires reports { self.old.reports < self.old.calls }
         requires few { HasFew (self.old.calls - 1) self.old.table }
         ensures new { Does self.old self.new (λ setup. with_media setup now head.now) }
+        ensures moved { Moves self.old result (λ setup. with_media setup now head.now) }
         ensures within { KeepsCapacity self.new }
     {
-        apply_media(&mut self.table, head, self.config.ssrc, now);
+        apply_media(&mut self.table, head, self.config.ssrc, now)
     }
 }

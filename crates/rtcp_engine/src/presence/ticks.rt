@@ -7,7 +7,7 @@ ghost use Rattle.rtcp_report.specs.Sizes.{reported_rows, report_of};
 ghost use Rattle.rtcp_engine.specs.Setups.{IsUsable};
 ghost use Rattle.rtcp_engine.specs.Lives.{report_out};
 ghost use Rattle.rtcp_engine.specs.Views.{setup_of, out_with};
-ghost use Rattle.rtcp_engine.specs.States.{Agrees, Does, KeepsCapacity};
+ghost use Rattle.rtcp_engine.specs.States.{Agrees, Does, KeepsCapacity, Moves};
 ghost use Rattle.rtcp_engine.specs.Outcomes.{Outcome, receiver_interval_at};
 ghost use Rattle.rtcp_engine.specs.Reporting.{report_octets, reporter_by};
 ghost use Rattle.rtcp_engine.specs.Ticks.{with_recount, without_silent, checked, is_report_due, report_due, with_report, drawn_anew, reported, tried_at, after_check, after_tick};
@@ -16,7 +16,8 @@ use super::Presence;
 use crate::config::Config;
 use crate::extra::extra_item;
 use crate::own::OwnStream;
-use crate::step::OutKind;
+use crate::step::{Brought, OutKind};
+use crate::table::check;
 use arrayvec::ArrayVec;
 use rtcp_members::MemberTable;
 use rtcp_report::{Sender, write_report};
@@ -35,44 +36,54 @@ impl<T: MemberTable> Presence<T> {
         w1: u32,
         w2: u32,
         octets: &mut ArrayVec<u8, MAX_COMPOUND>,
-    ) -> Option<OutKind>
+    ) -> Brought
         requires order { self.old.last ≡ now }
         requires reports { self.old.reports < self.old.calls }
-        ensures report { (outcome : Outcome) → Agrees self.old outcome → out_with octets.new.items result
+        ensures report { (outcome : Outcome) → Agrees self.old outcome → out_with octets.new.items result.out
             ≡ option_map report_out (report_due self.old.setup now w1 (checked self.old.setup now outcome)) }
         ensures new { Does self.old self.new (λ setup. after_tick setup now w1 w2) }
+        ensures moved { Moves self.old result.others_changed (λ setup. after_tick setup now w1 w2) }
         ensures within { KeepsCapacity self.new }
-        ensures untouched { result ≡ None → octets.new ≡ octets.old }
+        ensures untouched { result.out ≡ None → octets.new ≡ octets.old }
     {
-        self.check_members(now);
-        self.report_if_due(now, w1, w2, octets)
+        let others_changed = self.check_members(now);
+        Brought {
+            out: self.report_if_due(now, w1, w2, octets),
+            others_changed,
+        }
     }
 
-    /// Drops those who are silent for too long, and counts the members again.
-    fn check_members(&mut self, now: u64)
+    /// Drops those who are silent for too long, and counts the members again. Returns whether that changed who of the
+    /// others is a member or who sends.
+    fn check_members(&mut self, now: u64) -> bool
         requires order { self.old.last ≡ now }
         ensures new { Does self.old self.new (λ setup. checked setup now) }
+        ensures moved { Moves self.old result (λ setup. checked setup now) }
         ensures reports { self.new.reports ≡ self.old.reports }
     {
-        self.drop_silent(now);
+        let moved = self.drop_silent(now);
         self.recount(now);
+        moved
     }
 
     /// Drops those who are silent for too long, the participant among the senders too.
-    fn drop_silent(&mut self, now: u64)
+    fn drop_silent(&mut self, now: u64) -> bool
         requires order { self.old.last ≡ now }
         ensures new { Does self.old self.new (λ setup. without_silent setup now) }
+        ensures moved { Moves self.old result (λ setup. without_silent setup now) }
         ensures reports { self.new.reports ≡ self.old.reports }
     {
         let td = self.receiver_interval();
         let idle = now.saturating_sub(2 * td);
-        self.table.check(
+        let moved = check(
+            &mut self.table,
             now,
             now.saturating_sub(5 * td),
             idle,
             (now + 1).saturating_sub(GOODBYE_TIME),
         );
         self.own.check(idle);
+        moved
     }
 
     /// Counts the members again, as some may have departed.

@@ -251,3 +251,13 @@ fn each_source_once(rt: HostRuntime) {
 fn no_source_from_the_leave_on(rt: HostRuntime) {
     listing::none_from_the_leave_on::<ListTable>(&rt);
 }
+
+#[test]
+fn arrivals_change_others(rt: HostRuntime) {
+    listing::arrivals_change_others::<ListTable>(&rt);
+}
+
+#[test]
+fn checks_and_leaves_change_others(rt: HostRuntime) {
+    listing::checks_and_leaves_change_others::<ListTable>(&rt);
+}

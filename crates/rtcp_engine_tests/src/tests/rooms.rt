@@ -12,15 +12,23 @@ fn room() -> ArrayVec<u8, 1_472> {
     room
 }
 
-/// What is told where the identifier stays, and nobody sends.
-fn told(out: Option<OutKind>, members: u32, next: Option<u64>) -> Reply {
-    Ok(Told {
+/// What is told where the identifier stays, nobody sends, and the others have the roles that they had.
+fn told(out: Option<OutKind>, members: u32, entries: u32, next: Option<u64>) -> Told {
+    Told {
         out,
         members,
         senders: 0,
+        entries,
         next,
         changed: None,
-    })
+        others_changed: false,
+    }
+}
+
+/// The same where another source has another role.
+fn moved(mut told: Told) -> Told {
+    told.others_changed = true;
+    told
 }
 
 /// The report replaces what stood in the room, and a tick without one leaves that.
@@ -28,10 +36,10 @@ pub(crate) fn report_in_place<T: InlineTable + Drop>(rt: &impl Abort) {
     let mut participant = Session::<T>::usual(rt).participant;
     let mut octets = room();
     let early = participant.tick_into(1_026_036, 0, 0, &mut octets);
-    assert!(rt; early == told(None, 1, Some(1_026_037)));
+    assert!(rt; early == Ok(told(None, 1, 0, Some(1_026_037))));
     assert!(rt; octets.as_slice() == BEFORE.as_slice());
     let due = participant.tick_into(1_026_037, 0, 0, &mut octets);
-    assert!(rt; due == told(Some(OutKind::Report), 1, Some(3_078_111)));
+    assert!(rt; due == Ok(told(Some(OutKind::Report), 1, 0, Some(3_078_111))));
     assert!(rt; octets.as_slice() == REPORT.as_slice());
 }
 
@@ -47,7 +55,7 @@ pub(crate) fn byes_in_place<T: InlineTable + Drop>(rt: &impl Abort) {
     assert!(rt; octets.as_slice() == BYE.as_slice());
     assert!(rt; participant.sent_rtp_told(0, 0, 160).is_ok());
     let left = participant.leave_into(0, 0, &mut octets);
-    assert!(rt; left == told(Some(OutKind::Bye), 0, None));
+    assert!(rt; left == Ok(told(Some(OutKind::Bye), 0, 0, None)));
     assert!(rt; octets.as_slice() == bye_of(0xbb).as_slice());
 }
 
@@ -60,10 +68,10 @@ pub(crate) fn left_alone<T: InlineTable + Drop>(rt: &impl Abort) {
         0x07, 0x01, 0x01, 0x61, 0x00,
     ];
     let came = participant.arrive_rtcp_into(5, 7, 0, &named, &mut octets);
-    assert!(rt; came == told(None, 2, Some(1_026_037)));
+    assert!(rt; came == Ok(moved(told(None, 2, 1, Some(1_026_037)))));
     let packet = [0x80, 0, 0, 1, 0, 0, 0, 0, 0, 0, 0, 9];
     let came = participant.arrive_rtp_into(5, 7, 0, &packet, &mut octets);
-    assert!(rt; came == told(None, 2, Some(1_026_037)));
+    assert!(rt; came == Ok(told(None, 2, 2, Some(1_026_037))));
     let short = RtpFault::Short;
     assert!(rt;
         participant.arrive_rtp_into(5, 7, 0, &packet[..11], &mut octets) == Err(Refusal::Rtp(short))
@@ -73,7 +81,8 @@ pub(crate) fn left_alone<T: InlineTable + Drop>(rt: &impl Abort) {
     );
     assert!(rt; participant.tick_into(4, 0, 0, &mut octets) == Err(Refusal::Backwards));
     assert!(rt; participant.leave_into(4, 0, &mut octets) == Err(Refusal::Backwards));
-    assert!(rt; participant.leave_into(5, 0, &mut octets) == told(None, 0, None));
+    let left = participant.leave_into(5, 0, &mut octets);
+    assert!(rt; left == Ok(moved(told(None, 0, 0, None))));
     assert!(rt; participant.tick_into(5, 0, 0, &mut octets) == Err(Refusal::Left));
     assert!(rt; octets.as_slice() == BEFORE.as_slice());
 }

@@ -176,6 +176,14 @@ impl Seen {
         }
     }
 
+    /// The call was taken, and changed the role of another source or did not.
+    pub(crate) fn others_changed(self, rt: &impl Abort, changed: bool) {
+        match self.answer {
+            Ok(step) => assert_eq!(rt; step.others_changed, changed),
+            Err(_) => panic!(rt; "the call is refused"),
+        }
+    }
+
     /// The call was taken, and a report of these octets is to be sent.
     pub(crate) fn sends(
         self,

@@ -258,3 +258,13 @@ fn each_source_once(rt: HostRuntime) {
 fn no_source_from_the_leave_on(rt: HostRuntime) {
     listing::none_from_the_leave_on::<SortedTable>(&rt);
 }
+
+#[test]
+fn arrivals_change_others(rt: HostRuntime) {
+    listing::arrivals_change_others::<SortedTable>(&rt);
+}
+
+#[test]
+fn checks_and_leaves_change_others(rt: HostRuntime) {
+    listing::checks_and_leaves_change_others::<SortedTable>(&rt);
+}

@@ -234,8 +234,10 @@ fn steps(rt: HostRuntime) -> Result<(), Fail> {
         out: None,
         members: 2,
         senders: 1,
+        entries: 1,
         next: Some(1_125_899_908_894_698),
         changed: None,
+        others_changed: true,
     };
     let line = answer_line(rt.alloc(), Ok(quiet))?;
     let want: &[u8] = b"ok members=2 senders=1 next=1125899908894698 out=-\n";
@@ -250,8 +252,10 @@ fn steps(rt: HostRuntime) -> Result<(), Fail> {
         }),
         members: 1,
         senders: 0,
+        entries: 0,
         next: None,
         changed: Some(0x89ab_cdef),
+        others_changed: false,
     };
     let line = answer_line(rt.alloc(), Ok(report))?;
     let want: &[u8] = b"ok members=1 senders=0 next=- out=report:80c9000101234567 ssrc=89abcdef\n";

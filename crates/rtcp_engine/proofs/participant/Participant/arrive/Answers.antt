@@ -17,4 +17,4 @@ returns-clause-takes g c =
     let own : c.ssrc.result ≡ p.presence.setup.ssrc = c.ssrc.ensures ∙ ap (λ (x : ParticipantValue). x.presence.setup.ssrc) c.self.view_is in
     let other = sym (ap (λ (ssrc : ℕ). is_about ssrc datagram) own) ∙ sym c.is_of.ensures ∙ c.if-is_of.false in
     takes _ (λ history h. plain p history c.args.now c.args.peer c.args.w arrival h c.requires.admitted (sym (ap (λ (s : Setup). is_about s.ssrc datagram) h.session.setup) ∙ other))
-    (subst (λ (x : ParticipantValue). Acts x c.take.new.self act None) c.take_call.ensures.new (c.take.ensures.new c.args.peer c.args.w)) (c.told.ensures.exact c.args.octets.now.items) c.ranges.w.fits
+    (subst (λ (x : ParticipantValue). Acts x c.take-others_changed.new.self act None c.take-others_changed.result) c.take_call.ensures.new (c.take-others_changed.ensures.new c.args.peer c.args.w)) (c.told.ensures.exact c.args.octets.now.items) c.ranges.w.fits

@@ -1,6 +1,7 @@
-use Rattle.std.proofs.Common.{◌∙◌, refl, ap, sym}
-use Rattle.rtcp_engine.specs.States.{ParticipantValue}
-use Rattle.rtcp_engine.specs.Views.{phase_value}
+use Rattle.std.proofs.Common.{ℕ, subst, ◌∙◌, refl, ap, sym}
+use Rattle.rtcp_engine.specs.Acts.{left}
+use Rattle.rtcp_engine.specs.States.{Acts, HasOthers, ParticipantValue}
+use Rattle.rtcp_engine.specs.Views.{out_with, phase_value}
 use Rattle.rtcp_engine.proofs.Acting.{acts_passing, acts_gone}
 use Rattle.rtcp_engine.proofs.participant.Participant.take_leave.Goals as goal
 
@@ -10,3 +11,9 @@ returns-in-BackingOff-clause-new g c =
 
 pub returns-in-Gone-clause-new : goal.returns-in-Gone-clause-new
 returns-in-Gone-clause-new g c = acts_gone (sym (ap (λ (p : ParticipantValue). p.phase) c.self.view_is) ∙ ap phase_value c.in-Gone.is)
+
+pub returns-in-Present-clause-new : goal.returns-in-Present-clause-new
+returns-in-Present-clause-new g c =
+    let others = c.has_others-others_changed.result in
+    let there : HasOthers c.args.self.now.presence others = subst (λ (p : ParticipantValue). HasOthers p.presence others) c.self.view_is c.has_others-others_changed.ensures in
+    subst (λ (t : ℕ). Acts c.args.self.now c.depart.new.self (left t c.args.w) (out_with c.depart.new.octets.items c.depart.result) others) c.requires.order (c.depart.ensures.new others there)

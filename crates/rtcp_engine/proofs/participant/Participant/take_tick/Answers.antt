@@ -7,7 +7,7 @@ use Rattle.rtcp_engine.proofs.participant.Participant.take_tick.Goals as goal
 pub returns-in-Present-clause-new : goal.returns-in-Present-clause-new
 returns-in-Present-clause-new g c =
     let phase = ap phase_value c.in-Present.is in
-    outside c.self.view_is (acts_present phase phase refl c.tick.ensures.new (λ setup outcome. refl) c.tick.ensures.report)
+    outside c.self.view_is (acts_present phase phase refl c.tick.ensures.new (λ setup outcome. refl) c.tick.ensures.report c.tick.ensures.moved)
 
 pub returns-in-Gone-clause-new : goal.returns-in-Gone-clause-new
 returns-in-Gone-clause-new g c = acts_gone (sym (ap (λ (p : ParticipantValue). p.phase) c.self.view_is) ∙ ap phase_value c.in-Gone.is)

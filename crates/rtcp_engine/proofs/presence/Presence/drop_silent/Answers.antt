@@ -5,6 +5,8 @@ use Rattle.rtcp_engine.specs.OwnStreams.{Adds, check_passed}
 use Rattle.rtcp_engine.specs.Ticks.{horizons_of}
 use Rattle.rtcp_engine.proofs.Soundness.{IsKept, check_kept, no_call, kept}
 use Rattle.rtcp_engine.proofs.Doing.{drops}
+use Rattle.rtcp_engine.proofs.Moving.{moves_check}
+use Rattle.rtcp_members.specs.Roles.{check_moves}
 use Rattle.rtcp_engine.proofs.presence.Presence.drop_silent.Goals as goal
 
 pub invariant_of-self : goal.invariant_of-self
@@ -12,13 +14,18 @@ invariant_of-self g c =
     let inside = c.self.inside in
     let content = g.T.MemberTable.content in
     let horizons = horizons_at c.saturating_sub.result c.saturating_sub-idle.result c.saturating_sub-2.result in
-    let is_kept = subst (λ (table : TableValue). IsKept (content inside.table) table inside.calls) (sym c.check.ensures.content) (check_kept c.self.invariant horizons) in
-    kept c.self.invariant (content c.check.new.self) inside.schedule inside.average c.check-2.new.self inside.cursor inside.reports inside.last inside.calls is_kept (no_call c.self.invariant)
+    let is_kept = subst (λ (table : TableValue). IsKept (content inside.table) table inside.calls) (sym c.check-moved.ensures.content) (check_kept c.self.invariant horizons) in
+    kept c.self.invariant (content c.check-moved.new.table) inside.schedule inside.average c.check.new.self inside.cursor inside.reports inside.last inside.calls is_kept (no_call c.self.invariant)
 
 pub returns-clause-new : goal.returns-clause-new
 returns-clause-new g c =
     let inside = c.self.inside in
-    let table : g.T.MemberTable.content c.check.new.self ≡ after_check (horizons_of c.args.now c.receiver_interval-td.result) (g.T.MemberTable.content inside.table) =
-    c.check.ensures.content ∙ (λ i. after_check (horizons_at (c.saturating_sub.ensures i) (c.saturating_sub-idle.ensures i) (c.saturating_sub-2.ensures i)) (g.T.MemberTable.content inside.table)) in
-    drops c.self.view_is (g.T.MemberTable.content c.check.new.self) c.check-2.new.self c.args.now c.receiver_interval-td.result c.receiver_interval-td.ensures.exact
-    table (subst (λ (idle : ℕ). Adds inside.own c.check-2.new.self (check_passed idle)) c.saturating_sub-idle.ensures c.check-2.ensures)
+    let table : g.T.MemberTable.content c.check-moved.new.table ≡ after_check (horizons_of c.args.now c.receiver_interval-td.result) (g.T.MemberTable.content inside.table) =
+    c.check-moved.ensures.content ∙ (λ i. after_check (horizons_at (c.saturating_sub.ensures i) (c.saturating_sub-idle.ensures i) (c.saturating_sub-2.ensures i)) (g.T.MemberTable.content inside.table)) in
+    drops c.self.view_is (g.T.MemberTable.content c.check-moved.new.table) c.check.new.self c.args.now c.receiver_interval-td.result c.receiver_interval-td.ensures.exact
+    table (subst (λ (idle : ℕ). Adds inside.own c.check.new.self (check_passed idle)) c.saturating_sub-idle.ensures c.check.ensures)
+
+pub returns-clause-moved : goal.returns-clause-moved
+returns-clause-moved g c =
+    moves_check c.self.view_is c.args.now c.receiver_interval-td.result c.check-moved.result c.receiver_interval-td.ensures.exact
+    (c.check-moved.ensures.moved ∙ (λ i. check_moves (horizons_at (c.saturating_sub.ensures i) (c.saturating_sub-idle.ensures i) (c.saturating_sub-2.ensures i)) (g.T.MemberTable.content c.self.inside.table)))

@@ -1,0 +1,147 @@
+-- Where an act does not say that the others changed, each of them has the role that it had.
+use Rattle.std.proofs.Common.{◌≡◌, ℕ, ◌+◌, ◌-◌, ◌==◌, not, true, false, if◌then◌else◌, nat_le, List, [], ◌∷◌, length, drop, Option, Some, None, Ok, Err, arith, refl, sym, ap, ◌∙◌, subst}
+use Rattle.std.proofs.lemmas.Bool.Decides.{nat_tests}
+use Rattle.std.proofs.lemmas.List.{drop-drop}
+use Rattle.rtcp_wire.specs.declared.fact.Fact.{Fact}
+use Rattle.rtcp_wire.specs.Facts.{facts_of}
+use Rattle.rtcp_members.specs.Entries.{EntryValue, counted_at, entry_at, members_at}
+use Rattle.rtcp_members.specs.Pending.{EntryRow}
+use Rattle.rtcp_members.specs.Roles.{IsSameRole}
+use Rattle.rtcp_members.specs.Traces.{TraceStep, block_taken, fact_came, with_facts}
+use Rattle.rtcp_members.proofs.LawLemmas as tables
+use Rattle.rtcp_report.specs.Traced.{with_blocks}
+use Rattle.rtcp_engine.specs.Acts.{Act, arrived, left, rtcp, rtp, rtp_sent, ticked}
+use Rattle.rtcp_engine.specs.Answers.{step_by}
+use Rattle.rtcp_engine.specs.Arrivals.{after, facts_of_media, media_fact}
+use Rattle.rtcp_engine.specs.Changes.{NewIdentifier, Session, change_by, changed_by}
+use Rattle.rtcp_engine.specs.Histories.{History, session_at, session_for, with_act}
+use Rattle.rtcp_engine.specs.Leaving.{Life, backing_off, backoff_from, after_wait, few_members, gone, is_bye_due, is_unheard, left_at, present}
+use Rattle.rtcp_engine.specs.Lives.{entry_in_life, has_others, lived, moved_since, others_moved_by, while_present}
+use Rattle.rtcp_engine.specs.Outcomes.{Outcome, member_count}
+use Rattle.rtcp_engine.specs.Reporting.{reported_at}
+use Rattle.rtcp_engine.specs.Setups.{Setup}
+use Rattle.rtcp_engine.specs.Ticks.{after_check, after_tick, checked, has_come, has_passed, put_off, reported}
+use Rattle.rtcp_engine.proofs.Moving.{leave_moves}
+
+-- ---- Traces that go on
+
+-- A trace is another one with so many steps more.
+record GoesOn (older newer : List TraceStep) : Type 0 where
+  more : ℕ
+  longer : length newer ≡ more + length older
+  rest : drop more newer ≡ older
+
+goes_nowhere : (trace : List TraceStep) → GoesOn trace trace
+goes_nowhere trace = record { more = 0; longer = omega arith; rest = refl }
+
+one_sooner : {step : TraceStep} {older newer : List TraceStep} → GoesOn (step ∷ older) newer → GoesOn older newer
+one_sooner {step} {older} {newer} on = record {
+  more = on.more + 1;
+  longer = longer;
+  rest = sym (drop-drop 1 on.more newer) ∙ ap (drop 1) on.rest;
+}
+  where
+    longer : length newer ≡ on.more + 1 + length older
+    longer = omega (arith, on.longer)
+
+facts_go_on : (facts : List Fact) (t : ℕ) (trace : List TraceStep) → GoesOn trace (with_facts facts t trace)
+facts_go_on [] t trace = goes_nowhere trace
+facts_go_on (fact ∷ facts) t trace = one_sooner (facts_go_on facts t (fact_came fact t ∷ trace))
+
+blocks_go_on : (rows : List EntryRow) (trace : List TraceStep) → GoesOn trace (with_blocks rows trace)
+blocks_go_on [] trace = goes_nowhere trace
+blocks_go_on (row ∷ rows) trace = one_sooner (blocks_go_on rows (block_taken row.0 ∷ trace))
+
+-- ---- One that takes part
+
+report_goes_on : (setup : Setup) (t first_word second_word : ℕ) (outcome : Outcome) → GoesOn outcome.trace (after_check setup t first_word second_word outcome).trace
+report_goes_on setup t first_word second_word outcome =
+    elim (has_come t outcome) as (λ b. GoesOn outcome.trace (if b then (if has_passed setup t first_word outcome then reported setup t second_word outcome else put_off setup t first_word outcome) else outcome).trace) [
+      | false ↦ goes_nowhere outcome.trace
+      | true ↦ elim (has_passed setup t first_word outcome) as (λ b. GoesOn outcome.trace (if b then reported setup t second_word outcome else put_off setup t first_word outcome).trace) [
+        | false ↦ goes_nowhere outcome.trace
+        | true ↦ blocks_go_on (reported_at setup t outcome) outcome.trace
+      ]
+    ]
+
+goes_on : (setup : Setup) (act : Act) (outcome : Outcome) → GoesOn outcome.trace (after setup act outcome).trace
+goes_on setup (arrived t peer word (rtcp size (Ok packets))) outcome = facts_go_on (facts_of packets) t outcome.trace
+goes_on setup (arrived t peer word (rtcp size (Err fault))) outcome = goes_nowhere outcome.trace
+goes_on setup (arrived t peer word (rtp (Ok head))) outcome =
+    facts_go_on (facts_of_media setup.ssrc head (counted_at setup.capacity setup.rate outcome.trace (media_fact head))) t outcome.trace
+goes_on setup (arrived t peer word (rtp (Err fault))) outcome = goes_nowhere outcome.trace
+goes_on setup (rtp_sent t timestamp octets) outcome = goes_nowhere outcome.trace
+goes_on setup (ticked t first_word second_word) outcome = one_sooner (report_goes_on setup t first_word second_word (checked setup t outcome))
+goes_on setup (left t word) outcome = goes_nowhere outcome.trace
+
+kept_since : (setup : Setup) (before now : Outcome) → GoesOn before.trace now.trace → moved_since setup before now ≡ false → (ssrc : ℕ)
+    → IsSameRole (entry_at setup.capacity setup.rate before.trace ssrc) (entry_at setup.capacity setup.rate now.trace ssrc)
+kept_since setup before now on still ssrc =
+    subst (λ (trace : List TraceStep). IsSameRole (entry_at setup.capacity setup.rate trace ssrc) (entry_at setup.capacity setup.rate now.trace ssrc)) (ap (λ (n : ℕ). drop n now.trace) as_many ∙ on.rest)
+    (tables.roles_move_with_counts-within setup.capacity setup.rate (length now.trace - length before.trace) now.trace still ssrc)
+  where
+    as_many : length now.trace - length before.trace ≡ on.more
+    as_many = omega (arith, on.longer)
+
+-- ---- Leaves
+
+nobody_left : (setup : Setup) (t word : ℕ) (outcome : Outcome) (ssrc : ℕ) → entry_in_life setup (left_at setup t word outcome) ssrc ≡ None
+nobody_left setup t word outcome ssrc =
+    elim (is_unheard outcome) as (λ b. entry_in_life setup (if b then gone outcome else (if nat_le (member_count setup outcome) few_members then gone outcome else backing_off outcome (backoff_from setup t word outcome))) ssrc ≡ None) [
+      | true ↦ refl
+      | false ↦ elim (nat_le (member_count setup outcome) few_members) as (λ b. entry_in_life setup (if b then gone outcome else backing_off outcome (backoff_from setup t word outcome)) ssrc ≡ None) [ true ↦ refl | false ↦ refl ]
+    ]
+
+no_others : (n : ℕ) → not (n == 0) ≡ false → n ≡ 0
+no_others n e = grind (arith, nat_tests, e)
+
+same_backwards : (one other : Option EntryValue) → IsSameRole one other → IsSameRole other one
+same_backwards one other same = (sym same.0, sym same.1)
+
+kept_by_leave : (setup : Setup) (t word : ℕ) (outcome : Outcome) → others_moved_by setup (left t word) (present outcome) ≡ false → (ssrc : ℕ)
+    → IsSameRole (entry_in_life setup (present outcome) ssrc) (entry_in_life setup (left_at setup t word outcome) ssrc)
+kept_by_leave setup t word outcome still ssrc =
+    let none = no_others (members_at setup.capacity setup.rate outcome.trace) (leave_moves setup t word outcome ∙ still) in
+    subst (IsSameRole (entry_at setup.capacity setup.rate outcome.trace ssrc)) (sym (nobody_left setup t word outcome ssrc))
+    (same_backwards None (entry_at setup.capacity setup.rate outcome.trace ssrc) (tables.roles_move_with_counts-none setup.capacity setup.rate outcome.trace none ssrc))
+
+-- ---- Lives
+
+still_waiting : (setup : Setup) (t word : ℕ) (outcome : Outcome) (backoff : Rattle.rtcp_engine.specs.Leaving.Backoff) (ssrc : ℕ)
+    → entry_in_life setup (Rattle.rtcp_engine.specs.Leaving.after_waiting_tick setup t word outcome backoff) ssrc ≡ None
+still_waiting setup t word outcome backoff ssrc =
+    elim (is_bye_due setup t word backoff) as (λ b. entry_in_life setup (if b then gone outcome else backing_off outcome (after_wait setup t word backoff)) ssrc ≡ None) [ true ↦ refl | false ↦ refl ]
+
+kept_in : (setup : Setup) (act : Act) (life : Life) → others_moved_by setup act life ≡ false → (ssrc : ℕ) → IsSameRole (entry_in_life setup life ssrc) (entry_in_life setup (lived setup act life) ssrc)
+kept_in setup (arrived t peer word datagram) (present outcome) still ssrc =
+    kept_since setup outcome (after setup (arrived t peer word datagram) outcome) (goes_on setup (arrived t peer word datagram) outcome) still ssrc
+kept_in setup (rtp_sent t timestamp octets) (present outcome) still ssrc = (refl, refl)
+kept_in setup (ticked t first_word second_word) (present outcome) still ssrc =
+    kept_since setup outcome (after_tick setup t first_word second_word outcome) (goes_on setup (ticked t first_word second_word) outcome) still ssrc
+kept_in setup (left t word) (present outcome) still ssrc = kept_by_leave setup t word outcome still ssrc
+kept_in setup (arrived t peer word (rtcp size reading)) (backing_off outcome backoff) still ssrc = (refl, refl)
+kept_in setup (arrived t peer word (rtp reading)) (backing_off outcome backoff) still ssrc = (refl, refl)
+kept_in setup (rtp_sent t timestamp octets) (backing_off outcome backoff) still ssrc = (refl, refl)
+kept_in setup (ticked t first_word second_word) (backing_off outcome backoff) still ssrc =
+    subst (IsSameRole None) (sym (still_waiting setup t first_word outcome backoff ssrc)) (refl, refl)
+kept_in setup (left t word) (backing_off outcome backoff) still ssrc = (refl, refl)
+kept_in setup act (gone outcome) still ssrc = (refl, refl)
+
+-- A change of identifier changes nothing of the others.
+same_in_change : (session : Session) (change : Option NewIdentifier) (ssrc : ℕ) → let now = changed_by change session in entry_in_life session.setup session.life ssrc ≡ entry_in_life now.setup now.life ssrc
+same_in_change session None ssrc = refl
+same_in_change session (Some new) ssrc = under session.setup new session.life
+  where
+    under : (setup : Setup) (new : NewIdentifier) (life : Life)
+        → entry_in_life setup life ssrc ≡ entry_in_life (Rattle.rtcp_engine.specs.Identities.named new.ssrc setup) (Rattle.rtcp_engine.specs.Lives.with_new_name setup life) ssrc
+    under setup new (present outcome) = refl
+    under setup new (backing_off outcome backoff) = refl
+    under setup new (gone outcome) = refl
+
+pub others_kept : (history : History) (act : Act) → (step_by history act).others_changed ≡ false → (ssrc : ℕ)
+    → let before = session_at history in let next = session_at (with_act history act) in IsSameRole (entry_in_life before.setup before.life ssrc) (entry_in_life next.setup next.life ssrc)
+others_kept history act still ssrc =
+    let before = session_at history in
+    let now = session_for before act in
+    subst (λ (entry : Option EntryValue). IsSameRole entry (entry_in_life now.setup (lived now.setup act now.life) ssrc)) (sym (same_in_change before (change_by before act) ssrc))
+    (kept_in now.setup act now.life still ssrc)
