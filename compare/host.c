@@ -1,7 +1,9 @@
 /* A host in C that plays `rtcp replay`: it is given the options, reads events, a line each, and writes the answers of
  * the library behind jalwedd.h. It takes options and lines that are right, and does not look for faults of text; where
  * the configuration is refused it writes the status. Of a refused RTP datagram the library does not say the fault.
- * usage: host replay OPTION.. < EVENTS        (compare/embedding) */
+ * With `sources` each answer, refused or not, also says whether others changed and how many entries there are, and a
+ * line for each source that the library tells of follows it.
+ * usage: host replay|sources OPTION.. < EVENTS        (compare/embedding) */
 #include "jalwedd.h"
 
 #include <inttypes.h>
@@ -9,7 +11,9 @@
 #include <stdlib.h>
 #include <string.h>
 
-enum { MOST_OCTETS = 65600, MOST_ITEMS = 7 };
+enum { MOST_OCTETS = 65600, MOST_ITEMS = 7, MOST_SOURCES = 1025 }; /* one source more than there may be */
+
+static int tells_sources;
 
 struct options {
     jalwedd_config config;
@@ -116,13 +120,68 @@ static void write_counts(const char *first, const jalwedd_step *step)
         printf("%" PRIu64, step->next);
 }
 
+static void write_moment(const char *name, uint64_t moment)
+{
+    if (moment == JALWEDD_NEVER)
+        printf(" %s=-", name);
+    else
+        printf(" %s=%" PRIu64, name, moment);
+}
+
+static void write_source(const jalwedd_source_state *source)
+{
+    printf("  %08" PRIx32 " member=%" PRIu32 " sender=%" PRIu32, source->ssrc, source->member, source->sender);
+    write_moment("heard", source->heard);
+    write_moment("left", source->left);
+    printf(" received=%" PRIu64 " lost=%" PRId32 " highest=%" PRIu32 " jitter=%" PRIu32, source->received, source->lost,
+           source->highest, source->jitter);
+    write_moment("told", source->told);
+    printf(" ntp=%016" PRIx64 "\n", source->ntp);
+}
+
+/* Reads the sources from an SSRC on, and returns how many there are. */
+static size_t walk(jalwedd_handle *session, uint64_t from, jalwedd_source_state *sources)
+{
+    size_t count = 0;
+    while (count < MOST_SOURCES && jalwedd_source(session, from, &sources[count]) == JALWEDD_TAKEN)
+        from = (uint64_t)sources[count++].ssrc + 1;
+    return count;
+}
+
+/* Writes all sources. Their SSRCs have to rise, and a walk from the one in the middle on has to give the rest. */
+static void write_sources(jalwedd_handle *session)
+{
+    static jalwedd_source_state sources[MOST_SOURCES], rest[MOST_SOURCES];
+    const size_t count = walk(session, 0, sources), middle = count / 2;
+    for (size_t at = 0; at < count; at++) {
+        write_source(&sources[at]);
+        if (at > 0 && sources[at].ssrc <= sources[at - 1].ssrc)
+            printf("the SSRCs do not rise\n");
+    }
+    const size_t left = walk(session, count > 0 ? sources[middle].ssrc : 0, rest);
+    if (left != count - middle || memcmp(rest, sources + middle, left * sizeof *rest) != 0)
+        printf("the walk from the middle does not give the rest\n");
+}
+
+static void end_answer(jalwedd_handle *session, const jalwedd_step *step)
+{
+    if (tells_sources)
+        printf(" others=%" PRIu32 " entries=%" PRIu32, step->others_changed, step->entries);
+    printf("\n");
+    if (step->members != jalwedd_members(session) || step->senders != jalwedd_senders(session)
+        || step->entries != jalwedd_entries(session) || step->next != jalwedd_next(session)
+        || step->ssrc != jalwedd_ssrc(session))
+        printf("the step does not say what the handle does\n");
+    if (tells_sources)
+        write_sources(session);
+}
+
 static void write_answer(uint32_t status, const jalwedd_step *step, const uint8_t *octets, const jalwedd_fault *fault)
 {
     if (status != JALWEDD_TAKEN) {
         printf("refused E%" PRIu32 " %s", status, REFUSALS[status]);
         if (status == JALWEDD_NO_COMPOUND)
             printf(": F%" PRIu32 " %s at %" PRIu64, fault->reason, REASONS[fault->reason], fault->offset);
-        printf("\n");
         return;
     }
     write_counts("ok", step);
@@ -131,7 +190,6 @@ static void write_answer(uint32_t status, const jalwedd_step *step, const uint8_
         printf("%02x", octets[at]);
     if (step->changed)
         printf(" ssrc=%08" PRIx32, step->ssrc);
-    printf("\n");
 }
 
 /* Tells the participant the event of a line, of at most five fields. */
@@ -168,9 +226,7 @@ static void tell(jalwedd_handle *session, char **fields)
         status = jalwedd_leave(session, now, (uint32_t)strtoul(fields[2], NULL, 16), &step, octets);
     }
     write_answer(status, &step, octets, &fault);
-    if (step.members != jalwedd_members(session) || step.senders != jalwedd_senders(session)
-        || step.next != jalwedd_next(session) || step.ssrc != jalwedd_ssrc(session))
-        printf("the step does not say what the handle does\n");
+    end_answer(session, &step);
 }
 
 int main(int count, char **words)
@@ -179,6 +235,7 @@ int main(int count, char **words)
     static char line[2 * MOST_OCTETS + 200];
     jalwedd_handle session = JALWEDD_EMPTY;
     jalwedd_step step;
+    tells_sources = count > 1 && strcmp(words[1], "sources") == 0;
     read_options(&options, count - 2, words + 2);
     const uint32_t status = jalwedd_new(&session, &options.config, (const uint8_t *)options.cname,
                                         strlen(options.cname), options.items, options.item_count, options.word, &step);
@@ -187,7 +244,7 @@ int main(int count, char **words)
         return 2;
     }
     write_counts("start", &step);
-    printf("\n");
+    end_answer(&session, &step);
     while (fgets(line, sizeof line, stdin) != NULL) {
         char *fields[5] = {"", "", "", "", ""};
         size_t field = 0;

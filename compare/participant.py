@@ -2,9 +2,10 @@
 """A plain model of `rtcp replay`, written from docs/PROTOCOL.md and docs/FORMATS.md alone.
 
 It keeps all that happened in lists and works out what it needs from these. Failed reads and writes, want of memory and
-the text of a command line that is not understood are not modelled.
+the text of a command line that is not understood are not modelled. With `sources` in place of `replay` each answer also
+says whether others changed and how many entries there are, and a line for each source follows it.
 
-usage: compare/participant.py [replay] OPTION VALUE ... < LINES
+usage: compare/participant.py [replay | sources] OPTION VALUE ... < LINES
        compare/participant.py --self-test"""
 import re
 import sys
@@ -153,22 +154,41 @@ class Source:
         self.has_news = self.is_sender = True
         return True
 
+    def expected(self):
+        return self.greatest[-1] - self.integers[0] + 1
+
+    def lost(self):
+        return max(-2**23, min(2**23 - 1, self.expected() - len(self.integers)))
+
     def block(self, ssrc, moment):
         """The report block of a source with news, which ends its news."""
-        expected = self.greatest[-1] - self.integers[0] + 1
         received = len(self.integers)
         expected_before = self.greatest[self.reported - 1] - self.integers[0] + 1 if self.reported else 0
-        expected_since = expected - expected_before
+        expected_since = self.expected() - expected_before
         lost_since = expected_since - (received - self.reported)
         fraction = 256 * lost_since // expected_since if expected_since > 0 and lost_since > 0 else 0
-        lost = max(-2**23, min(2**23 - 1, expected - received))
         last_report, delay = 0, 0
         if self.sender_reports:
             came, timestamp = self.sender_reports[-1]
             last_report, delay = timestamp >> 16, short_delay(moment - came)
         self.reported, self.has_news = received, False
-        losses = fraction << 24 | lost % 2**24
+        losses = fraction << 24 | self.lost() % 2**24
         return words(ssrc, losses, self.greatest[-1], jitter_of(self.transits), last_report, delay)
+
+    def reception(self):
+        """Received, lost, highest and jitter: zeros where no packet was counted."""
+        if not self.integers:
+            return 0, 0, 0, 0
+        return len(self.integers), self.lost(), self.greatest[-1] % 2**32, jitter_of(self.transits)
+
+    def told(self, ssrc):
+        """The line that tells of it."""
+        member, sender, left = int(self.is_member()), int(self.counts_as_sender()), self.left
+        received, lost, highest, jitter = self.reception()
+        came, ntp = self.sender_reports[-1] if self.sender_reports else ("-", 0)
+        return (f"  {ssrc:08x} member={member} sender={sender} heard={self.sightings[-1]}"
+                f" left={'-' if left is None else left} received={received} lost={lost} highest={highest}"
+                f" jitter={jitter} told={came} ntp={ntp:016x}\n")
 
 
 # The participant
@@ -198,6 +218,7 @@ class Participant:
         self.reports = 0
         self.last_reported = None
         self.calls, self.last_call = 0, 0
+        self.others_changed = False  # by a step of the last call
         self.goodbyes = None  # in backoff, the numbers of BYE packets in the compounds that had any
         self.has_left = False
         self.average = 256 * (8 + len(self.description([])) + HEADERS)
@@ -224,7 +245,30 @@ class Participant:
         return deterministic_interval(self.members(), self.senders(), is_sender, self.average,
                                       self.options["sender-bw"], self.options["receiver-bw"], minimum)
 
+    def roles(self):
+        """Of each other member, whether it is a sender. All other sources are away."""
+        if not self.is_present():
+            return {}
+        return {ssrc: source.counts_as_sender() for ssrc, source in self.sources.items() if source.is_member()}
+
+    def step(self, do, *values):
+        """Does one step of a call."""
+        before = self.roles()
+        result = do(*values)
+        self.others_changed |= self.roles() != before
+        return result
+
+    def entries(self):
+        return len(self.sources) if self.is_present() else 0
+
+    def others(self):
+        """What the answer to the last call says of the others, and a line for each source that is told of."""
+        told = sorted(self.sources) if self.is_present() else []
+        lines = "".join(self.sources[ssrc].told(ssrc) for ssrc in told)
+        return f" others={int(self.others_changed)} entries={self.entries()}\n{lines}"
+
     def begin_call(self, moment):
+        self.others_changed = False
         if self.has_left:
             raise Refusal("E1 Left")
         if moment < self.last_call:
@@ -286,6 +330,12 @@ class Participant:
         if source and kind == "named":
             source.is_named = True
 
+    def take_packet(self, ssrc, sequence, timestamp, moment):
+        """Takes an RTP packet of a source. Says whether it is counted."""
+        source = self.seen(ssrc, moment)
+        transit = (media_units(moment, self.rate) - timestamp) % 2**32
+        return source is not None and source.take(sequence, transit, moment)
+
     def move_average(self, size):
         self.average = (256 * (size + HEADERS) + 15 * self.average) // 16
 
@@ -308,7 +358,7 @@ class Participant:
         if not self.is_present():
             return self.hear_leaving(moment, octets, change)
         for kind, ssrc, timestamp in facts:
-            self.take_fact(kind, ssrc, timestamp, moment)
+            self.step(self.take_fact, kind, ssrc, timestamp, moment)
         self.move_average(len(octets))
         self.reconsider_departures(moment)
         return self.end_call(moment, *change)
@@ -322,12 +372,10 @@ class Participant:
         change = self.give_way(peer, word, [ssrc], csrcs)
         if not self.is_present():
             return self.end_call(moment, *change)
-        source = self.seen(ssrc, moment)
-        transit = (media_units(moment, self.rate) - timestamp) % 2**32
-        if source and source.take(sequence, transit, moment):
+        if self.step(self.take_packet, ssrc, sequence, timestamp, moment):
             for csrc in csrcs:
                 if csrc != self.ssrc:
-                    self.seen(csrc, moment)
+                    self.step(self.seen, csrc, moment)
         return self.end_call(moment, *change)
 
     def packet_sent(self, moment, timestamp, octets):
@@ -364,7 +412,7 @@ class Participant:
         self.begin_call(moment)
         if not self.is_present():
             return self.say_goodbye(moment) if self.is_due(moment, False, word1) else self.end_call(moment)
-        self.check(moment)
+        self.step(self.check, moment)
         self.reconsider_departures(moment)
         if not self.is_due(moment, self.is_sender, word1):
             return self.end_call(moment)
@@ -378,6 +426,7 @@ class Participant:
         self.begin_call(moment)
         if not self.is_present():
             return self.end_call(moment)
+        self.others_changed = self.roles() != {}  # nobody is told of from now on
         if not self.has_sent():
             self.has_left = True
             return self.end_call(moment)
@@ -560,15 +609,15 @@ def answer(participant, line):
         return f"refused {refusal}"
 
 
-def replay(arguments, octets):
-    """What goes to standard output and to standard error, and the status."""
+def replay(arguments, octets, others=lambda participant: "\n"):
+    """What goes to standard output and to standard error, and the status. `others` gives the end of each answer."""
     try:
         participant = Participant(configuration(arguments))
     except Usage:
         return "", __doc__ + "\n", 2
     except Fault as fault:
         return "", f"{fault}\n", 2
-    answers = [f"start members=1 senders=0 next={participant.next}\n"]
+    answers = [f"start members=1 senders=0 next={participant.next}{others(participant)}"]
     lines = octets.split(b"\n")
     if not lines[-1]:
         lines.pop()
@@ -576,19 +625,25 @@ def replay(arguments, octets):
         try:
             if number > MOST_LINES:
                 raise Fault("X2 TooManyLines")
-            answers.append(answer(participant, line) + "\n")
+            answers.append(answer(participant, line) + others(participant))
         except Fault as fault:
             return "".join(answers), f"line {number}: {fault}\n", 2
     return "".join(answers), "", 0
 
 
+def sources(arguments, octets):
+    """The same, with what is told of the others after each answer."""
+    return replay(arguments, octets, Participant.others)
+
+
 def main(arguments):
     if arguments == ["--self-test"]:
-        import rows
-        sys.exit(rows.run(replay))
-    if arguments[:1] == ["replay"]:
+        import rows, source_rows
+        sys.exit(rows.run(replay) or source_rows.run(sources))
+    tell = sources if arguments[:1] == ["sources"] else replay
+    if arguments[:1] in (["replay"], ["sources"]):
         arguments = arguments[1:]
-    answers, fault, status = replay(arguments, sys.stdin.buffer.read())
+    answers, fault, status = tell(arguments, sys.stdin.buffer.read())
     sys.stdout.write(answers)
     sys.stdout.flush()
     sys.stderr.write(fault)
