@@ -17,7 +17,7 @@ use Rattle.rtcp_engine.specs.declared.refusal.Refusal.{Refusal}
 use Rattle.rtcp_engine.specs.declared.refusal.Refusal.TheVariants.{OwnSsrc}
 use Rattle.rtcp_engine.specs.Setups.{Setup}
 use Rattle.rtcp_engine.specs.Acts.{Datagram, Act, arrived, rtp_sent, ticked, left, moment_of}
-use Rattle.rtcp_engine.specs.Identities.{first_free, is_among, may_change, most_changes}
+use Rattle.rtcp_engine.specs.Identities.{AreApart, first_free, is_among, may_change, most_changes}
 use Rattle.rtcp_engine.specs.Leaving.{Life, present, backing_off, gone}
 use Rattle.rtcp_engine.specs.Changes.{NewIdentifier, Session, change_by, changed_by, changing_peers, identifiers, is_about, is_in_table, is_taken, most_taken, named_by, new_identifier}
 use Rattle.rtcp_engine.specs.Histories.{History, brought_by, last_moment, life_at, session_at, session_for, session_of}
@@ -77,6 +77,43 @@ pub few_listed : (setup : Setup) (word : ℕ) (acts : List Act) → AllTaken set
 few_listed setup word [] taken = omega arith
 few_listed setup word (act ∷ earlier) taken =
     few_after (session_of setup word earlier) act (unrefused (record { setup = setup; word = word; acts = earlier }) act taken.0).1 (few_listed setup word earlier taken.2)
+
+-- ---- A change for a peer
+
+allowed_is_other : (peers : List ℕ) (peer : ℕ) → may_change peers peer ≡ true → is_among peers peer ≡ false
+allowed_is_other peers peer allowed = by_test (is_among peers peer) refl
+  where
+    by_test : (b : Bool) → is_among peers peer ≡ b → is_among peers peer ≡ false
+    by_test false other = other
+    by_test true listed = absurd (false_is_true (sym (ap (λ (b : Bool). not b) listed) ∙ (and_parts (not (is_among peers peer)) (nat_lt (length peers) most_changes) allowed).0))
+      where
+        false_is_true : false ≡ true → ⊥
+        false_is_true e = cc
+
+apart_if : (own : Bool) (new : NewIdentifier) (session : Session) → (own ≡ true → is_among (changing_peers session) new.peer ≡ false) → AreApart (changing_peers session)
+    → AreApart (changing_peers (changed_by (if own then Some new else None) session))
+apart_if true new session other apart = (other refl, apart)
+apart_if false new session other apart = apart
+
+apart_after : (session : Session) (act : Act) → refusal_of_datagram session act ≡ None → AreApart (changing_peers session) → AreApart (changing_peers (session_for session act))
+apart_after session (arrived moment peer word datagram) none apart = apart_if own _ session other apart
+  where
+    own : Bool
+    own = is_about session.setup.ssrc datagram
+
+    may : Bool
+    may = may_change (changing_peers session) peer
+
+    other : is_about session.setup.ssrc datagram ≡ true → is_among (changing_peers session) peer ≡ false
+    other is = allowed_is_other (changing_peers session) peer (may_if own may is (neither (fault_in datagram) (refusal_if (own && not may) OwnSsrc) none).1)
+apart_after session (rtp_sent moment timestamp octets) none apart = apart
+apart_after session (ticked moment first_word second_word) none apart = apart
+apart_after session (left moment word) none apart = apart
+
+pub apart_listed : (setup : Setup) (word : ℕ) (acts : List Act) → AllTaken setup word acts → AreApart (changing_peers (session_of setup word acts))
+apart_listed setup word [] taken = tt
+apart_listed setup word (act ∷ earlier) taken =
+    apart_after (session_of setup word earlier) act (unrefused (record { setup = setup; word = word; acts = earlier }) act taken.0).1 (apart_listed setup word earlier taken.2)
 
 -- how many changes an act brings
 abbrev listed : (changes : Bool) → ℕ

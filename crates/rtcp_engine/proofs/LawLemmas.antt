@@ -12,7 +12,8 @@ use Rattle.rtcp_engine.specs.declared.refusal.Refusal.{Refusal}
 use Rattle.rtcp_engine.specs.Setups.{Setup, IsUsable}
 use Rattle.rtcp_engine.specs.Refused.{error_in}
 use Rattle.rtcp_engine.specs.Acts.{Datagram, Act, moment_of, IsReading, IsRtpReading, IsTotal, IsUnique}
-use Rattle.rtcp_engine.specs.Changes.{NewIdentifier, change_by, is_taken, new_identifier}
+use Rattle.rtcp_engine.specs.Changes.{NewIdentifier, change_by, changing_peers, is_taken, most_taken, new_identifier}
+use Rattle.rtcp_engine.specs.Identities.{AreApart, IsFirstFree}
 use Rattle.rtcp_engine.specs.OwnStreams.{OwnStep, packet_sent, check_passed, report_sent, counts_anew, sending_since}
 use Rattle.rtcp_engine.specs.OwnSending.{OutlastsChecks, IsSendingSince}
 use Rattle.rtcp_engine.specs.Reporting.{extra_item, last_reported_in}
@@ -25,7 +26,8 @@ use Rattle.rtcp_engine.specs.Answers.{step_by, answer_of, followed_by}
 use Rattle.rtcp_engine.specs.Taken.{IsHistory, NamesFew}
 use Rattle.rtcp_engine.specs.Sent.{reports_in, deciding_interval, sent_at, sent_with, handed_out, reports_of, counted_report}
 use Rattle.rtcp_engine.specs.Spacing.{newest_moment, LiesAfter, KeepsBounds}
-use Rattle.rtcp_engine.proofs.Choosing.{new_is_free}
+use Rattle.rtcp_engine.proofs.Choosing.{apart_listed, few_listed, new_is_free}
+use Rattle.rtcp_engine.proofs.Trying.{chosen_is_first}
 use Rattle.rtcp_engine.proofs.Usable.{usable_of_unrefused, unrefused_of_usable}
 use Rattle.rtcp_engine.proofs.Counting.{reports_counted}
 use Rattle.rtcp_engine.specs.InTime.{AllInTime}
@@ -154,8 +156,20 @@ sent_compounds_keep_apart = bounds_of
 pub sends_in_time : (history : History) → IsHistory history → AllInTime history.setup history.word history.acts
 sends_in_time history is = all_in_time history.setup history.word history.acts is.usable is.word is.taken
 
-pub new_identifiers_are_free : (history : History) (datagram : Datagram) (word : ℕ) → IsHistory history → word < 2 ^ 32 → NamesFew datagram → let session = session_at history in is_taken session datagram (new_identifier word session datagram) ≡ false
-new_identifiers_are_free history datagram word is fits few = new_is_free history datagram word is fits few
+pub new_identifiers_are_free-free : (history : History) (datagram : Datagram) (word : ℕ) → IsHistory history → word < 2 ^ 32 → NamesFew datagram → let session = session_at history in is_taken session datagram (new_identifier word session datagram) ≡ false
+new_identifiers_are_free-free history datagram word is fits few = new_is_free history datagram word is fits few
+
+pub new_identifiers_are_free-first : (history : History) (datagram : Datagram) (word : ℕ) → IsHistory history → word < 2 ^ 32 → NamesFew datagram → let session = session_at history in
+    IsFirstFree (is_taken session datagram) word (new_identifier word session datagram)
+new_identifiers_are_free-first history datagram word is fits few =
+    let session = session_at history in
+    chosen_is_first (most_taken session datagram) (is_taken session datagram) word fits (new_is_free history datagram word is fits few)
+
+pub changes_are_few-few : (history : History) → IsHistory history → length (session_at history).changes ≤ 8
+changes_are_few-few history is = few_listed history.setup history.word history.acts is.taken
+
+pub changes_are_few-apart : (history : History) → IsHistory history → AreApart (changing_peers (session_at history))
+changes_are_few-apart history is = apart_listed history.setup history.word history.acts is.taken
 
 -- ---- Extra items
 

@@ -1,7 +1,7 @@
 -- The search for a new identifier: numbers that follow one another are tried, until one is free.
-use Rattle.std.proofs.Common.{◌≡◌, ℕ, suc, zero, ◌+◌, ◌%◌, ◌^◌, ◌<◌, ◌≤◌, Bool, true, false, if◌then◌else◌, sym, ap, ◌∙◌, arith, inl, inr}
+use Rattle.std.proofs.Common.{◌≡◌, ℕ, suc, zero, ◌+◌, ◌%◌, ◌^◌, ◌<◌, ◌≤◌, Bool, true, false, if◌then◌else◌, refl, sym, ap, ◌∙◌, arith, inl, inr}
 use Rattle.std.proofs.lemmas.Bool.{cases_lt}
-use Rattle.rtcp_engine.specs.Identities.{first_free}
+use Rattle.rtcp_engine.specs.Identities.{IsFirstFree, first_free}
 
 -- the number so many places after another, modulo 2^32
 abbrev pub after : (ssrc places : ℕ) → ℕ
@@ -57,3 +57,34 @@ one_more_taken is_taken ssrc places taken last place within =
   where
     antisymmetric : (n m : ℕ) → n < m + 1 → m ≤ n → n ≡ m
     antisymmetric n m below above = omega (arith, below, above)
+
+-- ---- The first that is free, in other words
+
+-- What is chosen comes after so many that are taken.
+record ComesAfter (is_taken : ℕ → Bool) (ssrc number : ℕ) : Type 0 where
+  pub places : ℕ
+  pub here : number ≡ after ssrc places
+  pub taken : AreTaken is_taken ssrc places
+
+at_once : (is_taken : ℕ → Bool) (ssrc : ℕ) → ssrc < 2 ^ 32 → ComesAfter is_taken ssrc ssrc
+at_once is_taken ssrc fits = record { places = 0; here = omega (arith, fits); taken = λ place within. absurd (omega (arith, within)) }
+
+one_before : (is_taken : ℕ → Bool) (ssrc places : ℕ) → ssrc < 2 ^ 32 → is_taken ssrc ≡ true → AreTaken is_taken (after ssrc 1) places → AreTaken is_taken ssrc (places + 1)
+one_before is_taken ssrc places fits first taken zero within = ap is_taken (omega (arith, fits)) ∙ first
+one_before is_taken ssrc places fits first taken (suc place) within = ap is_taken (omega arith) ∙ taken place (omega (arith, within))
+
+chosen_after : (most : ℕ) (is_taken : ℕ → Bool) (ssrc : ℕ) → ssrc < 2 ^ 32 → ComesAfter is_taken ssrc (first_free most is_taken ssrc)
+chosen_after zero is_taken ssrc fits = at_once is_taken ssrc fits
+chosen_after (suc most) is_taken ssrc fits =
+    elim (is_taken ssrc) as (λ b. is_taken ssrc ≡ b → ComesAfter is_taken ssrc (tried_first most is_taken ssrc b)) [
+      | false ↦ λ free. at_once is_taken ssrc fits
+      | true ↦ λ first.
+          let later = chosen_after most is_taken (after ssrc 1) (omega arith) in
+          let place : after (after ssrc 1) later.places ≡ after ssrc (later.places + 1) = omega arith in
+          record { places = later.places + 1; here = later.here ∙ place; taken = one_before is_taken ssrc later.places fits first later.taken }
+    ] refl
+
+pub chosen_is_first : (most : ℕ) (is_taken : ℕ → Bool) (ssrc : ℕ) → ssrc < 2 ^ 32 → is_taken (first_free most is_taken ssrc) ≡ false → IsFirstFree is_taken ssrc (first_free most is_taken ssrc)
+chosen_is_first most is_taken ssrc fits free =
+    let at = chosen_after most is_taken ssrc fits in
+    record { tries = at.places; here = at.here; free = free; sooner = at.taken }

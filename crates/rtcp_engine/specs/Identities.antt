@@ -1,5 +1,5 @@
 -- The identifiers of a participant (RFC 3550, 8.2).
-use Rattle.std.specs.Prelude.{ℕ, suc, zero, ◌+◌, ◌%◌, ◌^◌, ◌==◌, ◌&&◌, not, nat_lt, Bool, List, length, if◌then◌else◌}
+use Rattle.std.specs.Prelude.{ℕ, suc, zero, ◌≡◌, ◌<◌, ◌+◌, ◌%◌, ◌^◌, ◌==◌, ◌&&◌, not, nat_lt, Bool, true, false, List, [], ◌∷◌, length, if◌then◌else◌}
 use Rattle.std.specs.List.{list_any}
 use Rattle.rtcp_engine.specs.Setups.{Setup}
 
@@ -8,6 +8,11 @@ named ssrc setup = record setup { ssrc = ssrc }
 
 abbrev pub is_among : List ℕ → ℕ → Bool
 is_among numbers number = list_any (λ other. other == number) numbers
+
+-- no number stands twice
+abbrev pub AreApart : List ℕ → Type 0
+AreApart [] = Unit {0}
+AreApart (number ∷ numbers) = (is_among numbers number ≡ false) × AreApart numbers
 
 -- The most changes of a session.
 abbrev pub most_changes : ℕ
@@ -22,3 +27,10 @@ abbrev pub first_free : (most : ℕ) → (is_taken : ℕ → Bool) → ℕ → �
 first_free zero is_taken ssrc = ssrc
 first_free (suc most) is_taken ssrc =
     if is_taken ssrc then first_free most is_taken ((ssrc + 1) % 2 ^ 32) else ssrc
+
+-- The same in other words: a number is the first of another and those that follow it, modulo 2^32, that is not taken.
+pub record IsFirstFree (is_taken : ℕ → Bool) (from number : ℕ) : Type 0 where
+  pub tries : ℕ
+  pub here : number ≡ (from + tries) % 2 ^ 32
+  pub free : is_taken number ≡ false
+  pub sooner : (n : ℕ) → n < tries → is_taken ((from + n) % 2 ^ 32) ≡ true

@@ -17,7 +17,8 @@ ghost use Rattle.rtcp_engine.specs.Histories.{History, life_at, session_at, with
 ghost use Rattle.rtcp_engine.specs.Leaving.{Backoff, present, backing_off, leaving_timing};
 ghost use Rattle.rtcp_engine.specs.Refusals.{refusal_after};
 ghost use Rattle.rtcp_engine.specs.Answers.{answer_of, followed_by};
-ghost use Rattle.rtcp_engine.specs.Changes.{is_taken, new_identifier};
+ghost use Rattle.rtcp_engine.specs.Changes.{changing_peers, is_taken, new_identifier};
+ghost use Rattle.rtcp_engine.specs.Identities.{AreApart, IsFirstFree};
 ghost use Rattle.rtcp_engine.specs.Taken.{IsHistory, NamesFew};
 ghost use Rattle.rtcp_engine.specs.Sent.{reports_in, deciding_interval, sent_at, handed_out, reports_of, counted_report};
 ghost use Rattle.rtcp_engine.specs.Spacing.{newest_moment, LiesAfter, KeepsBounds};
@@ -47,11 +48,22 @@ pub fn refused_acts_are_forgotten()
 {}
 
 /// The identifier that a change takes is free, as far as the participant can tell: it is none of its own so far, no
-/// source of its table has it, and the datagram that brings the change does not name it (RFC 3550, 8.2).
+/// source of its table has it, and the datagram that brings the change does not name it (RFC 3550, 8.2). It is the first
+/// such one from the random word on.
 pub fn new_identifiers_are_free()
-    ensures { (history : History) (datagram : Datagram) (word : ℕ) → IsHistory history → word < 2 ^ 32 →
+    ensures free { (history : History) (datagram : Datagram) (word : ℕ) → IsHistory history → word < 2 ^ 32 →
         NamesFew datagram → let session = session_at history in
         is_taken session datagram (new_identifier word session datagram) ≡ false }
+    ensures first { (history : History) (datagram : Datagram) (word : ℕ) → IsHistory history → word < 2 ^ 32 →
+        NamesFew datagram → let session = session_at history in
+        IsFirstFree (is_taken session datagram) word (new_identifier word session datagram) }
+{}
+
+/// At most eight identifiers are given up, whatever was handed out for them, and each by a datagram of another peer
+/// (RFC 3550, 8.2).
+pub fn changes_are_few()
+    ensures few { (history : History) → IsHistory history → length (session_at history).changes ≤ 8 }
+    ensures apart { (history : History) → IsHistory history → AreApart (changing_peers (session_at history)) }
 {}
 
 /// The participant sends since a moment exactly where its newest packet was sent then, and no check since has
