@@ -1,0 +1,384 @@
+/* A conference server: 200 sessions of 5 to 20 members on a virtual clock, with a participant in each. The server keeps
+ * no table of its own. Where a call tells that others changed, it lists the sources again, and the changes between the
+ * two listings say who joined, left, timed out, began to send or stopped. The members lose packets, fall silent, and
+ * take the server's SSRC; in some sessions a flood of invented SSRCs fills the table.
+ *
+ * Each second of each session, what the server lists and counts is compared with what docs/PROTOCOL.md says that it has
+ * to be (server_rules.c), by the datagrams that came (server_members.c). The first difference ends the program with
+ * status 1. The same seed gives the same sessions.
+ *
+ *     cc -std=c11 -O2 server.c server_members.c server_rules.c -o server $(pkg-config --cflags --libs jalwedd)
+ *     server [SEED [SESSION]]         prints what changes in one of them
+ *
+ * The time that a listing takes goes to standard error. The whole takes some three seconds of one core.
+ */
+#include "server_rules.h"
+
+#include <stdio.h>
+#include <stdlib.h>
+#include <string.h>
+#include <time.h>
+
+enum { SESSIONS = 200, LENGTH = 150, LONG_TABLE = 1000, WALKS = 1000 };
+
+static const char *const WORDS[EVENTS] = {"joined", "left", "timed out", "began to send", "stopped sending",
+                                          "table full"};
+
+/* Sources by rising SSRC. */
+struct listing {
+    jalwedd_source_state sources[ROOM];
+    uint32_t count;
+};
+
+/* The roles of the members by the changes alone, in no order. */
+struct roles {
+    uint32_t ssrc[ROOM], role[ROOM], count;
+};
+
+struct session {
+    jalwedd_handle participant;
+    jalwedd_step step;
+    struct listing listing;             /* who was there after the last call that changed others */
+    uint32_t tally[EVENTS];             /* how often each happened */
+    uint64_t now, random;
+    uint32_t number;
+    bool is_shown, is_full;
+    struct roles roles;                 /* from here on for the comparison alone */
+    struct members members;
+    struct known known;
+};
+
+static _Noreturn void stop(const char *why)
+{
+    printf("server: %s\n", why);
+    exit(1);
+}
+
+/* Ends the program where they differ. */
+static void compare(const struct session *session, const char *what, uint64_t is, uint64_t has_to_be)
+{
+    if (is == has_to_be)
+        return;
+    printf("session %u after %.6f s: %s: %llu in place of %llu\n", session->number, (double)session->now / SECOND,
+           what, (unsigned long long)is, (unsigned long long)has_to_be);
+    exit(1);
+}
+
+/* ---- Roles by the changes */
+
+static uint32_t role_of(const jalwedd_source_state *source)
+{
+    return source->member == 0 ? JALWEDD_AWAY : source->sender == 0 ? JALWEDD_MEMBER : JALWEDD_SENDER;
+}
+
+/* The place of a source, or that after the last one. */
+static uint32_t place_in(const struct roles *roles, uint32_t ssrc)
+{
+    uint32_t at = 0;
+    while (at < roles->count && roles->ssrc[at] != ssrc)
+        at++;
+    return at;
+}
+
+static uint32_t role_in(const struct roles *roles, uint32_t ssrc)
+{
+    const uint32_t at = place_in(roles, ssrc);
+    return at < roles->count ? roles->role[at] : JALWEDD_AWAY;
+}
+
+static void move_role(struct roles *roles, const jalwedd_role_change *change)
+{
+    const uint32_t at = place_in(roles, change->ssrc);
+    if (at == ROOM)
+        stop("more members than there is room for");
+    if (at == roles->count)
+        roles->count++;
+    roles->ssrc[at] = change->ssrc;
+    roles->role[at] = change->is;
+    if (change->is != JALWEDD_AWAY)
+        return;
+    roles->count--;
+    roles->ssrc[at] = roles->ssrc[roles->count];
+    roles->role[at] = roles->role[roles->count];
+}
+
+/* ---- The server */
+
+static void list(jalwedd_handle *participant, struct listing *listing)
+{
+    jalwedd_source_state source;
+    listing->count = 0;
+    for (uint64_t from = 0; jalwedd_source(participant, from, &source) == JALWEDD_TAKEN;
+         from = (uint64_t)source.ssrc + 1)
+        listing->sources[listing->count++] = source;
+}
+
+static void happened(struct session *session, enum event event, uint32_t ssrc)
+{
+    session->tally[event]++;
+    if (session->is_shown)
+        printf("%10.6f s: %08x %s\n", (double)session->now / SECOND, ssrc, WORDS[event]);
+}
+
+static enum event event_of(const jalwedd_role_change *change)
+{
+    if (change->is == JALWEDD_AWAY)
+        return change->left ? LEFT : TIMED_OUT;
+    if (change->was == JALWEDD_AWAY)
+        return JOINED;
+    return change->is == JALWEDD_SENDER ? BEGAN : STOPPED;
+}
+
+/* Lists the sources again, and goes by what changed since they were listed before. */
+static void take_changes(struct session *session)
+{
+    const struct listing before = session->listing;
+    const struct listing *after = &session->listing;
+    jalwedd_role_change change;
+    bool is_any = false;
+    list(&session->participant, &session->listing);
+    for (uint64_t from = 0; jalwedd_change(before.sources, before.count, after->sources, after->count, from, &change)
+         == JALWEDD_TAKEN; from = (uint64_t)change.ssrc + 1) {
+        happened(session, event_of(&change), change.ssrc);
+        compare(session, "an earlier role", change.was, role_in(&session->roles, change.ssrc));
+        move_role(&session->roles, &change);
+        is_any = true;
+    }
+    compare(session, "others changed", session->step.others_changed, is_any);
+}
+
+/* Goes by what a call told. A compound that it hands out would go to all members here. */
+static void take_step(struct session *session)
+{
+    const bool was_full = session->is_full;
+    session->is_full = session->step.entries == ROOM;
+    if (session->step.others_changed)
+        take_changes(session);
+    if (session->is_full && !was_full)
+        happened(session, FULL, session->step.ssrc);
+}
+
+static void begin(struct session *session, uint32_t number, uint64_t seed)
+{
+    const jalwedd_item none = {0};
+    *session = (struct session){.number = number, .random = seed};
+    const uint32_t ssrc = random_word(&session->random);
+    /* of a session of 64 million bits a second */
+    const jalwedd_config config = {.ntp_base = (uint64_t)3900000000u << 32, .ssrc = ssrc, .capacity = ROOM,
+                                   .limit = 1472, .sender_bw = 100000, .receiver_bw = 300000, .rate = RATE};
+    const uint8_t cname[] = "server@example.com";
+    if (jalwedd_new(&session->participant, &config, cname, sizeof cname - 1, &none, 0, random_word(&session->random),
+                    &session->step) != JALWEDD_TAKEN)
+        stop("no participant");
+    session->known.ssrc = ssrc;
+    begin_members(&session->members, number, seed + SESSIONS);
+}
+
+static void tick(struct session *session)
+{
+    static uint8_t octets[JALWEDD_OCTETS];
+    const uint32_t word = random_word(&session->random), another = random_word(&session->random);
+    compare(session, "status of a tick", jalwedd_tick(&session->participant, session->now, word, another,
+                                                      &session->step, octets), JALWEDD_TAKEN);
+    take_step(session);
+    know_tick(&session->known, session->now);
+}
+
+/* Tells the participant what came, if anything. */
+static void hear(struct session *session)
+{
+    static uint8_t octets[JALWEDD_OCTETS];
+    struct datagram came;
+    if (!next_datagram(&session->members, session->step.ssrc, &came))
+        return;
+    const uint32_t word = random_word(&session->random);
+    const uint32_t status = (came.is_rtp ? jalwedd_arrive_rtp : jalwedd_arrive_rtcp)(
+        &session->participant, session->now, came.peer, word, came.octets, came.size, &session->step, octets);
+    take_step(session);
+    compare(session, "status", status, know_datagram(&session->known, session->now, &came, word));
+}
+
+/* In each fourth session the server says something as each minute begins: a packet a second, for ten seconds. */
+static void speak(struct session *session)
+{
+    static uint8_t octets[JALWEDD_OCTETS];
+    const uint64_t second = session->now / SECOND;
+    if (session->number % 4 != 0 || second % 60 >= 10)
+        return;
+    jalwedd_sent_rtp(&session->participant, session->now, (uint32_t)(second * RATE), 160, &session->step, octets);
+    take_step(session);
+    know_sent(&session->known, session->now);
+}
+
+/* ---- The comparison */
+
+static void compare_source(const struct session *session, const jalwedd_source_state *is,
+                           const jalwedd_source_state *has_to_be)
+{
+    compare(session, "SSRC", is->ssrc, has_to_be->ssrc);
+    compare(session, "moment of the goodbye", is->left, has_to_be->left);
+    compare(session, "moment of the last sighting", is->heard, has_to_be->heard);
+    compare(session, "member", is->member, has_to_be->member);
+    compare(session, "sender", is->sender, has_to_be->sender);
+    compare(session, "packets received", is->received, has_to_be->received);
+    compare(session, "packets lost, modulo 2^32", (uint32_t)is->lost, (uint32_t)has_to_be->lost);
+    compare(session, "highest sequence number", is->highest, has_to_be->highest);
+    compare(session, "jitter", is->jitter, has_to_be->jitter);
+    compare(session, "moment of the last sender report", is->told, has_to_be->told);
+    compare(session, "its NTP timestamp", is->ntp, has_to_be->ntp);
+}
+
+static void compare_listing(const struct session *session, const struct listing *listing)
+{
+    compare(session, "sources", listing->count, session->known.count);
+    for (uint32_t at = 0; at < listing->count; at++) {
+        const jalwedd_source_state *source = &listing->sources[at], known = known_state(&session->known, at);
+        compare_source(session, source, &known);
+        compare(session, "role by the changes", role_in(&session->roles, source->ssrc), role_of(source));
+    }
+}
+
+static void compare_tallies(const struct session *session)
+{
+    for (int at = 0; at < EVENTS; at++)
+        compare(session, WORDS[at], session->tally[at], session->known.tally[at]);
+}
+
+/* Each second. The tick before it, due or not, drops those who are silent for too long. */
+static void compare_all(struct session *session)
+{
+    const jalwedd_step *step = &session->step;
+    const struct known *known = &session->known;
+    struct listing listing;
+    tick(session);
+    list(&session->participant, &listing);
+    compare_listing(session, &listing);
+    compare_tallies(session);
+    compare(session, "own SSRC", step->ssrc, known->ssrc);
+    compare(session, "members", step->members, known_members(known));
+    compare(session, "members by the changes", 1 + session->roles.count, known_members(known));
+    compare(session, "senders", step->senders, known_senders(known));
+    compare(session, "entries", step->entries, known->count);
+}
+
+/* One second: what comes in it, and what the participant is to be asked. The sessions go side by side, a second at a
+ * time: nothing goes from one to another. */
+static void run_second(struct session *session, uint64_t end)
+{
+    const struct members *members = &session->members;
+    speak(session);
+    while (members->due < end || session->step.next < end) {
+        const bool is_tick = session->step.next <= members->due;
+        const uint64_t due = is_tick ? session->step.next : members->due;
+        if (due > session->now)         /* a departure may bring the next tick sooner than now */
+            session->now = due;
+        if (is_tick)
+            tick(session);
+        else
+            hear(session);
+    }
+    session->now = end;
+    compare_all(session);
+}
+
+/* ---- What a listing takes */
+
+static void fill(jalwedd_handle *participant, jalwedd_step *step)
+{
+    static uint8_t octets[JALWEDD_OCTETS];
+    uint8_t report[20] = {0x80, 0xc9, 0, 1, 0, 0, 0, 0, 0x81, 0xca, 0, 2, 0, 0, 0, 0, 1, 1, 'm', 0};
+    uint64_t seed = 3550;
+    for (uint32_t at = 0; at < LONG_TABLE; at++) {
+        const uint32_t ssrc = random_word(&seed);
+        memcpy(report + 4, &ssrc, 4);
+        memcpy(report + 12, &ssrc, 4);
+        jalwedd_arrive_rtcp(participant, 0, at, 0, report, sizeof report, step, octets);
+    }
+}
+
+static void time_walks(void)
+{
+    const jalwedd_config config = {.ssrc = 0xaa, .capacity = 1024, .limit = 1472, .sender_bw = 100,
+                                   .receiver_bw = 300, .rate = RATE};
+    const jalwedd_item none = {0};
+    jalwedd_handle participant = JALWEDD_EMPTY;
+    jalwedd_step step;
+    jalwedd_source_state source;
+    uint64_t from = 0, count = 0;
+    jalwedd_new(&participant, &config, (const uint8_t *)"a", 1, &none, 0, 0, &step);
+    fill(&participant, &step);
+    const clock_t begin = clock();
+    while (count < (uint64_t)WALKS * LONG_TABLE) {
+        const bool is_end = jalwedd_source(&participant, from, &source) != JALWEDD_TAKEN;
+        from = is_end ? 0 : (uint64_t)source.ssrc + 1;
+        count += !is_end;
+    }
+    const double taken = (double)(clock() - begin) / CLOCKS_PER_SEC;
+    fprintf(stderr, "a walk over %u sources takes %.0f nanoseconds a source\n", step.entries, taken * 1e9 / count);
+    jalwedd_free(&participant);
+}
+
+/* ---- All sessions */
+
+static struct session *begin_all(uint64_t seed, uint32_t shown)
+{
+    struct session *all = calloc(SESSIONS, sizeof *all);
+    if (all == NULL)
+        stop("no memory");
+    for (uint32_t at = 0; at < SESSIONS; at++)
+        begin(&all[at], at, seed * 1000003 + at * 2 * SESSIONS);
+    if (shown < SESSIONS)
+        all[shown].is_shown = true;
+    return all;
+}
+
+/* The participants leave. From then on they know nobody. */
+static void end_all(struct session *all)
+{
+    static uint8_t octets[JALWEDD_OCTETS];
+    struct listing listing;
+    for (uint32_t at = 0; at < SESSIONS; at++) {
+        struct session *session = &all[at];
+        jalwedd_leave(&session->participant, session->now, random_word(&session->random), &session->step, octets);
+        list(&session->participant, &listing);
+        compare(session, "sources after a leave", listing.count + session->step.entries, 0);
+        jalwedd_free(&session->participant);
+    }
+    free(all);
+}
+
+static uint32_t sum_of(const struct session *all, enum event event)
+{
+    uint32_t sum = 0;
+    for (uint32_t at = 0; at < SESSIONS; at++)
+        sum += all[at].tally[event];
+    return sum;
+}
+
+static void print_sums(const struct session *all)
+{
+    uint32_t changes = 0;
+    for (uint32_t at = 0; at < SESSIONS; at++)
+        changes += all[at].known.changes;
+    printf("%u sessions, %u session-seconds compared: no difference;", SESSIONS, SESSIONS * LENGTH);
+    for (int at = 0; at < EVENTS; at++)
+        printf(" %s: %u,", WORDS[at], sum_of(all, (enum event)at));
+    printf(" own SSRC changed: %u\n", changes);
+}
+
+int main(int count, char **words)
+{
+    if (count > 3) {
+        fprintf(stderr, "usage: server [SEED [SESSION]]\n");
+        return 2;
+    }
+    const uint64_t seed = count > 1 ? strtoull(words[1], NULL, 10) : 3550;
+    const uint32_t shown = count > 2 ? (uint32_t)strtoul(words[2], NULL, 10) : SESSIONS;
+    struct session *all = begin_all(seed, shown);
+    for (uint32_t at = 0; at < SESSIONS * LENGTH; at++)
+        run_second(&all[at % SESSIONS], (uint64_t)(at / SESSIONS + 1) * SECOND);
+    print_sums(all);
+    end_all(all);
+    time_walks();
+    return 0;
+}
