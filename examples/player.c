@@ -1,14 +1,17 @@
 /* A player that sends a stream of silence and takes part in its RTP session: two UDP sockets, `poll`, and the library.
- * It prints each second what others report of its stream, and leaves with a BYE at ctrl-C.
+ * It prints each second who is there, how their packets come, and what they report of its own. It leaves with a BYE at
+ * ctrl-C.
  *
  *     player SEED RTP-PORT PEER-RTP-PORT      on 127.0.0.1, with RTCP at the ports one above
  */
 #include "jalwedd.h"
 
 #include <arpa/inet.h>
+#include <ctype.h>
 #include <netinet/in.h>
 #include <poll.h>
 #include <signal.h>
+#include <stdbool.h>
 #include <stdio.h>
 #include <stdlib.h>
 #include <string.h>
@@ -16,7 +19,16 @@
 #include <time.h>
 #include <unistd.h>
 
-enum { PACKET = 160, PACKET_TIME = 20000, SECOND = 1000000, MOST_OCTETS = 65535 };
+enum { PACKET = 160, PACKET_TIME = 20000, SECOND = 1000000, MOST_OCTETS = 65535, CNAME = 1, NOTES = 32 };
+
+/* What a source says that the library does not keep. */
+struct note {
+    uint32_t ssrc;
+    char cname[256];
+    bool has_report;
+    jalwedd_report report;              /* its newest one about the player's stream */
+    uint32_t arrival;                   /* when that came: the middle 32 bits of the NTP timestamp */
+};
 
 struct player {
     jalwedd_handle session;
@@ -27,6 +39,8 @@ struct player {
     uint64_t begin;
     uint16_t sequence;
     uint32_t timestamp;
+    struct note notes[NOTES];
+    uint32_t noted;                     /* how many were begun */
 };
 
 static volatile sig_atomic_t is_over;
@@ -96,23 +110,94 @@ static void send_packet(struct player *player, uint64_t now, uint8_t *octets)
     player->timestamp += PACKET;
 }
 
-/* Prints what a datagram says of the stream. */
-static void print_reports(const struct player *player, uint64_t now, const uint8_t *datagram, size_t size)
+/* ---- Who is there */
+
+static struct note *found_note(struct player *player, uint32_t ssrc)
+{
+    for (uint32_t at = 0; at < NOTES && at < player->noted; at++)
+        if (player->notes[at].ssrc == ssrc)
+            return &player->notes[at];
+    return NULL;
+}
+
+/* The note of a source: where there is none yet and no room, that of the oldest is given up. */
+static struct note *note_of(struct player *player, uint32_t ssrc)
+{
+    struct note *note = found_note(player, ssrc);
+    if (note != NULL)
+        return note;
+    note = &player->notes[player->noted++ % NOTES];
+    *note = (struct note){.ssrc = ssrc, .cname = "?"};
+    return note;
+}
+
+/* A CNAME may hold any octets. */
+static void note_cname(struct note *note, const uint8_t *text, size_t size)
+{
+    for (size_t at = 0; at < size; at++)
+        note->cname[at] = isprint(text[at]) ? (char)text[at] : '?';
+    note->cname[size] = '\0';
+}
+
+static void take_cnames(struct player *player, const uint8_t *datagram, size_t size)
+{
+    jalwedd_item_place item;
+    for (uint32_t at = 0; jalwedd_sdes_item(datagram, size, at, &item) == JALWEDD_TAKEN; at++)
+        if (item.kind == CNAME)
+            note_cname(note_of(player, item.ssrc), datagram + item.offset, item.size);
+}
+
+/* How the stream comes to others. */
+static void take_reports(struct player *player, uint64_t now, const uint8_t *datagram, size_t size)
 {
     jalwedd_report report;
     for (uint32_t at = 0; jalwedd_about(datagram, size, player->step.ssrc, at, &report) == JALWEDD_TAKEN; at++) {
-        printf("%.1f s: %08x of %u members reports loss %.1f %%, %d packets in all, jitter %.1f ms", now / 1e6,
-               report.reporter, player->step.members, report.fraction / 2.56, report.lost,
-               report.jitter * 1e3 / player->config.rate);
-        if (report.lsr != 0) {
-            /* below 0 where the other's clock is coarser than the way is long */
-            const uint32_t arrival = (uint32_t)(jalwedd_ntp_of(player->config.ntp_base, now) >> 16);
-            const int32_t trip = (int32_t)jalwedd_round_trip(arrival, report.lsr, report.dlsr);
-            printf(", round trip %.2f ms", trip > 0 ? trip / 65.536 : 0.0);
-        }
-        printf("\n");
+        struct note *note = note_of(player, report.reporter);
+        note->has_report = true;
+        note->report = report;
+        note->arrival = (uint32_t)(jalwedd_ntp_of(player->config.ntp_base, now) >> 16);
     }
 }
+
+static void print_report(const struct note *note)
+{
+    const jalwedd_report *report = &note->report;
+    printf("; reports loss %.1f %%", report->fraction / 2.56);
+    if (report->lsr == 0)
+        return;
+    /* below 0 where the other's clock is coarser than the way is long */
+    const int32_t trip = (int32_t)jalwedd_round_trip(note->arrival, report->lsr, report->dlsr);
+    printf(", round trip %.2f ms", trip > 0 ? trip / 65.536 : 0.0);
+}
+
+static const char *doing(const jalwedd_source_state *source)
+{
+    if (source->member)
+        return source->sender ? "sends" : "listens";
+    return source->left == JALWEDD_NEVER ? "is not yet valid" : "left";
+}
+
+static void print_source(struct player *player, const jalwedd_source_state *source)
+{
+    const struct note *note = found_note(player, source->ssrc);
+    printf("  %08x %s %s: %llu packets received, %d lost, jitter %.1f ms", source->ssrc, note ? note->cname : "?",
+           doing(source), (unsigned long long)source->received, source->lost,
+           source->jitter * 1e3 / player->config.rate);
+    if (note != NULL && note->has_report)
+        print_report(note);
+    printf("\n");
+}
+
+static void print_sources(struct player *player, uint64_t now)
+{
+    jalwedd_source_state source;
+    printf("%.1f s: %u members, of whom %u send\n", now / 1e6, player->step.members, player->step.senders);
+    for (uint64_t from = 0; jalwedd_source(&player->session, from, &source) == JALWEDD_TAKEN;
+         from = (uint64_t)source.ssrc + 1)
+        print_source(player, &source);
+}
+
+/* ---- Turns */
 
 static void receive(struct player *player, int from, uint64_t now, uint8_t *octets)
 {
@@ -128,7 +213,8 @@ static void receive(struct player *player, int from, uint64_t now, uint8_t *octe
     } else {
         jalwedd_arrive_rtcp(&player->session, now, number, random_word(), datagram, (size_t)size, &player->step,
                             octets);
-        print_reports(player, now, datagram, (size_t)size);
+        take_cnames(player, datagram, (size_t)size);
+        take_reports(player, now, datagram, (size_t)size);
     }
     send_out(player, octets);
 }
@@ -149,8 +235,11 @@ static void turn(struct player *player, uint64_t next_packet)
         jalwedd_tick(&player->session, now, random_word(), random_word(), &player->step, octets);
         send_out(player, octets);
     }
-    if (next_packet <= now)
-        send_packet(player, now, octets);
+    if (next_packet > now)
+        return;
+    send_packet(player, now, octets);
+    if (player->sequence % (SECOND / PACKET_TIME) == 0)
+        print_sources(player, now);
 }
 
 static void play(struct player *player)

@@ -1,6 +1,6 @@
 //! A player that sends a stream of silence and takes part in its RTP session: two UDP sockets, a thread that
-//! reads each, and the participant. It prints what others report of its stream, and leaves with a BYE at
-//! ctrl-C. It is the sibling of examples/player.c.
+//! reads each, and the participant. It prints each second who is there, how their packets come, and what they
+//! report of its own. It leaves with a BYE at ctrl-C. It is the sibling of examples/player.c.
 //!
 //!     player SEED RTP-PORT PEER-RTP-PORT      on 127.0.0.1, with RTCP at the ports one above
 #![deny(unsafe_code)]
@@ -9,10 +9,12 @@ mod host;
 #[allow(unsafe_code)]
 mod interrupt;
 mod link;
+mod notes;
 
 use host::{Clock, Words, ntp_now};
-use jalwedd::{Config, Item, ItemKind, Participant, about, ntp_of};
+use jalwedd::{Config, Item, ItemKind, Participant, SourceState, Step, ntp_of};
 use link::{Arrival, Link, Port};
+use notes::{Note, Notes};
 use std::env;
 use std::error::Error;
 use std::time::Duration;
@@ -22,6 +24,8 @@ const PACKET: usize = 160;
 
 /// The microseconds from packet to packet.
 const PACKET_TIME: u64 = 20_000;
+
+const PACKETS_A_SECOND: u16 = 50;
 
 struct Player {
     session: Participant,
@@ -33,6 +37,7 @@ struct Player {
     next_packet: Option<u64>,
     sequence: u16,
     timestamp: u32,
+    notes: Notes,
 }
 
 fn main() -> Result<(), Box<dyn Error>> {
@@ -60,7 +65,8 @@ fn begin(mut words: Words, link: Link) -> Result<Player, Box<dyn Error>> {
     let clock = Clock::begin();
     let tool = Item::new(ItemKind::Tool, b"jalwedd").ok_or("the item is too long")?;
     let (session, _) = Participant::new(&config, b"player@example.com", &[tool], words.draw())?;
-    Ok(Player { session, config, link, clock, words, next_packet: Some(0), sequence: 0, timestamp: 0 })
+    let (next_packet, notes) = (Some(0), Notes::default());
+    Ok(Player { session, config, link, clock, words, next_packet, sequence: 0, timestamp: 0, notes })
 }
 
 impl Player {
@@ -89,6 +95,9 @@ impl Player {
         }
         if self.next_packet.is_some_and(|next| next <= now) {
             self.send_packet(now);
+            if self.sequence.is_multiple_of(PACKETS_A_SECOND) {
+                self.print_sources(now);
+            }
         }
     }
 
@@ -98,27 +107,18 @@ impl Player {
             Port::Rtp => self.link.send_out(self.session.arrive_rtp(now, peer, word, datagram)),
             Port::Rtcp => {
                 self.link.send_out(self.session.arrive_rtcp(now, peer, word, datagram));
-                self.print_reports(now, datagram);
+                let arrival = ntp_of(self.config.ntp_base, now);
+                let _ = self.notes.take(self.session.ssrc(), arrival, datagram); // there are none in a faulty one
             }
         }
     }
 
-    /// Prints what a datagram says of the stream.
-    fn print_reports(&self, now: u64, datagram: &[u8]) {
-        for report in about(datagram, self.session.ssrc()).into_iter().flatten() {
-            print!(
-                "{:.1} s: {:08x} of {} members reports loss {:.1} %, {} packets in all, jitter {:.1} ms",
-                now as f64 / 1e6,
-                report.reporter,
-                self.session.members(),
-                f64::from(report.fraction) / 2.56,
-                report.lost,
-                f64::from(report.jitter) * 1e3 / f64::from(self.config.rate)
-            );
-            if let Some(trip) = report.round_trip(ntp_of(self.config.ntp_base, now)) {
-                print!(", round trip {:.2} ms", trip.as_secs_f64() * 1e3);
-            }
-            println!();
+    /// Prints who is there.
+    fn print_sources(&mut self, now: u64) {
+        let Step { members, senders, .. } = self.session.step();
+        println!("{:.1} s: {members} members, of whom {senders} send", now as f64 / 1e6);
+        for source in self.session.sources() {
+            print_source(&source, self.notes.found(source.ssrc), self.config.rate);
         }
     }
 
@@ -134,5 +134,34 @@ impl Player {
         self.sequence = self.sequence.wrapping_add(1);
         self.timestamp = self.timestamp.wrapping_add(PACKET as u32);
         self.next_packet = self.next_packet.map(|moment| moment + PACKET_TIME);
+    }
+}
+
+fn print_source(source: &SourceState, note: Option<&Note>, rate: u32) {
+    let cname = note.map_or("?", |note| &note.cname);
+    let (received, lost, jitter) = source
+        .reception
+        .map_or((0, 0, 0), |reception| (reception.received, reception.lost, reception.jitter));
+    print!(
+        "  {:08x} {cname} {}: {received} packets received, {lost} lost, jitter {:.1} ms",
+        source.ssrc,
+        doing(source),
+        f64::from(jitter) * 1e3 / f64::from(rate)
+    );
+    if let Some((report, trip)) = note.and_then(|note| note.report) {
+        print!("; reports loss {:.1} %", f64::from(report.fraction) / 2.56);
+        if let Some(trip) = trip {
+            print!(", round trip {:.2} ms", trip.as_secs_f64() * 1e3);
+        }
+    }
+    println!();
+}
+
+fn doing(source: &SourceState) -> &'static str {
+    match (source.is_member, source.is_sender, source.left) {
+        (true, true, _) => "sends",
+        (true, false, _) => "listens",
+        (false, _, None) => "is not yet valid",
+        (false, _, Some(_)) => "left",
     }
 }
