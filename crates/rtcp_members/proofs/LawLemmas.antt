@@ -5,8 +5,9 @@ use Rattle.std.specs.FinMap as finite
 use Rattle.rtcp_wire.specs.declared.fact.Fact.{Fact}
 use Rattle.rtcp_wire.specs.Facts.{subject, is_gone, is_media}
 use Rattle.rtcp_members.specs.Traces.{Horizons, TraceStep, fact_came, check_made, block_taken, names, with_facts}
-use Rattle.rtcp_members.specs.Stays.{present_among, stay_of, IsStay}
-use Rattle.rtcp_members.specs.Entries.{EntryValue, counted_at, members_at, senders_at, sending_of, is_such, is_member, is_sender, entry_at, IsSendingSince, IsSenderAt}
+use Rattle.rtcp_source.specs.Blocks.{block_over}
+use Rattle.rtcp_members.specs.Stays.{mark_of, present_among, stay_of, IsStay}
+use Rattle.rtcp_members.specs.Entries.{EntryValue, given_of, counted_at, members_at, senders_at, sending_of, is_such, is_member, is_sender, entry_at, IsSendingSince, IsSenderAt}
 use Rattle.rtcp_members.specs.Pending.{EntryRow, is_after, first_ssrc, is_due, is_due_at, pending, block_at, block_of_row, after_block, after_blocks}
 use Rattle.rtcp_members.specs.News.{is_due_by, pending_at, pending_rows_at}
 use Rattle.rtcp_members.specs.Roles.{IsSameRole, step_moves, moved_within, facts_move, check_moves}
@@ -22,6 +23,7 @@ use Rattle.rtcp_members.proofs.Crowding.{present_fit}
 use Rattle.rtcp_members.proofs.Naming.{present_is_named}
 use Rattle.std.specs.List.{list_any}
 use Rattle.rtcp_members.proofs.Following.{none_stands, fact_follows, facts_follow, check_follows, len_is_present, count_agrees}
+use Rattle.rtcp_members.proofs.Holding.{held_as_stayed, block_of_stay}
 use Rattle.rtcp_members.proofs.Growing.{members_stay, senders_are_members, members_are_entries, check_adds_no_sender}
 use Rattle.rtcp_members.proofs.NewsOfTraces.{due_at_trace, pending_is_traced, pending_have_rows}
 use Rattle.rtcp_members.proofs.NextDue.{next_is_due}
@@ -74,6 +76,13 @@ counts_agree-senders = λ table trace stands. count_agrees table trace stands is
 pub counts_agree-counted : (table : TableValue) (trace : List TraceStep) (fact : Fact) → StandsAt table trace →
     counted table fact ≡ counted_at table.capacity table.rate trace fact
 counts_agree-counted = counted_agrees
+
+pub tables_hold_stays-held : (table : TableValue) (trace : List TraceStep) (ssrc : ℕ) → StandsAt table trace → is_some (finite.get table.entries ssrc) ≡ is_some (stay_of table.capacity trace ssrc)
+tables_hold_stays-held = held_as_stayed
+
+pub tables_hold_stays-block : (table : TableValue) (trace : List TraceStep) (ssrc t : ℕ) (stay : List TraceStep) → StandsAt table trace → stay_of table.capacity trace ssrc ≡ Some stay →
+    mark_of ssrc stay ≡ None → block_at ssrc t table ≡ block_over ssrc t (given_of table.rate ssrc stay)
+tables_hold_stays-block = block_of_stay
 
 pub bounds_are_kept-fact : (table : TableValue) (fact : Fact) (moment : ℕ) → KeepsBounds table (after_fact fact moment table)
 bounds_are_kept-fact = fact_keeps_bounds

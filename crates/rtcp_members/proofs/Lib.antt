@@ -35,6 +35,7 @@ mod SenderLaws
 mod NewsOfTraces
 mod Agreeing
 mod Growing
+mod Holding
 mod Roles
 mod RoleCounts
 pub mod LawLemmas

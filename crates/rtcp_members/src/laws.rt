@@ -1,14 +1,15 @@
 //! Laws of tables and traces, whatever the table. Each is an empty function whose postcondition is the law;
 //! `proofs/LawLemmas` has a lemma of its name, or one for each clause.
 
-ghost use Rattle.std.specs.Prelude.{◌≡◌, ◌<◌, ◌≤◌, ◌+◌, ◌^◌, if◌then◌else◌, false, All, IfSome, IsTrue, ℕ, List, [], ◌∷◌};
+ghost use Rattle.std.specs.Prelude.{◌≡◌, ◌<◌, ◌≤◌, ◌+◌, ◌^◌, if◌then◌else◌, false, is_some, All, IfSome, IsTrue, ℕ, List, [], ◌∷◌, Some, None};
 ghost use Rattle.std.specs.FinMap as map;
 ghost use Rattle.rtcp_wire.specs.declared.fact.Fact.{Fact};
 ghost use Rattle.rtcp_wire.specs.Facts.{subject, is_gone, is_media};
 ghost use Rattle.rtcp_members.specs.Traces.{Horizons, TraceStep, fact_came, check_made, block_taken, names, with_facts};
-ghost use Rattle.rtcp_members.specs.Stays.{present_among, stay_of};
-ghost use Rattle.rtcp_members.specs.Entries.{counted_at, members_at, senders_at};
-ghost use Rattle.rtcp_members.specs.Pending.{EntryRow, is_due_at, after_block, after_blocks};
+ghost use Rattle.rtcp_source.specs.Blocks.{block_over};
+ghost use Rattle.rtcp_members.specs.Stays.{mark_of, present_among, stay_of};
+ghost use Rattle.rtcp_members.specs.Entries.{counted_at, given_of, members_at, senders_at};
+ghost use Rattle.rtcp_members.specs.Pending.{EntryRow, block_at, is_due_at, after_block, after_blocks};
 ghost use Rattle.rtcp_members.specs.Tables.{TableValue, StandsAt, KeepsBounds, table_at, HasFew, IsFew, no_members, counted, after_fact, after_facts, after_check, members_in, senders_in};
 
 /// The empty table stands at the empty trace. A table that stands at a trace goes with each fact, each check,
@@ -49,6 +50,16 @@ pub fn counts_agree()
         senders_in table ≡ senders_at table.capacity table.rate trace }
     ensures counted { (table : TableValue) (trace : List TraceStep) (fact : Fact) → StandsAt table trace →
         counted table fact ≡ counted_at table.capacity table.rate trace fact }
+{}
+
+/// A table that stands at a trace has an entry of just the sources that have a stay; and the block of one that did not
+/// leave is that of all that its stay gave: its packets, its sender reports and the blocks made of it.
+pub fn tables_hold_stays()
+    ensures held { (table : TableValue) (trace : List TraceStep) (ssrc : ℕ) → StandsAt table trace →
+        is_some (map.get table.entries ssrc) ≡ is_some (stay_of table.capacity trace ssrc) }
+    ensures block { (table : TableValue) (trace : List TraceStep) (ssrc t : ℕ) (stay : List TraceStep) →
+        StandsAt table trace → stay_of table.capacity trace ssrc ≡ Some stay → mark_of ssrc stay ≡ None →
+        block_at ssrc t table ≡ block_over ssrc t (given_of table.rate ssrc stay) }
 {}
 
 /// No step changes how many entries a table may hold, or its rate.
