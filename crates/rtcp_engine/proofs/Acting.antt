@@ -100,7 +100,7 @@ call_keeps : (moment : ℕ) (p : ParticipantValue) (life : Life) → IsAt p life
 call_keeps moment p (present outcome) at = (at.0, calls_agree p.presence outcome moment at.1)
 call_keeps moment p (backing_off outcome backoff) at =
     let still = at.1.still in
-    (at.0, record { timing = at.1.timing; average = at.1.average; still = record { table = still.table; capacity = still.capacity; rate = still.rate; own = still.own } })
+    (at.0, record { timing = at.1.timing; average = at.1.average; still = record { table = still.table; capacity = still.capacity; rate = still.rate; own = still.own; cursor = still.cursor; reports = still.reports } })
 call_keeps moment p (gone outcome) at = at
 
 -- ---- Histories

@@ -267,7 +267,7 @@ pub waits_there : {s w : State} → s ≡ w → (outcome : Outcome) (backoff : B
 waits_there {s} {w} is outcome backoff h = subst (λ (x : State). Waits x outcome backoff) (sym is) h
 
 with_numbers : {s : State} {outcome : Outcome} (timing : Timing) (average : ℕ) → StandsStill s outcome → StandsStill (record s { timing = timing; average = average }) outcome
-with_numbers {s} {outcome} timing average still = record { table = still.table; capacity = still.capacity; rate = still.rate; own = still.own }
+with_numbers {s} {outcome} timing average still = record { table = still.table; capacity = still.capacity; rate = still.rate; own = still.own; cursor = still.cursor; reports = still.reports }
 
 pub bye_due_by : {s w : State} → s ≡ w → (t word td members : ℕ) → IsWaitingInterval w members td → (outcome : Outcome) (backoff : Backoff) → Waits w outcome backoff → members ≡ leaving_count backoff
     → (nat_le s.timing.next t && nat_le (s.timing.last + drawn_interval td word) t) ≡ is_bye_due w.setup t word backoff
@@ -318,7 +318,7 @@ unstarted t outcome = record { since = t; farewells = []; happenings = outcome.h
 pub waits_first : {s w : State} → s ≡ w → (average t : ℕ) → average ≡ leaving_average s.setup [] → (outcome : Outcome) → Agrees w outcome → Waits (record s { average = average }) outcome (unstarted t outcome)
 waits_first {s} {w} is average t average_is outcome agrees =
     let a = seen is outcome agrees in
-    record { timing = a.timing; average = average_is; still = record { table = a.table; capacity = a.capacity; rate = a.rate; own = a.own } }
+    record { timing = a.timing; average = average_is; still = record { table = a.table; capacity = a.capacity; rate = a.rate; own = a.own; cursor = a.cursor; reports = a.reports } }
 
 pub backs_off : {s w : State} → s ≡ w → (average word td : ℕ) (timing : Timing) → average ≡ leaving_average s.setup [] → IsWaitingInterval (record s { average = average }) 1 td → timing ≡ after (transmitted s.last (drawn_interval td word) 1) s.timing
     → (outcome : Outcome) → Agrees w outcome → Waits (record s { average = average; timing = timing }) outcome (backoff_from w.setup w.last word outcome)
@@ -328,7 +328,7 @@ backs_off {s} {w} is average word td timing average_is interval steps =
     (λ outcome a. record {
       timing = steps ∙ ap (λ (d : ℕ). after (transmitted s.last (drawn_interval d word) 1) s.timing) (interval outcome (unstarted s.last outcome) (waits_first {s = s} refl average s.last average_is outcome a) refl);
       average = average_is;
-      still = record { table = a.table; capacity = a.capacity; rate = a.rate; own = a.own };
+      still = record { table = a.table; capacity = a.capacity; rate = a.rate; own = a.own; cursor = a.cursor; reports = a.reports };
     })
 
 pub waiting_load : {s w : State} → s ≡ w → (members avg : ℕ) → avg ≡ s.average → (outcome : Outcome) (backoff : Backoff) → Waits w outcome backoff

@@ -63,7 +63,7 @@ renamed_agrees s o ssrc a = record {
 }
 
 renamed_still : (s : State) (o : Outcome) (ssrc : ℕ) → StandsStill s o → StandsStill (renamed ssrc s) (counted_anew o)
-renamed_still s o ssrc still = record { table = still.table; capacity = still.capacity; rate = still.rate; own = own_agrees s o.own still.own }
+renamed_still s o ssrc still = record { table = still.table; capacity = still.capacity; rate = still.rate; own = own_agrees s o.own still.own; cursor = still.cursor; reports = still.reports }
 
 -- ---- Backoffs
 

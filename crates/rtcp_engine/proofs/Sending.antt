@@ -27,7 +27,7 @@ use Rattle.rtcp_engine.specs.Histories.{History, last_moment, session_of}
 use Rattle.rtcp_engine.specs.Refusals.{refusal_after}
 use Rattle.rtcp_engine.specs.Steps.{OutValue}
 use Rattle.rtcp_engine.specs.Taken.{HasWords, AllTaken}
-use Rattle.rtcp_engine.specs.Leaving.{Farewell, Backoff, Life, present, backing_off, gone, backoff_from, bye_count, few_members, is_bye_due, is_unheard, after_wait, leaving_interval, leaving_timing}
+use Rattle.rtcp_engine.specs.Leaving.{Farewell, Backoff, Life, present, backing_off, gone, backoff_from, bye_count, few_members, is_bye_due, is_unheard, after_wait, leaving_count, leaving_interval, leaving_load, leaving_timing}
 use Rattle.rtcp_engine.specs.Lives.{while_present, while_backing_off, lived, bye_out, out_by, own_bye, report_out, with_new_name}
 use Rattle.rtcp_engine.specs.Sent.{Sent, interval_by, is_report, reports_in, sent_by, sent_over, sent_with}
 use Rattle.rtcp_engine.specs.Spacing.{HalfPasses, newest_moment, leave_moment, first_leave, IsLate}
@@ -212,7 +212,7 @@ tick_by setup t first_word second_word leave now sent true false usable fits due
 tick_by setup t first_word second_word leave now sent false passed usable fits due h = h
 
 -- the BYE with which a participant is gone
-last_bye : (setup : Setup) (leave : Option ℕ) (asked t interval : ℕ) → IsUsable setup → leave ≡ Some asked → HalfPasses asked t interval
+last_bye : (setup : Setup) (leave : Option ℕ) (asked t interval : ℕ) → IsUsable setup → leave ≡ Some asked → (t ≡ asked) ⊎ (HalfPasses asked t interval × (asked + 1026037 ≤ t))
     → IsLast setup.limit leave (record { moment = t; interval = interval; out = bye_out (bye_octets setup); changes = false })
 last_bye setup leave asked t interval usable is passed = record {
   kind = refl;
@@ -226,7 +226,7 @@ leave_by : (setup : Setup) (t u word : ℕ) (leave : Option ℕ) (outcome : Outc
     (sent_with u 0 false (option_map bye_out (if unheard then None else (if few then Some (bye_octets setup) else None))) ++ sent)
 leave_by setup t u word leave outcome sent true few usable order h = inl h.kept
 leave_by setup t u word leave outcome sent false true usable order h =
-    inr (last_bye setup (option_or leave (Some u)) u u 0 usable (ap (λ (l : Option ℕ). option_or l (Some u)) h.stays) (omega arith), h.kept)
+    inr (last_bye setup (option_or leave (Some u)) u u 0 usable (ap (λ (l : Option ℕ). option_or l (Some u)) h.stays) (inl refl), h.kept)
 leave_by setup t u word leave outcome sent false false usable order h = record {
   up_to = one_more (transmitted u _ 1) order h.up_to;
   newest = refl;
@@ -292,9 +292,11 @@ bye_by setup t leave act word outcome backoff sent true usable order fits due h 
     let moment = moment_of act in
     let interval = leaving_interval setup backoff in
     let apart = never_due_too_soon backoff.happenings moment (drawn_interval interval word) h.up_to.in_order (due refl) in
+    let half = half_passes backoff.since moment interval word fits (subst (λ (from : ℕ). from + drawn_interval interval word ≤ moment) h.newest apart) in
+    let least : 2500000 ≤ interval = interval_has_minimum (leaving_load setup (leaving_count backoff) backoff.farewells) in
     inr (
       last_bye setup (option_or leave (leave_moment act)) backoff.since moment interval usable (ap (λ (l : Option ℕ). option_or l (leave_moment act)) h.left_then)
-          (half_passes backoff.since moment interval word fits (subst (λ (from : ℕ). from + drawn_interval interval word ≤ moment) h.newest apart)),
+          (inr (half, omega (arith, half, least))),
       h.kept,
     )
 bye_by setup t leave act word outcome backoff sent false usable order fits due h =

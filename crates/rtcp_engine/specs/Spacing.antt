@@ -1,6 +1,6 @@
 -- How far apart the compounds of a participant lie, and how large they are. Lists are newest first, and moments
 -- and intervals are in microseconds.
-use Rattle.std.specs.Prelude.{ℕ, ◌≡◌, ◌+◌, ◌-◌, ◌*◌, ◌/◌, ◌≤◌, ◌&&◌, not, Bool, true, false, max, List, [], ◌∷◌, length, filter, All, Option, Some, None}
+use Rattle.std.specs.Prelude.{ℕ, ◌≡◌, ◌+◌, ◌-◌, ◌*◌, ◌/◌, ◌≤◌, ◌⊎◌, ◌&&◌, not, Bool, true, false, max, List, [], ◌∷◌, length, filter, All, Option, Some, None}
 use Rattle.std.specs.Option.{option_or}
 use Rattle.rtcp_timer.specs.Averages.{IsBetween}
 use Rattle.rtcp_timer.specs.Departures.{last_departure}
@@ -47,10 +47,12 @@ abbrev pub first_leave : List Act → Option ℕ
 first_leave [] = None
 first_leave (act ∷ earlier) = option_or (first_leave earlier) (leave_moment act)
 
--- A BYE comes after a leave, at once or once half its interval over 1.21828 has passed.
+-- A BYE comes at the moment of a leave; or in a backoff, once half its interval over 1.21828 has passed, which is at
+-- least 1,026,037 microseconds.
 abbrev pub IsLate : (leave : Option ℕ) → Sent → Type 0
 IsLate None bye = ⊥
-IsLate (Some leave) bye = HalfPasses leave bye.moment bye.interval
+IsLate (Some leave) bye =
+    (bye.moment ≡ leave) ⊎ (HalfPasses leave bye.moment bye.interval × (leave + 1026037 ≤ bye.moment))
 
 -- the BYE with which the participant leaves
 abbrev pub is_last_bye : Sent → Bool
@@ -93,8 +95,8 @@ pub record KeepsBounds (history : History) : Type 0 where
   -- In a window of any width at most one more lies than 2,052,074 microseconds fit into it.
   pub window : (from width : ℕ) →
       count_within from width (reports_in (sent_at history)) ≤ 1 + width / 2052074
-  -- There is at most one BYE of leaving, nothing comes after it, and after a backoff it comes no sooner than half
-  -- its interval after the leave, over 1.21828.
+  -- There is at most one BYE of leaving, nothing comes after it, and it comes at the moment of the leave, or after a
+  -- backoff: no sooner than half its interval after the leave, over 1.21828, and than 1,026,037 microseconds.
   pub leaves_once : EndsWithBye (first_leave history.acts) (sent_at history)
   -- At most eight identifiers are given up with a BYE.
   pub few_changes : HasFewChanges (sent_at history)

@@ -92,12 +92,14 @@ Moves old others_changed step =
 abbrev pub HasOthers : State → (others : Bool) → Type 0
 HasOthers state others = (outcome : Outcome) → Agrees state outcome → others ≡ has_others state.setup outcome
 
--- In a backoff the table and the own stream stand still: they are those of the outcome at the leave.
+-- In a backoff the table, the own stream and the reports stand still: they are those of the outcome at the leave.
 pub record StandsStill (state : State) (outcome : Outcome) : Type 0 where
   pub table : IsTableAt state.table outcome.trace
   pub capacity : state.table.capacity ≡ state.setup.capacity
   pub rate : state.table.rate ≡ state.setup.rate
   pub own : state.own ≡ own_of outcome.own
+  pub cursor : state.cursor ≡ last_reported_in outcome.trace
+  pub reports : state.reports ≡ length outcome.reports
 
 -- The numbers of one that backs off.
 pub record Waits (state : State) (outcome : Outcome) (backoff : Backoff) : Type 0 where

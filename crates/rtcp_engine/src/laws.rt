@@ -101,8 +101,8 @@ pub fn last_lies_after_what_was_sent()
 /// Whatever a participant is told, and whenever, what it sends keeps these bounds: two successive reports lie at least
 /// half the interval then computed for the later one apart, over 1.21828, and none comes before 1,026,037
 /// microseconds; so in a window of some width at most one report more lies than 2,052,074 microseconds fit into it
-/// (RFC 3550, 6.3.1, 6.3.6). The BYE of leaving is the last compound, and after a backoff it comes no sooner than half
-/// its interval after the leave, over 1.21828 (6.3.7). At most eight identifiers are given up with a BYE (8.2). No
+/// (RFC 3550, 6.3.1, 6.3.6). The BYE of leaving is the last compound. It comes at the moment of the leave, or after a
+/// backoff: no sooner than half its interval after the leave, over 1.21828, and than 1,026,037 microseconds (6.3.7). At most eight identifiers are given up with a BYE (8.2). No
 /// compound passes the limit.
 pub fn sent_compounds_keep_apart()
     ensures { (history : History) → IsHistory history → KeepsBounds history }
