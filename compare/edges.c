@@ -241,6 +241,69 @@ static int sources(void)
     return 0;
 }
 
+enum { BOTH = 7 };
+
+static jalwedd_source_state listed(uint32_t ssrc, uint32_t member, uint32_t sender, uint64_t left)
+{
+    return (jalwedd_source_state){.ssrc = ssrc, .member = member, .sender = sender, .left = left};
+}
+
+static int is_told(const jalwedd_source_state *before, const jalwedd_source_state *after, uint64_t from,
+                   jalwedd_role_change wanted)
+{
+    jalwedd_role_change change = {99, 99, 99, 99};
+    return jalwedd_change(before, BOTH, after, BOTH, from, &change) == JALWEDD_TAKEN
+           && memcmp(&change, &wanted, sizeof change) == 0;
+}
+
+/* What changed: 1 timed out, 2 left, 3 began to send, 4 stopped, 5 became valid, and the last joined; 6 stayed, 7 was
+ * dropped on probation, and 8 came on probation. */
+static int changes(void)
+{
+    const uint64_t stays = JALWEDD_NEVER;
+    const jalwedd_source_state before[BOTH] = {listed(1, 1, 0, stays), listed(2, 1, 1, stays), listed(3, 1, 0, stays),
+                                               listed(4, 1, 1, stays), listed(5, 0, 0, stays), listed(6, 1, 0, stays),
+                                               listed(7, 0, 0, stays)};
+    const jalwedd_source_state after[BOTH] = {listed(2, 0, 0, 5), listed(3, 1, 1, stays), listed(4, 1, 0, stays),
+                                              listed(5, 1, 0, stays), listed(6, 1, 0, stays), listed(8, 0, 0, stays),
+                                              listed(UINT32_MAX, 1, 0, stays)};
+    jalwedd_role_change change = {99, 99, 99, 99};
+    HOLDS(is_told(before, after, 0, (jalwedd_role_change){1, JALWEDD_MEMBER, JALWEDD_AWAY, 0}));
+    HOLDS(is_told(before, after, 1, (jalwedd_role_change){1, JALWEDD_MEMBER, JALWEDD_AWAY, 0}));
+    HOLDS(is_told(before, after, 2, (jalwedd_role_change){2, JALWEDD_SENDER, JALWEDD_AWAY, 1}));
+    HOLDS(is_told(before, after, 3, (jalwedd_role_change){3, JALWEDD_MEMBER, JALWEDD_SENDER, 0}));
+    HOLDS(is_told(before, after, 4, (jalwedd_role_change){4, JALWEDD_SENDER, JALWEDD_MEMBER, 0}));
+    HOLDS(is_told(before, after, 5, (jalwedd_role_change){5, JALWEDD_AWAY, JALWEDD_MEMBER, 0}));
+    HOLDS(is_told(before, after, 6, (jalwedd_role_change){UINT32_MAX, JALWEDD_AWAY, JALWEDD_MEMBER, 0}));
+    HOLDS(is_told(before, after, UINT32_MAX, (jalwedd_role_change){UINT32_MAX, JALWEDD_AWAY, JALWEDD_MEMBER, 0}));
+    HOLDS(jalwedd_change(before, BOTH, after, BOTH, (uint64_t)UINT32_MAX + 1, &change) == JALWEDD_NO_CHANGE);
+    HOLDS(jalwedd_change(before, BOTH, after, BOTH, UINT64_MAX, &change) == JALWEDD_NO_CHANGE && change.ssrc == 99);
+    HOLDS(jalwedd_change(before, BOTH, before, BOTH, 0, &change) == JALWEDD_NO_CHANGE && change.left == 99);
+    return 0;
+}
+
+/* Listings of nobody, such as do not rise, and numbers that no call told. */
+static int listings(void)
+{
+    const jalwedd_source_state one = listed(1, 1, 0, JALWEDD_NEVER), higher = listed(3, 1, 0, JALWEDD_NEVER);
+    const jalwedd_source_state twice[2] = {one, one}, falling[2] = {higher, one}, strange = listed(1, 7, UINT32_MAX, 0);
+    jalwedd_source_state *none = calloc(1, 1);
+    jalwedd_role_change change = {99, 99, 99, 99};
+    HOLDS(jalwedd_change(none, 0, none, 0, 0, &change) == JALWEDD_NO_CHANGE && change.ssrc == 99);
+    HOLDS(jalwedd_change(twice, 2, &one, 1, 0, &change) == JALWEDD_NOT_RISING && change.ssrc == 99);
+    HOLDS(jalwedd_change(&one, 1, twice, 2, 0, &change) == JALWEDD_NOT_RISING && change.is == 99);
+    HOLDS(jalwedd_change(falling, 2, &one, 1, 0, &change) == JALWEDD_NOT_RISING && change.was == 99);
+    HOLDS(jalwedd_change(&one, 1, falling, 2, UINT64_MAX, &change) == JALWEDD_NOT_RISING && change.left == 99);
+    HOLDS(jalwedd_change(none, 0, &one, 1, 0, &change) == JALWEDD_TAKEN && change.ssrc == 1);
+    HOLDS(change.was == JALWEDD_AWAY && change.is == JALWEDD_MEMBER && change.left == 0);
+    HOLDS(jalwedd_change(&one, 1, none, 0, 0, &change) == JALWEDD_TAKEN && change.ssrc == 1);
+    HOLDS(change.was == JALWEDD_MEMBER && change.is == JALWEDD_AWAY && change.left == 0);
+    HOLDS(jalwedd_change(&one, 1, &strange, 1, 0, &change) == JALWEDD_TAKEN && change.is == JALWEDD_SENDER);
+    HOLDS(change.left == 1);
+    free(none);
+    return 0;
+}
+
 /* Memory is refused as a participant begins, at the first block and at the second, which leaves nothing behind; and then
  * there are just these two, which its end gives back. */
 static int memory(void)
@@ -270,5 +333,6 @@ static int memory(void)
 
 int main(void)
 {
-    return empty() || begun() || lengths() || reports() || parts() || no_parts() || sources() || memory();
+    return empty() || begun() || lengths() || reports() || parts() || no_parts() || sources() || changes() || listings()
+           || memory();
 }

@@ -15,7 +15,7 @@
  *
  * WHAT THE HOST HAS TO KEEP, and nothing tests:
  * - Each pointer is valid, aligned, and not NULL, also one whose size is 0.
- * - What a call writes (handle, step, octets, fault, report) lies apart from all else that it is given.
+ * - What a call writes (all that is not const) lies apart from all else that it is given.
  * - One call at a time uses a handle. Several handles may be used side by side.
  * - A handle is neither copied nor changed, and is freed before it goes away.
  *
@@ -55,6 +55,8 @@ enum {
     JALWEDD_NO_BLOCK = 8,       /* jalwedd_about: there is no such block */
     JALWEDD_NO_PART = 8,        /* jalwedd_sender, _block, _sdes_item, _goodbye: no such part */
     JALWEDD_NO_SOURCE = 9,      /* jalwedd_source: there is no such source */
+    JALWEDD_NO_CHANGE = 9,      /* jalwedd_change: no other source changed */
+    JALWEDD_NOT_RISING = 10,    /* jalwedd_change: the SSRCs of a listing do not rise */
 
     /* A configuration that is refused: the first of these that applies, but that a CNAME of more than 255 octets and
      * more than 7 items come before the others. */
@@ -185,6 +187,18 @@ typedef struct jalwedd_source_state {
     uint32_t sender;        /* 1 if it sends RTP packets, else 0 */
 } jalwedd_source_state;
 
+/* What part a source takes in a session: none, as it is not there, not yet valid, or left; or that of a member (6.2.1)
+ * that does not send RTP packets, or does. */
+enum { JALWEDD_AWAY = 0, JALWEDD_MEMBER = 1, JALWEDD_SENDER = 2 };
+
+/* A source whose role is another one than before. */
+typedef struct jalwedd_role_change {
+    uint32_t ssrc;
+    uint32_t was;           /* its role before */
+    uint32_t is;            /* its role now */
+    uint32_t left;          /* 1 if it said goodbye, as far as is known of it now, else 0 */
+} jalwedd_role_change;
+
 /* ---- A participant */
 
 /* Puts a participant of a session that begins now, at moment 0, into an empty handle. `word` is for the draw of the
@@ -243,6 +257,23 @@ uint32_t jalwedd_entries(jalwedd_handle *handle);
  * where there is no such source, once the participant leaves, and for an empty handle.
  * Statuses: TAKEN; NO_SOURCE. */
 uint32_t jalwedd_source(jalwedd_handle *handle, uint64_t from, jalwedd_source_state *source);
+
+/* ---- Listings */
+
+/* Tells of the sources whose roles differ in two listings the one of least SSRC from `from` on. A listing is what
+ * jalwedd_source told of each source, one after the other. Begin with 0, and go on with (uint64_t)ssrc + 1 until the
+ * status is not TAKEN: then each change was told once. `change` is left as it is then.
+ *
+ *     for (from = 0; jalwedd_change(before, before_count, after, after_count, from, &change) == JALWEDD_TAKEN;
+ *          from = (uint64_t)change.ssrc + 1)
+ *         if (change.was == JALWEDD_AWAY)      joined(change.ssrc);
+ *         else if (change.is == JALWEDD_AWAY)  gone(change.ssrc, change.left ? "by a BYE" : "silent for too long");
+ *
+ * A source that said goodbye is held for 5 seconds at least: between listings that are less than that apart, a member
+ * that left by a BYE is told as such. One that came and went between them is not told.
+ * Statuses: TAKEN; NO_CHANGE; NOT_RISING. */
+uint32_t jalwedd_change(const jalwedd_source_state *before, size_t before_count, const jalwedd_source_state *after,
+                        size_t after_count, uint64_t from, jalwedd_role_change *change);
 
 /* ---- Datagrams */
 

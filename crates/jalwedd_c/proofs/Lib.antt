@@ -2,3 +2,5 @@ pub mod Host
 pub mod Refusals
 pub mod Values
 mod Options
+mod Listing
+mod Turns

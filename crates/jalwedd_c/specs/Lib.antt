@@ -6,3 +6,4 @@ pub mod Configs
 pub mod Readings
 pub mod Parts
 pub mod Sources
+pub mod Changes

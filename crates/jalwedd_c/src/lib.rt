@@ -2,9 +2,10 @@
 //! include/jalwedd.h. A host has a [`Handle`], zeros at first, and gives it to each call; a call answers a status,
 //! and writes a [`Step`] whatever that is. docs/EMBEDDING.md shows a host.
 //!
-//! Statuses: 0 taken; 1 to 7 a call that the participant refused, by E1 to E7, of which 5 is also a datagram that is
-//! no compound; 8 no such block, or no such other part of a datagram; 9 no such source; 11 to 16 a configuration that
-//! is refused, by C1 to C6; 20 a handle that holds no participant; 21 one that holds one already; 22 no memory.
+//! Statuses: 0 taken; 1 to 7 a call that the participant refused, by E1 to E7, of which 5 is also a datagram
+//! that is no compound; 8 no such block, or no such other part of a datagram; 9 no such source, or no other one
+//! that changed; 10 a listing whose SSRCs do not rise; 11 to 16 a configuration that is refused, by C1 to C6;
+//! 20 a handle that holds no participant; 21 one that holds one already; 22 no memory.
 //!
 //! Nobody proves a C caller, so no call asks for anything of values: moments out of order, too many calls and bad
 //! configurations are statuses. What a caller has to keep, and nothing tests: that pointers are valid for the sizes
@@ -16,8 +17,10 @@
 
 mod begin;
 mod calls;
+mod change;
 mod config;
 mod handle;
+pub mod laws;
 mod owned;
 mod parts;
 mod reading;
@@ -30,6 +33,7 @@ mod step;
 mod tests;
 mod views;
 
+pub use change::RoleChange;
 pub use config::{Config, Item};
 pub use handle::Handle;
 pub use owned::Owned;

@@ -21,6 +21,12 @@ pub(crate) const NO_PART: u32 = 8;
 /// There is no such source.
 pub(crate) const NO_SOURCE: u32 = 9;
 
+/// No other source changed.
+pub(crate) const NO_CHANGE: u32 = 9;
+
+/// The SSRCs of a listing do not rise.
+pub(crate) const NOT_RISING: u32 = 10;
+
 /// The CNAME is refused (C1).
 pub(crate) const CNAME: u32 = 11;
 

@@ -14,6 +14,8 @@ use crate::views::{
 use std::alloc::Global;
 use std::test::*;
 
+mod changes;
+
 const CONFIG: Config = Config {
     ntp_base: 0,
     ssrc: 0xaa,

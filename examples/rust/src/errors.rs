@@ -113,3 +113,15 @@ impl fmt::Display for Fault {
 }
 
 impl Error for Fault {}
+
+/// A listing does not have its sources by rising SSRC, each once.
+#[derive(Clone, Copy, Debug, PartialEq, Eq)]
+pub struct NotRising;
+
+impl fmt::Display for NotRising {
+    fn fmt(&self, to: &mut fmt::Formatter<'_>) -> fmt::Result {
+        to.write_str("a listing does not have its sources by rising SSRC, each once")
+    }
+}
+
+impl Error for NotRising {}

@@ -21,14 +21,16 @@
 //! each call returns.
 #![warn(missing_docs)]
 
+mod changes;
 mod datagram;
 mod errors;
 mod parts;
 mod sources;
 pub mod sys;
 
+pub use changes::{Change, Changes, Role, changes};
 pub use datagram::{Report, Reports, about, check, ntp_of, round_trip};
-pub use errors::{Fault, FaultReason, NewError, Refusal};
+pub use errors::{Fault, FaultReason, NewError, NotRising, Refusal};
 pub use parts::{Goodbye, Parts, SdesItem, SenderReport, blocks, goodbyes, items, senders};
 pub use sources::{Reception, SourceState, Sources, Told};
 use std::fmt;

@@ -75,7 +75,8 @@ impl Iterator for Sources<'_> {
 
 impl SourceState {
     fn of(source: &sys::jalwedd_source_state) -> SourceState {
-        let sys::jalwedd_source_state { heard, left, told, ntp, received, lost, highest, jitter, .. } = *source;
+        let sys::jalwedd_source_state { heard, left, told, ntp, received, lost, highest, jitter, .. } =
+            *source;
         SourceState {
             ssrc: source.ssrc,
             is_member: source.member != 0,
@@ -84,6 +85,17 @@ impl SourceState {
             heard,
             reception: (received != 0).then_some(Reception { received, lost, highest, jitter }),
             told: (told != sys::JALWEDD_NEVER).then_some(Told { ntp, moment: told }),
+        }
+    }
+
+    /// What [`sys::jalwedd_change`] reads of a source.
+    pub(crate) fn listed(&self) -> sys::jalwedd_source_state {
+        sys::jalwedd_source_state {
+            left: self.left.unwrap_or(sys::JALWEDD_NEVER),
+            ssrc: self.ssrc,
+            member: u32::from(self.is_member),
+            sender: u32::from(self.is_sender),
+            ..sys::jalwedd_source_state::default()
         }
     }
 }

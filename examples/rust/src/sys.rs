@@ -18,6 +18,8 @@ pub const JALWEDD_OWN_SSRC: u32 = 7;
 pub const JALWEDD_NO_BLOCK: u32 = 8;
 pub const JALWEDD_NO_PART: u32 = 8;
 pub const JALWEDD_NO_SOURCE: u32 = 9;
+pub const JALWEDD_NO_CHANGE: u32 = 9;
+pub const JALWEDD_NOT_RISING: u32 = 10;
 pub const JALWEDD_CNAME: u32 = 11;
 pub const JALWEDD_CAPACITY: u32 = 12;
 pub const JALWEDD_LIMIT: u32 = 13;
@@ -143,6 +145,19 @@ pub struct jalwedd_source_state {
     pub sender: u32,
 }
 
+pub const JALWEDD_AWAY: u32 = 0;
+pub const JALWEDD_MEMBER: u32 = 1;
+pub const JALWEDD_SENDER: u32 = 2;
+
+#[repr(C)]
+#[derive(Clone, Copy, Default)]
+pub struct jalwedd_role_change {
+    pub ssrc: u32,
+    pub was: u32,
+    pub is: u32,
+    pub left: u32,
+}
+
 unsafe extern "C" {
     // ---- A participant
 
@@ -214,10 +229,17 @@ unsafe extern "C" {
 
     pub fn jalwedd_entries(handle: *mut jalwedd_handle) -> u32;
 
-    pub fn jalwedd_source(
-        handle: *mut jalwedd_handle,
+    pub fn jalwedd_source(handle: *mut jalwedd_handle, from: u64, source: *mut jalwedd_source_state) -> u32;
+
+    // ---- Listings
+
+    pub fn jalwedd_change(
+        before: *const jalwedd_source_state,
+        before_count: usize,
+        after: *const jalwedd_source_state,
+        after_count: usize,
         from: u64,
-        source: *mut jalwedd_source_state,
+        change: *mut jalwedd_role_change,
     ) -> u32;
 
     // ---- Datagrams

@@ -28,6 +28,7 @@ fn structures() {
     assert_layout!(jalwedd_goodbye_place, 24, 8, offset: 0, size: 8, ssrc: 16, has_reason: 20);
     assert_layout!(jalwedd_source_state, 64, 8, heard: 0, left: 8, told: 16, ntp: 24, received: 32, lost: 40,
         highest: 44, jitter: 48, ssrc: 52, member: 56, sender: 60);
+    assert_layout!(jalwedd_role_change, 16, 4, ssrc: 0, was: 4, is: 8, left: 12);
 }
 
 #[test]

@@ -2,7 +2,8 @@
 //! hand in compare/rows.py.
 
 use jalwedd::{
-    Answer, Config, Item, ItemKind, Kind, NewError, Participant, Reception, Refusal, SourceState, Step, Told, sys,
+    Answer, Config, Item, ItemKind, Kind, NewError, Participant, Reception, Refusal, SourceState, Step, Told,
+    sys,
 };
 use std::thread;
 

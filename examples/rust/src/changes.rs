@@ -1,0 +1,150 @@
+//! What changed between two listings of the sources of a session.
+
+use crate::errors::NotRising;
+use crate::sources::SourceState;
+use crate::sys;
+use std::fmt;
+
+/// The sources whose roles differ in two listings, by rising SSRC, each once: who joined, who left and how,
+/// who began to send and who stopped. A listing is what [`crate::Participant::sources`] gives. A source that
+/// said goodbye is held for 5 seconds at least: between listings that are less than that apart, a member that
+/// left by a BYE is told as such. One that came and went between them is not told.
+///
+/// ```
+/// # use jalwedd::{Config, Participant};
+/// # let (sender_bw, receiver_bw) = (100, 300);
+/// # let config =
+/// #     Config { ntp_base: 0, ssrc: 0xaa, capacity: 9, limit: 1472, sender_bw, receiver_bw, rate: 8000 };
+/// # let (mut session, _) = Participant::new(&config, b"a", &[], 0)?;
+/// # let datagram = [0x80, 0xc9, 0, 1, 0, 0, 0, 7, 0x81, 0xca, 0, 2, 0, 0, 0, 7, 1, 1, 0x61, 0];
+/// let before: Vec<_> = session.sources().collect();
+/// session.arrive_rtcp(0, 1, 0, &datagram)?; // a report of source 7, with its CNAME
+/// let after: Vec<_> = session.sources().collect();
+/// for change in jalwedd::changes(&before, &after)? {
+///     assert!(change.ssrc == 7 && change.joined());
+/// }
+/// # Ok::<(), Box<dyn std::error::Error>>(())
+/// ```
+pub fn changes(before: &[SourceState], after: &[SourceState]) -> Result<Changes, NotRising> {
+    let listed = |listing: &[SourceState]| listing.iter().map(SourceState::listed).collect();
+    let changes = Changes { before: listed(before), after: listed(after), from: 0 };
+    match changes.ask().0 {
+        sys::JALWEDD_NOT_RISING => Err(NotRising),
+        _ => Ok(changes),
+    }
+}
+
+/// The changes between two listings.
+#[derive(Clone)]
+pub struct Changes {
+    before: Vec<sys::jalwedd_source_state>,
+    after: Vec<sys::jalwedd_source_state>,
+    from: u64,
+}
+
+impl Changes {
+    /// The status of the call, and the change of least SSRC of those that are left.
+    fn ask(&self) -> (u32, sys::jalwedd_role_change) {
+        let (before, after) = (self.before.as_slice(), self.after.as_slice());
+        let mut change = sys::jalwedd_role_change::default();
+        // SAFETY: the pointers are those of slices and of a reference, so valid, aligned and not NULL. What is
+        // written lies apart.
+        let status = unsafe {
+            sys::jalwedd_change(
+                before.as_ptr(),
+                before.len(),
+                after.as_ptr(),
+                after.len(),
+                self.from,
+                &mut change,
+            )
+        };
+        (status, change)
+    }
+}
+
+impl Iterator for Changes {
+    type Item = Change;
+
+    fn next(&mut self) -> Option<Change> {
+        let (status, change) = self.ask();
+        if status != sys::JALWEDD_TAKEN {
+            return None;
+        }
+        self.from = u64::from(change.ssrc) + 1;
+        let sys::jalwedd_role_change { ssrc, was, is, left } = change;
+        Some(Change { ssrc, was: Role::of(was), is: Role::of(is), has_left: left != 0 })
+    }
+}
+
+impl fmt::Debug for Changes {
+    fn fmt(&self, to: &mut fmt::Formatter<'_>) -> fmt::Result {
+        to.debug_list().entries(self.clone()).finish()
+    }
+}
+
+/// What part a source takes in a session.
+#[derive(Clone, Copy, Debug, PartialEq, Eq)]
+pub enum Role {
+    /// None: it is not there, not yet valid, or it left.
+    Away,
+    /// It is a member, and does not send RTP packets.
+    Member,
+    /// It is a member, and sends RTP packets.
+    Sender,
+}
+
+impl Role {
+    fn of(number: u32) -> Role {
+        match number {
+            sys::JALWEDD_AWAY => Role::Away,
+            sys::JALWEDD_MEMBER => Role::Member,
+            sys::JALWEDD_SENDER => Role::Sender,
+            other => unreachable!("the library gave {other} for a role"),
+        }
+    }
+}
+
+/// A source whose role is another one than before.
+#[derive(Clone, Copy, Debug, PartialEq, Eq)]
+pub struct Change {
+    /// Its SSRC.
+    pub ssrc: u32,
+    /// Its role before.
+    pub was: Role,
+    /// Its role now.
+    pub is: Role,
+    /// Whether it said goodbye, as far as is known of it now.
+    pub has_left: bool,
+}
+
+impl Change {
+    /// Whether it takes part now, and did not before.
+    pub fn joined(&self) -> bool {
+        self.was == Role::Away && self.is != Role::Away
+    }
+
+    /// Whether it took part, and left with a BYE (RFC 3550, 6.3.4).
+    pub fn left(&self) -> bool {
+        self.has_left && self.is_gone()
+    }
+
+    /// Whether it took part, and was dropped without a BYE, since it was not heard for long (6.3.5).
+    pub fn timed_out(&self) -> bool {
+        !self.has_left && self.is_gone()
+    }
+
+    /// Whether it sends now, and did not before.
+    pub fn began_to_send(&self) -> bool {
+        self.was != Role::Sender && self.is == Role::Sender
+    }
+
+    /// Whether it sent, and does not send now: it stays without sending, or it is gone.
+    pub fn stopped_sending(&self) -> bool {
+        self.was == Role::Sender && self.is != Role::Sender
+    }
+
+    fn is_gone(&self) -> bool {
+        self.was != Role::Away && self.is == Role::Away
+    }
+}
