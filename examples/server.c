@@ -135,16 +135,13 @@ static void take_changes(struct session *session)
     const struct listing before = session->listing;
     const struct listing *after = &session->listing;
     jalwedd_role_change change;
-    bool is_any = false;
     list(&session->participant, &session->listing);
     for (uint64_t from = 0; jalwedd_change(before.sources, before.count, after->sources, after->count, from, &change)
          == JALWEDD_TAKEN; from = (uint64_t)change.ssrc + 1) {
         happened(session, event_of(&change), change.ssrc);
         compare(session, "an earlier role", change.was, role_in(&session->roles, change.ssrc));
         move_role(&session->roles, &change);
-        is_any = true;
     }
-    compare(session, "others changed", session->step.others_changed, is_any);
 }
 
 /* Goes by what a call told. A compound that it hands out would go to all members here. */
@@ -182,6 +179,7 @@ static void tick(struct session *session)
                                                       &session->step, octets), JALWEDD_TAKEN);
     take_step(session);
     know_tick(&session->known, session->now);
+    compare(session, "others changed", session->step.others_changed, session->known.others_changed);
 }
 
 /* Tells the participant what came, if anything. */
@@ -196,6 +194,7 @@ static void hear(struct session *session)
         &session->participant, session->now, came.peer, word, came.octets, came.size, &session->step, octets);
     take_step(session);
     compare(session, "status", status, know_datagram(&session->known, session->now, &came, word));
+    compare(session, "others changed", session->step.others_changed, session->known.others_changed);
 }
 
 /* In each fourth session the server says something as each minute begins: a packet a second, for ten seconds. */
@@ -208,6 +207,7 @@ static void speak(struct session *session)
     jalwedd_sent_rtp(&session->participant, session->now, (uint32_t)(second * RATE), 160, &session->step, octets);
     take_step(session);
     know_sent(&session->known, session->now);
+    compare(session, "others changed", session->step.others_changed, session->known.others_changed);
 }
 
 /* ---- The comparison */

@@ -88,7 +88,7 @@ static struct known_source *admitted(struct known *known, uint32_t ssrc)
     return source;
 }
 
-/* What the datagram says of a source that is present and not marked. */
+/* What the datagram says of a source that is present and not marked, but for its goodbye. */
 static void take_facts(struct known_source *source, uint64_t now, const struct datagram *datagram)
 {
     source->sighted = now;
@@ -99,8 +99,6 @@ static void take_facts(struct known_source *source, uint64_t now, const struct d
         source->ntp = datagram->ntp;
     }
     source->is_named |= datagram->is_named;
-    if (datagram->is_bye)
-        source->left = now;
 }
 
 /* Whether the datagram changes the participant's SSRC. */
@@ -118,6 +116,7 @@ static bool gives_way(struct known *known, uint64_t peer, uint32_t word)
 
 uint32_t know_datagram(struct known *known, uint64_t now, const struct datagram *datagram, uint32_t word)
 {
+    known->others_changed = false;
     if (datagram->is_damaged)
         return datagram->is_rtp ? JALWEDD_NO_RTP : JALWEDD_NO_COMPOUND;
     if (datagram->ssrc == known->ssrc && !gives_way(known, datagram->peer, word))
@@ -129,7 +128,11 @@ uint32_t know_datagram(struct known *known, uint64_t now, const struct datagram 
         return JALWEDD_TAKEN;
     const uint32_t was = role_of(source);
     take_facts(source, now, datagram);
+    const uint32_t before_bye = role_of(source);
+    if (datagram->is_bye)
+        source->left = now;
     const uint32_t is = role_of(source);
+    known->others_changed = before_bye != was || is != before_bye;
     known->tally[JOINED] += was == JALWEDD_AWAY && is != JALWEDD_AWAY;
     known->tally[LEFT] += was != JALWEDD_AWAY && is == JALWEDD_AWAY;
     known->tally[BEGAN] += was == JALWEDD_MEMBER && is == JALWEDD_SENDER;
@@ -140,6 +143,7 @@ void know_sent(struct known *known, uint64_t now)
 {
     known->sent = now;
     known->sends = true;
+    known->others_changed = false;
 }
 
 /* ---- Checks (6.3.5, 6.3.7) */
@@ -153,6 +157,7 @@ void know_tick(struct known *known, uint64_t now)
 {
     const uint64_t silent = before(now, 5 * TD), idle = before(now, 2 * TD), gone = before(now + 1, HOLD);
     uint32_t kept = 0;
+    known->others_changed = false;
     for (uint32_t at = 0; at < known->count; at++) {
         struct known_source source = known->sources[at];
         const uint32_t was = role_of(&source);
@@ -160,6 +165,7 @@ void know_tick(struct known *known, uint64_t now)
         source.sends &= source.counted >= idle;
         known->tally[TIMED_OUT] += is_dropped && was != JALWEDD_AWAY;
         known->tally[STOPPED] += !is_dropped && was != role_of(&source);
+        known->others_changed |= was != (is_dropped ? JALWEDD_AWAY : role_of(&source));
         known->sources[kept] = source;
         kept += !is_dropped;
     }

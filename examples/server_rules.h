@@ -29,6 +29,7 @@ struct known {
     uint64_t peers[MOST_CHANGES];       /* whose datagrams changed its SSRC */
     uint32_t ssrc, count, changes;
     bool sends;
+    bool others_changed;                /* whether a role did, if only for a moment of the last call */
     uint32_t tally[EVENTS];             /* how often each happened */
 };
 

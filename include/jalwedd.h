@@ -177,9 +177,9 @@ typedef struct jalwedd_source_state {
     uint64_t left;          /* when it said goodbye, or JALWEDD_NEVER */
     uint64_t told;          /* when its last sender report came, or JALWEDD_NEVER */
     uint64_t ntp;           /* the NTP timestamp of that report, or 0 */
-    uint64_t received;      /* how many of its packets were counted, late and repeated ones included. Where none was, it
-                               is 0, and so are the next three */
-    int32_t lost;           /* how many were lost: negative where packets came twice */
+    uint64_t received;      /* how many of its packets were counted, late and repeated ones included, since it came or
+                               its sequence numbers jumped (A.1). Where none was, it is 0, and so are the next three */
+    int32_t lost;           /* how many were lost since then: negative where packets came twice */
     uint32_t highest;       /* the highest sequence number in the low 16 bits, and above them how often they wrapped */
     uint32_t jitter;        /* the jitter of their arrival, in units of their RTP timestamps */
     uint32_t ssrc;

@@ -22,7 +22,8 @@ pub struct Source {
     pub told: u64,
     /// The NTP timestamp of that report, or 0.
     pub ntp: u64,
-    /// How many of its packets were counted: 0 where none was, and then the next three are 0 too.
+    /// How many of its packets were counted, since it came or its sequence numbers jumped: 0 where none was, and then
+    /// the next three are 0 too.
     pub received: u64,
     /// How many were lost.
     pub lost: i32,

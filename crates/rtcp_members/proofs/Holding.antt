@@ -1,5 +1,5 @@
 -- What a table holds of a source is what the stay of the source says.
-use Rattle.std.proofs.Common.{◌≡◌, ℕ, Bool, true, false, if◌then◌else◌, List, [], ◌∷◌, Option, Some, None, is_some, option_map, option_and_then, refl, sym, ap, ◌∙◌}
+use Rattle.std.proofs.Common.{◌≡◌, ℕ, if◌then◌else◌, List, [], ◌∷◌, Option, Some, None, is_some, option_map, option_and_then, refl, ap, ◌∙◌}
 use Rattle.std.specs.FinMap as finite
 use Rattle.rtcp_wire.specs.Values.{ReportBlock}
 use Rattle.rtcp_source.specs.Blocks.{block_for, block_over}

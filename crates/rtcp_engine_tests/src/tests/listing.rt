@@ -53,8 +53,8 @@ pub(crate) fn none_from_the_leave_on<T: InlineTable + Drop>(rt: &impl Abort) {
 
 /// A compound in which source 5 gives its name, and leaves.
 const CAME_AND_LEFT: [u8; 28] = [
-    0x80, 0xc9, 0, 1, 0, 0, 0, 5, 0x81, 0xca, 0, 2, 0, 0, 0, 5, 1, 1, 0x61, 0, 0x81, 0xcb, 0, 1, 0, 0,
-    0, 5,
+    0x80, 0xc9, 0, 1, 0, 0, 0, 5, 0x81, 0xca, 0, 2, 0, 0, 0, 5, 1, 1, 0x61, 0, 0x81, 0xcb, 0, 1, 0,
+    0, 0, 5,
 ];
 
 /// What arrives changes the others where one becomes a member, begins to send or leaves, and be it for a moment.
@@ -93,5 +93,7 @@ pub(crate) fn checks_and_leaves_change_others<T: InlineTable + Drop>(rt: &impl A
     assert_eq!(rt; session.participant.entries(), 0);
     session.named(25_000_023, 7).others_changed(rt, true);
     session.leave(25_000_023, 0).others_changed(rt, true);
-    Session::<T>::usual(rt).leave(0, 0).others_changed(rt, false);
+    Session::<T>::usual(rt)
+        .leave(0, 0)
+        .others_changed(rt, false);
 }
