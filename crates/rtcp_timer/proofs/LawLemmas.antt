@@ -1,15 +1,16 @@
 -- The laws of `laws.rt`, as lemmas that crates above can cite: LAW, or LAW-CLAUSE for a law with several clauses.
-use Rattle.std.proofs.Common.{◌≡◌, ℕ, ◌+◌, ◌*◌, ◌^◌, ◌<◌, ◌≤◌, max, List, All}
+use Rattle.std.proofs.Common.{◌≡◌, ℕ, ◌+◌, ◌-◌, ◌*◌, ◌^◌, ◌<◌, ◌≤◌, max, min, true, false, List, All}
 use Rattle.rtcp_clock.specs.Intervals.{drawn_interval}
 use Rattle.rtcp_timer.specs.declared.load.Load.{Load}
 use Rattle.rtcp_timer.specs.Averages.{with_headers, average_of, IsBetween}
-use Rattle.rtcp_timer.specs.Loads.{minimum_of, interval_of, KeepsToShare}
+use Rattle.rtcp_timer.specs.Loads.{minimum_of, interval_for, interval_of, KeepsToShare}
 use Rattle.rtcp_timer.specs.Quarters.{quarterly_interval}
 use Rattle.rtcp_timer.specs.Schedules.{Happening, transmitted, tried, recounted, Timing, IsDue, IsInOrder, IsWithin, after, schedule_at, newest_moment, newest_transmission, greatest_draw}
 use Rattle.rtcp_timer.specs.Departures.{members_known, last_departure, last_moment, next_moment}
 use Rattle.rtcp_timer.proofs.Averaging
 use Rattle.rtcp_timer.proofs.Quarters.{by_quarters}
 use Rattle.rtcp_timer.proofs.Sharing
+use Rattle.rtcp_timer.proofs.Sides.{of_a_sender, of_another}
 use Rattle.rtcp_timer.proofs.Following
 use Rattle.rtcp_timer.proofs.Bounding
 
@@ -29,6 +30,14 @@ interval_has_minimum = Sharing.has_minimum
 
 pub quarters_are_shared : (load : Load) → load.receiver_bw ≡ 3 * load.sender_bw → 1 ≤ load.sender_bw → interval_of load ≡ quarterly_interval (4 * load.sender_bw) load
 quarters_are_shared = by_quarters
+
+pub senders_have_the_shorter_interval-senders : (load : Load) → 1 ≤ load.sender_bw → 1 ≤ load.receiver_bw → load.senders ≤ load.members → load.we_sent ≡ true
+    → interval_of load ≡ max (minimum_of load.initial) (min (interval_for load.senders load.sender_bw load) (interval_for load.members (load.sender_bw + load.receiver_bw) load))
+senders_have_the_shorter_interval-senders = of_a_sender
+
+pub senders_have_the_shorter_interval-others : (load : Load) → 1 ≤ load.sender_bw → 1 ≤ load.receiver_bw → load.senders ≤ load.members → load.we_sent ≡ false
+    → interval_of load ≡ max (minimum_of load.initial) (max (interval_for (load.members - load.senders) load.receiver_bw load) (interval_for load.members (load.sender_bw + load.receiver_bw) load))
+senders_have_the_shorter_interval-others = of_another
 
 pub interval_is_least : (load : Load) (interval : ℕ) → 1 ≤ load.sender_bw → 1 ≤ load.receiver_bw → minimum_of load.initial ≤ interval →
     KeepsToShare load interval → interval_of load ≤ interval

@@ -3,6 +3,7 @@ mod Quarters
 mod Quotients
 mod Averaging
 mod Sharing
+mod Sides
 mod Cases
 mod Bounding
 mod Following

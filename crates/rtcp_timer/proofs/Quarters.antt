@@ -4,7 +4,7 @@ use Rattle.std.specs.Int.{div_ceil}
 use Rattle.std.proofs.Math.Nat.{le_antisymm, le_trans, mul-le-mul_right}
 use Rattle.std.proofs.lemmas.Bool.{cases_lt, le-leb, lt-leb}
 use Rattle.rtcp_timer.specs.declared.load.Load.{Load}
-use Rattle.rtcp_timer.specs.Loads.{Sharers, the_senders, the_others, everyone, sharers_of, count_of, bandwidth_of, interval_at_share, minimum_of, interval_of}
+use Rattle.rtcp_timer.specs.Loads.{Sharers, the_senders, the_others, everyone, interval_at_share, minimum_of, interval_of}
 use Rattle.rtcp_timer.specs.Quarters.{interval_at_quarters, quarterly_interval}
 use Rattle.rtcp_timer.proofs.Quotients.{div_ceil_covers, div_ceil_least}
 
@@ -44,7 +44,7 @@ others_part count avg bandwidth some = part (1000000 * count * avg) (256 * (3 * 
 whole : (count avg bandwidth : ℕ) → 1 ≤ bandwidth → div_ceil (1000000 * count * avg) (256 * (bandwidth + 3 * bandwidth)) ≡ div_ceil (4 * 1000000 * count * avg) (4 * 256 * (4 * bandwidth))
 whole count avg bandwidth some = part (1000000 * count * avg) (256 * (bandwidth + 3 * bandwidth)) _ _ (omega (arith, some)) (grind arith) (grind arith)
 
-abbrev chosen : (few we_sent : Bool) → Load → Sharers
+abbrev pub chosen : (few we_sent : Bool) → Load → Sharers
 chosen few we_sent load = if few then (if we_sent then the_senders else the_others) else everyone
 
 abbrev quarterly : (few we_sent : Bool) → Load → ℕ

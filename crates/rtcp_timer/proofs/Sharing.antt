@@ -1,5 +1,5 @@
 -- The deterministic interval is the least that its minimum and the bandwidth allow.
-use Rattle.std.proofs.Common.{ℕ, ◌+◌, ◌*◌, ◌<◌, ◌≤◌, arith}
+use Rattle.std.proofs.Common.{ℕ, ◌*◌, ◌<◌, ◌≤◌, arith}
 use Rattle.std.proofs.Math.Nat.{le_trans, le-max_left, le-max_right, max-le, mul-le-mul_right}
 use Rattle.rtcp_timer.specs.declared.load.Load.{Load}
 use Rattle.rtcp_timer.specs.Loads.{Sharers, the_senders, the_others, everyone, sharers_of, count_of, bandwidth_of, interval_at_share, minimum_of, interval_of, KeepsToShare}

@@ -30,10 +30,13 @@ bandwidth_of the_senders load = load.sender_bw
 bandwidth_of the_others load = load.receiver_bw
 bandwidth_of everyone load = load.sender_bw + load.receiver_bw
 
--- the interval in which their part of the bandwidth carries one compound of average size from each of them
+-- the interval in which a bandwidth carries one compound of average size from each of so many
+abbrev pub interval_for : (count bandwidth : ℕ) → Load → ℕ
+interval_for count bandwidth load = div_ceil (1000000 * count * load.avg) (256 * bandwidth)
+
+-- that of the sharers and their part of the bandwidth
 abbrev pub interval_at_share : Sharers → Load → ℕ
-interval_at_share sharers load =
-    div_ceil (1000000 * count_of sharers load * load.avg) (256 * bandwidth_of sharers load)
+interval_at_share sharers load = interval_for (count_of sharers load) (bandwidth_of sharers load) load
 
 -- the minimum, which is half as long before the first report (6.2)
 abbrev pub minimum_of : (initial : Bool) → ℕ

@@ -1,11 +1,11 @@
 //! Laws of the average, the interval and the schedule. Each is an empty function whose postcondition is the
 //! law.
 
-ghost use Rattle.std.specs.Prelude.{ℕ, ◌≡◌, ◌+◌, ◌*◌, ◌^◌, ◌<◌, ◌≤◌, max, List, All};
+ghost use Rattle.std.specs.Prelude.{ℕ, ◌≡◌, ◌+◌, ◌-◌, ◌*◌, ◌^◌, ◌<◌, ◌≤◌, max, min, true, false, List, All};
 ghost use Rattle.rtcp_clock.specs.Intervals.{drawn_interval};
 ghost use Rattle.rtcp_timer.specs.Averages.{with_headers, average_of, IsBetween};
 ghost use Rattle.rtcp_timer.specs.declared.load.Load.{Load};
-ghost use Rattle.rtcp_timer.specs.Loads.{minimum_of, interval_of, KeepsToShare};
+ghost use Rattle.rtcp_timer.specs.Loads.{minimum_of, interval_for, interval_of, KeepsToShare};
 ghost use Rattle.rtcp_timer.specs.Quarters.{quarterly_interval};
 ghost use Rattle.rtcp_timer.specs.Schedules.{Happening, transmitted, tried, recounted, Timing, IsDue, IsInOrder, IsWithin, after, schedule_at, newest_moment, newest_transmission, greatest_draw};
 ghost use Rattle.rtcp_timer.specs.Departures.{members_known, last_departure, last_moment, next_moment};
@@ -29,6 +29,20 @@ pub fn interval_keeps_to_share()
 pub fn quarters_are_shared()
     ensures { (load : Load) → load.receiver_bw ≡ 3 * load.sender_bw → 1 ≤ load.sender_bw →
         interval_of load ≡ quarterly_interval (4 * load.sender_bw) load }
+{}
+
+/// Without a word of who shares with whom: a sender has the shorter of two intervals, that in which the senders'
+/// bandwidth carries a compound of each sender and that in which both carry one of each member; another has the longer
+/// of the latter and that in which the others' bandwidth carries one of each of them (RFC 3550, 6.2; RFC 3556).
+pub fn senders_have_the_shorter_interval()
+    ensures senders { (load : Load) → 1 ≤ load.sender_bw → 1 ≤ load.receiver_bw → load.senders ≤ load.members →
+        load.we_sent ≡ true → interval_of load ≡ max (minimum_of load.initial)
+        (min (interval_for load.senders load.sender_bw load)
+        (interval_for load.members (load.sender_bw + load.receiver_bw) load)) }
+    ensures others { (load : Load) → 1 ≤ load.sender_bw → 1 ≤ load.receiver_bw → load.senders ≤ load.members →
+        load.we_sent ≡ false → interval_of load ≡ max (minimum_of load.initial)
+        (max (interval_for (load.members - load.senders) load.receiver_bw load)
+        (interval_for load.members (load.sender_bw + load.receiver_bw) load)) }
 {}
 
 /// The deterministic interval is never below the minimum, by its definition (RFC 3550, 6.2).
