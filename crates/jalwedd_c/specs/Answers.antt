@@ -1,5 +1,5 @@
 -- How answers are told to a host in C: a status, a step, and the octets of a compound.
-use Rattle.std.specs.Prelude.{ℕ, ◌≡◌, ◌^◌, ◌-◌, ◌++◌, List, [], length, drop, Bool, true, false, Option, Some, None, Ok, Err, is_some}
+use Rattle.std.specs.Prelude.{ℕ, ◌≡◌, ◌↔◌, ◌^◌, ◌-◌, ◌++◌, List, [], length, drop, Bool, true, false, Option, Some, None, Ok, Err, is_some}
 use Rattle.rtcp_engine.specs.declared.refusal.Refusal.{Refusal}
 use Rattle.rtcp_engine.specs.declared.refusal.Refusal.TheVariants.{Left, Backwards, TooFar, TooMany, Wire, Rtp, OwnSsrc}
 use Rattle.rtcp_engine.specs.declared.step.OutKind.{OutKind}
@@ -76,12 +76,14 @@ abbrev pub moment_shown : Option ℕ → ℕ
 moment_shown None = 2 ^ 64 - 1
 moment_shown (Some moment) = moment
 
--- A step says who is there after a history, and when to ask again.
+-- A step says who is there after a history, and when to ask again: 2^64 - 1 exactly where the participant has left, and
+-- there is no moment to ask.
 abbrev pub Shows : Step → History → Type 0
 Shows step history =
     (step.members ≡ members_in_life (setup_at history) (life_at history))
     × (step.senders ≡ senders_in_life (setup_at history) (life_at history))
     × (step.next ≡ moment_shown (next_in_life (life_at history)))
+    × ((step.next ≡ 2 ^ 64 - 1) ↔ (next_in_life (life_at history) ≡ None))
     × (step.ssrc ≡ (setup_at history).ssrc)
     × (step.entries ≡ entries_in_life (setup_at history) (life_at history))
 

@@ -1,6 +1,6 @@
 //! A participant of a session, up to its leave and through it (RFC 3550, 6.2, 6.3).
 
-ghost use Rattle.std.specs.Prelude.{option_map, ◌≡◌, ◌↔◌, ◌≤◌, ◌<◌, List, Result, Some, None, Err, IfOk, IsTrue, OnErr, is_some};
+ghost use Rattle.std.specs.Prelude.{option_map, ◌≡◌, ◌↔◌, ◌≤◌, ◌<◌, ◌^◌, List, Result, Some, None, Err, IfOk, IfSome, IsTrue, OnErr, is_some};
 ghost use Rattle.rtcp_wire.specs.declared.fault.WireFault.{WireFault as Fault};
 ghost use Rattle.rtcp_wire.specs.declared.rtp.fault.RtpFault.{RtpFault as HeadFault};
 ghost use Rattle.rtcp_wire.specs.Values.{RtcpPacket};
@@ -170,10 +170,12 @@ impl<T: MemberTable> Participant<T> {
         Sources::none()
     }
 
-    /// When to call `tick` next, in microseconds since the session began: `None` once the participant has left.
+    /// When to call `tick` next, in microseconds since the session began, below 2^51: `None` once the participant has
+    /// left.
     pub fn next(&self) -> Option<u64>
-        ensures { (history : History) → StandsAt self.now history →
+        ensures exact { (history : History) → StandsAt self.now history →
             result ≡ next_in_life (life_at history) }
+        ensures bounded { IfSome result (λ next. next < 2 ^ 51) }
     {
         match self.phase {
             Phase::Present | Phase::BackingOff(_) => Some(self.presence.next_moment()),

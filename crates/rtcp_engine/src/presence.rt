@@ -148,7 +148,8 @@ impl<T: MemberTable> Presence<T> {
     }
 
     pub(crate) fn next_moment(&self) -> u64
-        ensures { result ≡ self.now.timing.next }
+        ensures exact { result ≡ self.now.timing.next }
+        ensures bounded { result < 2 ^ 51 }
     {
         self.schedule.next()
     }

@@ -31,14 +31,14 @@ pub struct Schedule {
 }
 
 impl Model for Schedule {
-    ghost use Rattle.std.specs.Prelude.{◌≤◌, ◌^◌};
+    ghost use Rattle.std.specs.Prelude.{◌<◌, ◌≤◌, ◌^◌};
     ghost use Rattle.rtcp_timer.specs.Schedules.{Timing};
 
     ghost Value = { Timing };
 
     ghost view = { λ s. record { last = s.last; next = s.next; known = s.known } };
 
-    ghost invariant = { λ schedule. schedule.last ≤ 2 ^ 50 };
+    ghost invariant = { λ schedule. (schedule.last ≤ 2 ^ 50) × (schedule.next < 2 ^ 51) };
 }
 
 impl Schedule {
@@ -135,9 +135,10 @@ impl Schedule {
         self.known = members;
     }
 
-    /// The moment of the next transmission, tn (RFC 3550, 6.3). Call `expire` then.
+    /// The moment of the next transmission, tn (RFC 3550, 6.3), below 2^51. Call `expire` then.
     pub fn next(&self) -> u64
-        ensures { result ≡ self.now.next }
+        ensures exact { result ≡ self.now.next }
+        ensures bounded { result < 2 ^ 51 }
     {
         self.next
     }

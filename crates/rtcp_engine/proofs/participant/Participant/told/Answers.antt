@@ -29,7 +29,7 @@ returns-in-Present-clause-exact g c octets life at =
       members = c.member_count.ensures.exact outcome agrees i;
       senders = c.sender_count.ensures outcome agrees i;
       entries = (c.entries.ensures ∙ entries_agree s outcome agrees) i;
-      next = Some ((c.next_moment.ensures ∙ ap (λ (timing : Timing). timing.next) agrees.timing) i);
+      next = Some ((c.next_moment.ensures.exact ∙ ap (λ (timing : Timing). timing.next) agrees.timing) i);
       changed = None;
       others_changed = brought.others_changed;
     }) life (inside_at c.self.view_is life at)

@@ -16,7 +16,7 @@ turns-init g c = record {
 pub returns-then-is_none-clause-leads : goal.returns-then-is_none-clause-leads
 returns-then-is_none-clause-leads g c = λ reader total s reads holds stage turns.
     let (calls, t, leads, held, stage', turns', leaving') = c.turns.invariant.leads reader total s reads holds stage turns in
-    (calls, t, leads, held, (stage', inl (none_left (next_at t) (ap is_some (sym (c.next.ensures t.history held.participant)) ∙ c.is_none.ensures ∙ ap not c.if-is_none.true))), leaving')
+    (calls, t, leads, held, (stage', inl (none_left (next_at t) (ap is_some (sym (c.next.ensures.exact t.history held.participant)) ∙ c.is_none.ensures ∙ ap not c.if-is_none.true))), leaving')
 
 pub returns-then-is_none-clause-room : goal.returns-then-is_none-clause-room
 returns-then-is_none-clause-room g c = λ more room.
@@ -29,7 +29,7 @@ pub returns-in_err-turn-clause-leads : goal.returns-in_err-turn-clause-leads
 returns-in_err-turn-clause-leads g c = λ reader total s reads holds stage turns.
     let (calls, t, leads, held, stage', turns', leaving') = c.turns.invariant.leads reader total s reads holds stage turns in
     let left = c.args.turns - (c.turns.counter + 1) in
-    let has : HasTurn left t = record { resting = stage'; there = ap is_some (sym (c.next.ensures t.history held.participant)) ∙ c.is_none.ensures ∙ ap not c.if-is_none.false; turns = omega (arith, turns', c.turns-test.true) } in
+    let has : HasTurn left t = record { resting = stage'; there = ap is_some (sym (c.next.ensures.exact t.history held.participant)) ∙ c.is_none.ensures ∙ ap not c.if-is_none.false; turns = omega (arith, turns', c.turns-test.true) } in
     let (more, u, on, held', ends, turns'', leaving'') = c.turn.ensures.leads reader total left t reads held has in
     let exit = err_from_is_err_and c.from_residual.result c.from_residual.ensures.1 in
     let ended_by : u.stage ≡ ended c.in_err-turn.field-0.0 = subst (λ r. Reaches resting r u) c.in_err-turn.was ends in
@@ -47,7 +47,7 @@ turns-preserved g c = record {
   leads = λ reader total s reads holds stage turns.
       let (calls, t, leads, held, stage', turns', leaving') = c.turns.invariant.leads reader total s reads holds stage turns in
       let left = c.args.turns - (c.turns.counter + 1) in
-      let has : HasTurn left t = record { resting = stage'; there = ap is_some (sym (c.next.ensures t.history held.participant)) ∙ c.is_none.ensures ∙ ap not c.if-is_none.false; turns = omega (arith, turns', c.turns-test.true) } in
+      let has : HasTurn left t = record { resting = stage'; there = ap is_some (sym (c.next.ensures.exact t.history held.participant)) ∙ c.is_none.ensures ∙ ap not c.if-is_none.false; turns = omega (arith, turns', c.turns-test.true) } in
       let (more, u, on, held', ends, turns'', leaving'') = c.turn.ensures.leads reader total left t reads held has in
       let rests : u.stage ≡ resting = subst (λ r. Reaches resting r u) c.in_ok-turn.was ends in
       (_, u, leads_on reader total calls more s t u _ _ _ leads on, held', rests, omega (arith, turns', turns'', c.turns-test.true), leaving'' ∙ leaving');
