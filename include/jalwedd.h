@@ -122,8 +122,8 @@ typedef struct jalwedd_step {
     uint32_t kind;          /* what the call hands out: send it now, in one datagram, to the other participants */
     uint32_t size;          /* its octets */
     uint32_t entries;       /* as jalwedd_entries: config.capacity of them fill the table */
-    uint32_t others_changed;    /* 1 if the call changed who of the others is a member or who of them sends, if only for a
-                               moment: then jalwedd_source lists them anew. Else 0, and each has the role that it had */
+    uint32_t others_changed; /* 1 if the call changed who of the others is a member or who of them sends, if only for
+                               a moment: then jalwedd_source lists them anew. Else 0, and each has the role it had */
 } jalwedd_step;
 
 /* Why a datagram is not a compound. */
@@ -246,9 +246,10 @@ uint32_t jalwedd_senders(jalwedd_handle *handle);
 uint64_t jalwedd_next(jalwedd_handle *handle);
 uint32_t jalwedd_ssrc(jalwedd_handle *handle);
 
-/* How many places of the participant's table are taken: by members, by sources that are not yet valid, and by those that
- * left and are held for a while. As many as config.capacity say that it is full, as under a flood of invented SSRCs:
- * then no other source is taken up until one is dropped. 0 once the participant leaves, and for an empty handle. */
+/* How many places of the participant's table are taken: by members, by sources that are not yet valid, and by those
+ * that left and are held for a while. As many as config.capacity say that it is full, as under a flood of invented
+ * SSRCs: then no other source is taken up until one is dropped. 0 once the participant leaves, and for an empty
+ * handle. */
 uint32_t jalwedd_entries(jalwedd_handle *handle);
 
 /* Tells what is known of the source of least SSRC from `from` on: of members, of those that are not yet valid, and of
@@ -270,7 +271,8 @@ uint32_t jalwedd_source(jalwedd_handle *handle, uint64_t from, jalwedd_source_st
  *         else if (change.is == JALWEDD_AWAY)  gone(change.ssrc, change.left ? "by a BYE" : "silent for too long");
  *
  * A source that said goodbye is held for 5 seconds at least: between listings that are less than that apart, a member
- * that left by a BYE is told as such. One that came and went between them is not told.
+ * that left by a BYE is told as such. One that came and went between them is not told. Once the participant leaves its
+ * listing is empty, and says nothing of the others.
  * Statuses: TAKEN; NO_CHANGE; NOT_RISING. */
 uint32_t jalwedd_change(const jalwedd_source_state *before, size_t before_count, const jalwedd_source_state *after,
                         size_t after_count, uint64_t from, jalwedd_role_change *change);

@@ -9,8 +9,8 @@ use Rattle.jalwedd_c.specs.declared.change.RoleChange.{RoleChange}
 use Rattle.jalwedd_c.specs.declared.source.Source.{Source}
 use Rattle.jalwedd_c.specs.Answers.{one_if}
 
--- What a host's structure says of a source: any number but 0 says yes, and any moment but 2^64 - 1 says that it
--- left.
+-- What a host's structure says of a source: any number but 0 says yes, and any moment but 2^64 - 1 says that
+-- it left.
 abbrev pub listed_by : Source → ListedValue
 listed_by source =
     record {

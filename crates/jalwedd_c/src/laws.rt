@@ -17,8 +17,8 @@ pub fn told_sources_are_listed()
         IfSome state.left (λ left. left < 2 ^ 64 - 1) → listed_by shown ≡ listed_of state }
 {}
 
-/// Begun with 0, and gone on with the SSRC told and 1, the changes between two listings are told one after the
-/// other, each once.
+/// Begun with 0, and gone on with the SSRC told and 1, the changes between two listings are told in order,
+/// each once.
 pub fn changes_are_told_in_turn()
     ensures first { (before after : List Source) →
         change_from 0 before after ≡ slice_get (changes_between before after) 0 }

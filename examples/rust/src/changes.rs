@@ -47,8 +47,8 @@ impl Changes {
     fn ask(&self) -> (u32, sys::jalwedd_role_change) {
         let (before, after) = (self.before.as_slice(), self.after.as_slice());
         let mut change = sys::jalwedd_role_change::default();
-        // SAFETY: the pointers are those of slices and of a reference, so valid, aligned and not NULL. What is
-        // written lies apart.
+        // SAFETY: the pointers are those of slices and of a reference, so valid, aligned and not NULL. What
+        // is written lies apart.
         let status = unsafe {
             sys::jalwedd_change(
                 before.as_ptr(),

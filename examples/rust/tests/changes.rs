@@ -35,8 +35,8 @@ fn all(before: &[SourceState], after: &[SourceState]) -> Result<Vec<Change>, Not
     changes(before, after).map(Iterator::collect)
 }
 
-/// 1 timed out, 2 left, 3 began to send, 4 stopped, 5 came on probation, 6 is valid now, and 7 stays. The last
-/// came.
+/// 1 timed out, 2 left, 3 began to send, 4 stopped, 5 came on probation, 6 is valid now, and 7 stays. The
+/// greatest SSRC joined.
 #[test]
 fn each_kind_of_change() {
     use Role::{Away, Member, Sender};

@@ -68,8 +68,8 @@ fn are(rt: &impl Abort, before: &[Source], after: &[Source], wanted: &[RoleChang
     assert!(rt; told(before, after, from) == (9, UNTOLD));
 }
 
-/// 1 timed out, 2 left, 3 began to send, 4 stopped, 5 came on probation, 6 is valid now, and 7 stays. The last
-/// came.
+/// 1 timed out, 2 left, 3 began to send, 4 stopped, 5 came on probation, 6 is valid now, and 7 stays. The
+/// greatest SSRC joined.
 #[test]
 fn each_kind_of_change(rt: HostRuntime) {
     let before = [
@@ -136,8 +136,8 @@ fn listings_that_do_not_rise(rt: HostRuntime) {
     assert!(rt; statuses == [(10, UNTOLD); 4]);
 }
 
-/// A host may have written any number: each but 0 is as 1, and no moment but 2^64 - 1 says that a source did not
-/// leave.
+/// A host may have written any number: each but 0 is as 1, and no moment but 2^64 - 1 says that a source did
+/// not leave.
 #[test]
 fn other_numbers(rt: HostRuntime) {
     let listed = Source {
