@@ -44,8 +44,8 @@ abbrev pub one_if : Bool → ℕ
 one_if true = 1
 one_if false = 0
 
--- What an answer hands out: its kind, its size, whether it changes the identifier and whether the role of another source,
--- and its octets, which stand at the start of the host's; the others of these are as they were.
+-- What an answer hands out: its kind, its size, whether it changes the identifier and whether the role of
+-- another source, and its octets, which stand at the start of the host's; the others of these are as they were.
 abbrev pub IsHandedOut : (kind size changed others_changed : ℕ) → (before after : List ℕ) → AnswerValue → Type 0
 IsHandedOut kind size changed others_changed before after (Ok answer) =
     (kind ≡ kind_shown answer.out)

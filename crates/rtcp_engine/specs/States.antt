@@ -193,7 +193,8 @@ refusal_by moment participant =
 
 -- A participant whose call was counted does as its session does with an act, hands this out, and says whether the act
 -- changed who of the others is there or sends.
-pub record Acts (old new : ParticipantValue) (act : Act) (out : Option OutValue) (others_changed : Bool) : Type 0 where
+pub record Acts
+    (old new : ParticipantValue) (act : Act) (out : Option OutValue) (others_changed : Bool) : Type 0 where
   pub stays : Stays old.presence new.presence
   pub changes : new.changes ≡ old.changes
   pub lives : (life : Life) → IsAt old life → IsAt new (lived old.presence.setup act life)

@@ -34,8 +34,8 @@ pub fn changes_lead_to_the_later()
         changed (changes before after) (role_in before) ssrc ≡ role_in after ssrc }
 {}
 
-/// Where a call does not say that the others changed, each source is a member and sends where it was and did before it: so
-/// who lists the sources only after calls that say so misses no change.
+/// Where a call does not say that the others changed, each source is a member and sends where it was and did
+/// before it: so who lists the sources only after calls that say so misses no change.
 pub fn others_change_where_told()
     ensures { (history : History) (act : Act) → (step_by history act).others_changed ≡ false → (ssrc : ℕ) →
         IsSameRole (entry_in_life (setup_at history) (life_at history) ssrc)

@@ -47,9 +47,9 @@ pub fn refused_acts_are_forgotten()
         followed_by history act ≡ with_act history act }
 {}
 
-/// The identifier that a change takes is free, as far as the participant can tell: it is none of its own so far, no
-/// source of its table has it, and the datagram that brings the change does not name it (RFC 3550, 8.2). It is the first
-/// such one from the random word on.
+/// The identifier that a change takes is free, as far as the participant can tell: it is none of its own so
+/// far, no source of its table has it, and the datagram that brings the change does not name it (RFC 3550,
+/// 8.2). It is the first such one from the random word on.
 pub fn new_identifiers_are_free()
     ensures free { (history : History) (datagram : Datagram) (word : ℕ) → IsHistory history → word < 2 ^ 32 →
         NamesFew datagram → let session = session_at history in
@@ -98,12 +98,13 @@ pub fn last_lies_after_what_was_sent()
         LiesAfter backoff.since backoff.happenings (leaving_timing backoff) }
 {}
 
-/// Whatever a participant is told, and whenever, what it sends keeps these bounds: two successive reports lie at least
-/// half the interval then computed for the later one apart, over 1.21828, and none comes before 1,026,037
-/// microseconds; so in a window of some width at most one report more lies than 2,052,074 microseconds fit into it
-/// (RFC 3550, 6.3.1, 6.3.6). The BYE of leaving is the last compound. It comes at the moment of the leave, or after a
-/// backoff: no sooner than half its interval after the leave, over 1.21828, and than 1,026,037 microseconds (6.3.7). At most eight identifiers are given up with a BYE (8.2). No
-/// compound passes the limit.
+/// Whatever a participant is told, and whenever, what it sends keeps these bounds: two successive reports lie
+/// at least half the interval then computed for the later one apart, over 1.21828, and none comes before
+/// 1,026,037 microseconds; so in a window of some width at most one report more lies than 2,052,074
+/// microseconds fit into it (RFC 3550, 6.3.1, 6.3.6). The BYE of leaving is the last compound. It comes at the
+/// moment of the leave, or after a backoff: no sooner than half its interval after the leave, over 1.21828, and
+/// than 1,026,037 microseconds (6.3.7). At most eight identifiers are given up with a BYE (8.2). No compound
+/// passes the limit.
 pub fn sent_compounds_keep_apart()
     ensures { (history : History) → IsHistory history → KeepsBounds history }
 {}

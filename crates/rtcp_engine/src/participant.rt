@@ -146,9 +146,10 @@ impl<T: MemberTable> Participant<T> {
         }
     }
 
-    /// How many places of the table are taken: by members, by sources that are not yet valid, and by those that left and
-    /// are held for a while. As many as the configuration's `capacity` say that the table is full, as under a flood of
-    /// invented SSRCs: then no other source is taken up until a check drops one. 0 once the participant leaves.
+    /// How many places of the table are taken: by members, by sources that are not yet valid, and by those that
+    /// left and are held for a while. As many as the configuration's `capacity` say that the table is full, as
+    /// under a flood of invented SSRCs: then no other source is taken up until a check drops one. 0 once the
+    /// participant leaves.
     pub fn entries(&self) -> u32
         ensures { (history : History) → StandsAt self.now history →
             result ≡ entries_in_life (setup_at history) (life_at history) }

@@ -43,9 +43,9 @@ pub struct Step {
     pub next: Option<u64>,
     /// The participant's new SSRC, where the call changed it (RFC 3550, 8.2).
     pub changed: Option<u32>,
-    /// Whether the call changed the [`Role`](crate::Role) of another source, if only for a moment of the call. Where it
-    /// did not, each source that [`Participant::sources`](crate::Participant::sources) tells of has the role that it
-    /// had. A leave changes it of each member, as nobody is told of from then on.
+    /// Whether the call changed the [`Role`](crate::Role) of another source, if only for a moment of the call.
+    /// Where it did not, each source that [`Participant::sources`](crate::Participant::sources) tells of has
+    /// the role that it had. A leave changes it of each member, as nobody is told of from then on.
     pub others_changed: bool,
     /// A compound to send now, if there is one. A datagram brings one where it changes the identifier
     /// (`changed`): the BYE of the old one.

@@ -80,7 +80,8 @@ told_in_stay rate ssrc stay =
     }
 
 -- It is told of the source of least SSRC above `after` that is present.
-pub record IsNextTold (after : Option ℕ) (capacity rate : ℕ) (trace : List TraceStep) (state : StateValue) : Type 0 where
+pub record IsNextTold
+    (after : Option ℕ) (capacity rate : ℕ) (trace : List TraceStep) (state : StateValue) : Type 0 where
   pub above : is_after after state.ssrc ≡ true
   pub least : (ssrc : ℕ) → is_after after ssrc ≡ true → ssrc < state.ssrc → stay_of capacity trace ssrc ≡ None
   pub stay : List TraceStep

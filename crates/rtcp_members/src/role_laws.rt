@@ -7,9 +7,9 @@ ghost use Rattle.rtcp_members.specs.Entries.{entry_at, members_at};
 ghost use Rattle.rtcp_members.specs.Tables.{TableValue, StandsAt};
 ghost use Rattle.rtcp_members.specs.Roles.{IsSameRole, step_moves, moved_within, facts_move, check_moves};
 
-/// A step changes who is a member or who sends exactly where it changes how many are members or how many send; and
-/// where none of the newest steps does, who is a member and who sends is as it was before them. A block changes neither. Where there
-/// is no member, no source is one.
+/// A step changes who is a member or who sends exactly where it changes how many are members or how many send;
+/// and where none of the newest steps does, who is a member and who sends is as it was before them. A block
+/// changes neither. Where there is no member, no source is one.
 pub fn roles_move_with_counts()
     ensures kept { (capacity rate : ℕ) (step : TraceStep) (earlier : List TraceStep) →
         step_moves capacity rate step earlier ≡ false → (ssrc : ℕ) →
