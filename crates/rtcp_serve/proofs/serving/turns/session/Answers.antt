@@ -26,7 +26,7 @@ returns-then-is_none g c = record {
   serves = λ reader s reads holds stage turns leaving.
       let (calls, t, leads, held, ends, kept) = c.make_turns.ensures.leads reader c.args.turns s reads holds stage turns in
       let (rests, over) : EndsTurns (Ok c.in_ok-make_turns.field-0) t = subst (λ r. EndsTurns r t) c.in_ok-make_turns.was ends in
-      let none = none_left (next_at t) (ap is_some (sym (c.next.ensures t.history held.participant)) ∙ c.is_none.ensures ∙ ap not c.if-is_none.true) in
+      let none = none_left (next_at t) (ap is_some (sym (c.next.ensures.exact t.history held.participant)) ∙ c.is_none.ensures ∙ ap not c.if-is_none.true) in
       (calls, at_stage (ended Done) t, comes_then reader c.args.turns calls s t (at_stage (ended Done) t) _ _ leads (sym (gone_ends c.args.turns t rests none)), held_at (ended Done) t _ _ _ held, refl);
 }
 
@@ -38,7 +38,7 @@ returns-in_err-take_leave g c = record {
   serves = λ reader s reads holds stage turns leaving.
       let (calls, t, leads, held, ends, kept) = c.make_turns.ensures.leads reader c.args.turns s reads holds stage turns in
       let (rests, over) : EndsTurns (Ok c.in_ok-make_turns.field-0) t = subst (λ r. EndsTurns r t) c.in_ok-make_turns.was ends in
-      let there = ap is_some (sym (c.next.ensures t.history held.participant)) ∙ c.is_none.ensures ∙ ap not c.if-is_none.false in
+      let there = ap is_some (sym (c.next.ensures.exact t.history held.participant)) ∙ c.is_none.ensures ∙ ap not c.if-is_none.false in
       let due : IsLeaveDue t = record { resting = rests; there = there; turns = turns_left t there over; leaving = kept ∙ leaving } in
       let (u, same, more, v, on, held', ends', turns', leaving') = c.take_leave.ensures.leads reader c.args.turns t held due in
       let exit = err_from_is_err_and c.from_residual-in_err-take_leave.result c.from_residual-in_err-take_leave.ensures.1 in
@@ -61,7 +61,7 @@ returns-in_err-make_turns-2 g c = record {
   serves = λ reader s reads holds stage turns leaving.
       let (calls, t, leads, held, ends, kept) = c.make_turns.ensures.leads reader c.args.turns s reads holds stage turns in
       let (rests, over) : EndsTurns (Ok c.in_ok-make_turns.field-0) t = subst (λ r. EndsTurns r t) c.in_ok-make_turns.was ends in
-      let there = ap is_some (sym (c.next.ensures t.history held.participant)) ∙ c.is_none.ensures ∙ ap not c.if-is_none.false in
+      let there = ap is_some (sym (c.next.ensures.exact t.history held.participant)) ∙ c.is_none.ensures ∙ ap not c.if-is_none.false in
       let due : IsLeaveDue t = record { resting = rests; there = there; turns = turns_left t there over; leaving = kept ∙ leaving } in
       let (u, same, more, v, on, held', ends', turns', leaving') = c.take_leave.ensures.leads reader c.args.turns t held due in
       let taken : v.stage ≡ resting = subst (λ r. ReachesBy resting (ended Done) r v) (c.in_ok-take_leave.was ∙ ap Ok c.if-branch.true) ends' in
@@ -78,7 +78,7 @@ returns-in_ok-make_turns-2 g c = record {
   serves = λ reader s reads holds stage turns leaving.
       let (calls, t, leads, held, ends, kept) = c.make_turns.ensures.leads reader c.args.turns s reads holds stage turns in
       let (rests, over) : EndsTurns (Ok c.in_ok-make_turns.field-0) t = subst (λ r. EndsTurns r t) c.in_ok-make_turns.was ends in
-      let there = ap is_some (sym (c.next.ensures t.history held.participant)) ∙ c.is_none.ensures ∙ ap not c.if-is_none.false in
+      let there = ap is_some (sym (c.next.ensures.exact t.history held.participant)) ∙ c.is_none.ensures ∙ ap not c.if-is_none.false in
       let due : IsLeaveDue t = record { resting = rests; there = there; turns = turns_left t there over; leaving = kept ∙ leaving } in
       let (u, same, more, v, on, held', ends', turns', leaving') = c.take_leave.ensures.leads reader c.args.turns t held due in
       let taken : v.stage ≡ resting = subst (λ r. ReachesBy resting (ended Done) r v) (c.in_ok-take_leave.was ∙ ap Ok c.if-branch.true) ends' in
@@ -94,7 +94,7 @@ returns-else-branch g c = record {
   serves = λ reader s reads holds stage turns leaving.
       let (calls, t, leads, held, ends, kept) = c.make_turns.ensures.leads reader c.args.turns s reads holds stage turns in
       let (rests, over) : EndsTurns (Ok c.in_ok-make_turns.field-0) t = subst (λ r. EndsTurns r t) c.in_ok-make_turns.was ends in
-      let there = ap is_some (sym (c.next.ensures t.history held.participant)) ∙ c.is_none.ensures ∙ ap not c.if-is_none.false in
+      let there = ap is_some (sym (c.next.ensures.exact t.history held.participant)) ∙ c.is_none.ensures ∙ ap not c.if-is_none.false in
       let due : IsLeaveDue t = record { resting = rests; there = there; turns = turns_left t there over; leaving = kept ∙ leaving } in
       let (u, same, more, v, on, held', ends', turns', leaving') = c.take_leave.ensures.leads reader c.args.turns t held due in
       let refused : v.stage ≡ ended Done = subst (λ r. ReachesBy resting (ended Done) r v) (c.in_ok-take_leave.was ∙ ap Ok c.if-branch.false) ends' in
