@@ -26,8 +26,7 @@ pub record Reader : Type 0 where
   pub rtcp : List ℕ → Result (List RtcpPacket) WireFault
   pub rtp : List ℕ → Result RtpValue RtpFault
 
--- It reads as the grammars of RTCP and RTP have it. There is exactly one such reader (rtcp_wire's laws
--- `accepted_or_faulty` and `head_or_faulty`).
+-- It reads as the grammars of RTCP and RTP have it. There is exactly one such reader (law `there_is_one_reader`).
 pub record IsReader (reader : Reader) : Type 0 where
   pub rtcp : (octets : List ℕ) → IsReading octets (reader.rtcp octets)
   pub rtp : (octets : List ℕ) → IsRtpReading octets (reader.rtp octets)

@@ -6,8 +6,16 @@ ghost use Rattle.rtcp_engine.specs.Histories.{History};
 ghost use Rattle.rtcp_serve.specs.declared.serving.Cause.{Cause};
 ghost use Rattle.rtcp_serve.specs.Handing.{given_in, handed_out, history_after};
 ghost use Rattle.rtcp_serve.specs.Links.{Call, LinkValue, how_many, is_datagram, is_failed_receive, is_failed_send, is_sent};
-ghost use Rattle.rtcp_serve.specs.Serving.{Reader, Standing, at_the_start, ended};
+ghost use Rattle.rtcp_serve.specs.Serving.{IsReader, Reader, Standing, at_the_start, ended};
 ghost use Rattle.rtcp_serve.specs.Sessions.{Comes};
+
+/// There is a reader as the grammars of RTCP and RTP have it, and any two read alike: so what is said of a session
+/// with each such reader is said of one.
+pub fn there_is_one_reader()
+    ensures there { (reader : Reader) × IsReader reader }
+    ensures alike { (one other : Reader) → IsReader one → IsReader other → (octets : List ℕ) →
+        (one.rtcp octets ≡ other.rtcp octets) × (one.rtp octets ≡ other.rtp octets) }
+{}
 
 /// The compounds that went to the link are those that the participant handed out, in their order, each once,
 /// whether or not sending them failed.
