@@ -1,0 +1,80 @@
+//! The program `rtcp_workloads`: it does one of the jobs that users of Jalwedd wait for, on input that it makes of a
+//! seed, and prints a digest of all results. `bench/run` measures it.
+//!
+//!     rtcp_workloads NAME COUNT SEED
+//!
+//! The names are `server`, `broadcast`, `flood`, `listing`, `captures` and `recording`, and `all` for one after the other. All calls are those of hosts
+//! and of the program: `Participant` over a table on the heap, and `check` and `replay` from memory to memory.
+#![tactic(auto)]
+
+mod broadcast;
+mod captures;
+mod datagram;
+mod digest;
+mod digits;
+mod flood;
+mod host;
+mod listing;
+mod random;
+mod recording;
+mod server;
+
+use digest::Digest;
+use std::alloc::{AllocError, Global};
+use std::env;
+use std::io::Write;
+use std::process::ExitCode;
+
+/// The names of all jobs.
+const JOBS: [&str; 6] = [
+    "server",
+    "broadcast",
+    "flood",
+    "listing",
+    "captures",
+    "recording",
+];
+
+fn main(rt: HostRuntime) -> ExitCode {
+    match run(&rt) {
+        Some(()) => ExitCode::SUCCESS,
+        None => ExitCode::from(2),
+    }
+}
+
+/// Does the job that the arguments say, or returns `None` where one is wrong, or memory is missing.
+fn run(rt: &HostRuntime) -> Option<()> {
+    let mut arguments = env::args(rt).ok()?;
+    // The first argument is the name of the program.
+    arguments.next()?;
+    let name = arguments.next()?;
+    let count: u32 = arguments.next()?.as_str().parse().ok()?;
+    let seed: u32 = arguments.next()?.as_str().parse().ok()?;
+    if name.as_str() != "all" {
+        return report(rt, name.as_str(), count, seed);
+    }
+    for job in JOBS {
+        report(rt, job, count, seed)?;
+    }
+    Some(())
+}
+
+/// Does one job, and prints its digest.
+fn report(rt: &HostRuntime, name: &str, count: u32, seed: u32) -> Option<()> {
+    let digest = work(rt.alloc(), name, count, seed)?.ok()?;
+    let value = digest.value();
+    writeln!(rt.stdout(), "{name} {count} {seed} {value:016x}").ok()
+}
+
+/// Does one job, if there is one of this name.
+fn work(alloc: Global, name: &str, count: u32, seed: u32) -> Option<Result<Digest, AllocError>> {
+    match name {
+        "server" => Some(server::run(alloc, count, seed)),
+        "broadcast" => Some(broadcast::run(alloc, count, seed)),
+        "flood" => Some(flood::run(alloc, count, seed)),
+        "listing" => Some(listing::run(alloc, count, seed)),
+        "captures" => Some(captures::run(alloc, count, seed)),
+        "recording" => Some(recording::run(alloc, count, seed)),
+        _ => None,
+    }
+}
