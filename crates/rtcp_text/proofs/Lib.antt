@@ -2,6 +2,7 @@ mod AnswerRows
 mod CheckLemmas
 mod ClauseLemmas
 mod CountedLemmas
+mod DigitBlocks
 mod DigitTable
 mod EventRows
 mod FieldLemmas

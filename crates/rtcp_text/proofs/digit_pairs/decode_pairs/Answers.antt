@@ -1,9 +1,21 @@
 -- The steps are those of the crate `hex`, with the table's value of each digit.
-use Rattle.std.proofs.Common.{◌+◌, ◌*◌, ◌<◌, ◌∙◌, length, slice_index, refl, sym, arith, length-set}
+use Rattle.std.proofs.Common.{◌≡◌, ◌+◌, ◌*◌, ◌<◌, ◌∙◌, length, slice_index, refl, sym, arith, length-set}
 use Rattle.hex.proofs.HexLemmas.{decode_sized-twice}
 use Rattle.hex.proofs.Pairs.{decode_step, decode_err, decode_done, decode_sized-pairs}
+use Rattle.std.proofs.lemmas.Simd.{length-put_chunk}
+use Rattle.rtcp_text.proofs.DigitBlocks.{block_step}
 use Rattle.rtcp_text.proofs.DigitTable.{pair_in_table, refused_in_table}
 use Rattle.rtcp_text.proofs.digit_pairs.decode_pairs.Goals as goal
+
+pub front-preserved : goal.front-preserved
+front-preserved c =
+    let long = rw c.in-Some.is at c.decode_block.type_inv in
+    let eight : length c.in-Some.block ≡ 8 = omega (arith, long) in
+    record {
+      whole = rw length-put_chunk c.front.invariant.whole;
+      within = rw length-put_chunk (omega arith);
+      spelled = block_step c.args.line.now c.front.octets c.in-Some.block c.front.done (omega arith) (omega arith) eight c.in-Some.ensures c.front.invariant.spelled;
+    }
 
 pub octets-preserved : goal.octets-preserved
 octets-preserved c =
