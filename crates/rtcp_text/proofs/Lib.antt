@@ -4,6 +4,7 @@ mod ClauseLemmas
 mod CountedLemmas
 mod DigitBlocks
 mod DigitTable
+mod DigitText
 mod EventRows
 mod FieldLemmas
 mod Joined

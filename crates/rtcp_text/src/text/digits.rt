@@ -7,6 +7,7 @@ ghost use Rattle.rtcp_text.specs.Text.{hex_word, hex_long};
 
 use itoa::Buffer;
 use std::alloc::AllocError;
+use std::simd::prelude::*;
 
 /// Appends a number in decimal, with no leading zero.
 pub fn push_decimal(out: &mut Vec<u8>, number: u64) -> Result<(), AllocError>
@@ -24,16 +25,26 @@ pub fn push_signed(out: &mut Vec<u8>, number: i32) -> Result<(), AllocError>
     out.extend_from_slice(digits.format(number).as_bytes())
 }
 
+/// The octets of a block, which are written as digits at once.
+const BLOCK: usize = 8;
+
+/// The hex digits, by their values.
+static DIGITS: [u8; 16] = *b"0123456789abcdef";
+
 /// Appends octets, each as two hex digits.
 pub fn push_octets(out: &mut Vec<u8>, octets: &[u8]) -> Result<(), AllocError>
     ensures { OnOk result (out.new.items ≡ out.old.items ++ encode_lower octets.now) }
 {
-    let start = out.len();
-    let end = start
-        .saturating_add(octets.len())
-        .saturating_add(octets.len());
-    out.resize(end, 0)?;
-    hex::encode_to_slice(octets, &mut out[start..]).unwrap();
+    let mut done = 0;
+    'front: while octets.len() - done >= BLOCK {
+        let digits = digits_of(u8x8::from_slice(&octets[done..]));
+        out.extend_from_slice(&digits.to_array())?;
+        done += BLOCK;
+    }
+    'rest: for i in done..octets.len() {
+        let (high, low) = (octets[i] / 16, octets[i] % 16);
+        out.extend_from_slice(&[DIGITS[high as usize], DIGITS[low as usize]])?;
+    }
     Ok(())
 }
 
@@ -41,16 +52,29 @@ pub fn push_octets(out: &mut Vec<u8>, octets: &[u8]) -> Result<(), AllocError>
 pub fn push_word(out: &mut Vec<u8>, word: u32) -> Result<(), AllocError>
     ensures { OnOk result (out.new.items ≡ out.old.items ++ hex_word word) }
 {
-    let mut digits = [0u8; 8];
-    hex::encode_to_slice(&word.to_be_bytes(), &mut digits).unwrap();
-    out.extend_from_slice(&digits)
+    let [first, second, third, fourth] = word.to_be_bytes();
+    let digits = digits_of(u8x8::from_array([first, second, third, fourth, 0, 0, 0, 0]));
+    out.extend_from_slice(&digits.to_array()[..8])
 }
 
 /// Appends a number of 64 bits as sixteen hex digits.
 pub fn push_long(out: &mut Vec<u8>, number: u64) -> Result<(), AllocError>
     ensures { OnOk result (out.new.items ≡ out.old.items ++ hex_long number) }
 {
-    let mut digits = [0u8; 16];
-    hex::encode_to_slice(&number.to_be_bytes(), &mut digits).unwrap();
-    out.extend_from_slice(&digits)
+    let digits = digits_of(u8x8::from_array(number.to_be_bytes()));
+    out.extend_from_slice(&digits.to_array())
+}
+
+/// The hex digits of a block of octets.
+#[inline(always)]
+fn digits_of(octets: u8x8) -> u8x16
+    ensures { result ≡ encode_lower octets }
+{
+    let high = octets >> u8x8::splat(4);
+    let low = octets & u8x8::splat(15);
+    let values = high.shuffle(low, [0, 8, 1, 9, 2, 10, 3, 11, 4, 12, 5, 13, 6, 14, 7, 15]);
+    values.simd_lt(u8x16::splat(10)).select(
+        values + u8x16::splat(b'0'),
+        values + u8x16::splat(b'a' - 10),
+    )
 }
