@@ -21,6 +21,7 @@ mod Rising
 mod Searching
 mod Weights
 mod Placing
+mod Standing
 mod Inserting
 mod Checking
 mod Crowding

@@ -11,3 +11,4 @@ pub mod Codes
 pub mod ListViews
 pub mod SortedViews
 pub mod Storages
+pub mod Standing

@@ -14,6 +14,17 @@ pub(crate) struct Counts {
 }
 
 impl Counts {
+    /// Those of no entries.
+    pub(crate) fn none() -> Counts
+        ensures members { result.members ≡ 0 }
+        ensures senders { result.senders ≡ 0 }
+    {
+        Counts {
+            members: 0,
+            senders: 0,
+        }
+    }
+
     /// Counts one entry more.
     pub(crate) fn add(&mut self, entry: &Entry)
         requires members { self.old.members + 1 < 2 ^ 32 }
@@ -43,10 +54,7 @@ pub(crate) fn tally(entries: &[Entry]) -> Counts
     ensures members { result.members ≡ tally_of is_member entries.now }
     ensures senders { result.senders ≡ tally_of is_sender entries.now }
 {
-    let mut counts = Counts {
-        members: 0,
-        senders: 0,
-    };
+    let mut counts = Counts::none();
     'entries: for entry in entries {
         counts.add(entry);
     }

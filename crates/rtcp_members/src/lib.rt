@@ -23,6 +23,7 @@
 //! trace (`News`); `turn_laws` has what holds of these.
 #![tactic(auto)]
 
+mod bounds;
 mod counts;
 mod entry;
 pub mod laws;

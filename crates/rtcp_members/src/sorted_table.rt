@@ -2,19 +2,21 @@
 
 ghost use Rattle.std.specs.Prelude.{◌≡◌, ℕ, [], ◌<◌, ◌≤◌, ◌^◌, List, length, filter, take, drop, not, IfSome, IfOk, IfErr, IsTrue, Some, option_map};
 ghost use Rattle.std.specs.FinMap as finite;
-ghost use Rattle.std.specs.List.{list_all};
 ghost use Rattle.rtcp_wire.specs.Facts.{subject, is_media};
 ghost use Rattle.rtcp_members.specs.Traces.{horizons_at};
 ghost use Rattle.rtcp_members.specs.Told.{first_state};
-ghost use Rattle.rtcp_members.specs.ListViews.{entry_value, state_value, rows_of, map_of, table_of, is_left, IsPlaceOf};
+ghost use Rattle.rtcp_members.specs.ListViews.{entry_value, state_value, rows_of, map_of, table_of, IsPlaceOf};
 ghost use Rattle.rtcp_members.specs.SortedViews.{IsRising, IsOrdered, IsSortedTable, IsGapFor};
+ghost use Rattle.rtcp_members.specs.declared.bounds.Bounds.{Bounds as BoundsOf};
+ghost use Rattle.rtcp_members.specs.Standing.{AllStandBy, IsUpTo};
 ghost use Rattle.rtcp_wire.specs.Views.{block_value};
 ghost use Rattle.rtcp_wire.specs.Writing.{IsWritableBlock};
 ghost use Rattle.rtcp_members.specs.Entries.{is_such};
 ghost use Rattle.rtcp_members.specs.Pending.{is_due, is_above, first_ssrc, block_at, after_block};
-ghost use Rattle.rtcp_members.specs.Tables.{IsFew, no_members, placed, counted, after_fact};
+ghost use Rattle.rtcp_members.specs.Tables.{IsFew, no_members, placed, counted, after_fact, after_check, dropped_entries, dropped_senders};
 
-use crate::counts::{Counts, tally};
+use crate::bounds::{Bounds, bounds_if_left, measure};
+use crate::counts::Counts;
 use crate::entry::Entry;
 use crate::state::SourceState;
 use crate::storage::Storage;
@@ -25,23 +27,25 @@ use std::alloc::{AllocError, Global};
 use std::marker::Model;
 
 /// A table of members by rising SSRC, over where its entries lie. It finds a source by binary search, and knows its
-/// counts without a walk. A check that drops nobody and ends no sending only reads. No call allocates.
+/// counts without a walk. It keeps bounds of what a check goes by, so a check that they rule out reads no entry.
+/// No call allocates.
 #[derive(Drop)]
 pub struct Sorted<S: Storage> {
     capacity: u32,
     rate: u32,
     entries: S,
     counts: Counts,
+    /// Up to which moments a check changes nothing.
+    bounds: Bounds,
     /// Where the last source that was looked for stands, or would: the next fact is often of the same one.
     last_place: usize,
 }
 
 impl<S: Storage> Model for Sorted<S> {
-    ghost use Rattle.std.specs.Prelude.{◌≤◌};
     ghost use Rattle.rtcp_members.specs.Tables.{TableValue};
     ghost use Rattle.rtcp_members.specs.Codes.{table_code};
     ghost use Rattle.rtcp_members.specs.ListViews.{table_of};
-    ghost use Rattle.rtcp_members.specs.SortedViews.{IsSortedTable};
+    ghost use Rattle.rtcp_members.specs.Standing.{IsKept};
 
     ghost Value = { TableValue };
 
@@ -49,8 +53,7 @@ impl<S: Storage> Model for Sorted<S> {
 
     ghost view = { λ t. table_of t.capacity t.rate (S.items t.entries) };
 
-    ghost invariant = { λ t. IsSortedTable t.capacity t.counts.members t.counts.senders (S.items t.entries)
-        × (t.capacity ≤ S.room t.entries) };
+    ghost invariant = { λ t. IsKept t.capacity (S.room t.entries) t.counts t.bounds (S.items t.entries) };
 }
 
 /// A sorted table with room for 1,024 entries in itself, whatever its capacity: some 147 KB.
@@ -99,11 +102,36 @@ impl<S: Storage> Sorted<S> {
             capacity,
             rate,
             entries,
-            counts: Counts {
-                members: 0,
-                senders: 0,
-            },
+            counts: Counts::none(),
+            bounds: Bounds::none(),
             last_place: 0,
+        }
+    }
+
+    /// Makes a check that the bounds do not rule out, and finds them anew.
+    #[inline(never)]
+    fn sweep(&mut self, silent: u64, idle: u64, gone: u64) -> Dropped
+        ensures entries { result.entries ≡ dropped_entries (horizons_at silent idle gone) self.old }
+        ensures senders { result.senders ≡ dropped_senders (horizons_at silent idle gone) self.old }
+        ensures content { self.new ≡ after_check (horizons_at silent idle gone) self.old }
+    {
+        if let Some(bounds) = bounds_if_left(self.entries.as_slice(), silent, idle, gone) {
+            self.bounds = bounds;
+            return Dropped {
+                entries: 0,
+                senders: 0,
+            };
+        }
+        let (entries, senders) = (self.entries.len(), self.counts.senders);
+        self.entries.drop_silent(silent, idle, gone);
+        let (counts, bounds) = measure(self.entries.as_slice());
+        self.counts = counts;
+        self.bounds = bounds;
+        let removed = (entries - self.entries.len()) as u32;
+        let ended = senders - counts.senders;
+        Dropped {
+            entries: removed,
+            senders: ended,
         }
     }
 }
@@ -112,6 +140,7 @@ impl<S: Storage> MemberTable for Sorted<S> {
     ghost content = { λ t. t };
 
     fn apply(&mut self, fact: Fact, t: u64) -> Applied {
+        self.bounds.lower(fact, t);
         match search(self.entries.as_slice(), self.last_place, fact.ssrc()) {
             Ok(at) => {
                 self.last_place = at;
@@ -137,27 +166,13 @@ impl<S: Storage> MemberTable for Sorted<S> {
         data_before: u64,
         gone_before: u64,
     ) -> Dropped {
-        if changes_none(
-            self.entries.as_slice(),
-            silent_before,
-            data_before,
-            gone_before,
-        ) {
+        if self.bounds.reach(silent_before, data_before, gone_before) {
             return Dropped {
                 entries: 0,
                 senders: 0,
             };
         }
-        let (entries, senders) = (self.entries.len(), self.counts.senders);
-        self.entries
-            .drop_silent(silent_before, data_before, gone_before);
-        self.counts = tally(self.entries.as_slice());
-        let removed = (entries - self.entries.len()) as u32;
-        let ended = senders - self.counts.senders;
-        Dropped {
-            entries: removed,
-            senders: ended,
-        }
+        self.sweep(silent_before, data_before, gone_before)
     }
 
     fn holds(&self, ssrc: u32) -> bool {
@@ -225,6 +240,8 @@ fn apply_at(
     ensures ordered { IsOrdered counts.new.members counts.new.senders entries.new }
     ensures place { (capacity : ℕ) → result.place ≡ placed (table_of capacity rate entries.old) fact }
     ensures counted { (capacity : ℕ) → result.counted ≡ counted (table_of capacity rate entries.old) fact }
+    ensures stand { (bounds : BoundsOf) → IsUpTo bounds fact t → AllStandBy bounds entries.old →
+        AllStandBy bounds entries.new }
     ensures table { (capacity : ℕ) →
         table_of capacity rate entries.new ≡ after_fact fact t (table_of capacity rate entries.old) }
 {
@@ -252,6 +269,8 @@ fn admit<S: Storage>(
     ensures room { capacity ≤ S.room entries.new }
     ensures in_place { S.block entries.new ≡ S.block entries.old }
     ensures place { result ≡ placed (table_of capacity rate (S.items entries.old)) fact }
+    ensures stand { (bounds : BoundsOf) → IsUpTo bounds fact t → AllStandBy bounds (S.items entries.old) →
+        AllStandBy bounds (S.items entries.new) }
     ensures table { table_of capacity rate (S.items entries.new)
         ≡ after_fact fact t (table_of capacity rate (S.items entries.old)) }
 {
@@ -266,18 +285,6 @@ fn admit<S: Storage>(
     counts.add(&entry);
     entries.insert(gap, entry);
     Place::Added
-}
-
-/// Whether a check leaves each entry as it is.
-fn changes_none(entries: &[Entry], silent: u64, idle: u64, gone: u64) -> bool
-    ensures { result ≡ list_all (is_left (horizons_at silent idle gone)) entries.now }
-{
-    'entries: for entry in entries {
-        if !entry.is_left(silent, idle, gone) {
-            return false;
-        }
-    }
-    true
 }
 
 /// How many entries have no SSRC above `above`: where the others begin.
@@ -323,6 +330,7 @@ fn report_at(entries: &mut [Entry], at: usize, ssrc: u32, t: u64) -> Block
     requires due { IsTrue (is_such is_due (finite.get (map_of entries.old) ssrc)) }
     ensures ordered { (members senders : ℕ) →
         IsOrdered members senders entries.old → IsOrdered members senders entries.new }
+    ensures stand { (bounds : BoundsOf) → AllStandBy bounds entries.old → AllStandBy bounds entries.new }
     ensures block { (capacity rate : ℕ) →
         Some (block_value result) ≡ block_at ssrc t (table_of capacity rate entries.old) }
     ensures table { (capacity rate : ℕ) →

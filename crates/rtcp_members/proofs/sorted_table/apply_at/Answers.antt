@@ -1,11 +1,14 @@
 -- The entry at the place is the one that the map has; it leaves the counts, and what became of it joins them.
-use Rattle.std.proofs.Common.{arith}
+use Rattle.std.proofs.Common.{arith, slice_index_or, sym, subst}
 use Rattle.rtcp_wire.specs.Facts.{subject}
 use Rattle.rtcp_members.specs.Entries.{is_member, is_sender}
 use Rattle.rtcp_members.proofs.Applying.{place_applied, counted_applied, table_applied}
 use Rattle.rtcp_members.proofs.Rising.{rising_apart}
 use Rattle.rtcp_members.proofs.Weights.{tally_at_most}
 use Rattle.rtcp_members.proofs.Placing.{counted_there, few_there, ordered_set}
+use Rattle.rtcp_members.specs.ListViews.{entry_value}
+use Rattle.rtcp_members.specs.Standing.{StandsBy}
+use Rattle.rtcp_members.proofs.Standing.{all_set, stands_after, stands_there}
 use Rattle.rtcp_members.proofs.sorted_table.apply_at.Goals as goal
 
 pub remove-requires-clause-members : goal.remove-requires-clause-members
@@ -37,3 +40,9 @@ returns-clause-counted c = counted_applied c.args.entries.now c.args.at c.args.f
 pub returns-clause-table : goal.returns-clause-table
 returns-clause-table c =
     table_applied c.args.entries.now c.args.at c.args.fact c.args.t c.args.rate c.index-entries-at.result c.apply-applied.new.self (rising_apart c.args.entries.now c.requires.ordered.rising) c.requires.place c.apply-applied.ensures.ssrc c.apply-applied.ensures.value
+
+pub returns-clause-stand : goal.returns-clause-stand
+returns-clause-stand c bounds up all =
+    let read = slice_index_or c.args.entries.now c.args.at c.index-entries-at.result in
+    all_set bounds c.args.entries.now c.args.at c.apply-applied.new.self all
+    (subst (StandsBy bounds) (sym c.apply-applied.ensures.value) (stands_after bounds c.args.rate c.args.fact c.args.t (entry_value read) up (stands_there bounds c.args.entries.now c.args.at c.index-entries-at.result (subject c.args.fact) c.requires.place all)))

@@ -6,4 +6,4 @@ use Rattle.rtcp_members.proofs.sorted_table.SortedMemberTable.senders.Goals as g
 
 pub returns : goal.returns
 returns g c =
-    counted_at is_sender c.self.inside.capacity c.self.inside.rate (g.S.Storage.items c.self.inside.entries) c.args.self.now c.self.inside.counts.senders (rising_apart (g.S.Storage.items c.self.inside.entries) c.self.invariant.0.ordered.rising) c.self.view_is c.self.invariant.0.ordered.its_senders
+    counted_at is_sender c.self.inside.capacity c.self.inside.rate (g.S.Storage.items c.self.inside.entries) c.args.self.now c.self.inside.counts.senders (rising_apart (g.S.Storage.items c.self.inside.entries) c.self.invariant.sorted.ordered.rising) c.self.view_is c.self.invariant.sorted.ordered.its_senders

@@ -1,0 +1,88 @@
+-- Bounds by which entries stand, after a fact, a block and a check.
+use Rattle.std.proofs.Common.{length, zero, suc, slice_get, slice_index_or, ◌≡◌, ◌≤◌, ◌<◌, ◌+◌, ◌||◌, ◌&&◌, ℕ, Bool, true, false, not, nat_lt, List, [], ◌∷◌, Option, Some, None, set, take, is_none, if◌then◌else◌, arith, refl, sym, subst}
+use Rattle.std.proofs.lemmas.Bool.{le-ltb}
+use Rattle.std.proofs.lemmas.List.Elements.{All-set, All-head, All-tail, All-weaker, All-more}
+use Rattle.std.specs.List.{list_all}
+use Rattle.rtcp_wire.specs.declared.fact.Fact.{Fact}
+use Rattle.rtcp_wire.specs.declared.fact.Fact.TheVariants.{Heard, Told, Named, Gone, Media}
+use Rattle.rtcp_source.specs.Summary.{SourceValue}
+use Rattle.rtcp_members.specs.declared.bounds.Bounds.{Bounds}
+use Rattle.rtcp_members.specs.declared.entry.Entry.{Entry}
+use Rattle.rtcp_members.specs.Entries.{EntryValue}
+use Rattle.rtcp_members.specs.Traces.{horizons_at}
+use Rattle.rtcp_members.specs.Stays.{is_before}
+use Rattle.rtcp_members.specs.Tables.{entry_with_fact}
+use Rattle.rtcp_members.specs.ListViews.{entry_value, is_left, IsPlaceOf}
+use Rattle.rtcp_members.proofs.Applying.{read_there}
+use Rattle.rtcp_members.specs.Standing.{MarkStandsBy, StandsBy, AllStandBy, IsUpTo, IsNoLater}
+
+-- ---- Lower bounds
+
+mark_lower : (b c : Bounds) → IsNoLater b c → (mark sending : Option ℕ) → MarkStandsBy c mark sending → MarkStandsBy b mark sending
+mark_lower b c lower None None h = tt
+mark_lower b c lower None (Some sent) h = omega (arith, lower.idle, h)
+mark_lower b c lower (Some mark) sending h = omega (arith, lower.gone, h)
+
+stands_lower : (b c : Bounds) → IsNoLater b c → (e : EntryValue) → StandsBy c e → StandsBy b e
+stands_lower b c lower e h = (omega (arith, lower.silent, h.0), mark_lower b c lower e.mark e.sending h.1)
+
+pub all_lower : (b c : Bounds) → IsNoLater b c → (entries : List Entry) → AllStandBy c entries → AllStandBy b entries
+all_lower b c lower entries all = All-weaker (λ (e : Entry). StandsBy c (entry_value e)) (λ (e : Entry). StandsBy b (entry_value e)) (λ e h. stands_lower b c lower (entry_value e) h) entries all
+
+-- ---- A fact
+
+by_counted : (b : Bounds) (counted : Bool) (t : ℕ) (sending : Option ℕ) → b.idle ≤ t → MarkStandsBy b None sending → MarkStandsBy b None (if counted then Some t else sending)
+by_counted b true t sending up h = up
+by_counted b false t sending up h = h
+
+after_by : (b : Bounds) (rate : ℕ) (fact : Fact) (t : ℕ) (valid : Bool) (mark : Option ℕ) (sighting : ℕ) (sending : Option ℕ) (source : SourceValue) → IsUpTo b fact t →
+    (b.silent ≤ sighting) × MarkStandsBy b mark sending →
+    StandsBy b (entry_with_fact rate fact t (record { valid = valid; mark = mark; sighting = sighting; sending = sending; source = source }))
+after_by b rate fact t valid (Some mark) sighting sending source up h = h
+after_by b rate (Heard ssrc) t valid None sighting sending source up h = (up, h.1)
+after_by b rate (Told ssrc ntp) t valid None sighting sending source up h = (up, h.1)
+after_by b rate (Named ssrc) t valid None sighting sending source up h = (up, h.1)
+after_by b rate (Gone ssrc) t valid None sighting sending source up h = (h.0, up)
+after_by b rate (Media ssrc seq timestamp) t valid None sighting sending source up h = (up.0, by_counted b _ t sending up.1 h.1)
+
+pub stands_after : (b : Bounds) (rate : ℕ) (fact : Fact) (t : ℕ) (e : EntryValue) → IsUpTo b fact t → StandsBy b e → StandsBy b (entry_with_fact rate fact t e)
+stands_after b rate fact t e up h = after_by b rate fact t e.valid e.mark e.sighting e.sending e.source up h
+
+-- ---- Lists
+
+abbrev pub stands : Bounds → Entry → Type 0
+stands b e = StandsBy b (entry_value e)
+
+pub all_set : (b : Bounds) (entries : List Entry) (at : ℕ) (e : Entry) → AllStandBy b entries → StandsBy b (entry_value e) → AllStandBy b (set entries at e)
+all_set b entries at e all its = All-set (stands b) entries at e its all
+
+there : (b : Bounds) (entries : List Entry) (at : ℕ) (e : Entry) → slice_get entries at ≡ Some e → AllStandBy b entries → stands b e
+there b [] at e is all = absurd cc
+there b (x ∷ entries) zero e is all =
+    let same : x ≡ e = cc in
+    subst (stands b) same (All-head (stands b) x entries all)
+there b (x ∷ entries) (suc at) e is all = there b entries at e is (All-tail (stands b) x entries all)
+
+pub stands_there : (b : Bounds) (entries : List Entry) (at : ℕ) (d : Entry) (ssrc : ℕ) → IsPlaceOf ssrc entries at → AllStandBy b entries → StandsBy b (entry_value (slice_index_or entries at d))
+stands_there b entries at d ssrc place all = subst (stands b) (sym (read_there ssrc entries at d place)) (there b entries at place.entry place.stands all)
+
+-- ---- A check
+
+left_by : (b : Bounds) (silent idle gone : ℕ) → silent ≤ b.silent → idle ≤ b.idle → gone ≤ b.gone → (mark sending : Option ℕ) (sighting : ℕ) → b.silent ≤ sighting → MarkStandsBy b mark sending →
+    (not (is_none mark && is_before sending idle) && not (nat_lt sighting silent || is_before mark gone)) ≡ true
+left_by b silent idle gone s i g None None sighting seen h = λ j. not (le-ltb sighting silent (omega (arith, s, seen)) j || false)
+left_by b silent idle gone s i g None (Some sent) sighting seen h = λ j. not (le-ltb sent idle (omega (arith, i, h)) j) && not (le-ltb sighting silent (omega (arith, s, seen)) j || false)
+left_by b silent idle gone s i g (Some mark) sending sighting seen h = λ j. not (le-ltb sighting silent (omega (arith, s, seen)) j || le-ltb mark gone (omega (arith, g, h)) j)
+
+-- A check whose horizons do not pass the bounds changes nothing.
+pub all_left : (b : Bounds) (silent idle gone : ℕ) → (silent ≤ b.silent) × (idle ≤ b.idle) × (gone ≤ b.gone) → (entries : List Entry) → AllStandBy b entries → list_all (is_left (horizons_at silent idle gone)) entries ≡ true
+all_left b silent idle gone within [] all = refl
+all_left b silent idle gone within (e ∷ entries) all =
+    let its = All-head (stands b) e entries all in
+    let one = left_by b silent idle gone within.0 within.1 within.2 e.mark e.sending e.sighting its.0 its.1 in
+    let rest = all_left b silent idle gone within entries (All-tail (stands b) e entries all) in
+    λ j. one j && rest j
+
+-- One entry more is covered by bounds that are no later.
+pub all_covered : (b c : Bounds) → IsNoLater b c → (entries : List Entry) (at : ℕ) (d : Entry) → at < length entries → AllStandBy c (take at entries) → StandsBy b (entry_value (slice_index_or entries at d)) → AllStandBy b (take (at + 1) entries)
+all_covered b c lower entries at d within all its = All-more (stands b) entries at d within (all_lower b c lower (take at entries) all) its

@@ -1,0 +1,43 @@
+-- Up to which moments a check leaves entries as they are.
+use Rattle.std.specs.Prelude.{ℕ, ◌≤◌, List, All, Option, Some, None}
+use Rattle.rtcp_wire.specs.declared.fact.Fact.{Fact}
+use Rattle.rtcp_wire.specs.declared.fact.Fact.TheVariants.{Heard, Told, Named, Gone, Media}
+use Rattle.rtcp_members.specs.declared.bounds.Bounds.{Bounds}
+use Rattle.rtcp_members.specs.declared.counts.Counts.{Counts}
+use Rattle.rtcp_members.specs.declared.entry.Entry.{Entry}
+use Rattle.rtcp_members.specs.Entries.{EntryValue}
+use Rattle.rtcp_members.specs.ListViews.{entry_value}
+use Rattle.rtcp_members.specs.SortedViews.{IsSortedTable}
+
+-- The mark is no earlier than its bound, and without one the last counted packet.
+abbrev pub MarkStandsBy : Bounds → (mark sending : Option ℕ) → Type 0
+MarkStandsBy bounds None None = Unit {0}
+MarkStandsBy bounds None (Some sent) = bounds.idle ≤ sent
+MarkStandsBy bounds (Some mark) sending = bounds.gone ≤ mark
+
+-- No moment of an entry that a check goes by is earlier than its bound.
+abbrev pub StandsBy : Bounds → EntryValue → Type 0
+StandsBy bounds entry = (bounds.silent ≤ entry.sighting) × MarkStandsBy bounds entry.mark entry.sending
+
+abbrev pub AllStandBy : Bounds → List Entry → Type 0
+AllStandBy bounds entries = All (λ (e : Entry). StandsBy bounds (entry_value e)) entries
+
+-- The bounds lie no later than the moment of a fact, as far as it can change an entry's.
+abbrev pub IsUpTo : Bounds → Fact → (moment : ℕ) → Type 0
+IsUpTo bounds (Heard ssrc) moment = bounds.silent ≤ moment
+IsUpTo bounds (Told ssrc ntp) moment = bounds.silent ≤ moment
+IsUpTo bounds (Named ssrc) moment = bounds.silent ≤ moment
+IsUpTo bounds (Gone ssrc) moment = bounds.gone ≤ moment
+IsUpTo bounds (Media ssrc seq timestamp) moment = (bounds.silent ≤ moment) × (bounds.idle ≤ moment)
+
+-- No bound of the one is later than the other's.
+pub record IsNoLater (one other : Bounds) : Type 0 where
+  pub silent : one.silent ≤ other.silent
+  pub idle : one.idle ≤ other.idle
+  pub gone : one.gone ≤ other.gone
+
+-- What holds of a sorted table: its list and counts, the room that it has for its capacity, and its bounds.
+pub record IsKept (capacity room : ℕ) (counts : Counts) (bounds : Bounds) (entries : List Entry) : Type 0 where
+  pub sorted : IsSortedTable capacity counts.members counts.senders entries
+  pub roomy : capacity ≤ room
+  pub standing : AllStandBy bounds entries

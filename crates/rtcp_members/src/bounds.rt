@@ -1,0 +1,103 @@
+//! Up to which moments a check has nothing to do.
+
+ghost use Rattle.std.specs.Prelude.{◌≡◌, ◌≤◌, true, length, IsTrue, IfSome};
+ghost use Rattle.std.specs.List.{list_all};
+ghost use Rattle.rtcp_members.specs.Entries.{is_member, is_sender};
+ghost use Rattle.rtcp_members.specs.Traces.{horizons_at};
+ghost use Rattle.rtcp_members.specs.ListViews.{entry_value, tally_of, is_left};
+ghost use Rattle.rtcp_members.specs.Standing.{AllStandBy, IsNoLater, IsUpTo, StandsBy};
+
+use crate::counts::Counts;
+use crate::entry::Entry;
+use rtcp_wire::Fact;
+
+/// Bounds from below of the moments of a list of entries: a check whose horizons do not pass them changes nothing.
+#[derive(Clone, Copy)]
+pub(crate) struct Bounds {
+    /// Of the last sightings.
+    silent: u64,
+    /// Of the last counted packets of those that did not leave.
+    idle: u64,
+    /// Of the goodbyes.
+    gone: u64,
+}
+
+impl Bounds {
+    /// Those of no entries.
+    pub(crate) fn none() -> Bounds {
+        Bounds {
+            silent: u64::MAX,
+            idle: u64::MAX,
+            gone: u64::MAX,
+        }
+    }
+
+    /// Lowers them to what a fact at the moment `t` can make of an entry.
+    pub(crate) fn lower(&mut self, fact: Fact, t: u64)
+        ensures no_later { IsNoLater self.new self.old }
+        ensures up_to { IsUpTo self.new fact t }
+    {
+        match fact {
+            Fact::Gone(_) => self.gone = self.gone.min(t),
+            Fact::Media(_, _, _) => {
+                self.silent = self.silent.min(t);
+                self.idle = self.idle.min(t);
+            }
+            Fact::Heard(_) | Fact::Named(_) | Fact::Told(_, _) => self.silent = self.silent.min(t),
+        }
+    }
+
+    /// Whether none of these horizons passes them.
+    pub(crate) fn reach(&self, silent: u64, idle: u64, gone: u64) -> bool
+        ensures { IsTrue result → (silent ≤ self.now.silent) × (idle ≤ self.now.idle) × (gone ≤ self.now.gone) }
+    {
+        silent <= self.silent && idle <= self.idle && gone <= self.gone
+    }
+
+    /// Lowers them to an entry.
+    fn cover(&mut self, entry: &Entry)
+        ensures no_later { IsNoLater self.new self.old }
+        ensures stands { StandsBy self.new (entry_value entry.now) }
+    {
+        self.silent = self.silent.min(entry.sighting);
+        match entry.mark {
+            Some(mark) => self.gone = self.gone.min(mark),
+            None => {
+                if let Some(sent) = entry.sending {
+                    self.idle = self.idle.min(sent);
+                }
+            }
+        }
+    }
+}
+
+/// The bounds of these entries, where a check with these horizons leaves each as it is.
+pub(crate) fn bounds_if_left(entries: &[Entry], silent: u64, idle: u64, gone: u64) -> Option<Bounds>
+    ensures left { IfSome result (λ _. list_all (is_left (horizons_at silent idle gone)) entries.now ≡ true) }
+    ensures stand { IfSome result (λ bounds. AllStandBy bounds entries.now) }
+{
+    let mut bounds = Bounds::none();
+    'entries: for entry in entries {
+        if !entry.is_left(silent, idle, gone) {
+            return None;
+        }
+        bounds.cover(entry);
+    }
+    Some(bounds)
+}
+
+/// The counts and the bounds of these entries.
+pub(crate) fn measure(entries: &[Entry]) -> (Counts, Bounds)
+    requires { length entries.now ≤ 1024 }
+    ensures members { result.0.members ≡ tally_of is_member entries.now }
+    ensures senders { result.0.senders ≡ tally_of is_sender entries.now }
+    ensures stand { AllStandBy result.1 entries.now }
+{
+    let mut counts = Counts::none();
+    let mut bounds = Bounds::none();
+    'entries: for entry in entries {
+        counts.add(entry);
+        bounds.cover(entry);
+    }
+    (counts, bounds)
+}
