@@ -52,3 +52,18 @@ module _ (ssrc : ℕ) (entries : List Entry) (at : ℕ) (d : Entry) (place : IsP
         its_members = omega (arith, ordered.its_members, as_member, ap (weight_of is_member) there, tally_set is_member entries at place.entry next place.stands);
         its_senders = omega (arith, ordered.its_senders, as_sender, ap (weight_of is_sender) there, tally_set is_sender entries at place.entry next place.stands);
       }
+
+  -- What keeps a test keeps its count.
+  kept_count : (test : EntryValue → Bool) (next : Entry) (count : ℕ) → count ≡ tally_of test entries → test (entry_value next) ≡ test (entry_value (slice_index_or entries at d)) → count ≡ tally_of test (set entries at next)
+  kept_count test next count was same =
+      let as_was : weight_of test next ≡ weight_of test (slice_index_or entries at d) = ap (λ (b : Bool). if b then 1 else 0) same in
+      omega (arith, was, as_was, ap (weight_of test) (read_there ssrc entries at d place), tally_set test entries at place.entry next place.stands)
+
+  pub ordered_kept : (next : Entry) (members senders : ℕ) → IsOrdered members senders entries → next.ssrc ≡ (slice_index_or entries at d).ssrc →
+      is_member (entry_value next) ≡ is_member (entry_value (slice_index_or entries at d)) → is_sender (entry_value next) ≡ is_sender (entry_value (slice_index_or entries at d)) → IsOrdered members senders (set entries at next)
+  ordered_kept next members senders ordered same as_member as_sender =
+      record {
+        rising = rising_set entries at place.entry next ordered.rising place.stands (its_ssrc next same);
+        its_members = kept_count is_member next members ordered.its_members as_member;
+        its_senders = kept_count is_sender next senders ordered.its_senders as_sender;
+      }

@@ -1,20 +1,22 @@
 -- Bounds by which entries stand, after a fact, a block and a check.
-use Rattle.std.proofs.Common.{length, zero, suc, slice_get, slice_index_or, ◌≡◌, ◌≤◌, ◌<◌, ◌+◌, ◌||◌, ◌&&◌, ℕ, Bool, true, false, not, nat_lt, List, [], ◌∷◌, Option, Some, None, set, take, is_none, if◌then◌else◌, arith, refl, sym, subst}
+use Rattle.std.proofs.Common.{length, zero, suc, slice_get, slice_index_or, ◌≡◌, ◌≤◌, ◌<◌, ◌+◌, ◌||◌, ◌&&◌, ℕ, Bool, true, false, not, nat_lt, List, [], ◌∷◌, Option, Some, None, set, take, is_some, is_none, if◌then◌else◌, arith, refl, sym, subst}
 use Rattle.std.proofs.lemmas.Bool.{le-ltb}
 use Rattle.std.proofs.lemmas.List.Elements.{All-set, All-head, All-tail, All-weaker, All-more}
 use Rattle.std.specs.List.{list_all}
 use Rattle.rtcp_wire.specs.declared.fact.Fact.{Fact}
 use Rattle.rtcp_wire.specs.declared.fact.Fact.TheVariants.{Heard, Told, Named, Gone, Media}
 use Rattle.rtcp_source.specs.Summary.{SourceValue}
+use Rattle.rtcp_source.specs.Packets.{is_counted}
+use Rattle.rtcp_source.specs.Steps.{taken_by}
 use Rattle.rtcp_members.specs.declared.bounds.Bounds.{Bounds}
 use Rattle.rtcp_members.specs.declared.entry.Entry.{Entry}
-use Rattle.rtcp_members.specs.Entries.{EntryValue}
+use Rattle.rtcp_members.specs.Entries.{EntryValue, is_member, is_sender}
 use Rattle.rtcp_members.specs.Traces.{horizons_at}
 use Rattle.rtcp_members.specs.Stays.{is_before}
 use Rattle.rtcp_members.specs.Tables.{entry_with_fact}
 use Rattle.rtcp_members.specs.ListViews.{entry_value, is_left, IsPlaceOf}
 use Rattle.rtcp_members.proofs.Applying.{read_there}
-use Rattle.rtcp_members.specs.Standing.{MarkStandsBy, StandsBy, AllStandBy, IsUpTo, IsNoLater}
+use Rattle.rtcp_members.specs.Standing.{KeepsCounts, MarkStandsBy, StandsBy, AllStandBy, IsUpTo, IsNoLater}
 
 -- ---- Lower bounds
 
@@ -86,3 +88,27 @@ all_left b silent idle gone within (e ∷ entries) all =
 -- One entry more is covered by bounds that are no later.
 pub all_covered : (b c : Bounds) → IsNoLater b c → (entries : List Entry) (at : ℕ) (d : Entry) → at < length entries → AllStandBy c (take at entries) → StandsBy b (entry_value (slice_index_or entries at d)) → AllStandBy b (take (at + 1) entries)
 all_covered b c lower entries at d within all its = All-more (stands b) entries at d within (all_lower b c lower (take at entries) all) its
+
+-- ---- Counts that a fact keeps
+
+by_packet : (counted : Bool) (t : ℕ) (valid : Bool) (sending : Option ℕ) → ((valid && true) && is_some sending) ≡ true →
+    (((counted || valid) && true) ≡ (valid && true)) × ((((counted || valid) && true) && is_some (if counted then Some t else sending)) ≡ ((valid && true) && is_some sending))
+by_packet counted t false sending sends = absurd cc
+by_packet counted t true None sends = absurd cc
+by_packet true t true (Some sent) sends = (refl, refl)
+by_packet false t true (Some sent) sends = (refl, refl)
+
+-- What a fact leaves as it is, by an entry's fields.
+kept_by : (rate : ℕ) (fact : Fact) (t : ℕ) (valid : Bool) (mark : Option ℕ) (sighting : ℕ) (sending : Option ℕ) (source : SourceValue) →
+    let e : EntryValue = record { valid = valid; mark = mark; sighting = sighting; sending = sending; source = source } in
+    KeepsCounts fact e → (is_member (entry_with_fact rate fact t e) ≡ is_member e) × (is_sender (entry_with_fact rate fact t e) ≡ is_sender e)
+kept_by rate fact t valid (Some mark) sighting sending source keeps = (refl, refl)
+kept_by rate (Heard ssrc) t valid None sighting sending source keeps = (refl, refl)
+kept_by rate (Told ssrc ntp) t valid None sighting sending source keeps = (refl, refl)
+kept_by rate (Named ssrc) t valid None sighting sending source keeps =
+    (λ i. sym keeps i && true, λ i. (sym keeps i && true) && is_some sending)
+kept_by rate (Gone ssrc) t valid None sighting sending source keeps = absurd keeps
+kept_by rate (Media ssrc seq timestamp) t valid None sighting sending source keeps = by_packet (is_counted (taken_by source seq)) t valid sending keeps
+
+pub counts_kept : (rate : ℕ) (fact : Fact) (t : ℕ) (e : EntryValue) → KeepsCounts fact e → (is_member (entry_with_fact rate fact t e) ≡ is_member e) × (is_sender (entry_with_fact rate fact t e) ≡ is_sender e)
+counts_kept rate fact t e keeps = kept_by rate fact t e.valid e.mark e.sighting e.sending e.source keeps

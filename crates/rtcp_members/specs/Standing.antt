@@ -1,11 +1,11 @@
 -- Up to which moments a check leaves entries as they are.
-use Rattle.std.specs.Prelude.{ℕ, ◌≤◌, List, All, Option, Some, None}
+use Rattle.std.specs.Prelude.{ℕ, ◌≡◌, ◌≤◌, true, List, All, Option, Some, None}
 use Rattle.rtcp_wire.specs.declared.fact.Fact.{Fact}
 use Rattle.rtcp_wire.specs.declared.fact.Fact.TheVariants.{Heard, Told, Named, Gone, Media}
 use Rattle.rtcp_members.specs.declared.bounds.Bounds.{Bounds}
 use Rattle.rtcp_members.specs.declared.counts.Counts.{Counts}
 use Rattle.rtcp_members.specs.declared.entry.Entry.{Entry}
-use Rattle.rtcp_members.specs.Entries.{EntryValue}
+use Rattle.rtcp_members.specs.Entries.{EntryValue, is_sender}
 use Rattle.rtcp_members.specs.ListViews.{entry_value}
 use Rattle.rtcp_members.specs.SortedViews.{IsSortedTable}
 
@@ -41,3 +41,11 @@ pub record IsKept (capacity room : ℕ) (counts : Counts) (bounds : Bounds) (ent
   pub sorted : IsSortedTable capacity counts.members counts.senders entries
   pub roomy : capacity ≤ room
   pub standing : AllStandBy bounds entries
+
+-- A fact that surely changes neither whether an entry is a member nor whether it is a sender.
+abbrev pub KeepsCounts : Fact → EntryValue → Type 0
+KeepsCounts (Heard ssrc) entry = Unit {0}
+KeepsCounts (Told ssrc ntp) entry = Unit {0}
+KeepsCounts (Named ssrc) entry = entry.valid ≡ true
+KeepsCounts (Gone ssrc) entry = ⊥
+KeepsCounts (Media ssrc seq timestamp) entry = is_sender entry ≡ true

@@ -11,6 +11,7 @@ ghost use Rattle.rtcp_wire.specs.Views.{block_value};
 ghost use Rattle.rtcp_wire.specs.Writing.{IsWritableBlock};
 ghost use Rattle.rtcp_source.specs.Blocks.{block_for};
 ghost use Rattle.rtcp_members.specs.Pending.{is_due, reported_entry};
+ghost use Rattle.rtcp_members.specs.Standing.{KeepsCounts};
 ghost use Rattle.rtcp_members.specs.Tables.{new_entry, counts, counted_of, entry_after, entry_with_fact, place_of};
 
 use crate::state::SourceState;
@@ -120,6 +121,18 @@ impl Entry {
         };
         let counted = self.take(fact, t, rate);
         Applied { place, counted }
+    }
+
+    /// Whether a fact of the source surely leaves it counted as it is.
+    pub(crate) fn keeps_counts(&self, fact: Fact) -> bool
+        ensures { IsTrue result → KeepsCounts fact (entry_value self.now) }
+    {
+        match fact {
+            Fact::Heard(_) | Fact::Told(_, _) => true,
+            Fact::Named(_) => self.valid,
+            Fact::Media(_, _, _) => self.is_sender(),
+            Fact::Gone(_) => false,
+        }
     }
 
     /// Whether a block of the source is due.

@@ -246,6 +246,9 @@ fn apply_at(
         table_of capacity rate entries.new ≡ after_fact fact t (table_of capacity rate entries.old) }
 {
     let entry = &mut entries[at];
+    if entry.keeps_counts(fact) {
+        return entry.apply(fact, t, rate);
+    }
     counts.remove(entry);
     let applied = entry.apply(fact, t, rate);
     counts.add(entry);

@@ -1,14 +1,14 @@
 -- The entry at the place is the one that the map has; it leaves the counts, and what became of it joins them.
-use Rattle.std.proofs.Common.{arith, slice_index_or, sym, subst}
+use Rattle.std.proofs.Common.{arith, slice_index_or, ◌∙◌, ap, sym, subst}
 use Rattle.rtcp_wire.specs.Facts.{subject}
 use Rattle.rtcp_members.specs.Entries.{is_member, is_sender}
 use Rattle.rtcp_members.proofs.Applying.{place_applied, counted_applied, table_applied}
 use Rattle.rtcp_members.proofs.Rising.{rising_apart}
 use Rattle.rtcp_members.proofs.Weights.{tally_at_most}
-use Rattle.rtcp_members.proofs.Placing.{counted_there, few_there, ordered_set}
+use Rattle.rtcp_members.proofs.Placing.{counted_there, few_there, ordered_kept, ordered_set}
 use Rattle.rtcp_members.specs.ListViews.{entry_value}
 use Rattle.rtcp_members.specs.Standing.{StandsBy}
-use Rattle.rtcp_members.proofs.Standing.{all_set, stands_after, stands_there}
+use Rattle.rtcp_members.proofs.Standing.{all_set, counts_kept, stands_after, stands_there}
 use Rattle.rtcp_members.proofs.sorted_table.apply_at.Goals as goal
 
 pub remove-requires-clause-members : goal.remove-requires-clause-members
@@ -46,3 +46,31 @@ returns-clause-stand c bounds up all =
     let read = slice_index_or c.args.entries.now c.args.at c.index-entries-at.result in
     all_set bounds c.args.entries.now c.args.at c.apply-applied.new.self all
     (subst (StandsBy bounds) (sym c.apply-applied.ensures.value) (stands_after bounds c.args.rate c.args.fact c.args.t (entry_value read) up (stands_there bounds c.args.entries.now c.args.at c.index-entries-at.result (subject c.args.fact) c.requires.place all)))
+
+-- ---- A fact that keeps the counts
+
+pub apply-requires : goal.apply-requires
+apply-requires c = λ is_media. few_there (subject c.args.fact) c.args.entries.now c.args.at c.index-entries-at.result c.requires.place (c.requires.few is_media)
+
+pub returns-then-keeps_counts-clause-ordered : goal.returns-then-keeps_counts-clause-ordered
+returns-then-keeps_counts-clause-ordered c =
+    let read = slice_index_or c.args.entries.now c.args.at c.index-entries-at.result in
+    let kept = counts_kept c.args.rate c.args.fact c.args.t (entry_value read) (c.keeps_counts.ensures c.if-keeps_counts.true) in
+    ordered_kept (subject c.args.fact) c.args.entries.now c.args.at c.index-entries-at.result c.requires.place c.apply.new.self c.args.counts.now.members c.args.counts.now.senders c.requires.ordered c.apply.ensures.ssrc
+    (ap is_member c.apply.ensures.value ∙ kept.0) (ap is_sender c.apply.ensures.value ∙ kept.1)
+
+pub returns-then-keeps_counts-clause-place : goal.returns-then-keeps_counts-clause-place
+returns-then-keeps_counts-clause-place c = place_applied c.args.entries.now c.args.at c.args.fact c.args.rate c.index-entries-at.result c.apply.result.place c.requires.place c.apply.ensures.place
+
+pub returns-then-keeps_counts-clause-counted : goal.returns-then-keeps_counts-clause-counted
+returns-then-keeps_counts-clause-counted c = counted_applied c.args.entries.now c.args.at c.args.fact c.args.rate c.index-entries-at.result c.apply.result.counted c.requires.place c.apply.ensures.counted
+
+pub returns-then-keeps_counts-clause-stand : goal.returns-then-keeps_counts-clause-stand
+returns-then-keeps_counts-clause-stand c bounds up all =
+    let read = slice_index_or c.args.entries.now c.args.at c.index-entries-at.result in
+    all_set bounds c.args.entries.now c.args.at c.apply.new.self all
+    (subst (StandsBy bounds) (sym c.apply.ensures.value) (stands_after bounds c.args.rate c.args.fact c.args.t (entry_value read) up (stands_there bounds c.args.entries.now c.args.at c.index-entries-at.result (subject c.args.fact) c.requires.place all)))
+
+pub returns-then-keeps_counts-clause-table : goal.returns-then-keeps_counts-clause-table
+returns-then-keeps_counts-clause-table c =
+    table_applied c.args.entries.now c.args.at c.args.fact c.args.t c.args.rate c.index-entries-at.result c.apply.new.self (rising_apart c.args.entries.now c.requires.ordered.rising) c.requires.place c.apply.ensures.ssrc c.apply.ensures.value
