@@ -10,9 +10,9 @@ use Rattle.std.proofs.lemmas.Bool.Decides.{nat_tests}
 use Rattle.std.proofs.lemmas.List.Sorted.{IsPartitionedBy-leb}
 use Rattle.rtcp_members.specs.declared.entry.Entry.{Entry}
 use Rattle.rtcp_members.specs.Tables.{TableValue}
-use Rattle.rtcp_members.specs.ListViews.{row_of, rows_of, map_of, table_of}
+use Rattle.rtcp_members.specs.ListViews.{entry_value, row_of, rows_of, map_of, table_of, tally_of}
 use Rattle.rtcp_members.specs.SortedViews.{IsRising}
-use Rattle.rtcp_members.specs.Pending.{EntryRow, first_ssrc, is_above, is_due, pending}
+use Rattle.rtcp_members.specs.Pending.{EntryRow, due_rows, in_turn, first_ssrc, is_above, is_due, pending}
 use Rattle.rtcp_members.proofs.Listing.{get_rows}
 use Rattle.rtcp_members.proofs.LeastDue.{filter_twice, none_first, some_first}
 use Rattle.rtcp_members.proofs.Rising.{rises}
@@ -73,6 +73,21 @@ pub entries_of_rising : (entries : List Entry) → IsRising entries → finite.e
 entries_of_rising entries rising =
     same_entries nat_cmp nat_cmp_total nat_cmp-IsAntisymmetric (finite.entries (map_of entries)) (rows_of entries) (finite.entries_sorted (map_of entries)) rising
     (λ q. sym (finite.get-entries (map_of entries) q) ∙ get_rows entries q)
+
+no_due_rows : (entries : List Entry) → tally_of is_due entries ≡ 0 → filter (λ (row : EntryRow). is_due row.1) (rows_of entries) ≡ []
+no_due_rows [] none = refl
+no_due_rows (e ∷ entries) none =
+    elim (is_due (entry_value e)) as (λ b. length (if b then e ∷ filter (λ (x : Entry). is_due (entry_value x)) entries else filter (λ (x : Entry). is_due (entry_value x)) entries) ≡ 0
+    → (if b then row_of e ∷ filter (λ (row : EntryRow). is_due row.1) (rows_of entries) else filter (λ (row : EntryRow). is_due row.1) (rows_of entries)) ≡ []) [
+      | true ↦ λ none. absurd (omega (arith, none))
+      | false ↦ λ none. no_due_rows entries none
+    ] none
+
+-- Where no entry is due, no source is pending.
+pub none_pending : (last : Option ℕ) (capacity rate : ℕ) (entries : List Entry) (table : TableValue) → table_of capacity rate entries ≡ table → IsRising entries → tally_of is_due entries ≡ 0 → None ≡ first_ssrc (pending last table)
+none_pending last capacity rate entries table is rising none =
+    let rows : due_rows table ≡ [] = ap due_rows (sym is) ∙ ap (filter (λ (row : EntryRow). is_due row.1)) (entries_of_rising entries rising) ∙ no_due_rows entries none in
+    sym (ap (λ (rows : List EntryRow). first_ssrc (in_turn last rows)) rows)
 
 either_way : (a b : Bool) → (a && b) ≡ (b && a)
 either_way true true = refl

@@ -1,13 +1,14 @@
 -- A fact or a block at an entry of a sorted list, and its counts.
-use Rattle.std.proofs.Common.{◌≡◌, ◌≤◌, ◌+◌, ℕ, Bool, List, set, IfSome, slice_index_or, if◌then◌else◌, arith, sym, ap, subst, ◌∙◌}
+use Rattle.std.proofs.Common.{◌≡◌, ◌≤◌, ◌+◌, ℕ, Bool, true, List, set, IfSome, IsTrue, slice_index_or, if◌then◌else◌, arith, sym, ap, subst, ◌∙◌}
 use Rattle.std.specs.FinMap as finite
 use Rattle.rtcp_members.specs.declared.entry.Entry.{Entry}
-use Rattle.rtcp_members.specs.Entries.{EntryValue, is_member, is_sender}
+use Rattle.rtcp_members.specs.Entries.{EntryValue, is_member, is_sender, is_such}
 use Rattle.rtcp_members.specs.Tables.{IsFew}
-use Rattle.rtcp_members.specs.Pending.{reported_entry}
+use Rattle.rtcp_members.specs.Pending.{is_due, reported_entry}
 use Rattle.rtcp_members.specs.ListViews.{entry_value, map_of, tally_of, weight_of, IsPlaceOf}
 use Rattle.rtcp_members.specs.SortedViews.{IsOrdered}
 use Rattle.rtcp_members.proofs.Applying.{read_there}
+use Rattle.rtcp_members.proofs.Turns.{not_due}
 use Rattle.rtcp_members.proofs.Rising.{rising_set}
 use Rattle.rtcp_members.proofs.Weights.{tally_set, weight_within}
 
@@ -21,7 +22,7 @@ module _ (ssrc : ℕ) (entries : List Entry) (at : ℕ) (d : Entry) (place : IsP
       subst (λ (y : Entry). IsFew (entry_value y)) (sym (read_there ssrc entries at d place)) its
 
   -- a count that the entry left, and that what became of it joined
-  recounted : (test : EntryValue → Bool) (next : Entry) (old between new : ℕ) → old ≡ tally_of test entries → old ≡ weight_of test (slice_index_or entries at d) + between
+  pub recounted : (test : EntryValue → Bool) (next : Entry) (old between new : ℕ) → old ≡ tally_of test entries → old ≡ weight_of test (slice_index_or entries at d) + between
       → new ≡ weight_of test next + between → new ≡ tally_of test (set entries at next)
   recounted test next old between new was left joined =
       omega (arith, was, left, joined, ap (weight_of test) (read_there ssrc entries at d place), tally_set test entries at place.entry next place.stands)
@@ -54,7 +55,7 @@ module _ (ssrc : ℕ) (entries : List Entry) (at : ℕ) (d : Entry) (place : IsP
       }
 
   -- What keeps a test keeps its count.
-  kept_count : (test : EntryValue → Bool) (next : Entry) (count : ℕ) → count ≡ tally_of test entries → test (entry_value next) ≡ test (entry_value (slice_index_or entries at d)) → count ≡ tally_of test (set entries at next)
+  pub kept_count : (test : EntryValue → Bool) (next : Entry) (count : ℕ) → count ≡ tally_of test entries → test (entry_value next) ≡ test (entry_value (slice_index_or entries at d)) → count ≡ tally_of test (set entries at next)
   kept_count test next count was same =
       let as_was : weight_of test next ≡ weight_of test (slice_index_or entries at d) = ap (λ (b : Bool). if b then 1 else 0) same in
       omega (arith, was, as_was, ap (weight_of test) (read_there ssrc entries at d place), tally_set test entries at place.entry next place.stands)
@@ -67,3 +68,20 @@ module _ (ssrc : ℕ) (entries : List Entry) (at : ℕ) (d : Entry) (place : IsP
         its_members = kept_count is_member next members ordered.its_members as_member;
         its_senders = kept_count is_sender next senders ordered.its_senders as_sender;
       }
+
+  -- ---- A source of which a block is due
+
+  due_weight : IsTrue (is_such is_due (finite.get (map_of entries) ssrc)) → weight_of is_due place.entry ≡ 1
+  due_weight due =
+      let its : is_due (entry_value place.entry) ≡ true = subst (λ o. IsTrue (is_such is_due o)) place.found due in
+      ap (λ (b : Bool). if b then 1 else 0) its
+
+  pub due_counts : IsTrue (is_such is_due (finite.get (map_of entries) ssrc)) → 1 ≤ tally_of is_due entries
+  due_counts due = omega (arith, due_weight due, weight_within is_due entries at place.entry place.stands)
+
+  -- Once its block is made, it is due no more.
+  pub due_reported : (next : Entry) → IsTrue (is_such is_due (finite.get (map_of entries) ssrc)) → entry_value next ≡ reported_entry (entry_value (slice_index_or entries at d))
+      → tally_of is_due entries ≡ tally_of is_due (set entries at next) + 1
+  due_reported next due value =
+      let none : weight_of is_due next ≡ 0 = ap (λ (b : Bool). if b then 1 else 0) (ap is_due value ∙ not_due (entry_value (slice_index_or entries at d))) in
+      omega (arith, none, due_weight due, tally_set is_due entries at place.entry next place.stands)

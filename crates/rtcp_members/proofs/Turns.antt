@@ -80,7 +80,7 @@ not_news : (run : Option RunValue) → news_of (run_reported run) ≡ false
 not_news None = refl
 not_news (Some run) = grind (arith, nat_tests)
 
-not_due : (entry : EntryValue) → is_due (reported_entry entry) ≡ false
+pub not_due : (entry : EntryValue) → is_due (reported_entry entry) ≡ false
 not_due entry = ap (λ b. is_none entry.mark && b) (not_news entry.source.run) ∙ elim (is_none entry.mark) as (λ b. (b && false) ≡ false) [ true ↦ refl | false ↦ refl ]
 
 -- A row in its place that is not due leaves the others due.

@@ -6,7 +6,8 @@ use Rattle.rtcp_members.specs.declared.bounds.Bounds.{Bounds}
 use Rattle.rtcp_members.specs.declared.counts.Counts.{Counts}
 use Rattle.rtcp_members.specs.declared.entry.Entry.{Entry}
 use Rattle.rtcp_members.specs.Entries.{EntryValue, is_sender}
-use Rattle.rtcp_members.specs.ListViews.{entry_value}
+use Rattle.rtcp_members.specs.Pending.{is_due}
+use Rattle.rtcp_members.specs.ListViews.{entry_value, tally_of}
 use Rattle.rtcp_members.specs.SortedViews.{IsSortedTable}
 
 -- The mark is no earlier than its bound, and without one the last counted packet.
@@ -37,15 +38,18 @@ pub record IsNoLater (one other : Bounds) : Type 0 where
   pub gone : one.gone ≤ other.gone
 
 -- What holds of a sorted table: its list and counts, the room that it has for its capacity, and its bounds.
-pub record IsKept (capacity room : ℕ) (counts : Counts) (bounds : Bounds) (entries : List Entry) : Type 0 where
+pub record IsKept (capacity room : ℕ) (counts : Counts) (bounds : Bounds) (entries : List Entry) :
+    Type 0 where
   pub sorted : IsSortedTable capacity counts.members counts.senders entries
+  pub its_due : counts.due ≡ tally_of is_due entries
   pub roomy : capacity ≤ room
   pub standing : AllStandBy bounds entries
 
--- A fact that surely changes neither whether an entry is a member nor whether it is a sender.
+-- A fact that surely leaves an entry as it is counted: as a member, as a sender, and as one of which a block
+-- is due.
 abbrev pub KeepsCounts : Fact → EntryValue → Type 0
 KeepsCounts (Heard ssrc) entry = Unit {0}
 KeepsCounts (Told ssrc ntp) entry = Unit {0}
 KeepsCounts (Named ssrc) entry = entry.valid ≡ true
 KeepsCounts (Gone ssrc) entry = ⊥
-KeepsCounts (Media ssrc seq timestamp) entry = is_sender entry ≡ true
+KeepsCounts (Media ssrc seq timestamp) entry = (is_sender entry ≡ true) × (is_due entry ≡ true)

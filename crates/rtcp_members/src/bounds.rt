@@ -4,6 +4,7 @@ ghost use Rattle.std.specs.Prelude.{◌≡◌, ◌≤◌, true, length, IsTrue, 
 ghost use Rattle.std.specs.List.{list_all};
 ghost use Rattle.rtcp_members.specs.Entries.{is_member, is_sender};
 ghost use Rattle.rtcp_members.specs.Traces.{horizons_at};
+ghost use Rattle.rtcp_members.specs.Pending.{is_due};
 ghost use Rattle.rtcp_members.specs.ListViews.{entry_value, tally_of, is_left};
 ghost use Rattle.rtcp_members.specs.Standing.{AllStandBy, IsNoLater, IsUpTo, StandsBy};
 
@@ -11,7 +12,8 @@ use crate::counts::Counts;
 use crate::entry::Entry;
 use rtcp_wire::Fact;
 
-/// Bounds from below of the moments of a list of entries: a check whose horizons do not pass them changes nothing.
+/// Bounds from below of the moments of a list of entries: a check whose horizons do not pass them changes
+/// nothing.
 #[derive(Clone, Copy)]
 pub(crate) struct Bounds {
     /// Of the last sightings.
@@ -49,7 +51,8 @@ impl Bounds {
 
     /// Whether none of these horizons passes them.
     pub(crate) fn reach(&self, silent: u64, idle: u64, gone: u64) -> bool
-        ensures { IsTrue result → (silent ≤ self.now.silent) × (idle ≤ self.now.idle) × (gone ≤ self.now.gone) }
+        ensures { IsTrue result →
+            (silent ≤ self.now.silent) × (idle ≤ self.now.idle) × (gone ≤ self.now.gone) }
     {
         silent <= self.silent && idle <= self.idle && gone <= self.gone
     }
@@ -91,6 +94,7 @@ pub(crate) fn measure(entries: &[Entry]) -> (Counts, Bounds)
     requires { length entries.now ≤ 1024 }
     ensures members { result.0.members ≡ tally_of is_member entries.now }
     ensures senders { result.0.senders ≡ tally_of is_sender entries.now }
+    ensures due { result.0.due ≡ tally_of is_due entries.now }
     ensures stand { AllStandBy result.1 entries.now }
 {
     let mut counts = Counts::none();

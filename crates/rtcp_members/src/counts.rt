@@ -1,16 +1,20 @@
-//! How many entries of a list are members and senders (RFC 3550, 6.2.1 and 6.3).
+//! How many entries of a list are members and senders (RFC 3550, 6.2.1 and 6.3), and of how many a block is
+//! due (6.4).
 
 ghost use Rattle.std.specs.Prelude.{◌≡◌, ◌+◌, ◌≤◌, ◌<◌, ◌^◌, length};
 ghost use Rattle.rtcp_members.specs.Entries.{is_member, is_sender};
+ghost use Rattle.rtcp_members.specs.Pending.{is_due};
 ghost use Rattle.rtcp_members.specs.ListViews.{entry_value, tally_of, weight_of};
 
 use crate::entry::Entry;
 
-/// How many members and senders there are.
+/// How many members, senders and sources with news there are.
 #[derive(Clone, Copy)]
 pub(crate) struct Counts {
     pub(crate) members: u32,
     pub(crate) senders: u32,
+    /// Those of which a block is due.
+    pub(crate) due: u32,
 }
 
 impl Counts {
@@ -18,10 +22,12 @@ impl Counts {
     pub(crate) fn none() -> Counts
         ensures members { result.members ≡ 0 }
         ensures senders { result.senders ≡ 0 }
+        ensures due { result.due ≡ 0 }
     {
         Counts {
             members: 0,
             senders: 0,
+            due: 0,
         }
     }
 
@@ -29,22 +35,28 @@ impl Counts {
     pub(crate) fn add(&mut self, entry: &Entry)
         requires members { self.old.members + 1 < 2 ^ 32 }
         requires senders { self.old.senders + 1 < 2 ^ 32 }
+        requires due { self.old.due + 1 < 2 ^ 32 }
         ensures members { self.new.members ≡ weight_of is_member entry.now + self.old.members }
         ensures senders { self.new.senders ≡ weight_of is_sender entry.now + self.old.senders }
+        ensures due { self.new.due ≡ weight_of is_due entry.now + self.old.due }
     {
         self.members += u32::from(entry.is_member());
         self.senders += u32::from(entry.is_sender());
+        self.due += u32::from(entry.is_due());
     }
 
     /// Counts an entry no more.
     pub(crate) fn remove(&mut self, entry: &Entry)
         requires members { weight_of is_member entry.now ≤ self.old.members }
         requires senders { weight_of is_sender entry.now ≤ self.old.senders }
+        requires due { weight_of is_due entry.now ≤ self.old.due }
         ensures members { self.old.members ≡ weight_of is_member entry.now + self.new.members }
         ensures senders { self.old.senders ≡ weight_of is_sender entry.now + self.new.senders }
+        ensures due { self.old.due ≡ weight_of is_due entry.now + self.new.due }
     {
         self.members -= u32::from(entry.is_member());
         self.senders -= u32::from(entry.is_sender());
+        self.due -= u32::from(entry.is_due());
     }
 }
 
@@ -53,6 +65,7 @@ pub(crate) fn tally(entries: &[Entry]) -> Counts
     requires { length entries.now ≤ 1024 }
     ensures members { result.members ≡ tally_of is_member entries.now }
     ensures senders { result.senders ≡ tally_of is_sender entries.now }
+    ensures due { result.due ≡ tally_of is_due entries.now }
 {
     let mut counts = Counts::none();
     'entries: for entry in entries {

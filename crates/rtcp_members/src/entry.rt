@@ -130,7 +130,7 @@ impl Entry {
         match fact {
             Fact::Heard(_) | Fact::Told(_, _) => true,
             Fact::Named(_) => self.valid,
-            Fact::Media(_, _, _) => self.is_sender(),
+            Fact::Media(_, _, _) => self.is_sender() && self.is_due(),
             Fact::Gone(_) => false,
         }
     }

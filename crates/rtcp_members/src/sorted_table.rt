@@ -5,7 +5,7 @@ ghost use Rattle.std.specs.FinMap as finite;
 ghost use Rattle.rtcp_wire.specs.Facts.{subject, is_media};
 ghost use Rattle.rtcp_members.specs.Traces.{horizons_at};
 ghost use Rattle.rtcp_members.specs.Told.{first_state};
-ghost use Rattle.rtcp_members.specs.ListViews.{entry_value, state_value, rows_of, map_of, table_of, IsPlaceOf};
+ghost use Rattle.rtcp_members.specs.ListViews.{entry_value, state_value, rows_of, map_of, table_of, tally_of, IsPlaceOf};
 ghost use Rattle.rtcp_members.specs.SortedViews.{IsRising, IsOrdered, IsSortedTable, IsGapFor};
 ghost use Rattle.rtcp_members.specs.declared.bounds.Bounds.{Bounds as BoundsOf};
 ghost use Rattle.rtcp_members.specs.Standing.{AllStandBy, IsUpTo};
@@ -26,9 +26,9 @@ use rtcp_wire::{Block, Fact};
 use std::alloc::{AllocError, Global};
 use std::marker::Model;
 
-/// A table of members by rising SSRC, over where its entries lie. It finds a source by binary search, and knows its
-/// counts without a walk. It keeps bounds of what a check goes by, so a check that they rule out reads no entry.
-/// No call allocates.
+/// A table of members by rising SSRC, over where its entries lie. It finds a source by binary search, and
+/// knows its counts without a walk. It keeps bounds of what a check goes by, so a check that they rule out
+/// reads no entry. No call allocates.
 #[derive(Drop)]
 pub struct Sorted<S: Storage> {
     capacity: u32,
@@ -192,6 +192,9 @@ impl<S: Storage> MemberTable for Sorted<S> {
     }
 
     fn next_with_news(&self, after: Option<u32>) -> Option<u32> {
+        if self.counts.due == 0 {
+            return None;
+        }
         let entries = self.entries.as_slice();
         let (before, rest) = entries.split_at(first_above(entries, after));
         match first_due(rest) {
@@ -203,7 +206,8 @@ impl<S: Storage> MemberTable for Sorted<S> {
     fn block_of(&mut self, ssrc: u32, t: u64) -> Block {
         let at = search(self.entries.as_slice(), self.last_place, ssrc).unwrap();
         self.last_place = at;
-        report_at(self.entries.as_mut_slice(), at, ssrc, t)
+        let entries = self.entries.as_mut_slice();
+        report_at(entries, &mut self.counts.due, at, ssrc, t)
     }
 
     fn source_above(&self, after: Option<u32>) -> Option<SourceState> {
@@ -234,10 +238,12 @@ fn apply_at(
     rate: u32,
 ) -> Applied
     requires ordered { IsOrdered counts.old.members counts.old.senders entries.old }
+    requires its_due { counts.old.due ≡ tally_of is_due entries.old }
     requires within { length entries.old ≤ 1024 }
     requires place { IsPlaceOf (subject fact) entries.old at }
     requires few { IsTrue (is_media fact) → IfSome (finite.get (map_of entries.old) (subject fact)) IsFew }
     ensures ordered { IsOrdered counts.new.members counts.new.senders entries.new }
+    ensures its_due { counts.new.due ≡ tally_of is_due entries.new }
     ensures place { (capacity : ℕ) → result.place ≡ placed (table_of capacity rate entries.old) fact }
     ensures counted { (capacity : ℕ) → result.counted ≡ counted (table_of capacity rate entries.old) fact }
     ensures stand { (bounds : BoundsOf) → IsUpTo bounds fact t → AllStandBy bounds entries.old →
@@ -266,9 +272,11 @@ fn admit<S: Storage>(
     rate: u32,
 ) -> Place
     requires sorted { IsSortedTable capacity counts.old.members counts.old.senders (S.items entries.old) }
+    requires its_due { counts.old.due ≡ tally_of is_due (S.items entries.old) }
     requires room { capacity ≤ S.room entries.old }
     requires gap { IsGapFor (subject fact) (S.items entries.old) gap }
     ensures sorted { IsSortedTable capacity counts.new.members counts.new.senders (S.items entries.new) }
+    ensures its_due { counts.new.due ≡ tally_of is_due (S.items entries.new) }
     ensures room { capacity ≤ S.room entries.new }
     ensures in_place { S.block entries.new ≡ S.block entries.old }
     ensures place { result ≡ placed (table_of capacity rate (S.items entries.old)) fact }
@@ -326,13 +334,15 @@ fn first_due(entries: &[Entry]) -> Option<u32>
     None
 }
 
-/// The block of the source whose entry stands at `at`.
-fn report_at(entries: &mut [Entry], at: usize, ssrc: u32, t: u64) -> Block
+/// The block of the source whose entry stands at `at`, and which is counted as due no more.
+fn report_at(entries: &mut [Entry], counted: &mut u32, at: usize, ssrc: u32, t: u64) -> Block
+    requires counted { counted.old ≡ tally_of is_due entries.old }
     requires rising { IsRising entries.old }
     requires place { IsPlaceOf ssrc entries.old at }
     requires due { IsTrue (is_such is_due (finite.get (map_of entries.old) ssrc)) }
     ensures ordered { (members senders : ℕ) →
         IsOrdered members senders entries.old → IsOrdered members senders entries.new }
+    ensures counted { counted.new ≡ tally_of is_due entries.new }
     ensures stand { (bounds : BoundsOf) → AllStandBy bounds entries.old → AllStandBy bounds entries.new }
     ensures block { (capacity rate : ℕ) →
         Some (block_value result) ≡ block_at ssrc t (table_of capacity rate entries.old) }
@@ -340,5 +350,6 @@ fn report_at(entries: &mut [Entry], at: usize, ssrc: u32, t: u64) -> Block
         table_of capacity rate entries.new ≡ after_block ssrc (table_of capacity rate entries.old) }
     ensures writable { IsWritableBlock (block_value result) }
 {
+    *counted -= 1;
     entries[at].report(t)
 }

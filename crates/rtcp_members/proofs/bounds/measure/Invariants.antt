@@ -1,6 +1,7 @@
 -- The entries so far are counted, and stand by the bounds.
 use Rattle.std.proofs.Common.{◌≡◌, take}
 use Rattle.rtcp_members.specs.Entries.{is_member, is_sender}
+use Rattle.rtcp_members.specs.Pending.{is_due}
 use Rattle.rtcp_members.specs.ListViews.{tally_of}
 use Rattle.rtcp_members.specs.Standing.{AllStandBy}
 use Rattle.rtcp_members.proofs.bounds.measure.Given as goal
@@ -10,5 +11,6 @@ invariant-entries l =
     record {
       members : l.counts.members ≡ tally_of is_member (take l.entry-index l.entries);
       senders : l.counts.senders ≡ tally_of is_sender (take l.entry-index l.entries);
+      due : l.counts.due ≡ tally_of is_due (take l.entry-index l.entries);
       stand : AllStandBy l.bounds (take l.entry-index l.entries);
     }

@@ -3,9 +3,10 @@ use Rattle.std.proofs.Common.{rules, arith}
 use Rattle.std.specs.List.{insert}
 use Rattle.rtcp_wire.specs.Facts.{subject}
 use Rattle.rtcp_members.specs.Entries.{is_member, is_sender}
+use Rattle.rtcp_members.specs.Pending.{is_due}
 use Rattle.rtcp_members.proofs.Rising.{rising_apart}
 use Rattle.rtcp_members.proofs.Searching.{none_in_gap}
-use Rattle.rtcp_members.proofs.Weights.{tally_at_most}
+use Rattle.rtcp_members.proofs.Weights.{tally_at_most, tally_insert}
 use Rattle.rtcp_members.proofs.Admitting.{ignored, no_room, admitted}
 use Rattle.rtcp_members.proofs.Inserting.{map_inserted, sorted_insert}
 use Rattle.rtcp_members.proofs.sorted_table.admit.Goals as goal
@@ -35,6 +36,14 @@ add-requires-clause-members g c =
 pub add-requires-clause-senders : goal.add-requires-clause-senders
 add-requires-clause-senders g c =
     omega (arith, c.requires.sorted.ordered.its_senders, c.requires.sorted.within, c.requires.sorted.room, tally_at_most is_sender (g.S.Storage.items c.args.entries.now))
+
+pub add-requires-clause-due : goal.add-requires-clause-due
+add-requires-clause-due g c =
+    omega (arith, c.requires.its_due, c.requires.sorted.within, c.requires.sorted.room, tally_at_most is_due (g.S.Storage.items c.args.entries.now))
+
+pub returns-clause-its_due : goal.returns-clause-its_due
+returns-clause-its_due g c =
+    rw c.insert.ensures.items (omega (arith, c.requires.its_due, c.add.ensures.due, tally_insert is_due (g.S.Storage.items c.args.entries.now) c.args.gap c.take.new.self))
 
 pub returns-clause-sorted : goal.returns-clause-sorted
 returns-clause-sorted g c =

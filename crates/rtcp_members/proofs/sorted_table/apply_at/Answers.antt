@@ -2,10 +2,11 @@
 use Rattle.std.proofs.Common.{arith, slice_index_or, ◌∙◌, ap, sym, subst}
 use Rattle.rtcp_wire.specs.Facts.{subject}
 use Rattle.rtcp_members.specs.Entries.{is_member, is_sender}
+use Rattle.rtcp_members.specs.Pending.{is_due}
 use Rattle.rtcp_members.proofs.Applying.{place_applied, counted_applied, table_applied}
 use Rattle.rtcp_members.proofs.Rising.{rising_apart}
 use Rattle.rtcp_members.proofs.Weights.{tally_at_most}
-use Rattle.rtcp_members.proofs.Placing.{counted_there, few_there, ordered_kept, ordered_set}
+use Rattle.rtcp_members.proofs.Placing.{counted_there, few_there, kept_count, ordered_kept, ordered_set, recounted}
 use Rattle.rtcp_members.specs.ListViews.{entry_value}
 use Rattle.rtcp_members.specs.Standing.{StandsBy}
 use Rattle.rtcp_members.proofs.Standing.{all_set, counts_kept, stands_after, stands_there}
@@ -25,6 +26,16 @@ add-requires-clause-members c = omega (arith, c.remove.ensures.members, c.requir
 
 pub add-requires-clause-senders : goal.add-requires-clause-senders
 add-requires-clause-senders c = omega (arith, c.remove.ensures.senders, c.requires.ordered.its_senders, tally_at_most is_sender c.args.entries.now, c.requires.within)
+
+pub remove-requires-clause-due : goal.remove-requires-clause-due
+remove-requires-clause-due c = omega (arith, counted_there (subject c.args.fact) c.args.entries.now c.args.at c.index-entries-at.result c.requires.place is_due, c.requires.its_due)
+
+pub add-requires-clause-due : goal.add-requires-clause-due
+add-requires-clause-due c = omega (arith, c.remove.ensures.due, c.requires.its_due, tally_at_most is_due c.args.entries.now, c.requires.within)
+
+pub returns-clause-its_due : goal.returns-clause-its_due
+returns-clause-its_due c =
+    recounted (subject c.args.fact) c.args.entries.now c.args.at c.index-entries-at.result c.requires.place is_due c.apply-applied.new.self c.args.counts.now.due c.remove.new.self.due c.add.new.self.due c.requires.its_due c.remove.ensures.due c.add.ensures.due
 
 pub returns-clause-ordered : goal.returns-clause-ordered
 returns-clause-ordered c =
@@ -58,6 +69,12 @@ returns-then-keeps_counts-clause-ordered c =
     let kept = counts_kept c.args.rate c.args.fact c.args.t (entry_value read) (c.keeps_counts.ensures c.if-keeps_counts.true) in
     ordered_kept (subject c.args.fact) c.args.entries.now c.args.at c.index-entries-at.result c.requires.place c.apply.new.self c.args.counts.now.members c.args.counts.now.senders c.requires.ordered c.apply.ensures.ssrc
     (ap is_member c.apply.ensures.value ∙ kept.0) (ap is_sender c.apply.ensures.value ∙ kept.1)
+
+pub returns-then-keeps_counts-clause-its_due : goal.returns-then-keeps_counts-clause-its_due
+returns-then-keeps_counts-clause-its_due c =
+    let read = slice_index_or c.args.entries.now c.args.at c.index-entries-at.result in
+    let kept = counts_kept c.args.rate c.args.fact c.args.t (entry_value read) (c.keeps_counts.ensures c.if-keeps_counts.true) in
+    kept_count (subject c.args.fact) c.args.entries.now c.args.at c.index-entries-at.result c.requires.place is_due c.apply.new.self c.args.counts.now.due c.requires.its_due (ap is_due c.apply.ensures.value ∙ kept.2)
 
 pub returns-then-keeps_counts-clause-place : goal.returns-then-keeps_counts-clause-place
 returns-then-keeps_counts-clause-place c = place_applied c.args.entries.now c.args.at c.args.fact c.args.rate c.index-entries-at.result c.apply.result.place c.requires.place c.apply.ensures.place

@@ -2,6 +2,7 @@
 use Rattle.std.proofs.Common.{rules, ◌∙◌, ap, arith, length, subst}
 use Rattle.rtcp_members.specs.Traces.{horizons_at}
 use Rattle.rtcp_members.specs.Entries.{is_member, is_sender}
+use Rattle.rtcp_members.specs.Pending.{is_due}
 use Rattle.rtcp_members.specs.Tables.{after_check}
 use Rattle.rtcp_members.specs.ListViews.{tally_of}
 use Rattle.rtcp_members.specs.Standing.{AllStandBy}
@@ -52,6 +53,7 @@ pub invariant_of-self : goal.invariant_of-self
 invariant_of-self g c =
     record {
       sorted = c.self.invariant.sorted;
+      its_due = c.self.invariant.its_due;
       roomy = c.self.invariant.roomy;
       standing = subst (AllStandBy c.in-Some.bounds) c.as_slice.ensures.value c.in-Some.ensures.stand;
     }
@@ -62,6 +64,7 @@ invariant_of-self-2 g c =
       sorted = sorted_checked (horizons_at c.args.silent c.args.idle c.args.gone) c.self.inside.capacity c.self.inside.counts.members c.self.inside.counts.senders c.measure.result.0.members c.measure.result.0.senders
           (g.S.Storage.items c.self.inside.entries) (g.S.Storage.items c.drop_silent.new.self) c.drop_silent.ensures.items c.self.invariant.sorted (c.measure.ensures.members ∙ ap (tally_of is_member) c.as_slice-2.ensures.value)
           (c.measure.ensures.senders ∙ ap (tally_of is_sender) c.as_slice-2.ensures.value);
+      its_due = c.measure.ensures.due ∙ ap (tally_of is_due) c.as_slice-2.ensures.value;
       roomy = omega (arith, c.self.invariant.roomy, c.drop_silent.ensures.room);
       standing = subst (AllStandBy c.measure.result.1) c.as_slice-2.ensures.value c.measure.ensures.stand;
     }

@@ -1,8 +1,10 @@
 -- The list that the call worked on is the table's, and a source without an entry counts no packet.
-use Rattle.std.proofs.Common.{rules, arith, ◌∙◌, ap, sym, subst, length}
+use Rattle.std.proofs.Common.{rules, arith, ◌∙◌, ap, sym, subst, length, List, ◌≡◌}
 use Rattle.rtcp_wire.specs.Facts.{subject}
 use Rattle.rtcp_members.specs.Tables.{counted, counted_of}
-use Rattle.rtcp_members.specs.ListViews.{table_of}
+use Rattle.rtcp_members.specs.ListViews.{table_of, tally_of}
+use Rattle.rtcp_members.specs.declared.entry.Entry.{Entry}
+use Rattle.rtcp_members.specs.Pending.{is_due}
 use Rattle.rtcp_members.specs.SortedViews.{IsSortedTable}
 use Rattle.rtcp_members.specs.Standing.{AllStandBy}
 use Rattle.rtcp_members.proofs.Standing.{all_lower}
@@ -34,6 +36,10 @@ invariant_of-self g c =
         within = omega (arith, c.apply_at.auto.entries, ap length lent, c.self.invariant.sorted.within);
         room = c.self.invariant.sorted.room;
       });
+      its_due = subst (λ (es : List Entry). counts.due ≡ tally_of is_due es) (sym is) c.apply_at.ensures.its_due;
       roomy = omega (arith, c.self.invariant.roomy, g.met.S.Storage.kept c.self.inside.entries written);
       standing = subst (AllStandBy bounds) (sym is) (c.apply_at.ensures.stand bounds c.lower.ensures.up_to (subst (AllStandBy bounds) (sym lent) stood));
     }
+
+pub apply_at-requires-clause-its_due : goal.apply_at-requires-clause-its_due
+apply_at-requires-clause-its_due g c = c.self.invariant.its_due ∙ ap (tally_of is_due) (sym c.as_mut_slice-entries.ensures.value)
