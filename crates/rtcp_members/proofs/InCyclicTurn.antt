@@ -1,11 +1,12 @@
 -- The pending rows of a sorted list: those from a place on, and then those before it.
-use Rattle.std.proofs.Common.{◌≡◌, ◌<◌, ◌≤◌, ℕ, zero, suc, Bool, true, false, cond, not, ◌&&◌, List, [], ◌∷◌, ◌++◌, filter, length, take, drop, slice_index_or, leb, nat_lt, if◌then◌else◌, Option, Some, None, is_some, nat_cmp, inl, inr, arith, refl, sym, ap, subst, ◌∙◌, le_of_eq}
+use Rattle.std.proofs.Common.{◌≡◌, ◌<◌, ◌≤◌, ◌+◌, ℕ, zero, suc, Bool, true, false, cond, not, ◌&&◌, List, [], ◌∷◌, ◌++◌, filter, length, take, drop, slice_index_or, leb, nat_lt, if◌then◌else◌, Option, Some, None, is_some, nat_cmp, inl, inr, arith, refl, sym, ap, subst, ◌∙◌, le_of_eq}
 use Rattle.std.specs.List.Sorted.{IsPartitionPoint, IsPartitionedBy, IsNonDecreasingBy}
 use Rattle.std.specs.Cmp.{nat_cmp_total}
 use Rattle.std.specs.FinMap as finite
 use Rattle.std.specs.FinMap.{nat_cmp-IsAntisymmetric}
 use Rattle.std.specs.FinMap.Entries.{same_entries}
-use Rattle.std.proofs.lemmas.Bool.{cases_lt}
+use Rattle.std.proofs.lemmas.Bool.{cases_lt, le-ltb, lt-ltb}
+use Rattle.std.proofs.lemmas.Option.{slice_get_read, get_or_from_slice_get}
 use Rattle.std.proofs.lemmas.Bool.Decides.{nat_tests}
 use Rattle.std.proofs.lemmas.List.Sorted.{IsPartitionedBy-leb}
 use Rattle.rtcp_members.specs.declared.entry.Entry.{Entry}
@@ -60,6 +61,16 @@ pub cut_above : (entries : List Entry) (a n : ℕ) (above : Option ℕ) → abov
 cut_above entries a n above is point =
     subst (λ o. (filter (is_above o) (rows_of entries) ≡ rows_of (drop n entries)) × (filter (λ (row : EntryRow). not (is_above o row)) (rows_of entries) ≡ rows_of (take n entries))) (sym is)
     (cut_at (is_above (Some a)) entries n (λ k d before within. not_less _ a (point.0 k d (omega arith) before)) (λ k d from within. less _ a (point.1 k d from within)))
+
+-- Where an entry of the SSRC itself stands, the others begin behind it.
+pub cut_behind : (entries : List Entry) (a at : ℕ) (e : Entry) (above : Option ℕ) → above ≡ Some a → IsRising entries → at < length entries → e ≡ slice_index_or entries at e → e.ssrc ≡ a
+    → (filter (is_above above) (rows_of entries) ≡ rows_of (drop (at + 1) entries)) × (filter (λ (row : EntryRow). not (is_above above row)) (rows_of entries) ≡ rows_of (take (at + 1) entries))
+cut_behind entries a at e above is rising within read same =
+    let stands = slice_get_read entries (length entries) at e refl within read in
+    let its : (d : Entry) → (slice_index_or entries at d).ssrc ≡ a = λ d. ap (λ (x : Entry). x.ssrc) (get_or_from_slice_get entries at e d stands) ∙ same in
+    subst (λ o. (filter (is_above o) (rows_of entries) ≡ rows_of (drop (at + 1) entries)) × (filter (λ (row : EntryRow). not (is_above o row)) (rows_of entries) ≡ rows_of (take (at + 1) entries))) (sym is)
+    (cut_at (is_above (Some a)) entries (at + 1) (λ k d before inside. le-ltb a (slice_index_or entries k d).ssrc (omega (arith, never_falls entries rising k at d (omega arith) within, its d)))
+    (λ k d from inside. lt-ltb a (slice_index_or entries k d).ssrc (omega (arith, rises entries rising at k d (omega arith) inside, its d))))
 
 pub cut_nowhere : (entries : List Entry) (above : Option ℕ) → above ≡ None
     → (filter (is_above above) (rows_of entries) ≡ rows_of entries) × (filter (λ (row : EntryRow). not (is_above above row)) (rows_of entries) ≡ [])

@@ -196,7 +196,7 @@ impl<S: Storage> MemberTable for Sorted<S> {
             return None;
         }
         let entries = self.entries.as_slice();
-        let (before, rest) = entries.split_at(first_above(entries, after));
+        let (before, rest) = entries.split_at(first_above(entries, self.last_place, after));
         match first_due(rest) {
             Some(ssrc) => Some(ssrc),
             None => first_due(before),
@@ -204,7 +204,7 @@ impl<S: Storage> MemberTable for Sorted<S> {
     }
 
     fn block_of(&mut self, ssrc: u32, t: u64) -> Block {
-        let at = search(self.entries.as_slice(), self.last_place, ssrc).unwrap();
+        let at = search_behind(self.entries.as_slice(), self.last_place, ssrc).unwrap();
         self.last_place = at;
         let entries = self.entries.as_mut_slice();
         report_at(entries, &mut self.counts.due, at, ssrc, t)
@@ -212,7 +212,7 @@ impl<S: Storage> MemberTable for Sorted<S> {
 
     fn source_above(&self, after: Option<u32>) -> Option<SourceState> {
         let entries = self.entries.as_slice();
-        state_at(entries, first_above(entries, after))
+        state_at(entries, first_above(entries, self.last_place, after))
     }
 }
 
@@ -226,6 +226,19 @@ fn search(entries: &[Entry], last_place: usize, ssrc: u32) -> Result<usize, usiz
         return Ok(last_place);
     }
     entries.binary_search_by_key(&ssrc, |entry| entry.ssrc)
+}
+
+/// As `search`, but the place behind the last one is tried first: the blocks of a report go by rising SSRC.
+fn search_behind(entries: &[Entry], last_place: usize, ssrc: u32) -> Result<usize, usize>
+    requires { IsRising entries.now }
+    ensures found { IfOk result (IsPlaceOf ssrc entries.now) }
+    ensures absent { IfErr result (IsGapFor ssrc entries.now) }
+{
+    let next = last_place.wrapping_add(1);
+    if next < entries.len() && entries[next].ssrc == ssrc {
+        return Ok(next);
+    }
+    search(entries, last_place, ssrc)
 }
 
 /// A fact comes to the entry of its source, which stands at `at`.
@@ -298,8 +311,9 @@ fn admit<S: Storage>(
     Place::Added
 }
 
-/// How many entries have no SSRC above `above`: where the others begin.
-fn first_above(entries: &[Entry], above: Option<u32>) -> usize
+/// How many entries have no SSRC above `above`: where the others begin. The last place is tried first, as the
+/// one of `above`: it is where a block of it was made just now.
+fn first_above(entries: &[Entry], last_place: usize, above: Option<u32>) -> usize
     requires { IsRising entries.now }
     ensures bound { result ≤ length entries.now }
     ensures rest { filter (is_above above) (rows_of entries.now) ≡ rows_of (drop result entries.now) }
@@ -307,7 +321,12 @@ fn first_above(entries: &[Entry], above: Option<u32>) -> usize
         ≡ rows_of (take result entries.now) }
 {
     match above {
-        Some(above) => entries.partition_point(|entry| entry.ssrc <= above),
+        Some(above) => {
+            if last_place < entries.len() && entries[last_place].ssrc == above {
+                return last_place + 1;
+            }
+            entries.partition_point(|entry| entry.ssrc <= above)
+        }
         None => 0,
     }
 }

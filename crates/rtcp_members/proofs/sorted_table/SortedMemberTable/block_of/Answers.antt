@@ -9,7 +9,7 @@ use Rattle.rtcp_members.proofs.Searching.{due_is_found}
 use Rattle.rtcp_members.proofs.sorted_table.SortedMemberTable.block_of.Goals as goal
 
 pub unwrap-at-requires : goal.unwrap-at-requires
-unwrap-at-requires g c = due_is_found c.args.ssrc c.self.inside.capacity c.self.inside.rate (g.S.Storage.items c.self.inside.entries) c.args.self.now c.search.result c.self.view_is c.requires (search rules)
+unwrap-at-requires g c = due_is_found c.args.ssrc c.self.inside.capacity c.self.inside.rate (g.S.Storage.items c.self.inside.entries) c.args.self.now c.search_behind.result c.self.view_is c.requires (search rules)
 
 pub returns-clause-block : goal.returns-clause-block
 returns-clause-block g c =
