@@ -1,15 +1,17 @@
 -- The parts of a report, put together.
-use Rattle.std.proofs.Common.{◌≡◌, ℕ, ◌+◌, ◌<◌, ◌≤◌, List, length, take, sum_by, Option, Some, None, option_map, arith, refl, sym, ap, subst, ◌∙◌}
-use Rattle.std.specs.Option.{ForSome}
+use Rattle.std.proofs.Common.{◌≡◌, ℕ, ◌+◌, ◌<◌, ◌≤◌, List, [], ◌∷◌, All, length, take, sum_by, Option, Some, None, option_map, arith, refl, sym, ap, subst, ◌∙◌}
+use Rattle.std.specs.Option.{ForSome, option_to_list}
 use Rattle.std.proofs.lemmas.List.{length-take}
+use Rattle.std.proofs.lemmas.List.Elements.{All-cons, All-nil, All-same}
 use Rattle.rtcp_wire.specs.Values.{ReportBlock, ItemValue, RtcpPacket}
 use Rattle.rtcp_wire.specs.Grammar.{IsAccepted}
 use Rattle.rtcp_wire.specs.Writing.{written_all, IsWritableItem}
 use Rattle.rtcp_members.specs.Tables.{TableValue}
-use Rattle.rtcp_members.specs.Pending.{EntryRow, pending, blocks_of, after_blocks, last_reported}
+use Rattle.rtcp_members.specs.Pending.{EntryRow, first_ssrc, pending, blocks_of, after_blocks, last_reported}
 use Rattle.rtcp_report.specs.declared.sender.Sender.{Sender}
-use Rattle.rtcp_report.specs.Reports.{SentValue, Reporter, packets_with}
-use Rattle.rtcp_report.specs.Sizes.{first_report_size, item_size, report_size, reported_rows, report_of}
+use Rattle.rtcp_report.specs.Reports.{SentValue, Reporter, cname_item, packets_with}
+use Rattle.rtcp_report.specs.Sizes.{first_report_size, item_size, report_size, fitting, reported_rows, report_of}
+use Rattle.rtcp_report.specs.Gathered.{IsWritten}
 use Rattle.rtcp_report.specs.Views.{items_of, reporter_with, sent_value}
 use Rattle.rtcp_report.proofs.ReportSizes.{packets_length}
 use Rattle.rtcp_report.proofs.Prefixes.{size_rises, front_is}
@@ -28,6 +30,15 @@ pub least_fits : (s : Sender) (cname : List ℕ) (extra : Option ItemValue) (ite
 least_fits s cname extra items limit is short can least =
     omega (arith, least, ap (λ (i : List ItemValue). sum_by item_size i) is, items_are_short cname extra short can, front_is_short (option_map sent_value s.sr))
 
+pub items_writable : (cname : List ℕ) (extra : Option ItemValue) (items : List ItemValue) → items ≡ items_of cname extra → length cname ≤ 255 → ForSome extra IsWritableItem → All IsWritableItem items
+items_writable cname extra items is short can =
+    All-same IsWritableItem items (items_of cname extra) is
+    (All-cons IsWritableItem (cname_item cname) (option_to_list extra) (omega arith, omega arith, short) (extra_writable extra can))
+  where
+    extra_writable : (extra : Option ItemValue) → ForSome extra IsWritableItem → All IsWritableItem (option_to_list extra)
+    extra_writable None can = All-nil IsWritableItem
+    extra_writable (Some item) can = All-cons IsWritableItem item [] (can item refl) (All-nil IsWritableItem)
+
 -- ---- The whole
 
 -- What a call ensures of its octets, and of the table and the cursor after it.
@@ -38,15 +49,6 @@ pub record IsReport (reporter : Reporter) (limit t : ℕ) (last : Option ℕ) (t
   pub reads_back : IsAccepted octets (report_of reporter limit t last table)
   pub content : after ≡ after_blocks (reported_rows reporter limit last table) table
   pub cursor_is : cursor ≡ last_reported last (reported_rows reporter limit last table)
-
--- What was written of the blocks that were taken, where so many fit and no more.
-pub record IsWritten (given : Reporter) (most t : ℕ) (last : Option ℕ) (table : TableValue) (blocks : List ReportBlock) (octets : List ℕ) (after : TableValue) (cursor : Option ℕ) : Type 0 where
-  pub blocks_are : blocks ≡ blocks_of t (take most (pending last table))
-  pub count : length blocks ≡ length (take most (pending last table))
-  pub octets_are : octets ≡ written_all (packets_with given blocks)
-  pub reads_back : IsAccepted octets (packets_with given blocks)
-  pub content : after ≡ after_blocks (take most (pending last table)) table
-  pub cursor_is : cursor ≡ last_reported last (take most (pending last table))
 
 module _ (limit most t : ℕ) (last : Option ℕ) (table : TableValue) (given reporter : Reporter) (same : given ≡ reporter) (fits : report_size given most ≤ limit) (greatest : limit < report_size given (most + 1)) where
   rows_are : take most (pending last table) ≡ reported_rows reporter limit last table
@@ -74,3 +76,25 @@ module _ (limit most t : ℕ) (last : Option ℕ) (table : TableValue) (given re
         content = is.content ∙ ap (λ (rows : List EntryRow). after_blocks rows table) rows_are;
         cursor_is = is.cursor_is ∙ ap (last_reported last) rows_are;
       }
+
+-- ---- No source
+
+-- where no source is first, none is pending
+none_pending : (rows : List EntryRow) → first_ssrc rows ≡ None → rows ≡ []
+none_pending [] none = refl
+none_pending (row ∷ rows) none = absurd cc
+
+pub empty_report : (limit t : ℕ) (last : Option ℕ) (table : TableValue) (given reporter : Reporter) (octets : List ℕ) → given ≡ reporter → report_size given 0 ≤ limit → first_ssrc (pending last table) ≡ None
+    → octets ≡ written_all (packets_with given []) → IsAccepted octets (packets_with given []) → IsReport reporter limit t last table octets table last
+empty_report limit t last table given reporter octets same fits none are back =
+    let rows : reported_rows reporter limit last table ≡ [] = ap (fitting reporter limit) (none_pending (pending last table) none) in
+    let packets : packets_with given [] ≡ report_of reporter limit t last table = (λ i. packets_with (same i) []) ∙ sym (ap (λ (r : List EntryRow). packets_with reporter (blocks_of t r)) rows) in
+    let size : length octets ≡ report_size given 0 = ap (λ (o : List ℕ). length o) are ∙ packets_length given [] in
+    record {
+      octets_are = are ∙ ap (λ (p : List RtcpPacket). written_all p) packets;
+      within = omega (arith, size, fits);
+      size = size ∙ (λ i. report_size (same i) 0) ∙ sym (ap (λ (r : List EntryRow). report_size reporter (length r)) rows);
+      reads_back = subst (IsAccepted octets) packets back;
+      content = sym (ap (λ (r : List EntryRow). after_blocks r table) rows);
+      cursor_is = sym (ap (last_reported last) rows);
+    }

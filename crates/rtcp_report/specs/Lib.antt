@@ -2,4 +2,5 @@ pub mod Reports
 pub mod Sizes
 pub mod Traced
 pub mod Views
+pub mod Gathered
 pub mod Described

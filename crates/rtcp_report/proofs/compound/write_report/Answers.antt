@@ -1,15 +1,31 @@
 -- The blocks are those of the sources that fit, and the packets those of the report.
-use Rattle.std.proofs.Common.{map, length, ap, ◌∙◌}
-use Rattle.std.proofs.lemmas.List.{length-map}
-use Rattle.rtcp_wire.specs.Views.{block_value}
+use Rattle.std.proofs.Common.{map, ap, ◌∙◌, arith, rules}
 use Rattle.rtcp_wire.specs.WriterViews.{item_ref_of}
 use Rattle.rtcp_report.specs.Views.{extra_of, reporter_with, reporter_of}
-use Rattle.rtcp_report.proofs.WholeReports.{least_fits, whole_report}
+use Rattle.rtcp_report.proofs.WholeReports.{empty_report, items_writable, least_fits, whole_report}
 use Rattle.rtcp_report.proofs.compound.write_report.Goals as goal
 
 pub most_blocks-most-requires-clause-least : goal.most_blocks-most-requires-clause-least
 most_blocks-most-requires-clause-least g c =
     least_fits c.args.sender.now c.args.sender.now.cname.now (extra_of c.args.extra) (map item_ref_of c.items-items.result.now) c.args.limit (c.items-items.ensures ∙ c.new-description.ensures) c.requires.cname c.requires.extra c.requires.least
+
+pub most_blocks-most-requires-clause-writable : goal.most_blocks-most-requires-clause-writable
+most_blocks-most-requires-clause-writable g c =
+    items_writable c.args.sender.now.cname.now (extra_of c.args.extra) (map item_ref_of c.items-items.result.now) (c.items-items.ensures ∙ c.new-description.ensures) c.requires.cname c.requires.extra
+
+pub write-requires-clause-fits : goal.write-requires-clause-fits
+write-requires-clause-fits g c =
+    omega (arith, least_fits c.args.sender.now c.args.sender.now.cname.now (extra_of c.args.extra) (map item_ref_of c.items-items.result.now) c.args.limit (c.items-items.ensures ∙ c.new-description.ensures) c.requires.cname c.requires.extra c.requires.least)
+
+pub returns-then-is_none : goal.returns-then-is_none
+returns-then-is_none g c =
+    let start = g.T.MemberTable.content c.args.table.now in
+    let items = map item_ref_of c.items-items.result.now in
+    let described = c.items-items.ensures ∙ c.new-description.ensures in
+    let is = empty_report c.args.limit c.args.t c.args.cursor.now start (reporter_with c.args.sender.now items) (reporter_of c.args.sender.now c.args.extra) c.write.new.octets.items (ap (reporter_with c.args.sender.now) described)
+    (least_fits c.args.sender.now c.args.sender.now.cname.now (extra_of c.args.extra) items c.args.limit described c.requires.cname c.requires.extra c.requires.least)
+    (search rules) c.write.ensures.octets c.write.ensures.reads_back in
+    record { octets = is.octets_are; within = is.within; size = is.size; reads_back = is.reads_back; content = is.content; cursor = is.cursor_is }
 
 pub returns : goal.returns
 returns g c =
@@ -17,13 +33,5 @@ returns g c =
     let items = map item_ref_of c.items-items.result.now in
     let same = ap (reporter_with c.args.sender.now) (c.items-items.ensures ∙ c.new-description.ensures) in
     let is = whole_report c.args.limit c.most_blocks-most.result c.args.t c.args.cursor.now start (reporter_with c.args.sender.now items) (reporter_of c.args.sender.now c.args.extra) same c.most_blocks-most.ensures.fits c.most_blocks-most.ensures.greatest
-    (map block_value c.as_slice.result.now) c.write.new.octets.items (g.T.MemberTable.content c.gather.new.table) c.gather.new.cursor
-    (record {
-      blocks_are = ap (λ b. map block_value b) c.as_slice.ensures.value ∙ c.gather.ensures.blocks;
-      count = length-map c.as_slice.result.now block_value ∙ ap (λ b. length b) c.as_slice.ensures.value ∙ c.gather.ensures.count;
-      octets_are = c.write.ensures.octets;
-      reads_back = c.write.ensures.reads_back;
-      content = c.gather.ensures.content;
-      cursor_is = c.gather.ensures.cursor;
-    }) in
+    c.write_with_blocks.ensures.0 c.write_with_blocks.new.octets.items (g.T.MemberTable.content c.write_with_blocks.new.table) c.write_with_blocks.new.cursor c.write_with_blocks.ensures.1 in
     record { octets = is.octets_are; within = is.within; size = is.size; reads_back = is.reads_back; content = is.content; cursor = is.cursor_is }
