@@ -21,6 +21,7 @@ mod Moving
 mod OneMore
 mod Renaming
 mod Rows
+mod Saying
 mod Sending
 mod Soundness
 mod Standing

@@ -6,8 +6,8 @@ use Rattle.rtcp_wire.specs.RtpHeads.{RtpValue}
 use Rattle.rtcp_wire.specs.Values.{RtcpPacket}
 use Rattle.rtcp_members.specs.Entries.{counted_at}
 use Rattle.rtcp_members.specs.Pending.{EntryRow}
-use Rattle.rtcp_members.specs.Roles.{check_moves, counts_differ, facts_move, moved_within, step_moves}
-use Rattle.rtcp_members.specs.Tables.{TableValue, after_fact, counted, members_in}
+use Rattle.rtcp_members.specs.Roles.{check_moves, facts_move, moved_within, step_moves}
+use Rattle.rtcp_members.specs.Tables.{counted, members_in}
 use Rattle.rtcp_members.specs.Traces.{Horizons, TraceStep, block_taken, check_made, fact_came, with_facts}
 use Rattle.rtcp_members.proofs.LawLemmas as tables
 use Rattle.rtcp_report.specs.Traced.{with_blocks}
@@ -20,7 +20,6 @@ use Rattle.rtcp_engine.specs.Setups.{Setup}
 use Rattle.rtcp_engine.specs.States.{State, Agrees, HasOthers, Moves}
 use Rattle.rtcp_engine.specs.Ticks.{after_check, after_tick, checked, has_come, has_passed, horizons_of, put_off, reported, without_silent}
 use Rattle.rtcp_engine.proofs.Agreeing.{others_agree}
-use Rattle.rtcp_engine.proofs.Among.{or_assoc}
 use Rattle.rtcp_engine.proofs.Doing.{IsReceiverInterval, of_view, seen}
 
 -- ---- Traces
@@ -61,14 +60,6 @@ module _ (capacity rate : ℕ) where
       one_more = omega (arith, within)
 
 -- ---- Arrivals
-
--- What the first fact moved is counted with what was moved before.
-pub one_fact_more : (moved this : Bool) (fact : Fact) (rest : List Fact) (t : ℕ) (before after : TableValue) → this ≡ counts_differ before after → after ≡ after_fact fact t before
-    → ((moved || this) || facts_move rest t after) ≡ (moved || facts_move (fact ∷ rest) t before)
-one_fact_more moved this fact rest t before after this_is after_is =
-    ap (λ (b : Bool). (moved || b) || facts_move rest t after) this_is
-    ∙ ap (λ (table : TableValue). (moved || counts_differ before table) || facts_move rest t table) after_is
-    ∙ or_assoc moved (counts_differ before (after_fact fact t before)) (facts_move rest t (after_fact fact t before))
 
 facts_since : (s : State) (outcome : Outcome) (facts : List Fact) (t : ℕ) → Agrees s outcome
     → facts_move facts t s.table ≡ moved_within s.setup.capacity s.setup.rate (length (with_facts facts t outcome.trace) - length outcome.trace) (with_facts facts t outcome.trace)

@@ -22,6 +22,7 @@ pub mod Views
 pub mod Taken
 pub mod OwnValues
 pub mod States
+pub mod Sayings
 pub mod Promises
 pub mod Codes
 pub mod Differences

@@ -5,6 +5,7 @@ ghost use Rattle.rtcp_engine.specs.Identities.{is_among};
 ghost use Rattle.rtcp_engine.specs.Changes.{is_about, named_by};
 ghost use Rattle.rtcp_engine.specs.Views.{datagram_of};
 
+use crate::sayings::speak_of;
 use rtcp_wire::{Compound, RtpHead, facts};
 
 /// What a datagram says that came.
@@ -22,7 +23,7 @@ impl Arrival<'_> {
         ensures { result ≡ is_about ssrc (datagram_of self.now) }
     {
         match self {
-            Arrival::Rtcp(compound, _) => facts(compound).any(|fact| fact.ssrc() == ssrc),
+            Arrival::Rtcp(compound, _) => speak_of(compound.packets(), ssrc),
             Arrival::Rtp(head) => head.ssrc() == ssrc,
         }
     }

@@ -52,6 +52,7 @@ mod participant;
 mod presence;
 mod refusal;
 mod runs;
+mod sayings;
 mod sink;
 mod step;
 mod table;

@@ -1,6 +1,6 @@
 //! What arrives, applied to a table of members, and whether that changes who is a member or who sends.
 
-ghost use Rattle.std.specs.Prelude.{◌≡◌, ◌≤◌, ◌<◌, ◌+◌, ◌^◌, ℕ, All, IfSome, IsTrue, false};
+ghost use Rattle.std.specs.Prelude.{◌≡◌, ◌≤◌, ◌<◌, ◌+◌, ◌^◌, ℕ, IfSome, IsTrue};
 ghost use Rattle.std.specs.FinMap as map;
 ghost use Rattle.rtcp_wire.specs.Facts.{is_media, subject};
 ghost use Rattle.rtcp_members.specs.Roles.{check_moves, counts_differ, facts_move};
@@ -9,7 +9,7 @@ ghost use Rattle.rtcp_members.specs.Traces.{horizons_at};
 ghost use Rattle.rtcp_engine.specs.Arrivals.{facts_of_csrcs, facts_of_media, media_fact};
 
 use rtcp_members::MemberTable;
-use rtcp_wire::{Fact, Facts, RtpHead};
+use rtcp_wire::{Fact, RtpHead};
 
 /// The members, the participant among them.
 pub(crate) fn member_count<T: MemberTable>(table: &T) -> u32
@@ -18,21 +18,6 @@ pub(crate) fn member_count<T: MemberTable>(table: &T) -> u32
     ensures few { result ≤ 1025 }
 {
     1 + table.members()
-}
-
-/// Applies facts of one moment, one after the other, and returns whether one of them changed who is a member or who
-/// sends.
-pub(crate) fn apply_facts<T: MemberTable>(table: &mut T, facts: Facts<'_>, t: u64) -> bool
-    requires { All (λ fact. is_media fact ≡ false) facts }
-    ensures content { T.content table.new ≡ after_facts facts.entry t (T.content table.old) }
-    ensures moved { result ≡ facts_move facts.entry t (T.content table.old) }
-{
-    let mut moved = false;
-    'facts: for fact in facts {
-        let effect = apply_fact(table, fact, t);
-        moved |= effect.moved;
-    }
-    moved
 }
 
 /// Applies an RTP packet, and its contributing sources but for the participant itself, `own`, if it is counted. Returns
@@ -93,15 +78,15 @@ pub(crate) fn check<T: MemberTable>(
 
 /// What a fact did.
 #[derive(Clone, Copy)]
-struct Effect {
+pub(crate) struct Effect {
     /// whether it was an RTP packet that was counted
-    counted: bool,
+    pub(crate) counted: bool,
     /// whether it changed who is a member or who sends
-    moved: bool,
+    pub(crate) moved: bool,
 }
 
 /// Applies a fact.
-fn apply_fact<T: MemberTable>(table: &mut T, fact: Fact, t: u64) -> Effect
+pub(crate) fn apply_fact<T: MemberTable>(table: &mut T, fact: Fact, t: u64) -> Effect
     requires { IsTrue (is_media fact) → IfSome (map.get (T.content table.old).entries (subject fact)) IsFew }
     ensures content { T.content table.new ≡ after_fact fact t (T.content table.old) }
     ensures counted { result.counted ≡ counted (T.content table.old) fact }

@@ -8,9 +8,10 @@ ghost use Rattle.rtcp_engine.specs.Views.{datagram_of, size_of};
 
 use super::Presence;
 use crate::arrival::Arrival;
-use crate::table::{apply_facts, apply_media};
+use crate::sayings::apply_packets;
+use crate::table::apply_media;
 use rtcp_members::MemberTable;
-use rtcp_wire::{Compound, RtpHead, facts};
+use rtcp_wire::{Compound, RtpHead};
 
 impl<T: MemberTable> Presence<T> {
     /// Takes a call.
@@ -69,7 +70,7 @@ impl<T: MemberTable> Presence<T> {
         ensures new { Does self.old self.new (λ setup. with_facts_of now size compound.now) }
         ensures moved { Moves self.old result (λ setup. with_facts_of now size compound.now) }
     {
-        let moved = apply_facts(&mut self.table, facts(compound), now);
+        let moved = apply_packets(&mut self.table, compound.packets(), now);
         self.average.add(size as u32);
         moved
     }

@@ -1,0 +1,159 @@
+//! What the packets of a compound say, packet after packet. Each loop reads its part once and keeps nothing
+//! between its turns: it costs less than an iterator over all facts, which begins anew at each of them.
+
+ghost use Rattle.std.specs.Prelude.{◌≡◌, ◌==◌, ◌∷◌, [], false};
+ghost use Rattle.std.specs.List.{list_any};
+ghost use Rattle.rtcp_wire.specs.Facts.{facts_of, facts_of_chunk, facts_of_packet, is_cname, is_media, subject};
+ghost use Rattle.rtcp_wire.specs.Views.{packet_value};
+ghost use Rattle.rtcp_members.specs.Roles.{facts_move};
+ghost use Rattle.rtcp_members.specs.Tables.{after_facts};
+ghost use Rattle.rtcp_engine.specs.Sayings.{facts_of_chunks, facts_of_goodbyes};
+
+use crate::table::apply_fact;
+use rtcp_members::MemberTable;
+use rtcp_wire::{Chunk, Chunks, Fact, Ids, PacketView, Packets};
+
+/// The type of a CNAME (RFC 3550, 6.5.1).
+const CNAME: u8 = 1;
+
+// ---- What is said, applied to a table at one moment
+
+/// Applies what these packets say, and returns whether that changed who is a member or who sends.
+pub(crate) fn apply_packets<T: MemberTable>(table: &mut T, packets: Packets<'_>, t: u64) -> bool
+    ensures content { T.content table.new ≡ after_facts (facts_of packets.entry) t (T.content table.old) }
+    ensures moved { result ≡ facts_move (facts_of packets.entry) t (T.content table.old) }
+{
+    let mut moved = false;
+    'packets: for packet in packets {
+        let by_this = apply_packet(table, &packet, t);
+        moved |= by_this;
+    }
+    moved
+}
+
+#[inline(always)]
+fn apply_packet<T: MemberTable>(table: &mut T, packet: &PacketView<'_>, t: u64) -> bool
+    ensures content { T.content table.new
+        ≡ after_facts (facts_of_packet (packet_value packet.now)) t (T.content table.old) }
+    ensures moved { result ≡ facts_move (facts_of_packet (packet_value packet.now)) t (T.content table.old) }
+{
+    match packet {
+        PacketView::Sr(report) => {
+            let heard = apply_one(table, Fact::Heard(report.ssrc), t);
+            let told = apply_one(table, Fact::Told(report.ssrc, report.ntp), t);
+            heard | told
+        }
+        PacketView::Rr(report) => apply_one(table, Fact::Heard(report.ssrc), t),
+        PacketView::Sdes(description) => apply_chunks(table, description.chunks(), t),
+        PacketView::Bye(goodbye) => apply_goodbyes(table, goodbye.ids(), t),
+        PacketView::App(packet) => apply_one(table, Fact::Heard(packet.ssrc), t),
+        PacketView::Other(_) => false,
+    }
+}
+
+fn apply_chunks<T: MemberTable>(table: &mut T, chunks: Chunks<'_>, t: u64) -> bool
+    ensures content { T.content table.new
+        ≡ after_facts (facts_of_chunks chunks.entry) t (T.content table.old) }
+    ensures moved { result ≡ facts_move (facts_of_chunks chunks.entry) t (T.content table.old) }
+{
+    let mut moved = false;
+    'chunks: for chunk in chunks {
+        let by_this = apply_chunk(table, &chunk, t);
+        moved |= by_this;
+    }
+    moved
+}
+
+#[inline(always)]
+fn apply_chunk<T: MemberTable>(table: &mut T, chunk: &Chunk<'_>, t: u64) -> bool
+    ensures content { T.content table.new ≡ after_facts (facts_of_chunk chunk.now) t (T.content table.old) }
+    ensures moved { result ≡ facts_move (facts_of_chunk chunk.now) t (T.content table.old) }
+{
+    let heard = apply_one(table, Fact::Heard(chunk.id()), t);
+    if !has_cname(chunk) {
+        return heard;
+    }
+    let named = apply_one(table, Fact::Named(chunk.id()), t);
+    heard | named
+}
+
+/// Whether an item of the chunk is a CNAME.
+fn has_cname(chunk: &Chunk<'_>) -> bool
+    ensures { result ≡ list_any is_cname chunk.now.items }
+{
+    chunk.items().any(|item| item.kind == CNAME)
+}
+
+fn apply_goodbyes<T: MemberTable>(table: &mut T, ids: Ids<'_>, t: u64) -> bool
+    ensures content { T.content table.new
+        ≡ after_facts (facts_of_goodbyes ids.entry) t (T.content table.old) }
+    ensures moved { result ≡ facts_move (facts_of_goodbyes ids.entry) t (T.content table.old) }
+{
+    let mut moved = false;
+    'ids: for id in ids {
+        let by_this = apply_one(table, Fact::Gone(id), t);
+        moved |= by_this;
+    }
+    moved
+}
+
+/// Applies one fact of a compound, and returns whether that changed who is a member or who sends.
+fn apply_one<T: MemberTable>(table: &mut T, fact: Fact, t: u64) -> bool
+    requires { is_media fact ≡ false }
+    ensures content { T.content table.new ≡ after_facts (fact ∷ []) t (T.content table.old) }
+    ensures moved { result ≡ facts_move (fact ∷ []) t (T.content table.old) }
+{
+    apply_fact(table, fact, t).moved
+}
+
+// ---- Whether something is said of a source
+
+/// Whether these packets say something of this source.
+pub(crate) fn speak_of(packets: Packets<'_>, ssrc: u32) -> bool
+    ensures { result ≡ list_any (λ fact. subject fact == ssrc) (facts_of packets.entry) }
+{
+    'packets: for packet in packets {
+        if speaks_of(&packet, ssrc) {
+            return true;
+        }
+    }
+    false
+}
+
+#[inline(always)]
+fn speaks_of(packet: &PacketView<'_>, ssrc: u32) -> bool
+    ensures { result ≡ list_any (λ fact. subject fact == ssrc) (facts_of_packet (packet_value packet.now)) }
+{
+    match packet {
+        PacketView::Sr(report) => report.ssrc == ssrc,
+        PacketView::Rr(report) => report.ssrc == ssrc,
+        PacketView::Sdes(description) => describe(description.chunks(), ssrc),
+        PacketView::Bye(goodbye) => are_among(goodbye.ids(), ssrc),
+        PacketView::App(packet) => packet.ssrc == ssrc,
+        PacketView::Other(_) => false,
+    }
+}
+
+/// Whether a chunk describes this source.
+fn describe(chunks: Chunks<'_>, ssrc: u32) -> bool
+    ensures { result ≡ list_any (λ fact. subject fact == ssrc) (facts_of_chunks chunks.entry) }
+{
+    'chunks: for chunk in chunks {
+        if chunk.id() == ssrc {
+            return true;
+        }
+    }
+    false
+}
+
+/// Whether this source is among them.
+fn are_among(ids: Ids<'_>, ssrc: u32) -> bool
+    ensures { result ≡ list_any (λ fact. subject fact == ssrc) (facts_of_goodbyes ids.entry) }
+{
+    'ids: for id in ids {
+        if id == ssrc {
+            return true;
+        }
+    }
+    false
+}
