@@ -19,6 +19,8 @@ pub(crate) enum Arrival<'a> {
 
 impl Arrival<'_> {
     /// Whether it is of this source: a fact of its compound is about it, or its RTP packet comes from it.
+    // Inlined, so that what calls it goes on with the datagram at hand.
+    #[inline(always)]
     pub(crate) fn is_of(&self, ssrc: u32) -> bool
         ensures { result ≡ is_about ssrc (datagram_of self.now) }
     {

@@ -48,6 +48,8 @@ impl<'a> Iterator for Packets<'a> {
 
     ghost remaining = { item_count (λ packets. packets) };
 
+    // Inlined, so that a loop over packets makes no more of them than it reads.
+    #[inline(always)]
     fn next(&mut self) -> Option<PacketView<'a>> {
         if self.octets.is_empty() {
             return None;
