@@ -6,14 +6,14 @@ ghost use Rattle.rtcp_wire.specs.Grammar.{IsAccepted};
 ghost use Rattle.rtcp_wire.specs.Values.{ReportBlock};
 ghost use Rattle.rtcp_wire.specs.Writing.{written_all, IsWritableItem};
 ghost use Rattle.rtcp_wire.specs.WriterViews.{item_ref_of};
-ghost use Rattle.rtcp_members.specs.Pending.{after_blocks, last_reported};
+ghost use Rattle.rtcp_members.specs.Pending.{after_blocks, first_ssrc, last_reported, pending};
 ghost use Rattle.rtcp_report.specs.Gathered.{IsWritten};
 ghost use Rattle.rtcp_report.specs.Reports.{Reporter, packets_with};
 ghost use Rattle.rtcp_report.specs.Sizes.{report_size};
 ghost use Rattle.rtcp_report.specs.Views.{items_of, extra_of, reporter_with, reporter_of, reported_by, compound_by};
 
 use crate::description::{Description, description_size};
-use crate::gathering::gather;
+use crate::gathering::{Turn, gather};
 use crate::sender::{Item, Sender};
 use crate::writing::{BLOCKS_OF_PACKET, write};
 use arrayvec::ArrayVec;
@@ -101,16 +101,25 @@ pub fn write_report<T: MemberTable>(
 {
     let description = Description::new(sender.cname, extra);
     let items = description.items();
-    if table.next_with_news(*cursor).is_none() {
+    let first = table.next_with_news(*cursor);
+    if first.is_none() {
         write(sender, items, &[], octets);
         return;
     }
     let most = most_blocks(sender, items, limit);
-    write_with_blocks(sender, table, t, cursor, items, most, octets);
+    write_with_blocks(
+        sender,
+        table,
+        t,
+        cursor,
+        items,
+        Turn { first, most },
+        octets,
+    );
 }
 
-/// Writes a report with the blocks of the first `most` pending sources, or of all of them, in place of what
-/// stood in `octets`.
+/// Writes a report with the blocks of the pending sources, or of as many as there is room for, in place of
+/// what stood in `octets`.
 // Kept out of line, as a report without blocks needs no room for them.
 #[inline(never)]
 fn write_with_blocks<T: MemberTable>(
@@ -119,18 +128,19 @@ fn write_with_blocks<T: MemberTable>(
     t: u64,
     cursor: &mut Option<u32>,
     items: &[ItemRef<'_>],
-    most: usize,
+    turn: Turn,
     octets: &mut ArrayVec<u8, MAX_COMPOUND>,
 )
-    requires few { most ≤ 60 }
+    requires first { turn.first ≡ first_ssrc (pending cursor.old (T.content table.old)) }
+    requires few { turn.most ≤ 60 }
     requires writable { All IsWritableItem (map item_ref_of items.now) }
-    requires fits { report_size (reporter_with sender.now (map item_ref_of items.now)) most ≤ 1472 }
+    requires fits { report_size (reporter_with sender.now (map item_ref_of items.now)) turn.most ≤ 1472 }
     ensures { (blocks : List ReportBlock) × IsWritten
-        (reporter_with sender.now (map item_ref_of items.now)) most t cursor.old (T.content table.old) blocks
-        octets.new.items (T.content table.new) cursor.new }
+        (reporter_with sender.now (map item_ref_of items.now)) turn.most t cursor.old (T.content table.old)
+        blocks octets.new.items (T.content table.new) cursor.new }
 {
     let mut blocks = ArrayVec::new();
-    gather(table, t, cursor, most, &mut blocks);
+    gather(table, t, cursor, turn, &mut blocks);
     write(sender, items, blocks.as_slice(), octets);
 }
 
