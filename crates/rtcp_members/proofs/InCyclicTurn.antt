@@ -5,17 +5,18 @@ use Rattle.std.specs.Cmp.{nat_cmp_total}
 use Rattle.std.specs.FinMap as finite
 use Rattle.std.specs.FinMap.{nat_cmp-IsAntisymmetric}
 use Rattle.std.specs.FinMap.Entries.{same_entries}
-use Rattle.std.proofs.lemmas.Bool.{cases_lt, le-ltb, lt-ltb}
-use Rattle.std.proofs.lemmas.Option.{slice_get_read, get_or_from_slice_get}
+use Rattle.std.proofs.lemmas.Bool.{cases_lt}
+use Rattle.std.proofs.lemmas.Option.{slice_get_within}
 use Rattle.std.proofs.lemmas.Bool.Decides.{nat_tests}
 use Rattle.std.proofs.lemmas.List.Sorted.{IsPartitionedBy-leb}
 use Rattle.rtcp_members.specs.declared.entry.Entry.{Entry}
 use Rattle.rtcp_members.specs.Tables.{TableValue}
-use Rattle.rtcp_members.specs.ListViews.{entry_value, row_of, rows_of, map_of, table_of, tally_of}
+use Rattle.rtcp_members.specs.ListViews.{entry_value, row_of, rows_of, map_of, table_of, tally_of, IsPlaceOf}
 use Rattle.rtcp_members.specs.SortedViews.{IsRising}
 use Rattle.rtcp_members.specs.Pending.{EntryRow, due_rows, in_turn, first_ssrc, is_above, is_due, pending}
 use Rattle.rtcp_members.proofs.Listing.{get_rows}
 use Rattle.rtcp_members.proofs.LeastDue.{filter_twice, none_first, some_first}
+use Rattle.rtcp_members.proofs.Applying.{read_there}
 use Rattle.rtcp_members.proofs.Rising.{rises}
 
 -- ---- Cut in two
@@ -62,15 +63,35 @@ cut_above entries a n above is point =
     subst (λ o. (filter (is_above o) (rows_of entries) ≡ rows_of (drop n entries)) × (filter (λ (row : EntryRow). not (is_above o row)) (rows_of entries) ≡ rows_of (take n entries))) (sym is)
     (cut_at (is_above (Some a)) entries n (λ k d before within. not_less _ a (point.0 k d (omega arith) before)) (λ k d from within. less _ a (point.1 k d from within)))
 
--- Where an entry of the SSRC itself stands, the others begin behind it.
-pub cut_behind : (entries : List Entry) (a at : ℕ) (e : Entry) (above : Option ℕ) → above ≡ Some a → IsRising entries → at < length entries → e ≡ slice_index_or entries at e → e.ssrc ≡ a
+no_more : (y a : ℕ) → y ≤ a → nat_lt a y ≡ false
+no_more y a le = grind (arith, nat_tests)
+
+more : (y a : ℕ) → a < y → nat_lt a y ≡ true
+more y a lt = grind (arith, nat_tests)
+
+-- The rows above a source begin after its entry.
+pub cut_after : (entries : List Entry) (a at : ℕ) (above : Option ℕ) → above ≡ Some a → IsRising entries → IsPlaceOf a entries at
     → (filter (is_above above) (rows_of entries) ≡ rows_of (drop (at + 1) entries)) × (filter (λ (row : EntryRow). not (is_above above row)) (rows_of entries) ≡ rows_of (take (at + 1) entries))
-cut_behind entries a at e above is rising within read same =
-    let stands = slice_get_read entries (length entries) at e refl within read in
-    let its : (d : Entry) → (slice_index_or entries at d).ssrc ≡ a = λ d. ap (λ (x : Entry). x.ssrc) (get_or_from_slice_get entries at e d stands) ∙ same in
+cut_after entries a at above is rising place =
     subst (λ o. (filter (is_above o) (rows_of entries) ≡ rows_of (drop (at + 1) entries)) × (filter (λ (row : EntryRow). not (is_above o row)) (rows_of entries) ≡ rows_of (take (at + 1) entries))) (sym is)
-    (cut_at (is_above (Some a)) entries (at + 1) (λ k d before inside. le-ltb a (slice_index_or entries k d).ssrc (omega (arith, never_falls entries rising k at d (omega arith) within, its d)))
-    (λ k d from inside. lt-ltb a (slice_index_or entries k d).ssrc (omega (arith, rises entries rising at k d (omega arith) inside, its d))))
+    (cut_at (is_above (Some a)) entries (at + 1) (λ k d before within. no_more _ a (up_to k d before)) (λ k d from within. more _ a (from_then k d from within)))
+  where
+    here : (d : Entry) → (slice_index_or entries at d).ssrc ≡ a
+    here d = ap (λ (e : Entry). e.ssrc) (read_there a entries at d place) ∙ place.its_ssrc
+
+    stands_within : at < length entries
+    stands_within = slice_get_within entries at place.entry place.stands
+
+    up_to : (k : ℕ) (d : Entry) → k < at + 1 → (slice_index_or entries k d).ssrc ≤ a
+    up_to k d before = elim (cases_lt k at) [
+      | inl less ↦ omega (arith, rises entries rising k at d less stands_within, here d)
+      | inr least ↦
+          let same : k ≡ at = omega arith in
+          le_of_eq (ap (λ k. (slice_index_or entries k d).ssrc) same ∙ here d)
+    ]
+
+    from_then : (k : ℕ) (d : Entry) → at + 1 ≤ k → k < length entries → a < (slice_index_or entries k d).ssrc
+    from_then k d from within = omega (arith, rises entries rising at k d (omega arith) within, here d)
 
 pub cut_nowhere : (entries : List Entry) (above : Option ℕ) → above ≡ None
     → (filter (is_above above) (rows_of entries) ≡ rows_of entries) × (filter (λ (row : EntryRow). not (is_above above row)) (rows_of entries) ≡ [])

@@ -26,8 +26,14 @@ use rtcp_wire::{Block, Fact};
 use std::alloc::{AllocError, Global};
 use std::marker::Model;
 
-/// A table of members by rising SSRC, over where its entries lie. It finds a source by binary search, and
-/// knows its counts without a walk. It keeps bounds of what a check goes by, so a check that they rule out
+/// The most entries that a walk to a source looks at.
+const LONGEST_WALK: u32 = 8;
+
+/// The most entries of a list in which the walk to a source is short from the first guess on.
+const SHORT_LIST: u64 = 64;
+
+/// A table of members by rising SSRC, over where its entries lie. It finds a source by interpolation or binary search,
+/// and knows its counts without a walk. It keeps bounds of what a check goes by, so a check that they rule out
 /// reads no entry. No call allocates.
 #[derive(Drop)]
 pub struct Sorted<S: Storage> {
@@ -216,16 +222,57 @@ impl<S: Storage> MemberTable for Sorted<S> {
     }
 }
 
-/// Where the entry of a source stands, or else the gap where it would. The last place is tried first.
+/// Where the entry of a source stands, or else the gap where it would. The places where it likely stands are tried
+/// first.
 fn search(entries: &[Entry], last_place: usize, ssrc: u32) -> Result<usize, usize>
     requires { IsRising entries.now }
     ensures found { IfOk result (IsPlaceOf ssrc entries.now) }
     ensures absent { IfErr result (IsGapFor ssrc entries.now) }
 {
-    if last_place < entries.len() && entries[last_place].ssrc == ssrc {
-        return Ok(last_place);
+    if let Some(at) = search_near(entries, last_place, ssrc) {
+        return Ok(at);
     }
     entries.binary_search_by_key(&ssrc, |entry| entry.ssrc)
+}
+
+/// Where the entry of a source stands, if that is the last place, or one of the first that a walk from the likely
+/// place comes to: an interpolation search that ends with a walk (Perl, Itai and Avni, 1978).
+fn search_near(entries: &[Entry], last_place: usize, ssrc: u32) -> Option<usize>
+    requires { IsRising entries.now }
+    ensures { IfSome result (IsPlaceOf ssrc entries.now) }
+{
+    if last_place < entries.len() && entries[last_place].ssrc == ssrc {
+        return Some(last_place);
+    }
+    let mut at = likely_place(entries, ssrc)?;
+    for _ in 0..LONGEST_WALK {
+        if at >= entries.len() {
+            return None;
+        }
+        if entries[at].ssrc == ssrc {
+            return Some(at);
+        }
+        at = if entries[at].ssrc < ssrc {
+            at.wrapping_add(1)
+        } else {
+            at.wrapping_sub(1)
+        };
+    }
+    None
+}
+
+/// Where the entry of a source stands if the SSRCs are spread evenly, as random ones are (RFC 3550, 8.1): by the
+/// whole list, and in a long one, where that is still far off, by what stands at that place.
+fn likely_place(entries: &[Entry], ssrc: u32) -> Option<usize> {
+    let count = entries.len() as u64;
+    let place = (u64::from(ssrc).wrapping_mul(count) >> 32) as usize;
+    if count <= SHORT_LIST {
+        return Some(place);
+    }
+    let seen = entries.get(place)?.ssrc;
+    let ahead = u64::from(ssrc).wrapping_sub(u64::from(seen));
+    let places = ahead.wrapping_mul(count).cast_signed() >> 32;
+    Some(place.wrapping_add(places.cast_unsigned() as usize))
 }
 
 /// As `search`, but the place behind the last one is tried first: the blocks of a report go by rising SSRC.
@@ -311,8 +358,8 @@ fn admit<S: Storage>(
     Place::Added
 }
 
-/// How many entries have no SSRC above `above`: where the others begin. The last place is tried first, as the
-/// one of `above`: it is where a block of it was made just now.
+/// How many entries have no SSRC above `above`: where the others begin. That is after the entry of `above`, if it is
+/// there; in a report, and in a listing, it is.
 fn first_above(entries: &[Entry], last_place: usize, above: Option<u32>) -> usize
     requires { IsRising entries.now }
     ensures bound { result ≤ length entries.now }
@@ -320,15 +367,13 @@ fn first_above(entries: &[Entry], last_place: usize, above: Option<u32>) -> usiz
     ensures before { filter (λ row. not (is_above above row)) (rows_of entries.now)
         ≡ rows_of (take result entries.now) }
 {
-    match above {
-        Some(above) => {
-            if last_place < entries.len() && entries[last_place].ssrc == above {
-                return last_place + 1;
-            }
-            entries.partition_point(|entry| entry.ssrc <= above)
-        }
-        None => 0,
+    let Some(above) = above else {
+        return 0;
+    };
+    if let Some(at) = search_near(entries, last_place, above) {
+        return at + 1;
     }
+    entries.partition_point(|entry| entry.ssrc <= above)
 }
 
 /// What is told of the source whose entry stands at `at`, if one does.

@@ -2,11 +2,8 @@
 use Rattle.std.proofs.Common.{rules}
 use Rattle.std.proofs.lemmas.List.Sorted.{answers_always}
 use Rattle.rtcp_members.specs.declared.entry.Entry.{Entry}
-use Rattle.rtcp_members.proofs.Searching.{read_found, searched}
+use Rattle.rtcp_members.proofs.Searching.{searched}
 use Rattle.rtcp_members.proofs.sorted_table.search.Goals as goal
-
-pub returns-then-entries-last_place-clause-found : goal.returns-then-entries-last_place-clause-found
-returns-then-entries-last_place-clause-found c = read_found c.args.ssrc c.args.entries.now c.args.last_place c.index-entries-last_place.result c.requires (search rules) (search rules) (search rules)
 
 pub returns : goal.returns
 returns c =
