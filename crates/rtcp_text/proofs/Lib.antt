@@ -15,4 +15,5 @@ mod ProgressLemmas
 mod ReplayLemmas
 mod RunLemmas
 mod SessionLemmas
+mod TailLemmas
 mod TextLemmas

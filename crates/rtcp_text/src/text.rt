@@ -16,6 +16,7 @@ mod goodbyes;
 mod joined;
 mod others;
 mod reports;
+mod tail;
 
 pub use answers::{push_answer, push_start};
 use descriptions::push_description;

@@ -52,9 +52,7 @@ pub fn push_octets(out: &mut Vec<u8>, octets: &[u8]) -> Result<(), AllocError>
 pub fn push_word(out: &mut Vec<u8>, word: u32) -> Result<(), AllocError>
     ensures { OnOk result (out.new.items ≡ out.old.items ++ hex_word word) }
 {
-    let [first, second, third, fourth] = word.to_be_bytes();
-    let digits = digits_of(u8x8::from_array([first, second, third, fourth, 0, 0, 0, 0]));
-    out.extend_from_slice(&digits.to_array()[..8])
+    out.extend_from_slice(&word_digits(word).to_array())
 }
 
 /// Appends a number of 64 bits as sixteen hex digits.
@@ -63,6 +61,16 @@ pub fn push_long(out: &mut Vec<u8>, number: u64) -> Result<(), AllocError>
 {
     let digits = digits_of(u8x8::from_array(number.to_be_bytes()));
     out.extend_from_slice(&digits.to_array())
+}
+
+/// The hex digits of a word. It is half a block.
+#[inline(always)]
+pub(super) fn word_digits(word: u32) -> u8x8
+    ensures { result ≡ hex_word word }
+{
+    let [first, second, third, fourth] = word.to_be_bytes();
+    let digits = digits_of(u8x8::from_array([first, second, third, fourth, 0, 0, 0, 0]));
+    digits.extract::<0, 8>()
 }
 
 /// The hex digits of a block of octets.

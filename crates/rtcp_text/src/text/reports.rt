@@ -7,6 +7,7 @@ ghost use Rattle.rtcp_text.specs.Text.{block_text, report_end_text, sender_text,
 
 use super::digits::{push_decimal, push_long, push_signed, push_word};
 use super::joined::{Shown, push_joined};
+use super::tail::Tail;
 use rtcp_wire::{Block, Blocks, ReceiverReport, SenderReport};
 use std::alloc::AllocError;
 
@@ -74,18 +75,20 @@ impl Shown for Block {
 
     #[inline(always)]
     fn push_text(&self, out: &mut Vec<u8>) -> Result<(), AllocError> {
-        push_word(out, self.ssrc)?;
-        out.push(b'/')?;
-        push_decimal(out, u64::from(self.fraction))?;
-        out.push(b'/')?;
-        push_signed(out, self.lost)?;
-        out.push(b'/')?;
-        push_decimal(out, u64::from(self.highest))?;
-        out.push(b'/')?;
-        push_decimal(out, u64::from(self.jitter))?;
-        out.push(b'/')?;
-        push_word(out, self.lsr)?;
-        out.push(b'/')?;
-        push_word(out, self.dlsr)
+        let mut text = Tail::new();
+        text.put_word(self.dlsr);
+        text.put(b'/');
+        text.put_word(self.lsr);
+        text.put(b'/');
+        text.put_decimal(self.jitter);
+        text.put(b'/');
+        text.put_decimal(self.highest);
+        text.put(b'/');
+        text.put_signed(self.lost);
+        text.put(b'/');
+        text.put_decimal(u32::from(self.fraction));
+        text.put(b'/');
+        text.put_word(self.ssrc);
+        out.extend_from_slice(text.as_slice())
     }
 }

@@ -1,7 +1,7 @@
 use Rattle.std.proofs.Common.{◌≡◌, take, arith}
 use Rattle.rtcp_text.specs.Text.{hex_word}
 use Rattle.rtcp_text.proofs.DigitText.{first_digits}
-use Rattle.rtcp_text.proofs.text.digits.push_word.Goals as goal
+use Rattle.rtcp_text.proofs.text.digits.word_digits.Goals as goal
 
 pub returns : goal.returns
 returns c =
