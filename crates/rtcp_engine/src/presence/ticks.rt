@@ -140,6 +140,10 @@ impl<T: MemberTable> Presence<T> {
         ensures reports { self.new.reports ≡ self.old.reports }
         ensures within { KeepsCapacity self.new }
     {
+        // Before the next moment the interval decides nothing.
+        if now < self.schedule.next() {
+            return false;
+        }
         let td = self.interval();
         let members = self.member_count();
         self.schedule.expire(now, td, w1, members) == Verdict::Due
