@@ -220,6 +220,12 @@ impl<S: Storage> MemberTable for Sorted<S> {
         let entries = self.entries.as_slice();
         state_at(entries, first_above(entries, self.last_place, after))
     }
+
+    fn source_from(&self, after: Option<u32>, place: &mut usize) -> Option<SourceState> {
+        let entries = self.entries.as_slice();
+        *place = first_above(entries, *place, after);
+        state_at(entries, *place)
+    }
 }
 
 /// Where the entry of a source stands, or else the gap where it would. The places where it likely stands are tried

@@ -118,6 +118,14 @@ pub trait MemberTable {
     /// through all sources, by rising SSRC.
     fn source_above(&self, after: Option<u32>) -> Option<SourceState>
         ensures { option_map state_value result ≡ state_above after (content self.now) };
+
+    /// `source_above`, for a walk: `place` hints at where the source of `after` stands. A table may use it to
+    /// find the next one sooner, and leaves the hint for the next call. The answer is the same for any hint.
+    fn source_from(&self, after: Option<u32>, _place: &mut usize) -> Option<SourceState>
+        ensures { option_map state_value result ≡ state_above after (content self.now) }
+    {
+        self.source_above(after)
+    }
 }
 
 /// A table that has the room for its entries in itself, so that its capacity and rate are all it is made from.

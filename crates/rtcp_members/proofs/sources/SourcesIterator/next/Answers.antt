@@ -14,13 +14,13 @@ first_of after asked left table state view is first =
 one_fewer : (old new : List StateValue) (state : StateValue) → old ≡ state ∷ new → length new < length old
 one_fewer old new state is = omega (arith, ap length is)
 
-pub returns-in-Some-source_above-clause-steps : goal.returns-in-Some-source_above-clause-steps
-returns-in-Some-source_above-clause-steps g c =
+pub returns-in-Some-source_from-clause-steps : goal.returns-in-Some-source_from-clause-steps
+returns-in-Some-source_from-clause-steps g c =
     let content = λ (t : Bor g.row.T.Denot). g.T.MemberTable.content t.now in
-    first_of c.self.inside.after (option_map content c.self.inside.table) c.args.self.now (content c.in-Some.table) (state_value c.in-Some-source_above.state) c.self.view_is (ap (option_map content) c.in-Some.is) c.in-Some-source_above.ensures
+    first_of c.self.inside.after (option_map content c.self.inside.table) c.args.self.now (content c.in-Some.table) (state_value c.in-Some-source_from.state) c.self.view_is (ap (option_map content) c.in-Some.is) c.in-Some-source_from.ensures
 
-pub returns-in-Some-source_above-clause-goes : goal.returns-in-Some-source_above-clause-goes
-returns-in-Some-source_above-clause-goes g c =
+pub returns-in-Some-source_from-clause-goes : goal.returns-in-Some-source_from-clause-goes
+returns-in-Some-source_from-clause-goes g c =
     let content = λ (t : Bor g.row.T.Denot). g.T.MemberTable.content t.now in
-    let falls = one_fewer c.args.self.now (states_of (Some c.in-Some-source_above.state.ssrc) (option_map content c.self.inside.table)) (state_value c.in-Some-source_above.state) (returns-in-Some-source_above-clause-steps g c) in
+    let falls = one_fewer c.args.self.now (states_of (Some c.in-Some-source_from.state.ssrc) (option_map content c.self.inside.table)) (state_value c.in-Some-source_from.state) (returns-in-Some-source_from-clause-steps g c) in
     record { on = λ f. (tt, tt, falls); keeps = tt; rests = λ f. tt }
