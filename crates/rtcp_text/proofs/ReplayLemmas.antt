@@ -1,14 +1,10 @@
 -- The text of a session: each line says one act or has one fault, and what holds a participant answers as its history does.
-use Rattle.std.proofs.Common.{◌≡◌, ℕ, zero, suc, ◌≤◌, ◌+◌, ◌-◌, ◌⊎◌, inl, inr, List, [], ◌∷◌, ◌++◌, map, take, Option, Some, Result, Ok, Err, refl, sym, ◌∙◌, ap, subst, append_assoc, arith}
-use Rattle.std.specs.Option.{option_to_list}
+use Rattle.std.proofs.Common.{◌≡◌, ℕ, ◌⊎◌, inl, inr, List, [], ◌++◌, Option, Result, Ok, Err, refl, sym, ◌∙◌, ap, subst, append_assoc}
 use Rattle.rtcp_engine.specs.Acts.{Act, rtcp_came, rtp_came, rtp_sent, ticked, left as asked_to_leave, EventValue, rtcp_arrived, rtp_arrived, packet_sent, time_passed, leave_asked, IsActOfEvent}
-use Rattle.rtcp_engine.specs.declared.refusal.Refusal.{Refusal}
-use Rattle.rtcp_engine.specs.declared.step.Step.{Step}
 use Rattle.rtcp_engine.specs.Steps.{AnswerValue}
-use Rattle.rtcp_engine.specs.Answers.{answer_of, answers_to, followed_by}
+use Rattle.rtcp_engine.specs.Answers.{answer_of, followed_by}
 use Rattle.rtcp_engine.specs.Histories.{History}
 use Rattle.rtcp_engine.specs.States.{ParticipantValue, StandsAt}
-use Rattle.rtcp_engine.specs.Views.{answer_value}
 use Rattle.rtcp_engine.proofs.LawLemmas.{one_reading-always, one_reading-once, one_reading-rtp_always, one_reading-rtp_once}
 use Rattle.rtcp_text.specs.AnswerText.{answer_text}
 use Rattle.rtcp_text.specs.EventLines.{event_in}
@@ -76,17 +72,6 @@ unique = record {
 -- What is appended to nothing is all.
 pub answer_shown : (before text : List ℕ) (shown answer : AnswerValue) → text ≡ before ++ answer_text shown → before ≡ [] → shown ≡ answer → text ≡ answer_text answer
 answer_shown before text shown answer parts none same = parts ∙ ap (λ b. b ++ answer_text shown) none ∙ ap answer_text same
-
--- ---- What a sink of one answer holds
-
-pub one_told : (answer : Result Step Refusal) (history : History) (act : Act) (told : ℕ) → 1 ≡ 0 + told
-    → map answer_value (option_to_list (Some answer)) ≡ answers_to history (take told (act ∷ [])) → answer_value answer ≡ answer_of history act
-one_told answer history act zero many same = absurd (omega (arith, many))
-one_told answer history act (suc zero) many same = cc same
-one_told answer history act (suc (suc told)) many same = absurd (omega (arith, many))
-
-pub all_taken : (taken refused : ℕ) → taken ≤ 1 → 1 ≡ 0 + (taken - refused) → taken ≡ 1
-all_taken taken refused most many = omega (arith, most, many)
 
 -- ---- The text of a session
 

@@ -1,36 +1,38 @@
 //! The answer to a line of a session: what a participant answers to the event that the line says.
 
-ghost use Rattle.std.specs.Prelude.{◌≡◌, false, is_some};
+ghost use Rattle.std.specs.Prelude.{◌≡◌};
 ghost use Rattle.rtcp_engine.specs.Acts.{Act};
-ghost use Rattle.rtcp_engine.specs.Answers.{answer_of, followed_by};
-ghost use Rattle.rtcp_engine.specs.Histories.{History};
-ghost use Rattle.rtcp_engine.specs.States.{StandsAt};
-ghost use Rattle.rtcp_engine.specs.Views.{answer_value, IsActOf};
+ghost use Rattle.rtcp_engine.specs.Promises.{Takes};
+ghost use Rattle.rtcp_engine.specs.Views.{reply_value, IsActOf};
 
 use crate::answerer::Answerer;
 use crate::event_line::{EventFault, read_event};
 use crate::fault::TextFault;
-use crate::text::push_answer;
-use rtcp_engine::{Answer, Event, Participant, Sink, SinkStop, run};
+use crate::text::push_reply;
+use arrayvec::ArrayVec;
+use rtcp_engine::{Event, Participant, Reply};
 use rtcp_members::MemberTable;
+use rtcp_wire::MAX_COMPOUND;
 use std::alloc::{AllocError, Global};
-use std::slice;
 
-/// Tells a participant the event of each line. The buffer of the datagrams is kept from line to line.
+/// Tells a participant the event of each line. The buffer of the datagrams and the room for compounds are kept
+/// from line to line.
 #[derive(Drop)]
 pub(crate) struct Player<T: MemberTable> {
     participant: Participant<T>,
     datagram: Vec<u8>,
+    compound: ArrayVec<u8, MAX_COMPOUND>,
 }
 
 impl<T: MemberTable> Player<T> {
-    /// A player with an empty buffer.
+    /// A player with an empty buffer and an empty room.
     pub(crate) fn new(alloc: Global, participant: Participant<T>) -> Self
         ensures { result.participant ≡ participant }
     {
         Player {
             participant,
             datagram: Vec::new(alloc),
+            compound: ArrayVec::new(),
         }
     }
 }
@@ -53,52 +55,42 @@ impl<T: MemberTable + Drop> Answerer for Player<T> {
             }
             Err(EventFault::Memory) => return Err(TextFault::Memory),
         };
-        let answer = answer_to(&mut self.participant, &event);
-        match push_answer(text, &answer) {
+        let reply = tell(&mut self.participant, &event, &mut self.compound);
+        match push_reply(text, &reply, &self.compound) {
             Ok(()) => Ok(()),
             Err(AllocError) => Err(TextFault::Memory),
         }
     }
 }
 
-/// What a participant answers to an event.
-fn answer_to<T: MemberTable>(participant: &mut Participant<T>, event: &Event<'_>) -> Answer
-    ensures answer { (history : History) (act : Act) → StandsAt participant.old history →
-        IsActOf event.now act → answer_value result ≡ answer_of history act }
-    ensures stands { (history : History) (act : Act) → StandsAt participant.old history →
-        IsActOf event.now act → StandsAt participant.new (followed_by history act) }
+/// Tells a participant an event. A compound to send then stands in `compound`.
+fn tell<T: MemberTable>(
+    participant: &mut Participant<T>,
+    event: &Event<'_>,
+    compound: &mut ArrayVec<u8, MAX_COMPOUND>,
+) -> Reply
+    ensures { (act : Act) → IsActOf event.now act →
+        Takes participant.old act (reply_value compound.new.items result) participant.new }
 {
-    let mut sink = OneAnswer {
-        answer: None,
-        refusals: 0,
-    };
-    run(participant, slice::from_ref(event), &mut sink);
-    sink.answer.unwrap()
-}
-
-/// A sink with room for one answer.
-#[derive(Drop)]
-struct OneAnswer {
-    answer: Option<Answer>,
-    refusals: u64,
-    // It refuses none before it has one.
-    ghost open: { is_some answer ≡ false → refusals ≡ 0 },
-}
-
-impl Sink for OneAnswer {
-    ghost use Rattle.std.specs.Prelude.{map};
-    ghost use Rattle.std.specs.Option.{option_to_list};
-
-    ghost content = { λ sink. map answer_value (option_to_list sink.answer) };
-
-    ghost refusals = { λ sink. sink.refusals };
-
-    fn put(&mut self, answer: Answer) -> Result<(), SinkStop> {
-        if self.answer.is_some() {
-            self.refusals += 1;
-            return Err(SinkStop);
-        }
-        self.answer = Some(answer);
-        Ok(())
+    match *event {
+        Event::ArriveRtcp {
+            now,
+            peer,
+            w,
+            bytes,
+        } => participant.arrive_rtcp_into(now, peer, w, bytes, compound),
+        Event::ArriveRtp {
+            now,
+            peer,
+            w,
+            bytes,
+        } => participant.arrive_rtp_into(now, peer, w, bytes, compound),
+        Event::SentRtp {
+            now,
+            rtp_ts,
+            octets,
+        } => participant.sent_rtp_told(now, rtp_ts, octets),
+        Event::Tick { now, w1, w2 } => participant.tick_into(now, w1, w2, compound),
+        Event::Leave { now, w } => participant.leave_into(now, w, compound),
     }
 }

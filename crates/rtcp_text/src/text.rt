@@ -18,6 +18,7 @@ mod others;
 mod reports;
 mod tail;
 
+pub(crate) use answers::push_reply;
 pub use answers::{push_answer, push_start};
 use descriptions::push_description;
 use digits::push_decimal;

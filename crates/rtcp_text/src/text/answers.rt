@@ -1,12 +1,12 @@
 //! The text of what a participant answers, as `rtcp replay` shows it.
 
-ghost use Rattle.std.specs.Prelude.{◌≡◌, ◌++◌, OnOk, option_map};
-ghost use Rattle.rtcp_engine.specs.Views.{answer_value, step_value, out_value};
+ghost use Rattle.std.specs.Prelude.{◌≡◌, ◌++◌, OnOk, codes, option_map};
+ghost use Rattle.rtcp_engine.specs.Views.{answer_value, out_value, out_with, reply_value, step_value, told_value};
 ghost use Rattle.rtcp_text.specs.AnswerText.{answer_text, changed_text, counts_text, kind_text, next_text, out_text, refusal_text, rtp_fault_text, start_text, step_text};
 
 use super::digits::{push_decimal, push_octets, push_word};
 use super::push_fault_words;
-use rtcp_engine::{Answer, Out, OutKind, Refusal, Step};
+use rtcp_engine::{Answer, Out, OutKind, Refusal, Reply, Step, Told};
 use rtcp_wire::RtpFault;
 use std::alloc::AllocError;
 
@@ -26,13 +26,33 @@ pub fn push_answer(out: &mut Vec<u8>, answer: &Answer) -> Result<(), AllocError>
 {
     match answer {
         Ok(step) => push_step(out, step)?,
-        Err(refusal) => {
-            out.extend_from_slice(b"refused ")?;
-            push_refusal(out, refusal)?;
-        }
+        Err(refusal) => push_refused(out, refusal)?,
     }
     out.push(b'\n')?;
     Ok(())
+}
+
+/// Appends the line for a reply, whose compound, if it has one, has these octets.
+pub(crate) fn push_reply(out: &mut Vec<u8>, reply: &Reply, octets: &[u8]) -> Result<(), AllocError>
+    ensures { OnOk result (out.new.items ≡ out.old.items ++ answer_text (reply_value octets.now reply.now)) }
+{
+    match reply {
+        Ok(told) => push_told(out, told, octets)?,
+        Err(refusal) => push_refused(out, refusal)?,
+    }
+    out.push(b'\n')?;
+    Ok(())
+}
+
+/// Appends the text of a call that was taken, whose compound, if it has one, has these octets.
+fn push_told(out: &mut Vec<u8>, told: &Told, octets: &[u8]) -> Result<(), AllocError>
+    ensures { OnOk result (out.new.items ≡ out.old.items ++ step_text (told_value octets.now told.now)) }
+{
+    out.extend_from_slice(b"ok ")?;
+    push_counts(out, told.members, told.senders, told.next)?;
+    out.extend_from_slice(b" out=")?;
+    push_written(out, told.out, octets)?;
+    push_changed(out, told.changed)
 }
 
 /// Appends the text of a call that was taken.
@@ -78,10 +98,20 @@ fn push_out(out: &mut Vec<u8>, sent: &Option<Out>) -> Result<(), AllocError>
     ensures { OnOk result (out.new.items ≡ out.old.items ++ out_text (option_map out_value sent.now)) }
 {
     match sent {
-        Some(sent) => {
-            out.extend_from_slice(kind_name(sent.kind).as_bytes())?;
+        Some(sent) => push_written(out, Some(sent.kind), &sent.bytes),
+        None => push_written(out, None, &[]),
+    }
+}
+
+/// Appends what a compound to send is and its octets, or a hyphen where there is none.
+fn push_written(out: &mut Vec<u8>, kind: Option<OutKind>, octets: &[u8]) -> Result<(), AllocError>
+    ensures { OnOk result (out.new.items ≡ out.old.items ++ out_text (out_with octets.now kind)) }
+{
+    match kind {
+        Some(kind) => {
+            out.extend_from_slice(kind_name(kind).as_bytes())?;
             out.push(b':')?;
-            push_octets(out, &sent.bytes)
+            push_octets(out, octets)
         }
         None => out.extend_from_slice(b"-"),
     }
@@ -105,6 +135,14 @@ fn kind_name(kind: OutKind) -> &'static str
         OutKind::Report => "report",
         OutKind::Bye => "bye",
     }
+}
+
+/// Appends that a call was refused, and why.
+fn push_refused(out: &mut Vec<u8>, refusal: &Refusal) -> Result<(), AllocError>
+    ensures { OnOk result (out.new.items ≡ out.old.items ++ (codes "refused " ++ refusal_text refusal.now)) }
+{
+    out.extend_from_slice(b"refused ")?;
+    push_refusal(out, refusal)
 }
 
 /// Appends why a call was refused.

@@ -4,16 +4,17 @@ use Rattle.rtcp_engine.specs.Views.{event_value}
 use Rattle.rtcp_text.proofs.ReplayLemmas.{act_exists, answer_shown}
 use Rattle.rtcp_text.proofs.player.PlayerAnswerer.compose.Goals as goal
 
-pub returns-in-Ok-push_answer : goal.returns-in-Ok-push_answer
-returns-in-Ok-push_answer g c =
+pub returns-in-Ok-push_reply : goal.returns-in-Ok-push_reply
+returns-in-Ok-push_reply g c =
     let event = c.in-Ok.event in
-    let found = act_exists (event_value event) in (
+    let found = act_exists (event_value event) in
+    let takes = c.tell-reply.ensures found.0 found.1 in (
       event_value event,
       found.0,
       c.in-Ok.ensures.event,
       found.1,
       λ history stands. (
-        answer_shown _ _ _ (answer_of history found.0) c.in-Ok-push_answer.ensures c.requires.empty (c.answer_to-answer.ensures.answer history found.0 stands found.1),
-        c.answer_to-answer.ensures.stands history found.0 stands found.1,
+        answer_shown _ _ _ (answer_of history found.0) (rw c.deref.ensures.0 at c.in-Ok-push_reply.ensures) c.requires.empty (takes.answer history stands),
+        takes.stands history stands,
       ),
     )
