@@ -7,10 +7,7 @@ ghost use Rattle.rtcp_text.specs.declared.digit_pairs.DecodeFault.TheVariants.{N
 use std::alloc::AllocError;
 use std::simd::prelude::*;
 
-/// The digits of a block, which are read at once.
-const BLOCK_DIGITS: usize = 16;
-
-/// The octets that a block spells.
+/// The octets that a block of digits spells, which are read at once.
 const BLOCK_OCTETS: usize = 8;
 
 /// Why a line gives no octets.
@@ -82,7 +79,7 @@ fn decode_pairs(line: &[u8], octets: &mut [u8]) -> Result<(), DecodeFault>
 fn decode_block(digits: u8x16) -> Option<[u8; BLOCK_OCTETS]>
     ensures { IfSome result (λ octets. decode_of digits ≡ Ok octets) }
 {
-    // numbers: 246 to 255, 240 to 249, 0 to 9; what is below 246 at first: below 240, 16 or more
+    // The numbers come to 246 to 255 and all else below; then to 240 to 249, and all else below 240.
     let numbers_last = digits + u8x16::splat(u8::MAX - b'9');
     let numbers = numbers_last.saturating_sub(u8x16::splat(6)) + u8x16::splat(16);
     let letters_first = (digits & u8x16::splat(0xdf)) - u8x16::splat(b'A');

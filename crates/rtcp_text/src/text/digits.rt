@@ -9,6 +9,12 @@ use itoa::Buffer;
 use std::alloc::AllocError;
 use std::simd::prelude::*;
 
+/// The octets of a block, which are written as digits at once.
+const BLOCK: usize = 8;
+
+/// The hex digits, by their values.
+static DIGITS: [u8; 16] = *b"0123456789abcdef";
+
 /// Appends a number in decimal, with no leading zero.
 pub fn push_decimal(out: &mut Vec<u8>, number: u64) -> Result<(), AllocError>
     ensures { OnOk result (out.new.items ≡ out.old.items ++ decimal number) }
@@ -24,12 +30,6 @@ pub fn push_signed(out: &mut Vec<u8>, number: i32) -> Result<(), AllocError>
     let mut digits = Buffer::new();
     out.extend_from_slice(digits.format(number).as_bytes())
 }
-
-/// The octets of a block, which are written as digits at once.
-const BLOCK: usize = 8;
-
-/// The hex digits, by their values.
-static DIGITS: [u8; 16] = *b"0123456789abcdef";
 
 /// Appends octets, each as two hex digits.
 pub fn push_octets(out: &mut Vec<u8>, octets: &[u8]) -> Result<(), AllocError>
