@@ -162,6 +162,8 @@ impl<T: MemberTable> Participant<T> {
 
     /// Takes a datagram under the present SSRC: nothing of it counts in a backoff but BYE packets. Returns whether it
     /// changed who of the others is a member or who sends.
+    // Inlined, so that each call takes its own kind of datagram on a path without the other.
+    #[inline(always)]
     fn take(&mut self, now: u64, arrival: &Arrival<'_>) -> bool
         requires order { self.old.presence.last ≡ now }
         requires size { size_of arrival.now ≤ 65535 }

@@ -36,6 +36,8 @@ impl<T: MemberTable> Presence<T> {
 
     /// Takes a datagram that came at the moment of the last call, and returns whether that changed who of the others
     /// is a member or who sends.
+    // Inlined, as in `Participant::take`.
+    #[inline(always)]
     pub(crate) fn take(&mut self, now: u64, arrival: &Arrival<'_>) -> bool
         requires order { self.old.last ≡ now }
         requires size { size_of arrival.now ≤ 65535 }
