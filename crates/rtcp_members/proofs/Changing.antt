@@ -14,7 +14,7 @@ use Rattle.rtcp_members.specs.Traces.{Horizons}
 use Rattle.rtcp_members.specs.Stays.{is_before, is_removed}
 use Rattle.rtcp_members.specs.Entries.{EntryValue, still_sending}
 use Rattle.rtcp_members.specs.Tables.{IsApart, updated_row, updated, entry_after_check}
-use Rattle.rtcp_members.specs.ListViews.{entry_value, row_of, rows_of, map_of, lapsed, outlasts}
+use Rattle.rtcp_members.specs.ListViews.{entry_value, mark_in, sending_in, row_of, rows_of, map_of, lapsed, outlasts}
 use Rattle.rtcp_members.proofs.Updated.{find_updated, from_updated}
 use Rattle.rtcp_members.proofs.Listing.{get_rows}
 
@@ -48,17 +48,17 @@ kept horizons entry = if is_some entry.mark then entry else record entry { sendi
 
 lapsed_row : (horizons : Horizons) (e : Entry) → row_of (lapsed horizons.idle e) ≡ (e.ssrc, kept horizons (entry_value e))
 lapsed_row horizons e =
-    let gone : Entry = record e { sending = None } in
-    elim (is_some e.mark) as (λ marked. row_of (if not marked && is_before e.sending horizons.idle then gone else e)
-    ≡ (e.ssrc, if marked then entry_value e else record (entry_value e) { sending = still_sending horizons e.sending })) [
+    let gone : Entry = record e { sends = false } in
+    elim (is_some (mark_in e)) as (λ marked. row_of (if not marked && is_before (sending_in e) horizons.idle then gone else e)
+    ≡ (e.ssrc, if marked then entry_value e else record (entry_value e) { sending = still_sending horizons (sending_in e) })) [
       | true ↦ refl
-      | false ↦ elim (is_before e.sending horizons.idle) as (λ idle. row_of (if idle then gone else e) ≡ (e.ssrc, record (entry_value e) { sending = (if idle then None else e.sending) })) [ true ↦ refl | false ↦ refl ]
+      | false ↦ elim (is_before (sending_in e) horizons.idle) as (λ idle. row_of (if idle then gone else e) ≡ (e.ssrc, record (entry_value e) { sending = (if idle then None else (sending_in e)) })) [ true ↦ refl | false ↦ refl ]
     ]
 
 row_checked : (horizons : Horizons) (e : Entry) (rest : List Entry) (rows : List (ℕ × EntryValue)) → rows_of rest ≡ rows
     → rows_of (cond (outlasts horizons e) (lapsed horizons.idle e ∷ rest) rest) ≡ cons_option (updated_row (entry_after_check horizons) (row_of e)) rows
 row_checked horizons e rest rows same =
-    elim (is_removed horizons e.sighting e.mark) as (λ removed. rows_of (cond (not removed) (lapsed horizons.idle e ∷ rest) rest)
+    elim (is_removed horizons e.sighting (mark_in e)) as (λ removed. rows_of (cond (not removed) (lapsed horizons.idle e ∷ rest) rest)
     ≡ cons_option (option_map (λ entry. (e.ssrc, entry)) (if removed then None else Some (kept horizons (entry_value e)))) rows) [
       | true ↦ same
       | false ↦ λ i. lapsed_row horizons e i ∷ same i

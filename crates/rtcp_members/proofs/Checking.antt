@@ -29,7 +29,7 @@ left_alone horizons (e ∷ entries) all =
     let halves = and_parts (is_left horizons e) (list_all (is_left horizons) entries) all in
     let its = and_parts (not (lapses horizons.idle e)) (outlasts horizons e) halves.0 in
     let rest = left_alone horizons entries halves.1 in
-    let as_it_was : lapsed horizons.idle e ≡ e = ap (λ b. if b then record e { sending = None } else e) (isnt (lapses horizons.idle e) its.0) in
+    let as_it_was : lapsed horizons.idle e ≡ e = ap (λ b. if b then record e { sends = false } else e) (isnt (lapses horizons.idle e) its.0) in
     sym (λ i. cond (its.1 i) (as_it_was i ∷ sym rest i) (retain_mut (outlasts horizons) (lapsed horizons.idle) entries))
 
 module _ (horizons : Horizons) (capacity rate members senders : ℕ) (entries : List Entry) (table : TableValue) (is : table_of capacity rate entries ≡ table) (sorted : IsSortedTable capacity members senders entries) where

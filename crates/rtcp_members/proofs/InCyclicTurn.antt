@@ -1,6 +1,5 @@
 -- The pending rows of a sorted list: those from a place on, and then those before it.
-use Rattle.std.proofs.Common.{◌≡◌, ◌<◌, ◌≤◌, ◌+◌, ℕ, zero, suc, Bool, true, false, cond, not, ◌&&◌, List, [], ◌∷◌, ◌++◌, filter, length, take, drop, slice_index_or, leb, nat_lt, if◌then◌else◌, Option, Some, None, is_some, nat_cmp, inl, inr, arith, refl, sym, ap, subst, ◌∙◌, le_of_eq}
-use Rattle.std.specs.List.Sorted.{IsPartitionPoint, IsPartitionedBy, IsNonDecreasingBy}
+use Rattle.std.proofs.Common.{◌≡◌, ◌<◌, ◌≤◌, ◌+◌, ℕ, zero, suc, Bool, true, false, cond, not, ◌&&◌, List, [], ◌∷◌, ◌++◌, filter, length, take, drop, slice_index_or, nat_lt, if◌then◌else◌, Option, Some, None, is_some, nat_cmp, inl, inr, arith, refl, sym, ap, subst, ◌∙◌, le_of_eq}
 use Rattle.std.specs.Cmp.{nat_cmp_total}
 use Rattle.std.specs.FinMap as finite
 use Rattle.std.specs.FinMap.{nat_cmp-IsAntisymmetric}
@@ -8,11 +7,10 @@ use Rattle.std.specs.FinMap.Entries.{same_entries}
 use Rattle.std.proofs.lemmas.Bool.{cases_lt}
 use Rattle.std.proofs.lemmas.Option.{slice_get_within}
 use Rattle.std.proofs.lemmas.Bool.Decides.{nat_tests}
-use Rattle.std.proofs.lemmas.List.Sorted.{IsPartitionedBy-leb}
 use Rattle.rtcp_members.specs.declared.entry.Entry.{Entry}
 use Rattle.rtcp_members.specs.Tables.{TableValue}
 use Rattle.rtcp_members.specs.ListViews.{entry_value, row_of, rows_of, map_of, table_of, tally_of, IsPlaceOf}
-use Rattle.rtcp_members.specs.SortedViews.{IsRising}
+use Rattle.rtcp_members.specs.SortedViews.{IsRising, IsGapFor}
 use Rattle.rtcp_members.specs.Pending.{EntryRow, due_rows, in_turn, first_ssrc, is_above, is_due, pending}
 use Rattle.rtcp_members.proofs.Listing.{get_rows}
 use Rattle.rtcp_members.proofs.LeastDue.{filter_twice, none_first, some_first}
@@ -40,34 +38,18 @@ cut_at test (x ∷ xs) (suc n) before from =
       λ i. cond (not (here i)) (row_of x ∷ rest.1 i) (rest.1 i),
     )
 
-not_less : (y a : ℕ) → leb y a ≡ true → nat_lt a y ≡ false
-not_less y a le = grind (arith, nat_tests)
-
-less : (y a : ℕ) → leb y a ≡ false → nat_lt a y ≡ true
-less y a le = grind (arith, nat_tests)
-
-never_falls : (entries : List Entry) → IsRising entries → IsNonDecreasingBy (λ (e : Entry). e.ssrc) entries
-never_falls entries rising i j d le within = elim (cases_lt i j) [
-  | inl before ↦ omega (arith, rises entries rising i j d before within)
-  | inr from ↦
-      let same : i ≡ j = omega arith in
-      le_of_eq (ap (λ k. (slice_index_or entries k d).ssrc) same)
-]
-
-pub parted : (entries : List Entry) (a : ℕ) → IsRising entries → IsPartitionedBy (λ (e : Entry). leb e.ssrc a) entries
-parted entries a rising = IsPartitionedBy-leb (λ (e : Entry). e.ssrc) entries a (never_falls entries rising)
-
-pub cut_above : (entries : List Entry) (a n : ℕ) (above : Option ℕ) → above ≡ Some a → IsPartitionPoint (λ (e : Entry). leb e.ssrc a ≡ true) (λ (e : Entry). leb e.ssrc a ≡ false) entries n
-    → (filter (is_above above) (rows_of entries) ≡ rows_of (drop n entries)) × (filter (λ (row : EntryRow). not (is_above above row)) (rows_of entries) ≡ rows_of (take n entries))
-cut_above entries a n above is point =
-    subst (λ o. (filter (is_above o) (rows_of entries) ≡ rows_of (drop n entries)) × (filter (λ (row : EntryRow). not (is_above o row)) (rows_of entries) ≡ rows_of (take n entries))) (sym is)
-    (cut_at (is_above (Some a)) entries n (λ k d before within. not_less _ a (point.0 k d (omega arith) before)) (λ k d from within. less _ a (point.1 k d from within)))
-
 no_more : (y a : ℕ) → y ≤ a → nat_lt a y ≡ false
 no_more y a le = grind (arith, nat_tests)
 
 more : (y a : ℕ) → a < y → nat_lt a y ≡ true
 more y a lt = grind (arith, nat_tests)
+
+-- The rows above a source without an entry begin where that would stand.
+pub cut_gap : (entries : List Entry) (a n : ℕ) (above : Option ℕ) → above ≡ Some a → IsGapFor a entries n
+    → (filter (is_above above) (rows_of entries) ≡ rows_of (drop n entries)) × (filter (λ (row : EntryRow). not (is_above above row)) (rows_of entries) ≡ rows_of (take n entries))
+cut_gap entries a n above is gap =
+    subst (λ o. (filter (is_above o) (rows_of entries) ≡ rows_of (drop n entries)) × (filter (λ (row : EntryRow). not (is_above o row)) (rows_of entries) ≡ rows_of (take n entries))) (sym is)
+    (cut_at (is_above (Some a)) entries n (λ k d before within. no_more _ a (omega (arith, gap.lesser k d before))) (λ k d from within. more _ a (gap.greater k d from within)))
 
 -- The rows above a source begin after its entry.
 pub cut_after : (entries : List Entry) (a at : ℕ) (above : Option ℕ) → above ≡ Some a → IsRising entries → IsPlaceOf a entries at

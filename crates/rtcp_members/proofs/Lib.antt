@@ -7,6 +7,7 @@ mod Moving
 mod Following
 mod Packets
 mod Listing
+mod Pairs
 mod Changing
 mod Applying
 mod Admitting
@@ -23,6 +24,9 @@ mod Weights
 mod Placing
 mod Standing
 mod Inserting
+mod Ranks
+mod Heaps
+mod Dropping
 mod Checking
 mod Crowding
 mod InCyclicTurn

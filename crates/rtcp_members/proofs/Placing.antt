@@ -76,6 +76,12 @@ module _ (ssrc : ℕ) (entries : List Entry) (at : ℕ) (d : Entry) (place : IsP
       let its : is_due (entry_value place.entry) ≡ true = subst (λ o. IsTrue (is_such is_due o)) place.found due in
       ap (λ (b : Bool). if b then 1 else 0) its
 
+  -- It is the entry that is due.
+  pub due_there : IsTrue (is_such is_due (finite.get (map_of entries) ssrc)) → IsTrue (is_due (entry_value (slice_index_or entries at d)))
+  due_there due =
+      let its : is_due (entry_value place.entry) ≡ true = subst (λ o. IsTrue (is_such is_due o)) place.found due in
+      ap (λ (y : Entry). is_due (entry_value y)) (read_there ssrc entries at d place) ∙ its
+
   pub due_counts : IsTrue (is_such is_due (finite.get (map_of entries) ssrc)) → 1 ≤ tally_of is_due entries
   due_counts due = omega (arith, due_weight due, weight_within is_due entries at place.entry place.stands)
 

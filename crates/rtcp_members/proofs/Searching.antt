@@ -38,6 +38,13 @@ stands_found ssrc entries at e apart is same =
 pub read_found : (ssrc : ℕ) (entries : List Entry) (at : ℕ) (e : Entry) → IsRising entries → at < length entries → e ≡ slice_index_or entries at e → e.ssrc ≡ ssrc → IsPlaceOf ssrc entries at
 read_found ssrc entries at e rising within read same = stands_found ssrc entries at e (rising_apart entries rising) (slice_get_read entries (length entries) at e refl within read) same
 
+-- so was one of which the SSRC was read
+pub ssrc_found : (ssrc : ℕ) (entries : List Entry) (at its : ℕ) → IsRising entries → at < length entries → ((d : Entry) → its ≡ (slice_index_or entries at d).ssrc) → its ≡ ssrc → IsPlaceOf ssrc entries at
+ssrc_found ssrc [] at its rising within read same = absurd (omega arith)
+ssrc_found ssrc (x ∷ xs) at its rising within read same =
+    let e : Entry = slice_index_or (x ∷ xs) at x in
+    stands_found ssrc (x ∷ xs) at e (rising_apart (x ∷ xs) rising) (slice_get-get_or (x ∷ xs) at x within) (sym (read x) ∙ same)
+
 -- ---- A binary search
 
 searchable : (entries : List Entry) → IsRising entries → (ssrc : ℕ) → IsNonDecreasingBy (λ (e : Entry). ordering_index (nat_cmp e.ssrc ssrc)) entries

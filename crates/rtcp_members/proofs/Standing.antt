@@ -19,7 +19,7 @@ use Rattle.rtcp_members.specs.Pending.{is_due}
 use Rattle.rtcp_members.specs.Traces.{horizons_at}
 use Rattle.rtcp_members.specs.Stays.{is_before}
 use Rattle.rtcp_members.specs.Tables.{entry_with_fact}
-use Rattle.rtcp_members.specs.ListViews.{entry_value, is_left, IsPlaceOf}
+use Rattle.rtcp_members.specs.ListViews.{entry_value, mark_in, sending_in, is_left, IsPlaceOf}
 use Rattle.rtcp_members.proofs.Applying.{read_there}
 use Rattle.rtcp_members.specs.Standing.{KeepsCounts, MarkStandsBy, StandsBy, AllStandBy, IsUpTo, IsNoLater}
 
@@ -86,7 +86,7 @@ pub all_left : (b : Bounds) (silent idle gone : ℕ) → (silent ≤ b.silent) �
 all_left b silent idle gone within [] all = refl
 all_left b silent idle gone within (e ∷ entries) all =
     let its = All-head (stands b) e entries all in
-    let one = left_by b silent idle gone within.0 within.1 within.2 e.mark e.sending e.sighting its.0 its.1 in
+    let one = left_by b silent idle gone within.0 within.1 within.2 (mark_in e) (sending_in e) e.sighting its.0 its.1 in
     let rest = all_left b silent idle gone within entries (All-tail (stands b) e entries all) in
     λ j. one j && rest j
 

@@ -1,5 +1,5 @@
 -- How many entries of a list pass a test, and how many fewer after a check.
-use Rattle.std.proofs.Common.{◌≡◌, ◌≤◌, ◌+◌, ◌-◌, ℕ, Bool, true, false, cond, not, ◌&&◌, List, [], ◌∷◌, length, filter, if◌then◌else◌, None, is_none, take, arith, refl, sym, ap, ◌∙◌}
+use Rattle.std.proofs.Common.{◌≡◌, ◌≤◌, ◌+◌, ◌-◌, ℕ, Bool, true, false, cond, not, ◌&&◌, List, [], ◌∷◌, length, filter, if◌then◌else◌, is_none, take, arith, refl, sym, ap, ◌∙◌}
 use Rattle.std.proofs.lemmas.List.{length-map, length-take-le}
 use Rattle.std.proofs.lemmas.List.Filters.{length-filter_both}
 use Rattle.std.specs.List.{retain_mut}
@@ -9,7 +9,7 @@ use Rattle.rtcp_members.specs.Traces.{Horizons}
 use Rattle.rtcp_members.specs.Stays.{is_before}
 use Rattle.rtcp_members.specs.Entries.{EntryValue, is_sender}
 use Rattle.rtcp_members.specs.Tables.{TableValue, IsApart, count_in, after_check, dropped_entries, dropped_senders, senders_in}
-use Rattle.rtcp_members.specs.ListViews.{entry_value, row_of, rows_of, map_of, table_of, tally_of, lapsed, outlasts, IsListed}
+use Rattle.rtcp_members.specs.ListViews.{entry_value, mark_in, sending_in, row_of, rows_of, map_of, table_of, tally_of, lapsed, outlasts, IsListed}
 use Rattle.rtcp_members.proofs.Listing.{passing_rows, len_rows}
 use Rattle.rtcp_members.proofs.Changing.{map_checked, apart_checked}
 
@@ -40,9 +40,9 @@ none_of false = refl
 
 lapsed_weight : (idle : ℕ) (e : Entry) → cond (is_sender (entry_value (lapsed idle e))) 1 0 ≤ cond (is_sender (entry_value e)) 1 0
 lapsed_weight idle e =
-    let gone : Entry = record e { sending = None } in
-    elim (is_none e.mark && is_before e.sending idle) as (λ lapses. cond (is_sender (entry_value (if lapses then gone else e))) 1 0 ≤ cond (is_sender (entry_value e)) 1 0) [
-      | true ↦ omega (arith, ap {B = ℕ} (λ b. cond b 1 0) (none_of (e.valid && is_none e.mark)))
+    let gone : Entry = record e { sends = false } in
+    elim (is_none (mark_in e) && is_before (sending_in e) idle) as (λ lapses. cond (is_sender (entry_value (if lapses then gone else e))) 1 0 ≤ cond (is_sender (entry_value e)) 1 0) [
+      | true ↦ omega (arith, ap {B = ℕ} (λ b. cond b 1 0) (none_of (e.valid && is_none (mark_in e))))
       | false ↦ omega arith
     ]
 

@@ -11,4 +11,6 @@ pub mod Codes
 pub mod ListViews
 pub mod SortedViews
 pub mod Storages
+pub mod Heaps
+pub mod HeapLaws
 pub mod Standing

@@ -1,5 +1,5 @@
 -- What the entries of a list say, in the values of the definitions.
-use Rattle.std.specs.Prelude.{ℕ, ◌≡◌, Bool, List, map, length, filter, Bool, not, ◌&&◌, ◌≤◌, if◌then◌else◌, Some, None, is_none, slice_get, option_map}
+use Rattle.std.specs.Prelude.{ℕ, ◌≡◌, Bool, false, List, map, length, filter, not, ◌&&◌, ◌≤◌, if◌then◌else◌, Option, Some, None, is_none, slice_get, option_map}
 use Rattle.std.specs.FinMap as finite
 use Rattle.rtcp_source.specs.Views.{reception_value, told_value}
 use Rattle.rtcp_members.specs.declared.entry.Entry.{Entry}
@@ -10,9 +10,17 @@ use Rattle.rtcp_members.specs.Stays.{is_before, is_removed}
 use Rattle.rtcp_members.specs.Tables.{EntryMap, IsApart, TableValue}
 use Rattle.rtcp_members.specs.Told.{StateValue}
 
+-- when an entry's source said goodbye
+abbrev pub mark_in : Entry → Option ℕ
+mark_in e = if e.left then Some e.mark else None
+
+-- the moment of an entry's last counted packet
+abbrev pub sending_in : Entry → Option ℕ
+sending_in e = if e.sends then Some e.sending else None
+
 abbrev pub entry_value : Entry → EntryValue
 entry_value e =
-    record { valid = e.valid; mark = e.mark; sighting = e.sighting; sending = e.sending; source = e.source }
+    record { valid = e.valid; mark = mark_in e; sighting = e.sighting; sending = sending_in e; source = e.source }
 
 abbrev pub state_value : SourceState → StateValue
 state_value s =
@@ -48,14 +56,14 @@ weight_of test e = if test (entry_value e) then 1 else 0
 
 -- whether a check ends an entry's sending
 abbrev pub lapses : (idle : ℕ) → Entry → Bool
-lapses idle e = is_none e.mark && is_before e.sending idle
+lapses idle e = is_none (mark_in e) && is_before (sending_in e) idle
 
 -- an entry that stays, after a check
 abbrev pub lapsed : (idle : ℕ) → Entry → Entry
-lapsed idle e = if lapses idle e then record e { sending = None } else e
+lapsed idle e = if lapses idle e then record e { sends = false } else e
 
 abbrev pub outlasts : Horizons → Entry → Bool
-outlasts horizons e = not (is_removed horizons e.sighting e.mark)
+outlasts horizons e = not (is_removed horizons e.sighting (mark_in e))
 
 -- whether a check leaves an entry as it is
 abbrev pub is_left : Horizons → Entry → Bool

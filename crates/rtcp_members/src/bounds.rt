@@ -10,6 +10,7 @@ ghost use Rattle.rtcp_members.specs.Standing.{AllStandBy, IsNoLater, IsUpTo, Sta
 
 use crate::counts::Counts;
 use crate::entry::Entry;
+use crate::storage::Storage;
 use rtcp_wire::Fact;
 
 /// Bounds from below of the moments of a list of entries: a check whose horizons do not pass them changes
@@ -63,10 +64,10 @@ impl Bounds {
         ensures stands { StandsBy self.new (entry_value entry.now) }
     {
         self.silent = self.silent.min(entry.sighting);
-        match entry.mark {
+        match entry.mark() {
             Some(mark) => self.gone = self.gone.min(mark),
             None => {
-                if let Some(sent) = entry.sending {
+                if let Some(sent) = entry.sending() {
                     self.idle = self.idle.min(sent);
                 }
             }
@@ -75,12 +76,20 @@ impl Bounds {
 }
 
 /// The bounds of these entries, where a check with these horizons leaves each as it is.
-pub(crate) fn bounds_if_left(entries: &[Entry], silent: u64, idle: u64, gone: u64) -> Option<Bounds>
-    ensures left { IfSome result (λ _. list_all (is_left (horizons_at silent idle gone)) entries.now ≡ true) }
-    ensures stand { IfSome result (λ bounds. AllStandBy bounds entries.now) }
+pub(crate) fn bounds_if_left<S: Storage>(
+    entries: &S,
+    silent: u64,
+    idle: u64,
+    gone: u64,
+) -> Option<Bounds>
+    requires { S.is_sound entries.now }
+    ensures left { IfSome result (λ _.
+        list_all (is_left (horizons_at silent idle gone)) (S.items entries.now) ≡ true) }
+    ensures stand { IfSome result (λ bounds. AllStandBy bounds (S.items entries.now)) }
 {
     let mut bounds = Bounds::none();
-    'entries: for entry in entries {
+    'entries: for at in 0..entries.len() {
+        let entry = entries.entry(at);
         if !entry.is_left(silent, idle, gone) {
             return None;
         }
@@ -90,16 +99,18 @@ pub(crate) fn bounds_if_left(entries: &[Entry], silent: u64, idle: u64, gone: u6
 }
 
 /// The counts and the bounds of these entries.
-pub(crate) fn measure(entries: &[Entry]) -> (Counts, Bounds)
-    requires { length entries.now ≤ 1024 }
-    ensures members { result.0.members ≡ tally_of is_member entries.now }
-    ensures senders { result.0.senders ≡ tally_of is_sender entries.now }
-    ensures due { result.0.due ≡ tally_of is_due entries.now }
-    ensures stand { AllStandBy result.1 entries.now }
+pub(crate) fn measure<S: Storage>(entries: &S) -> (Counts, Bounds)
+    requires sound { S.is_sound entries.now }
+    requires few { length (S.items entries.now) ≤ 1024 }
+    ensures members { result.0.members ≡ tally_of is_member (S.items entries.now) }
+    ensures senders { result.0.senders ≡ tally_of is_sender (S.items entries.now) }
+    ensures due { result.0.due ≡ tally_of is_due (S.items entries.now) }
+    ensures stand { AllStandBy result.1 (S.items entries.now) }
 {
     let mut counts = Counts::none();
     let mut bounds = Bounds::none();
-    'entries: for entry in entries {
+    'entries: for at in 0..entries.len() {
+        let entry = entries.entry(at);
         counts.add(entry);
         bounds.cover(entry);
     }

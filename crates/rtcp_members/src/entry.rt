@@ -2,7 +2,7 @@
 
 ghost use Rattle.std.specs.Prelude.{◌≡◌, nat_lt, ◌||◌, ◌<◌, ◌^◌, None, Some, Bool, IsTrue, not};
 ghost use Rattle.rtcp_members.specs.Told.{state_of};
-ghost use Rattle.rtcp_members.specs.ListViews.{entry_value, row_of, state_value, lapses, lapsed, outlasts, is_left};
+ghost use Rattle.rtcp_members.specs.ListViews.{entry_value, mark_in, sending_in, row_of, state_value, lapses, lapsed, outlasts, is_left};
 ghost use Rattle.rtcp_wire.specs.Facts.{is_media};
 ghost use Rattle.rtcp_members.specs.Traces.{horizons_at};
 ghost use Rattle.rtcp_members.specs.Stays.{is_before, is_removed};
@@ -26,13 +26,17 @@ pub struct Entry {
     pub(crate) ssrc: u32,
     /// Whether it gave its CNAME, or a packet of it was counted.
     pub(crate) valid: bool,
-    /// When it said goodbye, in microseconds.
-    pub(crate) mark: Option<u64>,
+    /// Whether it said goodbye. This flag and the next stand beside the others, and not in an `Option` of their
+    /// moments, so that an entry takes two cache lines.
+    pub(crate) left: bool,
+    /// Whether a packet of it was counted before the mark, and no check since had a later horizon for packets.
+    pub(crate) sends: bool,
+    /// When it said goodbye, if it did, in microseconds.
+    pub(crate) mark: u64,
     /// Its last sighting, in microseconds.
     pub(crate) sighting: u64,
-    /// The moment of its last counted packet before the mark, in microseconds, until a check with a later
-    /// horizon for packets.
-    pub(crate) sending: Option<u64>,
+    /// The moment of its last counted packet before the mark, if it sends, in microseconds.
+    pub(crate) sending: u64,
     pub(crate) source: Source,
 }
 
@@ -51,23 +55,42 @@ impl Entry {
         Entry {
             ssrc,
             valid: false,
-            mark: None,
+            left: false,
+            sends: false,
+            mark: 0,
             sighting: 0,
-            sending: None,
+            sending: 0,
             source: Source::new(),
         }
+    }
+
+    /// When it said goodbye, in microseconds.
+    #[inline(always)]
+    pub(crate) fn mark(&self) -> Option<u64>
+        ensures { result ≡ mark_in self.now }
+    {
+        if self.left { Some(self.mark) } else { None }
+    }
+
+    /// The moment of its last counted packet before the mark, in microseconds, until a check with a later
+    /// horizon for packets.
+    #[inline(always)]
+    pub(crate) fn sending(&self) -> Option<u64>
+        ensures { result ≡ sending_in self.now }
+    {
+        if self.sends { Some(self.sending) } else { None }
     }
 
     pub(crate) fn is_member(&self) -> bool
         ensures { result ≡ is_member (entry_value self.now) }
     {
-        self.valid && self.mark.is_none()
+        self.valid && self.mark().is_none()
     }
 
     pub(crate) fn is_sender(&self) -> bool
         ensures { result ≡ is_sender (entry_value self.now) }
     {
-        self.is_member() && self.sending.is_some()
+        self.is_member() && self.sending().is_some()
     }
 
     /// Takes a fact of the source at the moment `t`, where the entry has no mark. Returns whether the fact
@@ -80,7 +103,8 @@ impl Entry {
     {
         match fact {
             Fact::Gone(_) => {
-                self.mark = Some(t);
+                self.left = true;
+                self.mark = t;
                 return false;
             }
             Fact::Heard(_) => {}
@@ -91,7 +115,8 @@ impl Entry {
                 let counted = taken.is_counted();
                 if counted {
                     self.valid = true;
-                    self.sending = Some(t);
+                    self.sends = true;
+                    self.sending = t;
                 }
                 self.sighting = t;
                 return counted;
@@ -109,7 +134,7 @@ impl Entry {
         ensures ssrc { self.new.ssrc ≡ self.old.ssrc }
         ensures value { entry_value self.new ≡ entry_with_fact rate fact t (entry_value self.old) }
     {
-        if self.mark.is_some() {
+        if self.mark().is_some() {
             return Applied {
                 place: Place::Ignored,
                 counted: false,
@@ -139,7 +164,7 @@ impl Entry {
     pub(crate) fn is_due(&self) -> bool
         ensures { result ≡ is_due (entry_value self.now) }
     {
-        self.mark.is_none() && self.source.has_news()
+        self.mark().is_none() && self.source.has_news()
     }
 
     /// The report block of the source at the moment `t`.
@@ -161,7 +186,7 @@ impl Entry {
             ssrc: self.ssrc,
             is_member: self.is_member(),
             is_sender: self.is_sender(),
-            left: self.mark,
+            left: self.mark(),
             heard: self.sighting,
             reception: self.source.reception(),
             told: self.source.last_report(),
@@ -172,11 +197,11 @@ impl Entry {
     /// `idle`, and returns whether the entry stays.
     pub(crate) fn check(&mut self, silent: u64, idle: u64, gone: u64) -> bool
         ensures stays { result
-            ≡ not (is_removed (horizons_at silent idle gone) self.old.sighting self.old.mark) }
+            ≡ not (is_removed (horizons_at silent idle gone) self.old.sighting (mark_in self.old)) }
         ensures entry { self.new ≡ lapsed idle self.old }
     {
         if self.is_idle(idle) {
-            self.sending = None;
+            self.sends = false;
         }
         self.stays(silent, gone)
     }
@@ -192,13 +217,13 @@ impl Entry {
     fn is_idle(&self, idle: u64) -> bool
         ensures { result ≡ lapses idle self.now }
     {
-        self.mark.is_none() && self.sending.is_some_and(|sent| sent < idle)
+        self.mark().is_none() && self.sending().is_some_and(|sent| sent < idle)
     }
 
     /// Whether the source was seen lately, and did not leave too long ago.
     fn stays(&self, silent: u64, gone: u64) -> bool
-        ensures { result ≡ not (nat_lt self.now.sighting silent || is_before self.now.mark gone) }
+        ensures { result ≡ not (nat_lt self.now.sighting silent || is_before (mark_in self.now) gone) }
     {
-        silent <= self.sighting && self.mark.is_none_or(|mark| gone <= mark)
+        silent <= self.sighting && self.mark().is_none_or(|mark| gone <= mark)
     }
 }

@@ -4,9 +4,10 @@
 //!
 //! Take a sorted table for a session: it keeps its entries by rising SSRC with running counts, so a fact costs a
 //! binary search, and with bounds of their moments, so most checks read no entry. `HeapTable` has them in a block
-//! of memory, of the size of its capacity; `SortedTable` has the room for 1,024 in itself. `ListTable` keeps them in
-//! order of arrival and walks them in each call: it is the plain one, easy to believe. All meet the contract of
-//! `MemberTable`, so they return the same in each call.
+//! of memory, of the size of its capacity, and keeps an index of them in order, so that a join moves no entry;
+//! `SortedTable` has the room for 1,024 in itself. `ListTable` keeps them in order of arrival and walks them in
+//! each call: it is the plain one, easy to believe. All meet the contract of `MemberTable`, so they return the
+//! same in each call.
 //!
 //! ```
 //! let mut table = SortedTable::empty(1_024, 8_000);
@@ -25,8 +26,10 @@
 #![tactic(auto)]
 
 mod bounds;
+mod cells;
 mod counts;
 mod entry;
+mod heap;
 pub mod laws;
 mod list_table;
 pub mod role_laws;

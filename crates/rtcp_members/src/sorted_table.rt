@@ -8,7 +8,7 @@ ghost use Rattle.rtcp_members.specs.Told.{first_state};
 ghost use Rattle.rtcp_members.specs.ListViews.{entry_value, state_value, rows_of, map_of, table_of, tally_of, IsPlaceOf};
 ghost use Rattle.rtcp_members.specs.SortedViews.{IsRising, IsOrdered, IsSortedTable, IsGapFor};
 ghost use Rattle.rtcp_members.specs.declared.bounds.Bounds.{Bounds as BoundsOf};
-ghost use Rattle.rtcp_members.specs.Standing.{AllStandBy, IsUpTo};
+ghost use Rattle.rtcp_members.specs.Standing.{AllStandBy, IsEdited, IsUpTo};
 ghost use Rattle.rtcp_wire.specs.Views.{block_value};
 ghost use Rattle.rtcp_wire.specs.Writing.{IsWritableBlock};
 ghost use Rattle.rtcp_members.specs.Entries.{is_such};
@@ -18,6 +18,7 @@ ghost use Rattle.rtcp_members.specs.Tables.{IsFew, no_members, placed, counted, 
 use crate::bounds::{Bounds, bounds_if_left, measure};
 use crate::counts::Counts;
 use crate::entry::Entry;
+use crate::heap::Heap;
 use crate::state::SourceState;
 use crate::storage::Storage;
 use crate::table::{Applied, Dropped, InlineTable, MAX_CAPACITY, MemberTable, Place};
@@ -59,15 +60,17 @@ impl<S: Storage> Model for Sorted<S> {
 
     ghost view = { λ t. table_of t.capacity t.rate (S.items t.entries) };
 
-    ghost invariant = { λ t. IsKept t.capacity (S.room t.entries) t.counts t.bounds (S.items t.entries) };
+    ghost invariant = { λ t. IsKept t.capacity (S.room t.entries) t.counts t.bounds (S.items t.entries)
+        (S.is_sound t.entries) };
 }
 
-/// A sorted table with room for 1,024 entries in itself, whatever its capacity: some 147 KB.
+/// A sorted table with room for 1,024 entries in itself, whatever its capacity: some 131 KB.
 pub type SortedTable = Sorted<ArrayVec<Entry, MAX_CAPACITY>>;
 
 /// A sorted table whose entries lie in a block of memory of their own, with room for its capacity: 144 octets for each
-/// source. The block is taken when the table is made, and none later.
-pub type HeapTable = Sorted<Vec<Entry>>;
+/// source, of which 16 are for an index of all of them. An entry stays where it is put until it is dropped. The block is
+/// taken when the table is made, and none later.
+pub type HeapTable = Sorted<Heap>;
 
 impl InlineTable for Sorted<ArrayVec<Entry, MAX_CAPACITY>> {
     fn empty(capacity: u32, rate: u32) -> Sorted<ArrayVec<Entry, MAX_CAPACITY>> {
@@ -75,23 +78,19 @@ impl InlineTable for Sorted<ArrayVec<Entry, MAX_CAPACITY>> {
     }
 }
 
-impl Sorted<Vec<Entry>> {
+impl Sorted<Heap> {
     /// A table without entries, for at most `capacity` of them, from 1 to 1,024, of a session whose media's
     /// clock has `rate` units a second. It takes the memory for all of them here, and none later.
     ///
     /// # Errors
     ///
     /// There is no memory.
-    pub fn with_room(
-        alloc: Global,
-        capacity: u32,
-        rate: u32,
-    ) -> Result<Sorted<Vec<Entry>>, AllocError>
+    pub fn with_room(alloc: Global, capacity: u32, rate: u32) -> Result<Sorted<Heap>, AllocError>
         requires some { 1 ≤ capacity }
         requires few { capacity ≤ 1024 }
         ensures { IfOk result (λ table. table ≡ no_members capacity rate) }
     {
-        let entries = Vec::with_capacity(alloc, capacity as usize)?;
+        let entries = Heap::with_room(alloc, capacity as usize)?;
         Ok(Sorted::over(entries, capacity, rate))
     }
 }
@@ -100,6 +99,7 @@ impl<S: Storage> Sorted<S> {
     /// A table without entries, over storage that has none.
     fn over(entries: S, capacity: u32, rate: u32) -> Sorted<S>
         requires few { capacity ≤ 1024 }
+        requires sound { S.is_sound entries }
         requires vacant { S.items entries ≡ [] }
         requires room { capacity ≤ S.room entries }
         ensures { result ≡ no_members capacity rate }
@@ -121,7 +121,7 @@ impl<S: Storage> Sorted<S> {
         ensures senders { result.senders ≡ dropped_senders (horizons_at silent idle gone) self.old }
         ensures content { self.new ≡ after_check (horizons_at silent idle gone) self.old }
     {
-        if let Some(bounds) = bounds_if_left(self.entries.as_slice(), silent, idle, gone) {
+        if let Some(bounds) = bounds_if_left(&self.entries, silent, idle, gone) {
             self.bounds = bounds;
             return Dropped {
                 entries: 0,
@@ -130,7 +130,7 @@ impl<S: Storage> Sorted<S> {
         }
         let (entries, senders) = (self.entries.len(), self.counts.senders);
         self.entries.drop_silent(silent, idle, gone);
-        let (counts, bounds) = measure(self.entries.as_slice());
+        let (counts, bounds) = measure(&self.entries);
         self.counts = counts;
         self.bounds = bounds;
         let removed = (entries - self.entries.len()) as u32;
@@ -147,11 +147,11 @@ impl<S: Storage> MemberTable for Sorted<S> {
 
     fn apply(&mut self, fact: Fact, t: u64) -> Applied {
         self.bounds.lower(fact, t);
-        match search(self.entries.as_slice(), self.last_place, fact.ssrc()) {
+        match search(&self.entries, self.last_place, fact.ssrc()) {
             Ok(at) => {
                 self.last_place = at;
-                let entries = self.entries.as_mut_slice();
-                apply_at(entries, &mut self.counts, at, fact, t, self.rate)
+                let (entries, counts) = (&mut self.entries, &mut self.counts);
+                apply_at(entries, counts, at, fact, t, self.rate)
             }
             Err(gap) => {
                 self.last_place = gap;
@@ -182,7 +182,7 @@ impl<S: Storage> MemberTable for Sorted<S> {
     }
 
     fn holds(&self, ssrc: u32) -> bool {
-        search(self.entries.as_slice(), self.last_place, ssrc).is_ok()
+        search(&self.entries, self.last_place, ssrc).is_ok()
     }
 
     fn entries(&self) -> u32 {
@@ -201,28 +201,28 @@ impl<S: Storage> MemberTable for Sorted<S> {
         if self.counts.due == 0 {
             return None;
         }
-        let entries = self.entries.as_slice();
-        let (before, rest) = entries.split_at(first_above(entries, self.last_place, after));
-        match first_due(rest) {
+        let entries = &self.entries;
+        let first = first_above(entries, self.last_place, after);
+        match first_due(entries, first, entries.len()) {
             Some(ssrc) => Some(ssrc),
-            None => first_due(before),
+            None => first_due(entries, 0, first),
         }
     }
 
     fn block_of(&mut self, ssrc: u32, t: u64) -> Block {
-        let at = search_behind(self.entries.as_slice(), self.last_place, ssrc).unwrap();
+        let at = search_behind(&self.entries, self.last_place, ssrc).unwrap();
         self.last_place = at;
-        let entries = self.entries.as_mut_slice();
-        report_at(entries, &mut self.counts.due, at, ssrc, t)
+        let (entries, due) = (&mut self.entries, &mut self.counts.due);
+        report_at(entries, due, at, ssrc, t)
     }
 
     fn source_above(&self, after: Option<u32>) -> Option<SourceState> {
-        let entries = self.entries.as_slice();
+        let entries = &self.entries;
         state_at(entries, first_above(entries, self.last_place, after))
     }
 
     fn source_from(&self, after: Option<u32>, place: &mut usize) -> Option<SourceState> {
-        let entries = self.entries.as_slice();
+        let entries = &self.entries;
         *place = first_above(entries, *place, after);
         state_at(entries, *place)
     }
@@ -230,24 +230,26 @@ impl<S: Storage> MemberTable for Sorted<S> {
 
 /// Where the entry of a source stands, or else the gap where it would. The places where it likely stands are tried
 /// first.
-fn search(entries: &[Entry], last_place: usize, ssrc: u32) -> Result<usize, usize>
-    requires { IsRising entries.now }
-    ensures found { IfOk result (IsPlaceOf ssrc entries.now) }
-    ensures absent { IfErr result (IsGapFor ssrc entries.now) }
+fn search<S: Storage>(entries: &S, last_place: usize, ssrc: u32) -> Result<usize, usize>
+    requires sound { S.is_sound entries.now }
+    requires rising { IsRising (S.items entries.now) }
+    ensures found { IfOk result (IsPlaceOf ssrc (S.items entries.now)) }
+    ensures absent { IfErr result (IsGapFor ssrc (S.items entries.now)) }
 {
     if let Some(at) = search_near(entries, last_place, ssrc) {
         return Ok(at);
     }
-    entries.binary_search_by_key(&ssrc, |entry| entry.ssrc)
+    entries.find(ssrc)
 }
 
 /// Where the entry of a source stands, if that is the last place, or one of the first that a walk from the likely
 /// place comes to: an interpolation search that ends with a walk (Perl, Itai and Avni, 1978).
-fn search_near(entries: &[Entry], last_place: usize, ssrc: u32) -> Option<usize>
-    requires { IsRising entries.now }
-    ensures { IfSome result (IsPlaceOf ssrc entries.now) }
+fn search_near<S: Storage>(entries: &S, last_place: usize, ssrc: u32) -> Option<usize>
+    requires sound { S.is_sound entries.now }
+    requires rising { IsRising (S.items entries.now) }
+    ensures { IfSome result (IsPlaceOf ssrc (S.items entries.now)) }
 {
-    if last_place < entries.len() && entries[last_place].ssrc == ssrc {
+    if last_place < entries.len() && entries.ssrc_at(last_place) == ssrc {
         return Some(last_place);
     }
     let mut at = likely_place(entries, ssrc)?;
@@ -255,10 +257,11 @@ fn search_near(entries: &[Entry], last_place: usize, ssrc: u32) -> Option<usize>
         if at >= entries.len() {
             return None;
         }
-        if entries[at].ssrc == ssrc {
+        let seen = entries.ssrc_at(at);
+        if seen == ssrc {
             return Some(at);
         }
-        at = if entries[at].ssrc < ssrc {
+        at = if seen < ssrc {
             at.wrapping_add(1)
         } else {
             at.wrapping_sub(1)
@@ -269,55 +272,67 @@ fn search_near(entries: &[Entry], last_place: usize, ssrc: u32) -> Option<usize>
 
 /// Where the entry of a source stands if the SSRCs are spread evenly, as random ones are (RFC 3550, 8.1): by the
 /// whole list, and in a long one, where that is still far off, by what stands at that place.
-fn likely_place(entries: &[Entry], ssrc: u32) -> Option<usize> {
+fn likely_place<S: Storage>(entries: &S, ssrc: u32) -> Option<usize>
+    requires { S.is_sound entries.now }
+{
     let count = entries.len() as u64;
     let place = (u64::from(ssrc).wrapping_mul(count) >> 32) as usize;
     if count <= SHORT_LIST {
         return Some(place);
     }
-    let seen = entries.get(place)?.ssrc;
+    if place >= entries.len() {
+        return None;
+    }
+    let seen = entries.ssrc_at(place);
     let ahead = u64::from(ssrc).wrapping_sub(u64::from(seen));
     let places = ahead.wrapping_mul(count).cast_signed() >> 32;
     Some(place.wrapping_add(places.cast_unsigned() as usize))
 }
 
 /// As `search`, but the place behind the last one is tried first: the blocks of a report go by rising SSRC.
-fn search_behind(entries: &[Entry], last_place: usize, ssrc: u32) -> Result<usize, usize>
-    requires { IsRising entries.now }
-    ensures found { IfOk result (IsPlaceOf ssrc entries.now) }
-    ensures absent { IfErr result (IsGapFor ssrc entries.now) }
+fn search_behind<S: Storage>(entries: &S, last_place: usize, ssrc: u32) -> Result<usize, usize>
+    requires sound { S.is_sound entries.now }
+    requires rising { IsRising (S.items entries.now) }
+    ensures found { IfOk result (IsPlaceOf ssrc (S.items entries.now)) }
+    ensures absent { IfErr result (IsGapFor ssrc (S.items entries.now)) }
 {
     let next = last_place.wrapping_add(1);
-    if next < entries.len() && entries[next].ssrc == ssrc {
+    if next < entries.len() && entries.ssrc_at(next) == ssrc {
         return Ok(next);
     }
     search(entries, last_place, ssrc)
 }
 
 /// A fact comes to the entry of its source, which stands at `at`.
-fn apply_at(
-    entries: &mut [Entry],
+fn apply_at<S: Storage>(
+    entries: &mut S,
     counts: &mut Counts,
     at: usize,
     fact: Fact,
     t: u64,
     rate: u32,
 ) -> Applied
-    requires ordered { IsOrdered counts.old.members counts.old.senders entries.old }
-    requires its_due { counts.old.due ≡ tally_of is_due entries.old }
-    requires within { length entries.old ≤ 1024 }
-    requires place { IsPlaceOf (subject fact) entries.old at }
-    requires few { IsTrue (is_media fact) → IfSome (finite.get (map_of entries.old) (subject fact)) IsFew }
-    ensures ordered { IsOrdered counts.new.members counts.new.senders entries.new }
-    ensures its_due { counts.new.due ≡ tally_of is_due entries.new }
-    ensures place { (capacity : ℕ) → result.place ≡ placed (table_of capacity rate entries.old) fact }
-    ensures counted { (capacity : ℕ) → result.counted ≡ counted (table_of capacity rate entries.old) fact }
-    ensures stand { (bounds : BoundsOf) → IsUpTo bounds fact t → AllStandBy bounds entries.old →
-        AllStandBy bounds entries.new }
-    ensures table { (capacity : ℕ) →
-        table_of capacity rate entries.new ≡ after_fact fact t (table_of capacity rate entries.old) }
+    requires sound { S.is_sound entries.old }
+    requires ordered { IsOrdered counts.old.members counts.old.senders (S.items entries.old) }
+    requires its_due { counts.old.due ≡ tally_of is_due (S.items entries.old) }
+    requires within { length (S.items entries.old) ≤ 1024 }
+    requires place { IsPlaceOf (subject fact) (S.items entries.old) at }
+    requires few { IsTrue (is_media fact) →
+        IfSome (finite.get (map_of (S.items entries.old)) (subject fact)) IsFew }
+    ensures kept { IsEdited (length (S.items entries.old)) (S.room entries.old)
+        (S.items entries.new) (S.room entries.new) (S.is_sound entries.new) }
+    ensures ordered { IsOrdered counts.new.members counts.new.senders (S.items entries.new) }
+    ensures its_due { counts.new.due ≡ tally_of is_due (S.items entries.new) }
+    ensures place { (capacity : ℕ) →
+        result.place ≡ placed (table_of capacity rate (S.items entries.old)) fact }
+    ensures counted { (capacity : ℕ) →
+        result.counted ≡ counted (table_of capacity rate (S.items entries.old)) fact }
+    ensures stand { (bounds : BoundsOf) → IsUpTo bounds fact t → AllStandBy bounds (S.items entries.old) →
+        AllStandBy bounds (S.items entries.new) }
+    ensures table { (capacity : ℕ) → table_of capacity rate (S.items entries.new)
+        ≡ after_fact fact t (table_of capacity rate (S.items entries.old)) }
 {
-    let entry = &mut entries[at];
+    let entry = entries.entry_mut(at);
     if entry.keeps_counts(fact) {
         return entry.apply(fact, t, rate);
     }
@@ -337,10 +352,12 @@ fn admit<S: Storage>(
     t: u64,
     rate: u32,
 ) -> Place
+    requires sound { S.is_sound entries.old }
     requires sorted { IsSortedTable capacity counts.old.members counts.old.senders (S.items entries.old) }
     requires its_due { counts.old.due ≡ tally_of is_due (S.items entries.old) }
     requires room { capacity ≤ S.room entries.old }
     requires gap { IsGapFor (subject fact) (S.items entries.old) gap }
+    ensures sound { S.is_sound entries.new }
     ensures sorted { IsSortedTable capacity counts.new.members counts.new.senders (S.items entries.new) }
     ensures its_due { counts.new.due ≡ tally_of is_due (S.items entries.new) }
     ensures room { capacity ≤ S.room entries.new }
@@ -366,37 +383,46 @@ fn admit<S: Storage>(
 
 /// How many entries have no SSRC above `above`: where the others begin. That is after the entry of `above`, if it is
 /// there; in a report, and in a listing, it is.
-fn first_above(entries: &[Entry], last_place: usize, above: Option<u32>) -> usize
-    requires { IsRising entries.now }
-    ensures bound { result ≤ length entries.now }
-    ensures rest { filter (is_above above) (rows_of entries.now) ≡ rows_of (drop result entries.now) }
-    ensures before { filter (λ row. not (is_above above row)) (rows_of entries.now)
-        ≡ rows_of (take result entries.now) }
+fn first_above<S: Storage>(entries: &S, last_place: usize, above: Option<u32>) -> usize
+    requires sound { S.is_sound entries.now }
+    requires rising { IsRising (S.items entries.now) }
+    requires few { length (S.items entries.now) ≤ 1024 }
+    ensures bound { result ≤ length (S.items entries.now) }
+    ensures rest { filter (is_above above) (rows_of (S.items entries.now))
+        ≡ rows_of (drop result (S.items entries.now)) }
+    ensures before { filter (λ row. not (is_above above row)) (rows_of (S.items entries.now))
+        ≡ rows_of (take result (S.items entries.now)) }
 {
     let Some(above) = above else {
         return 0;
     };
-    if let Some(at) = search_near(entries, last_place, above) {
-        return at + 1;
+    match search(entries, last_place, above) {
+        Ok(at) => at + 1,
+        Err(gap) => gap,
     }
-    entries.partition_point(|entry| entry.ssrc <= above)
 }
 
 /// What is told of the source whose entry stands at `at`, if one does.
-fn state_at(entries: &[Entry], at: usize) -> Option<SourceState>
-    ensures { option_map state_value result ≡ first_state (rows_of (drop at entries.now)) }
+fn state_at<S: Storage>(entries: &S, at: usize) -> Option<SourceState>
+    requires { S.is_sound entries.now }
+    ensures { option_map state_value result ≡ first_state (rows_of (drop at (S.items entries.now))) }
 {
-    match entries.get(at) {
-        Some(entry) => Some(entry.state()),
-        None => None,
+    if at >= entries.len() {
+        return None;
     }
+    Some(entries.entry(at).state())
 }
 
-/// The first source of which a block is due.
-fn first_due(entries: &[Entry]) -> Option<u32>
-    ensures { result ≡ first_ssrc (filter (λ row. is_due row.1) (rows_of entries.now)) }
+/// The first source of which a block is due, among those that stand from `from` on and before `until`.
+fn first_due<S: Storage>(entries: &S, from: usize, until: usize) -> Option<u32>
+    requires sound { S.is_sound entries.now }
+    requires ordered { from ≤ until }
+    requires bound { until ≤ length (S.items entries.now) }
+    ensures { result ≡ first_ssrc (filter (λ row. is_due row.1)
+        (rows_of (drop from (take until (S.items entries.now))))) }
 {
-    'entries: for entry in entries {
+    'entries: for at in from..until {
+        let entry = entries.entry(at);
         if entry.is_due() {
             return Some(entry.ssrc);
         }
@@ -405,21 +431,25 @@ fn first_due(entries: &[Entry]) -> Option<u32>
 }
 
 /// The block of the source whose entry stands at `at`, and which is counted as due no more.
-fn report_at(entries: &mut [Entry], counted: &mut u32, at: usize, ssrc: u32, t: u64) -> Block
-    requires counted { counted.old ≡ tally_of is_due entries.old }
-    requires rising { IsRising entries.old }
-    requires place { IsPlaceOf ssrc entries.old at }
-    requires due { IsTrue (is_such is_due (finite.get (map_of entries.old) ssrc)) }
+fn report_at<S: Storage>(entries: &mut S, counted: &mut u32, at: usize, ssrc: u32, t: u64) -> Block
+    requires sound { S.is_sound entries.old }
+    requires counted { counted.old ≡ tally_of is_due (S.items entries.old) }
+    requires rising { IsRising (S.items entries.old) }
+    requires place { IsPlaceOf ssrc (S.items entries.old) at }
+    requires due { IsTrue (is_such is_due (finite.get (map_of (S.items entries.old)) ssrc)) }
+    ensures kept { IsEdited (length (S.items entries.old)) (S.room entries.old)
+        (S.items entries.new) (S.room entries.new) (S.is_sound entries.new) }
     ensures ordered { (members senders : ℕ) →
-        IsOrdered members senders entries.old → IsOrdered members senders entries.new }
-    ensures counted { counted.new ≡ tally_of is_due entries.new }
-    ensures stand { (bounds : BoundsOf) → AllStandBy bounds entries.old → AllStandBy bounds entries.new }
+        IsOrdered members senders (S.items entries.old) → IsOrdered members senders (S.items entries.new) }
+    ensures counted { counted.new ≡ tally_of is_due (S.items entries.new) }
+    ensures stand { (bounds : BoundsOf) → AllStandBy bounds (S.items entries.old) →
+        AllStandBy bounds (S.items entries.new) }
     ensures block { (capacity rate : ℕ) →
-        Some (block_value result) ≡ block_at ssrc t (table_of capacity rate entries.old) }
-    ensures table { (capacity rate : ℕ) →
-        table_of capacity rate entries.new ≡ after_block ssrc (table_of capacity rate entries.old) }
+        Some (block_value result) ≡ block_at ssrc t (table_of capacity rate (S.items entries.old)) }
+    ensures table { (capacity rate : ℕ) → table_of capacity rate (S.items entries.new)
+        ≡ after_block ssrc (table_of capacity rate (S.items entries.old)) }
     ensures writable { IsWritableBlock (block_value result) }
 {
     *counted -= 1;
-    entries[at].report(t)
+    entries.entry_mut(at).report(t)
 }

@@ -1,22 +1,22 @@
 //! Where a sorted table keeps its entries.
 
-ghost use Rattle.std.specs.Prelude.{◌≡◌, ℕ, List, length, ◌<◌, ◌≤◌, Option, Some, None, refl};
+ghost use Rattle.std.specs.Prelude.{◌≡◌, ℕ, List, length, set, slice_index_or, ◌<◌, ◌≤◌, IfOk, IfErr, Option, Some, None, refl};
 ghost use Rattle.std.specs.List.{insert, retain_mut};
 ghost use Rattle.std.specs.Borrow.{Lends, sem, Array};
 ghost use denote.RawPtr.{Ptr};
-ghost use Rattle.std.specs.Vec as vectors;
 ghost use Rattle.arrayvec.specs.ArrayVec as arrays;
 ghost use Rattle.rtcp_members.specs.declared.entry.Entry.{Entry};
 ghost use Rattle.rtcp_members.specs.Traces.{horizons_at};
-ghost use Rattle.rtcp_members.specs.ListViews.{lapsed, outlasts};
-ghost use Rattle.rtcp_members.specs.Storages.{LendsEntries, written_over};
+ghost use Rattle.rtcp_members.specs.ListViews.{lapsed, outlasts, IsPlaceOf};
+ghost use Rattle.rtcp_members.specs.SortedViews.{IsRising, IsGapFor};
+ghost use Rattle.rtcp_members.specs.Storages.{LendsEntry};
 
 use crate::entry::Entry;
 use crate::table::MAX_CAPACITY;
 use arrayvec::ArrayVec;
 
-/// A list of entries with room for a number of them. No call takes memory: the room stays, and an insert leaves the
-/// entries in the block where they lie.
+/// Entries in an order, with room for a number of them. No call takes memory: the room stays, and an insert leaves
+/// the entries in the block where they lie.
 pub trait Storage {
     /// The entries, in order.
     ghost items: { Self → List Entry };
@@ -27,38 +27,70 @@ pub trait Storage {
     /// The block of memory that they lie in, where it is not in the storage itself.
     ghost block: { Self → Option Ptr };
 
-    /// The same storage with other entries.
-    ghost with_items: { Self → List Entry → Self };
+    /// What holds of the storage between two calls.
+    ghost is_sound: { Self → Type 0 };
+
+    /// The same storage with another entry of a rank.
+    ghost with_entry: { Self → ℕ → Entry → Self };
 
     fn len(&self) -> usize
+        requires { is_sound self.now }
         ensures value { result ≡ length (items self.now) };
 
-    fn as_slice(&self) -> &[Entry]
-        ensures value { result.now ≡ items self.now };
+    /// The SSRC of the entry of a rank.
+    fn ssrc_at(&self, at: usize) -> u32
+        requires sound { is_sound self.now }
+        requires stands { at < length (items self.now) }
+        ensures { (d : Entry) → result ≡ (slice_index_or (items self.now) at d).ssrc };
 
-    fn as_mut_slice(&mut self) -> &mut [Entry]
-        ensures* writes_back { sem 𝓛 (LendsEntries Self.row self.entry result with_items) }
-        ensures value { result.now ≡ items self.old };
+    /// The rank of the source's entry, or else that which it would have, where the SSRCs rise.
+    fn find(&self, ssrc: u32) -> Result<usize, usize>
+        requires sound { is_sound self.now }
+        requires rising { IsRising (items self.now) }
+        ensures found { IfOk result (IsPlaceOf ssrc (items self.now)) }
+        ensures absent { IfErr result (IsGapFor ssrc (items self.now)) };
 
-    /// Puts an entry before the one at `at`.
+    /// The entry of a rank.
+    fn entry(&self, at: usize) -> &Entry
+        requires sound { is_sound self.now }
+        requires stands { at < length (items self.now) }
+        ensures { (d : Entry) → result.now ≡ slice_index_or (items self.now) at d };
+
+    /// The entry of a rank, to be written.
+    fn entry_mut(&mut self, at: usize) -> &mut Entry
+        requires sound { is_sound self.old }
+        requires stands { at < length (items self.old) }
+        ensures* writes_back { sem 𝓛 (LendsEntry Self.row self.entry at result with_entry) }
+        ensures value { (d : Entry) → result.now ≡ slice_index_or (items self.old) at d };
+
+    /// Puts an entry before the one of the rank `at`.
     fn insert(&mut self, at: usize, entry: Entry)
+        requires sound { is_sound self.old }
         requires place { at ≤ length (items self.old) }
         requires room { length (items self.old) < room self.old }
+        ensures sound { is_sound self.new }
         ensures items { items self.new ≡ insert (items self.old) at entry }
         ensures room { room self.new ≡ room self.old }
         ensures in_place { block self.new ≡ block self.old };
 
     /// Drops the entries that do not outlast a check, and ends the sending of the idle ones.
     fn drop_silent(&mut self, silent: u64, idle: u64, gone: u64)
+        requires sound { is_sound self.old }
+        ensures sound { is_sound self.new }
         ensures items { items self.new
             ≡ retain_mut (outlasts (horizons_at silent idle gone)) (lapsed idle) (items self.old) }
         ensures room { room self.new ≡ room self.old };
 
-    /// What is written in place of as many entries is there.
-    ghost written: { (s : Self) (xs : List Entry) → length xs ≡ length (items s) → items (with_items s xs) ≡ xs };
+    /// What is written over the entry of a rank is the entry of that rank.
+    ghost written: { (s : Self) → is_sound s → (at : ℕ) (e : Entry) → at < length (items s) →
+        items (with_entry s at e) ≡ set (items s) at e };
+
+    /// Writing an entry of the same source leaves it sound.
+    ghost still_sound: { (s : Self) → is_sound s → (at : ℕ) (e d : Entry) → at < length (items s) →
+        e.ssrc ≡ (slice_index_or (items s) at d).ssrc → is_sound (with_entry s at e) };
 
     /// Writing leaves the room.
-    ghost kept: { (s : Self) (xs : List Entry) → room (with_items s xs) ≡ room s };
+    ghost kept: { (s : Self) (at : ℕ) (e : Entry) → room (with_entry s at e) ≡ room s };
 }
 
 impl Storage for ArrayVec<Entry, MAX_CAPACITY> {
@@ -68,22 +100,39 @@ impl Storage for ArrayVec<Entry, MAX_CAPACITY> {
 
     ghost block = { λ _. None };
 
-    ghost with_items = { arrays.with_items };
+    ghost is_sound = { λ _. Unit {0} };
 
-    ghost written = { λ s xs same. written_over (length s.items) s.items xs refl same };
+    ghost with_entry = { λ s at e. arrays.with_item s at e };
 
-    ghost kept = { λ _ _. refl };
+    ghost written = { λ s sound at e stands. refl };
 
+    ghost still_sound = { λ s sound at e d stands same. tt };
+
+    ghost kept = { λ _ _ _. refl };
+
+    #[inline(always)]
     fn len(&self) -> usize {
         ArrayVec::len(self)
     }
 
-    fn as_slice(&self) -> &[Entry] {
-        ArrayVec::as_slice(self)
+    #[inline(always)]
+    fn ssrc_at(&self, at: usize) -> u32 {
+        self.as_slice()[at].ssrc
     }
 
-    fn as_mut_slice(&mut self) -> &mut [Entry] {
-        ArrayVec::as_mut_slice(self)
+    fn find(&self, ssrc: u32) -> Result<usize, usize> {
+        self.as_slice()
+            .binary_search_by_key(&ssrc, |entry| entry.ssrc)
+    }
+
+    #[inline(always)]
+    fn entry(&self, at: usize) -> &Entry {
+        &self.as_slice()[at]
+    }
+
+    #[inline(always)]
+    fn entry_mut(&mut self, at: usize) -> &mut Entry {
+        self.get_mut(at).unwrap()
     }
 
     fn insert(&mut self, at: usize, entry: Entry) {
@@ -92,39 +141,5 @@ impl Storage for ArrayVec<Entry, MAX_CAPACITY> {
 
     fn drop_silent(&mut self, silent: u64, idle: u64, gone: u64) {
         self.retain(|entry| entry.check(silent, idle, gone));
-    }
-}
-
-impl Storage for Vec<Entry> {
-    ghost items = { λ s. s.items };
-
-    ghost room = { λ s. vectors.vec_capacity s };
-
-    ghost block = { λ s. Some (vectors.vec_ptr s) };
-
-    ghost with_items = { vectors.with_items };
-
-    ghost written = { λ s xs same. written_over s.len s.items xs s.ok.0 same };
-
-    ghost kept = { λ _ _. refl };
-
-    fn len(&self) -> usize {
-        Vec::len(self)
-    }
-
-    fn as_slice(&self) -> &[Entry] {
-        Vec::as_slice(self)
-    }
-
-    fn as_mut_slice(&mut self) -> &mut [Entry] {
-        Vec::as_mut_slice(self)
-    }
-
-    fn insert(&mut self, at: usize, entry: Entry) {
-        let _ = Vec::insert(self, at, entry);
-    }
-
-    fn drop_silent(&mut self, silent: u64, idle: u64, gone: u64) {
-        self.retain_mut(|entry| entry.check(silent, idle, gone));
     }
 }

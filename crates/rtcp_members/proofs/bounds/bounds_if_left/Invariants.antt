@@ -7,8 +7,8 @@ use Rattle.rtcp_members.specs.Standing.{AllStandBy}
 use Rattle.rtcp_members.proofs.bounds.bounds_if_left.Given as goal
 
 abbrev pub invariant-entries : goal.invariant-entries
-invariant-entries l =
+invariant-entries g l =
     record {
-      left : list_all (is_left (horizons_at l.silent l.idle l.gone)) (drop l.entry-index l.entries) ≡ list_all (is_left (horizons_at l.silent l.idle l.gone)) l.entries;
-      stand : AllStandBy l.bounds (take l.entry-index l.entries);
+      left : list_all (is_left (horizons_at l.silent l.idle l.gone)) (drop l.at (g.S.Storage.items l.entries)) ≡ list_all (is_left (horizons_at l.silent l.idle l.gone)) (g.S.Storage.items l.entries);
+      stand : AllStandBy l.bounds (take l.at (g.S.Storage.items l.entries));
     }

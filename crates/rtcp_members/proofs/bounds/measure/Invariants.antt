@@ -7,10 +7,10 @@ use Rattle.rtcp_members.specs.Standing.{AllStandBy}
 use Rattle.rtcp_members.proofs.bounds.measure.Given as goal
 
 abbrev pub invariant-entries : goal.invariant-entries
-invariant-entries l =
+invariant-entries g l =
     record {
-      members : l.counts.members ≡ tally_of is_member (take l.entry-index l.entries);
-      senders : l.counts.senders ≡ tally_of is_sender (take l.entry-index l.entries);
-      due : l.counts.due ≡ tally_of is_due (take l.entry-index l.entries);
-      stand : AllStandBy l.bounds (take l.entry-index l.entries);
+      members : l.counts.members ≡ tally_of is_member (take l.at (g.S.Storage.items l.entries));
+      senders : l.counts.senders ≡ tally_of is_sender (take l.at (g.S.Storage.items l.entries));
+      due : l.counts.due ≡ tally_of is_due (take l.at (g.S.Storage.items l.entries));
+      stand : AllStandBy l.bounds (take l.at (g.S.Storage.items l.entries));
     }

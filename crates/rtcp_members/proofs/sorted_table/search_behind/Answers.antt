@@ -1,7 +1,8 @@
--- What was read at an index is the source's entry.
-use Rattle.std.proofs.Common.{rules, ◌+◌, ◌%◌}
-use Rattle.rtcp_members.proofs.Searching.{read_found}
+-- The SSRC that is seen is the source's.
+use Rattle.std.proofs.Common.{arith, ◌+◌, ◌%◌}
+use Rattle.rtcp_members.proofs.Searching.{ssrc_found}
 use Rattle.rtcp_members.proofs.sorted_table.search_behind.Goals as goal
 
-pub returns-then-entries-next-clause-found : goal.returns-then-entries-next-clause-found
-returns-then-entries-next-clause-found c = read_found c.args.ssrc c.args.entries.now ((c.args.last_place + 1) % 18446744073709551616) c.index-entries-next.result c.requires c.if-next-entries.true c.index-entries-next.is (search rules)
+pub returns-then-ssrc_at-ssrc-clause-found : goal.returns-then-ssrc_at-ssrc-clause-found
+returns-then-ssrc_at-ssrc-clause-found g c =
+    ssrc_found c.args.ssrc (g.S.Storage.items c.args.entries.now) ((c.args.last_place + 1) % 18446744073709551616) c.ssrc_at.result c.requires.rising (omega (arith, c.len.ensures.value, c.if-next-len.true)) c.ssrc_at.ensures c.if-ssrc_at-ssrc.true

@@ -1,11 +1,7 @@
 -- What the list is after the check, the table is, and the counts are counted anew.
-use Rattle.std.proofs.Common.{rules, ◌∙◌, ap, arith, length, subst}
+use Rattle.std.proofs.Common.{rules, ◌∙◌, ap, arith}
 use Rattle.rtcp_members.specs.Traces.{horizons_at}
-use Rattle.rtcp_members.specs.Entries.{is_member, is_sender}
-use Rattle.rtcp_members.specs.Pending.{is_due}
 use Rattle.rtcp_members.specs.Tables.{after_check}
-use Rattle.rtcp_members.specs.ListViews.{tally_of}
-use Rattle.rtcp_members.specs.Standing.{AllStandBy}
 use Rattle.rtcp_members.proofs.Rising.{rising_apart}
 use Rattle.rtcp_members.proofs.Tallies.{fewer_checked, fewer_senders_checked, table_checked}
 use Rattle.rtcp_members.proofs.Checking.{none_dropped, no_sender_dropped, table_left, entries_dropped, senders_dropped, rising_checked, sorted_checked}
@@ -28,13 +24,15 @@ returns-in-Some-clause-content g c =
 
 pub measure-requires : goal.measure-requires
 measure-requires g c =
-    omega (
-      arith,
-      fewer_checked (horizons_at c.args.silent c.args.idle c.args.gone) (g.S.Storage.items c.self.inside.entries) (g.S.Storage.items c.drop_silent.new.self) c.drop_silent.ensures.items,
-      ap length c.as_slice-2.ensures.value,
-      c.self.invariant.sorted.within,
-      c.self.invariant.sorted.room,
-    )
+    record {
+      sound = c.drop_silent.ensures.sound;
+      few = omega (
+        arith,
+        fewer_checked (horizons_at c.args.silent c.args.idle c.args.gone) (g.S.Storage.items c.self.inside.entries) (g.S.Storage.items c.drop_silent.new.self) c.drop_silent.ensures.items,
+        c.self.invariant.sorted.within,
+        c.self.invariant.sorted.room,
+      );
+    }
 
 pub overflow_sub-removed : goal.overflow_sub-removed
 overflow_sub-removed g c =
@@ -45,7 +43,7 @@ overflow_sub-ended g c =
     omega (
       arith,
       fewer_senders_checked (horizons_at c.args.silent c.args.idle c.args.gone) (g.S.Storage.items c.self.inside.entries) (g.S.Storage.items c.drop_silent.new.self) c.drop_silent.ensures.items,
-      c.measure.ensures.senders ∙ ap (tally_of is_sender) c.as_slice-2.ensures.value,
+      c.measure.ensures.senders,
       c.self.invariant.sorted.ordered.its_senders,
     )
 
@@ -55,18 +53,20 @@ invariant_of-self g c =
       sorted = c.self.invariant.sorted;
       its_due = c.self.invariant.its_due;
       roomy = c.self.invariant.roomy;
-      standing = subst (AllStandBy c.in-Some.bounds) c.as_slice.ensures.value c.in-Some.ensures.stand;
+      standing = c.in-Some.ensures.stand;
+      sound = c.self.invariant.sound;
     }
 
 pub invariant_of-self-2 : goal.invariant_of-self-2
 invariant_of-self-2 g c =
     record {
       sorted = sorted_checked (horizons_at c.args.silent c.args.idle c.args.gone) c.self.inside.capacity c.self.inside.counts.members c.self.inside.counts.senders c.measure.result.0.members c.measure.result.0.senders
-          (g.S.Storage.items c.self.inside.entries) (g.S.Storage.items c.drop_silent.new.self) c.drop_silent.ensures.items c.self.invariant.sorted (c.measure.ensures.members ∙ ap (tally_of is_member) c.as_slice-2.ensures.value)
-          (c.measure.ensures.senders ∙ ap (tally_of is_sender) c.as_slice-2.ensures.value);
-      its_due = c.measure.ensures.due ∙ ap (tally_of is_due) c.as_slice-2.ensures.value;
+          (g.S.Storage.items c.self.inside.entries) (g.S.Storage.items c.drop_silent.new.self) c.drop_silent.ensures.items c.self.invariant.sorted (c.measure.ensures.members)
+          (c.measure.ensures.senders);
+      its_due = c.measure.ensures.due;
       roomy = omega (arith, c.self.invariant.roomy, c.drop_silent.ensures.room);
-      standing = subst (AllStandBy c.measure.result.1) c.as_slice-2.ensures.value c.measure.ensures.stand;
+      standing = c.measure.ensures.stand;
+      sound = c.drop_silent.ensures.sound;
     }
 
 pub returns-clause-entries : goal.returns-clause-entries
@@ -77,7 +77,7 @@ returns-clause-entries g c =
 pub returns-clause-senders : goal.returns-clause-senders
 returns-clause-senders g c =
     senders_dropped (horizons_at c.args.silent c.args.idle c.args.gone) c.self.inside.capacity c.self.inside.rate c.self.inside.counts.members c.self.inside.counts.senders (g.S.Storage.items c.self.inside.entries) c.args.self.now c.self.view_is c.self.invariant.sorted
-    (g.S.Storage.items c.drop_silent.new.self) c.drop_silent.ensures.items c.measure.result.0.senders (c.measure.ensures.senders ∙ ap (tally_of is_sender) c.as_slice-2.ensures.value)
+    (g.S.Storage.items c.drop_silent.new.self) c.drop_silent.ensures.items c.measure.result.0.senders (c.measure.ensures.senders)
     (rising_checked (horizons_at c.args.silent c.args.idle c.args.gone) (g.S.Storage.items c.self.inside.entries) (g.S.Storage.items c.drop_silent.new.self) c.drop_silent.ensures.items c.self.invariant.sorted.ordered.rising)
 
 pub returns-clause-content : goal.returns-clause-content

@@ -1,19 +1,27 @@
 -- What the walks found is the first pending source.
-use Rattle.std.proofs.Common.{Some, None, take, filter, rules, refl, sym, ◌∙◌}
-use Rattle.rtcp_members.specs.ListViews.{rows_of}
-use Rattle.rtcp_members.specs.Pending.{EntryRow, is_due, first_ssrc}
+use Rattle.std.proofs.Common.{◌≡◌, Some, None, List, take, drop, rules, arith, refl, sym, ap, ◌∙◌}
+use Rattle.std.proofs.lemmas.List.{take_all}
+use Rattle.rtcp_members.specs.declared.entry.Entry.{Entry}
+use Rattle.rtcp_members.specs.Pending.{first_ssrc}
 use Rattle.rtcp_members.proofs.InCyclicTurn.{first_pending, none_pending}
+use Rattle.rtcp_members.proofs.Ranks.{due_rows_of}
 use Rattle.rtcp_members.proofs.sorted_table.SortedMemberTable.next_with_news.Goals as goal
 
 pub returns-in-Some : goal.returns-in-Some
 returns-in-Some g c =
-    first_pending c.args.after c.self.inside.capacity c.self.inside.rate (g.S.Storage.items c.self.inside.entries) c.first_above.result c.args.self.now c.self.view_is c.self.invariant.sorted.ordered.rising (search rules) (search rules)
-    (Some c.in-Some.ssrc) (first_ssrc (filter (λ (row : EntryRow). is_due row.1) (rows_of (take c.first_above.result (g.S.Storage.items c.self.inside.entries))))) (search rules) refl
+    let items : List Entry = g.S.Storage.items c.self.inside.entries in
+    let whole : take c.len.result items ≡ items = take_all c.len.result items (omega (arith, c.len.ensures.value)) in
+    let found : c.first_due.result ≡ first_ssrc (due_rows_of (drop c.first_above-first.result items)) = c.first_due.ensures ∙ ap (λ xs. first_ssrc (due_rows_of (drop c.first_above-first.result xs))) whole in
+    first_pending c.args.after c.self.inside.capacity c.self.inside.rate items c.first_above-first.result c.args.self.now c.self.view_is c.self.invariant.sorted.ordered.rising (search rules) (search rules)
+    (Some c.in-Some.ssrc) (first_ssrc (due_rows_of (take c.first_above-first.result items))) (cc) refl
 
 pub returns-in-None : goal.returns-in-None
 returns-in-None g c =
-    first_pending c.args.after c.self.inside.capacity c.self.inside.rate (g.S.Storage.items c.self.inside.entries) c.first_above.result c.args.self.now c.self.view_is c.self.invariant.sorted.ordered.rising (search rules) (search rules)
-    None c.first_due-in-None.result (search rules) (search rules)
+    let items : List Entry = g.S.Storage.items c.self.inside.entries in
+    let whole : take c.len.result items ≡ items = take_all c.len.result items (omega (arith, c.len.ensures.value)) in
+    let found : c.first_due.result ≡ first_ssrc (due_rows_of (drop c.first_above-first.result items)) = c.first_due.ensures ∙ ap (λ xs. first_ssrc (due_rows_of (drop c.first_above-first.result xs))) whole in
+    first_pending c.args.after c.self.inside.capacity c.self.inside.rate items c.first_above-first.result c.args.self.now c.self.view_is c.self.invariant.sorted.ordered.rising (search rules) (search rules)
+    None c.first_due-in-None.result (cc) (search rules)
 
 pub returns-then-self-eq0 : goal.returns-then-self-eq0
 returns-then-self-eq0 g c =

@@ -1,0 +1,199 @@
+-- A heap of entries that is searched, and into which an entry is put.
+use Rattle.std.proofs.Common.{◌≡◌, ◌<◌, ◌≤◌, ◌+◌, ◌==◌, ◌++◌, ℕ, true, false, cond, List, [], ◌∷◌, length, take, drop, set, slice_index_or, Result, Ok, Err, IfOk, IfErr, nat_cmp, is_lt, Less, Equal, Greater, inl, inr, arith, refl, sym, ap, subst, ◌∙◌}
+use Rattle.std.specs.List.{All, insert, sum_by}
+use Rattle.std.proofs.lemmas.Bool.{cases_eq, cases_lt}
+use Rattle.std.proofs.lemmas.Bool.Decides.{nat_tests}
+use Rattle.std.proofs.lemmas.List.{length-set, length-map, length-take-le, length_push, take-map, drop-map, map-append, take-append-drop, take-append-le, take_at, get_or-map, get_or-set_same, get_or-set_other, get_or_append_left, get_or_at, get_or_push}
+use Rattle.std.proofs.lemmas.List.Sums.{sum_by-cons, sum_by-append, sum_by-insert}
+use Rattle.std.proofs.lemmas.List.Elements.{All-head, All-tail, All-cons, All-append, All-take, All-drop, All-weaker, All-same, All-from_get_or}
+use Rattle.std.proofs.lemmas.List.Edits.{length-insert, insert-append_left}
+use Rattle.rtcp_members.specs.declared.entry.Entry.{Entry}
+use Rattle.rtcp_members.specs.declared.cells.Slot.{Slot}
+use Rattle.rtcp_members.specs.ListViews.{IsPlaceOf}
+use Rattle.rtcp_members.specs.SortedViews.{IsRising, IsGapFor}
+use Rattle.rtcp_members.proofs.Pairs.{take_inserted}
+use Rattle.rtcp_members.specs.Heaps.{no_slot, no_entry, entry_in, picked, place_at, IsKeyed, IsHeap, IsPut}
+use Rattle.rtcp_members.specs.HeapLaws.{has_place, picked_same, places_differ}
+use Rattle.rtcp_members.proofs.Rising.{rises}
+use Rattle.rtcp_members.proofs.Searching.{ssrc_found}
+
+-- ---- A search among the slots
+
+-- Where a binary search has come: the SSRCs of the slots before `low` are lesser, and of none from `high` on.
+pub record IsHalved (slots : List Slot) (ssrc low high : ℕ) : Type 0 where
+  pub order : low ≤ high
+  pub until : high ≤ length slots
+  pub lesser : (k : ℕ) → k < low → (slice_index_or slots k no_slot).ssrc < ssrc
+  pub greater : (k : ℕ) → high ≤ k → k < length slots → ssrc ≤ (slice_index_or slots k no_slot).ssrc
+
+module _ (entries : List Entry) (slots : List Slot) (keyed : All (IsKeyed entries) slots) (rising : IsRising (picked entries slots)) (ssrc : ℕ) where
+  key : (k : ℕ) (d : Slot) (e : Entry) → k < length slots → (slice_index_or slots k d).ssrc ≡ (slice_index_or (picked entries slots) k e).ssrc
+  key k d e within = keyed k d within ∙ ap (λ (x : Entry). x.ssrc) (sym (get_or-map (entry_in entries) slots k d e within))
+
+  rise : (i j : ℕ) → i < j → j < length slots → (slice_index_or slots i no_slot).ssrc < (slice_index_or slots j no_slot).ssrc
+  rise i j before within =
+      omega (arith, rises (picked entries slots) rising i j no_entry before (omega (arith, within, length-map slots (entry_in entries))), key i no_slot no_entry (omega (arith, before, within)), key j no_slot no_entry within)
+
+  pub halved_at_first : IsHalved slots ssrc 0 (length slots)
+  halved_at_first = record { order = omega arith; until = omega arith; lesser = λ k early. absurd (omega (arith, early)); greater = λ k late within. absurd (omega (arith, late, within)) }
+
+  module _ (low high middle : ℕ) (so : IsHalved slots ssrc low high) (above : low ≤ middle) (below : middle < high) where
+    pub upper_half : (slice_index_or slots middle no_slot).ssrc < ssrc → IsHalved slots ssrc (middle + 1) high
+    upper_half less = record { order = omega (arith, below); until = so.until; lesser = lesser; greater = so.greater }
+      where
+        lesser : (k : ℕ) → k < middle + 1 → (slice_index_or slots k no_slot).ssrc < ssrc
+        lesser k early = elim (cases_lt k middle) [
+          | inl before ↦ omega (arith, less, rise k middle before (omega (arith, below, so.until)))
+          | inr from ↦ subst (λ n. (slice_index_or slots n no_slot).ssrc < ssrc) (omega (arith, early, from)) less
+        ]
+
+    pub lower_half : ssrc ≤ (slice_index_or slots middle no_slot).ssrc → IsHalved slots ssrc low middle
+    lower_half less = record { order = above; until = omega (arith, below, so.until); lesser = so.lesser; greater = greater }
+      where
+        greater : (k : ℕ) → middle ≤ k → k < length slots → ssrc ≤ (slice_index_or slots k no_slot).ssrc
+        greater k late within = elim (cases_lt middle k) [
+          | inl after ↦ omega (arith, less, rise middle k after within)
+          | inr until ↦ subst (λ n. ssrc ≤ (slice_index_or slots n no_slot).ssrc) (omega (arith, late, until)) less
+        ]
+
+  pub slot_found : (at : ℕ) → at < length slots → (slice_index_or slots at no_slot).ssrc ≡ ssrc → IsPlaceOf ssrc (picked entries slots) at
+  slot_found at within same =
+      ssrc_found ssrc (picked entries slots) at (slice_index_or slots at no_slot).ssrc rising (omega (arith, within, length-map slots (entry_in entries))) (λ e. key at no_slot e within) same
+
+  pub none_between : (low high : ℕ) → IsHalved slots ssrc low high → high ≤ low → (low < length slots → (slice_index_or slots low no_slot).ssrc ≡ ssrc → ⊥) → IsGapFor ssrc (picked entries slots) low
+  none_between low high so met other =
+      let as_many = length-map slots (entry_in entries) in
+      record {
+        in_range = omega (arith, so.order, so.until, as_many);
+        lesser = λ i e before. omega (arith, key i no_slot e (omega (arith, before, so.order, so.until)), so.lesser i before);
+        greater = λ i e from below. past i e from (omega (arith, below, as_many));
+      }
+    where
+      past : (i : ℕ) (e : Entry) → low ≤ i → i < length slots → ssrc < (slice_index_or (picked entries slots) i e).ssrc
+      past i e from within = elim (cases_lt low i) [
+        | inl after ↦ omega (arith, key i no_slot e within, rise low i after within, so.greater low met (omega (arith, after, within)))
+        | inr until ↦
+            let differs : (slice_index_or slots i no_slot).ssrc ≡ ssrc → ⊥ = subst (λ n. n < length slots → (slice_index_or slots n no_slot).ssrc ≡ ssrc → ⊥) (omega (arith, from, until)) other within in
+            omega (arith, key i no_slot e within, so.greater i (omega (arith, met, from)) within, differs)
+      ]
+
+-- ---- An entry at a new place
+
+below_none : (slots : List Slot) (place : ℕ) → All (λ (slot : Slot). slot.place < place) slots → sum_by (has_place place) slots ≡ 0
+below_none [] place below = refl
+below_none (slot ∷ slots) place below =
+    let here : slot.place < place = All-head (λ (slot : Slot). slot.place < place) slot slots below in
+    let differs : (slot.place == place) ≡ false = grind (arith, nat_tests, here) in
+    let none : has_place place slot ≡ 0 = ap {B = ℕ} (λ b. cond b 1 0) differs in
+    omega (arith, sum_by-cons (has_place place) slot slots, none, below_none slots place (All-tail (λ (slot : Slot). slot.place < place) slot slots below))
+
+pub put_behind : (entries : List Entry) (slots : List Slot) (used room : ℕ) (e : Entry) (next : List Entry) (place : ℕ) → IsHeap entries slots used room → next ≡ entries ++ e ∷ [] → place ≡ length entries
+    → IsPut entries next slots slots used place e
+put_behind entries slots used room e next place heap is at_end =
+    let longer : length next ≡ length entries + 1 = ap length is ∙ length_push entries e in
+    record {
+      same = λ k d within. ap (λ xs. entry_in xs (slice_index_or slots k d)) is ∙ get_or_append_left entries (e ∷ []) no_entry (slice_index_or slots k d).place (heap.places.within k d within);
+      there = (λ i. slice_index_or (is i) (at_end i) no_entry) ∙ get_or_push entries e no_entry (length entries) refl;
+      places = record {
+        within = All-weaker (λ (slot : Slot). slot.place < length entries) (λ (slot : Slot). slot.place < length next) (λ slot less. omega (arith, less, longer)) slots heap.places.within;
+        apart = heap.places.apart;
+      };
+      within = omega (arith, longer, at_end);
+      free = below_none slots place (subst (λ n. All (λ (slot : Slot). slot.place < n) slots) (sym at_end) heap.places.within);
+      in_use = heap.in_use;
+      all = omega (arith, longer, heap.all);
+      taken = refl;
+    }
+
+pub put_free : (entries : List Entry) (slots rest : List Slot) (used room : ℕ) (free : Slot) (e : Entry) → IsHeap entries slots used room → slots ≡ rest ++ free ∷ [] → used < length slots
+    → IsPut entries (set entries free.place e) slots rest used free.place e
+put_free entries slots rest used room free e heap is fewer =
+    let longer : length slots ≡ length rest + 1 = ap length is ∙ length_push rest free in
+    let count : (p : ℕ) → sum_by (has_place p) slots ≡ sum_by (has_place p) rest + sum_by (has_place p) (free ∷ []) = λ p. ap (sum_by (has_place p)) is ∙ sum_by-append (has_place p) rest (free ∷ []) in
+    let itself : (free.place == free.place) ≡ true = grind (arith, nat_tests) in
+    let one : sum_by (has_place free.place) (free ∷ []) ≡ 1 = sum_by-cons (has_place free.place) free [] ∙ ap {B = ℕ} (λ b. cond b 1 0 + 0) itself in
+    let last : slice_index_or slots (length rest) no_slot ≡ free = ap (λ xs. slice_index_or xs (length rest) no_slot) is ∙ get_or_at rest free [] no_slot (length rest) refl in
+    let early : (k : ℕ) → k < length rest → slice_index_or slots k no_slot ≡ slice_index_or rest k no_slot = λ k within. ap (λ xs. slice_index_or xs k no_slot) is ∙ get_or_append_left rest (free ∷ []) no_slot k within in
+    let there : free.place < length entries = subst (λ (s : Slot). s.place < length entries) last (heap.places.within (length rest) no_slot (omega (arith, longer))) in
+    let most : (p : ℕ) → sum_by (has_place p) slots ≤ 1 = heap.places.apart in
+    let old_within : (k : ℕ) → k < length rest → place_at rest k < length entries = λ k within. subst (λ (s : Slot). s.place < length entries) (early k within) (heap.places.within k no_slot (omega (arith, within, longer))) in
+    let differs : (k : ℕ) → k < length rest → place_at rest k ≡ free.place → ⊥ =
+    λ k within same. places_differ slots (length rest) k heap.places.apart (λ equal. absurd (omega (arith, equal, within))) (omega (arith, longer)) (omega (arith, within, longer))
+    (ap (λ (s : Slot). s.place) (early k within) ∙ same ∙ ap (λ (s : Slot). s.place) (sym last)) in
+    record {
+      same = All-from_get_or (λ (slot : Slot). entry_in (set entries free.place e) slot ≡ entry_in entries slot) rest no_slot (λ k within. get_or-set_other entries free.place (place_at rest k) e no_entry (differs k within));
+      there = get_or-set_same entries free.place e no_entry there;
+      places = record {
+        within = All-from_get_or (λ (slot : Slot). slot.place < length (set entries free.place e)) rest no_slot (λ k within. omega (arith, old_within k within, length-set entries free.place e));
+        apart = λ p. fewer_there p (count p) (most p);
+      };
+      within = omega (arith, there, length-set entries free.place e);
+      free = none_left (count free.place) one (most free.place);
+      in_use = omega (arith, fewer, longer);
+      all = omega (arith, longer, heap.all, length-set entries free.place e);
+      taken = sym (ap (take used) is ∙ take-append-le used rest (free ∷ []) (omega (arith, fewer, longer)));
+    }
+  where
+    fewer_there : (p : ℕ) → sum_by (has_place p) slots ≡ sum_by (has_place p) rest + sum_by (has_place p) (free ∷ []) → sum_by (has_place p) slots ≤ 1 → sum_by (has_place p) rest ≤ 1
+    fewer_there p count most = omega (arith, count, most)
+
+    none_left : sum_by (has_place free.place) slots ≡ sum_by (has_place free.place) rest + sum_by (has_place free.place) (free ∷ []) → sum_by (has_place free.place) (free ∷ []) ≡ 1 → sum_by (has_place free.place) slots ≤ 1 → sum_by (has_place free.place) rest ≡ 0
+    none_left count one most = omega (arith, count, one, most)
+
+-- ---- Its slot
+
+module _ (entries next : List Entry) (old_slots slots : List Slot) (used room at : ℕ) (slot : Slot) (e : Entry) (heap : IsHeap entries old_slots used room) (put : IsPut entries next old_slots slots used slot.place e)
+    (its_ssrc : slot.ssrc ≡ e.ssrc) (in_range : at ≤ used) where
+  old_use : List Slot
+  old_use = take used slots
+
+  cut : take (used + 1) (insert slots at slot) ≡ insert (take used slots) at slot
+  cut = take_inserted slots used at slot in_range put.in_use
+
+  as_before : picked next (take used slots) ≡ picked entries (take used old_slots)
+  as_before =
+      picked_same entries next (take used slots) (All-take (λ (s : Slot). entry_in next s ≡ entry_in entries s) used slots put.same) ∙ ap (picked entries) put.taken
+
+  pub items_inserted : picked next (take (used + 1) (insert slots at slot)) ≡ insert (picked entries (take used old_slots)) at e
+  items_inserted =
+      ap (picked next) cut
+      ∙ map-append (entry_in next) (take at (take used slots)) (slot ∷ drop at (take used slots))
+      ∙ (λ i. sym (take-map (entry_in next) at (take used slots)) i ++ put.there i ∷ sym (drop-map (entry_in next) at (take used slots)) i)
+      ∙ ap (λ xs. take at xs ++ e ∷ drop at xs) as_before
+
+  keyed_as_before : All (IsKeyed next) (take used slots)
+  keyed_as_before k d within =
+      subst (λ xs. All (IsKeyed entries) xs) (sym put.taken) heap.keyed k d within ∙ ap (λ (x : Entry). x.ssrc) (sym (All-take (λ (s : Slot). entry_in next s ≡ entry_in entries s) used slots put.same k d within))
+
+  counts : (p : ℕ) → sum_by (has_place p) slots ≤ 1 → sum_by (has_place slot.place) slots ≡ 0 → sum_by (has_place p) (insert slots at slot) ≡ sum_by (has_place p) slots + has_place p slot → sum_by (has_place p) (insert slots at slot) ≤ 1
+  counts p most none joined = elim (cases_eq slot.place p) [
+    | inl same ↦
+        let empty : sum_by (has_place p) slots ≡ 0 = ap (λ q. sum_by (has_place q) slots) (sym same) ∙ none in
+        omega (arith, joined, empty, one p)
+    | inr unlike ↦ omega (arith, joined, most, elsewhere p unlike)
+  ]
+    where
+      one : (p : ℕ) → has_place p slot ≤ 1
+      one p = elim (slot.place == p) as (λ b. ◌≤◌ (cond b 1 0) 1) [ true ↦ omega arith | false ↦ omega arith ]
+
+      elsewhere : (p : ℕ) → (slot.place ≡ p → ⊥) → has_place p slot ≡ 0
+      elsewhere p unlike =
+          let differs : (slot.place == p) ≡ false = grind (arith, nat_tests, unlike) in
+          ap {B = ℕ} (λ b. cond b 1 0) differs
+
+  pub heap_inserted : IsHeap next (insert slots at slot) (used + 1) room
+  heap_inserted =
+      let within : at ≤ length slots = omega (arith, in_range, put.in_use) in
+      record {
+        places = record {
+          within = All-append (λ (s : Slot). s.place < length next) (take at slots) (slot ∷ drop at slots) (All-take (λ (s : Slot). s.place < length next) at slots put.places.within)
+              (All-cons (λ (s : Slot). s.place < length next) slot (drop at slots) put.within (All-drop (λ (s : Slot). s.place < length next) at slots put.places.within));
+          apart = λ p. counts p (put.places.apart p) put.free (sum_by-insert (has_place p) slots at slot);
+        };
+        in_use = omega (arith, put.in_use, length-insert slots at slot within);
+        all = length-insert slots at slot within ∙ put.all;
+        keyed = All-same (IsKeyed next) (take (used + 1) (insert slots at slot)) (insert (take used slots) at slot) cut
+            (All-append (IsKeyed next) (take at (take used slots)) (slot ∷ drop at (take used slots)) (All-take (IsKeyed next) at (take used slots) keyed_as_before)
+            (All-cons (IsKeyed next) slot (drop at (take used slots)) (its_ssrc ∙ ap (λ (x : Entry). x.ssrc) (sym put.there)) (All-drop (IsKeyed next) at (take used slots) keyed_as_before)));
+        few = heap.few;
+      }

@@ -1,0 +1,83 @@
+-- Entries that stay where they are, and an index of them by rising SSRC.
+use Rattle.std.specs.Prelude.{ℕ, ◌≡◌, ◌<◌, ◌≤◌, ◌==◌, ◌+◌, ◌-◌, false, List, [], ◌∷◌, length, map, take, All, slice_index_or}
+use Rattle.std.specs.List.{count_by}
+use Rattle.rtcp_members.specs.declared.entry.Entry.{Entry}
+use Rattle.rtcp_members.specs.declared.cells.Cell.{Cell}
+use Rattle.rtcp_members.specs.declared.cells.Slot.{Slot}
+use Rattle.rtcp_source.specs.Steps.{no_source}
+
+-- what is read where there is none
+abbrev pub no_slot : Slot
+no_slot = record { ssrc = 0; place = 0 }
+
+abbrev pub no_entry : Entry
+no_entry =
+    record {
+      ssrc = 0;
+      valid = false;
+      left = false;
+      sends = false;
+      mark = 0;
+      sighting = 0;
+      sending = 0;
+      source = no_source;
+    }
+
+abbrev pub no_cell : Cell
+no_cell = record { entry = no_entry; even = no_slot; odd = no_slot }
+
+abbrev pub entries_in : List Cell → List Entry
+entries_in cells = map (λ (cell : Cell). cell.entry) cells
+
+-- the slots of cells, two in each
+abbrev pub pairs_in : List Cell → List Slot
+pairs_in [] = []
+pairs_in (cell ∷ cells) = cell.even ∷ cell.odd ∷ pairs_in cells
+
+-- those of an index: as many as there are cells
+abbrev pub slots_in : List Cell → List Slot
+slots_in cells = take (length cells) (pairs_in cells)
+
+-- the same without the last
+abbrev pub front_slots : List Cell → List Slot
+front_slots cells = take (length cells - 1) (pairs_in cells)
+
+-- the entry of a slot
+abbrev pub entry_in : List Entry → Slot → Entry
+entry_in entries slot = slice_index_or entries slot.place no_entry
+
+abbrev pub picked : List Entry → List Slot → List Entry
+picked entries slots = map (entry_in entries) slots
+
+abbrev pub place_at : List Slot → ℕ → ℕ
+place_at slots at = (slice_index_or slots at no_slot).place
+
+-- A slot has the SSRC of its entry.
+abbrev pub IsKeyed : List Entry → Slot → Type 0
+IsKeyed entries slot = slot.ssrc ≡ (entry_in entries slot).ssrc
+
+-- No two slots have the same place, and there is something at each.
+pub record ArePlaces (entries : List Entry) (slots : List Slot) : Type 0 where
+  pub within : All (λ (slot : Slot). slot.place < length entries) slots
+  pub apart : (place : ℕ) → count_by (λ (slot : Slot). slot.place == place) slots ≤ 1
+
+-- What holds of entries, of which the first slots are those in use: each place has a slot, and those in use have
+-- the SSRCs of their entries.
+pub record IsHeap (entries : List Entry) (slots : List Slot) (used room : ℕ) : Type 0 where
+  pub places : ArePlaces entries slots
+  pub in_use : used ≤ length slots
+  pub all : length slots ≡ length entries
+  pub keyed : All (IsKeyed entries) (take used slots)
+  pub few : room ≤ 1024
+
+-- An entry is laid at a place that no slot has, and what the slots have stays.
+pub record IsPut (entries next : List Entry) (slots new_slots : List Slot) (used place : ℕ) (entry : Entry) :
+    Type 0 where
+  pub same : All (λ (slot : Slot). entry_in next slot ≡ entry_in entries slot) new_slots
+  pub there : slice_index_or next place no_entry ≡ entry
+  pub places : ArePlaces next new_slots
+  pub within : place < length next
+  pub free : count_by (λ (slot : Slot). slot.place == place) new_slots ≡ 0
+  pub in_use : used ≤ length new_slots
+  pub all : length new_slots + 1 ≡ length next
+  pub taken : take used new_slots ≡ take used slots
