@@ -1,12 +1,12 @@
 -- A heap of entries that is searched, and into which an entry is put.
-use Rattle.std.proofs.Common.{◌≡◌, ◌<◌, ◌≤◌, ◌+◌, ◌==◌, ◌++◌, ℕ, true, false, cond, List, [], ◌∷◌, length, take, drop, set, slice_index_or, Result, Ok, Err, IfOk, IfErr, nat_cmp, is_lt, Less, Equal, Greater, inl, inr, arith, refl, sym, ap, subst, ◌∙◌}
+use Rattle.std.proofs.Common.{◌≡◌, ◌<◌, ◌≤◌, ◌+◌, ◌-◌, ◌==◌, ◌++◌, ℕ, true, false, cond, List, [], ◌∷◌, length, take, drop, set, slice_index_or, inl, inr, arith, refl, sym, ap, subst, ◌∙◌}
 use Rattle.std.specs.List.{All, insert, sum_by}
 use Rattle.std.proofs.lemmas.Bool.{cases_eq, cases_lt}
 use Rattle.std.proofs.lemmas.Bool.Decides.{nat_tests}
-use Rattle.std.proofs.lemmas.List.{length-set, length-map, length-take-le, length_push, take-map, drop-map, map-append, take-append-drop, take-append-le, take_at, get_or-map, get_or-set_same, get_or-set_other, get_or_append_left, get_or_at, get_or_push}
+use Rattle.std.proofs.lemmas.List.{length-set, length-map, length_push, take-map, drop-map, map-append, take-append-le, get_or-map, get_or-set_same, get_or-set_other, get_or_append_left, get_or_at, get_or_push}
 use Rattle.std.proofs.lemmas.List.Sums.{sum_by-cons, sum_by-append, sum_by-insert}
 use Rattle.std.proofs.lemmas.List.Elements.{All-head, All-tail, All-cons, All-append, All-take, All-drop, All-weaker, All-same, All-from_get_or}
-use Rattle.std.proofs.lemmas.List.Edits.{length-insert, insert-append_left}
+use Rattle.std.proofs.lemmas.List.Edits.{length-insert}
 use Rattle.rtcp_members.specs.declared.entry.Entry.{Entry}
 use Rattle.rtcp_members.specs.declared.cells.Slot.{Slot}
 use Rattle.rtcp_members.specs.ListViews.{IsPlaceOf}
@@ -59,6 +59,33 @@ module _ (entries : List Entry) (slots : List Slot) (keyed : All (IsKeyed entrie
   pub slot_found : (at : ℕ) → at < length slots → (slice_index_or slots at no_slot).ssrc ≡ ssrc → IsPlaceOf ssrc (picked entries slots) at
   slot_found at within same =
       ssrc_found ssrc (picked entries slots) at (slice_index_or slots at no_slot).ssrc rising (omega (arith, within, length-map slots (entry_in entries))) (λ e. key at no_slot e within) same
+
+  pub gap_between : (at : ℕ) → at ≤ length slots → (0 < at → (slice_index_or slots (at - 1) no_slot).ssrc < ssrc) → (at < length slots → ssrc < (slice_index_or slots at no_slot).ssrc) → IsGapFor ssrc (picked entries slots) at
+  gap_between at in_range last next =
+      let as_many = length-map slots (entry_in entries) in
+      record { in_range = omega (arith, in_range, as_many); lesser = λ i e before. early i e before; greater = λ i e from below. late i e from (omega (arith, below, as_many)) }
+    where
+      early : (i : ℕ) (e : Entry) → i < at → (slice_index_or (picked entries slots) i e).ssrc < ssrc
+      early i e before =
+          let least : (slice_index_or slots (at - 1) no_slot).ssrc < ssrc = last (omega (arith, before)) in
+          let here = key i no_slot e (omega (arith, before, in_range)) in
+          elim (cases_lt i (at - 1)) [
+            | inl earlier ↦ omega (arith, here, least, rise i (at - 1) earlier (omega (arith, before, in_range)))
+            | inr same ↦
+                let equal : at - 1 ≡ i = omega (arith, before, same) in
+                omega (arith, here, subst (λ n. (slice_index_or slots n no_slot).ssrc < ssrc) equal least)
+          ]
+
+      late : (i : ℕ) (e : Entry) → at ≤ i → i < length slots → ssrc < (slice_index_or (picked entries slots) i e).ssrc
+      late i e from within =
+          let least : ssrc < (slice_index_or slots at no_slot).ssrc = next (omega (arith, from, within)) in
+          let here = key i no_slot e within in
+          elim (cases_lt at i) [
+            | inl later ↦ omega (arith, here, least, rise at i later within)
+            | inr same ↦
+                let equal : at ≡ i = omega (arith, from, same) in
+                omega (arith, here, subst (λ n. ssrc < (slice_index_or slots n no_slot).ssrc) equal least)
+          ]
 
   pub none_between : (low high : ℕ) → IsHalved slots ssrc low high → high ≤ low → (low < length slots → (slice_index_or slots low no_slot).ssrc ≡ ssrc → ⊥) → IsGapFor ssrc (picked entries slots) low
   none_between low high so met other =

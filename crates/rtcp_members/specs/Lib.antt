@@ -13,4 +13,5 @@ pub mod SortedViews
 pub mod Storages
 pub mod Heaps
 pub mod HeapLaws
+pub mod Looks
 pub mod Standing

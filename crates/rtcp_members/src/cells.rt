@@ -69,8 +69,8 @@ pub(crate) fn set_slot(cells: &mut [Cell], rank: usize, slot: Slot)
     }
 }
 
-/// Puts a slot before the one of a rank, and moves those from there on by one rank, up to the last slot of the cells
-/// before `until`, which is lost.
+/// Puts a slot before the one of a rank, and moves those from there on by one rank, up to the last slot of the
+/// cells before `until`, which is lost.
 pub(crate) fn shift(cells: &mut [Cell], rank: usize, until: usize, slot: Slot)
     requires rank { rank < 2 * until }
     requires until { until ≤ length cells.old }
@@ -88,8 +88,8 @@ pub(crate) fn shift(cells: &mut [Cell], rank: usize, until: usize, slot: Slot)
     shift_cells(cells, first + 1, until, pushed);
 }
 
-/// The same for the first slot of a cell. A slot that moves on is read before the next cell is written, so the cells
-/// are gone through once.
+/// The same for the first slot of a cell. A slot that moves on is read before the next cell is written, so the
+/// cells are gone through once.
 fn shift_cells(cells: &mut [Cell], first: usize, until: usize, slot: Slot)
     requires first { first ≤ until }
     requires until { until ≤ length cells.old }

@@ -1,22 +1,36 @@
 //! Entries that stay where they are, in a block of memory of their own, with an index by rising SSRC.
 
-ghost use Rattle.std.specs.Prelude.{◌≡◌, [], ◌≤◌, ◌<◌, IfOk, IfErr, length, take, Some, refl};
+ghost use Rattle.std.specs.Prelude.{◌≡◌, [], ◌*◌, ◌≤◌, ◌<◌, IfOk, IfErr, IfSome, length, take, slice_index_or, Some, refl};
 ghost use Rattle.std.specs.Vec as vectors;
-ghost use Rattle.rtcp_members.specs.Heaps.{IsHeap, IsPut, entries_in, slots_in, front_slots, picked, place_at};
+ghost use Rattle.rtcp_members.specs.Heaps.{IsHeap, IsPut, no_slot, entries_in, pairs_in, slots_in, front_slots, picked, place_at};
+ghost use Rattle.rtcp_members.specs.Looks.{Sees};
+ghost use Rattle.rtcp_members.specs.SortedViews.{IsRising};
 ghost use Rattle.rtcp_members.specs.HeapLaws.{with_entry_at, written_at, sound_at};
 
 use crate::cells::{Cell, Slot, set_slot, shift, slot_at};
 use crate::entry::Entry;
-use crate::storage::Storage;
+use crate::storage::{LONGEST_WALK, Storage};
 use std::alloc::{AllocError, Global};
 
-/// Entries each of which lies in one cell from when it is put in until it is dropped, and slots that say where, by
-/// rank: those of the entries in use, and then those of cells that are free. A search reads slots alone, and an
-/// insert moves slots and no entry.
+/// Entries each of which lies in one cell from when it is put in until it is dropped, and slots that say where,
+/// by rank: those of the entries in use, and then those of cells that are free. A search reads slots alone, and
+/// an insert moves slots and no entry.
 #[derive(Drop)]
 pub struct Heap {
     cells: Vec<Cell>,
     used: usize,
+}
+
+/// What is seen of a source at a cell of the index.
+enum Look {
+    /// Its entry has this rank.
+    Stands(usize),
+    /// It has none, and would have this rank.
+    Missing(usize),
+    /// If it has one, that has a lesser rank, of another cell.
+    Below,
+    /// Or a greater one.
+    Above,
 }
 
 impl Heap {
@@ -57,6 +71,58 @@ impl Heap {
         let cell = &mut self.cells[place as usize];
         cell.entry = entry;
         place
+    }
+
+    /// Looks for a source at the ranks of a cell.
+    #[inline(always)]
+    fn look(&self, ssrc: u32, at: usize) -> Look
+        requires sound { IsHeap (entries_in self.now.cells.items) (slots_in self.now.cells.items) self.now.used
+            (vectors.vec_capacity self.now.cells) }
+        requires rising { IsRising (picked (entries_in self.now.cells.items)
+            (take self.now.used (slots_in self.now.cells.items))) }
+        requires cell { 2 * at < self.now.used }
+        ensures { Sees ssrc (picked (entries_in self.now.cells.items)
+            (take self.now.used (slots_in self.now.cells.items))) at result }
+    {
+        let cell = &self.cells[at];
+        if ssrc == cell.even.ssrc {
+            return Look::Stands(2 * at);
+        }
+        if ssrc < cell.even.ssrc {
+            return self.look_before(ssrc, at);
+        }
+        if 2 * at + 1 == self.used {
+            return Look::Missing(self.used);
+        }
+        if ssrc == cell.odd.ssrc {
+            return Look::Stands(2 * at + 1);
+        }
+        if ssrc < cell.odd.ssrc {
+            return Look::Missing(2 * at + 1);
+        }
+        Look::Above
+    }
+
+    /// Looks before a cell, of which each source is greater.
+    #[inline(always)]
+    fn look_before(&self, ssrc: u32, at: usize) -> Look
+        requires sound { IsHeap (entries_in self.now.cells.items) (slots_in self.now.cells.items) self.now.used
+            (vectors.vec_capacity self.now.cells) }
+        requires rising { IsRising (picked (entries_in self.now.cells.items)
+            (take self.now.used (slots_in self.now.cells.items))) }
+        requires cell { 2 * at < self.now.used }
+        requires greater { ssrc < (slice_index_or (pairs_in self.now.cells.items) (2 * at) no_slot).ssrc }
+        ensures { Sees ssrc (picked (entries_in self.now.cells.items)
+            (take self.now.used (slots_in self.now.cells.items))) at result }
+    {
+        if at == 0 {
+            return Look::Missing(0);
+        }
+        let cell = &self.cells[at - 1];
+        if cell.odd.ssrc < ssrc {
+            return Look::Missing(2 * at);
+        }
+        Look::Below
     }
 }
 
@@ -105,6 +171,23 @@ impl Storage for Heap {
             return Ok(low);
         }
         Err(low)
+    }
+
+    // A step looks at both ranks of a cell, which lie beside each other.
+    fn walk_to(&self, ssrc: u32, from: usize) -> Option<Result<usize, usize>> {
+        let mut at = from / 2;
+        for _ in 0..LONGEST_WALK {
+            if at >= self.used.div_ceil(2) {
+                return None;
+            }
+            match self.look(ssrc, at) {
+                Look::Stands(rank) => return Some(Ok(rank)),
+                Look::Missing(rank) => return Some(Err(rank)),
+                Look::Below => at -= 1,
+                Look::Above => at += 1,
+            }
+        }
+        None
     }
 
     #[inline(always)]

@@ -27,9 +27,6 @@ use rtcp_wire::{Block, Fact};
 use std::alloc::{AllocError, Global};
 use std::marker::Model;
 
-/// The most entries that a walk to a source looks at.
-const LONGEST_WALK: u32 = 8;
-
 /// The most entries of a list in which the walk to a source is short from the first guess on.
 const SHORT_LIST: u64 = 64;
 
@@ -42,9 +39,12 @@ pub struct Sorted<S: Storage> {
     rate: u32,
     entries: S,
     counts: Counts,
+    /// The source of the last fact: the next one is often of the same. Where it is not, what stands at the last
+    /// place need not be read.
+    last_ssrc: u32,
     /// Up to which moments a check changes nothing.
     bounds: Bounds,
-    /// Where the last source that was looked for stands, or would: the next fact is often of the same one.
+    /// Where the last source that was looked for stands, or would.
     last_place: usize,
 }
 
@@ -67,9 +67,9 @@ impl<S: Storage> Model for Sorted<S> {
 /// A sorted table with room for 1,024 entries in itself, whatever its capacity: some 131 KB.
 pub type SortedTable = Sorted<ArrayVec<Entry, MAX_CAPACITY>>;
 
-/// A sorted table whose entries lie in a block of memory of their own, with room for its capacity: 144 octets for each
-/// source, of which 16 are for an index of all of them. An entry stays where it is put until it is dropped. The block is
-/// taken when the table is made, and none later.
+/// A sorted table whose entries lie in a block of memory of their own, with room for its capacity: 144 octets
+/// for each source, of which 16 are for an index of all of them. An entry stays where it is put until it is
+/// dropped. The block is taken when the table is made, and none later.
 pub type HeapTable = Sorted<Heap>;
 
 impl InlineTable for Sorted<ArrayVec<Entry, MAX_CAPACITY>> {
@@ -109,6 +109,7 @@ impl<S: Storage> Sorted<S> {
             rate,
             entries,
             counts: Counts::none(),
+            last_ssrc: 0,
             bounds: Bounds::none(),
             last_place: 0,
         }
@@ -147,7 +148,14 @@ impl<S: Storage> MemberTable for Sorted<S> {
 
     fn apply(&mut self, fact: Fact, t: u64) -> Applied {
         self.bounds.lower(fact, t);
-        match search(&self.entries, self.last_place, fact.ssrc()) {
+        let ssrc = fact.ssrc();
+        let hint = if ssrc == self.last_ssrc {
+            self.last_place
+        } else {
+            usize::MAX
+        };
+        self.last_ssrc = ssrc;
+        match search(&self.entries, hint, ssrc) {
             Ok(at) => {
                 self.last_place = at;
                 let (entries, counts) = (&mut self.entries, &mut self.counts);
@@ -236,38 +244,28 @@ fn search<S: Storage>(entries: &S, last_place: usize, ssrc: u32) -> Result<usize
     ensures found { IfOk result (IsPlaceOf ssrc (S.items entries.now)) }
     ensures absent { IfErr result (IsGapFor ssrc (S.items entries.now)) }
 {
-    if let Some(at) = search_near(entries, last_place, ssrc) {
-        return Ok(at);
+    match search_near(entries, last_place, ssrc) {
+        Some(found) => found,
+        None => entries.find(ssrc),
     }
-    entries.find(ssrc)
 }
 
-/// Where the entry of a source stands, if that is the last place, or one of the first that a walk from the likely
-/// place comes to: an interpolation search that ends with a walk (Perl, Itai and Avni, 1978).
-fn search_near<S: Storage>(entries: &S, last_place: usize, ssrc: u32) -> Option<usize>
+/// What `search` returns, if the source stands at the last place, or if a walk from the likely place soon comes to
+/// where it stands or would: an interpolation search that ends with a walk (Perl, Itai and Avni, 1978).
+fn search_near<S: Storage>(
+    entries: &S,
+    last_place: usize,
+    ssrc: u32,
+) -> Option<Result<usize, usize>>
     requires sound { S.is_sound entries.now }
     requires rising { IsRising (S.items entries.now) }
-    ensures { IfSome result (IsPlaceOf ssrc (S.items entries.now)) }
+    ensures found { IfSome result (λ rank. IfOk rank (IsPlaceOf ssrc (S.items entries.now))) }
+    ensures absent { IfSome result (λ rank. IfErr rank (IsGapFor ssrc (S.items entries.now))) }
 {
     if last_place < entries.len() && entries.ssrc_at(last_place) == ssrc {
-        return Some(last_place);
+        return Some(Ok(last_place));
     }
-    let mut at = likely_place(entries, ssrc)?;
-    for _ in 0..LONGEST_WALK {
-        if at >= entries.len() {
-            return None;
-        }
-        let seen = entries.ssrc_at(at);
-        if seen == ssrc {
-            return Some(at);
-        }
-        at = if seen < ssrc {
-            at.wrapping_add(1)
-        } else {
-            at.wrapping_sub(1)
-        };
-    }
-    None
+    entries.walk_to(ssrc, likely_place(entries, ssrc)?)
 }
 
 /// Where the entry of a source stands if the SSRCs are spread evenly, as random ones are (RFC 3550, 8.1): by the

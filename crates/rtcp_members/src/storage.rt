@@ -1,6 +1,6 @@
 //! Where a sorted table keeps its entries.
 
-ghost use Rattle.std.specs.Prelude.{◌≡◌, ℕ, List, length, set, slice_index_or, ◌<◌, ◌≤◌, IfOk, IfErr, Option, Some, None, refl};
+ghost use Rattle.std.specs.Prelude.{◌≡◌, ℕ, List, length, set, slice_index_or, ◌<◌, ◌≤◌, IfOk, IfErr, IfSome, Option, Some, None, refl};
 ghost use Rattle.std.specs.List.{insert, retain_mut};
 ghost use Rattle.std.specs.Borrow.{Lends, sem, Array};
 ghost use denote.RawPtr.{Ptr};
@@ -14,6 +14,9 @@ ghost use Rattle.rtcp_members.specs.Storages.{LendsEntry};
 use crate::entry::Entry;
 use crate::table::MAX_CAPACITY;
 use arrayvec::ArrayVec;
+
+/// The most steps that a walk to a source takes.
+pub(crate) const LONGEST_WALK: u32 = 8;
 
 /// Entries in an order, with room for a number of them. No call takes memory: the room stays, and an insert leaves
 /// the entries in the block where they lie.
@@ -49,6 +52,13 @@ pub trait Storage {
         requires rising { IsRising (items self.now) }
         ensures found { IfOk result (IsPlaceOf ssrc (items self.now)) }
         ensures absent { IfErr result (IsGapFor ssrc (items self.now)) };
+
+    /// What `find` returns, where a walk from the rank `from` soon comes to it.
+    fn walk_to(&self, ssrc: u32, from: usize) -> Option<Result<usize, usize>>
+        requires sound { is_sound self.now }
+        requires rising { IsRising (items self.now) }
+        ensures found { IfSome result (λ rank. IfOk rank (IsPlaceOf ssrc (items self.now))) }
+        ensures absent { IfSome result (λ rank. IfErr rank (IsGapFor ssrc (items self.now))) };
 
     /// The entry of a rank.
     fn entry(&self, at: usize) -> &Entry
@@ -123,6 +133,25 @@ impl Storage for ArrayVec<Entry, MAX_CAPACITY> {
     fn find(&self, ssrc: u32) -> Result<usize, usize> {
         self.as_slice()
             .binary_search_by_key(&ssrc, |entry| entry.ssrc)
+    }
+
+    fn walk_to(&self, ssrc: u32, from: usize) -> Option<Result<usize, usize>> {
+        let mut at = from;
+        for _ in 0..LONGEST_WALK {
+            if at >= self.len() {
+                return None;
+            }
+            let seen = self.as_slice()[at].ssrc;
+            if seen == ssrc {
+                return Some(Ok(at));
+            }
+            at = if seen < ssrc {
+                at.wrapping_add(1)
+            } else {
+                at.wrapping_sub(1)
+            };
+        }
+        None
     }
 
     #[inline(always)]

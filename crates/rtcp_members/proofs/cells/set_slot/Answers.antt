@@ -1,6 +1,5 @@
 -- One slot of a cell is written, and its entry stays.
 use Rattle.std.proofs.Common.{arith, refl, ◌/◌}
-use Rattle.rtcp_members.specs.declared.cells.Cell.{Cell}
 use Rattle.rtcp_members.proofs.Pairs.{even_written, odd_written, entries_same}
 use Rattle.rtcp_members.proofs.cells.set_slot.Goals as goal
 

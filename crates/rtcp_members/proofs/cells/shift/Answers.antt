@@ -1,5 +1,5 @@
 -- The second slot of a cell is pushed on to the next cell.
-use Rattle.std.proofs.Common.{◌≡◌, ◌<◌, ◌+◌, ◌*◌, ◌/◌, ◌++◌, List, length, take, drop, set, slice_index_or, arith, ◌∙◌}
+use Rattle.std.proofs.Common.{◌≡◌, ◌<◌, ◌+◌, ◌*◌, ◌/◌, ◌++◌, List, length, take, drop, arith, ◌∙◌}
 use Rattle.std.specs.List.{insert}
 use Rattle.std.proofs.lemmas.List.{drop-set-lt}
 use Rattle.rtcp_members.specs.declared.cells.Slot.{Slot}

@@ -1,5 +1,5 @@
 -- A slot comes to the front where its entry stays, and else is left where it is.
-use Rattle.std.proofs.Common.{◌≡◌, ◌<◌, ◌+◌, ◌++◌, ℕ, Bool, true, false, List, length, take, drop, set, slice_index_or, arith, refl, sym, ap, subst, ◌∙◌}
+use Rattle.std.proofs.Common.{◌≡◌, ◌<◌, ◌+◌, ◌++◌, ℕ, Bool, true, false, List, length, take, drop, set, slice_index_or, arith, sym, ap, subst, ◌∙◌}
 use Rattle.std.proofs.lemmas.List.{length-map, length-set, get_or_read, get_or-map}
 use Rattle.rtcp_members.specs.declared.cells.Cell.{Cell}
 use Rattle.rtcp_members.specs.declared.cells.Slot.{Slot}

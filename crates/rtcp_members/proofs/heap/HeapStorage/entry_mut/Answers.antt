@@ -1,5 +1,5 @@
 -- The cell of the slot's place has the entry of the rank.
-use Rattle.std.proofs.Common.{arith, ◌≡◌, ◌<◌, ℕ, List, length, take, slice_index_or, refl, sym, ap, ◌∙◌}
+use Rattle.std.proofs.Common.{arith, ◌≡◌, ◌<◌, List, length, slice_index_or, refl, sym, ap, ◌∙◌}
 use Rattle.std.specs.Vec as vectors
 use Rattle.std.proofs.lemmas.List.{length-map, get_or_read, get_or-map}
 use Rattle.rtcp_members.specs.declared.cells.Cell.{Cell}
