@@ -1,9 +1,9 @@
 //! Numbers as fields of a line and options of a command line write them.
 
-ghost use Rattle.std.specs.Prelude.{◌≡◌};
-ghost use Rattle.std.specs.Char.{is_digit};
+ghost use Rattle.std.specs.Prelude.{◌≡◌, ◌<◌, ◌≤◌, length, MatchOption};
+ghost use Rattle.std.specs.Char.{digit_value};
 ghost use Rattle.std.specs.Int.{w32, w64};
-ghost use Rattle.std.specs.List.{list_all};
+ghost use Rattle.std.specs.Str.Parse.{AllDigits, digits_value};
 ghost use Rattle.rtcp_text.specs.Numerals.{decimal_in, hex_in};
 
 /// The most digits of a decimal number. That is as many as the greatest number of 64 bits has.
@@ -13,13 +13,37 @@ const MAX_DIGITS: usize = 20;
 pub fn read_decimal(text: &[u8]) -> Option<u64>
     ensures { result ≡ decimal_in 64 text.now }
 {
-    if text.len() > MAX_DIGITS || !are_digits(text) {
+    let (last, others) = text.split_last()?;
+    if others.len() >= MAX_DIGITS {
         return None;
     }
-    match str::from_utf8(text) {
-        Ok(text) => text.parse().ok(),
-        Err(_) => None,
+    // At most 19 digits fit, so only the last one can make the number too great.
+    let tens = read_digits(others)?.checked_mul(10)?;
+    tens.checked_add(digit_of(*last)?)
+}
+
+/// The number that at most 19 decimal digits write.
+fn read_digits(text: &[u8]) -> Option<u64>
+    requires { length text.now ≤ 19 }
+    ensures { MatchOption result (AllDigits 10 text.now → ⊥)
+        (λ number. AllDigits 10 text.now × (number ≡ digits_value 10 text.now)) }
+{
+    let mut number = 0;
+    for octet in text {
+        number = number * 10 + digit_of(*octet)?;
     }
+    Some(number)
+}
+
+/// The value of a decimal digit.
+#[inline(always)]
+fn digit_of(octet: u8) -> Option<u64>
+    ensures { MatchOption result (10 ≤ digit_value octet) (λ value. (value ≡ digit_value octet) × (value < 10)) }
+{
+    if !octet.is_ascii_digit() {
+        return None;
+    }
+    Some(u64::from(octet - b'0'))
 }
 
 /// The number that 1 to 20 decimal digits write, unless it takes more than 32 bits.
@@ -27,12 +51,6 @@ pub fn read_short_decimal(text: &[u8]) -> Option<u32>
     ensures { result ≡ decimal_in 32 text.now }
 {
     u32::try_from(read_decimal(text)?).ok()
-}
-
-fn are_digits(text: &[u8]) -> bool
-    ensures { result ≡ list_all (λ digit. is_digit digit 10) text.now }
-{
-    text.iter().all(|digit| digit.is_ascii_digit())
 }
 
 /// The number that eight hex digits of either case write.

@@ -1,15 +1,20 @@
-use Rattle.std.proofs.Common.{length, ◌≤◌, ◌∙◌, sym, arith}
-use Rattle.rtcp_text.proofs.NumeralLemmas.{IsUtf8-from_digits, decimal_parsed}
+use Rattle.std.proofs.Common.{◌∙◌, arith}
+use Rattle.rtcp_text.proofs.NumeralLemmas.{other_first, too_great, decimal_summed}
 use Rattle.rtcp_text.proofs.numerals.read_decimal.Goals as goal
 
-pub returns-in-Ok : goal.returns-in-Ok
-returns-in-Ok c =
-    let digits = sym c.are_digits.ensures ∙ c.if-not-are_digits.false in
-    let few : length c.args.text.now ≤ 20 = omega arith in
-    let parsed = rw c.in-Ok.ensures.cases.0 at c.parse.ensures.value.0 in
-    c.ok.ensures.value ∙ decimal_parsed c.args.text.now c.parse.result few digits parsed
+pub returns-in_err-read_digits : goal.returns-in_err-read_digits
+returns-in_err-read_digits c =
+    c.from_residual-in_err-read_digits.ensures
+    ∙ other_first c.args.text.now c.in_ok-last.others.now c.in_ok-last.last.now c.in_ok-last.ensures.cases.0 c.in_err-read_digits.ensures
 
-pub returns-in-Err : goal.returns-in-Err
-returns-in-Err c =
-    let digits = sym c.are_digits.ensures ∙ c.if-not-are_digits.false in
-    absurd (c.in-Err.ensures.cases.0 (IsUtf8-from_digits c.args.text.now digits))
+pub returns-in_err-tens : goal.returns-in_err-tens
+returns-in_err-tens c =
+    c.from_residual-in_err-tens.ensures
+    ∙ too_great c.args.text.now c.in_ok-last.others.now c.in_ok-last.last.now c.in_ok-last.ensures.cases.0
+    (omega (arith, c.in_err-tens.ensures, c.in_ok-read_digits.ensures.1))
+
+pub returns : goal.returns
+returns c =
+    decimal_summed c.args.text.now c.in_ok-last.others.now c.in_ok-last.last.now c.in_ok-read_digits.field-0 c.in_ok-tens.tens c.in_ok-digit_of.field-0 c.checked_add.result
+    c.checked_add.ensures c.in_ok-last.ensures.cases.0 c.if-others-ge-MAX_DIGITS.false c.in_ok-read_digits.ensures.0 c.in_ok-read_digits.ensures.1
+    (omega (arith, c.in_ok-tens.ensures)) c.in_ok-digit_of.ensures.0 c.in_ok-digit_of.ensures.1
