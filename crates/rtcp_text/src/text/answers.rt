@@ -1,11 +1,12 @@
 //! The text of what a participant answers, as `rtcp replay` shows it.
 
-ghost use Rattle.std.specs.Prelude.{◌≡◌, ◌++◌, OnOk, codes, option_map};
+ghost use Rattle.std.specs.Prelude.{◌≡◌, ◌+◌, ◌≤◌, ◌++◌, OnOk, codes, drop, option_map};
 ghost use Rattle.rtcp_engine.specs.Views.{answer_value, out_value, out_with, reply_value, step_value, told_value};
 ghost use Rattle.rtcp_text.specs.AnswerText.{answer_text, changed_text, counts_text, kind_text, next_text, out_text, refusal_text, rtp_fault_text, start_text, step_text};
 
-use super::digits::{push_decimal, push_octets, push_word};
+use super::digits::{push_octets, push_word};
 use super::push_fault_words;
+use super::tail::Tail;
 use rtcp_engine::{Answer, Out, OutKind, Refusal, Reply, Step, Told};
 use rtcp_wire::RtpFault;
 use std::alloc::AllocError;
@@ -14,10 +15,11 @@ use std::alloc::AllocError;
 pub fn push_start(out: &mut Vec<u8>, next: Option<u64>) -> Result<(), AllocError>
     ensures { OnOk result (out.new.items ≡ out.old.items ++ start_text next) }
 {
-    out.extend_from_slice(b"start ")?;
-    push_counts(out, 1, 0, next)?;
-    out.push(b'\n')?;
-    Ok(())
+    let mut text = Tail::new();
+    text.put(b'\n');
+    put_counts(&mut text, 1, 0, next);
+    text.put_text(b"start ");
+    out.extend_from_slice(text.as_slice())
 }
 
 /// Appends the line for an answer.
@@ -48,9 +50,7 @@ pub(crate) fn push_reply(out: &mut Vec<u8>, reply: &Reply, octets: &[u8]) -> Res
 fn push_told(out: &mut Vec<u8>, told: &Told, octets: &[u8]) -> Result<(), AllocError>
     ensures { OnOk result (out.new.items ≡ out.old.items ++ step_text (told_value octets.now told.now)) }
 {
-    out.extend_from_slice(b"ok ")?;
-    push_counts(out, told.members, told.senders, told.next)?;
-    out.extend_from_slice(b" out=")?;
+    push_taken(out, told.members, told.senders, told.next)?;
     push_written(out, told.out, octets)?;
     push_changed(out, told.changed)
 }
@@ -59,37 +59,59 @@ fn push_told(out: &mut Vec<u8>, told: &Told, octets: &[u8]) -> Result<(), AllocE
 fn push_step(out: &mut Vec<u8>, step: &Step) -> Result<(), AllocError>
     ensures { OnOk result (out.new.items ≡ out.old.items ++ step_text (step_value step.now)) }
 {
-    out.extend_from_slice(b"ok ")?;
-    push_counts(out, step.members, step.senders, step.next)?;
-    out.extend_from_slice(b" out=")?;
+    push_taken(out, step.members, step.senders, step.next)?;
     push_out(out, &step.out)?;
     push_changed(out, step.changed)
 }
 
-/// Appends the members, the senders and the moment of the next tick.
-fn push_counts(
+/// Appends that a call was taken, up to its compound.
+fn push_taken(
     out: &mut Vec<u8>,
     members: u32,
     senders: u32,
     next: Option<u64>,
 ) -> Result<(), AllocError>
-    ensures { OnOk result (out.new.items ≡ out.old.items ++ counts_text members senders next) }
+    ensures { OnOk result
+        (out.new.items ≡ out.old.items ++ codes "ok " ++ counts_text members senders next ++ codes " out=") }
 {
-    out.extend_from_slice(b"members=")?;
-    push_decimal(out, u64::from(members))?;
-    out.extend_from_slice(b" senders=")?;
-    push_decimal(out, u64::from(senders))?;
-    out.extend_from_slice(b" next=")?;
-    push_next(out, next)
+    let mut text = Tail::new();
+    text.put_text(b" out=");
+    put_counts(&mut text, members, senders, next);
+    text.put_text(b"ok ");
+    out.extend_from_slice(text.as_slice())
 }
 
-/// Appends a moment, or a hyphen where there is none.
-fn push_next(out: &mut Vec<u8>, next: Option<u64>) -> Result<(), AllocError>
-    ensures { OnOk result (out.new.items ≡ out.old.items ++ next_text next) }
+/// Puts the members, the senders and the moment of the next tick in front of a text.
+#[inline(always)]
+fn put_counts(text: &mut Tail, members: u32, senders: u32, next: Option<u64>)
+    requires room { 63 ≤ text.old.start }
+    requires within { text.old.start ≤ 80 }
+    ensures text { drop text.new.start text.new.octets
+        ≡ counts_text members senders next ++ drop text.old.start text.old.octets }
+    ensures start { text.new.start ≤ text.old.start }
+    ensures room { text.old.start ≤ text.new.start + 63 }
+{
+    put_next(text, next);
+    text.put_text(b" next=");
+    text.put_decimal(senders);
+    text.put_text(b" senders=");
+    text.put_decimal(members);
+    text.put_text(b"members=");
+}
+
+/// Puts a moment in front of a text, or a hyphen where there is none.
+#[inline(always)]
+fn put_next(text: &mut Tail, next: Option<u64>)
+    requires room { 20 ≤ text.old.start }
+    requires within { text.old.start ≤ 80 }
+    ensures text { drop text.new.start text.new.octets
+        ≡ next_text next ++ drop text.old.start text.old.octets }
+    ensures start { text.new.start ≤ text.old.start }
+    ensures room { text.old.start ≤ text.new.start + 20 }
 {
     match next {
-        Some(next) => push_decimal(out, next),
-        None => out.extend_from_slice(b"-"),
+        Some(next) => text.put_long_decimal(next),
+        None => text.put(b'-'),
     }
 }
 
@@ -113,7 +135,10 @@ fn push_written(out: &mut Vec<u8>, kind: Option<OutKind>, octets: &[u8]) -> Resu
             out.push(b':')?;
             push_octets(out, octets)
         }
-        None => out.extend_from_slice(b"-"),
+        None => {
+            out.push(b'-')?;
+            Ok(())
+        }
     }
 }
 

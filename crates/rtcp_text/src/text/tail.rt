@@ -53,6 +53,20 @@ impl Tail {
         self.octets[self.start] = octet;
     }
 
+    /// Puts a text in front.
+    #[inline(always)]
+    pub(super) fn put_text(&mut self, text: &[u8])
+        requires room { length text.now ≤ self.old.start }
+        requires within { self.old.start ≤ 80 }
+        ensures text { drop self.new.start self.new.octets
+            ≡ text.now ++ drop self.old.start self.old.octets }
+        ensures start { self.new.start + length text.now ≡ self.old.start }
+    {
+        let end = self.start;
+        self.start -= text.len();
+        self.octets[self.start..end].copy_from_slice(text);
+    }
+
     /// Puts a word in front, as eight hex digits.
     #[inline(always)]
     pub(super) fn put_word(&mut self, word: u32)
@@ -78,6 +92,19 @@ impl Tail {
         ensures room { self.old.start ≤ self.new.start + 10 }
     {
         self.start = write_digits(u64::from(number), &mut self.octets, self.start);
+    }
+
+    /// The same of a number of 64 bits.
+    #[inline(always)]
+    pub(super) fn put_long_decimal(&mut self, number: u64)
+        requires room { 20 ≤ self.old.start }
+        requires within { self.old.start ≤ 80 }
+        ensures text { drop self.new.start self.new.octets
+            ≡ decimal number ++ drop self.old.start self.old.octets }
+        ensures start { self.new.start ≤ self.old.start }
+        ensures room { self.old.start ≤ self.new.start + 20 }
+    {
+        self.start = write_digits(number, &mut self.octets, self.start);
     }
 
     /// Puts a number in front, in decimal with a minus sign if it is below 0.

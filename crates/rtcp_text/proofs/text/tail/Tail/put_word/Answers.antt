@@ -1,22 +1,18 @@
-use Rattle.std.proofs.Common.{rules, ◌≡◌, ℕ, ◌-◌, ◌≤◌, List, ◌++◌, length, take, drop, sym, ap, ◌∙◌, arith}
-use Rattle.std.proofs.lemmas.List.{length-take, drop-drop, drop_at}
+use Rattle.std.proofs.Common.{rules, ◌≡◌, ℕ, ◌-◌, ◌≤◌, List, ◌++◌, length, drop, sym, ap, ◌∙◌, arith}
 use Rattle.std.proofs.lemmas.Simd.{put_chunk_whole}
 use lib.Lanes.{put_chunk}
 use borrow.Rule.Slice.PartMut.{mid_of, put_mid, mid_len}
 use Rattle.std.specs.Int.{w32, to_be_bytes}
 use Rattle.hex.specs.Hex.{lower_digits}
 use Rattle.hex.proofs.HexLemmas.{length-encode_with}
+use Rattle.rtcp_text.proofs.TailLemmas.{text_written}
 use Rattle.rtcp_text.proofs.text.tail.Tail.put_word.Goals as goal
 
 -- what stands from a place on where digits were written up to another
 part_written : (xs digits : List ℕ) (a e : ℕ) → a ≤ e → e ≤ length xs → length digits ≡ e - a
     → drop a (put_mid a (e - a) xs (put_chunk 0 (mid_of a (e - a) xs) digits)) ≡ digits ++ drop e xs
 part_written xs digits a e before within long =
-    let whole = put_chunk_whole (mid_of a (e - a) xs) digits (mid_len a e xs within ∙ sym long) in
-    let front : length (take a xs) ≡ a = omega (arith, length-take a xs) in
-    let after : drop (e - a) (drop a xs) ≡ drop e xs = drop-drop _ _ xs ∙ ap (λ (n : ℕ). drop n xs) (omega arith) in
-    let seam = drop_at (take a xs) (digits ++ drop (e - a) (drop a xs)) a front in
-    rw whole (seam ∙ ap (λ (r : List ℕ). digits ++ r) after)
+    rw (put_chunk_whole (mid_of a (e - a) xs) digits (mid_len a e xs within ∙ sym long)) (text_written xs digits a e before within long)
 
 pub returns-clause-text : goal.returns-clause-text
 returns-clause-text c =
