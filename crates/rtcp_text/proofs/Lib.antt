@@ -15,5 +15,6 @@ mod ProgressLemmas
 mod ReplayLemmas
 mod RunLemmas
 mod SessionLemmas
+mod SpaceLemmas
 mod TailLemmas
 mod TextLemmas

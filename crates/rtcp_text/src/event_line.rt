@@ -1,6 +1,6 @@
 //! A line of a session, as `rtcp replay` reads it.
 
-ghost use Rattle.std.specs.Prelude.{◌≡◌, ℕ, List, ◌∷◌, [], Ok, Err, IfOk, IfErr, IfSome, IfNone};
+ghost use Rattle.std.specs.Prelude.{◌≡◌, ◌==◌, ◌<◌, ℕ, true, false, length, slice_index, List, ◌∷◌, [], Ok, Err, IfOk, IfErr, IfSome, IfNone};
 ghost use Rattle.rtcp_engine.specs.Acts.{EventValue};
 ghost use Rattle.rtcp_engine.specs.Views.{event_value};
 ghost use Rattle.rtcp_text.specs.EventLines.{arrival, event_in, fields_left, fields_of, kind_named, leave, moment_in, octets_in, sending, tick};
@@ -12,7 +12,11 @@ use crate::fault::LineFault;
 use crate::numerals::{read_decimal, read_short_decimal, read_word};
 use memchr::memchr;
 use rtcp_engine::Event;
+use std::simd::prelude::*;
 use thiserror::Error;
+
+/// How many octets are looked through at once for the space after a field.
+const NEAR: usize = 16;
 
 /// Why a line gives no event.
 #[derive(Clone, Copy, Debug, PartialEq, Eq, Error)]
@@ -245,8 +249,27 @@ impl<'a> Fields<'a> {
 fn split_field(octets: &[u8]) -> (&[u8], Option<&[u8]>)
     ensures { fields_of octets.now ≡ result.0.now ∷ fields_left result.1 }
 {
-    match memchr(b' ', octets) {
+    match find_space(octets) {
         Some(end) => (octets.split_at(end).0, Some(octets.split_at(end + 1).1)),
         None => (octets, None),
     }
+}
+
+/// Where the first space is. It is looked for among the first octets at once, since most fields are short.
+#[inline]
+fn find_space(octets: &[u8]) -> Option<usize>
+    ensures within { IfSome result (λ end. end < length octets.now) }
+    ensures space { IfSome result (λ end. (slice_index octets.now end == 32) ≡ true) }
+    ensures before { IfSome result (λ end. (k : ℕ) → k < end → (slice_index octets.now k == 32) ≡ false) }
+    ensures none { IfNone result ((k : ℕ) → k < length octets.now → (slice_index octets.now k == 32) ≡ false) }
+{
+    if octets.len() >= NEAR {
+        let spaces = u8x16::from_slice(octets)
+            .simd_eq(u8x16::splat(b' '))
+            .to_bitmask();
+        if spaces != 0 {
+            return Some(spaces.trailing_zeros() as usize);
+        }
+    }
+    memchr(b' ', octets)
 }
