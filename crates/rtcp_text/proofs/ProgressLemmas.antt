@@ -1,6 +1,7 @@
 -- Lemmas on what the parts of a run over lines leave.
 use Rattle.std.proofs.Common.{Bool, false, eqb, ◌≡◌, ◌≢◌, ℕ, ◌+◌, ◌<◌, ◌≤◌, inl, inr, List, [], ◌∷◌, ◌++◌, length, Option, Some, None, Result, Ok, Err, refl, sym, ◌∙◌, ap, subst, append_assoc, append-nil, arith, length-append}
 use Rattle.std.specs.List.{flat_map}
+use Rattle.std.specs.Prelude.{OnOk, IsOkUnless}
 use Rattle.std.specs.Result.{IsErrAnd}
 use Rattle.std.proofs.lemmas.Result.{err_from_is_err_and}
 use Rattle.std.proofs.lemmas.Bool.{false≢true}
@@ -300,6 +301,44 @@ module _ {S : Type 0} (answers : Answering S) (refuses : Refusing) where
       → text ≡ prefix ++ more → LineLeaves answers refuses {A = Unit {0}} (Err Write) n state line prefix next'
   LineLeaves-cut n state next next' line text prefix more few short is_answer parts =
       (more, (next, subst (λ t. IsTextBy answers refuses n state (line ∷ []) t None next) parts (LineLeaves-answered tt n state next line text few short is_answer)))
+
+  -- As much of the answer is written as the outcome says.
+  pub LineLeaves-written : (r : Result (Unit {0}) TextFault) (n : ℕ) (state next : S) (line text prefix more : List ℕ) → n ≤ 65536 → length line ≤ 131200
+      → answers state line text next → IsOkUnless r Write → OnOk r (more ≡ []) → text ≡ prefix ++ more → LineLeaves answers refuses r n state line prefix next
+  LineLeaves-written (Ok x) n state next line text prefix more few short is_answer only whole parts =
+      let same : text ≡ prefix = parts ∙ ap (λ m. prefix ++ m) whole ∙ append-nil prefix in
+      subst (λ t. LineLeaves answers refuses {A = Unit {0}} (Ok x) n state line t next) same (LineLeaves-answered x n state next line text few short is_answer)
+  LineLeaves-written (Err fault) n state next line text prefix more few short is_answer only whole parts =
+      subst (λ f. LineLeaves answers refuses {A = Unit {0}} (Err f) n state line prefix next) (sym only)
+      (LineLeaves-cut n state next next line text prefix more few short is_answer parts)
+
+  -- The line could not be made longer.
+  pub LineLeaves-refused : (fault : TextFault) (n : ℕ) (state next : S) (pending piece longer : List ℕ) → Lengthens {A = Unit {0}} (Err fault) n pending piece longer
+      → LineLeaves answers refuses {A = Unit {0}} (Err fault) (n + 1) state (pending ++ piece) [] next
+  LineLeaves-refused (Text number TooManyLines) n state next pending piece longer (same, late) = λ others.
+      (state, inl (TooManyLines, inl (refl, omega (arith, late)), refl, ap (λ m. Some (m, TooManyLines)) same, refl))
+  LineLeaves-refused (Text number LineTooLong) n state next pending piece longer (same, early, long) = λ others.
+      (state, inl (LineTooLong, inr (inl (refl, omega (arith, early), long)), refl, ap (λ m. Some (m, LineTooLong)) same, refl))
+  LineLeaves-refused (Text number Words) n state next pending piece longer h = absurd h
+  LineLeaves-refused (Text number Hex) n state next pending piece longer h = absurd h
+  LineLeaves-refused (Text number Number) n state next pending piece longer h = absurd h
+  LineLeaves-refused Memory n state next pending piece longer h = refl
+  LineLeaves-refused Write n state next pending piece longer h = absurd h
+  LineLeaves-refused Read n state next pending piece longer h = absurd h
+
+  -- The line that was put together is the one that is answered.
+  pub LineLeaves-longer : {A : Type 0} (r : Result A TextFault) (n n' : ℕ) (state state' next : S) (line line' text : List ℕ) → n' ≡ n → state' ≡ state → line' ≡ line
+      → LineLeaves answers refuses r (n' + 1) state' line' text next → LineLeaves answers refuses r (n + 1) state line text next
+  LineLeaves-longer r n n' state state' next line line' text number same made leaves =
+      subst (λ m. LineLeaves answers refuses r (m + 1) state line text next) number
+      (subst (λ s. LineLeaves answers refuses r (n' + 1) s line text next) same
+      (subst (λ l. LineLeaves answers refuses r (n' + 1) state' l text next) made leaves))
+
+  -- Where nothing is pending, the piece is the line.
+  pub LineLeaves-whole : {A : Type 0} (r : Result A TextFault) (n : ℕ) (state next : S) (pending line text : List ℕ) → length pending ≡ 0
+      → LineLeaves answers refuses r n state line text next → LineLeaves answers refuses r n state (pending ++ line) text next
+  LineLeaves-whole r n state next [] line text none leaves = leaves
+  LineLeaves-whole r n state next (octet ∷ pending) line text none leaves = absurd (omega (arith, none))
 
   -- Nothing is pending at the end.
   pub EndLeaves-none : (x : Unit {0}) (n : ℕ) (state : S) (octets : List ℕ) → length octets ≡ 0 → EndLeaves answers refuses {A = Unit {0}} (Ok x) n state octets []

@@ -68,11 +68,11 @@ impl<A: Answerer> LineCutter<A> {
         let mut rest = block;
         while !rest.is_empty() {
             let (piece, after) = split_line(rest);
-            self.append(piece)?;
             let Some((_, others)) = after.split_first() else {
+                self.append(piece)?;
                 return Ok(());
             };
-            self.answer(writer)?;
+            self.answer_with(piece, writer)?;
             rest = others;
         }
         Ok(())
@@ -99,6 +99,38 @@ impl<A: Answerer> LineCutter<A> {
         self.answer(writer)
     }
 
+    /// Answers the line that ends with a piece. It is copied only where a part of it is pending.
+    ///
+    /// # Errors
+    ///
+    /// Those of [`append`](Self::append) and [`answer`](Self::answer).
+    fn answer_with<W: Write>(
+        &mut self,
+        piece: &[u8],
+        writer: &mut Counted<W>,
+    ) -> Result<(), TextFault>
+        requires between { IsBetween self.old.answered self.old.pending.items }
+        requires unfailed { failures_of writer.old ≡ 0 }
+        ensures written { Grows (W.contents (inner_of writer.old)) (W.contents (inner_of writer.new))
+            (λ text. LineLeaves A.answers A.refuses result (self.old.answered + 1) self.old.answerer
+            (self.old.pending.items ++ piece.now) text self.new.answerer) }
+        ensures answered { OnOk result (self.new.answered ≡ self.old.answered + 1) }
+        ensures few { OnOk result (self.old.answered < 65536) }
+        ensures pending { OnOk result (self.new.pending.items ≡ []) }
+        ensures failed { (result ≡ Err TextFault.Write) ↔ (failures_of writer.new ≢ 0) }
+        ensures once { failures_of writer.new ≤ 1 }
+    {
+        if !self.pending.is_empty() {
+            self.append(piece)?;
+            return self.answer(writer);
+        }
+        self.admit(piece)?;
+        let number = self.answered + 1;
+        answer_line(&mut self.answerer, number, piece, &mut self.text, writer)?;
+        self.answered = number;
+        Ok(())
+    }
+
     /// Appends a piece to the pending part of a line, where some of the input is in that line or after it.
     ///
     /// # Errors
@@ -112,16 +144,30 @@ impl<A: Answerer> LineCutter<A> {
         ensures answered { self.new.answered ≡ self.old.answered }
         ensures answerer { self.new.answerer ≡ self.old.answerer }
     {
+        self.admit(piece)?;
+        match self.pending.extend_from_slice(piece) {
+            Ok(()) => Ok(()),
+            Err(_) => Err(TextFault::Memory),
+        }
+    }
+
+    /// Tests that the pending part may be made longer by a piece.
+    ///
+    /// # Errors
+    ///
+    /// [`TextFault::Text`] where that is a line too many, or too long.
+    fn admit(&self, piece: &[u8]) -> Result<(), TextFault>
+        requires { IsBetween self.now.answered self.now.pending.items }
+        ensures { Lengthens result self.now.answered self.now.pending.items piece.now
+            (self.now.pending.items ++ piece.now) }
+    {
         if self.answered >= MAX_LINES {
             return Err(self.refused(LineFault::TooManyLines));
         }
         if piece.len() > MAX_LINE - self.pending.len() {
             return Err(self.refused(LineFault::LineTooLong));
         }
-        match self.pending.extend_from_slice(piece) {
-            Ok(()) => Ok(()),
-            Err(_) => Err(TextFault::Memory),
-        }
+        Ok(())
     }
 
     /// A fault at the first line that is not answered.
@@ -156,14 +202,44 @@ impl<A: Answerer> LineCutter<A> {
         ensures once { failures_of writer.new ≤ 1 }
     {
         let number = self.answered + 1;
-        self.text.clear();
-        self.answerer
-            .compose(number, &self.pending, &mut self.text)?;
-        write_whole(writer, &self.text)?;
+        answer_line(
+            &mut self.answerer,
+            number,
+            &self.pending,
+            &mut self.text,
+            writer,
+        )?;
         self.answered = number;
         self.pending.clear();
         Ok(())
     }
+}
+
+/// Makes the answer to a line in the buffer `text`, and writes it.
+///
+/// # Errors
+///
+/// - [`TextFault::Text`] where the answerer refuses the line, and [`TextFault::Memory`] where memory is refused:
+///   nothing is written.
+/// - [`TextFault::Write`] where a call of the writer fails or takes nothing: a prefix of the answer is written.
+fn answer_line<A: Answerer, W: Write>(
+    answerer: &mut A,
+    number: u64,
+    line: &[u8],
+    text: &mut Vec<u8>,
+    writer: &mut Counted<W>,
+) -> Result<(), TextFault>
+    requires few { number ≤ 65536 }
+    requires short { length line.now ≤ 131200 }
+    requires unfailed { failures_of writer.old ≡ 0 }
+    ensures written { Grows (W.contents (inner_of writer.old)) (W.contents (inner_of writer.new))
+        (λ text. LineLeaves A.answers A.refuses result number answerer.old line.now text answerer.new) }
+    ensures failed { (result ≡ Err TextFault.Write) ↔ (failures_of writer.new ≢ 0) }
+    ensures once { failures_of writer.new ≤ 1 }
+{
+    text.clear();
+    answerer.compose(number, line, text)?;
+    write_whole(writer, text)
 }
 
 /// What comes before the first line feed, and the rest from that line feed on.

@@ -1,5 +1,5 @@
 -- What is written is the text so far, and what the next line's answer wrote.
-use Rattle.std.proofs.Common.{◌++◌}
+use Rattle.std.proofs.Common.{◌++◌, refl}
 use Rattle.std.proofs.KnownBytes.{Appends-trans}
 use Rattle.rtcp_text.specs.Progress.{PartLeaves}
 use Rattle.rtcp_text.proofs.CountedLemmas.{zero_unless}
@@ -9,17 +9,16 @@ use Rattle.rtcp_text.proofs.lines.LineCutter.take.Goals as goal
 pub loop-rest-preserved : goal.loop-rest-preserved
 loop-rest-preserved g c =
     let so_far = c.loop-rest.invariant.written in
-    let answer = c.in_ok-answer.ensures.written in
-    let appended = c.in_ok-append.ensures.longer in
+    let answer = c.in_ok-answer_with.ensures.written in
     let next = turn_answered g.A.Answerer.answers g.A.Answerer.refuses _ _ _ _ c.args.self.now.pending.items so_far.0 c.loop-rest.rest.now c.args.block.now
     c.loop-rest.self.pending.items so_far.1 so_far.4 so_far.2
-    tt c.in-Some.field-0-0.now c.answer.new.self.answered c.append.new.self.answered c.append.new.self.answerer c.answer.new.self.answerer
-    c.split_line.result.0.now c.split_line.result.1.now c.in-Some.others.now c.append.new.self.pending.items c.answer.new.self.pending.items answer.0
+    tt c.in-Some.field-0-0.now c.answer_with.new.self.answered c.loop-rest.self.answered c.loop-rest.self.answerer c.answer_with.new.self.answerer
+    c.split_line.result.0.now c.split_line.result.1.now c.in-Some.others.now (c.loop-rest.self.pending.items ++ c.split_line.result.0.now) c.answer_with.new.self.pending.items answer.0
     c.loop-rest.invariant.between.part c.split_line.ensures.part c.split_line.ensures.parts c.in-Some.ensures.cases.0 c.split_line.ensures.feed
-    appended.0 c.in_ok-append.ensures.answered c.in_ok-append.ensures.answerer c.in_ok-answer.ensures.answered c.in_ok-answer.ensures.pending answer.2 in
+    refl refl refl c.in_ok-answer_with.ensures.answered c.in_ok-answer_with.ensures.pending answer.2 in
     record {
-      between = IsBetween-answered _ _ _ _ appended.1 c.in_ok-append.ensures.answered c.in_ok-answer.ensures.answered c.in_ok-answer.ensures.pending;
-      unfailed = zero_unless _ (λ failed. let wrong = c.in_ok-answer.ensures.failed.1 failed in cc);
+      between = IsBetween-answered _ _ _ _ c.in_ok-answer_with.ensures.few refl c.in_ok-answer_with.ensures.answered c.in_ok-answer_with.ensures.pending;
+      unfailed = zero_unless _ (λ failed. let wrong = c.in_ok-answer_with.ensures.failed.1 failed in cc);
       written = (_, so_far.1 ++ answer.0, next.0, Appends-trans _ _ _ so_far.1 answer.0 so_far.3 answer.1, next.1);
     }
 
@@ -42,13 +41,12 @@ returns-in_err-append-clause-written g c =
           c.loop-rest.invariant.between.part c.split_line.ensures.part c.split_line.ensures.parts some c.in_err-append.ensures.longer),
     )
 
-pub returns-in_err-answer-clause-written : goal.returns-in_err-answer-clause-written
-returns-in_err-answer-clause-written g c =
+pub returns-in_err-answer_with-clause-written : goal.returns-in_err-answer_with-clause-written
+returns-in_err-answer_with-clause-written g c =
     let so_far = c.loop-rest.invariant.written in
-    let answer = c.in_err-answer.ensures.written in
-    let appended = c.in_ok-append.ensures.longer in
-    let fault = c.in_err-answer.field-0.0 in
-    let cutter = c.answer.new.self in
+    let answer = c.in_err-answer_with.ensures.written in
+    let fault = c.in_err-answer_with.field-0.0 in
+    let cutter = c.answer_with.new.self in
     let octets = c.args.self.now.pending.items ++ c.args.block.now in
     let text = so_far.1 ++ answer.0 in (
       text,
@@ -56,11 +54,11 @@ returns-in_err-answer-clause-written g c =
       at_exit
           (λ r. PartLeaves g.A.Answerer.answers g.A.Answerer.refuses r c.args.self.now.answered c.args.self.now.answerer octets cutter.answered cutter.answerer
           cutter.pending.items text)
-          c.from_residual-in_err-answer.result fault c.from_residual-in_err-answer.ensures.1
+          c.from_residual-in_err-answer_with.result fault c.from_residual-in_err-answer_with.ensures.1
           (turn_failed g.A.Answerer.answers g.A.Answerer.refuses _ _ _ _ c.args.self.now.pending.items so_far.0 c.loop-rest.rest.now c.args.block.now
           c.loop-rest.self.pending.items so_far.1 so_far.4 so_far.2
-          fault c.in-Some.field-0-0.now cutter.answered c.append.new.self.answered c.append.new.self.answerer cutter.answerer
-          c.split_line.result.0.now c.split_line.result.1.now c.in-Some.others.now c.append.new.self.pending.items cutter.pending.items answer.0
+          fault c.in-Some.field-0-0.now cutter.answered c.loop-rest.self.answered c.loop-rest.self.answerer cutter.answerer
+          c.split_line.result.0.now c.split_line.result.1.now c.in-Some.others.now (c.loop-rest.self.pending.items ++ c.split_line.result.0.now) cutter.pending.items answer.0
           c.loop-rest.invariant.between.part c.split_line.ensures.part c.split_line.ensures.parts c.in-Some.ensures.cases.0 c.split_line.ensures.feed
-          appended.0 c.in_ok-append.ensures.answered c.in_ok-append.ensures.answerer answer.2),
+          refl refl refl answer.2),
     )
