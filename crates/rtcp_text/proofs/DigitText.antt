@@ -1,9 +1,11 @@
 -- Eight octets that are written as digits at once.
-use Rattle.std.proofs.Common.{◌≡◌, ℕ, ◌+◌, ◌/◌, ◌%◌, ◌^◌, ◌<◌, ◌≤◌, true, cond, eqb, ltb, List, [], ◌∷◌, ◌++◌, map, length, take, drop, slice_index, replicate, bit_and, Fits, w8, refl, sym, ap, ◌∙◌, subst}
+use Rattle.std.proofs.Common.{◌≡◌, ℕ, ◌+◌, ◌*◌, ◌/◌, ◌%◌, ◌^◌, ◌<◌, ◌≤◌, true, cond, eqb, ltb, List, [], ◌∷◌, ◌++◌, map, length, drop, slice_index, get_or, replicate, bit_and, Fits, w8, refl, sym, ap, ◌∙◌, subst, arith}
 use Rattle.std.proofs.lemmas.Bool.{agree_below_at, eqb-true}
 use Rattle.std.proofs.lemmas.List.{append_assoc, append-nil, drop_all}
-use Rattle.std.proofs.lemmas.Simd.{pick_l_whole, chunk-drop}
-use lib.Lanes.{zip2, sel_l, top, pick_l, chunk, Each1}
+use Rattle.std.proofs.lemmas.Simd.{pick_l_whole, pick_l_left, get_or_narrower, chunk-drop}
+use lib.Lanes.{zip2, sel_l, top, pick_l, chunk, Each1, number_l, digits_l}
+use Rattle.std.specs.Int.{w32, to_be_bytes}
+use Rattle.std.proofs.Math.Nat.{div-one}
 use Rattle.hex.specs.Hex.{encode_with, encode_lower, lower_digits}
 use Rattle.hex.proofs.Pairs.{encode_with-drop}
 
@@ -51,10 +53,41 @@ unfolding encode_with
 encode_with-append t [] ys = refl
 encode_with-append t (x ∷ xs) ys = ap (λ r. slice_index t (x / 16) ∷ slice_index t (x % 16) ∷ r) (encode_with-append t xs ys)
 
--- The first half of a block is written in the first half of its digits.
-pub first_digits : (a b c d : ℕ) → take 8 (encode_lower (a ∷ b ∷ c ∷ d ∷ 0 ∷ 0 ∷ 0 ∷ 0 ∷ [])) ≡ encode_lower (a ∷ b ∷ c ∷ d ∷ [])
+-- The octets of two words, which a vector holds low octet first.
+abbrev octets_of_words : List ℕ → List ℕ
+octets_of_words words = digits_l 256 8 (number_l (2 ^ 32) words)
+
+octets_equal : {a b c d e f g h a' b' c' d' e' f' g' h' : ℕ} → a ≡ a' → b ≡ b' → c ≡ c' → d ≡ d' → e ≡ e' → f ≡ f' → g ≡ g' → h ≡ h'
+    → ◌≡◌ {A = List ℕ} (a ∷ b ∷ c ∷ d ∷ e ∷ f ∷ g ∷ h ∷ []) (a' ∷ b' ∷ c' ∷ d' ∷ e' ∷ f' ∷ g' ∷ h' ∷ [])
+octets_equal p q r s t u v w = rw (p, q, r, s, t, u, v, w) refl
+
+-- Turned round, they are the octets of each word, high octet first.
+words_turned : (first second : ℕ) → first < 2 ^ 32 → second < 2 ^ 32
+    → pick_l 0 (octets_of_words (first ∷ second ∷ []) ++ octets_of_words (first ∷ second ∷ [])) (3 ∷ 2 ∷ 1 ∷ 0 ∷ 7 ∷ 6 ∷ 5 ∷ 4 ∷ [])
+    ≡ to_be_bytes w32 first ++ to_be_bytes w32 second
+words_turned first second fits fits' =
+    let words = first ∷ second ∷ [] in
+    let octet : (j i : ℕ) → i < 4 → 4 * j + i < 8 → get_or (octets_of_words words) (4 * j + i) 0 ≡ get_or words j 0 / 256 ^ i % 256 =
+    λ j i part within. get_or_narrower (2 ^ 32) 4 256 8 words j i refl (fits, (fits', tt)) part within in
+    pick_l_left 0 (octets_of_words words) (octets_of_words words) 8 (3 ∷ 2 ∷ 1 ∷ 0 ∷ 7 ∷ 6 ∷ 5 ∷ 4 ∷ []) refl tt
+    ∙ octets_equal (octet 0 3 (omega arith) (omega arith)) (octet 0 2 (omega arith) (omega arith)) (octet 0 1 (omega arith) (omega arith))
+    (octet 0 0 (omega arith) (omega arith) ∙ ap (λ n. n % 256) (div-one first)) (octet 1 3 (omega arith) (omega arith)) (octet 1 2 (omega arith) (omega arith))
+    (octet 1 1 (omega arith) (omega arith)) (octet 1 0 (omega arith) (omega arith) ∙ ap (λ n. n % 256) (div-one second))
+
+-- Each half of a block is written in one half of its digits.
+half_digits : (a b c d e f g h : ℕ) (digits : List ℕ) → digits ≡ encode_lower (a ∷ b ∷ c ∷ d ∷ e ∷ f ∷ g ∷ h ∷ [])
+    → (pick_l 0 (digits ++ digits) (0 ∷ 1 ∷ 2 ∷ 3 ∷ 4 ∷ 5 ∷ 6 ∷ 7 ∷ []) ≡ encode_lower (a ∷ b ∷ c ∷ d ∷ []))
+    × (pick_l 0 (digits ++ digits) (8 ∷ 9 ∷ 10 ∷ 11 ∷ 12 ∷ 13 ∷ 14 ∷ 15 ∷ []) ≡ encode_lower (e ∷ f ∷ g ∷ h ∷ []))
 unfolding encode_with
-first_digits a b c d = refl
+half_digits a b c d e f g h digits is = (rw is refl, rw is refl)
+
+-- So the digits of a word are one half of those that are made of it and another.
+pub words_written : (first second : ℕ) (digits : List ℕ) → first < 2 ^ 32 → second < 2 ^ 32
+    → digits ≡ encode_lower (pick_l 0 (octets_of_words (first ∷ second ∷ []) ++ octets_of_words (first ∷ second ∷ [])) (3 ∷ 2 ∷ 1 ∷ 0 ∷ 7 ∷ 6 ∷ 5 ∷ 4 ∷ []))
+    → (pick_l 0 (digits ++ digits) (0 ∷ 1 ∷ 2 ∷ 3 ∷ 4 ∷ 5 ∷ 6 ∷ 7 ∷ []) ≡ encode_lower (to_be_bytes w32 first))
+    × (pick_l 0 (digits ++ digits) (8 ∷ 9 ∷ 10 ∷ 11 ∷ 12 ∷ 13 ∷ 14 ∷ 15 ∷ []) ≡ encode_lower (to_be_bytes w32 second))
+words_written first second digits fits fits' is =
+    half_digits _ _ _ _ _ _ _ _ digits (is ∙ ap encode_lower (words_turned first second fits fits'))
 
 -- One block more is written.
 pub block_more : (out octets whole : List ℕ) (i : ℕ) → out ++ encode_lower (drop i octets) ≡ whole

@@ -63,14 +63,23 @@ pub fn push_long(out: &mut Vec<u8>, number: u64) -> Result<(), AllocError>
     out.extend_from_slice(&digits.to_array())
 }
 
-/// The hex digits of a word. It is half a block.
+/// The hex digits of a word.
 #[inline(always)]
 pub(super) fn word_digits(word: u32) -> u8x8
     ensures { result ≡ hex_word word }
 {
-    let [first, second, third, fourth] = word.to_be_bytes();
-    let digits = digits_of(u8x8::from_array([first, second, third, fourth, 0, 0, 0, 0]));
-    digits.extract::<0, 8>()
+    words_digits(word, 0).0
+}
+
+/// The hex digits of two words, which go into a vector as a whole.
+#[inline(always)]
+pub(super) fn words_digits(first: u32, second: u32) -> (u8x8, u8x8)
+    ensures first { result.0 ≡ hex_word first }
+    ensures second { result.1 ≡ hex_word second }
+{
+    let octets = u32x2::from_array([first, second]).to_le_bytes();
+    let digits = digits_of(octets.swizzle([3, 2, 1, 0, 7, 6, 5, 4]));
+    (digits.extract::<0, 8>(), digits.extract::<8, 8>())
 }
 
 /// The hex digits of a block of octets.

@@ -76,9 +76,7 @@ impl Shown for Block {
     #[inline(always)]
     fn push_text(&self, out: &mut Vec<u8>) -> Result<(), AllocError> {
         let mut text = Tail::new();
-        text.put_word(self.dlsr);
-        text.put(b'/');
-        text.put_word(self.lsr);
+        text.put_words(self.lsr, b'/', self.dlsr);
         text.put(b'/');
         text.put_decimal(self.jitter);
         text.put(b'/');

@@ -4,8 +4,9 @@ ghost use Rattle.std.specs.Prelude.{◌≡◌, ◌+◌, ◌≤◌, ◌++◌, [],
 ghost use Rattle.std.specs.Fmt.{decimal, signed_decimal};
 ghost use Rattle.rtcp_text.specs.Text.{hex_word};
 
-use super::digits::word_digits;
+use super::digits::{word_digits, words_digits};
 use itoa::write_digits;
+use std::simd::prelude::*;
 
 /// The most octets of a text.
 const ROOM: usize = 80;
@@ -76,9 +77,36 @@ impl Tail {
             ≡ hex_word word ++ drop self.old.start self.old.octets }
         ensures start { self.new.start + 8 ≡ self.old.start }
     {
+        self.put_digits(word_digits(word));
+    }
+
+    /// Puts two words in front, as eight hex digits each, with an octet between them.
+    #[inline(always)]
+    pub(super) fn put_words(&mut self, first: u32, between: u8, second: u32)
+        requires room { 17 ≤ self.old.start }
+        requires within { self.old.start ≤ 80 }
+        ensures text { drop self.new.start self.new.octets
+            ≡ hex_word first ++ between ∷ (hex_word second ++ drop self.old.start self.old.octets) }
+        ensures start { self.new.start + 17 ≡ self.old.start }
+    {
+        let (first_digits, second_digits) = words_digits(first, second);
+        self.put_digits(second_digits);
+        self.put(between);
+        self.put_digits(first_digits);
+    }
+
+    /// Puts eight digits in front.
+    #[inline(always)]
+    fn put_digits(&mut self, digits: u8x8)
+        requires room { 8 ≤ self.old.start }
+        requires within { self.old.start ≤ 80 }
+        ensures text { drop self.new.start self.new.octets
+            ≡ digits ++ drop self.old.start self.old.octets }
+        ensures start { self.new.start + 8 ≡ self.old.start }
+    {
         let end = self.start;
         self.start -= 8;
-        word_digits(word).copy_to_slice(&mut self.octets[self.start..end]);
+        digits.copy_to_slice(&mut self.octets[self.start..end]);
     }
 
     /// Puts a number in front, in decimal with no leading zero.

@@ -1,12 +1,9 @@
-use Rattle.std.proofs.Common.{rules, ◌≡◌, ℕ, ◌-◌, ◌≤◌, List, ◌++◌, length, drop, sym, ap, ◌∙◌, arith}
+use Rattle.std.proofs.Common.{rules, ◌≡◌, ℕ, ◌-◌, ◌≤◌, List, ◌++◌, length, drop, sym, ◌∙◌, arith}
 use Rattle.std.proofs.lemmas.Simd.{put_chunk_whole}
 use lib.Lanes.{put_chunk}
 use borrow.Rule.Slice.PartMut.{mid_of, put_mid, mid_len}
-use Rattle.std.specs.Int.{w32, to_be_bytes}
-use Rattle.hex.specs.Hex.{lower_digits}
-use Rattle.hex.proofs.HexLemmas.{length-encode_with}
 use Rattle.rtcp_text.proofs.TailLemmas.{text_written}
-use Rattle.rtcp_text.proofs.text.tail.Tail.put_word.Goals as goal
+use Rattle.rtcp_text.proofs.text.tail.Tail.put_digits.Goals as goal
 
 -- what stands from a place on where digits were written up to another
 part_written : (xs digits : List ℕ) (a e : ℕ) → a ≤ e → e ≤ length xs → length digits ≡ e - a
@@ -17,5 +14,4 @@ part_written xs digits a e before within long =
 pub returns-clause-text : goal.returns-clause-text
 returns-clause-text c =
     let s = c.args.self.now.start in
-    let long : length c.word_digits.result ≡ s - (s - 8) = omega (arith, ap length c.word_digits.ensures, length-encode_with lower_digits (to_be_bytes w32 c.args.word)) in
-    rw (← c.word_digits.ensures) (part_written c.args.self.now.octets c.word_digits.result (s - 8) s (omega arith) (search rules) long)
+    part_written c.args.self.now.octets c.args.digits (s - 8) s (omega arith) (search rules) (omega (arith, c.fits-digits.0))
