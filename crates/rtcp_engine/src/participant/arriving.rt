@@ -1,6 +1,6 @@
 //! What a participant does with a datagram that it takes: it may change its identifier first (RFC 3550, 8.2).
 
-ghost use Rattle.std.specs.Prelude.{◌≡◌, ◌≤◌, ◌<◌, ◌-◌, ◌^◌, ℕ, List, None, length, true, OnErr};
+ghost use Rattle.std.specs.Prelude.{◌≡◌, ◌≤◌, ◌<◌, ◌-◌, ◌^◌, ℕ, List, None, Ok, length, true, false, OnErr};
 ghost use Rattle.rtcp_engine.specs.Acts.{arrived};
 ghost use Rattle.rtcp_engine.specs.Changes.{Session, changed_to, identifiers, is_about, is_taken as is_taken_of, new_identifier};
 ghost use Rattle.rtcp_engine.specs.Histories.{History, session_at};
@@ -37,54 +37,53 @@ impl<T: MemberTable> Participant<T> {
         }
     }
 
-    /// Takes a datagram, after a change of identifier if it brings one, or refuses it for its SSRC.
-    // Inlined, and a change kept out of line, which is rare.
+    /// Whether a datagram names the participant's SSRC.
+    // Inlined, as `Arrival::is_of`.
     #[inline(always)]
-    pub(super) fn arrive(
-        &mut self,
-        now: u64,
-        peer: u64,
-        w: u32,
-        arrival: &Arrival<'_>,
-        octets: &mut ArrayVec<u8, MAX_COMPOUND>,
-    ) -> Reply
+    pub(super) fn is_named_by(&self, arrival: &Arrival<'_>) -> bool
+        ensures { result ≡ is_about self.now.presence.setup.ssrc (datagram_of arrival.now) }
+    {
+        arrival.is_of(self.presence.ssrc())
+    }
+
+    /// Takes a datagram that does not name the participant's SSRC: it hands out nothing.
+    // Inlined, so that a call goes on with the datagram at hand, and writes its answer once, into its caller's
+    // room for that: what answers otherwise has returned before.
+    #[inline(always)]
+    pub(super) fn arrive_as_other(&mut self, now: u64, arrival: &Arrival<'_>) -> Told
+        requires other { is_about self.old.presence.setup.ssrc (datagram_of arrival.now) ≡ false }
         requires admitted { refusal_by now self.old ≡ None }
         requires in_order { Admits self.old.presence now }
         requires size { size_of arrival.now ≤ 65535 }
-        requires few { NamesFewer arrival.now }
-        ensures takes { Takes self.old (arrived now peer w (datagram_of arrival.now))
-            (reply_value octets.new.items result) self.new }
+        ensures takes { (peer w : ℕ) (room : List ℕ) → w < 2 ^ 32 →
+            Takes self.old (arrived now peer w (datagram_of arrival.now)) (Ok (told_value room result)) self.new }
+        ensures empty { result.out ≡ None }
         ensures within { KeepsCapacity self.new.presence }
-        ensures refused { OnErr result (self.new ≡ self.old) }
-        ensures untouched { kind_told result ≡ None → octets.new ≡ octets.old }
     {
-        if arrival.is_of(self.presence.ssrc()) {
-            return self.arrive_as_own(now, peer, w, arrival, octets);
-        }
         self.take_call(now);
         let others_changed = self.take(now, arrival);
-        Ok(self.told(Brought {
+        self.told(Brought {
             out: None,
             others_changed,
-        }))
+        })
     }
 
     /// Takes a datagram that names the participant's SSRC, after a change of that, or refuses it.
     #[cold]
-    fn arrive_as_own(
+    pub(super) fn arrive_as_own(
         &mut self,
         now: u64,
         peer: u64,
         w: u32,
-        arrival: &Arrival<'_>,
+        arrival: Arrival<'_>,
         octets: &mut ArrayVec<u8, MAX_COMPOUND>,
     ) -> Reply
-        requires own { is_about self.old.presence.setup.ssrc (datagram_of arrival.now) ≡ true }
+        requires own { is_about self.old.presence.setup.ssrc (datagram_of arrival) ≡ true }
         requires admitted { refusal_by now self.old ≡ None }
         requires in_order { Admits self.old.presence now }
-        requires size { size_of arrival.now ≤ 65535 }
-        requires few { NamesFewer arrival.now }
-        ensures takes { Takes self.old (arrived now peer w (datagram_of arrival.now))
+        requires size { size_of arrival ≤ 65535 }
+        requires few { NamesFewer arrival }
+        ensures takes { Takes self.old (arrived now peer w (datagram_of arrival.entry))
             (reply_value octets.new.items result) self.new }
         ensures within { KeepsCapacity self.new.presence }
         ensures refused { OnErr result (self.new ≡ self.old) }
@@ -93,10 +92,10 @@ impl<T: MemberTable> Participant<T> {
         if !self.changes.allows(peer) {
             return Err(Refusal::OwnSsrc);
         }
-        let ssrc = self.free_ssrc(w, arrival);
+        let ssrc = self.free_ssrc(w, &arrival);
         let out = self.change(peer, ssrc, octets);
         self.take_call(now);
-        let others_changed = self.take(now, arrival);
+        let others_changed = self.take(now, &arrival);
         let mut told = self.told(Brought {
             out,
             others_changed,
@@ -186,6 +185,8 @@ impl<T: MemberTable> Participant<T> {
     }
 
     /// The answer of a call that was taken, and brought this.
+    // Inlined, so that each call writes its answer once, where its caller keeps that.
+    #[inline(always)]
     pub(super) fn told(&self, brought: Brought) -> Told
         ensures exact { (octets : List ℕ) (life : Life) → IsAt self.now life → told_value octets result
             ≡ step_into self.now.presence.setup (out_with octets brought.out) brought.others_changed life }

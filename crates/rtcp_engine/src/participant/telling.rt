@@ -47,13 +47,17 @@ impl<T: MemberTable> Participant<T> {
         if let Some(refusal) = self.refusal(now) {
             return Err(refusal);
         }
-        match Compound::read(bytes) {
-            Ok(compound) => {
-                let arrival = Arrival::Rtcp(compound, bytes.len());
-                self.arrive(now, peer, w, &arrival, octets)
-            }
-            Err(fault) => Err(Refusal::Wire(fault)),
+        let compound = match Compound::read(bytes) {
+            Ok(compound) => compound,
+            Err(fault) => return Err(Refusal::Wire(fault)),
+        };
+        let arrival = Arrival::Rtcp(compound, bytes.len());
+        if self.is_named_by(&arrival) {
+            // Not returned at once: the compiler would keep every answer on the stack for this call.
+            let reply = self.arrive_as_own(now, peer, w, arrival, octets);
+            return reply;
         }
+        Ok(self.arrive_as_other(now, &arrival))
     }
 
     /// [`arrive_rtp`](Participant::arrive_rtp), where the BYE of an SSRC that is given up replaces what stood
@@ -79,10 +83,17 @@ impl<T: MemberTable> Participant<T> {
         if let Some(refusal) = self.refusal(now) {
             return Err(refusal);
         }
-        match RtpHead::read(bytes) {
-            Ok(head) => self.arrive(now, peer, w, &Arrival::Rtp(head), octets),
-            Err(fault) => Err(Refusal::Rtp(fault)),
+        let head = match RtpHead::read(bytes) {
+            Ok(head) => head,
+            Err(fault) => return Err(Refusal::Rtp(fault)),
+        };
+        let packet = Arrival::Rtp(head);
+        if self.is_named_by(&packet) {
+            // As in `arrive_rtcp_into`.
+            let reply = self.arrive_as_own(now, peer, w, packet, octets);
+            return reply;
         }
+        Ok(self.arrive_as_other(now, &packet))
     }
 
     /// [`sent_rtp`](Participant::sent_rtp), which never has a compound: so it takes no room for one.

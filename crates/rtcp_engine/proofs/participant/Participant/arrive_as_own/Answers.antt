@@ -28,7 +28,7 @@ may_is p h peer stands = ap (λ (changes : List Change). may_change (map (λ (ch
 pub returns-then-not-allows-clause-takes : goal.returns-then-not-allows-clause-takes
 returns-then-not-allows-clause-takes g c =
     let p = c.args.self.now in
-    let arrival = c.args.arrival.now in
+    let arrival = c.args.arrival in
     let listed = sym (ap (λ (x : ParticipantValue). may_change (map (λ (change : Change). change.peer) x.changes) c.args.peer) c.self.view_is) ∙ sym c.allows.ensures.exact ∙ c.if-not-allows.true in
     refuses p (arrived c.args.now c.args.peer c.args.w (datagram_of arrival)) OwnSsrc
     (λ h stands. refused_as_own p h c.args.now c.args.peer c.args.w arrival stands c.requires.admitted (is_own p h (datagram_of arrival) stands c.requires.own) (sym (may_is p h c.args.peer stands) ∙ listed)) c.ranges.w.fits
@@ -41,7 +41,7 @@ returns-clause-takes g c =
     let p = c.args.self.now in
     let mid = c.change-out.new.self in
     let q = c.take-others_changed.new.self in
-    let arrival = c.args.arrival.now in
+    let arrival = c.args.arrival in
     let act = arrived c.args.now c.args.peer c.args.w (datagram_of arrival) in
     let new : NewIdentifier = record { peer = c.args.peer; ssrc = c.free_ssrc-ssrc.result } in
     let octets = c.change-out.new.octets.items in

@@ -1,13 +1,11 @@
-use Rattle.std.proofs.Common.{◌∙◌, Result, Ok, Err, refl, sym, subst}
+use Rattle.std.proofs.Common.{◌∙◌, Result, Err, refl, sym, subst}
 use Rattle.rtcp_wire.specs.RtpHeads.{RtpValue}
 use Rattle.rtcp_wire.specs.declared.rtp.fault.RtpFault.{RtpFault}
 use Rattle.rtcp_engine.specs.declared.refusal.Refusal.TheVariants.{Rtp}
 use Rattle.rtcp_engine.specs.Acts.{arrived, rtp, rtp_came}
 use Rattle.rtcp_engine.specs.Promises.{Takes}
-use Rattle.rtcp_engine.specs.Views.{reply_value}
 use Rattle.rtcp_engine.proofs.Acting.{call_refused_by, refuses}
 use Rattle.rtcp_engine.proofs.Arriving.{fault_refused}
-use Rattle.rtcp_engine.proofs.Following.{few_in_head}
 use Rattle.rtcp_engine.proofs.LawLemmas.{one_reading-rtp_once}
 use Rattle.rtcp_engine.proofs.participant.Participant.arrive_rtp_into.Goals as goal
 
@@ -15,14 +13,6 @@ pub returns-in-Some-clause-takes : goal.returns-in-Some-clause-takes
 returns-in-Some-clause-takes g c reading is =
     let act = rtp_came c.args.now c.args.peer c.args.w reading in
     refuses c.args.self.now act c.in-Some.refusal (call_refused_by c.args.self.now act c.in-Some.refusal (sym c.refusal.ensures.exact ∙ c.in-Some.is)) c.ranges.w.fits
-
-pub arrive-requires-clause-few : goal.arrive-requires-clause-few
-arrive-requires-clause-few g c = few_in_head c.args.bytes.now c.in-Ok.head c.in-Ok.ensures.accepted
-
-pub returns-in-Ok-clause-takes : goal.returns-in-Ok-clause-takes
-returns-in-Ok-clause-takes g c reading is =
-    subst (λ (r : Result RtpValue RtpFault). Takes c.args.self.now (rtp_came c.args.now c.args.peer c.args.w r) (reply_value c.arrive.new.octets.items c.arrive.result) c.arrive.new.self) (one_reading-rtp_once c.args.bytes.now (Ok c.in-Ok.head) reading c.in-Ok.ensures.accepted is)
-    c.arrive.ensures.takes
 
 pub returns-in-Err-clause-takes : goal.returns-in-Err-clause-takes
 returns-in-Err-clause-takes g c reading is =
