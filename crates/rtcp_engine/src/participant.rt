@@ -48,8 +48,8 @@ pub(crate) enum Phase {
 /// what to send, and when to ask again.
 #[derive(Drop)]
 pub struct Participant<T: MemberTable> {
-    presence: Presence<T>,
     phase: Phase,
+    presence: Presence<T>,
     changes: Changes,
 }
 
