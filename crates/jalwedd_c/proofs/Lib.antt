@@ -4,3 +4,4 @@ pub mod Values
 mod Options
 mod Listing
 mod Turns
+mod Held

@@ -1,6 +1,6 @@
 //! The calls of a session: what came, what was sent, what time it is, and the leave.
 
-ghost use Rattle.std.specs.Prelude.{◌≡◌, ◌≢◌, List, None, Result, length};
+ghost use Rattle.std.specs.Prelude.{◌≡◌, ◌≢◌, List, Some, None, Result, length};
 ghost use Rattle.rtcp_wire.specs.declared.fault.WireFault.{WireFault as FirstFault};
 ghost use Rattle.rtcp_wire.specs.declared.rtp.fault.RtpFault.{RtpFault as HeadFault};
 ghost use Rattle.rtcp_wire.specs.Values.{RtcpPacket};
@@ -10,10 +10,12 @@ ghost use Rattle.rtcp_engine.specs.Answers.{answer_of, followed_by};
 ghost use Rattle.rtcp_engine.specs.Histories.{History};
 ghost use Rattle.rtcp_engine.specs.InTime.{IsOverdue};
 ghost use Rattle.rtcp_engine.specs.Spacing.{KeepsBounds};
+ghost use Rattle.rtcp_engine.specs.States.{StandsAt};
 ghost use Rattle.jalwedd_c.specs.Answers.{HandsOut, IsBlank, Shows, status_of};
 ghost use Rattle.jalwedd_c.specs.Handles.{KeepsWithin, LeadsTo};
 
 use crate::handle::Handle;
+use crate::session::Session;
 use crate::status::EMPTY;
 use crate::step::Step;
 use arrayvec::ArrayVec;
@@ -57,6 +59,45 @@ pub extern "C" fn jalwedd_arrive_rtcp(
     let Some(mut session) = handle.take(alloc) else {
         return empty(step);
     };
+    match session.participant.arrive_rtcp_told(now, datagram) {
+        Some(reply) => handle.put_back(session, &reply, &[], step, octets),
+        None => own_rtcp(handle, session, now, peer, word, datagram, step, octets),
+    }
+}
+
+/// An RTCP datagram came that names the participant's SSRC: with room for the BYE of that.
+// Out of line, so that no other datagram pays for the room.
+#[cold]
+#[inline(never)]
+fn own_rtcp(
+    handle: &mut Handle,
+    mut session: Box<Session>,
+    now: u64,
+    peer: u64,
+    word: u32,
+    datagram: &[u8],
+    step: &mut Step,
+    octets: &mut [u8; 1472],
+) -> u32
+    requires { handle.old.owned.held ≡ None }
+    ensures status { (history : History) (reading : Result (List RtcpPacket) FirstFault) →
+        StandsAt session.value.participant history → IsReading datagram.now reading →
+        result ≡ status_of (answer_of history (rtcp_came now peer word datagram.now reading)) }
+    ensures handed { (history : History) (reading : Result (List RtcpPacket) FirstFault) →
+        StandsAt session.value.participant history → IsReading datagram.now reading →
+        HandsOut step.new octets.old octets.new (answer_of history (rtcp_came now peer word datagram.now reading)) }
+    ensures stands { (history : History) (reading : Result (List RtcpPacket) FirstFault) →
+        StandsAt session.value.participant history → IsReading datagram.now reading →
+        LeadsTo handle.new.owned.held (followed_by history (rtcp_came now peer word datagram.now reading)) }
+    ensures shows { (history : History) (reading : Result (List RtcpPacket) FirstFault) →
+        StandsAt session.value.participant history → IsReading datagram.now reading →
+        Shows step.new (followed_by history (rtcp_came now peer word datagram.now reading)) }
+    ensures bounded { (history : History) (reading : Result (List RtcpPacket) FirstFault) →
+        StandsAt session.value.participant history → IsReading datagram.now reading →
+        KeepsBounds (followed_by history (rtcp_came now peer word datagram.now reading)) }
+    ensures within { KeepsWithin handle.new.owned.held }
+    ensures refused { result ≢ 0 → handle.new.owned.held ≡ Some session.value }
+{
     let mut room = ArrayVec::new();
     let reply = session
         .participant
@@ -100,6 +141,45 @@ pub extern "C" fn jalwedd_arrive_rtp(
     let Some(mut session) = handle.take(alloc) else {
         return empty(step);
     };
+    match session.participant.arrive_rtp_told(now, datagram) {
+        Some(reply) => handle.put_back(session, &reply, &[], step, octets),
+        None => own_rtp(handle, session, now, peer, word, datagram, step, octets),
+    }
+}
+
+/// An RTP datagram came that names the participant's SSRC: with room for the BYE of that.
+// Out of line, so that no other datagram pays for the room.
+#[cold]
+#[inline(never)]
+fn own_rtp(
+    handle: &mut Handle,
+    mut session: Box<Session>,
+    now: u64,
+    peer: u64,
+    word: u32,
+    datagram: &[u8],
+    step: &mut Step,
+    octets: &mut [u8; 1472],
+) -> u32
+    requires { handle.old.owned.held ≡ None }
+    ensures status { (history : History) (reading : Result RtpValue HeadFault) →
+        StandsAt session.value.participant history → IsRtpReading datagram.now reading →
+        result ≡ status_of (answer_of history (rtp_came now peer word reading)) }
+    ensures handed { (history : History) (reading : Result RtpValue HeadFault) →
+        StandsAt session.value.participant history → IsRtpReading datagram.now reading →
+        HandsOut step.new octets.old octets.new (answer_of history (rtp_came now peer word reading)) }
+    ensures stands { (history : History) (reading : Result RtpValue HeadFault) →
+        StandsAt session.value.participant history → IsRtpReading datagram.now reading →
+        LeadsTo handle.new.owned.held (followed_by history (rtp_came now peer word reading)) }
+    ensures shows { (history : History) (reading : Result RtpValue HeadFault) →
+        StandsAt session.value.participant history → IsRtpReading datagram.now reading →
+        Shows step.new (followed_by history (rtp_came now peer word reading)) }
+    ensures bounded { (history : History) (reading : Result RtpValue HeadFault) →
+        StandsAt session.value.participant history → IsRtpReading datagram.now reading →
+        KeepsBounds (followed_by history (rtp_came now peer word reading)) }
+    ensures within { KeepsWithin handle.new.owned.held }
+    ensures refused { result ≢ 0 → handle.new.owned.held ≡ Some session.value }
+{
     let mut room = ArrayVec::new();
     let reply = session
         .participant
@@ -139,7 +219,7 @@ pub extern "C" fn jalwedd_sent_rtp(
         return empty(step);
     };
     let reply = session.participant.sent_rtp_told(now, timestamp, size);
-    handle.put_back(session, &reply, &ArrayVec::new(), step, octets)
+    handle.put_back(session, &reply, &[], step, octets)
 }
 
 /// Asks at the moment `now` whether a report is due, or the BYE of a participant that backs off, with two random words:

@@ -1,6 +1,6 @@
 //! What a host keeps.
 
-ghost use Rattle.std.specs.Prelude.{◌≡◌, MatchOption, Some, None, option_map};
+ghost use Rattle.std.specs.Prelude.{◌≡◌, ◌≤◌, MatchOption, Some, None, length, option_map};
 ghost use Rattle.rtcp_members.specs.ListViews.{state_value};
 ghost use Rattle.rtcp_engine.specs.Histories.{History, life_at, setup_at};
 ghost use Rattle.rtcp_engine.specs.Lives.{TellsInLife, entries_in_life};
@@ -16,10 +16,8 @@ use crate::showing::{Handed, hand_out};
 use crate::source::before;
 use crate::status::TAKEN;
 use crate::step::Step;
-use arrayvec::ArrayVec;
 use rtcp_engine::Reply;
 use rtcp_members::SourceState;
-use rtcp_wire::MAX_COMPOUND;
 use std::alloc::Global;
 use std::mem;
 
@@ -65,14 +63,15 @@ impl Handle {
         &mut self,
         session: Box<Session>,
         reply: &Reply,
-        room: &ArrayVec<u8, MAX_COMPOUND>,
+        room: &[u8],
         step: &mut Step,
         octets: &mut [u8; 1472],
     ) -> u32
-        requires { self.old.owned.held ≡ None }
+        requires vacant { self.old.owned.held ≡ None }
+        requires room { length room.now ≤ 1472 }
         ensures held { self.new.owned.held ≡ Some session.value }
-        ensures status { result ≡ status_of (reply_value room.now.items reply.now) }
-        ensures handed { HandsOut step.new octets.old octets.new (reply_value room.now.items reply.now) }
+        ensures status { result ≡ status_of (reply_value room.now reply.now) }
+        ensures handed { HandsOut step.new octets.old octets.new (reply_value room.now reply.now) }
         ensures shown { (history : History) → LeadsTo self.new.owned.held history → Shows step.new history }
     {
         let handed = hand_out(reply, room, octets);

@@ -5,9 +5,7 @@ ghost use Rattle.rtcp_engine.specs.Views.{reply_value};
 ghost use Rattle.jalwedd_c.specs.Answers.{IsHanded, kind_of, status_of};
 
 use crate::status::{TAKEN, of_refusal};
-use arrayvec::ArrayVec;
 use rtcp_engine::{OutKind, Reply};
-use rtcp_wire::MAX_COMPOUND;
 
 /// What a call handed out, and its status.
 #[derive(Clone, Copy)]
@@ -36,13 +34,10 @@ impl Handed {
 }
 
 /// Copies the compound that a reply tells of, if it tells of one, to the start of the host's octets.
-pub(crate) fn hand_out(
-    reply: &Reply,
-    room: &ArrayVec<u8, MAX_COMPOUND>,
-    octets: &mut [u8; 1472],
-) -> Handed
-    ensures status { result.status ≡ status_of (reply_value room.now.items reply.now) }
-    ensures handed { IsHanded result octets.old octets.new (reply_value room.now.items reply.now) }
+pub(crate) fn hand_out(reply: &Reply, room: &[u8], octets: &mut [u8; 1472]) -> Handed
+    requires { length room.now ≤ 1472 }
+    ensures status { result.status ≡ status_of (reply_value room.now reply.now) }
+    ensures handed { IsHanded result octets.old octets.new (reply_value room.now reply.now) }
 {
     match reply {
         Ok(told) => {
@@ -79,11 +74,11 @@ fn number_of(kind: OutKind) -> u32
 }
 
 /// Copies a compound to the start of the host's octets, and returns its size.
-fn copy_out(room: &ArrayVec<u8, MAX_COMPOUND>, octets: &mut [u8; 1472]) -> u32
-    ensures size { result ≡ length room.now.items }
-    ensures octets { octets.new ≡ room.now.items ++ drop (length room.now.items) octets.old }
+fn copy_out(bytes: &[u8], octets: &mut [u8; 1472]) -> u32
+    requires { length bytes.now ≤ 1472 }
+    ensures size { result ≡ length bytes.now }
+    ensures octets { octets.new ≡ bytes.now ++ drop (length bytes.now) octets.old }
 {
-    let bytes = room.as_slice();
     octets[..bytes.len()].copy_from_slice(bytes);
     bytes.len() as u32
 }

@@ -31,7 +31,7 @@
 //!
 //! Each answer has room for a compound, 1.5 KB. A host with little stack keeps that room itself, and calls
 //! [`tick_into`](Participant::tick_into) and its like: a compound is written there, and a [`Told`] says what
-//! it is.
+//! it is. An arrival without a compound needs no room: [`arrive_rtp_told`](Participant::arrive_rtp_told).
 //!
 //! A call that is refused (`Refusal`) changes nothing. What each call answers is defined over all that the
 //! participant was told, in `specs/` (`Histories`, `Ticks`, `Lives`, `Answers`); `laws` has what holds of these

@@ -2,12 +2,13 @@
 //! of its size is handed on. `octets` changes only where the reply says what was written: a refusal leaves it as
 //! it was, and so does a call without a compound.
 
-ghost use Rattle.std.specs.Prelude.{◌≡◌, ℕ, List, None, Result, IfOk, IsTrue, OnErr, is_some};
+ghost use Rattle.std.specs.Prelude.{◌≡◌, ◌<◌, ◌^◌, ℕ, List, None, Result, length, true, IfOk, IfSome, IsTrue, OnErr, is_some};
 ghost use Rattle.rtcp_wire.specs.declared.fault.WireFault.{WireFault as Fault};
 ghost use Rattle.rtcp_wire.specs.declared.rtp.fault.RtpFault.{RtpFault as HeadFault};
 ghost use Rattle.rtcp_wire.specs.Values.{RtcpPacket};
 ghost use Rattle.rtcp_wire.specs.RtpHeads.{RtpValue};
-ghost use Rattle.rtcp_engine.specs.Acts.{rtcp_came, rtp_came, rtp_sent, ticked, left, IsReading, IsRtpReading};
+ghost use Rattle.rtcp_engine.specs.Acts.{rtcp, rtcp_came, rtp, rtp_came, rtp_sent, ticked, left, IsReading, IsRtpReading};
+ghost use Rattle.rtcp_engine.specs.Changes.{is_about};
 ghost use Rattle.rtcp_engine.specs.Histories.{History};
 ghost use Rattle.rtcp_engine.specs.InTime.{IsOverdue};
 ghost use Rattle.rtcp_engine.specs.Promises.{Takes};
@@ -60,6 +61,39 @@ impl<T: MemberTable> Participant<T> {
         Ok(self.arrive_as_other(now, &arrival))
     }
 
+    /// [`arrive_rtcp`](Participant::arrive_rtcp) of a datagram that does not name the participant's own SSRC.
+    /// That never has a compound: so it takes no room for one, nor a word for a new SSRC. `None` where the
+    /// datagram names the own SSRC: then the participant is unchanged, and `arrive_rtcp_into` takes or refuses
+    /// the datagram.
+    ///
+    /// # Errors
+    ///
+    /// The first of E1 to E5 that applies. Then the participant is unchanged.
+    pub fn arrive_rtcp_told(&mut self, now: u64, bytes: &[u8]) -> Option<Reply>
+        ensures takes { (peer w : ℕ) (room : List ℕ) (reading : Result (List RtcpPacket) Fault) → w < 2 ^ 32 →
+            IsReading bytes.now reading → IfSome result (λ reply.
+            Takes self.old (rtcp_came now peer w bytes.now reading) (reply_value room reply) self.new) }
+        ensures empty { IfSome result (λ reply. kind_told reply ≡ None) }
+        ensures own { (reading : Result (List RtcpPacket) Fault) → IsReading bytes.now reading → result ≡ None →
+            is_about self.old.presence.setup.ssrc (rtcp (length bytes.now) reading) ≡ true }
+        ensures untaken { result ≡ None → self.new ≡ self.old }
+        ensures within { KeepsCapacity self.new.presence }
+        ensures refused { IfSome result (λ reply. OnErr reply (self.new ≡ self.old)) }
+    {
+        if let Some(refusal) = self.refusal(now) {
+            return Some(Err(refusal));
+        }
+        let compound = match Compound::read(bytes) {
+            Ok(compound) => compound,
+            Err(fault) => return Some(Err(Refusal::Wire(fault))),
+        };
+        let arrival = Arrival::Rtcp(compound, bytes.len());
+        if self.is_named_by(&arrival) {
+            return None;
+        }
+        Some(Ok(self.arrive_as_other(now, &arrival)))
+    }
+
     /// [`arrive_rtp`](Participant::arrive_rtp), where the BYE of an SSRC that is given up replaces what stood
     /// in `octets`.
     ///
@@ -94,6 +128,39 @@ impl<T: MemberTable> Participant<T> {
             return reply;
         }
         Ok(self.arrive_as_other(now, &packet))
+    }
+
+    /// [`arrive_rtp`](Participant::arrive_rtp) of a packet that does not come from the participant's own SSRC.
+    /// That never has a compound: so it takes no room for one, nor a word for a new SSRC. `None` where the packet
+    /// comes from the own SSRC: then the participant is unchanged, and `arrive_rtp_into` takes or refuses the
+    /// packet.
+    ///
+    /// # Errors
+    ///
+    /// The first of E1 to E4 and E6 that applies. Then the participant is unchanged.
+    pub fn arrive_rtp_told(&mut self, now: u64, bytes: &[u8]) -> Option<Reply>
+        ensures takes { (peer w : ℕ) (room : List ℕ) (reading : Result RtpValue HeadFault) → w < 2 ^ 32 →
+            IsRtpReading bytes.now reading → IfSome result (λ reply.
+            Takes self.old (rtp_came now peer w reading) (reply_value room reply) self.new) }
+        ensures empty { IfSome result (λ reply. kind_told reply ≡ None) }
+        ensures own { (reading : Result RtpValue HeadFault) → IsRtpReading bytes.now reading → result ≡ None →
+            is_about self.old.presence.setup.ssrc (rtp reading) ≡ true }
+        ensures untaken { result ≡ None → self.new ≡ self.old }
+        ensures within { KeepsCapacity self.new.presence }
+        ensures refused { IfSome result (λ reply. OnErr reply (self.new ≡ self.old)) }
+    {
+        if let Some(refusal) = self.refusal(now) {
+            return Some(Err(refusal));
+        }
+        let head = match RtpHead::read(bytes) {
+            Ok(head) => head,
+            Err(fault) => return Some(Err(Refusal::Rtp(fault))),
+        };
+        let packet = Arrival::Rtp(head);
+        if self.is_named_by(&packet) {
+            return None;
+        }
+        Some(Ok(self.arrive_as_other(now, &packet)))
     }
 
     /// [`sent_rtp`](Participant::sent_rtp), which never has a compound: so it takes no room for one.
