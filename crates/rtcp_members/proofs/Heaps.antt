@@ -1,19 +1,19 @@
 -- A heap of entries that is searched, and into which an entry is put.
-use Rattle.std.proofs.Common.{◌≡◌, ◌<◌, ◌≤◌, ◌+◌, ◌-◌, ◌==◌, ◌++◌, ℕ, true, false, cond, List, [], ◌∷◌, length, take, drop, set, slice_index_or, inl, inr, arith, refl, sym, ap, subst, ◌∙◌}
+use Rattle.std.proofs.Common.{◌≡◌, ◌<◌, ◌≤◌, ◌+◌, ◌-◌, ◌==◌, ◌++◌, ℕ, suc, true, false, cond, List, [], ◌∷◌, length, take, drop, set, slice_index_or, inl, inr, arith, refl, sym, ap, subst, ◌∙◌}
 use Rattle.std.specs.List.{All, insert, sum_by}
 use Rattle.std.proofs.lemmas.Bool.{cases_eq, cases_lt}
 use Rattle.std.proofs.lemmas.Bool.Decides.{nat_tests}
-use Rattle.std.proofs.lemmas.List.{length-set, length-map, length_push, take-map, drop-map, map-append, take-append-le, get_or-map, get_or-set_same, get_or-set_other, get_or_append_left, get_or_at, get_or_push}
+use Rattle.std.proofs.lemmas.List.{length-set, length-map, length_push, length-append, take-map, drop-map, map-append, take_at, take-append-le, get_or-map, get_or-set_same, get_or-set_other, get_or_append_left, get_or_at, get_or_push}
 use Rattle.std.proofs.lemmas.List.Sums.{sum_by-cons, sum_by-append, sum_by-insert}
-use Rattle.std.proofs.lemmas.List.Elements.{All-head, All-tail, All-cons, All-append, All-take, All-drop, All-weaker, All-same, All-from_get_or}
+use Rattle.std.proofs.lemmas.List.Elements.{All-nil, All-head, All-tail, All-cons, All-append, All-take, All-drop, All-weaker, All-same}
 use Rattle.std.proofs.lemmas.List.Edits.{length-insert}
 use Rattle.rtcp_members.specs.declared.entry.Entry.{Entry}
 use Rattle.rtcp_members.specs.declared.cells.Slot.{Slot}
 use Rattle.rtcp_members.specs.ListViews.{IsPlaceOf}
 use Rattle.rtcp_members.specs.SortedViews.{IsRising, IsGapFor}
-use Rattle.rtcp_members.proofs.Pairs.{take_inserted}
-use Rattle.rtcp_members.specs.Heaps.{no_slot, no_entry, entry_in, picked, place_at, IsKeyed, IsHeap, IsPut}
-use Rattle.rtcp_members.specs.HeapLaws.{has_place, picked_same, places_differ}
+use Rattle.rtcp_members.proofs.Pairs.{take_inserted, behind}
+use Rattle.rtcp_members.specs.Heaps.{no_slot, no_entry, entry_in, picked, IsKeyed, IsHeap, IsPut}
+use Rattle.rtcp_members.specs.HeapLaws.{has_place, picked_same}
 use Rattle.rtcp_members.proofs.Rising.{rises}
 use Rattle.rtcp_members.proofs.Searching.{ssrc_found}
 
@@ -132,39 +132,61 @@ put_behind entries slots used room e next place heap is at_end =
       taken = refl;
     }
 
-pub put_free : (entries : List Entry) (slots rest : List Slot) (used room : ℕ) (free : Slot) (e : Entry) → IsHeap entries slots used room → slots ≡ rest ++ free ∷ [] → used < length slots
-    → IsPut entries (set entries free.place e) slots rest used free.place e
-put_free entries slots rest used room free e heap is fewer =
-    let longer : length slots ≡ length rest + 1 = ap length is ∙ length_push rest free in
-    let count : (p : ℕ) → sum_by (has_place p) slots ≡ sum_by (has_place p) rest + sum_by (has_place p) (free ∷ []) = λ p. ap (sum_by (has_place p)) is ∙ sum_by-append (has_place p) rest (free ∷ []) in
+away_from : (place : ℕ) (slots : List Slot) → sum_by (has_place place) slots ≡ 0 → All (λ (slot : Slot). slot.place ≡ place → ⊥) slots
+away_from place [] none = All-nil (λ (slot : Slot). slot.place ≡ place → ⊥)
+away_from place (slot ∷ slots) none =
+    let sum : sum_by (has_place place) (slot ∷ slots) ≡ has_place place slot + sum_by (has_place place) slots = sum_by-cons (has_place place) slot slots in
+    All-cons (λ (s : Slot). s.place ≡ place → ⊥) slot slots (λ same. here same (omega (arith, none, sum))) (away_from place slots (omega (arith, none, sum)))
+  where
+    here : slot.place ≡ place → has_place place slot ≡ 0 → ⊥
+    here same zero =
+        let equal : (slot.place == place) ≡ true = grind (arith, nat_tests, same) in
+        let one : has_place place slot ≡ 1 = ap {B = ℕ} (λ b. cond b 1 0) equal in
+        absurd (omega (arith, zero, one))
+
+pub put_free : (entries : List Entry) (slots front back : List Slot) (used room : ℕ) (free : Slot) (e : Entry) → IsHeap entries slots used room → slots ≡ front ++ free ∷ back → used ≤ length front
+    → IsPut entries (set entries free.place e) slots (front ++ back) used free.place e
+put_free entries slots front back used room free e heap is fewer =
+    let longer : length slots ≡ length front + suc (length back) = ap length is ∙ length-append front (free ∷ back) in
+    let others : length (front ++ back) ≡ length front + length back = length-append front back in
     let itself : (free.place == free.place) ≡ true = grind (arith, nat_tests) in
-    let one : sum_by (has_place free.place) (free ∷ []) ≡ 1 = sum_by-cons (has_place free.place) free [] ∙ ap {B = ℕ} (λ b. cond b 1 0 + 0) itself in
-    let last : slice_index_or slots (length rest) no_slot ≡ free = ap (λ xs. slice_index_or xs (length rest) no_slot) is ∙ get_or_at rest free [] no_slot (length rest) refl in
-    let early : (k : ℕ) → k < length rest → slice_index_or slots k no_slot ≡ slice_index_or rest k no_slot = λ k within. ap (λ xs. slice_index_or xs k no_slot) is ∙ get_or_append_left rest (free ∷ []) no_slot k within in
-    let there : free.place < length entries = subst (λ (s : Slot). s.place < length entries) last (heap.places.within (length rest) no_slot (omega (arith, longer))) in
-    let most : (p : ℕ) → sum_by (has_place p) slots ≤ 1 = heap.places.apart in
-    let old_within : (k : ℕ) → k < length rest → place_at rest k < length entries = λ k within. subst (λ (s : Slot). s.place < length entries) (early k within) (heap.places.within k no_slot (omega (arith, within, longer))) in
-    let differs : (k : ℕ) → k < length rest → place_at rest k ≡ free.place → ⊥ =
-    λ k within same. places_differ slots (length rest) k heap.places.apart (λ equal. absurd (omega (arith, equal, within))) (omega (arith, longer)) (omega (arith, within, longer))
-    (ap (λ (s : Slot). s.place) (early k within) ∙ same ∙ ap (λ (s : Slot). s.place) (sym last)) in
+    let one : has_place free.place free ≡ 1 = ap {B = ℕ} (λ b. cond b 1 0) itself in
+    let count : (p : ℕ) → sum_by (has_place p) slots ≡ sum_by (has_place p) (front ++ back) + has_place p free = λ p. counted p in
+    let none : sum_by (has_place free.place) (front ++ back) ≡ 0 = none_left (count free.place) one (heap.places.apart free.place) in
+    let within : All (λ (s : Slot). s.place < length entries) (front ++ free ∷ back) = subst (λ xs. All (λ (s : Slot). s.place < length entries) xs) is heap.places.within in
+    let read : slice_index_or (front ++ free ∷ back) (length front) no_slot ≡ free = get_or_at front free back no_slot (length front) refl in
+    let there : free.place < length entries = subst (λ (s : Slot). s.place < length entries) read (within (length front) no_slot (omega (arith, ap length is, longer))) in
+    let same_length : length (set entries free.place e) ≡ length entries = length-set entries free.place e in
     record {
-      same = All-from_get_or (λ (slot : Slot). entry_in (set entries free.place e) slot ≡ entry_in entries slot) rest no_slot (λ k within. get_or-set_other entries free.place (place_at rest k) e no_entry (differs k within));
+      same = All-weaker (λ (slot : Slot). slot.place ≡ free.place → ⊥) (λ (slot : Slot). entry_in (set entries free.place e) slot ≡ entry_in entries slot)
+          (λ slot unlike. get_or-set_other entries free.place slot.place e no_entry unlike) (front ++ back) (away_from free.place (front ++ back) none);
       there = get_or-set_same entries free.place e no_entry there;
       places = record {
-        within = All-from_get_or (λ (slot : Slot). slot.place < length (set entries free.place e)) rest no_slot (λ k within. omega (arith, old_within k within, length-set entries free.place e));
-        apart = λ p. fewer_there p (count p) (most p);
+        within = All-weaker (λ (s : Slot). s.place < length entries) (λ (s : Slot). s.place < length (set entries free.place e)) (λ slot less. omega (arith, less, same_length)) (front ++ back)
+            (All-append (λ (s : Slot). s.place < length entries) front back
+            (All-same (λ (s : Slot). s.place < length entries) front (take (length front) (front ++ free ∷ back)) (sym (take_at front (free ∷ back) (length front) refl)) (All-take (λ (s : Slot). s.place < length entries) (length front) (front ++ free ∷ back) within))
+            (All-same (λ (s : Slot). s.place < length entries) back (drop (suc (length front)) (front ++ free ∷ back)) (sym (behind front free back)) (All-drop (λ (s : Slot). s.place < length entries) (suc (length front)) (front ++ free ∷ back) within)));
+        apart = λ p. fewer_there p (count p) (heap.places.apart p);
       };
-      within = omega (arith, there, length-set entries free.place e);
-      free = none_left (count free.place) one (most free.place);
-      in_use = omega (arith, fewer, longer);
-      all = omega (arith, longer, heap.all, length-set entries free.place e);
-      taken = sym (ap (take used) is ∙ take-append-le used rest (free ∷ []) (omega (arith, fewer, longer)));
+      within = omega (arith, there, same_length);
+      free = none;
+      in_use = omega (arith, fewer, others);
+      all = omega (arith, longer, others, heap.all, same_length);
+      taken = take-append-le used front back fewer ∙ sym (ap (take used) is ∙ take-append-le used front (free ∷ back) fewer);
     }
   where
-    fewer_there : (p : ℕ) → sum_by (has_place p) slots ≡ sum_by (has_place p) rest + sum_by (has_place p) (free ∷ []) → sum_by (has_place p) slots ≤ 1 → sum_by (has_place p) rest ≤ 1
+    counted : (p : ℕ) → sum_by (has_place p) slots ≡ sum_by (has_place p) (front ++ back) + has_place p free
+    counted p =
+        let whole : sum_by (has_place p) slots ≡ sum_by (has_place p) front + sum_by (has_place p) (free ∷ back) = ap (sum_by (has_place p)) is ∙ sum_by-append (has_place p) front (free ∷ back) in
+        let rest : sum_by (has_place p) (free ∷ back) ≡ has_place p free + sum_by (has_place p) back = sum_by-cons (has_place p) free back in
+        let apart : sum_by (has_place p) (front ++ back) ≡ sum_by (has_place p) front + sum_by (has_place p) back = sum_by-append (has_place p) front back in
+        omega (arith, whole, rest, apart)
+
+    fewer_there : (p : ℕ) → sum_by (has_place p) slots ≡ sum_by (has_place p) (front ++ back) + has_place p free → sum_by (has_place p) slots ≤ 1 → sum_by (has_place p) (front ++ back) ≤ 1
     fewer_there p count most = omega (arith, count, most)
 
-    none_left : sum_by (has_place free.place) slots ≡ sum_by (has_place free.place) rest + sum_by (has_place free.place) (free ∷ []) → sum_by (has_place free.place) (free ∷ []) ≡ 1 → sum_by (has_place free.place) slots ≤ 1 → sum_by (has_place free.place) rest ≡ 0
+    none_left : sum_by (has_place free.place) slots ≡ sum_by (has_place free.place) (front ++ back) + has_place free.place free → has_place free.place free ≡ 1 → sum_by (has_place free.place) slots ≤ 1
+        → sum_by (has_place free.place) (front ++ back) ≡ 0
     none_left count one most = omega (arith, count, one, most)
 
 -- ---- Its slot

@@ -1,12 +1,13 @@
 -- The slots of cells, two in each.
-use Rattle.std.proofs.Common.{◌≡◌, ◌<◌, ◌≤◌, ◌+◌, ◌-◌, ◌*◌, ◌++◌, ℕ, zero, suc, List, [], ◌∷◌, length, take, drop, set, slice_index_or, arith, refl, sym, ap, ◌∙◌}
+use Rattle.std.proofs.Common.{◌≡◌, ◌<◌, ◌≤◌, ◌+◌, ◌-◌, ◌*◌, ◌++◌, ℕ, zero, suc, min, inl, inr, List, [], ◌∷◌, length, take, drop, set, slice_index_or, arith, refl, sym, ap, ◌∙◌}
 use Rattle.std.specs.List.{insert}
-use Rattle.std.proofs.lemmas.List.{append_assoc, length-map, length-set, length-take-le, map-set, set-append_left, get_or-take, take-append-drop, take_at, take-append-le, take-take, take_more, drop_more, set_at, drop-set-lt, take_more_set, length_push, get_or-append_right, get_or-drop}
+use Rattle.std.proofs.lemmas.List.{append-nil, append_assoc, length-map, length-set, length-take-le, map-set, set-append_left, get_or-take, take-append-drop, take_at, take-append-le, take-take, take_all, drop_all, drop-take, take_more, drop_more, set_at, drop-set-lt, take_more_set, length_push, get_or-append_right, get_or-drop}
+use Rattle.std.proofs.lemmas.Bool.{cases_lt}
 use Rattle.std.proofs.lemmas.List.Edits.{length-insert, get_or-insert_above, insert-append_left}
 use Rattle.rtcp_members.specs.declared.entry.Entry.{Entry}
 use Rattle.rtcp_members.specs.declared.cells.Cell.{Cell}
 use Rattle.rtcp_members.specs.declared.cells.Slot.{Slot}
-use Rattle.rtcp_members.specs.Heaps.{no_slot, entries_in, pairs_in, slots_in, front_slots}
+use Rattle.rtcp_members.specs.Heaps.{no_slot, entries_in, pairs_in, slots_in, front_slots, spared_slots}
 use Rattle.rtcp_members.specs.HeapLaws.{pairs_same}
 
 -- ---- The slots of one cell
@@ -119,47 +120,128 @@ as_many cells next same = sym (length-map next (λ (c : Cell). c.entry)) ∙ ap 
 pub length_slots : (cells : List Cell) → length (slots_in cells) ≡ length cells
 length_slots cells = let all = length_pairs cells in length-take-le (length cells) (pairs_in cells) (omega (arith, all))
 
+take_past : {X : Type 0} (xs ys : List X) (m k : ℕ) → m ≡ length xs → take (m + k) (xs ++ ys) ≡ xs ++ take k ys
+take_past [] ys m k as_long =
+    let rest : m + k ≡ k = omega (arith, as_long) in
+    ap (λ n. take n ys) rest
+take_past (x ∷ xs) ys m k as_long =
+    let more : m + k ≡ suc (length xs + k) = omega (arith, as_long) in
+    ap (λ n. take n (x ∷ xs ++ ys)) more ∙ ap (λ rest. x ∷ rest) (take_past xs ys (length xs) k refl)
+
 pub take_inserted : {X : Type 0} (xs : List X) (m at : ℕ) (x : X) → at ≤ m → m ≤ length xs → take (m + 1) (insert xs at x) ≡ insert (take m xs) at x
 take_inserted xs m at x in_range within =
     ap (λ ys. take (m + 1) (insert ys at x)) (sym (take-append-drop m xs))
     ∙ ap (take (m + 1)) (insert-append_left (take m xs) (drop m xs) at x (omega (arith, in_range, length-take-le m xs within)))
     ∙ take_at (insert (take m xs) at x) (drop m xs) (m + 1) (length-insert (take m xs) at x (omega (arith, in_range, length-take-le m xs within)) ∙ ap (λ n. n + 1) (length-take-le m xs within))
 
--- The slots of an index after a shift.
-pub slots_shifted : (cells shifted : List Cell) (rank until : ℕ) (slot : Slot) → rank < length cells → until ≤ length cells → length cells ≤ 2 * until → length shifted ≡ length cells
-    → pairs_in shifted ≡ take (2 * until) (insert (pairs_in cells) rank slot) ++ drop (2 * until) (pairs_in cells)
-    → slots_in shifted ≡ insert (front_slots cells) rank slot
-slots_shifted cells shifted rank until slot within few all same is =
-    let pairs = pairs_in cells in
-    let count = length_pairs cells in
-    let n = length cells in
-    let longer : length (insert pairs rank slot) ≡ length pairs + 1 = length-insert pairs rank slot (omega (arith, count, within)) in
-    let as_long : length (take (2 * until) (insert pairs rank slot)) ≡ 2 * until = length-take-le (2 * until) (insert pairs rank slot) (omega (arith, longer, count, few)) in
-    let one_more : n ≡ n - 1 + 1 = omega (arith, within) in
-    (λ i. take (same i) (is i))
-    ∙ take-append-le n (take (2 * until) (insert pairs rank slot)) (drop (2 * until) pairs) (omega (arith, as_long, all))
-    ∙ take-take n (2 * until) (insert pairs rank slot) all
-    ∙ ap (λ m. take m (insert pairs rank slot)) one_more
-    ∙ take_inserted pairs (n - 1) rank slot (omega (arith, within)) (omega (arith, count))
+-- A slot of an index is read.
+pub slot_read : (cells : List Cell) (rank : ℕ) → rank < length cells → slice_index_or (pairs_in cells) rank no_slot ≡ slice_index_or (slots_in cells) rank no_slot
+slot_read cells rank within = sym (get_or-take (length cells) (pairs_in cells) rank no_slot within)
 
--- They are those but the last, and the last.
-pub slots_front : (cells : List Cell) → 0 < length cells → slots_in cells ≡ front_slots cells ++ slice_index_or (pairs_in cells) (length cells - 1) no_slot ∷ []
-slots_front cells some =
+-- what follows one of a list
+pub behind : {X : Type 0} (front : List X) (x : X) (back : List X) → drop (suc (length front)) (front ++ x ∷ back) ≡ back
+behind [] x back = refl
+behind (y ∷ front) x back = behind front x back
+
+-- The slots but one before the rank `end`, or but the last.
+pub spared_early : (end : ℕ) (cells : List Cell) → end ≤ length cells → 0 < end → spared_slots end cells ≡ take (end - 1) (slots_in cells) ++ drop end (slots_in cells)
+spared_early end cells early some =
+    let shorter : end - 1 ≤ length cells - 1 = omega (arith, early, some) in
+    ap (λ xs. xs ++ drop end (slots_in cells)) (take-take (end - 1) (length cells - 1) (pairs_in cells) shorter ∙ sym (take-take (end - 1) (length cells) (pairs_in cells) (omega (arith, early))))
+
+pub spared_late : (end : ℕ) (cells : List Cell) → length cells ≤ end → 0 < length cells → spared_slots end cells ≡ front_slots cells
+spared_late end cells late some =
     let count = length_pairs cells in
-    let one_more : length cells ≡ length cells - 1 + 1 = omega (arith, some) in
-    ap (λ n. take n (pairs_in cells)) one_more ∙ take_more (pairs_in cells) (length cells - 1) no_slot (omega (arith, count, some))
+    let as_long : length (front_slots cells) ≡ length cells - 1 = length-take-le (length cells - 1) (pairs_in cells) (omega (arith, count)) in
+    (λ i. take_all (end - 1) (front_slots cells) (omega (arith, as_long, late, some)) i ++ drop_all end (slots_in cells) (omega (arith, length_slots cells, late)) i)
+    ∙ append-nil (front_slots cells)
+
+pub spared_at : (end rank : ℕ) (cells : List Cell) → 0 < end → 0 < length cells → rank + 1 ≡ min end (length cells) → spared_slots end cells ≡ take rank (slots_in cells) ++ drop (rank + 1) (slots_in cells)
+spared_at end rank cells some filled is = elim (cases_lt end (length cells)) [
+  | inl early ↦
+      let same : end ≡ rank + 1 = omega (arith, is, early) in
+      let before : rank + 1 - 1 ≡ rank = omega arith in
+      ap (λ n. spared_slots n cells) same ∙ spared_early (rank + 1) cells (omega (arith, same, early)) (omega arith) ∙ ap (λ n. take n (slots_in cells) ++ drop (rank + 1) (slots_in cells)) before
+  | inr late ↦
+      let same : length cells ≡ rank + 1 = omega (arith, is, late) in
+      let before : length cells - 1 ≡ rank = omega (arith, same) in
+      spared_late end cells late filled ∙ sym (take-take (length cells - 1) (length cells) (pairs_in cells) (omega arith)) ∙ ap (λ n. take n (slots_in cells)) before
+      ∙ sym (append-nil (take rank (slots_in cells))) ∙ ap (λ xs. take rank (slots_in cells) ++ xs) (sym (drop_all (rank + 1) (slots_in cells) (omega (arith, length_slots cells, same))))
+]
+
+-- The slots of an index after a shift.
+module _ (cells shifted : List Cell) (rank until : ℕ) (slot : Slot) (within : rank < length cells) (before : rank < 2 * until) (few : until ≤ length cells) (same : length shifted ≡ length cells)
+    (is : pairs_in shifted ≡ take (2 * until) (insert (pairs_in cells) rank slot) ++ drop (2 * until) (pairs_in cells)) where
+  abbrev pairs : List Slot
+  pairs = pairs_in cells
+
+  abbrev n : ℕ
+  n = length cells
+
+  abbrev end : ℕ
+  end = 2 * until
+
+  count : length pairs ≡ 2 * n
+  count = length_pairs cells
+
+  as_long : length (take end (insert pairs rank slot)) ≡ end
+  as_long =
+      let longer : length (insert pairs rank slot) ≡ length pairs + 1 = length-insert pairs rank slot (omega (arith, count, within)) in
+      length-take-le end (insert pairs rank slot) (omega (arith, longer, count, few))
+
+  to_the_last : n ≤ end → slots_in shifted ≡ insert (front_slots cells) rank slot
+  to_the_last all =
+      let one_more : n ≡ n - 1 + 1 = omega (arith, within) in
+      (λ i. take (same i) (is i))
+      ∙ take-append-le n (take end (insert pairs rank slot)) (drop end pairs) (omega (arith, as_long, all))
+      ∙ take-take n end (insert pairs rank slot) all
+      ∙ ap (λ m. take m (insert pairs rank slot)) one_more
+      ∙ take_inserted pairs (n - 1) rank slot (omega (arith, within)) (omega (arith, count))
+
+  to_the_end : end ≤ n → slots_in shifted ≡ insert (take (end - 1) (slots_in cells) ++ drop end (slots_in cells)) rank slot
+  to_the_end early =
+      let rest : n ≡ end + (n - end) = omega (arith, early) in
+      let one_more : end ≡ end - 1 + 1 = omega (arith, before) in
+      let front : take (end - 1) pairs ≡ take (end - 1) (slots_in cells) = sym (take-take (end - 1) n pairs (omega (arith, early))) in
+      let shorter : length (take (end - 1) (slots_in cells)) ≡ end - 1 = length-take-le (end - 1) (slots_in cells) (omega (arith, length_slots cells, early)) in
+      let cut : take end (insert pairs rank slot) ≡ insert (take (end - 1) (slots_in cells)) rank slot =
+      ap (λ m. take m (insert pairs rank slot)) one_more ∙ take_inserted pairs (end - 1) rank slot (omega (arith, before)) (omega (arith, count, early)) ∙ ap (λ xs. insert xs rank slot) front in
+      let tail : take (n - end) (drop end pairs) ≡ drop end (slots_in cells) = sym (drop-take end (n - end) pairs) ∙ ap (λ m. drop end (take m pairs)) (sym rest) in
+      (λ i. take (same i) (is i))
+      ∙ ap (λ m. take m (take end (insert pairs rank slot) ++ drop end pairs)) rest
+      ∙ take_past (take end (insert pairs rank slot)) (drop end pairs) end (n - end) (sym as_long)
+      ∙ (λ i. cut i ++ tail i)
+      ∙ sym (insert-append_left (take (end - 1) (slots_in cells)) (drop end (slots_in cells)) rank slot (omega (arith, shorter, before)))
+
+  pub slots_shifted : slots_in shifted ≡ insert (spared_slots (2 * until) cells) rank slot
+  slots_shifted = elim (cases_lt (length cells) (2 * until)) [
+    | inl late ↦ to_the_last (omega (arith, late)) ∙ ap (λ slots. insert slots rank slot) (sym (spared_late end cells (omega (arith, late)) (omega (arith, within))))
+    | inr early ↦ to_the_end early ∙ ap (λ slots. insert slots rank slot) (sym (spared_early end cells early (omega (arith, before))))
+  ]
+
+-- They are those before one of them, that one, and the others.
+pub slots_parted : (cells : List Cell) (rank : ℕ) → rank < length cells → slots_in cells ≡ take rank (slots_in cells) ++ slice_index_or (pairs_in cells) rank no_slot ∷ drop (rank + 1) (slots_in cells)
+slots_parted cells rank within =
+    sym (take-append-drop rank (slots_in cells))
+    ∙ ap (λ xs. take rank (slots_in cells) ++ xs) (drop_more (slots_in cells) rank no_slot (omega (arith, within, length_slots cells)))
+    ∙ ap (λ s. take rank (slots_in cells) ++ s ∷ drop (rank + 1) (slots_in cells)) (sym (slot_read cells rank within))
 
 pairs_pushed : (cells : List Cell) (cell : Cell) → pairs_in (cells ++ cell ∷ []) ≡ pairs_in cells ++ cell.even ∷ cell.odd ∷ []
 pairs_pushed [] cell = refl
 pairs_pushed (x ∷ cells) cell = ap (λ slots. x.even ∷ x.odd ∷ slots) (pairs_pushed cells cell)
 
 -- A new cell is for one slot more.
-pub front_pushed : (cells : List Cell) (cell : Cell) → front_slots (cells ++ cell ∷ []) ≡ slots_in cells
+front_pushed : (cells : List Cell) (cell : Cell) → front_slots (cells ++ cell ∷ []) ≡ slots_in cells
 front_pushed cells cell =
     let count = length_pairs cells in
     let longer = length_push cells cell in
     let as_many : length (cells ++ cell ∷ []) - 1 ≡ length cells = omega (arith, longer) in
     (λ i. take (as_many i) (pairs_pushed cells cell i)) ∙ take-append-le (length cells) (pairs_in cells) (cell.even ∷ cell.odd ∷ []) (omega (arith, count))
+
+pub spared_pushed : (end : ℕ) (cells : List Cell) (cell : Cell) → length cells < end → spared_slots end (cells ++ cell ∷ []) ≡ slots_in cells
+spared_pushed end cells cell late =
+    let longer = length_push cells cell in
+    spared_late end (cells ++ cell ∷ []) (omega (arith, longer, late)) (omega (arith, longer)) ∙ front_pushed cells cell
 
 -- What is read where nothing was written yet.
 pub unwritten : {X : Type 0} (new old : List X) (m k : ℕ) (d : X) → m ≤ k → m ≤ length new → slice_index_or (take m new ++ drop m old) k d ≡ slice_index_or old k d
@@ -180,10 +262,6 @@ slots_written cells next rank slot within entries is =
     let count = length_pairs cells in
     (λ i. take (as_many cells next entries i) (is i)) ∙ take_written (pairs_in cells) (length cells) rank slot within (omega (arith, count))
 
--- It is read.
-pub slot_read : (cells : List Cell) (rank : ℕ) → rank < length cells → slice_index_or (pairs_in cells) rank no_slot ≡ slice_index_or (slots_in cells) rank no_slot
-slot_read cells rank within = sym (get_or-take (length cells) (pairs_in cells) rank no_slot within)
-
 -- An entry is written over that of a cell which was read.
 pub pairs_kept : (cells : List Cell) (place : ℕ) (e : Entry) (cell : Cell) → cell ≡ slice_index_or cells place cell → pairs_in (set cells place (record cell { entry = e })) ≡ pairs_in cells
 pairs_kept cells place e cell read = ap (λ (x : Cell). pairs_in (set cells place (record x { entry = e }))) read ∙ pairs_same cells place e cell
@@ -191,8 +269,9 @@ pairs_kept cells place e cell read = ap (λ (x : Cell). pairs_in (set cells plac
 pub slots_kept : (cells : List Cell) (place : ℕ) (e : Entry) (cell : Cell) → cell ≡ slice_index_or cells place cell → slots_in (set cells place (record cell { entry = e })) ≡ slots_in cells
 slots_kept cells place e cell read = λ i. take (length-set cells place (record cell { entry = e }) i) (pairs_kept cells place e cell read i)
 
-pub front_kept : (cells : List Cell) (place : ℕ) (e : Entry) (cell : Cell) → cell ≡ slice_index_or cells place cell → front_slots (set cells place (record cell { entry = e })) ≡ front_slots cells
-front_kept cells place e cell read = λ i. take (length-set cells place (record cell { entry = e }) i - 1) (pairs_kept cells place e cell read i)
+pub spared_kept : (end : ℕ) (cells : List Cell) (place : ℕ) (e : Entry) (cell : Cell) → cell ≡ slice_index_or cells place cell → spared_slots end (set cells place (record cell { entry = e })) ≡ spared_slots end cells
+spared_kept end cells place e cell read =
+    λ i. take (end - 1) (take (length-set cells place (record cell { entry = e }) i - 1) (pairs_kept cells place e cell read i)) ++ drop end (slots_kept cells place e cell read i)
 
 pub entry_written : (cells : List Cell) (place : ℕ) (cell : Cell) → entries_in (set cells place cell) ≡ set (entries_in cells) place cell.entry
 entry_written cells place cell = map-set (λ (c : Cell). c.entry) cells place cell

@@ -1,5 +1,5 @@
 -- Entries that stay where they are, and an index of them by rising SSRC.
-use Rattle.std.specs.Prelude.{ℕ, ◌≡◌, ◌<◌, ◌≤◌, ◌==◌, ◌+◌, ◌-◌, false, List, [], ◌∷◌, length, map, take, All, slice_index_or}
+use Rattle.std.specs.Prelude.{ℕ, ◌≡◌, ◌<◌, ◌≤◌, ◌==◌, ◌+◌, ◌-◌, ◌++◌, false, List, [], ◌∷◌, length, map, take, drop, All, slice_index_or}
 use Rattle.std.specs.List.{count_by}
 use Rattle.rtcp_members.specs.declared.entry.Entry.{Entry}
 use Rattle.rtcp_members.specs.declared.cells.Cell.{Cell}
@@ -41,6 +41,10 @@ slots_in cells = take (length cells) (pairs_in cells)
 -- the same without the last
 abbrev pub front_slots : List Cell → List Slot
 front_slots cells = take (length cells - 1) (pairs_in cells)
+
+-- the same without the last before the rank `end`, or the last of all
+abbrev pub spared_slots : ℕ → List Cell → List Slot
+spared_slots end cells = take (end - 1) (front_slots cells) ++ drop end (slots_in cells)
 
 -- the entry of a slot
 abbrev pub entry_in : List Entry → Slot → Entry

@@ -2,7 +2,7 @@
 
 ghost use Rattle.std.specs.Prelude.{◌≡◌, [], ◌*◌, ◌≤◌, ◌<◌, IfOk, IfErr, IfSome, length, take, slice_index_or, Some, refl};
 ghost use Rattle.std.specs.Vec as vectors;
-ghost use Rattle.rtcp_members.specs.Heaps.{IsHeap, IsPut, no_slot, entries_in, pairs_in, slots_in, front_slots, picked, place_at};
+ghost use Rattle.rtcp_members.specs.Heaps.{IsHeap, IsPut, no_slot, entries_in, pairs_in, slots_in, spared_slots, picked, place_at};
 ghost use Rattle.rtcp_members.specs.Looks.{Sees};
 ghost use Rattle.rtcp_members.specs.SortedViews.{IsRising};
 ghost use Rattle.rtcp_members.specs.HeapLaws.{with_entry_at, written_at, sound_at};
@@ -49,15 +49,16 @@ impl Heap {
         })
     }
 
-    /// Lays an entry in a free cell, or else in a new one. Returns its place, which has no slot then, but for the
-    /// last.
+    /// Lays an entry in a free cell, or else in a new one. Returns its place, which no slot has but the last before
+    /// the rank `end`, or the last of all.
     #[inline(always)]
-    fn put(&mut self, entry: Entry) -> u32
+    fn put(&mut self, end: usize, entry: Entry) -> u32
         requires sound { IsHeap (entries_in self.old.cells.items) (slots_in self.old.cells.items) self.old.used
             (vectors.vec_capacity self.old.cells) }
         requires room { self.old.used < vectors.vec_capacity self.old.cells }
+        requires end { self.old.used < end }
         ensures put { IsPut (entries_in self.old.cells.items) (entries_in self.new.cells.items)
-            (slots_in self.old.cells.items) (front_slots self.new.cells.items) self.old.used result entry }
+            (slots_in self.old.cells.items) (spared_slots end self.new.cells.items) self.old.used result entry }
         ensures used { self.new.used ≡ self.old.used }
         ensures room { vectors.vec_capacity self.new.cells ≡ vectors.vec_capacity self.old.cells }
         ensures in_place { vectors.vec_ptr self.new.cells ≡ vectors.vec_ptr self.old.cells }
@@ -67,7 +68,7 @@ impl Heap {
             self.cells.push_reserved(Cell::of(entry));
             return count as u32;
         }
-        let place = slot_at(&self.cells, count - 1).place;
+        let place = slot_at(&self.cells, end.min(count) - 1).place;
         let cell = &mut self.cells[place as usize];
         cell.entry = entry;
         place
@@ -204,10 +205,11 @@ impl Storage for Heap {
         &mut cell.entry
     }
 
+    // The slots behind those in use stay where they are, but for the one that the new slot takes the place of.
     fn insert(&mut self, at: usize, entry: Entry) {
         let ssrc = entry.ssrc;
-        let place = self.put(entry);
-        let until = self.cells.len().div_ceil(2);
+        let until = self.used / 2 + 1;
+        let place = self.put(2 * until, entry);
         shift(&mut self.cells, at, until, Slot { ssrc, place });
         self.used += 1;
     }
