@@ -1,7 +1,7 @@
 -- The parts of a report, put together.
 use Rattle.std.proofs.Common.{◌≡◌, ℕ, ◌+◌, ◌<◌, ◌≤◌, List, [], ◌∷◌, All, length, take, sum_by, Option, Some, None, option_map, arith, refl, sym, ap, subst, ◌∙◌}
 use Rattle.std.specs.Option.{ForSome, option_to_list}
-use Rattle.std.proofs.lemmas.List.{length-take}
+use Rattle.std.proofs.lemmas.List.{length-take, take_all}
 use Rattle.std.proofs.lemmas.List.Elements.{All-cons, All-nil, All-same}
 use Rattle.rtcp_wire.specs.Values.{ReportBlock, ItemValue, RtcpPacket}
 use Rattle.rtcp_wire.specs.Grammar.{IsAccepted}
@@ -10,7 +10,7 @@ use Rattle.rtcp_members.specs.Tables.{TableValue}
 use Rattle.rtcp_members.specs.Pending.{EntryRow, first_ssrc, pending, blocks_of, after_blocks, last_reported}
 use Rattle.rtcp_report.specs.declared.sender.Sender.{Sender}
 use Rattle.rtcp_report.specs.Reports.{SentValue, Reporter, cname_item, packets_with}
-use Rattle.rtcp_report.specs.Sizes.{first_report_size, item_size, report_size, fitting, reported_rows, report_of}
+use Rattle.rtcp_report.specs.Sizes.{first_report_size, item_size, report_size, reported_rows, report_of}
 use Rattle.rtcp_report.specs.Gathered.{IsWritten}
 use Rattle.rtcp_report.specs.Views.{items_of, reporter_with, sent_value}
 use Rattle.rtcp_report.proofs.ReportSizes.{packets_length}
@@ -84,17 +84,20 @@ none_pending : (rows : List EntryRow) → first_ssrc rows ≡ None → rows ≡ 
 none_pending [] none = refl
 none_pending (row ∷ rows) none = absurd cc
 
-pub empty_report : (limit t : ℕ) (last : Option ℕ) (table : TableValue) (given reporter : Reporter) (octets : List ℕ) → given ≡ reporter → report_size given 0 ≤ limit → first_ssrc (pending last table) ≡ None
-    → octets ≡ written_all (packets_with given []) → IsAccepted octets (packets_with given []) → IsReport reporter limit t last table octets table last
-empty_report limit t last table given reporter octets same fits none are back =
-    let rows : reported_rows reporter limit last table ≡ [] = ap (fitting reporter limit) (none_pending (pending last table) none) in
-    let packets : packets_with given [] ≡ report_of reporter limit t last table = (λ i. packets_with (same i) []) ∙ sym (ap (λ (r : List EntryRow). packets_with reporter (blocks_of t r)) rows) in
-    let size : length octets ≡ report_size given 0 = ap (λ (o : List ℕ). length o) are ∙ packets_length given [] in
+pub none_waits : (most : ℕ) (last : Option ℕ) (table : TableValue) → first_ssrc (pending last table) ≡ None → take most (pending last table) ≡ []
+none_waits most last table none = ap (take most) (none_pending (pending last table) none) ∙ take_all most [] (omega arith)
+
+pub no_room : (most : ℕ) (last : Option ℕ) (table : TableValue) → most ≡ 0 → take most (pending last table) ≡ []
+no_room most last table none = ap (λ n. take n (pending last table)) none
+
+pub without_blocks : (most t : ℕ) (last : Option ℕ) (table : TableValue) (given : Reporter) (octets : List ℕ) → take most (pending last table) ≡ [] → octets ≡ written_all (packets_with given []) → IsAccepted octets (packets_with given [])
+    → IsWritten given most t last table [] octets table last
+without_blocks most t last table given octets rows are back =
     record {
-      octets_are = are ∙ ap (λ (p : List RtcpPacket). written_all p) packets;
-      within = omega (arith, size, fits);
-      size = size ∙ (λ i. report_size (same i) 0) ∙ sym (ap (λ (r : List EntryRow). report_size reporter (length r)) rows);
-      reads_back = subst (IsAccepted octets) packets back;
+      blocks_are = sym (ap (blocks_of t) rows);
+      count = sym (ap (λ (r : List EntryRow). length r) rows);
+      octets_are = are;
+      reads_back = back;
       content = sym (ap (λ (r : List EntryRow). after_blocks r table) rows);
       cursor_is = sym (ap (last_reported last) rows);
     }

@@ -101,12 +101,17 @@ pub fn write_report<T: MemberTable>(
 {
     let description = Description::new(sender.cname, extra);
     let items = description.items();
-    let first = table.next_with_news(*cursor);
+    let most = most_blocks(sender, items, limit);
+    // Where no block fits, the table is not searched.
+    let first = if most == 0 {
+        None
+    } else {
+        table.next_with_news(*cursor)
+    };
     if first.is_none() {
         write(sender, items, &[], octets);
         return;
     }
-    let most = most_blocks(sender, items, limit);
     write_with_blocks(
         sender,
         table,

@@ -42,13 +42,16 @@ pub(crate) fn gather<T: MemberTable>(
         ≡ last_reported cursor.old (take turn.most (pending cursor.old (T.content table.old))) }
 {
     blocks.clear();
-    let mut next = turn.first;
-    'sources: for _ in 0..turn.most {
+    'sources: for at in 0..turn.most {
+        let next = if at == 0 {
+            turn.first
+        } else {
+            table.next_with_news(*cursor)
+        };
         let Some(ssrc) = next else {
             break;
         };
         blocks.push(table.block_of(ssrc, t));
         *cursor = Some(ssrc);
-        next = table.next_with_news(*cursor);
     }
 }
