@@ -35,6 +35,8 @@ pub fn push_signed(out: &mut Vec<u8>, number: i32) -> Result<(), AllocError>
 pub fn push_octets(out: &mut Vec<u8>, octets: &[u8]) -> Result<(), AllocError>
     ensures { OnOk result (out.new.items ≡ out.old.items ++ encode_lower octets.now) }
 {
+    // Memory is asked for once.
+    out.reserve(octets.len().saturating_mul(2))?;
     let mut done = 0;
     'front: while octets.len() - done >= BLOCK {
         let digits = digits_of(u8x8::from_slice(&octets[done..]));
