@@ -87,11 +87,11 @@ impl<T: MemberTable> Participant<T> {
             Ok(compound) => compound,
             Err(fault) => return Some(Err(Refusal::Wire(fault))),
         };
-        let arrival = Arrival::Rtcp(compound, bytes.len());
-        if self.is_named_by(&arrival) {
+        let datagram = Arrival::Rtcp(compound, bytes.len());
+        if self.is_named_by(&datagram) {
             return None;
         }
-        Some(Ok(self.arrive_as_other(now, &arrival)))
+        Some(Ok(self.arrive_as_other(now, &datagram)))
     }
 
     /// [`arrive_rtp`](Participant::arrive_rtp), where the BYE of an SSRC that is given up replaces what stood
@@ -156,11 +156,11 @@ impl<T: MemberTable> Participant<T> {
             Ok(head) => head,
             Err(fault) => return Some(Err(Refusal::Rtp(fault))),
         };
-        let packet = Arrival::Rtp(head);
-        if self.is_named_by(&packet) {
+        let media = Arrival::Rtp(head);
+        if self.is_named_by(&media) {
             return None;
         }
-        Some(Ok(self.arrive_as_other(now, &packet)))
+        Some(Ok(self.arrive_as_other(now, &media)))
     }
 
     /// [`sent_rtp`](Participant::sent_rtp), which never has a compound: so it takes no room for one.
