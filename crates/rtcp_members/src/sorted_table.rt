@@ -35,7 +35,9 @@ const SHORT_LIST: u64 = 64;
 /// reads no entry. No call allocates.
 #[derive(Drop)]
 pub struct Sorted<S: Storage> {
-    capacity: u32,
+    capacity: u16,
+    /// Where the last source that was looked for stands, or would.
+    last_place: u16,
     rate: u32,
     entries: S,
     counts: Counts,
@@ -44,8 +46,6 @@ pub struct Sorted<S: Storage> {
     last_ssrc: u32,
     /// Up to which moments a check changes nothing.
     bounds: Bounds,
-    /// Where the last source that was looked for stands, or would.
-    last_place: usize,
 }
 
 impl<S: Storage> Model for Sorted<S> {
@@ -105,13 +105,13 @@ impl<S: Storage> Sorted<S> {
         ensures { result ≡ no_members capacity rate }
     {
         Sorted {
-            capacity,
+            capacity: capacity as u16,
+            last_place: 0,
             rate,
             entries,
             counts: Counts::none(),
             last_ssrc: 0,
             bounds: Bounds::none(),
-            last_place: 0,
         }
     }
 
@@ -150,21 +150,22 @@ impl<S: Storage> MemberTable for Sorted<S> {
         self.bounds.lower(fact, t);
         let ssrc = fact.ssrc();
         let hint = if ssrc == self.last_ssrc {
-            self.last_place
+            usize::from(self.last_place)
         } else {
             usize::MAX
         };
         self.last_ssrc = ssrc;
         match search(&self.entries, hint, ssrc) {
             Ok(at) => {
-                self.last_place = at;
+                self.last_place = at as u16;
                 let (entries, counts) = (&mut self.entries, &mut self.counts);
                 apply_at(entries, counts, at, fact, t, self.rate)
             }
             Err(gap) => {
-                self.last_place = gap;
+                self.last_place = gap as u16;
                 let (entries, counts) = (&mut self.entries, &mut self.counts);
-                let place = admit(entries, counts, gap, self.capacity, fact, t, self.rate);
+                let capacity = u32::from(self.capacity);
+                let place = admit(entries, counts, gap, capacity, fact, t, self.rate);
                 Applied {
                     place,
                     counted: false,
@@ -190,7 +191,8 @@ impl<S: Storage> MemberTable for Sorted<S> {
     }
 
     fn holds(&self, ssrc: u32) -> bool {
-        search(&self.entries, self.last_place, ssrc).is_ok()
+        let last_place = usize::from(self.last_place);
+        search(&self.entries, last_place, ssrc).is_ok()
     }
 
     fn entries(&self) -> u32 {
@@ -209,8 +211,8 @@ impl<S: Storage> MemberTable for Sorted<S> {
         if self.counts.due == 0 {
             return None;
         }
-        let entries = &self.entries;
-        let first = first_above(entries, self.last_place, after);
+        let (entries, last_place) = (&self.entries, usize::from(self.last_place));
+        let first = first_above(entries, last_place, after);
         match first_due(entries, first, entries.len()) {
             Some(ssrc) => Some(ssrc),
             None => first_due(entries, 0, first),
@@ -218,15 +220,16 @@ impl<S: Storage> MemberTable for Sorted<S> {
     }
 
     fn block_of(&mut self, ssrc: u32, t: u64) -> Block {
-        let at = search_behind(&self.entries, self.last_place, ssrc).unwrap();
-        self.last_place = at;
+        let last_place = usize::from(self.last_place);
+        let at = search_behind(&self.entries, last_place, ssrc).unwrap();
+        self.last_place = at as u16;
         let (entries, due) = (&mut self.entries, &mut self.counts.due);
         report_at(entries, due, at, ssrc, t)
     }
 
     fn source_above(&self, after: Option<u32>) -> Option<SourceState> {
-        let entries = &self.entries;
-        state_at(entries, first_above(entries, self.last_place, after))
+        let (entries, last_place) = (&self.entries, usize::from(self.last_place));
+        state_at(entries, first_above(entries, last_place, after))
     }
 
     fn source_from(&self, after: Option<u32>, place: &mut usize) -> Option<SourceState> {

@@ -1,6 +1,7 @@
 -- The list that the call worked on is the table's, and a source without an entry counts no packet.
-use Rattle.std.proofs.Common.{rules, arith, ◌∙◌, ap, sym}
+use Rattle.std.proofs.Common.{ℕ, rules, arith, ◌∙◌, ap, sym, subst}
 use Rattle.rtcp_wire.specs.Facts.{subject}
+use Rattle.rtcp_members.specs.SortedViews.{IsSortedTable}
 use Rattle.rtcp_members.specs.Tables.{counted, counted_of}
 use Rattle.rtcp_members.proofs.Standing.{all_lower}
 use Rattle.rtcp_members.proofs.Searching.{none_in_gap}
@@ -33,9 +34,9 @@ pub invariant_of-self-in-Err : goal.invariant_of-self-in-Err
 invariant_of-self-in-Err g c =
     let stood = all_lower c.lower.new.self c.self.inside.bounds c.lower.ensures.no_later (g.S.Storage.items c.self.inside.entries) c.self.invariant.standing in
     record {
-      sorted = c.admit-place.ensures.sorted;
+      sorted = subst (λ (n : ℕ). IsSortedTable n c.admit-place.new.counts.members c.admit-place.new.counts.senders (g.S.Storage.items c.admit-place.new.entries)) c.from-capacity.ensures c.admit-place.ensures.sorted;
       its_due = c.admit-place.ensures.its_due;
-      roomy = c.admit-place.ensures.room;
+      roomy = omega (arith, c.from-capacity.ensures, c.admit-place.ensures.room);
       standing = c.admit-place.ensures.stand c.lower.new.self c.lower.ensures.up_to stood;
       sound = c.admit-place.ensures.sound;
     }
