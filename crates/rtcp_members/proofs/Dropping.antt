@@ -105,6 +105,10 @@ module _ (test : Entry → Bool) (change : Entry → Entry) (items entries : Lis
   walked : retain_mut test change (picked entries (drop at (take used slots))) ≡ cond (test read) (change read ∷ after) after
   walked = ap (λ xs. retain_mut test change (picked entries xs)) rest
 
+  -- What stays so far is as it was.
+  pub front_items : picked next (take kept slots) ≡ picked entries (take kept slots)
+  front_items = picked_same entries next (take kept slots) front_same
+
   -- The entry is dropped.
   pub one_dropped : test read ≡ false → IsDropping test change items next slots used kept (at + 1)
   one_dropped fails =
@@ -156,6 +160,13 @@ module _ (test : Entry → Bool) (change : Entry → Entry) (items entries : Lis
         behind swapped
         ∙ ap (take (used - (at + 1))) (ap (drop (at + 1)) is ∙ drop-set-lt (at + 1) (set slots kept slot) at first (omega arith) ∙ drop-set-lt (at + 1) slots kept slot (omega (arith, so.order)))
         ∙ sym (behind slots)
+
+    -- What stays so far is one entry more.
+    pub front_more : picked next (take (kept + 1) swapped) ≡ picked entries (take kept slots) ++ e ∷ []
+    front_more =
+        ap (picked next) front
+        ∙ map-append (entry_in next) (take kept slots) (slot ∷ [])
+        ∙ (λ i. front_items i ++ written i ∷ [])
 
     pub one_kept : test read ≡ true → e ≡ change read → IsDropping test change items next swapped used (kept + 1) (at + 1)
     one_kept passes changed =

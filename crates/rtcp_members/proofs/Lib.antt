@@ -3,6 +3,7 @@ mod Counting
 mod Naming
 mod Capacity
 mod Staying
+mod Measuring
 mod Moving
 mod Following
 mod Packets

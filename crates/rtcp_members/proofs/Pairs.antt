@@ -243,12 +243,6 @@ spared_pushed end cells cell late =
     let longer = length_push cells cell in
     spared_late end (cells ++ cell ∷ []) (omega (arith, longer, late)) (omega (arith, longer)) ∙ front_pushed cells cell
 
--- What is read where nothing was written yet.
-pub unwritten : {X : Type 0} (new old : List X) (m k : ℕ) (d : X) → m ≤ k → m ≤ length new → slice_index_or (take m new ++ drop m old) k d ≡ slice_index_or old k d
-unwritten new old m k d from within =
-    let rest : m + (k - m) ≡ k = omega (arith, from) in
-    get_or-append_right (take m new) (drop m old) m k d (length-take-le m new within) from ∙ get_or-drop m old (k - m) d ∙ ap (λ n. slice_index_or old n d) rest
-
 take_written : {X : Type 0} (xs : List X) (n i : ℕ) (x : X) → i < n → n ≤ length xs → take n (set xs i x) ≡ set (take n xs) i x
 take_written xs n i x early within =
     let as_long = length-take-le n xs within in
@@ -256,11 +250,21 @@ take_written xs n i x early within =
     ∙ ap (take n) (set-append_left (take n xs) (drop n xs) i x (omega (arith, early, as_long)))
     ∙ take_at (set (take n xs) i x) (drop n xs) n (length-set (take n xs) i x ∙ as_long)
 
--- A slot of an index is written.
-pub slots_written : (cells next : List Cell) (rank : ℕ) (slot : Slot) → rank < length cells → entries_in next ≡ entries_in cells → pairs_in next ≡ set (pairs_in cells) rank slot → slots_in next ≡ set (slots_in cells) rank slot
-slots_written cells next rank slot within entries is =
+-- Two slots of an index are written.
+pub slots_exchanged : (cells next : List Cell) (i j : ℕ) (x y : Slot) → i < length cells → j < length cells → entries_in next ≡ entries_in cells → pairs_in next ≡ set (set (pairs_in cells) i x) j y
+    → slots_in next ≡ set (set (slots_in cells) i x) j y
+slots_exchanged cells next i j x y low high entries is =
     let count = length_pairs cells in
-    (λ i. take (as_many cells next entries i) (is i)) ∙ take_written (pairs_in cells) (length cells) rank slot within (omega (arith, count))
+    let as_long = length-set (pairs_in cells) i x in
+    (λ k. take (as_many cells next entries k) (is k))
+    ∙ take_written (set (pairs_in cells) i x) (length cells) j y high (omega (arith, count, as_long))
+    ∙ ap (λ slots. set slots j y) (take_written (pairs_in cells) (length cells) i x low (omega (arith, count)))
+
+-- What is read where nothing was written yet.
+pub unwritten : {X : Type 0} (new old : List X) (m k : ℕ) (d : X) → m ≤ k → m ≤ length new → slice_index_or (take m new ++ drop m old) k d ≡ slice_index_or old k d
+unwritten new old m k d from within =
+    let rest : m + (k - m) ≡ k = omega (arith, from) in
+    get_or-append_right (take m new) (drop m old) m k d (length-take-le m new within) from ∙ get_or-drop m old (k - m) d ∙ ap (λ n. slice_index_or old n d) rest
 
 -- An entry is written over that of a cell which was read.
 pub pairs_kept : (cells : List Cell) (place : ℕ) (e : Entry) (cell : Cell) → cell ≡ slice_index_or cells place cell → pairs_in (set cells place (record cell { entry = e })) ≡ pairs_in cells

@@ -5,7 +5,7 @@ use Rattle.rtcp_wire.specs.declared.fact.Fact.TheVariants.{Heard, Told, Named, G
 use Rattle.rtcp_members.specs.declared.bounds.Bounds.{Bounds}
 use Rattle.rtcp_members.specs.declared.counts.Counts.{Counts}
 use Rattle.rtcp_members.specs.declared.entry.Entry.{Entry}
-use Rattle.rtcp_members.specs.Entries.{EntryValue, is_sender}
+use Rattle.rtcp_members.specs.Entries.{EntryValue, is_member, is_sender}
 use Rattle.rtcp_members.specs.Pending.{is_due}
 use Rattle.rtcp_members.specs.ListViews.{entry_value, tally_of}
 use Rattle.rtcp_members.specs.SortedViews.{IsSortedTable}
@@ -46,6 +46,13 @@ pub record IsKept (capacity room : ℕ) (counts : Counts) (bounds : Bounds) (ent
   pub roomy : capacity ≤ room
   pub standing : AllStandBy bounds entries
   pub sound : is_sound
+
+-- Counts and bounds of entries.
+pub record IsMeasured (counts : Counts) (bounds : Bounds) (entries : List Entry) : Type 0 where
+  pub members : counts.members ≡ tally_of is_member entries
+  pub senders : counts.senders ≡ tally_of is_sender entries
+  pub due : counts.due ≡ tally_of is_due entries
+  pub stand : AllStandBy bounds entries
 
 -- What an edit of one entry leaves: as many entries and as much room, in storage that is sound.
 pub record IsEdited (count room : ℕ) (entries : List Entry) (new_room : ℕ) (is_sound : Type 0) : Type 0 where

@@ -2,21 +2,18 @@
 
 ghost use Rattle.std.specs.Prelude.{◌≡◌, ◌≤◌, true, length, IsTrue, IfSome};
 ghost use Rattle.std.specs.List.{list_all};
-ghost use Rattle.rtcp_members.specs.Entries.{is_member, is_sender};
 ghost use Rattle.rtcp_members.specs.Traces.{horizons_at};
-ghost use Rattle.rtcp_members.specs.Pending.{is_due};
-ghost use Rattle.rtcp_members.specs.ListViews.{entry_value, tally_of, is_left};
-ghost use Rattle.rtcp_members.specs.Standing.{AllStandBy, IsNoLater, IsUpTo, StandsBy};
+ghost use Rattle.rtcp_members.specs.ListViews.{entry_value, is_left};
+ghost use Rattle.rtcp_members.specs.Standing.{IsMeasured, IsNoLater, IsUpTo, StandsBy};
 
 use crate::counts::Counts;
 use crate::entry::Entry;
-use crate::storage::Storage;
 use rtcp_wire::Fact;
 
 /// Bounds from below of the moments of a list of entries: a check whose horizons do not pass them changes
 /// nothing.
 #[derive(Clone, Copy)]
-pub(crate) struct Bounds {
+pub struct Bounds {
     /// Of the last sightings.
     silent: u64,
     /// Of the last counted packets of those that did not leave.
@@ -59,7 +56,7 @@ impl Bounds {
     }
 
     /// Lowers them to an entry.
-    fn cover(&mut self, entry: &Entry)
+    pub(crate) fn cover(&mut self, entry: &Entry)
         ensures no_later { IsNoLater self.new self.old }
         ensures stands { StandsBy self.new (entry_value entry.now) }
     {
@@ -75,42 +72,38 @@ impl Bounds {
     }
 }
 
-/// The bounds of these entries, where a check with these horizons leaves each as it is.
-pub(crate) fn bounds_if_left<S: Storage>(
-    entries: &S,
+/// The counts and the bounds of these entries, where a check with these horizons leaves each as it is.
+pub(crate) fn measure_if_left(
+    entries: &[Entry],
     silent: u64,
     idle: u64,
     gone: u64,
-) -> Option<Bounds>
-    requires { S.is_sound entries.now }
+) -> Option<(Counts, Bounds)>
+    requires { length entries.now ≤ 1024 }
     ensures left { IfSome result (λ _.
-        list_all (is_left (horizons_at silent idle gone)) (S.items entries.now) ≡ true) }
-    ensures stand { IfSome result (λ bounds. AllStandBy bounds (S.items entries.now)) }
-{
-    let mut bounds = Bounds::none();
-    'entries: for at in 0..entries.len() {
-        let entry = entries.entry(at);
-        if !entry.is_left(silent, idle, gone) {
-            return None;
-        }
-        bounds.cover(entry);
-    }
-    Some(bounds)
-}
-
-/// The counts and the bounds of these entries.
-pub(crate) fn measure<S: Storage>(entries: &S) -> (Counts, Bounds)
-    requires sound { S.is_sound entries.now }
-    requires few { length (S.items entries.now) ≤ 1024 }
-    ensures members { result.0.members ≡ tally_of is_member (S.items entries.now) }
-    ensures senders { result.0.senders ≡ tally_of is_sender (S.items entries.now) }
-    ensures due { result.0.due ≡ tally_of is_due (S.items entries.now) }
-    ensures stand { AllStandBy result.1 (S.items entries.now) }
+        list_all (is_left (horizons_at silent idle gone)) entries.now ≡ true) }
+    ensures measured { IfSome result (λ measured. IsMeasured measured.0 measured.1 entries.now) }
 {
     let mut counts = Counts::none();
     let mut bounds = Bounds::none();
-    'entries: for at in 0..entries.len() {
-        let entry = entries.entry(at);
+    'entries: for entry in entries {
+        if !entry.is_left(silent, idle, gone) {
+            return None;
+        }
+        counts.add(entry);
+        bounds.cover(entry);
+    }
+    Some((counts, bounds))
+}
+
+/// The counts and the bounds of these entries.
+pub(crate) fn measure(entries: &[Entry]) -> (Counts, Bounds)
+    requires { length entries.now ≤ 1024 }
+    ensures { IsMeasured result.0 result.1 entries.now }
+{
+    let mut counts = Counts::none();
+    let mut bounds = Bounds::none();
+    'entries: for entry in entries {
         counts.add(entry);
         bounds.cover(entry);
     }

@@ -56,7 +56,7 @@ pub(crate) fn slot_at(cells: &[Cell], rank: usize) -> Slot
 
 /// Writes the slot of a rank.
 #[inline(always)]
-pub(crate) fn set_slot(cells: &mut [Cell], rank: usize, slot: Slot)
+fn set_slot(cells: &mut [Cell], rank: usize, slot: Slot)
     requires { rank < 2 * length cells.old }
     ensures slots { pairs_in cells.new ≡ set (pairs_in cells.old) rank slot }
     ensures entries { entries_in cells.new ≡ entries_in cells.old }
@@ -67,6 +67,23 @@ pub(crate) fn set_slot(cells: &mut [Cell], rank: usize, slot: Slot)
     } else {
         cell.odd = slot;
     }
+}
+
+/// Exchanges the slots of two ranks.
+#[inline(always)]
+pub(crate) fn exchange(cells: &mut [Cell], one: usize, other: usize)
+    requires one { one < 2 * length cells.old }
+    requires other { other < 2 * length cells.old }
+    ensures slots { pairs_in cells.new ≡ set (set (pairs_in cells.old) one (slice_index_or (pairs_in cells.old) other no_slot))
+        other (slice_index_or (pairs_in cells.old) one no_slot) }
+    ensures entries { entries_in cells.new ≡ entries_in cells.old }
+{
+    if one == other {
+        return;
+    }
+    let (first, second) = (slot_at(cells, one), slot_at(cells, other));
+    set_slot(cells, one, second);
+    set_slot(cells, other, first);
 }
 
 /// Puts a slot before the one of a rank, and moves those from there on by one rank, up to the last slot of the

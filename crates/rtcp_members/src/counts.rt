@@ -10,7 +10,7 @@ use crate::entry::Entry;
 
 /// How many members, senders and sources with news there are.
 #[derive(Clone, Copy)]
-pub(crate) struct Counts {
+pub struct Counts {
     pub(crate) members: u32,
     pub(crate) senders: u32,
     /// Those of which a block is due.

@@ -7,7 +7,9 @@ ghost use Rattle.rtcp_members.specs.Looks.{Sees};
 ghost use Rattle.rtcp_members.specs.SortedViews.{IsRising};
 ghost use Rattle.rtcp_members.specs.HeapLaws.{with_entry_at, written_at, sound_at};
 
-use crate::cells::{Cell, Slot, set_slot, shift, slot_at};
+use crate::bounds::Bounds;
+use crate::cells::{Cell, Slot, exchange, shift, slot_at};
+use crate::counts::Counts;
 use crate::entry::Entry;
 use crate::storage::{LONGEST_WALK, Storage};
 use std::alloc::{AllocError, Global};
@@ -214,7 +216,10 @@ impl Storage for Heap {
         self.used += 1;
     }
 
-    fn drop_silent(&mut self, silent: u64, idle: u64, gone: u64) {
+    // One walk: an entry that stays is counted where it is checked, and no slot is written before one is dropped.
+    fn drop_silent(&mut self, silent: u64, idle: u64, gone: u64) -> (Counts, Bounds) {
+        let mut counts = Counts::none();
+        let mut bounds = Bounds::none();
         let mut kept = 0;
         'ranks: for at in 0..self.used {
             let slot = slot_at(&self.cells, at);
@@ -222,11 +227,12 @@ impl Storage for Heap {
             if !cell.entry.check(silent, idle, gone) {
                 continue;
             }
-            let other = slot_at(&self.cells, kept);
-            set_slot(&mut self.cells, kept, slot);
-            set_slot(&mut self.cells, at, other);
+            counts.add(&cell.entry);
+            bounds.cover(&cell.entry);
+            exchange(&mut self.cells, kept, at);
             kept += 1;
         }
         self.used = kept;
+        (counts, bounds)
     }
 }

@@ -15,7 +15,7 @@ ghost use Rattle.rtcp_members.specs.Entries.{is_such};
 ghost use Rattle.rtcp_members.specs.Pending.{is_due, is_above, first_ssrc, block_at, after_block};
 ghost use Rattle.rtcp_members.specs.Tables.{IsFew, no_members, placed, counted, after_fact, after_check, dropped_entries, dropped_senders};
 
-use crate::bounds::{Bounds, bounds_if_left, measure};
+use crate::bounds::Bounds;
 use crate::counts::Counts;
 use crate::entry::Entry;
 use crate::heap::Heap;
@@ -122,16 +122,8 @@ impl<S: Storage> Sorted<S> {
         ensures senders { result.senders ≡ dropped_senders (horizons_at silent idle gone) self.old }
         ensures content { self.new ≡ after_check (horizons_at silent idle gone) self.old }
     {
-        if let Some(bounds) = bounds_if_left(&self.entries, silent, idle, gone) {
-            self.bounds = bounds;
-            return Dropped {
-                entries: 0,
-                senders: 0,
-            };
-        }
         let (entries, senders) = (self.entries.len(), self.counts.senders);
-        self.entries.drop_silent(silent, idle, gone);
-        let (counts, bounds) = measure(&self.entries);
+        let (counts, bounds) = self.entries.drop_silent(silent, idle, gone);
         self.counts = counts;
         self.bounds = bounds;
         let removed = (entries - self.entries.len()) as u32;

@@ -9,8 +9,11 @@ ghost use Rattle.rtcp_members.specs.declared.entry.Entry.{Entry};
 ghost use Rattle.rtcp_members.specs.Traces.{horizons_at};
 ghost use Rattle.rtcp_members.specs.ListViews.{lapsed, outlasts, IsPlaceOf};
 ghost use Rattle.rtcp_members.specs.SortedViews.{IsRising, IsGapFor};
+ghost use Rattle.rtcp_members.specs.Standing.{IsMeasured};
 ghost use Rattle.rtcp_members.specs.Storages.{LendsEntry};
 
+use crate::bounds::{Bounds, measure, measure_if_left};
+use crate::counts::Counts;
 use crate::entry::Entry;
 use crate::table::MAX_CAPACITY;
 use arrayvec::ArrayVec;
@@ -83,13 +86,16 @@ pub trait Storage {
         ensures room { room self.new ≡ room self.old }
         ensures in_place { block self.new ≡ block self.old };
 
-    /// Drops the entries that do not outlast a check, and ends the sending of the idle ones.
-    fn drop_silent(&mut self, silent: u64, idle: u64, gone: u64)
+    /// Drops the entries that do not outlast a check, and ends the sending of the idle ones. Returns the counts and
+    /// the bounds of those that stay.
+    fn drop_silent(&mut self, silent: u64, idle: u64, gone: u64) -> (Counts, Bounds)
         requires sound { is_sound self.old }
+        requires few { length (items self.old) ≤ 1024 }
         ensures sound { is_sound self.new }
         ensures items { items self.new
             ≡ retain_mut (outlasts (horizons_at silent idle gone)) (lapsed idle) (items self.old) }
-        ensures room { room self.new ≡ room self.old };
+        ensures room { room self.new ≡ room self.old }
+        ensures measured { IsMeasured result.0 result.1 (items self.new) };
 
     /// What is written over the entry of a rank is the entry of that rank.
     ghost written: { (s : Self) → is_sound s → (at : ℕ) (e : Entry) → at < length (items s) →
@@ -168,7 +174,12 @@ impl Storage for ArrayVec<Entry, MAX_CAPACITY> {
         ArrayVec::insert(self, at, entry);
     }
 
-    fn drop_silent(&mut self, silent: u64, idle: u64, gone: u64) {
+    // A check that changes nothing only reads.
+    fn drop_silent(&mut self, silent: u64, idle: u64, gone: u64) -> (Counts, Bounds) {
+        if let Some(measured) = measure_if_left(self.as_slice(), silent, idle, gone) {
+            return measured;
+        }
         self.retain(|entry| entry.check(silent, idle, gone));
+        measure(self.as_slice())
     }
 }

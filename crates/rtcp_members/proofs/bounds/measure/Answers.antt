@@ -1,40 +1,36 @@
--- No more are counted than stand before the index, and each entry is counted and covered.
-use Rattle.std.proofs.Common.{arith, subst, ◌<◌, length, List}
+-- Fewer are counted than there are, and each entry is counted and covered.
+use Rattle.std.proofs.Common.{List, arith, subst}
+use Rattle.std.proofs.lemmas.List.{take_all}
 use Rattle.rtcp_members.specs.declared.entry.Entry.{Entry}
-use Rattle.rtcp_members.specs.Entries.{is_member, is_sender}
-use Rattle.rtcp_members.specs.Pending.{is_due}
-use Rattle.rtcp_members.proofs.Ranks.{tally_rank}
-use Rattle.rtcp_members.proofs.Tallies.{few_before}
-use Rattle.rtcp_members.proofs.Standing.{all_covered, stands}
+use Rattle.rtcp_members.specs.Standing.{IsMeasured}
+use Rattle.rtcp_members.proofs.Measuring.{measured_rank, few_so_far}
 use Rattle.rtcp_members.proofs.bounds.measure.Goals as goal
 
 pub add-requires-clause-members : goal.add-requires-clause-members
-add-requires-clause-members g c =
-    let items : List Entry = g.S.Storage.items c.args.entries.now in
-    let within : c.entries.at < length items = omega (arith, c.entries-test.true, c.len-at-end.ensures.value) in
-    omega (arith, few_before is_member items c.entries.at (omega arith), c.entries.invariant.members, c.requires.few)
+add-requires-clause-members c =
+    let items : List Entry = c.args.entries.now in
+    let few = few_so_far c.entries.counts c.entries.bounds items c.entries.entry-index 1024 c.entries.invariant c.entries-test.true c.requires in
+    omega (arith, few.0)
 
 pub add-requires-clause-senders : goal.add-requires-clause-senders
-add-requires-clause-senders g c =
-    let items : List Entry = g.S.Storage.items c.args.entries.now in
-    let within : c.entries.at < length items = omega (arith, c.entries-test.true, c.len-at-end.ensures.value) in
-    omega (arith, few_before is_sender items c.entries.at (omega arith), c.entries.invariant.senders, c.requires.few)
+add-requires-clause-senders c =
+    let items : List Entry = c.args.entries.now in
+    let few = few_so_far c.entries.counts c.entries.bounds items c.entries.entry-index 1024 c.entries.invariant c.entries-test.true c.requires in
+    omega (arith, few.1)
 
 pub add-requires-clause-due : goal.add-requires-clause-due
-add-requires-clause-due g c =
-    let items : List Entry = g.S.Storage.items c.args.entries.now in
-    let within : c.entries.at < length items = omega (arith, c.entries-test.true, c.len-at-end.ensures.value) in
-    omega (arith, few_before is_due items c.entries.at (omega arith), c.entries.invariant.due, c.requires.few)
+add-requires-clause-due c =
+    let items : List Entry = c.args.entries.now in
+    let few = few_so_far c.entries.counts c.entries.bounds items c.entries.entry-index 1024 c.entries.invariant c.entries-test.true c.requires in
+    omega (arith, few.2)
 
 pub entries-preserved : goal.entries-preserved
-entries-preserved g c =
-    let items : List Entry = g.S.Storage.items c.args.entries.now in
-    let entry : Entry = c.entry-entry.result.now in
-    let within : c.entries.at < length items = omega (arith, c.entries-test.true, c.len-at-end.ensures.value) in
-    let read = c.entry-entry.ensures entry in
-    record {
-      members = omega (arith, c.add.ensures.members, c.entries.invariant.members, tally_rank is_member items c.entries.at entry entry within read);
-      senders = omega (arith, c.add.ensures.senders, c.entries.invariant.senders, tally_rank is_sender items c.entries.at entry entry within read);
-      due = omega (arith, c.add.ensures.due, c.entries.invariant.due, tally_rank is_due items c.entries.at entry entry within read);
-      stand = all_covered c.cover.new.self c.entries.bounds c.cover.ensures.no_later items c.entries.at entry within c.entries.invariant.stand (subst (stands c.cover.new.self) read c.cover.ensures.stands);
-    }
+entries-preserved c =
+    let items : List Entry = c.args.entries.now in
+    let entry : Entry = c.entry-item.result in
+    measured_rank c.entries.counts c.add.new.self c.entries.bounds c.cover.new.self items c.entries.entry-index entry entry c.entries-test.true c.entry-item.is c.entries.invariant c.add.ensures.members c.add.ensures.senders c.add.ensures.due c.cover.ensures.no_later c.cover.ensures.stands
+
+pub returns : goal.returns
+returns c =
+    let items : List Entry = c.args.entries.now in
+    subst (IsMeasured c.entries.counts c.entries.bounds) (take_all c.entries.entry-index items (omega (arith, c.entries-test.false))) c.entries.invariant

@@ -1,14 +1,18 @@
 -- A slot comes to the front where its entry stays, and else is left where it is.
-use Rattle.std.proofs.Common.{◌≡◌, ◌<◌, ◌+◌, ◌++◌, ℕ, Bool, true, false, List, length, take, drop, set, slice_index_or, arith, sym, ap, subst, ◌∙◌}
-use Rattle.std.proofs.lemmas.List.{length-map, length-set, get_or_read, get_or-map}
+use Rattle.std.proofs.Common.{◌≡◌, ◌<◌, ◌≤◌, ◌+◌, ◌++◌, ℕ, Bool, true, false, List, [], ◌∷◌, length, take, set, slice_index_or, arith, sym, ap, subst, ◌∙◌}
+use Rattle.std.proofs.lemmas.List.{length-map, length-set, length-take, length-take-le, get_or_read, get_or-map}
+use Rattle.rtcp_members.specs.declared.bounds.Bounds.{Bounds}
+use Rattle.rtcp_members.specs.declared.counts.Counts.{Counts}
 use Rattle.rtcp_members.specs.declared.cells.Cell.{Cell}
 use Rattle.rtcp_members.specs.declared.cells.Slot.{Slot}
 use Rattle.rtcp_members.specs.declared.entry.Entry.{Entry}
 use Rattle.rtcp_members.specs.Traces.{horizons_at}
 use Rattle.rtcp_members.specs.ListViews.{lapsed, outlasts}
 use Rattle.rtcp_members.specs.Heaps.{no_slot, no_entry, no_cell, entries_in, pairs_in, slots_in, entry_in, picked}
-use Rattle.rtcp_members.proofs.Dropping.{IsDropping, one_dropped, one_kept, all_dropped, heap_dropped, lapsed_ssrc}
-use Rattle.rtcp_members.proofs.Pairs.{as_many, length_slots, slots_kept, slots_written, slot_read, entry_written, over_whole}
+use Rattle.rtcp_members.specs.Standing.{IsMeasured}
+use Rattle.rtcp_members.proofs.Measuring.{measured_more, few_measured}
+use Rattle.rtcp_members.proofs.Dropping.{IsDropping, front_items, front_more, one_dropped, one_kept, all_dropped, heap_dropped, lapsed_ssrc}
+use Rattle.rtcp_members.proofs.Pairs.{as_many, length_slots, slots_kept, slots_exchanged, slot_read, entry_written, over_whole}
 use Rattle.rtcp_members.proofs.heap.HeapStorage.drop_silent.Goals as goal
 
 -- One step, over what the calls of it read and wrote.
@@ -46,38 +50,60 @@ module _ (test : Entry → Bool) (change : Entry → Entry) (items : List Entry)
       (subst (λ ss. IsDropping test change items (set (entries_in cells) (slice_index_or (slots_in cells) at no_slot).place next) ss used kept (at + 1)) (sym slots_now)
       (one_dropped test change items (entries_in cells) (slots_in cells) used kept at next so less its_ssrc fails))
 
+  pub dropped_items : next.ssrc ≡ (entry_in (entries_in cells) (slice_index_or (slots_in cells) at no_slot)).ssrc → picked (entries_in written) (take kept (slots_in written)) ≡ picked (entries_in cells) (take kept (slots_in cells))
+  dropped_items its_ssrc = (λ i. picked (entries_now i) (take kept (slots_now i))) ∙ front_items test change items (entries_in cells) (slots_in cells) used kept at next so less its_ssrc
+
   -- Its slot and the first that is free change places.
-  module _ (n : ℕ) (first second : List Cell) (other : Slot) (count : n ≡ length cells) (others : other ≡ slice_index_or (pairs_in written) kept no_slot)
-      (first_slots : pairs_in first ≡ set (pairs_in written) kept slot) (first_entries : entries_in first ≡ entries_in written)
-      (second_slots : pairs_in second ≡ set (pairs_in first) at other) (second_entries : entries_in second ≡ entries_in first) where
+  module _ (second : List Cell) (slots : pairs_in second ≡ set (set (pairs_in written) kept (slice_index_or (pairs_in written) at no_slot)) at (slice_index_or (pairs_in written) kept no_slot)) (entries : entries_in second ≡ entries_in written) where
     same_length : length written ≡ length cells
     same_length = length-set cells slot.place (record cell { entry = next })
 
-    kept_in : kept < length written
-    kept_in = omega (arith, so.order, in_cells, same_length)
-
-    other_is : other ≡ slice_index_or (slots_in cells) kept no_slot
-    other_is = others ∙ slot_read written kept kept_in ∙ ap (λ ss. slice_index_or ss kept no_slot) slots_now
-
-    first_is : slots_in first ≡ set (slots_in cells) kept (slice_index_or (slots_in cells) at no_slot)
-    first_is = slots_written written first kept slot kept_in first_entries first_slots ∙ (λ i. set (slots_now i) kept (its_slot i))
+    read_slot : (rank : ℕ) → rank < length cells → slice_index_or (pairs_in written) rank no_slot ≡ slice_index_or (slots_in cells) rank no_slot
+    read_slot rank within = slot_read written rank (omega (arith, within, same_length)) ∙ ap (λ ss. slice_index_or ss rank no_slot) slots_now
 
     second_is : slots_in second ≡ set (set (slots_in cells) kept (slice_index_or (slots_in cells) at no_slot)) at (slice_index_or (slots_in cells) kept no_slot)
     second_is =
-        slots_written first second at other (omega (arith, in_cells, same_length, as_many written first first_entries)) second_entries second_slots ∙ (λ i. set (first_is i) at (other_is i))
+        slots_exchanged written second kept at (slice_index_or (pairs_in written) at no_slot) (slice_index_or (pairs_in written) kept no_slot) (omega (arith, so.order, in_cells, same_length)) (omega (arith, in_cells, same_length)) entries slots
+        ∙ (λ i. set (set (slots_now i) kept (read_slot at in_cells i)) at (read_slot kept (omega (arith, so.order, in_cells)) i))
+
+    entries_then : entries_in second ≡ set (entries_in cells) (slice_index_or (slots_in cells) at no_slot).place next
+    entries_then = entries ∙ entries_now
 
     pub kept_more : next.ssrc ≡ (entry_in (entries_in cells) (slice_index_or (slots_in cells) at no_slot)).ssrc → test (entry_in (entries_in cells) (slice_index_or (slots_in cells) at no_slot)) ≡ true
         → next ≡ change (entry_in (entries_in cells) (slice_index_or (slots_in cells) at no_slot)) → IsDropping test change items (entries_in second) (slots_in second) used (kept + 1) (at + 1)
     kept_more its_ssrc passes changed =
-        subst (λ es. IsDropping test change items es (slots_in second) used (kept + 1) (at + 1)) (sym (second_entries ∙ first_entries ∙ entries_now))
+        subst (λ es. IsDropping test change items es (slots_in second) used (kept + 1) (at + 1)) (sym entries_then)
         (one_kept test change items (entries_in cells) (slots_in cells) used kept at next so less its_ssrc (slots_in second) second_is passes changed)
 
-    -- as slices of the block are written
-    pub whole : take n (second ++ drop (length second) (take n (first ++ drop (length first) written))) ≡ second
-    whole =
-        let one : take n (first ++ drop (length first) written) ≡ first = over_whole n written first (count ∙ sym same_length) (as_many written first first_entries) in
-        ap (λ xs. take n (second ++ drop (length second) xs)) one
-        ∙ over_whole n first second (count ∙ sym (as_many written first first_entries ∙ same_length)) (as_many first second second_entries)
+    pub kept_items : next.ssrc ≡ (entry_in (entries_in cells) (slice_index_or (slots_in cells) at no_slot)).ssrc → picked (entries_in second) (take (kept + 1) (slots_in second)) ≡ picked (entries_in cells) (take kept (slots_in cells)) ++ next ∷ []
+    kept_items its_ssrc =
+        ap (λ es. picked es (take (kept + 1) (slots_in second))) entries_then
+        ∙ front_more test change items (entries_in cells) (slots_in cells) used kept at next so less its_ssrc (slots_in second) second_is
+
+few_kept : (all : ℕ) (first : List Entry) (first_slots : List Slot) → all ≤ length first_slots → length (picked first (take all first_slots)) ≤ 1024 → (kept at : ℕ) (entries : List Entry) (slots : List Slot) (counts : Counts) (bounds : Bounds)
+    → IsMeasured counts bounds (picked entries (take kept slots)) → kept ≤ at → at < all → (counts.members < 1024) × (counts.senders < 1024) × (counts.due < 1024)
+few_kept all first first_slots in_use few kept at entries slots counts bounds so order less =
+    let count : length (picked first (take all first_slots)) ≡ all = length-map (take all first_slots) (entry_in first) ∙ length-take-le all first_slots in_use in
+    let so_far : length (picked entries (take kept slots)) ≤ kept = omega (arith, length-map (take kept slots) (entry_in entries), length-take kept slots) in
+    few_measured counts bounds (picked entries (take kept slots)) 1024 so (omega (arith, count, so_far, few, order, less))
+
+pub add-requires-clause-members : goal.add-requires-clause-members
+add-requires-clause-members c =
+    let few = few_kept c.args.self.now.used (entries_in c.args.self.now.cells.items) (slots_in c.args.self.now.cells.items) c.requires.sound.in_use c.requires.few c.ranks.kept c.ranks.at (entries_in c.ranks.self.cells.items) (slots_in c.ranks.self.cells.items)
+    c.ranks.counts c.ranks.bounds c.ranks.invariant.measured c.ranks.invariant.dropping.order c.ranks-test.true in
+    omega (arith, few.0)
+
+pub add-requires-clause-senders : goal.add-requires-clause-senders
+add-requires-clause-senders c =
+    let few = few_kept c.args.self.now.used (entries_in c.args.self.now.cells.items) (slots_in c.args.self.now.cells.items) c.requires.sound.in_use c.requires.few c.ranks.kept c.ranks.at (entries_in c.ranks.self.cells.items) (slots_in c.ranks.self.cells.items)
+    c.ranks.counts c.ranks.bounds c.ranks.invariant.measured c.ranks.invariant.dropping.order c.ranks-test.true in
+    omega (arith, few.1)
+
+pub add-requires-clause-due : goal.add-requires-clause-due
+add-requires-clause-due c =
+    let few = few_kept c.args.self.now.used (entries_in c.args.self.now.cells.items) (slots_in c.args.self.now.cells.items) c.requires.sound.in_use c.requires.few c.ranks.kept c.ranks.at (entries_in c.ranks.self.cells.items) (slots_in c.ranks.self.cells.items)
+    c.ranks.counts c.ranks.bounds c.ranks.invariant.measured c.ranks.invariant.dropping.order c.ranks-test.true in
+    omega (arith, few.2)
 
 pub ranks-preserved-then-not-check : goal.ranks-preserved-then-not-check
 ranks-preserved-then-not-check c =
@@ -93,9 +119,11 @@ ranks-preserved-then-not-check c =
     let its : slot ≡ slice_index_or (pairs_in cells) c.ranks.at no_slot = c.slot_at-slot.ensures ∙ ap (λ xs. slice_index_or (pairs_in xs) c.ranks.at no_slot) c.deref.ensures.value in
     let read = its_entry test change items cells used c.ranks.kept c.ranks.at so less slot its cell c.index_mut-cell.ensures.value c.check.new.self in
     let changed = c.check.ensures.entry ∙ ap change read in
+    let its_ssrc = ap (λ (e : Entry). e.ssrc) changed ∙ lapsed_ssrc c.args.idle _ in
     record {
       dropping = dropped test change items cells used c.ranks.kept c.ranks.at so less slot its cell c.index_mut-cell.ensures.value c.check.new.self
-          (ap (λ (e : Entry). e.ssrc) changed ∙ lapsed_ssrc c.args.idle _) (ap test (sym read) ∙ sym c.check.ensures.stays ∙ c.if-not-check.true);
+          its_ssrc (ap test (sym read) ∙ sym c.check.ensures.stays ∙ c.if-not-check.true);
+      measured = subst (IsMeasured c.ranks.counts c.ranks.bounds) (sym (dropped_items test change items cells used c.ranks.kept c.ranks.at so less slot its cell c.index_mut-cell.ensures.value c.check.new.self its_ssrc)) c.ranks.invariant.measured;
       used = c.ranks.invariant.used;
       room = c.ranks.invariant.room;
     }
@@ -115,20 +143,17 @@ ranks-preserved c =
     let read = its_entry test change items cells used c.ranks.kept c.ranks.at so less slot its cell c.index_mut-cell.ensures.value c.check.new.self in
     let changed = c.check.ensures.entry ∙ ap change read in
     let now : List Cell = set cells slot.place (record cell { entry = c.check.new.self }) in
-    let first : List Cell = c.set_slot.new.cells in
-    let second : List Cell = c.set_slot-in-ranks.new.cells in
-    let n : ℕ = c.ranks.self.cells.len in
-    let others = c.slot_at-other.ensures ∙ ap (λ xs. slice_index_or (pairs_in xs) c.ranks.kept no_slot) c.deref-in-ranks.ensures.value in
-    let first_slots = c.set_slot.ensures.slots ∙ ap (λ xs. set (pairs_in xs) c.ranks.kept slot) c.deref_mut.ensures.value in
-    let first_entries = c.set_slot.ensures.entries ∙ ap entries_in c.deref_mut.ensures.value in
-    let one : take n (first ++ drop (length first) now) ≡ first = over_whole n now first (c.ranks.self.cells.ok.0 ∙ sym (length-set cells slot.place (record cell { entry = c.check.new.self }))) (as_many now first first_entries) in
-    let second_slots = c.set_slot-in-ranks.ensures.slots ∙ ap (λ xs. set (pairs_in xs) c.ranks.at c.slot_at-other.result) (c.deref_mut-in-ranks.ensures.value ∙ one) in
-    let second_entries = c.set_slot-in-ranks.ensures.entries ∙ ap entries_in (c.deref_mut-in-ranks.ensures.value ∙ one) in
+    let second : List Cell = c.exchange.new.cells in
+    let its_ssrc = ap (λ (e : Entry). e.ssrc) changed ∙ lapsed_ssrc c.args.idle _ in
+    let slots = c.exchange.ensures.slots ∙ (λ i. set (set (pairs_in (c.deref_mut.ensures.value i)) c.ranks.kept (slice_index_or (pairs_in (c.deref_mut.ensures.value i)) c.ranks.at no_slot)) c.ranks.at (slice_index_or (pairs_in (c.deref_mut.ensures.value i)) c.ranks.kept no_slot)) in
+    let entries = c.exchange.ensures.entries ∙ ap entries_in c.deref_mut.ensures.value in
+    let whole = over_whole c.ranks.self.cells.len now second (c.ranks.self.cells.ok.0 ∙ sym (length-set cells slot.place (record cell { entry = c.check.new.self }))) (as_many now second entries) in
     record {
-      dropping = subst (λ xs. IsDropping test change items (entries_in xs) (slots_in xs) used (c.ranks.kept + 1) (c.ranks.at + 1))
-          (sym (whole test change items cells used c.ranks.kept c.ranks.at so less slot its cell c.index_mut-cell.ensures.value c.check.new.self n first second c.slot_at-other.result c.ranks.self.cells.ok.0 others first_slots first_entries second_slots second_entries))
-          (kept_more test change items cells used c.ranks.kept c.ranks.at so less slot its cell c.index_mut-cell.ensures.value c.check.new.self n first second c.slot_at-other.result c.ranks.self.cells.ok.0 others first_slots first_entries second_slots second_entries
-          (ap (λ (e : Entry). e.ssrc) changed ∙ lapsed_ssrc c.args.idle _) (ap test (sym read) ∙ sym c.check.ensures.stays ∙ c.if-not-check.false) changed);
+      dropping = subst (λ xs. IsDropping test change items (entries_in xs) (slots_in xs) used (c.ranks.kept + 1) (c.ranks.at + 1)) (sym whole)
+          (kept_more test change items cells used c.ranks.kept c.ranks.at so less slot its cell c.index_mut-cell.ensures.value c.check.new.self second slots entries its_ssrc (ap test (sym read) ∙ sym c.check.ensures.stays ∙ c.if-not-check.false) changed);
+      measured = subst (λ xs. IsMeasured c.add.new.self c.cover.new.self (picked (entries_in xs) (take (c.ranks.kept + 1) (slots_in xs)))) (sym whole)
+          (subst (IsMeasured c.add.new.self c.cover.new.self) (sym (kept_items test change items cells used c.ranks.kept c.ranks.at so less slot its cell c.index_mut-cell.ensures.value c.check.new.self second slots entries its_ssrc))
+          (measured_more c.ranks.counts c.add.new.self c.ranks.bounds c.cover.new.self (picked (entries_in cells) (take c.ranks.kept (slots_in cells))) c.check.new.self c.ranks.invariant.measured c.add.ensures.members c.add.ensures.senders c.add.ensures.due c.cover.ensures.no_later c.cover.ensures.stands));
       used = c.ranks.invariant.used;
       room = c.ranks.invariant.room;
     }

@@ -4,6 +4,7 @@ use Rattle.std.specs.Vec as vectors
 use Rattle.rtcp_members.specs.Traces.{horizons_at}
 use Rattle.rtcp_members.specs.ListViews.{lapsed, outlasts}
 use Rattle.rtcp_members.specs.Heaps.{picked, entries_in, slots_in}
+use Rattle.rtcp_members.specs.Standing.{IsMeasured}
 use Rattle.rtcp_members.proofs.Dropping.{IsDropping}
 use Rattle.rtcp_members.proofs.heap.HeapStorage.drop_silent.Given as goal
 
@@ -11,6 +12,7 @@ abbrev pub invariant-ranks : goal.invariant-ranks
 invariant-ranks l =
     record {
       dropping : IsDropping (outlasts (horizons_at l.silent l.idle l.gone)) (lapsed l.idle) (picked (entries_in l.fn.self.cells.items) (take l.fn.self.used (slots_in l.fn.self.cells.items))) (entries_in l.self.cells.items) (slots_in l.self.cells.items) l.self.used l.kept l.at;
+      measured : IsMeasured l.counts l.bounds (picked (entries_in l.self.cells.items) (take l.kept (slots_in l.self.cells.items)));
       used : l.self.used ≡ l.fn.self.used;
       room : vectors.vec_capacity l.self.cells ≡ vectors.vec_capacity l.fn.self.cells;
     }
