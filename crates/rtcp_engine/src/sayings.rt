@@ -38,11 +38,8 @@ fn apply_packet<T: MemberTable>(table: &mut T, packet: &PacketView<'_>, t: u64) 
     ensures moved { result ≡ facts_move (facts_of_packet (packet_value packet.now)) t (T.content table.old) }
 {
     match packet {
-        PacketView::Sr(report) => {
-            let heard = apply_one(table, Fact::Heard(report.ssrc), t);
-            let told = apply_one(table, Fact::Told(report.ssrc, report.ntp), t);
-            heard | told
-        }
+        // What it tells of its clock says that it is heard, too.
+        PacketView::Sr(report) => apply_one(table, Fact::Told(report.ssrc, report.ntp), t),
         PacketView::Rr(report) => apply_one(table, Fact::Heard(report.ssrc), t),
         PacketView::Sdes(description) => apply_chunks(table, description.chunks(), t),
         PacketView::Bye(goodbye) => apply_goodbyes(table, goodbye.ids(), t),
@@ -69,12 +66,11 @@ fn apply_chunk<T: MemberTable>(table: &mut T, chunk: &Chunk<'_>, t: u64) -> bool
     ensures content { T.content table.new ≡ after_facts (facts_of_chunk chunk.now) t (T.content table.old) }
     ensures moved { result ≡ facts_move (facts_of_chunk chunk.now) t (T.content table.old) }
 {
-    let heard = apply_one(table, Fact::Heard(chunk.id()), t);
-    if !has_cname(chunk) {
-        return heard;
+    if has_cname(chunk) {
+        // Its name says that it is heard, too.
+        return apply_one(table, Fact::Named(chunk.id()), t);
     }
-    let named = apply_one(table, Fact::Named(chunk.id()), t);
-    heard | named
+    apply_one(table, Fact::Heard(chunk.id()), t)
 }
 
 /// Whether an item of the chunk is a CNAME.

@@ -3,6 +3,7 @@
 use Rattle.std.proofs.Common.{◌≡◌, ◌==◌, ◌&&◌, ◌<◌, ◌≤◌, ◌+◌, ◌^◌, ◌↔◌, ◌∙◌, ap, sym, refl, rules, is_some, if◌then◌else◌, true, false, All, IfSome, IsTrue, length, drop, ℕ, List, [], ◌∷◌, Option, Some, None, map, count_by}
 use Rattle.std.specs.FinMap as finite
 use Rattle.rtcp_wire.specs.declared.fact.Fact.{Fact}
+use Rattle.rtcp_wire.specs.declared.fact.Fact.TheVariants.{Heard, Named, Told}
 use Rattle.rtcp_wire.specs.Facts.{subject, is_gone, is_media}
 use Rattle.rtcp_members.specs.Traces.{Horizons, TraceStep, fact_came, check_made, block_taken, names, with_facts}
 use Rattle.rtcp_source.specs.Blocks.{block_over}
@@ -17,6 +18,7 @@ use Rattle.rtcp_members.specs.Told.{StateValue, state_above, states_above, RiseA
 use Rattle.rtcp_members.specs.Tables.{TableValue, StandsAt, KeepsBounds, table_at, HasFew, IsFew, no_members, counted, after_fact, after_facts, entry_after_check, after_check, members_in, senders_in}
 use Rattle.rtcp_members.proofs.Above.{tells_above, told_once, told_more, told_none, states_are_walk, walk_counts, walk_rises}
 use Rattle.rtcp_members.proofs.Agreeing.{counted_agrees}
+use Rattle.rtcp_members.proofs.AtOnce.{once_said, once_moved}
 use Rattle.rtcp_members.proofs.Blocking.{block_follows, block_keeps_capacity, blocks_keep_capacity, few_block}
 use Rattle.rtcp_members.proofs.Capacity.{fact_keeps_bounds, facts_keep_bounds, check_keeps_bounds, block_keeps_bounds, blocks_keep_bounds, none_within, fact_keeps_capacity, facts_keep_capacity, check_keeps_capacity, len_updated}
 use Rattle.rtcp_members.proofs.Crowding.{present_fit}
@@ -279,3 +281,15 @@ moves_follow_traces-facts = facts_alone_moved
 
 pub moves_follow_traces-check : (table : TableValue) (trace : List TraceStep) (horizons : Horizons) → StandsAt table trace → check_moves horizons table ≡ step_moves table.capacity table.rate (check_made horizons) trace
 moves_follow_traces-check = check_moved
+
+pub heard_by_what_it_says-named : (ssrc t : ℕ) (table : TableValue) → after_facts (Heard ssrc ∷ Named ssrc ∷ []) t table ≡ after_facts (Named ssrc ∷ []) t table
+heard_by_what_it_says-named ssrc t table = once_said (Named ssrc) ssrc t table refl refl (λ e. refl)
+
+pub heard_by_what_it_says-named_moves : (ssrc t : ℕ) (table : TableValue) → facts_move (Heard ssrc ∷ Named ssrc ∷ []) t table ≡ facts_move (Named ssrc ∷ []) t table
+heard_by_what_it_says-named_moves ssrc t table = once_moved (Named ssrc) ssrc t table refl refl (λ e. refl)
+
+pub heard_by_what_it_says-told : (ssrc ntp t : ℕ) (table : TableValue) → after_facts (Heard ssrc ∷ Told ssrc ntp ∷ []) t table ≡ after_facts (Told ssrc ntp ∷ []) t table
+heard_by_what_it_says-told ssrc ntp t table = once_said (Told ssrc ntp) ssrc t table refl refl (λ e. refl)
+
+pub heard_by_what_it_says-told_moves : (ssrc ntp t : ℕ) (table : TableValue) → facts_move (Heard ssrc ∷ Told ssrc ntp ∷ []) t table ≡ facts_move (Told ssrc ntp ∷ []) t table
+heard_by_what_it_says-told_moves ssrc ntp t table = once_moved (Told ssrc ntp) ssrc t table refl refl (λ e. refl)

@@ -11,6 +11,7 @@ mod Listing
 mod Pairs
 mod Changing
 mod Applying
+mod AtOnce
 mod Admitting
 mod Tallies
 mod LeastDue

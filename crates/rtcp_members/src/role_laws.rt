@@ -1,10 +1,11 @@
 //! Laws of who is a member and who sends. Each is an empty function whose postcondition is the law.
 
-ghost use Rattle.std.specs.Prelude.{◌≡◌, ℕ, false, List, ◌∷◌, None, drop, length};
+ghost use Rattle.std.specs.Prelude.{◌≡◌, ℕ, false, List, [], ◌∷◌, None, drop, length};
 ghost use Rattle.rtcp_wire.specs.declared.fact.Fact.{Fact};
+ghost use Rattle.rtcp_wire.specs.declared.fact.Fact.TheVariants.{Heard, Named, Told};
 ghost use Rattle.rtcp_members.specs.Traces.{Horizons, TraceStep, block_taken, check_made, with_facts};
 ghost use Rattle.rtcp_members.specs.Entries.{entry_at, members_at};
-ghost use Rattle.rtcp_members.specs.Tables.{TableValue, StandsAt};
+ghost use Rattle.rtcp_members.specs.Tables.{TableValue, StandsAt, after_facts};
 ghost use Rattle.rtcp_members.specs.Roles.{IsSameRole, step_moves, moved_within, facts_move, check_moves};
 
 /// A step changes who is a member or who sends exactly where it changes how many are members or how many send;
@@ -34,4 +35,17 @@ pub fn moves_follow_traces()
         ≡ moved_within table.capacity table.rate (length facts) (with_facts facts moment trace) }
     ensures check { (table : TableValue) (trace : List TraceStep) (horizons : Horizons) → StandsAt table trace →
         check_moves horizons table ≡ step_moves table.capacity table.rate (check_made horizons) trace }
+{}
+
+/// A source that gives its CNAME, or tells of its clock in a sender report (RFC 3550, 6.4.1), is heard by that: both
+/// facts make of a table what the one does, and change who is a member or who sends where the one does.
+pub fn heard_by_what_it_says()
+    ensures named { (ssrc moment : ℕ) (table : TableValue) →
+        after_facts (Heard ssrc ∷ Named ssrc ∷ []) moment table ≡ after_facts (Named ssrc ∷ []) moment table }
+    ensures named_moves { (ssrc moment : ℕ) (table : TableValue) →
+        facts_move (Heard ssrc ∷ Named ssrc ∷ []) moment table ≡ facts_move (Named ssrc ∷ []) moment table }
+    ensures told { (ssrc ntp moment : ℕ) (table : TableValue) →
+        after_facts (Heard ssrc ∷ Told ssrc ntp ∷ []) moment table ≡ after_facts (Told ssrc ntp ∷ []) moment table }
+    ensures told_moves { (ssrc ntp moment : ℕ) (table : TableValue) →
+        facts_move (Heard ssrc ∷ Told ssrc ntp ∷ []) moment table ≡ facts_move (Told ssrc ntp ∷ []) moment table }
 {}
