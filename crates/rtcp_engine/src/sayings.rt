@@ -9,7 +9,7 @@ ghost use Rattle.rtcp_members.specs.Roles.{facts_move};
 ghost use Rattle.rtcp_members.specs.Tables.{after_facts};
 ghost use Rattle.rtcp_engine.specs.Sayings.{facts_of_chunks, facts_of_goodbyes};
 
-use crate::table::apply_fact;
+use crate::table::apply_said;
 use rtcp_members::MemberTable;
 use rtcp_wire::{Chunk, Chunks, Fact, Ids, PacketView, Packets};
 
@@ -99,7 +99,7 @@ fn apply_one<T: MemberTable>(table: &mut T, fact: Fact, t: u64) -> bool
     ensures content { T.content table.new ≡ after_facts (fact ∷ []) t (T.content table.old) }
     ensures moved { result ≡ facts_move (fact ∷ []) t (T.content table.old) }
 {
-    apply_fact(table, fact, t).moved
+    apply_said(table, fact, t).moved
 }
 
 // ---- Whether something is said of a source

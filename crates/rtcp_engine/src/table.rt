@@ -22,6 +22,8 @@ pub(crate) fn member_count<T: MemberTable>(table: &T) -> u32
 
 /// Applies an RTP packet, and its contributing sources but for the participant itself, `own`, if it is counted. Returns
 /// whether that changed who is a member or who sends.
+// Inlined, as `Participant::take`.
+#[inline(always)]
 pub(crate) fn apply_media<T: MemberTable>(
     table: &mut T,
     head: &RtpHead<'_>,
@@ -45,6 +47,8 @@ pub(crate) fn apply_media<T: MemberTable>(
 
 /// Applies the contributing sources of a packet but for the participant itself, `own`, and returns whether that changed
 /// who is a member or who sends.
+// Inlined, since most packets have none.
+#[inline(always)]
 fn apply_csrcs<T: MemberTable>(table: &mut T, head: &RtpHead<'_>, own: u32, t: u64) -> bool
     ensures content { T.content table.new ≡ after_facts (facts_of_csrcs own head.now.csrcs) t (T.content table.old) }
     ensures moved { result ≡ facts_move (facts_of_csrcs own head.now.csrcs) t (T.content table.old) }
@@ -52,7 +56,7 @@ fn apply_csrcs<T: MemberTable>(table: &mut T, head: &RtpHead<'_>, own: u32, t: u
     let mut moved = false;
     'csrcs: for csrc in head.csrcs() {
         if csrc != own {
-            let effect = apply_fact(table, Fact::Heard(csrc), t);
+            let effect = apply_said(table, Fact::Heard(csrc), t);
             moved |= effect.moved;
         }
     }
@@ -85,8 +89,20 @@ pub(crate) struct Effect {
     pub(crate) moved: bool,
 }
 
+/// Applies a fact of any kind. As code it stands here once, where that of `apply_fact` is made for each place.
+#[inline(never)]
+pub(crate) fn apply_said<T: MemberTable>(table: &mut T, fact: Fact, t: u64) -> Effect
+    requires { IsTrue (is_media fact) → IfSome (map.get (T.content table.old).entries (subject fact)) IsFew }
+    ensures content { T.content table.new ≡ after_fact fact t (T.content table.old) }
+    ensures counted { result.counted ≡ counted (T.content table.old) fact }
+    ensures moved { result.moved ≡ counts_differ (T.content table.old) (T.content table.new) }
+{
+    apply_fact(table, fact, t)
+}
+
 /// Applies a fact.
-pub(crate) fn apply_fact<T: MemberTable>(table: &mut T, fact: Fact, t: u64) -> Effect
+#[inline(always)]
+fn apply_fact<T: MemberTable>(table: &mut T, fact: Fact, t: u64) -> Effect
     requires { IsTrue (is_media fact) → IfSome (map.get (T.content table.old).entries (subject fact)) IsFew }
     ensures content { T.content table.new ≡ after_fact fact t (T.content table.old) }
     ensures counted { result.counted ≡ counted (T.content table.old) fact }

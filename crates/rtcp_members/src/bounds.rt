@@ -33,6 +33,7 @@ impl Bounds {
     }
 
     /// Lowers them to what a fact at the moment `t` can make of an entry.
+    #[inline(always)]
     pub(crate) fn lower(&mut self, fact: Fact, t: u64)
         ensures no_later { IsNoLater self.new self.old }
         ensures up_to { IsUpTo self.new fact t }

@@ -1,6 +1,7 @@
 //! What a table keeps of a source (RFC 3550, 6.2.1, 6.3.3 to 6.3.5 and 6.3.7).
 
-ghost use Rattle.std.specs.Prelude.{◌≡◌, nat_lt, ◌||◌, ◌<◌, ◌^◌, None, Some, Bool, IsTrue, not};
+ghost use Rattle.std.specs.Prelude.{◌≡◌, nat_lt, ◌||◌, ◌<◌, ◌^◌, ℕ, None, Some, Bool, IsTrue, not};
+ghost use Rattle.rtcp_wire.specs.declared.fact.Fact.TheVariants.{Media};
 ghost use Rattle.rtcp_members.specs.Told.{state_of};
 ghost use Rattle.rtcp_members.specs.ListViews.{entry_value, mark_in, sending_in, row_of, state_value, lapses, lapsed, outlasts, is_left};
 ghost use Rattle.rtcp_wire.specs.Facts.{is_media};
@@ -95,6 +96,8 @@ impl Entry {
 
     /// Takes a fact of the source at the moment `t`, where the entry has no mark. Returns whether the fact
     /// was a packet that was counted.
+    // Inlined, and the next two, so that where the kind of a fact is known nothing is asked of it.
+    #[inline(always)]
     pub(crate) fn take(&mut self, fact: Fact, t: u64, rate: u32) -> bool
         requires { IsTrue (is_media fact) → self.old.source.packets < 2 ^ 40 }
         ensures counted { result ≡ counts fact self.old.source }
@@ -110,23 +113,35 @@ impl Entry {
             Fact::Heard(_) => {}
             Fact::Named(_) => self.valid = true,
             Fact::Told(_, ntp) => self.source.saw_sr(ntp, t),
-            Fact::Media(_, seq, timestamp) => {
-                let taken = self.source.take(seq, timestamp, rtp_units(t, rate));
-                let counted = taken.is_counted();
-                if counted {
-                    self.valid = true;
-                    self.sends = true;
-                    self.sending = t;
-                }
-                self.sighting = t;
-                return counted;
-            }
+            Fact::Media(_, seq, timestamp) => return self.take_packet(seq, timestamp, t, rate),
         }
         self.sighting = t;
         false
     }
 
+    /// Takes an RTP packet of the source at the moment `t`, where the entry has no mark. Returns whether it was
+    /// counted.
+    #[inline(never)]
+    fn take_packet(&mut self, seq: u16, timestamp: u32, t: u64, rate: u32) -> bool
+        requires { self.old.source.packets < 2 ^ 40 }
+        ensures counted { (ssrc : ℕ) → result ≡ counts (Media ssrc seq timestamp) self.old.source }
+        ensures ssrc { self.new.ssrc ≡ self.old.ssrc }
+        ensures value { (ssrc : ℕ) → entry_value self.new
+            ≡ entry_after rate (Media ssrc seq timestamp) t (entry_value self.old) }
+    {
+        let taken = self.source.take(seq, timestamp, rtp_units(t, rate));
+        let counted = taken.is_counted();
+        if counted {
+            self.valid = true;
+            self.sends = true;
+            self.sending = t;
+        }
+        self.sighting = t;
+        counted
+    }
+
     /// A fact of the entry's source comes at the moment `t`.
+    #[inline(always)]
     pub(crate) fn apply(&mut self, fact: Fact, t: u64, rate: u32) -> Applied
         requires { IsTrue (is_media fact) → self.old.source.packets < 2 ^ 40 }
         ensures place { (room : Bool) → result.place ≡ place_of fact (Some (entry_value self.old)) room }
@@ -149,6 +164,7 @@ impl Entry {
     }
 
     /// Whether a fact of the source surely leaves it counted as it is.
+    #[inline(always)]
     pub(crate) fn keeps_counts(&self, fact: Fact) -> bool
         ensures { IsTrue result → KeepsCounts fact (entry_value self.now) }
     {

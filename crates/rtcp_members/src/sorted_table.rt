@@ -138,6 +138,8 @@ impl<S: Storage> Sorted<S> {
 impl<S: Storage> MemberTable for Sorted<S> {
     ghost content = { λ t. t };
 
+    // Inlined, with what it does to an entry, so that where the kind of a fact is known nothing is asked of it.
+    #[inline(always)]
     fn apply(&mut self, fact: Fact, t: u64) -> Applied {
         self.bounds.lower(fact, t);
         let ssrc = fact.ssrc();
@@ -297,6 +299,7 @@ fn search_behind<S: Storage>(entries: &S, last_place: usize, ssrc: u32) -> Resul
 }
 
 /// A fact comes to the entry of its source, which stands at `at`.
+#[inline(always)]
 fn apply_at<S: Storage>(
     entries: &mut S,
     counts: &mut Counts,
@@ -336,6 +339,7 @@ fn apply_at<S: Storage>(
 }
 
 /// A fact comes whose source has no entry. Where it is added, its entry is put into the gap.
+#[inline(never)]
 fn admit<S: Storage>(
     entries: &mut S,
     counts: &mut Counts,

@@ -78,6 +78,8 @@ impl<T: MemberTable> Presence<T> {
     }
 
     /// Takes an RTP packet, and its contributing sources if it is counted.
+    // Inlined, as `Participant::take`.
+    #[inline(always)]
     fn take_media(&mut self, now: u64, head: &RtpHead<'_>) -> bool
         requires reports { self.old.reports < self.old.calls }
         requires few { HasFew (self.old.calls - 1) self.old.table }
