@@ -34,23 +34,23 @@ const MAX_CALLS: u64 = (1 << 40) - 1;
 
 /// What a participant knows of its session, up to its leave. From then on the members and the own stream stand
 /// still, and average and schedule are those of the backoff. The SSRC of `config` is the present one.
-// Fields lie in memory in this order: what each arrival reads comes first, so that it takes few cache lines, and
-// the configuration, of 2 KB, comes last.
+// Fields lie in memory in this order: what each RTP packet reads comes first, up to the SSRC at the start of the
+// configuration, which has 2 KB, so that it takes few cache lines.
 #[derive(Drop)]
 pub(crate) struct Presence<T: MemberTable> {
     /// the moment of the last call that was taken
     last: u64,
     /// how many calls were taken
     calls: u64,
-    /// how many reports were sent
-    reports: u64,
     schedule: Schedule,
     table: T,
     own: OwnStream,
+    config: Config,
     average: Average,
     /// the source of the last block that was sent
     cursor: Option<u32>,
-    config: Config,
+    /// how many reports were sent
+    reports: u64,
 }
 
 impl<T: MemberTable> Model for Presence<T> {
