@@ -4,14 +4,15 @@ ghost use Rattle.std.specs.Prelude.{◌≡◌, [], ◌*◌, ◌≤◌, ◌<◌, 
 ghost use Rattle.std.specs.Vec as vectors;
 ghost use Rattle.rtcp_members.specs.Heaps.{IsHeap, IsPut, no_slot, entries_in, pairs_in, slots_in, spared_slots, picked, place_at};
 ghost use Rattle.rtcp_members.specs.Looks.{Sees};
-ghost use Rattle.rtcp_members.specs.SortedViews.{IsRising};
+ghost use Rattle.rtcp_members.specs.SortedViews.{IsRising, IsGapFor};
+ghost use Rattle.rtcp_members.specs.ListViews.{IsPlaceOf};
 ghost use Rattle.rtcp_members.specs.HeapLaws.{with_entry_at, written_at, sound_at};
 
 use crate::bounds::Bounds;
 use crate::cells::{Cell, Slot, exchange, shift, slot_at};
 use crate::counts::Counts;
 use crate::entry::Entry;
-use crate::storage::{LONGEST_WALK, Storage};
+use crate::storage::{LONGEST_WALK, LOOK_AHEAD, Storage, is_beyond};
 use std::alloc::{AllocError, Global};
 
 /// Entries each of which lies in one cell from when it is put in until it is dropped, and slots that say where,
@@ -106,6 +107,72 @@ impl Heap {
         Look::Above
     }
 
+    /// Walks from a cell to a source, so many steps at most, each of which looks at both ranks of a cell. Returns
+    /// what `find` returns, or else the cell that it came to.
+    // Inlined, so that the first steps have no count.
+    #[inline(always)]
+    fn walk(&self, ssrc: u32, from: usize, steps: u32) -> Result<Result<usize, usize>, usize>
+        requires sound { IsHeap (entries_in self.now.cells.items) (slots_in self.now.cells.items) self.now.used
+            (vectors.vec_capacity self.now.cells) }
+        requires rising { IsRising (picked (entries_in self.now.cells.items)
+            (take self.now.used (slots_in self.now.cells.items))) }
+        ensures found { IfOk result (λ rank. IfOk rank (IsPlaceOf ssrc (picked (entries_in self.now.cells.items)
+            (take self.now.used (slots_in self.now.cells.items))))) }
+        ensures absent { IfOk result (λ rank. IfErr rank (IsGapFor ssrc (picked (entries_in self.now.cells.items)
+            (take self.now.used (slots_in self.now.cells.items))))) }
+    {
+        let mut at = from;
+        for _ in 0..steps {
+            if at >= self.used.div_ceil(2) {
+                return Err(at);
+            }
+            match self.look(ssrc, at) {
+                Look::Stands(rank) => return Ok(Ok(rank)),
+                Look::Missing(rank) => return Ok(Err(rank)),
+                Look::Below => at -= 1,
+                Look::Above => at += 1,
+            }
+        }
+        Err(at)
+    }
+
+    /// Goes on with a walk that has come to a cell, in this direction, unless the source lies beyond its reach.
+    // Inlined, with what it asks, so that a search needs no room on the stack.
+    #[inline(always)]
+    fn walk_on(&self, ssrc: u32, at: usize, rising: bool) -> Option<Result<usize, usize>>
+        requires sound { IsHeap (entries_in self.now.cells.items) (slots_in self.now.cells.items) self.now.used
+            (vectors.vec_capacity self.now.cells) }
+        requires rising { IsRising (picked (entries_in self.now.cells.items)
+            (take self.now.used (slots_in self.now.cells.items))) }
+        ensures found { IfSome result (λ rank. IfOk rank (IsPlaceOf ssrc (picked (entries_in self.now.cells.items)
+            (take self.now.used (slots_in self.now.cells.items))))) }
+        ensures absent { IfSome result (λ rank. IfErr rank (IsGapFor ssrc (picked (entries_in self.now.cells.items)
+            (take self.now.used (slots_in self.now.cells.items))))) }
+    {
+        if self.is_far(ssrc, at, rising) {
+            return None;
+        }
+        match self.walk(ssrc, at, LONGEST_WALK - LOOK_AHEAD) {
+            Ok(found) => Some(found),
+            Err(_) => None,
+        }
+    }
+
+    /// Whether a walk that is at a cell, in this direction, will not come to the source.
+    #[inline(always)]
+    fn is_far(&self, ssrc: u32, at: usize, rising: bool) -> bool
+        requires sound { IsHeap (entries_in self.now.cells.items) (slots_in self.now.cells.items) self.now.used
+            (vectors.vec_capacity self.now.cells) }
+    {
+        let reach = LONGEST_WALK as usize;
+        let end = if rising {
+            at.saturating_add(reach)
+        } else {
+            at.saturating_sub(reach)
+        };
+        end < self.used.div_ceil(2) && is_beyond(ssrc, self.cells[end].even.ssrc, rising)
+    }
+
     /// Looks before a cell, of which each source is greater.
     #[inline(always)]
     fn look_before(&self, ssrc: u32, at: usize) -> Look
@@ -176,21 +243,12 @@ impl Storage for Heap {
         Err(low)
     }
 
-    // A step looks at both ranks of a cell, which lie beside each other.
     fn walk_to(&self, ssrc: u32, from: usize) -> Option<Result<usize, usize>> {
-        let mut at = from / 2;
-        for _ in 0..LONGEST_WALK {
-            if at >= self.used.div_ceil(2) {
-                return None;
-            }
-            match self.look(ssrc, at) {
-                Look::Stands(rank) => return Some(Ok(rank)),
-                Look::Missing(rank) => return Some(Err(rank)),
-                Look::Below => at -= 1,
-                Look::Above => at += 1,
-            }
+        let start = from / 2;
+        match self.walk(ssrc, start, LOOK_AHEAD) {
+            Ok(found) => Some(found),
+            Err(at) => self.walk_on(ssrc, at, start < at),
         }
-        None
     }
 
     #[inline(always)]

@@ -221,9 +221,16 @@ impl<S: Storage> MemberTable for Sorted<S> {
         report_at(entries, due, at, ssrc, t)
     }
 
+    // By halves, which costs the same for any SSRCs: in a walk nothing hints at the next source's place.
     fn source_above(&self, after: Option<u32>) -> Option<SourceState> {
-        let (entries, last_place) = (&self.entries, usize::from(self.last_place));
-        state_at(entries, first_above(entries, last_place, after))
+        let entries = &self.entries;
+        let Some(above) = after else {
+            return state_at(entries, 0);
+        };
+        match entries.find(above) {
+            Ok(at) => state_at(entries, at + 1),
+            Err(gap) => state_at(entries, gap),
+        }
     }
 
     fn source_from(&self, after: Option<u32>, place: &mut usize) -> Option<SourceState> {

@@ -21,6 +21,15 @@ use arrayvec::ArrayVec;
 /// The most steps that a walk to a source takes.
 pub(crate) const LONGEST_WALK: u32 = 8;
 
+/// The step at which a walk looks ahead. Among evenly spread SSRCs most end before; among others it ends then.
+pub(crate) const LOOK_AHEAD: u32 = 3;
+
+/// Whether a source lies beyond one that is seen, in the direction of a walk.
+#[inline(always)]
+pub(crate) fn is_beyond(ssrc: u32, seen: u32, rising: bool) -> bool {
+    if rising { seen < ssrc } else { ssrc < seen }
+}
+
 /// Entries in an order, with room for a number of them. No call takes memory: the room stays, and an insert leaves
 /// the entries in the block where they lie.
 pub trait Storage {
@@ -109,6 +118,17 @@ pub trait Storage {
     ghost kept: { (s : Self) (at : ℕ) (e : Entry) → room (with_entry s at e) ≡ room s };
 }
 
+/// Whether a walk that is at a rank, in this direction, will not come to the source.
+fn is_far(entries: &[Entry], ssrc: u32, at: usize, rising: bool) -> bool {
+    let reach = LONGEST_WALK as usize;
+    let end = if rising {
+        at.saturating_add(reach)
+    } else {
+        at.saturating_sub(reach)
+    };
+    end < entries.len() && is_beyond(ssrc, entries[end].ssrc, rising)
+}
+
 impl Storage for ArrayVec<Entry, MAX_CAPACITY> {
     ghost items = { λ s. s.items };
 
@@ -143,8 +163,11 @@ impl Storage for ArrayVec<Entry, MAX_CAPACITY> {
 
     fn walk_to(&self, ssrc: u32, from: usize) -> Option<Result<usize, usize>> {
         let mut at = from;
-        for _ in 0..LONGEST_WALK {
+        for step in 0..LONGEST_WALK {
             if at >= self.len() {
+                return None;
+            }
+            if step == LOOK_AHEAD && is_far(self.as_slice(), ssrc, at, from < at) {
                 return None;
             }
             let seen = self.as_slice()[at].ssrc;
