@@ -59,7 +59,7 @@ pub extern "C" fn jalwedd_arrive_rtcp(
     let Some(mut session) = handle.take(alloc) else {
         return empty(step);
     };
-    match session.participant.arrive_rtcp_told(now, datagram) {
+    match session.participant.arrive_rtcp_told(now, peer, datagram) {
         Some(reply) => handle.put_back(session, &reply, &[], step, octets),
         None => own_rtcp(handle, session, now, peer, word, datagram, step, octets),
     }
@@ -141,7 +141,7 @@ pub extern "C" fn jalwedd_arrive_rtp(
     let Some(mut session) = handle.take(alloc) else {
         return empty(step);
     };
-    match session.participant.arrive_rtp_told(now, datagram) {
+    match session.participant.arrive_rtp_told(now, peer, datagram) {
         Some(reply) => handle.put_back(session, &reply, &[], step, octets),
         None => own_rtp(handle, session, now, peer, word, datagram, step, octets),
     }

@@ -1,8 +1,9 @@
 -- A datagram that was read: whether it is refused, and whether it changes the identifier.
-use Rattle.std.proofs.Common.{◌≡◌, ℕ, ◌&&◌, not, Bool, true, false, Option, Some, None, if◌then◌else◌, refl, sym, ap, ◌∙◌}
+use Rattle.std.proofs.Common.{◌≡◌, ℕ, ◌&&◌, not, Bool, true, false, List, map, Option, Some, None, if◌then◌else◌, refl, sym, ap, ◌∙◌}
 use Rattle.std.specs.Option.{option_or}
 use Rattle.rtcp_engine.specs.declared.arrival.Arrival.{Arrival}
 use Rattle.rtcp_engine.specs.declared.arrival.Arrival.TheVariants.{Rtcp, Rtp}
+use Rattle.rtcp_engine.specs.declared.changes.Change.{Change}
 use Rattle.rtcp_engine.specs.declared.refusal.Refusal.{Refusal}
 use Rattle.rtcp_engine.specs.declared.refusal.Refusal.TheVariants.{OwnSsrc}
 use Rattle.rtcp_engine.specs.Acts.{Datagram, arrived}
@@ -10,6 +11,7 @@ use Rattle.rtcp_engine.specs.Identities.{may_change}
 use Rattle.rtcp_engine.specs.Changes.{NewIdentifier, Session, changing_peers, is_about, new_identifier}
 use Rattle.rtcp_engine.specs.Histories.{History, session_at}
 use Rattle.rtcp_engine.specs.Refusals.{fault_in, refusal_after, refusal_if, refusal_of_datagram}
+use Rattle.rtcp_engine.specs.Setups.{Setup}
 use Rattle.rtcp_engine.specs.States.{ParticipantValue, StandsAt, refusal_by}
 use Rattle.rtcp_engine.specs.Views.{datagram_of}
 use Rattle.rtcp_engine.proofs.Acting.{Takes}
@@ -56,3 +58,15 @@ changing p h t peer word ssrc arrival stands none own may chosen =
       taken = refusal_is p h (arrived t peer word (datagram_of arrival)) None None stands none (own_alone session t peer word arrival true true own may);
       changes = ap (λ (own : Bool). if own then change (new_identifier word session (datagram_of arrival)) else None) own ∙ sym (ap change chosen);
     }
+
+-- what a datagram is about, and whose may change the identifier, as the history has it
+pub is_own : (p : ParticipantValue) (h : History) (datagram : Datagram) → StandsAt p h → is_about p.presence.setup.ssrc datagram ≡ true → is_about (session_at h).setup.ssrc datagram ≡ true
+is_own p h datagram stands own = sym (ap (λ (s : Setup). is_about s.ssrc datagram) stands.session.setup) ∙ own
+
+pub may_is : (p : ParticipantValue) (h : History) (peer : ℕ) → StandsAt p h → may_change (map (λ (change : Change). change.peer) p.changes) peer ≡ may_change (changing_peers (session_at h)) peer
+may_is p h peer stands = ap (λ (changes : List Change). may_change (map (λ (change : Change). change.peer) changes) peer) stands.session.changes
+
+-- A datagram of the own identifier that changes it no more is refused.
+pub own_refused : (p : ParticipantValue) (t peer word : ℕ) (arrival : Arrival) → refusal_by t p ≡ None → is_about p.presence.setup.ssrc (datagram_of arrival) ≡ true → may_change (map (λ (change : Change). change.peer) p.changes) peer ≡ false
+    → (h : History) → StandsAt p h → refusal_after h (arrived t peer word (datagram_of arrival)) ≡ Some OwnSsrc
+own_refused p t peer word arrival none own may h stands = refused_as_own p h t peer word arrival stands none (is_own p h (datagram_of arrival) stands own) (sym (may_is p h peer stands) ∙ may)

@@ -1,6 +1,9 @@
 //! What a participant does with a datagram that it takes: it may change its identifier first (RFC 3550, 8.2).
 
-ghost use Rattle.std.specs.Prelude.{◌≡◌, ◌≤◌, ◌<◌, ◌-◌, ◌^◌, ℕ, List, None, Ok, length, true, false, OnErr};
+ghost use Rattle.std.specs.Prelude.{◌≡◌, ◌≤◌, ◌<◌, ◌-◌, ◌^◌, ℕ, List, None, Some, Ok, Err, length, map, if◌then◌else◌, true, false, OnErr};
+ghost use Rattle.rtcp_engine.specs.declared.changes.Change.{Change};
+ghost use Rattle.rtcp_engine.specs.declared.refusal.Refusal.TheVariants.{OwnSsrc};
+ghost use Rattle.rtcp_engine.specs.Identities.{may_change};
 ghost use Rattle.rtcp_engine.specs.Acts.{arrived};
 ghost use Rattle.rtcp_engine.specs.Changes.{Session, changed_to, identifiers, is_about, is_taken as is_taken_of, new_identifier};
 ghost use Rattle.rtcp_engine.specs.Histories.{History, session_at};
@@ -66,6 +69,18 @@ impl<T: MemberTable> Participant<T> {
             out: None,
             others_changed,
         })
+    }
+
+    /// The refusal of a datagram that names the participant's SSRC, unless its peer may change that.
+    #[cold]
+    pub(super) fn own_refusal(&self, peer: u64) -> Option<Reply>
+        ensures { result ≡ (if may_change (map (λ (change : Change). change.peer) self.now.changes) peer
+            then None else Some (Err OwnSsrc)) }
+    {
+        if self.changes.allows(peer) {
+            return None;
+        }
+        Some(Err(Refusal::OwnSsrc))
     }
 
     /// Takes a datagram that names the participant's SSRC, after a change of that, or refuses it.

@@ -61,16 +61,16 @@ impl<T: MemberTable> Participant<T> {
         Ok(self.arrive_as_other(now, &arrival))
     }
 
-    /// [`arrive_rtcp`](Participant::arrive_rtcp) of a datagram that does not name the participant's own SSRC.
-    /// That never has a compound: so it takes no room for one, nor a word for a new SSRC. `None` where the
-    /// datagram names the own SSRC: then the participant is unchanged, and `arrive_rtcp_into` takes or refuses
-    /// the datagram.
+    /// [`arrive_rtcp`](Participant::arrive_rtcp) of a datagram that changes no identifier. That never has a
+    /// compound: so it takes no room for one, nor a word for a new SSRC. `None` where the datagram names the own
+    /// SSRC and its peer may change that: then the participant is unchanged, and `arrive_rtcp_into` takes the
+    /// datagram.
     ///
     /// # Errors
     ///
-    /// The first of E1 to E5 that applies. Then the participant is unchanged.
-    pub fn arrive_rtcp_told(&mut self, now: u64, bytes: &[u8]) -> Option<Reply>
-        ensures takes { (peer w : ℕ) (room : List ℕ) (reading : Result (List RtcpPacket) Fault) → w < 2 ^ 32 →
+    /// The first of E1 to E5 and E7 that applies. Then the participant is unchanged.
+    pub fn arrive_rtcp_told(&mut self, now: u64, peer: u64, bytes: &[u8]) -> Option<Reply>
+        ensures takes { (w : ℕ) (room : List ℕ) (reading : Result (List RtcpPacket) Fault) → w < 2 ^ 32 →
             IsReading bytes.now reading → IfSome result (λ reply.
             Takes self.old (rtcp_came now peer w bytes.now reading) (reply_value room reply) self.new) }
         ensures empty { IfSome result (λ reply. kind_told reply ≡ None) }
@@ -89,7 +89,7 @@ impl<T: MemberTable> Participant<T> {
         };
         let datagram = Arrival::Rtcp(compound, bytes.len());
         if self.is_named_by(&datagram) {
-            return None;
+            return self.own_refusal(peer);
         }
         Some(Ok(self.arrive_as_other(now, &datagram)))
     }
@@ -130,16 +130,15 @@ impl<T: MemberTable> Participant<T> {
         Ok(self.arrive_as_other(now, &packet))
     }
 
-    /// [`arrive_rtp`](Participant::arrive_rtp) of a packet that does not come from the participant's own SSRC.
-    /// That never has a compound: so it takes no room for one, nor a word for a new SSRC. `None` where the packet
-    /// comes from the own SSRC: then the participant is unchanged, and `arrive_rtp_into` takes or refuses the
-    /// packet.
+    /// [`arrive_rtp`](Participant::arrive_rtp) of a packet that changes no identifier. That never has a compound:
+    /// so it takes no room for one, nor a word for a new SSRC. `None` where the packet comes from the own SSRC and
+    /// its peer may change that: then the participant is unchanged, and `arrive_rtp_into` takes the packet.
     ///
     /// # Errors
     ///
-    /// The first of E1 to E4 and E6 that applies. Then the participant is unchanged.
-    pub fn arrive_rtp_told(&mut self, now: u64, bytes: &[u8]) -> Option<Reply>
-        ensures takes { (peer w : ℕ) (room : List ℕ) (reading : Result RtpValue HeadFault) → w < 2 ^ 32 →
+    /// The first of E1 to E4, E6 and E7 that applies. Then the participant is unchanged.
+    pub fn arrive_rtp_told(&mut self, now: u64, peer: u64, bytes: &[u8]) -> Option<Reply>
+        ensures takes { (w : ℕ) (room : List ℕ) (reading : Result RtpValue HeadFault) → w < 2 ^ 32 →
             IsRtpReading bytes.now reading → IfSome result (λ reply.
             Takes self.old (rtp_came now peer w reading) (reply_value room reply) self.new) }
         ensures empty { IfSome result (λ reply. kind_told reply ≡ None) }
@@ -158,7 +157,7 @@ impl<T: MemberTable> Participant<T> {
         };
         let media = Arrival::Rtp(head);
         if self.is_named_by(&media) {
-            return None;
+            return self.own_refusal(peer);
         }
         Some(Ok(self.arrive_as_other(now, &media)))
     }

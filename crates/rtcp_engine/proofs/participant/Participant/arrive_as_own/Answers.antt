@@ -11,19 +11,12 @@ use Rattle.rtcp_engine.specs.States.{Acts, IsIn, ParticipantValue, StandsAt}
 use Rattle.rtcp_engine.specs.Steps.{OutValue}
 use Rattle.rtcp_engine.specs.Views.{datagram_of, out_with, told_value}
 use Rattle.rtcp_engine.proofs.Acting.{Takes, acted_stands, acted_step, answered, refuses}
-use Rattle.rtcp_engine.proofs.Arriving.{changing, refused_as_own}
+use Rattle.rtcp_engine.proofs.Arriving.{changing, is_own, may_is, refused_as_own}
 use Rattle.rtcp_engine.proofs.Bounded.{bounds_after}
 use Rattle.rtcp_engine.proofs.Changing.{or_none}
 use Rattle.rtcp_engine.proofs.LifeLemmas.{is_there}
 use Rattle.rtcp_engine.proofs.Standing.{taken_history}
 use Rattle.rtcp_engine.proofs.participant.Participant.arrive_as_own.Goals as goal
-
--- what a datagram is about, and whose may change the identifier, as the history has it
-is_own : (p : ParticipantValue) (h : History) (datagram : Datagram) → StandsAt p h → is_about p.presence.setup.ssrc datagram ≡ true → is_about (session_at h).setup.ssrc datagram ≡ true
-is_own p h datagram stands own = sym (ap (λ (s : Setup). is_about s.ssrc datagram) stands.session.setup) ∙ own
-
-may_is : (p : ParticipantValue) (h : History) (peer : ℕ) → StandsAt p h → may_change (map (λ (change : Change). change.peer) p.changes) peer ≡ may_change (changing_peers (session_at h)) peer
-may_is p h peer stands = ap (λ (changes : List Change). may_change (map (λ (change : Change). change.peer) changes) peer) stands.session.changes
 
 pub returns-then-not-allows-clause-takes : goal.returns-then-not-allows-clause-takes
 returns-then-not-allows-clause-takes g c =
