@@ -1,11 +1,12 @@
 -- A datagram that was read: whether it is refused, and whether it changes the identifier.
-use Rattle.std.proofs.Common.{◌≡◌, ℕ, ◌&&◌, not, Bool, true, false, List, map, Option, Some, None, if◌then◌else◌, refl, sym, ap, ◌∙◌}
+use Rattle.std.proofs.Common.{◌≡◌, ℕ, ◌&&◌, not, Bool, true, false, List, map, Option, Some, None, Result, Err, if◌then◌else◌, refl, sym, ap, ◌∙◌}
 use Rattle.std.specs.Option.{option_or}
 use Rattle.rtcp_engine.specs.declared.arrival.Arrival.{Arrival}
 use Rattle.rtcp_engine.specs.declared.arrival.Arrival.TheVariants.{Rtcp, Rtp}
 use Rattle.rtcp_engine.specs.declared.changes.Change.{Change}
 use Rattle.rtcp_engine.specs.declared.refusal.Refusal.{Refusal}
 use Rattle.rtcp_engine.specs.declared.refusal.Refusal.TheVariants.{OwnSsrc}
+use Rattle.rtcp_engine.specs.declared.step.Told.{Told}
 use Rattle.rtcp_engine.specs.Acts.{Datagram, arrived}
 use Rattle.rtcp_engine.specs.Identities.{may_change}
 use Rattle.rtcp_engine.specs.Changes.{NewIdentifier, Session, changing_peers, is_about, new_identifier}
@@ -70,3 +71,8 @@ may_is p h peer stands = ap (λ (changes : List Change). may_change (map (λ (ch
 pub own_refused : (p : ParticipantValue) (t peer word : ℕ) (arrival : Arrival) → refusal_by t p ≡ None → is_about p.presence.setup.ssrc (datagram_of arrival) ≡ true → may_change (map (λ (change : Change). change.peer) p.changes) peer ≡ false
     → (h : History) → StandsAt p h → refusal_after h (arrived t peer word (datagram_of arrival)) ≡ Some OwnSsrc
 own_refused p t peer word arrival none own may h stands = refused_as_own p h t peer word arrival stands none (is_own p h (datagram_of arrival) stands own) (sym (may_is p h peer stands) ∙ may)
+
+-- What is neither told nor refused is of a peer that may change the identifier.
+pub changing_if_untaken : (result : Option (Result Told Refusal)) (may : Bool) → result ≡ (if may then None else Some (Err OwnSsrc)) → result ≡ None → may ≡ true
+changing_if_untaken result true refused untaken = refl
+changing_if_untaken result false refused untaken = absurd cc

@@ -2,14 +2,16 @@
 //! of its size is handed on. `octets` changes only where the reply says what was written: a refusal leaves it as
 //! it was, and so does a call without a compound.
 
-ghost use Rattle.std.specs.Prelude.{◌≡◌, ◌<◌, ◌^◌, ℕ, List, None, Result, length, true, IfOk, IfSome, IsTrue, OnErr, is_some};
+ghost use Rattle.std.specs.Prelude.{◌≡◌, ◌<◌, ◌^◌, ℕ, List, None, Result, length, map, true, IfOk, IfSome, IsTrue, OnErr, is_some};
 ghost use Rattle.rtcp_wire.specs.declared.fault.WireFault.{WireFault as Fault};
 ghost use Rattle.rtcp_wire.specs.declared.rtp.fault.RtpFault.{RtpFault as HeadFault};
 ghost use Rattle.rtcp_wire.specs.Values.{RtcpPacket};
 ghost use Rattle.rtcp_wire.specs.RtpHeads.{RtpValue};
+ghost use Rattle.rtcp_engine.specs.declared.changes.Change.{Change};
 ghost use Rattle.rtcp_engine.specs.Acts.{rtcp, rtcp_came, rtp, rtp_came, rtp_sent, ticked, left, IsReading, IsRtpReading};
 ghost use Rattle.rtcp_engine.specs.Changes.{is_about};
 ghost use Rattle.rtcp_engine.specs.Histories.{History};
+ghost use Rattle.rtcp_engine.specs.Identities.{may_change};
 ghost use Rattle.rtcp_engine.specs.InTime.{IsOverdue};
 ghost use Rattle.rtcp_engine.specs.Promises.{Takes};
 ghost use Rattle.rtcp_engine.specs.States.{KeepsCapacity, StandsAt};
@@ -76,6 +78,8 @@ impl<T: MemberTable> Participant<T> {
         ensures empty { IfSome result (λ reply. kind_told reply ≡ None) }
         ensures own { (reading : Result (List RtcpPacket) Fault) → IsReading bytes.now reading → result ≡ None →
             is_about self.old.presence.setup.ssrc (rtcp (length bytes.now) reading) ≡ true }
+        ensures changing { result ≡ None →
+            may_change (map (λ (change : Change). change.peer) self.old.changes) peer ≡ true }
         ensures untaken { result ≡ None → self.new ≡ self.old }
         ensures within { KeepsCapacity self.new.presence }
         ensures refused { IfSome result (λ reply. OnErr reply (self.new ≡ self.old)) }
@@ -144,6 +148,8 @@ impl<T: MemberTable> Participant<T> {
         ensures empty { IfSome result (λ reply. kind_told reply ≡ None) }
         ensures own { (reading : Result RtpValue HeadFault) → IsRtpReading bytes.now reading → result ≡ None →
             is_about self.old.presence.setup.ssrc (rtp reading) ≡ true }
+        ensures changing { result ≡ None →
+            may_change (map (λ (change : Change). change.peer) self.old.changes) peer ≡ true }
         ensures untaken { result ≡ None → self.new ≡ self.old }
         ensures within { KeepsCapacity self.new.presence }
         ensures refused { IfSome result (λ reply. OnErr reply (self.new ≡ self.old)) }
