@@ -1,5 +1,5 @@
 -- A heap of entries that is searched, and into which an entry is put.
-use Rattle.std.proofs.Common.{◌≡◌, ◌<◌, ◌≤◌, ◌+◌, ◌-◌, ◌==◌, ◌++◌, ℕ, suc, true, false, cond, List, [], ◌∷◌, length, take, drop, set, slice_index_or, inl, inr, arith, refl, sym, ap, subst, ◌∙◌}
+use Rattle.std.proofs.Common.{◌≡◌, ◌<◌, ◌≤◌, ◌+◌, ◌-◌, ◌*◌, ◌==◌, ◌++◌, ℕ, suc, true, false, cond, List, [], ◌∷◌, length, take, drop, set, slice_index_or, inl, inr, arith, refl, sym, ap, subst, ◌∙◌}
 use Rattle.std.specs.List.{All, insert, sum_by}
 use Rattle.std.proofs.lemmas.Bool.{cases_eq, cases_lt}
 use Rattle.std.proofs.lemmas.Bool.Decides.{nat_tests}
@@ -12,19 +12,19 @@ use Rattle.rtcp_members.specs.declared.cells.Slot.{Slot}
 use Rattle.rtcp_members.specs.ListViews.{IsPlaceOf}
 use Rattle.rtcp_members.specs.SortedViews.{IsRising, IsGapFor}
 use Rattle.rtcp_members.proofs.Pairs.{take_inserted, behind}
-use Rattle.rtcp_members.specs.Heaps.{no_slot, no_entry, entry_in, picked, IsKeyed, IsHeap, IsPut}
+use Rattle.rtcp_members.specs.Heaps.{no_slot, no_entry, entry_in, picked, IsHalved, IsKeyed, IsHeap, IsPut}
 use Rattle.rtcp_members.specs.HeapLaws.{has_place, picked_same}
 use Rattle.rtcp_members.proofs.Rising.{rises}
 use Rattle.rtcp_members.proofs.Searching.{ssrc_found}
 
 -- ---- A search among the slots
 
--- Where a binary search has come: the SSRCs of the slots before `low` are lesser, and of none from `high` on.
-pub record IsHalved (slots : List Slot) (ssrc low high : ℕ) : Type 0 where
-  pub order : low ≤ high
-  pub until : high ≤ length slots
-  pub lesser : (k : ℕ) → k < low → (slice_index_or slots k no_slot).ssrc < ssrc
-  pub greater : (k : ℕ) → high ≤ k → k < length slots → ssrc ≤ (slice_index_or slots k no_slot).ssrc
+-- Where a search by halves of cells has come: so many cells from one on.
+pub record IsHalving (slots : List Slot) (ssrc used at count : ℕ) : Type 0 where
+  pub high : ℕ
+  pub halved : IsHalved slots ssrc (2 * at) high
+  pub near : high ≤ 2 * (at + count)
+  pub within : 2 * (at + count) ≤ used + 1
 
 module _ (entries : List Entry) (slots : List Slot) (keyed : All (IsKeyed entries) slots) (rising : IsRising (picked entries slots)) (ssrc : ℕ) where
   key : (k : ℕ) (d : Slot) (e : Entry) → k < length slots → (slice_index_or slots k d).ssrc ≡ (slice_index_or (picked entries slots) k e).ssrc
@@ -55,6 +55,30 @@ module _ (entries : List Entry) (slots : List Slot) (keyed : All (IsKeyed entrie
           | inl after ↦ omega (arith, less, rise middle k after within)
           | inr until ↦ subst (λ n. ssrc ≤ (slice_index_or slots n no_slot).ssrc) (omega (arith, late, until)) less
         ]
+
+  -- What is seen before or from the source on lets the ends come nearer.
+  pub raised : (low high middle : ℕ) → IsHalved slots ssrc low high → middle < length slots → (slice_index_or slots middle no_slot).ssrc < ssrc → IsHalved slots ssrc middle high
+  raised low high middle so within less = record {
+    order = elim (cases_lt middle high) [
+      | inl before ↦ omega (arith, before)
+      | inr from ↦ absurd (omega (arith, less, so.greater middle from within))
+    ];
+    until = so.until;
+    lesser = λ k early. omega (arith, less, rise k middle early within);
+    greater = so.greater;
+  }
+
+  pub lowered : (low high middle : ℕ) → IsHalved slots ssrc low high → low ≤ middle → middle < length slots → ssrc ≤ (slice_index_or slots middle no_slot).ssrc → IsHalved slots ssrc low middle
+  lowered low high middle so above within less = record { order = above; until = omega (arith, within); lesser = so.lesser; greater = greater }
+    where
+      greater : (k : ℕ) → middle ≤ k → k < length slots → ssrc ≤ (slice_index_or slots k no_slot).ssrc
+      greater k late in_list = elim (cases_lt middle k) [
+        | inl after ↦ omega (arith, less, rise middle k after in_list)
+        | inr until ↦ subst (λ n. ssrc ≤ (slice_index_or slots n no_slot).ssrc) (omega (arith, late, until)) less
+      ]
+
+  pub widened : (low high next : ℕ) → IsHalved slots ssrc low high → high ≤ next → next ≤ length slots → IsHalved slots ssrc low next
+  widened low high next so more within = record { order = omega (arith, so.order, more); until = within; lesser = so.lesser; greater = λ k late. so.greater k (omega (arith, more, late)) }
 
   pub slot_found : (at : ℕ) → at < length slots → (slice_index_or slots at no_slot).ssrc ≡ ssrc → IsPlaceOf ssrc (picked entries slots) at
   slot_found at within same =

@@ -1,8 +1,8 @@
 //! Entries that stay where they are, in a block of memory of their own, with an index by rising SSRC.
 
-ghost use Rattle.std.specs.Prelude.{◌≡◌, [], ◌*◌, ◌≤◌, ◌<◌, IfOk, IfErr, IfSome, length, take, slice_index_or, Some, refl};
+ghost use Rattle.std.specs.Prelude.{◌≡◌, [], ◌+◌, ◌*◌, ◌≤◌, ◌<◌, IfOk, IfErr, IfSome, length, take, slice_index_or, Some, refl};
 ghost use Rattle.std.specs.Vec as vectors;
-ghost use Rattle.rtcp_members.specs.Heaps.{IsHeap, IsPut, no_slot, entries_in, pairs_in, slots_in, spared_slots, picked, place_at};
+ghost use Rattle.rtcp_members.specs.Heaps.{IsHalved, IsHeap, IsPut, no_slot, entries_in, pairs_in, slots_in, spared_slots, picked, place_at};
 ghost use Rattle.rtcp_members.specs.Looks.{Sees};
 ghost use Rattle.rtcp_members.specs.SortedViews.{IsRising, IsGapFor};
 ghost use Rattle.rtcp_members.specs.ListViews.{IsPlaceOf};
@@ -75,6 +75,27 @@ impl Heap {
         let cell = &mut self.cells[place as usize];
         cell.entry = entry;
         place
+    }
+
+    /// Two ranks, of one cell at most: the SSRCs before the first are lesser than this one, and those from the second
+    /// on are not.
+    // What is seen makes a number and no branch: half of the branches would be predicted wrongly.
+    fn halve(&self, ssrc: u32) -> (usize, usize)
+        requires sound { IsHeap (entries_in self.now.cells.items) (slots_in self.now.cells.items) self.now.used
+            (vectors.vec_capacity self.now.cells) }
+        requires rising { IsRising (picked (entries_in self.now.cells.items)
+            (take self.now.used (slots_in self.now.cells.items))) }
+        ensures halved { IsHalved (take self.now.used (slots_in self.now.cells.items)) ssrc result.0 result.1 }
+        ensures near { result.1 ≤ result.0 + 2 }
+    {
+        let mut at = 0;
+        let mut count = self.used.div_ceil(2);
+        'cells: while count > 1 {
+            let half = count / 2;
+            at += half * one_if_before(self.cells[at + half].even.ssrc, ssrc);
+            count -= half;
+        }
+        (2 * at, self.used.min(2 * at + 2))
     }
 
     /// Looks for a source at the ranks of a cell.
@@ -196,6 +217,16 @@ impl Heap {
     }
 }
 
+/// 1 if an SSRC that is seen is lesser than this one, else 0.
+// A bit of the difference's borrow: of its last bit, as of a comparison, the compiler makes a branch.
+#[inline(always)]
+fn one_if_before(seen: u32, ssrc: u32) -> usize
+    ensures before { seen < ssrc → result ≡ 1 }
+    ensures after { ssrc ≤ seen → result ≡ 0 }
+{
+    ((u64::from(seen).wrapping_sub(u64::from(ssrc)) >> 40) % 2) as usize
+}
+
 impl Storage for Heap {
     ghost items = { λ h. picked (entries_in h.cells.items) (take h.used (slots_in h.cells.items)) };
 
@@ -227,8 +258,9 @@ impl Storage for Heap {
     }
 
     fn find(&self, ssrc: u32) -> Result<usize, usize> {
-        let mut low = 0;
-        let mut high = self.used;
+        let ends = self.halve(ssrc);
+        let mut low = ends.0;
+        let mut high = ends.1;
         'halves: while low < high {
             let middle = low + (high - low) / 2;
             if slot_at(&self.cells, middle).ssrc < ssrc {

@@ -1,7 +1,6 @@
 -- What is looked for stands between the two ends, if it does.
 use Rattle.std.proofs.Common.{◌-◌, take}
-use Rattle.rtcp_members.specs.Heaps.{slots_in}
-use Rattle.rtcp_members.proofs.Heaps.{IsHalved}
+use Rattle.rtcp_members.specs.Heaps.{IsHalved, slots_in}
 use Rattle.rtcp_members.proofs.heap.HeapStorage.find.Given as goal
 
 abbrev pub invariant-halves : goal.invariant-halves
