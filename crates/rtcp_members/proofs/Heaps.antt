@@ -77,9 +77,6 @@ module _ (entries : List Entry) (slots : List Slot) (keyed : All (IsKeyed entrie
         | inr until ↦ subst (λ n. ssrc ≤ (slice_index_or slots n no_slot).ssrc) (omega (arith, late, until)) less
       ]
 
-  pub widened : (low high next : ℕ) → IsHalved slots ssrc low high → high ≤ next → next ≤ length slots → IsHalved slots ssrc low next
-  widened low high next so more within = record { order = omega (arith, so.order, more); until = within; lesser = so.lesser; greater = λ k late. so.greater k (omega (arith, more, late)) }
-
   pub slot_found : (at : ℕ) → at < length slots → (slice_index_or slots at no_slot).ssrc ≡ ssrc → IsPlaceOf ssrc (picked entries slots) at
   slot_found at within same =
       ssrc_found ssrc (picked entries slots) at (slice_index_or slots at no_slot).ssrc rising (omega (arith, within, length-map slots (entry_in entries))) (λ e. key at no_slot e within) same
