@@ -37,25 +37,6 @@ module _ (entries : List Entry) (slots : List Slot) (keyed : All (IsKeyed entrie
   pub halved_at_first : IsHalved slots ssrc 0 (length slots)
   halved_at_first = record { order = omega arith; until = omega arith; lesser = λ k early. absurd (omega (arith, early)); greater = λ k late within. absurd (omega (arith, late, within)) }
 
-  module _ (low high middle : ℕ) (so : IsHalved slots ssrc low high) (above : low ≤ middle) (below : middle < high) where
-    pub upper_half : (slice_index_or slots middle no_slot).ssrc < ssrc → IsHalved slots ssrc (middle + 1) high
-    upper_half less = record { order = omega (arith, below); until = so.until; lesser = lesser; greater = so.greater }
-      where
-        lesser : (k : ℕ) → k < middle + 1 → (slice_index_or slots k no_slot).ssrc < ssrc
-        lesser k early = elim (cases_lt k middle) [
-          | inl before ↦ omega (arith, less, rise k middle before (omega (arith, below, so.until)))
-          | inr from ↦ subst (λ n. (slice_index_or slots n no_slot).ssrc < ssrc) (omega (arith, early, from)) less
-        ]
-
-    pub lower_half : ssrc ≤ (slice_index_or slots middle no_slot).ssrc → IsHalved slots ssrc low middle
-    lower_half less = record { order = above; until = omega (arith, below, so.until); lesser = so.lesser; greater = greater }
-      where
-        greater : (k : ℕ) → middle ≤ k → k < length slots → ssrc ≤ (slice_index_or slots k no_slot).ssrc
-        greater k late within = elim (cases_lt middle k) [
-          | inl after ↦ omega (arith, less, rise middle k after within)
-          | inr until ↦ subst (λ n. ssrc ≤ (slice_index_or slots n no_slot).ssrc) (omega (arith, late, until)) less
-        ]
-
   -- What is seen before or from the source on lets the ends come nearer.
   pub raised : (low high middle : ℕ) → IsHalved slots ssrc low high → middle < length slots → (slice_index_or slots middle no_slot).ssrc < ssrc → IsHalved slots ssrc middle high
   raised low high middle so within less = record {
@@ -76,6 +57,19 @@ module _ (entries : List Entry) (slots : List Slot) (keyed : All (IsKeyed entrie
         | inl after ↦ omega (arith, less, rise middle k after in_list)
         | inr until ↦ subst (λ n. ssrc ≤ (slice_index_or slots n no_slot).ssrc) (omega (arith, late, until)) less
       ]
+
+  module _ (low high middle : ℕ) (so : IsHalved slots ssrc low high) (above : low ≤ middle) (below : middle < high) where
+    pub upper_half : (slice_index_or slots middle no_slot).ssrc < ssrc → IsHalved slots ssrc (middle + 1) high
+    upper_half less = record { order = omega (arith, below); until = so.until; lesser = lesser; greater = so.greater }
+      where
+        lesser : (k : ℕ) → k < middle + 1 → (slice_index_or slots k no_slot).ssrc < ssrc
+        lesser k early = elim (cases_lt k middle) [
+          | inl before ↦ omega (arith, less, rise k middle before (omega (arith, below, so.until)))
+          | inr from ↦ subst (λ n. (slice_index_or slots n no_slot).ssrc < ssrc) (omega (arith, early, from)) less
+        ]
+
+    pub lower_half : ssrc ≤ (slice_index_or slots middle no_slot).ssrc → IsHalved slots ssrc low middle
+    lower_half = lowered low high middle so above (omega (arith, below, so.until))
 
   pub slot_found : (at : ℕ) → at < length slots → (slice_index_or slots at no_slot).ssrc ≡ ssrc → IsPlaceOf ssrc (picked entries slots) at
   slot_found at within same =
