@@ -106,8 +106,8 @@ impl Handle {
         ensures kept { self.new.owned.held ≡ self.old.owned.held }
     {
         match self.take(alloc) {
-            Some(session) => {
-                let state = session.participant.source_above(before(from));
+            Some(mut session) => {
+                let state = session.participant.next_source(before(from));
                 self.put(session);
                 state
             }

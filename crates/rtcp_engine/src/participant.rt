@@ -146,6 +146,19 @@ impl<T: MemberTable> Participant<T> {
         }
     }
 
+    /// [`source_above`](Participant::source_above), for a host that asks for one source after the other: the table may
+    /// note where the one that it tells stands, to find the next one sooner. The participant is the same after it.
+    pub fn next_source(&mut self, after: Option<u32>) -> Option<SourceState>
+        ensures told { (history : History) → StandsAt self.old history →
+            TellsInLife (setup_at history) after (life_at history) (option_map state_value result) }
+        ensures kept { self.new ≡ self.old }
+    {
+        if let Phase::Present = self.phase {
+            return self.presence.next_source(after);
+        }
+        None
+    }
+
     /// How many places of the table are taken: by members, by sources that are not yet valid, and by those that
     /// left and are held for a while. As many as the configuration's `capacity` say that the table is full, as
     /// under a flood of invented SSRCs: then no other source is taken up until a check drops one. 0 once the

@@ -142,6 +142,14 @@ impl<T: MemberTable> Presence<T> {
         self.table.source_above(after)
     }
 
+    /// The same, where the table may note where that source stands.
+    pub(crate) fn next_source(&mut self, after: Option<u32>) -> Option<SourceState>
+        ensures told { option_map state_value result ≡ state_above after self.old.table }
+        ensures kept { self.new ≡ self.old }
+    {
+        self.table.next_source(after)
+    }
+
     /// What is known of each source, by rising SSRC.
     pub(crate) fn sources(&self) -> Sources<'_, T>
         ensures { result ≡ states_above None self.now.table }

@@ -238,6 +238,13 @@ impl<S: Storage> MemberTable for Sorted<S> {
         *place = first_above(entries, *place, after);
         state_at(entries, *place)
     }
+
+    // The last place becomes that of the source told, which the next call most likely goes on from.
+    fn next_source(&mut self, after: Option<u32>) -> Option<SourceState> {
+        let place = first_behind(&self.entries, usize::from(self.last_place), after);
+        self.last_place = place as u16;
+        state_at(&self.entries, place)
+    }
 }
 
 /// Where the entry of a source stands, or else the gap where it would. The places where it likely stands are tried
@@ -402,6 +409,28 @@ fn first_above<S: Storage>(entries: &S, last_place: usize, above: Option<u32>) -
     };
     match search(entries, last_place, above) {
         Ok(at) => at + 1,
+        Err(gap) => gap,
+    }
+}
+
+/// Where those above `above` begin, as `first_above`. If its entry does not stand at the last place, it is searched by
+/// halves, which costs the same for any SSRCs.
+fn first_behind<S: Storage>(entries: &S, last_place: usize, above: Option<u32>) -> usize
+    requires sound { S.is_sound entries.now }
+    requires rising { IsRising (S.items entries.now) }
+    requires few { length (S.items entries.now) ≤ 1024 }
+    ensures bound { result ≤ length (S.items entries.now) }
+    ensures rest { filter (is_above above) (rows_of (S.items entries.now))
+        ≡ rows_of (drop result (S.items entries.now)) }
+{
+    let Some(above) = above else {
+        return 0;
+    };
+    if last_place < entries.len() && entries.ssrc_at(last_place) == above {
+        return last_place + 1;
+    }
+    match entries.find(above) {
+        Ok(place) => place + 1,
         Err(gap) => gap,
     }
 }

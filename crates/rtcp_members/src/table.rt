@@ -126,6 +126,16 @@ pub trait MemberTable {
     {
         self.source_above(after)
     }
+
+    /// `source_above`, for a host that asks for one source after the other: a table may note where the one that it
+    /// tells stands, to find the next one sooner. The table is the same after it.
+    fn next_source(&mut self, after: Option<u32>) -> Option<SourceState>
+        ensures told { option_map state_value result ≡ state_above after (content self.old) }
+        ensures content { content self.new ≡ content self.old }
+    {
+        let mut place = 0;
+        self.source_from(after, &mut place)
+    }
 }
 
 /// A table that has the room for its entries in itself, so that its capacity and rate are all it is made from.

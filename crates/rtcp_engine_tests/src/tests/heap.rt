@@ -25,3 +25,15 @@ fn begins(rt: HostRuntime) {
         .rtcp_from(0, 1, 0xab, &OURS)
         .changes(&rt, 0xab, (1, 0, 1_026_037), &[]);
 }
+
+#[test]
+fn one_source_after_the_other(rt: HostRuntime) {
+    let config = config();
+    if config.error().is_some() {
+        panic!(rt; "the configuration is refused");
+    }
+    let table = HeapTable::with_room(rt.alloc(), config.capacity, config.rate);
+    let table = table.expect(&rt, "no memory");
+    let participant = Participant::with_table(config, table, 0);
+    listing::one_after_the_other(&rt, Session { participant });
+}

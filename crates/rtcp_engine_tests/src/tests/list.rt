@@ -253,6 +253,16 @@ fn no_source_from_the_leave_on(rt: HostRuntime) {
 }
 
 #[test]
+fn one_source_after_the_other(rt: HostRuntime) {
+    listing::one_after_the_other(&rt, Session::<ListTable>::usual(&rt));
+}
+
+#[test]
+fn no_next_source_from_the_leave_on(rt: HostRuntime) {
+    listing::no_next_from_the_leave_on::<ListTable>(&rt);
+}
+
+#[test]
 fn arrivals_change_others(rt: HostRuntime) {
     listing::arrivals_change_others::<ListTable>(&rt);
 }

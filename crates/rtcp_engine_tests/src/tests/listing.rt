@@ -51,6 +51,31 @@ pub(crate) fn none_from_the_leave_on<T: InlineTable + Drop>(rt: &impl Abort) {
     assert!(rt; session.participant.sources().next().is_none());
 }
 
+/// Asked for one after the other, sources are told as above: also where one has joined between, so that they stand
+/// elsewhere, where one is asked for anew, and above an SSRC that no source has.
+pub(crate) fn one_after_the_other<T: MemberTable + Drop>(rt: &impl Abort, begun: Session<T>) {
+    let mut session = begun;
+    assert!(rt; session.participant.next_source(None).is_none());
+    session.named(10, 3).taken(rt);
+    session.named(20, 1).taken(rt);
+    session.named(30, 7).taken(rt);
+    assert!(rt; session.participant.next_source(None) == Some(named_at(1, 20)));
+    assert!(rt; session.participant.next_source(Some(1)) == Some(named_at(3, 10)));
+    session.named(40, 2).taken(rt);
+    assert!(rt; session.participant.next_source(Some(3)) == Some(named_at(7, 30)));
+    assert!(rt; session.participant.next_source(Some(1)) == Some(named_at(2, 40)));
+    assert!(rt; session.participant.next_source(Some(2)) == Some(named_at(3, 10)));
+    assert!(rt; session.participant.next_source(Some(5)) == Some(named_at(7, 30)));
+    assert!(rt; session.participant.next_source(Some(7)).is_none());
+    assert_eq!(rt; session.participant.entries(), 4);
+}
+
+/// Nor is one told to a host that asks for one after the other.
+pub(crate) fn no_next_from_the_leave_on<T: InlineTable + Drop>(rt: &impl Abort) {
+    let mut session: Session<T> = leaving::backing_off(rt);
+    assert!(rt; session.participant.next_source(None).is_none());
+}
+
 /// A compound in which source 5 gives its name, and leaves.
 const CAME_AND_LEFT: [u8; 28] = [
     0x80, 0xc9, 0, 1, 0, 0, 0, 5, 0x81, 0xca, 0, 2, 0, 0, 0, 5, 1, 1, 0x61, 0, 0x81, 0xcb, 0, 1, 0,
