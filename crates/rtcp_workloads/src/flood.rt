@@ -15,6 +15,7 @@ const MEMBERS: u32 = 1_000;
 #[derive(Drop)]
 struct Flood<'a> {
     seed: u32,
+    number: u32,
     random: &'a mut Random,
     own: u32,
     now: u64,
@@ -40,7 +41,8 @@ pub fn run(alloc: Global, floods: u32, seed: u32) -> Result<Digest, AllocError> 
         };
         if let Some(mut host) = Host::new(alloc, setup)? {
             let mut flood = Flood {
-                seed: seed.wrapping_add(number),
+                seed,
+                number,
                 random: &mut random,
                 own,
                 now: 0,
@@ -80,7 +82,7 @@ impl<'a> Flood<'a> {
     fn join(&mut self, host: &mut Host, digest: &mut Digest) {
         for member in 0..MEMBERS {
             self.step(50, host, digest);
-            let ssrc = ssrc_of(self.seed, 0, member);
+            let ssrc = ssrc_of(self.seed, self.number, member);
             self.datagram.describe(ssrc, 7, self.random);
             host.rtcp(self.now, 1, 0, self.datagram.as_slice(), digest);
             self.media.of(ssrc, 1, member);
@@ -142,7 +144,7 @@ impl<'a> Flood<'a> {
             self.datagram.clear();
             self.datagram.word(0x8f00_0000 ^ (2 + count));
             self.datagram.word(count);
-            let mixer = ssrc_of(self.seed, 0, 5);
+            let mixer = ssrc_of(self.seed, self.number, 5);
             self.datagram.word(mixer);
             for _ in 0..15 {
                 let ssrc = self.member();
@@ -166,7 +168,7 @@ impl<'a> Flood<'a> {
     fn depart(&mut self, host: &mut Host, digest: &mut Digest) {
         for member in 0..MEMBERS / 2 {
             self.step(50, host, digest);
-            self.datagram.leave(ssrc_of(self.seed, 0, member));
+            self.datagram.leave(ssrc_of(self.seed, self.number, member));
             host.rtcp(self.now, 1, 0, self.datagram.as_slice(), digest);
         }
         host.look(digest);
@@ -182,6 +184,6 @@ impl<'a> Flood<'a> {
 
     /// The SSRC of a member.
     fn member(&mut self) -> u32 {
-        ssrc_of(self.seed, 0, self.random.below(MEMBERS))
+        ssrc_of(self.seed, self.number, self.random.below(MEMBERS))
     }
 }
