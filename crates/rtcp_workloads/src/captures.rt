@@ -54,7 +54,7 @@ pub fn run(alloc: Global, texts: u32, seed: u32) -> Result<Digest, AllocError> {
         let mut reader = Counted::new(text.as_slice());
         let mut writer = Counted::new(Vec::new(alloc));
         let checked = check(alloc, &mut reader, &mut writer);
-        digest.number(u64::from(checked.is_ok()));
+        digest.outcome(&checked);
         let answers = writer.into_inner();
         digest.octets(answers.as_slice());
     }

@@ -2,8 +2,10 @@
 
 ghost use Rattle.std.specs.Prelude.{◌<◌};
 
-use rtcp_engine::{Change, Reply, Role};
+use rtcp_engine::{Change, OutKind, Reply, Role, Told};
 use rtcp_members::SourceState;
+use std::fmt;
+use std::fmt::Write;
 
 /// What was mixed so far, each number at its place.
 #[derive(Clone, Copy, Debug)]
@@ -30,8 +32,9 @@ impl Digest {
         self.value = mixed ^ (mixed >> 29);
     }
 
-    /// Mixes octets, eight at a time.
+    /// Mixes octets, eight at a time, and how many there are.
     pub fn octets(&mut self, octets: &[u8]) {
+        self.number(octets.len() as u64);
         let words = octets.len() / 8;
         for number in 0..words {
             let at = 8 * number;
@@ -54,34 +57,88 @@ impl Digest {
     /// Mixes what a call answered, and the compound that it wrote, if it did.
     pub fn reply(&mut self, reply: &Reply, room: &[u8]) {
         match reply {
-            Ok(told) => {
-                let counts = (u64::from(told.members) << 48) ^ (u64::from(told.senders) << 32);
-                let entries = (u64::from(told.entries) << 16) ^ u64::from(told.others_changed);
-                self.number(counts ^ entries);
-                self.number(told.next.unwrap_or(u64::MAX));
-                if let Some(ssrc) = told.changed {
-                    self.number(u64::from(ssrc));
-                }
-                if told.out.is_some() {
-                    self.octets(room);
-                }
-            }
-            Err(_) => self.number(u64::MAX),
+            Ok(told) => self.told(told, room),
+            Err(refusal) => self.error(refusal),
+        }
+    }
+
+    /// Mixes how a run ended: well, or with which error.
+    pub fn outcome<E: fmt::Display>(&mut self, outcome: &Result<(), E>) {
+        match outcome {
+            Ok(()) => self.number(0),
+            Err(error) => self.error(error),
+        }
+    }
+
+    /// Mixes an error, by the words that tell it from all others.
+    fn error<E: fmt::Display>(&mut self, error: &E) {
+        self.number(u64::MAX);
+        let _ = write!(self, "{error}");
+    }
+
+    /// Mixes what a call that was taken answered.
+    fn told(&mut self, told: &Told, room: &[u8]) {
+        self.numbers(&[
+            pair(told.members, told.senders),
+            (u64::from(told.entries) << 1) ^ u64::from(told.others_changed),
+            told.next.unwrap_or(u64::MAX),
+            told.changed.map_or(u64::MAX, u64::from),
+            told.out.map_or(0, kind_number),
+        ]);
+        if told.out.is_some() {
+            self.octets(room);
         }
     }
 
     /// Mixes what is told of a source.
     pub fn source(&mut self, state: &SourceState) {
-        let roles = u64::from(state.is_member) * 2 + u64::from(state.is_sender);
-        let received = state.reception.map_or(0, |reception| reception.received);
-        let moments = state.heard ^ state.left.unwrap_or(0) ^ (received << 40);
-        self.number((u64::from(state.ssrc) << 24) ^ (roles << 62) ^ moments);
+        let roles = (u64::from(state.is_member) << 1) ^ u64::from(state.is_sender);
+        let received = state.reception.map_or([u64::MAX, 0, 0], |reception| {
+            let lost = u32::from_ne_bytes(reception.lost.to_ne_bytes());
+            [
+                reception.received,
+                pair(reception.highest, reception.jitter),
+                u64::from(lost),
+            ]
+        });
+        let told = state
+            .told
+            .map_or([u64::MAX, 0], |told| [told.moment, told.ntp]);
+        self.numbers(&[
+            (u64::from(state.ssrc) << 2) ^ roles,
+            state.heard,
+            state.left.unwrap_or(u64::MAX),
+            received[0],
+            received[1],
+            received[2],
+            told[0],
+            told[1],
+        ]);
     }
 
     /// Mixes a change.
     pub fn change(&mut self, change: &Change) {
         let roles = role_number(change.was) * 3 + role_number(change.is);
         self.number((u64::from(change.ssrc) << 8) ^ (roles * 2 + u64::from(change.has_left)));
+    }
+
+    /// Mixes numbers, each at its place.
+    #[inline(always)]
+    fn numbers(&mut self, numbers: &[u64]) {
+        let mut sum: u64 = 0;
+        let mut factor: u64 = 0x9e37_79b9_7f4a_7c15;
+        for number in numbers {
+            sum = sum.wrapping_add(number.wrapping_mul(factor));
+            factor = factor.wrapping_mul(0xd134_2543_de82_ef95);
+        }
+        self.number(sum);
+    }
+}
+
+impl fmt::Write for Digest {
+    fn write_str(&mut self, text: &str) -> fmt::Result {
+        self.octets(text.as_bytes());
+        Ok(())
     }
 }
 
@@ -94,4 +151,17 @@ fn role_number(role: Role) -> u64
         Role::Member => 1,
         Role::Sender => 2,
     }
+}
+
+/// A number for what a compound is, above 0.
+fn kind_number(kind: OutKind) -> u64 {
+    match kind {
+        OutKind::Report => 1,
+        OutKind::Bye => 2,
+    }
+}
+
+/// Two words as a number.
+fn pair(high: u32, low: u32) -> u64 {
+    (u64::from(high) << 32) ^ u64::from(low)
 }

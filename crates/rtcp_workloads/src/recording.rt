@@ -66,7 +66,7 @@ pub fn run(alloc: Global, recordings: u32, seed: u32) -> Result<Digest, AllocErr
             configured(setup),
             setup.word,
         );
-        digest.number(u64::from(played.is_ok()));
+        digest.outcome(&played);
         let answers = writer.into_inner();
         digest.octets(answers.as_slice());
     }
