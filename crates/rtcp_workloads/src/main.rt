@@ -3,8 +3,9 @@
 //!
 //!     rtcp_workloads NAME COUNT SEED
 //!
-//! The names are `server`, `broadcast`, `flood`, `listing`, `captures` and `recording`, and `all` for one after the other. All calls are those of hosts
-//! and of the program: `Participant` over a table on the heap, and `check` and `replay` from memory to memory.
+//! The names are `server`, `broadcast`, `flood`, `listing`, `captures` and `recording`, and `all` for one after the
+//! other. All calls are those of hosts and of the program: `Participant` over a table on the heap, and `check` and
+//! `replay` from memory to memory.
 #![tactic(auto)]
 
 mod broadcast;

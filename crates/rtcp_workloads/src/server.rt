@@ -1,5 +1,5 @@
-//! A conference server: many sessions of 20 sources that speak, 50 packets a second each, on one core. Packets come from
-//! any source of any session, one in 64 is lost, and each source reports every five seconds.
+//! A conference server: many sessions of 20 sources that speak, 50 packets a second each, on one core. Packets come
+//! from any source of any session, one in 64 is lost, and each source reports every five seconds.
 
 use crate::datagram::{Datagram, Media};
 use crate::digest::Digest;
