@@ -14,7 +14,7 @@ ghost use Rattle.rtcp_engine.specs.Histories.{History};
 ghost use Rattle.rtcp_engine.specs.Identities.{may_change};
 ghost use Rattle.rtcp_engine.specs.InTime.{IsOverdue};
 ghost use Rattle.rtcp_engine.specs.Promises.{Takes};
-ghost use Rattle.rtcp_engine.specs.States.{KeepsCapacity, StandsAt};
+ghost use Rattle.rtcp_engine.specs.States.{KeepsCapacity, StandsAt, refusal_by};
 ghost use Rattle.rtcp_engine.specs.Views.{kind_told, reply_value};
 
 use super::Participant;
@@ -64,9 +64,9 @@ impl<T: MemberTable> Participant<T> {
     }
 
     /// [`arrive_rtcp`](Participant::arrive_rtcp) of a datagram that changes no identifier. That never has a
-    /// compound: so it takes no room for one, nor a word for a new SSRC. `None` where the datagram names the own
-    /// SSRC and its peer may change that: then the participant is unchanged, and `arrive_rtcp_into` takes the
-    /// datagram.
+    /// compound: so it takes no room for one, nor a word for a new SSRC. `None` where none of E1 to E5 applies,
+    /// the datagram names the own SSRC and its peer may change that: then the participant is unchanged, and
+    /// `arrive_rtcp_into` takes the datagram.
     ///
     /// # Errors
     ///
@@ -76,6 +76,7 @@ impl<T: MemberTable> Participant<T> {
             IsReading bytes.now reading → IfSome result (λ reply.
             Takes self.old (rtcp_came now peer w bytes.now reading) (reply_value room reply) self.new) }
         ensures empty { IfSome result (λ reply. kind_told reply ≡ None) }
+        ensures admitted { result ≡ None → refusal_by now self.old ≡ None }
         ensures own { (reading : Result (List RtcpPacket) Fault) → IsReading bytes.now reading → result ≡ None →
             is_about self.old.presence.setup.ssrc (rtcp (length bytes.now) reading) ≡ true }
         ensures changing { result ≡ None →
@@ -135,8 +136,9 @@ impl<T: MemberTable> Participant<T> {
     }
 
     /// [`arrive_rtp`](Participant::arrive_rtp) of a packet that changes no identifier. That never has a compound:
-    /// so it takes no room for one, nor a word for a new SSRC. `None` where the packet comes from the own SSRC and
-    /// its peer may change that: then the participant is unchanged, and `arrive_rtp_into` takes the packet.
+    /// so it takes no room for one, nor a word for a new SSRC. `None` where none of E1 to E4 and E6 applies, the
+    /// packet comes from the own SSRC and its peer may change that: then the participant is unchanged, and
+    /// `arrive_rtp_into` takes the packet.
     ///
     /// # Errors
     ///
@@ -146,6 +148,7 @@ impl<T: MemberTable> Participant<T> {
             IsRtpReading bytes.now reading → IfSome result (λ reply.
             Takes self.old (rtp_came now peer w reading) (reply_value room reply) self.new) }
         ensures empty { IfSome result (λ reply. kind_told reply ≡ None) }
+        ensures admitted { result ≡ None → refusal_by now self.old ≡ None }
         ensures own { (reading : Result RtpValue HeadFault) → IsRtpReading bytes.now reading → result ≡ None →
             is_about self.old.presence.setup.ssrc (rtp reading) ≡ true }
         ensures changing { result ≡ None →
@@ -154,8 +157,8 @@ impl<T: MemberTable> Participant<T> {
         ensures within { KeepsCapacity self.new.presence }
         ensures refused { IfSome result (λ reply. OnErr reply (self.new ≡ self.old)) }
     {
-        if let Some(refusal) = self.refusal(now) {
-            return Some(Err(refusal));
+        if let Some(reason) = self.refusal(now) {
+            return Some(Err(reason));
         }
         let head = match RtpHead::read(bytes) {
             Ok(head) => head,

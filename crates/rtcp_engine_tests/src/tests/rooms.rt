@@ -12,6 +12,11 @@ fn room() -> ArrayVec<u8, 1_472> {
     room
 }
 
+/// An RTP packet of a source below 256, with a sequence number of 1.
+fn packet_of(ssrc: u8) -> [u8; 12] {
+    [0x80, 0, 0, 1, 0, 0, 0, 0, 0, 0, 0, ssrc]
+}
+
 /// What is told where the identifier stays, nobody sends, and the others have the roles that they had.
 fn told(out: Option<OutKind>, members: u32, entries: u32, next: Option<u64>) -> Told {
     Told {
@@ -48,6 +53,7 @@ pub(crate) fn byes_in_place<T: InlineTable + Drop>(rt: &impl Abort) {
     let mut participant = Session::<T>::usual(rt).participant;
     let mut octets = room();
     assert!(rt; participant.sent_rtp_told(0, 0, 160).is_ok());
+    assert!(rt; participant.arrive_rtcp_told(0, 7, &OURS).is_none());
     match participant.arrive_rtcp_into(0, 7, 0xbb, &OURS, &mut octets) {
         Ok(told) => assert!(rt; (told.out, told.changed) == (Some(OutKind::Bye), Some(0xbb))),
         Err(_) => panic!(rt; "the call is refused"),
@@ -69,9 +75,13 @@ pub(crate) fn left_alone<T: InlineTable + Drop>(rt: &impl Abort) {
     ];
     let came = participant.arrive_rtcp_into(5, 7, 0, &named, &mut octets);
     assert!(rt; came == Ok(moved(told(None, 2, 1, Some(1_026_037)))));
+    let again = participant.arrive_rtcp_told(5, 7, &named);
+    assert!(rt; again == Some(Ok(told(None, 2, 1, Some(1_026_037)))));
     let packet = [0x80, 0, 0, 1, 0, 0, 0, 0, 0, 0, 0, 9];
     let came = participant.arrive_rtp_into(5, 7, 0, &packet, &mut octets);
     assert!(rt; came == Ok(told(None, 2, 2, Some(1_026_037))));
+    let again = participant.arrive_rtp_told(5, 7, &packet);
+    assert!(rt; again == Some(Ok(told(None, 2, 2, Some(1_026_037)))));
     let short = RtpFault::Short;
     assert!(rt;
         participant.arrive_rtp_into(5, 7, 0, &packet[..11], &mut octets) == Err(Refusal::Rtp(short))
@@ -85,4 +95,26 @@ pub(crate) fn left_alone<T: InlineTable + Drop>(rt: &impl Abort) {
     assert!(rt; left == Ok(moved(told(None, 0, 0, None))));
     assert!(rt; participant.tick_into(5, 0, 0, &mut octets) == Err(Refusal::Left));
     assert!(rt; octets.as_slice() == BEFORE.as_slice());
+}
+
+/// Room is asked for where the own SSRC is named, and only after every refusal that comes before that.
+pub(crate) fn asked_for_last<T: InlineTable + Drop>(rt: &impl Abort) {
+    let mut participant = Session::<T>::usual(rt).participant;
+    let ours = packet_of(0xaa);
+    assert!(rt; participant.sent_rtp_told(5, 0, 160).is_ok());
+    assert!(rt; participant.arrive_rtcp_told(4, 7, &OURS) == Some(Err(Refusal::Backwards)));
+    assert!(rt; participant.arrive_rtp_told(4, 7, &ours) == Some(Err(Refusal::Backwards)));
+    let short = RtpFault::Short;
+    assert!(rt; participant.arrive_rtp_told(5, 7, &[0x80]) == Some(Err(Refusal::Rtp(short))));
+    assert!(rt; participant.arrive_rtcp_told(5, 7, &OURS).is_none());
+    assert!(rt; participant.arrive_rtp_told(5, 7, &ours).is_none());
+    let mut octets = room();
+    let came = participant.arrive_rtp_into(5, 7, 0xbb, &ours, &mut octets);
+    assert!(rt; came.is_ok());
+    let ours = packet_of(0xbb);
+    assert!(rt; participant.arrive_rtp_told(5, 7, &ours) == Some(Err(Refusal::OwnSsrc)));
+    assert!(rt; participant.arrive_rtp_told(5, 8, &ours).is_none());
+    assert!(rt; participant.leave_into(5, 0, &mut octets).is_ok());
+    assert!(rt; participant.arrive_rtcp_told(5, 8, &OURS) == Some(Err(Refusal::Left)));
+    assert!(rt; participant.arrive_rtp_told(5, 8, &ours) == Some(Err(Refusal::Left)));
 }

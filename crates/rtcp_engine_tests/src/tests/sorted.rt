@@ -35,6 +35,11 @@ fn room_left_alone(rt: HostRuntime) {
 }
 
 #[test]
+fn room_asked_for_last(rt: HostRuntime) {
+    rooms::asked_for_last::<SortedTable>(&rt);
+}
+
+#[test]
 fn put_off(rt: HostRuntime) {
     rows::put_off::<SortedTable>(&rt);
 }

@@ -1,12 +1,11 @@
-use Rattle.std.proofs.Common.{◌≡◌, ◌∙◌, ℕ, true, List, Option, Some, None, map, ap, sym, subst}
+use Rattle.std.proofs.Common.{◌∙◌, Option, Some, None, map, ap, sym, subst}
 use Rattle.rtcp_engine.specs.declared.changes.Change.{Change}
 use Rattle.rtcp_engine.specs.declared.refusal.Refusal.TheVariants.{OwnSsrc}
-use Rattle.rtcp_engine.specs.Acts.{Datagram, arrived}
-use Rattle.rtcp_engine.specs.Changes.{NewIdentifier, changed_by, changing_peers, is_about}
+use Rattle.rtcp_engine.specs.Acts.{arrived}
+use Rattle.rtcp_engine.specs.Changes.{NewIdentifier, changed_by}
 use Rattle.rtcp_engine.specs.Histories.{History, session_at, with_act}
 use Rattle.rtcp_engine.specs.Identities.{may_change}
 use Rattle.rtcp_engine.specs.Lives.{step_into}
-use Rattle.rtcp_engine.specs.Setups.{Setup}
 use Rattle.rtcp_engine.specs.States.{Acts, IsIn, ParticipantValue, StandsAt}
 use Rattle.rtcp_engine.specs.Steps.{OutValue}
 use Rattle.rtcp_engine.specs.Views.{datagram_of, out_with, told_value}

@@ -20,7 +20,7 @@ use Rattle.rtcp_engine.proofs.participant.Participant.arrive_rtp_told.Goals as g
 pub returns-in-Some-clause-takes : goal.returns-in-Some-clause-takes
 returns-in-Some-clause-takes g c w room reading fits is =
     let act = rtp_came c.args.now c.args.peer w reading in
-    refuses c.args.self.now act c.in-Some.refusal (call_refused_by c.args.self.now act c.in-Some.refusal (sym c.refusal.ensures.exact ∙ c.in-Some.is)) fits
+    refuses c.args.self.now act c.in-Some.reason (call_refused_by c.args.self.now act c.in-Some.reason (sym c.refusal.ensures.exact ∙ c.in-Some.is)) fits
 
 pub returns-in-Err-clause-takes : goal.returns-in-Err-clause-takes
 returns-in-Err-clause-takes g c w room reading fits is =
