@@ -158,8 +158,9 @@ impl<A: Answerer> LineCutter<A> {
     /// [`TextFault::Text`] where that is a line too many, or too long.
     fn admit(&self, piece: &[u8]) -> Result<(), TextFault>
         requires { IsBetween self.now.answered self.now.pending.items }
-        ensures { Lengthens result self.now.answered self.now.pending.items piece.now
+        ensures longer { Lengthens result self.now.answered self.now.pending.items piece.now
             (self.now.pending.items ++ piece.now) }
+        ensures memory { result ≢ Err TextFault.Memory }
     {
         if self.answered >= MAX_LINES {
             return Err(self.refused(LineFault::TooManyLines));

@@ -29,5 +29,5 @@ returns-in_err-admit-clause-written g c =
       [],
       Appends-nil _,
       at_exit (λ r. LineLeaves answers refuses r (cutter.answered + 1) cutter.answerer line [] cutter.answerer) c.from_residual-in_err-admit.result fault c.from_residual-in_err-admit.ensures.1
-          (LineLeaves-refused answers refuses fault cutter.answered cutter.answerer cutter.answerer cutter.pending.items c.args.piece.now line c.in_err-admit.ensures),
+          (LineLeaves-refused answers refuses fault cutter.answered cutter.answerer cutter.answerer cutter.pending.items c.args.piece.now line c.in_err-admit.ensures.longer),
     )
