@@ -8,7 +8,7 @@ ghost use Rattle.jalwedd_c.specs.Answers.{HandsNothing, IsBlank, Shows};
 ghost use Rattle.jalwedd_c.specs.Configs.{refusal_of, setup_given};
 ghost use Rattle.jalwedd_c.specs.Handles.{KeepsWithin, LeadsTo};
 
-use crate::config::{Config, Item, config_of};
+use crate::config::{Config, Item, blank, fill};
 use crate::handle::Handle;
 use crate::session::Session;
 use crate::showing::Handed;
@@ -55,10 +55,10 @@ pub extern "C" fn jalwedd_new(
         return LIVE;
     }
     *step = Step::blank();
-    let given = match config_of(config, cname, items) {
-        Ok(given) => given,
-        Err(status) => return status,
-    };
+    let mut given = blank();
+    if let Some(status) = fill(&mut given, config, cname, items) {
+        return status;
+    }
     if let Some(error) = given.error() {
         return of_error(error);
     }

@@ -1,6 +1,6 @@
 //! How a host in C configures a participant.
 
-ghost use Rattle.std.specs.Prelude.{◌≡◌, ◌↔◌, ◌≤◌, map, length, IfErr, IfOk, IfSome, Some, None};
+ghost use Rattle.std.specs.Prelude.{◌≡◌, ◌↔◌, ◌≤◌, [], map, length, IfSome, IsTrue, Some, None};
 ghost use Rattle.rtcp_report.specs.Views.{item_value};
 ghost use Rattle.rtcp_engine.specs.Views.{setup_of};
 ghost use Rattle.jalwedd_c.specs.Configs.{item_given, oversize, setup_given};
@@ -40,70 +40,84 @@ pub struct Item {
     pub text: [u8; 255],
 }
 
-/// The configuration that a host gives.
-///
-/// # Errors
-///
-/// The status of what does not fit: a CNAME of more than 255 octets, or else more than 7 items.
-pub(crate) fn config_of(
+/// A configuration before a host gives one.
+pub(crate) fn blank() -> rtcp_engine::Config
+    ensures cname { result.cname.items ≡ [] }
+    ensures extras { result.extras.items ≡ [] }
+{
+    rtcp_engine::Config {
+        ssrc: 0,
+        cname: ArrayVec::new(),
+        extras: ArrayVec::new(),
+        capacity: 0,
+        limit: 0,
+        sender_bw: 0,
+        receiver_bw: 0,
+        rate: 0,
+        ntp_base: 0,
+    }
+}
+
+/// Makes a blank configuration the one that a host gives. Returns the status of what does not fit: a CNAME of more than
+/// 255 octets, or else more than 7 items.
+// Out of line, so that it is written where its caller keeps it, and its 2 KB lie on the stack once.
+#[inline(never)]
+pub(crate) fn fill(
+    given: &mut rtcp_engine::Config,
     config: &Config,
     cname: &[u8],
     items: &[Item],
-) -> Result<rtcp_engine::Config, u32>
-    ensures given { IfOk result (λ given. setup_of given ≡ setup_given config.now cname.now items.now) }
-    ensures fits { IfOk result (λ given. oversize cname.now items.now ≡ None) }
-    ensures refused { IfErr result (λ status. oversize cname.now items.now ≡ Some status) }
+) -> Option<u32>
+    requires cname { given.old.cname.items ≡ [] }
+    requires extras { given.old.extras.items ≡ [] }
+    ensures given { result ≡ None → setup_of given.new ≡ setup_given config.now cname.now items.now }
+    ensures fits { result ≡ None → oversize cname.now items.now ≡ None }
+    ensures refused { IfSome result (λ status. oversize cname.now items.now ≡ Some status) }
 {
-    let Some(cname) = text_of(cname) else {
-        return Err(CNAME);
-    };
-    let Some(extras) = extras_of(items) else {
-        return Err(ITEM);
-    };
-    Ok(rtcp_engine::Config {
-        ssrc: config.ssrc,
-        cname,
-        extras,
-        capacity: config.capacity,
-        limit: config.limit,
-        sender_bw: config.sender_bw,
-        receiver_bw: config.receiver_bw,
-        rate: config.rate,
-        ntp_base: config.ntp_base,
-    })
+    if !put_text(&mut given.cname, cname) {
+        return Some(CNAME);
+    }
+    if items.len() > 7 {
+        return Some(ITEM);
+    }
+    put_items(&mut given.extras, items);
+    given.ssrc = config.ssrc;
+    given.capacity = config.capacity;
+    given.limit = config.limit;
+    given.sender_bw = config.sender_bw;
+    given.receiver_bw = config.receiver_bw;
+    given.rate = config.rate;
+    given.ntp_base = config.ntp_base;
+    None
 }
 
-/// At most 7 items.
-fn extras_of(items: &[Item]) -> Option<ArrayVec<rtcp_engine::Item, 7>>
-    ensures given { IfSome result (λ extras. map item_value extras.items ≡ map item_given items.now) }
-    ensures few { (result ≡ None) ↔ (8 ≤ length items.now) }
+/// Puts a text of at most 255 octets where there is none, or returns `false`.
+fn put_text(text: &mut ArrayVec<u8, 255>, octets: &[u8]) -> bool
+    requires { text.old.items ≡ [] }
+    ensures put { IsTrue result → text.new.items ≡ octets.now }
+    ensures few { IsTrue result ↔ (length octets.now ≤ 255) }
 {
-    if items.len() > 7 {
-        return None;
-    }
-    let mut extras = ArrayVec::new();
+    text.try_extend_from_slice(octets).is_ok()
+}
+
+/// Puts at most 7 items where there are none.
+fn put_items(extras: &mut ArrayVec<rtcp_engine::Item, 7>, items: &[Item])
+    requires empty { extras.old.items ≡ [] }
+    requires few { length items.now ≤ 7 }
+    ensures { map item_value extras.new.items ≡ map item_given items.now }
+{
     'items: for item in items {
         extras.push(item_of(item));
     }
-    Some(extras)
 }
 
 fn item_of(item: &Item) -> rtcp_engine::Item
     ensures { item_value result ≡ item_given item.now }
 {
-    let text = text_of(&item.text[..item.size as usize]).unwrap_or_default();
+    let mut text = ArrayVec::new();
+    let _ = put_text(&mut text, &item.text[..item.size as usize]);
     rtcp_engine::Item {
         kind: item.kind,
         text,
     }
-}
-
-/// A text of at most 255 octets.
-fn text_of(octets: &[u8]) -> Option<ArrayVec<u8, 255>>
-    ensures given { IfSome result (λ text. text.items ≡ octets.now) }
-    ensures few { (result ≡ None) ↔ (256 ≤ length octets.now) }
-{
-    let mut text = ArrayVec::new();
-    text.try_extend_from_slice(octets).ok()?;
-    Some(text)
 }

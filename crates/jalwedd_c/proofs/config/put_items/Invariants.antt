@@ -1,7 +1,7 @@
 use Rattle.std.proofs.Common.{◌≡◌, ◌≤◌, map, length, take}
 use Rattle.rtcp_report.specs.Views.{item_value}
 use Rattle.jalwedd_c.specs.Configs.{item_given}
-use Rattle.jalwedd_c.proofs.config.extras_of.Given as goal
+use Rattle.jalwedd_c.proofs.config.put_items.Given as goal
 
 -- The items so far are there, and no more of them than come.
 abbrev pub invariant-items : goal.invariant-items
