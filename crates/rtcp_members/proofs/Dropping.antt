@@ -109,6 +109,13 @@ module _ (test : Entry → Bool) (change : Entry → Entry) (items entries : Lis
   pub front_items : picked next (take kept slots) ≡ picked entries (take kept slots)
   front_items = picked_same entries next (take kept slots) front_same
 
+  -- So is what is left, behind the entry.
+  pub back_items : picked next (drop (at + 1) (take used slots)) ≡ picked entries (drop (at + 1) (take used slots))
+  back_items = picked_same entries next (drop (at + 1) (take used slots)) back_same
+
+  pub back_split : picked entries (drop at (take used slots)) ≡ read ∷ picked entries (drop (at + 1) (take used slots))
+  back_split = ap (picked entries) rest
+
   -- The entry is dropped.
   pub one_dropped : test read ≡ false → IsDropping test change items next slots used kept (at + 1)
   one_dropped fails =
@@ -167,6 +174,9 @@ module _ (test : Entry → Bool) (change : Entry → Entry) (items entries : Lis
         ap (picked next) front
         ∙ map-append (entry_in next) (take kept slots) (slot ∷ [])
         ∙ (λ i. front_items i ++ written i ∷ [])
+
+    pub back_kept : picked next (drop (at + 1) (take used swapped)) ≡ picked entries (drop (at + 1) (take used slots))
+    back_kept = ap (picked next) back ∙ back_items
 
     pub one_kept : test read ≡ true → e ≡ change read → IsDropping test change items next swapped used (kept + 1) (at + 1)
     one_kept passes changed =

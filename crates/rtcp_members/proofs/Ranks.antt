@@ -1,8 +1,7 @@
 -- Steps of a walk over a list of entries by rank.
-use Rattle.std.proofs.Common.{◌≡◌, ◌<◌, ◌+◌, ◌&&◌, ℕ, Bool, true, false, cond, List, ◌∷◌, length, take, drop, filter, Some, slice_index_or, arith, sym, ap, ◌∙◌}
+use Rattle.std.proofs.Common.{◌≡◌, ◌<◌, ◌+◌, ℕ, Bool, true, false, cond, List, ◌∷◌, length, take, drop, filter, Some, slice_index_or, arith, sym, ap, ◌∙◌}
 use Rattle.std.proofs.lemmas.List.{drop_more}
 use Rattle.std.proofs.lemmas.List.Filters.{length-filter_more}
-use Rattle.std.specs.List.{list_all}
 use Rattle.rtcp_members.specs.declared.entry.Entry.{Entry}
 use Rattle.rtcp_members.specs.Entries.{EntryValue}
 use Rattle.rtcp_members.specs.Pending.{EntryRow, is_due, first_ssrc}
@@ -15,11 +14,6 @@ tally_rank test xs i d x within is =
     let more = length-filter_more (λ (e : Entry). test (entry_value e)) xs i d within in
     let its : weight_of test x ≡ weight_of test (slice_index_or xs i d) = ap (weight_of test) is in
     omega (arith, more, its)
-
--- one entry more is left as it is
-pub left_rank : (test : Entry → Bool) (xs : List Entry) (i : ℕ) (d x : Entry) → i < length xs → x ≡ slice_index_or xs i d → test x ≡ true → list_all test (drop (i + 1) xs) ≡ list_all test (drop i xs)
-left_rank test xs i d x within is passes =
-    sym (ap (list_all test) (drop_more xs i d within) ∙ ap (λ b. b && list_all test (drop (i + 1) xs)) (ap test (sym is) ∙ passes))
 
 -- what is told at a rank is told of the first row there
 pub told_rank : (xs : List Entry) (i : ℕ) (d x : Entry) → i < length xs → x ≡ slice_index_or xs i d → Some (state_of (row_of x)) ≡ first_state (rows_of (drop i xs))

@@ -1,5 +1,5 @@
 -- Where a source stands in a list by rising SSRC.
-use Rattle.std.proofs.Common.{◌≡◌, ◌<◌, ◌+◌, ℕ, suc, true, false, cond, List, [], ◌∷◌, length, set, Some, None, slice_get, slice_index_or, Result, Ok, Err, IsOk, is_ok, is_some, IfOk, IfErr, IsTrue, nat_cmp, is_lt, Less, Equal, Greater, inl, inr, arith, refl, sym, ap, ◌∙◌}
+use Rattle.std.proofs.Common.{◌≡◌, ◌<◌, ◌≤◌, ◌+◌, ◌-◌, ℕ, suc, true, false, cond, List, [], ◌∷◌, length, set, Some, None, slice_get, slice_index_or, Result, Ok, Err, IsOk, is_ok, is_some, IfOk, IfErr, IsTrue, nat_cmp, is_lt, Less, Equal, Greater, inl, inr, arith, refl, sym, ap, subst, ◌∙◌}
 use Rattle.std.specs.Ordering.{eq_by_cmp, ordering_index}
 use Rattle.std.specs.List.Sorted.{IsSearchInRange, IsBinarySearchResult, IsNonDecreasingBy}
 use Rattle.std.specs.Cmp.{nat_cmp_total, nat_cmp_is, ranked}
@@ -90,6 +90,27 @@ none_in_gap ssrc entries at gap = get_rows entries ssrc ∙ missing ssrc entries
       | inl before ↦ omega (arith, gap.lesser k d before)
       | inr from ↦ omega (arith, gap.greater k d from within)
     ]
+
+-- A source has a gap where the entry before is of a lesser SSRC, and the next of a greater one.
+pub gap_beside : (ssrc : ℕ) (entries : List Entry) (at : ℕ) → IsRising entries → at ≤ length entries → (0 < at → (d : Entry) → (slice_index_or entries (at - 1) d).ssrc < ssrc)
+    → (at < length entries → (d : Entry) → ssrc < (slice_index_or entries at d).ssrc) → IsGapFor ssrc entries at
+gap_beside ssrc entries at rising in_range last next = record { in_range = in_range; lesser = early; greater = late }
+  where
+    early : (i : ℕ) (d : Entry) → i < at → (slice_index_or entries i d).ssrc < ssrc
+    early i d before =
+        let least : (slice_index_or entries (at - 1) d).ssrc < ssrc = last (omega (arith, before)) d in
+        elim (cases_lt i (at - 1)) [
+          | inl earlier ↦ omega (arith, least, rises entries rising i (at - 1) d earlier (omega (arith, before, in_range)))
+          | inr same ↦ subst (λ n. (slice_index_or entries n d).ssrc < ssrc) (omega (arith, before, same)) least
+        ]
+
+    late : (i : ℕ) (d : Entry) → at ≤ i → i < length entries → ssrc < (slice_index_or entries i d).ssrc
+    late i d from below =
+        let least : ssrc < (slice_index_or entries at d).ssrc = next (omega (arith, from, below)) d in
+        elim (cases_lt at i) [
+          | inl later ↦ omega (arith, least, rises entries rising at i d later below)
+          | inr same ↦ subst (λ n. ssrc < (slice_index_or entries n d).ssrc) (omega (arith, from, same)) least
+        ]
 
 -- A source of which a block is due is found.
 pub due_is_found : (ssrc capacity rate : ℕ) (entries : List Entry) (table : TableValue) (r : Result ℕ ℕ) → table_of capacity rate entries ≡ table → IsTrue (is_due_at ssrc table) → IfErr r (IsGapFor ssrc entries) → IsOk r

@@ -2,7 +2,8 @@
 use Rattle.std.proofs.Common.{◌∙◌, length, zero, suc, slice_get, slice_index_or, ◌≡◌, ◌≤◌, ◌<◌, ◌+◌, ◌||◌, ◌&&◌, ℕ, Bool, true, false, not, nat_lt, List, [], ◌∷◌, Option, Some, None, set, take, is_some, is_none, if◌then◌else◌, arith, refl, sym, subst}
 use Rattle.std.proofs.lemmas.Bool.{le-ltb, lt-ltb, ltb-true}
 use Rattle.std.proofs.lemmas.List.Elements.{All-set, All-head, All-tail, All-weaker, All-more}
-use Rattle.std.specs.List.{list_all}
+use Rattle.std.proofs.lemmas.List.{length-map, get_or-map}
+use Rattle.std.specs.List.{All, list_all}
 use Rattle.rtcp_wire.specs.declared.fact.Fact.{Fact}
 use Rattle.rtcp_wire.specs.declared.fact.Fact.TheVariants.{Heard, Told, Named, Gone, Media}
 use Rattle.rtcp_source.specs.Summary.{RunValue, SourceValue}
@@ -20,6 +21,8 @@ use Rattle.rtcp_members.specs.Traces.{horizons_at}
 use Rattle.rtcp_members.specs.Stays.{is_before}
 use Rattle.rtcp_members.specs.Tables.{entry_with_fact}
 use Rattle.rtcp_members.specs.ListViews.{entry_value, mark_in, sending_in, is_left, IsPlaceOf}
+use Rattle.rtcp_members.specs.declared.cells.Slot.{Slot}
+use Rattle.rtcp_members.specs.Heaps.{no_slot, no_entry, entry_in, picked}
 use Rattle.rtcp_members.proofs.Applying.{read_there}
 use Rattle.rtcp_members.specs.Standing.{KeepsCounts, MarkStandsBy, StandsBy, AllStandBy, IsUpTo, IsNoLater}
 
@@ -93,6 +96,12 @@ all_left b silent idle gone within (e ∷ entries) all =
 -- One entry more is covered by bounds that are no later.
 pub all_covered : (b c : Bounds) → IsNoLater b c → (entries : List Entry) (at : ℕ) (d : Entry) → at < length entries → AllStandBy c (take at entries) → StandsBy b (entry_value (slice_index_or entries at d)) → AllStandBy b (take (at + 1) entries)
 all_covered b c lower entries at d within all its = All-more (stands b) entries at d within (all_lower b c lower (take at entries) all) its
+
+-- Those that are picked stand by the bounds by which all stand.
+pub all_picked : (b : Bounds) (entries : List Entry) (slots : List Slot) → All (λ (slot : Slot). slot.place < length entries) slots → AllStandBy b entries → AllStandBy b (picked entries slots)
+all_picked b entries slots within all k d below =
+    let early : k < length slots = omega (arith, below, length-map slots (entry_in entries)) in
+    subst (stands b) (sym (get_or-map (entry_in entries) slots k no_slot d early)) (all (slice_index_or slots k no_slot).place no_entry (within k no_slot early))
 
 -- ---- Counts that a fact keeps
 

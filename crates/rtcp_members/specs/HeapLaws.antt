@@ -1,7 +1,7 @@
--- What is read and written at the places of a heap of entries.
+-- What is read and written at the places of a heap of entries. No clause cites these lemmas: they prove the laws of the trait
+-- `Storage` for a heap, and the checker takes a law's proof from specs/ alone.
 use Rattle.std.specs.Prelude.{ℕ, Vec, zero, suc, ◌≡◌, ◌<◌, ◌≤◌, ◌+◌, ◌==◌, true, false, cond, List, [], ◌∷◌, length, take, set, All, slice_index_or, refl}
 use Rattle.std.specs.List.{count_by, sum_by}
-use Rattle.std.specs.Vec.{with_item}
 use Rattle.std.proofs.Common.{inl, inr, arith, sym, ap, subst, ◌∙◌}
 use Rattle.std.proofs.lemmas.Bool.{cases_eq}
 use Rattle.std.proofs.lemmas.Bool.Decides.{nat_tests}
@@ -11,7 +11,7 @@ use Rattle.std.proofs.lemmas.List.Elements.{All-head, All-tail, All-weaker, All-
 use Rattle.rtcp_members.specs.declared.entry.Entry.{Entry}
 use Rattle.rtcp_members.specs.declared.cells.Cell.{Cell}
 use Rattle.rtcp_members.specs.declared.cells.Slot.{Slot}
-use Rattle.rtcp_members.specs.Heaps.{no_slot, no_entry, no_cell, entries_in, pairs_in, slots_in, entry_in, picked, place_at, IsKeyed, ArePlaces, IsHeap}
+use Rattle.rtcp_members.specs.Heaps.{no_slot, no_entry, no_cell, entries_in, pairs_in, slots_in, entry_in, picked, place_at, with_entry_at, IsKeyed, ArePlaces, IsHeap}
 
 -- ---- Places
 
@@ -133,12 +133,6 @@ pub pairs_same : (cells : List Cell) (at : ℕ) (e : Entry) (d : Cell) → pairs
 pairs_same [] at e d = refl
 pairs_same (cell ∷ cells) zero e d = refl
 pairs_same (cell ∷ cells) (suc at) e d = ap (λ slots. cell.even ∷ cell.odd ∷ slots) (pairs_same cells at e d)
-
--- cells with another entry of a rank
-abbrev pub with_entry_at : {Z : Type 0} → Vec Cell Z → ℕ → Entry → Vec Cell Z
-with_entry_at cells at e =
-    let place = place_at (pairs_in cells.items) at in
-    with_item cells place (record (slice_index_or cells.items place no_cell) { entry = e })
 
 module _ {Z : Type 0} (cells : Vec Cell Z) (used room at : ℕ) (heap : IsHeap (entries_in cells.items) (slots_in cells.items) used room) (stands : at < length (picked (entries_in cells.items) (take used (slots_in cells.items)))) (e : Entry) where
   abbrev after : List Cell

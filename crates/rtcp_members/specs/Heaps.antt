@@ -1,6 +1,7 @@
 -- Entries that stay where they are, and an index of them by rising SSRC.
-use Rattle.std.specs.Prelude.{ℕ, ◌≡◌, ◌<◌, ◌≤◌, ◌==◌, ◌+◌, ◌-◌, ◌++◌, false, List, [], ◌∷◌, length, map, take, drop, All, slice_index_or}
+use Rattle.std.specs.Prelude.{ℕ, Vec, ◌≡◌, ◌<◌, ◌≤◌, ◌==◌, ◌+◌, ◌-◌, ◌++◌, false, List, [], ◌∷◌, length, map, take, drop, All, slice_index_or}
 use Rattle.std.specs.List.{count_by}
+use Rattle.std.specs.Vec.{with_item}
 use Rattle.rtcp_members.specs.declared.entry.Entry.{Entry}
 use Rattle.rtcp_members.specs.declared.cells.Cell.{Cell}
 use Rattle.rtcp_members.specs.declared.cells.Slot.{Slot}
@@ -55,6 +56,12 @@ picked entries slots = map (entry_in entries) slots
 
 abbrev pub place_at : List Slot → ℕ → ℕ
 place_at slots at = (slice_index_or slots at no_slot).place
+
+-- cells with another entry of a rank
+abbrev pub with_entry_at : {Z : Type 0} → Vec Cell Z → ℕ → Entry → Vec Cell Z
+with_entry_at cells at e =
+    let place = place_at (pairs_in cells.items) at in
+    with_item cells place (record (slice_index_or cells.items place no_cell) { entry = e })
 
 -- A slot has the SSRC of its entry.
 abbrev pub IsKeyed : List Entry → Slot → Type 0

@@ -47,11 +47,15 @@ pub record IsKept (capacity room : ℕ) (counts : Counts) (bounds : Bounds) (ent
   pub standing : AllStandBy bounds entries
   pub sound : is_sound
 
--- Counts and bounds of entries.
-pub record IsMeasured (counts : Counts) (bounds : Bounds) (entries : List Entry) : Type 0 where
+-- The counts of entries.
+pub record AreCounts (counts : Counts) (entries : List Entry) : Type 0 where
   pub members : counts.members ≡ tally_of is_member entries
   pub senders : counts.senders ≡ tally_of is_sender entries
   pub due : counts.due ≡ tally_of is_due entries
+
+-- Counts and bounds of entries.
+pub record IsMeasured (counts : Counts) (bounds : Bounds) (entries : List Entry) : Type 0 where
+  pub counted : AreCounts counts entries
   pub stand : AllStandBy bounds entries
 
 -- What an edit of one entry leaves: as many entries and as much room, in storage that is sound.

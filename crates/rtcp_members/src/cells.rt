@@ -74,7 +74,8 @@ fn set_slot(cells: &mut [Cell], rank: usize, slot: Slot)
 pub(crate) fn exchange(cells: &mut [Cell], one: usize, other: usize)
     requires one { one < 2 * length cells.old }
     requires other { other < 2 * length cells.old }
-    ensures slots { pairs_in cells.new ≡ set (set (pairs_in cells.old) one (slice_index_or (pairs_in cells.old) other no_slot))
+    ensures slots { pairs_in cells.new
+        ≡ set (set (pairs_in cells.old) one (slice_index_or (pairs_in cells.old) other no_slot))
         other (slice_index_or (pairs_in cells.old) one no_slot) }
     ensures entries { entries_in cells.new ≡ entries_in cells.old }
 {

@@ -4,17 +4,17 @@
 ghost use Rattle.std.specs.Prelude.{◌≡◌, ◌+◌, ◌≤◌, ◌<◌, ◌^◌, length};
 ghost use Rattle.rtcp_members.specs.Entries.{is_member, is_sender};
 ghost use Rattle.rtcp_members.specs.Pending.{is_due};
-ghost use Rattle.rtcp_members.specs.ListViews.{entry_value, tally_of, weight_of};
+ghost use Rattle.rtcp_members.specs.ListViews.{entry_value, lapsed, tally_of, weight_of};
 
 use crate::entry::Entry;
 
-/// How many members, senders and sources with news there are.
+/// How many members, senders and sources with news there are: of a table, 1,024 at most.
 #[derive(Clone, Copy)]
 pub struct Counts {
-    pub(crate) members: u32,
-    pub(crate) senders: u32,
+    pub(crate) members: u16,
+    pub(crate) senders: u16,
     /// Those of which a block is due.
-    pub(crate) due: u32,
+    pub(crate) due: u16,
 }
 
 impl Counts {
@@ -33,16 +33,27 @@ impl Counts {
 
     /// Counts one entry more.
     pub(crate) fn add(&mut self, entry: &Entry)
-        requires members { self.old.members + 1 < 2 ^ 32 }
-        requires senders { self.old.senders + 1 < 2 ^ 32 }
-        requires due { self.old.due + 1 < 2 ^ 32 }
+        requires members { self.old.members + 1 < 2 ^ 16 }
+        requires senders { self.old.senders + 1 < 2 ^ 16 }
+        requires due { self.old.due + 1 < 2 ^ 16 }
         ensures members { self.new.members ≡ weight_of is_member entry.now + self.old.members }
         ensures senders { self.new.senders ≡ weight_of is_sender entry.now + self.old.senders }
         ensures due { self.new.due ≡ weight_of is_due entry.now + self.old.due }
     {
-        self.members += u32::from(entry.is_member());
-        self.senders += u32::from(entry.is_sender());
-        self.due += u32::from(entry.is_due());
+        self.add_roles(entry);
+        self.due += u16::from(entry.is_due());
+    }
+
+    /// Counts one entry more as a member, and as a sender.
+    fn add_roles(&mut self, entry: &Entry)
+        requires members { self.old.members + 1 < 2 ^ 16 }
+        requires senders { self.old.senders + 1 < 2 ^ 16 }
+        ensures members { self.new.members ≡ weight_of is_member entry.now + self.old.members }
+        ensures senders { self.new.senders ≡ weight_of is_sender entry.now + self.old.senders }
+        ensures due { self.new.due ≡ self.old.due }
+    {
+        self.members += u16::from(entry.is_member());
+        self.senders += u16::from(entry.is_sender());
     }
 
     /// Counts an entry no more.
@@ -54,22 +65,39 @@ impl Counts {
         ensures senders { self.old.senders ≡ weight_of is_sender entry.now + self.new.senders }
         ensures due { self.old.due ≡ weight_of is_due entry.now + self.new.due }
     {
-        self.members -= u32::from(entry.is_member());
-        self.senders -= u32::from(entry.is_sender());
-        self.due -= u32::from(entry.is_due());
+        self.members -= u16::from(entry.is_member());
+        self.senders -= u16::from(entry.is_sender());
+        self.due -= u16::from(entry.is_due());
+    }
+
+    /// Ends the sending of an entry that is counted, if its last counted packet lies before `idle`.
+    pub(crate) fn lapse(&mut self, entry: &mut Entry, idle: u64)
+        requires { weight_of is_sender entry.old ≤ self.old.senders }
+        ensures entry { entry.new ≡ lapsed idle entry.old }
+        ensures members { self.new.members + weight_of is_member entry.old
+            ≡ self.old.members + weight_of is_member entry.new }
+        ensures senders { self.new.senders + weight_of is_sender entry.old
+            ≡ self.old.senders + weight_of is_sender entry.new }
+        ensures due { self.new.due + weight_of is_due entry.old
+            ≡ self.old.due + weight_of is_due entry.new }
+    {
+        if !entry.is_idle(idle) {
+            return;
+        }
+        self.senders -= u16::from(entry.is_sender());
+        entry.sends = false;
     }
 }
 
-/// The counts of a list.
+/// How many members and senders a list has.
 pub(crate) fn tally(entries: &[Entry]) -> Counts
     requires { length entries.now ≤ 1024 }
     ensures members { result.members ≡ tally_of is_member entries.now }
     ensures senders { result.senders ≡ tally_of is_sender entries.now }
-    ensures due { result.due ≡ tally_of is_due entries.now }
 {
     let mut counts = Counts::none();
     'entries: for entry in entries {
-        counts.add(entry);
+        counts.add_roles(entry);
     }
     counts
 }

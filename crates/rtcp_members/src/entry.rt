@@ -1,9 +1,9 @@
 //! What a table keeps of a source (RFC 3550, 6.2.1, 6.3.3 to 6.3.5 and 6.3.7).
 
-ghost use Rattle.std.specs.Prelude.{◌≡◌, nat_lt, ◌||◌, ◌<◌, ◌^◌, ℕ, None, Some, Bool, IsTrue, not};
+ghost use Rattle.std.specs.Prelude.{◌≡◌, ◌+◌, nat_lt, ◌||◌, ◌<◌, ◌^◌, ℕ, None, Some, Bool, IsTrue, not};
 ghost use Rattle.rtcp_wire.specs.declared.fact.Fact.TheVariants.{Media};
 ghost use Rattle.rtcp_members.specs.Told.{state_of};
-ghost use Rattle.rtcp_members.specs.ListViews.{entry_value, mark_in, sending_in, row_of, state_value, lapses, lapsed, outlasts, is_left};
+ghost use Rattle.rtcp_members.specs.ListViews.{entry_value, mark_in, sending_in, row_of, state_value, lapses, lapsed, outlasts};
 ghost use Rattle.rtcp_wire.specs.Facts.{is_media};
 ghost use Rattle.rtcp_members.specs.Traces.{horizons_at};
 ghost use Rattle.rtcp_members.specs.Stays.{is_before, is_removed};
@@ -222,22 +222,29 @@ impl Entry {
         self.stays(silent, gone)
     }
 
-    /// Whether a check with these horizons leaves the entry as it is.
-    pub(crate) fn is_left(&self, silent: u64, idle: u64, gone: u64) -> bool
-        ensures { result ≡ is_left (horizons_at silent idle gone) self.now }
+    /// Leaves it such that no check goes by it: its source is dropped, and its SSRC alone stays.
+    pub(crate) fn retire(&mut self)
+        ensures ssrc { self.new.ssrc ≡ self.old.ssrc }
+        ensures mark { mark_in self.new ≡ None }
+        ensures sending { sending_in self.new ≡ None }
+        ensures sighting { self.new.sighting + 1 ≡ 2 ^ 64 }
     {
-        !self.is_idle(idle) && self.stays(silent, gone)
+        self.left = false;
+        self.sends = false;
+        self.sighting = u64::MAX;
     }
 
     /// Whether the source's last counted packet lies before `idle`.
-    fn is_idle(&self, idle: u64) -> bool
+    #[inline(always)]
+    pub(crate) fn is_idle(&self, idle: u64) -> bool
         ensures { result ≡ lapses idle self.now }
     {
         self.mark().is_none() && self.sending().is_some_and(|sent| sent < idle)
     }
 
     /// Whether the source was seen lately, and did not leave too long ago.
-    fn stays(&self, silent: u64, gone: u64) -> bool
+    #[inline(always)]
+    pub(crate) fn stays(&self, silent: u64, gone: u64) -> bool
         ensures { result ≡ not (nat_lt self.now.sighting silent || is_before (mark_in self.now) gone) }
     {
         silent <= self.sighting && self.mark().is_none_or(|mark| gone <= mark)

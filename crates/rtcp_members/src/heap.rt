@@ -2,11 +2,11 @@
 
 ghost use Rattle.std.specs.Prelude.{◌≡◌, [], ◌+◌, ◌*◌, ◌≤◌, ◌<◌, IfOk, IfErr, IfSome, length, take, slice_index_or, Some, refl};
 ghost use Rattle.std.specs.Vec as vectors;
-ghost use Rattle.rtcp_members.specs.Heaps.{IsHalved, IsHeap, IsPut, no_slot, entries_in, pairs_in, slots_in, spared_slots, picked, place_at};
+ghost use Rattle.rtcp_members.specs.Heaps.{IsHalved, IsHeap, IsPut, no_slot, entries_in, pairs_in, slots_in, spared_slots, picked, place_at, with_entry_at};
 ghost use Rattle.rtcp_members.specs.Looks.{Sees};
 ghost use Rattle.rtcp_members.specs.SortedViews.{IsRising, IsGapFor};
 ghost use Rattle.rtcp_members.specs.ListViews.{IsPlaceOf};
-ghost use Rattle.rtcp_members.specs.HeapLaws.{with_entry_at, written_at, sound_at};
+ghost use Rattle.rtcp_members.specs.HeapLaws.{written_at, sound_at};
 
 use crate::bounds::Bounds;
 use crate::cells::{Cell, Slot, exchange, shift, slot_at};
@@ -306,18 +306,41 @@ impl Storage for Heap {
         self.used += 1;
     }
 
-    // One walk: an entry that stays is counted where it is checked, and no slot is written before one is dropped.
-    fn drop_silent(&mut self, silent: u64, idle: u64, gone: u64) -> (Counts, Bounds) {
-        let mut counts = Counts::none();
+    // In order of memory, over free cells too: what is left in these keeps no check from being ruled out.
+    fn bounds_if_left(&self, silent: u64, idle: u64, gone: u64) -> Option<Bounds> {
+        let mut bounds = Bounds::none();
+        'cells: for cell in &self.cells {
+            bounds.cover(&cell.entry);
+            if bounds.is_silent(silent) {
+                return None;
+            }
+        }
+        if !bounds.reach(silent, idle, gone) {
+            return None;
+        }
+        Some(bounds)
+    }
+
+    // One walk, in which only an entry that changes is counted anew; no slot is written before one is dropped.
+    fn drop_silent(
+        &mut self,
+        counts: Counts,
+        silent: u64,
+        idle: u64,
+        gone: u64,
+    ) -> (Counts, Bounds) {
+        let mut counts = counts;
         let mut bounds = Bounds::none();
         let mut kept = 0;
         'ranks: for at in 0..self.used {
             let slot = slot_at(&self.cells, at);
             let cell = &mut self.cells[slot.place as usize];
-            if !cell.entry.check(silent, idle, gone) {
+            if !cell.entry.stays(silent, gone) {
+                counts.remove(&cell.entry);
+                cell.entry.retire();
                 continue;
             }
-            counts.add(&cell.entry);
+            counts.lapse(&mut cell.entry, idle);
             bounds.cover(&cell.entry);
             exchange(&mut self.cells, kept, at);
             kept += 1;

@@ -3,7 +3,7 @@
 //! no random number, and take no memory but for the making of a `HeapTable`.
 //!
 //! Take a sorted table for a session: it keeps its entries by rising SSRC with running counts, so a fact costs a
-//! binary search, and with bounds of their moments, so most checks read no entry. `HeapTable` has them in a block
+//! search among them, and with bounds of their moments, so most checks read no entry. `HeapTable` has them in a block
 //! of memory, of the size of its capacity, and keeps an index of them in order, so that a join moves no entry;
 //! `SortedTable` has the room for 1,024 in itself. `ListTable` keeps them in order of arrival and walks them in
 //! each call: it is the plain one, easy to believe. All meet the contract of `MemberTable`, so they return the
@@ -41,6 +41,7 @@ mod table;
 pub mod told_laws;
 pub mod trace_laws;
 pub mod turn_laws;
+mod walks;
 
 pub use list_table::ListTable;
 pub use sorted_table::{HeapTable, SortedTable};

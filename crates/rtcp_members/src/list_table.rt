@@ -93,11 +93,11 @@ impl MemberTable for ListTable {
     }
 
     fn members(&self) -> u32 {
-        tally(self.entries.as_slice()).members
+        u32::from(tally(self.entries.as_slice()).members)
     }
 
     fn senders(&self) -> u32 {
-        tally(self.entries.as_slice()).senders
+        u32::from(tally(self.entries.as_slice()).senders)
     }
 
     fn next_with_news(&self, after: Option<u32>) -> Option<u32> {

@@ -22,6 +22,7 @@ use crate::heap::Heap;
 use crate::state::SourceState;
 use crate::storage::Storage;
 use crate::table::{Applied, Dropped, InlineTable, MAX_CAPACITY, MemberTable, Place};
+use crate::walks::Walks;
 use arrayvec::ArrayVec;
 use rtcp_wire::{Block, Fact};
 use std::alloc::{AllocError, Global};
@@ -36,11 +37,13 @@ const SHORT_LIST: u64 = 64;
 #[derive(Drop)]
 pub struct Sorted<S: Storage> {
     capacity: u16,
-    /// Where the last source that was looked for stands, or would.
+    /// Where the source of the last fact, block or telling stands, or would.
     last_place: u16,
     rate: u32,
     entries: S,
     counts: Counts,
+    /// Whether walks to a source pay.
+    walks: Walks,
     /// The source of the last fact: the next one is often of the same. Where it is not, what stands at the last
     /// place need not be read.
     last_ssrc: u32,
@@ -110,27 +113,35 @@ impl<S: Storage> Sorted<S> {
             rate,
             entries,
             counts: Counts::none(),
+            walks: Walks::none(),
             last_ssrc: 0,
             bounds: Bounds::none(),
         }
     }
 
-    /// Makes a check that the bounds do not rule out, and finds them anew.
+    /// Makes a check that the bounds do not rule out, and finds them anew. Where it changes nothing, it only reads.
     #[inline(never)]
     fn sweep(&mut self, silent: u64, idle: u64, gone: u64) -> Dropped
         ensures entries { result.entries ≡ dropped_entries (horizons_at silent idle gone) self.old }
         ensures senders { result.senders ≡ dropped_senders (horizons_at silent idle gone) self.old }
         ensures content { self.new ≡ after_check (horizons_at silent idle gone) self.old }
     {
+        if let Some(bounds) = self.entries.bounds_if_left(silent, idle, gone) {
+            self.bounds = bounds;
+            return Dropped {
+                entries: 0,
+                senders: 0,
+            };
+        }
         let (entries, senders) = (self.entries.len(), self.counts.senders);
-        let (counts, bounds) = self.entries.drop_silent(silent, idle, gone);
+        let (counts, bounds) = self.entries.drop_silent(self.counts, silent, idle, gone);
         self.counts = counts;
         self.bounds = bounds;
         let removed = (entries - self.entries.len()) as u32;
         let ended = senders - counts.senders;
         Dropped {
             entries: removed,
-            senders: ended,
+            senders: u32::from(ended),
         }
     }
 }
@@ -149,7 +160,7 @@ impl<S: Storage> MemberTable for Sorted<S> {
             usize::MAX
         };
         self.last_ssrc = ssrc;
-        match search(&self.entries, hint, ssrc) {
+        match search(&self.entries, &mut self.walks, hint, ssrc) {
             Ok(at) => {
                 self.last_place = at as u16;
                 let (entries, counts) = (&mut self.entries, &mut self.counts);
@@ -185,8 +196,8 @@ impl<S: Storage> MemberTable for Sorted<S> {
     }
 
     fn holds(&self, ssrc: u32) -> bool {
-        let last_place = usize::from(self.last_place);
-        search(&self.entries, last_place, ssrc).is_ok()
+        let (mut walks, last_place) = (self.walks, usize::from(self.last_place));
+        search(&self.entries, &mut walks, last_place, ssrc).is_ok()
     }
 
     fn entries(&self) -> u32 {
@@ -194,11 +205,11 @@ impl<S: Storage> MemberTable for Sorted<S> {
     }
 
     fn members(&self) -> u32 {
-        self.counts.members
+        u32::from(self.counts.members)
     }
 
     fn senders(&self) -> u32 {
-        self.counts.senders
+        u32::from(self.counts.senders)
     }
 
     fn next_with_news(&self, after: Option<u32>) -> Option<u32> {
@@ -206,7 +217,7 @@ impl<S: Storage> MemberTable for Sorted<S> {
             return None;
         }
         let (entries, last_place) = (&self.entries, usize::from(self.last_place));
-        let first = first_above(entries, last_place, after);
+        let first = first_above(entries, self.walks, last_place, after);
         match first_due(entries, first, entries.len()) {
             Some(ssrc) => Some(ssrc),
             None => first_due(entries, 0, first),
@@ -215,19 +226,18 @@ impl<S: Storage> MemberTable for Sorted<S> {
 
     fn block_of(&mut self, ssrc: u32, t: u64) -> Block {
         let last_place = usize::from(self.last_place);
-        let at = search_behind(&self.entries, last_place, ssrc).unwrap();
+        let at = search_behind(&self.entries, &mut self.walks, last_place, ssrc).unwrap();
         self.last_place = at as u16;
         let (entries, due) = (&mut self.entries, &mut self.counts.due);
         report_at(entries, due, at, ssrc, t)
     }
 
-    // By halves, which costs the same for any SSRCs: in a walk nothing hints at the next source's place.
     fn source_above(&self, after: Option<u32>) -> Option<SourceState> {
         let entries = &self.entries;
         let Some(above) = after else {
             return state_at(entries, 0);
         };
-        match entries.find(above) {
+        match search_again(entries, self.walks, above) {
             Ok(at) => state_at(entries, at + 1),
             Err(gap) => state_at(entries, gap),
         }
@@ -235,48 +245,118 @@ impl<S: Storage> MemberTable for Sorted<S> {
 
     fn source_from(&self, after: Option<u32>, place: &mut usize) -> Option<SourceState> {
         let entries = &self.entries;
-        *place = first_above(entries, *place, after);
+        *place = first_above(entries, self.walks, *place, after);
         state_at(entries, *place)
     }
 
     // The last place becomes that of the source told, which the next call most likely goes on from.
     fn next_source(&mut self, after: Option<u32>) -> Option<SourceState> {
-        let place = first_behind(&self.entries, usize::from(self.last_place), after);
+        let place = first_behind(
+            &self.entries,
+            self.walks,
+            usize::from(self.last_place),
+            after,
+        );
         self.last_place = place as u16;
         state_at(&self.entries, place)
     }
 }
 
 /// Where the entry of a source stands, or else the gap where it would. The places where it likely stands are tried
-/// first.
-fn search<S: Storage>(entries: &S, last_place: usize, ssrc: u32) -> Result<usize, usize>
+/// first: the last one, and those that a walk from the likely place comes to, if walks pay.
+fn search<S: Storage>(
+    entries: &S,
+    walks: &mut Walks,
+    last_place: usize,
+    ssrc: u32,
+) -> Result<usize, usize>
     requires sound { S.is_sound entries.now }
     requires rising { IsRising (S.items entries.now) }
     ensures found { IfOk result (IsPlaceOf ssrc (S.items entries.now)) }
     ensures absent { IfErr result (IsGapFor ssrc (S.items entries.now)) }
 {
-    match search_near(entries, last_place, ssrc) {
-        Some(found) => found,
-        None => entries.find(ssrc),
+    if last_place < entries.len() && entries.ssrc_at(last_place) == ssrc {
+        return Ok(last_place);
     }
+    if walks.pay() {
+        if let Some(found) = search_near(entries, ssrc) {
+            walks.ease();
+            return found;
+        }
+        walks.failed();
+    } else {
+        walks.ease();
+    }
+    search_apart(entries, walks, ssrc)
 }
 
-/// What `search` returns, if the source stands at the last place, or if a walk from the likely place soon comes to
-/// where it stands or would: an interpolation search that ends with a walk (Perl, Itai and Avni, 1978).
-fn search_near<S: Storage>(
-    entries: &S,
-    last_place: usize,
-    ssrc: u32,
-) -> Option<Result<usize, usize>>
+/// What `search` returns, if a walk from the likely place soon comes to where the source stands or would: an
+/// interpolation search that ends with a walk (Perl, Itai and Avni, 1978).
+fn search_near<S: Storage>(entries: &S, ssrc: u32) -> Option<Result<usize, usize>>
     requires sound { S.is_sound entries.now }
     requires rising { IsRising (S.items entries.now) }
     ensures found { IfSome result (λ rank. IfOk rank (IsPlaceOf ssrc (S.items entries.now))) }
     ensures absent { IfSome result (λ rank. IfErr rank (IsGapFor ssrc (S.items entries.now))) }
 {
-    if last_place < entries.len() && entries.ssrc_at(last_place) == ssrc {
-        return Some(Ok(last_place));
-    }
     entries.walk_to(ssrc, likely_place(entries, ssrc)?)
+}
+
+/// `search` without a walk. Where SSRCs lie close together, a source without an entry likely lies beyond all of them,
+/// or in the gap where the last one was: these are looked at first.
+#[inline(never)]
+fn search_apart<S: Storage>(entries: &S, walks: &mut Walks, ssrc: u32) -> Result<usize, usize>
+    requires sound { S.is_sound entries.now }
+    requires rising { IsRising (S.items entries.now) }
+    ensures found { IfOk result (IsPlaceOf ssrc (S.items entries.now)) }
+    ensures absent { IfErr result (IsGapFor ssrc (S.items entries.now)) }
+{
+    let (count, gap) = (entries.len(), walks.last_gap());
+    if is_gap(entries, gap, ssrc) {
+        return Err(gap);
+    }
+    if is_gap(entries, count, ssrc) {
+        return Err(count);
+    }
+    if is_gap(entries, 0, ssrc) {
+        return Err(0);
+    }
+    let found = entries.find(ssrc);
+    if let Err(gap) = found {
+        walks.note_gap(gap);
+    }
+    found
+}
+
+/// Whether a source has no entry, and one would stand at this rank.
+#[inline(always)]
+fn is_gap<S: Storage>(entries: &S, rank: usize, ssrc: u32) -> bool
+    requires sound { S.is_sound entries.now }
+    requires rising { IsRising (S.items entries.now) }
+    ensures { IsTrue result → IsGapFor ssrc (S.items entries.now) rank }
+{
+    let count = entries.len();
+    if rank > count {
+        return false;
+    }
+    if rank > 0 && ssrc <= entries.ssrc_at(rank - 1) {
+        return false;
+    }
+    rank == count || ssrc < entries.ssrc_at(rank)
+}
+
+/// `search` for a source that most likely has an entry, by a walk if these pay, and else by halves.
+fn search_again<S: Storage>(entries: &S, walks: Walks, ssrc: u32) -> Result<usize, usize>
+    requires sound { S.is_sound entries.now }
+    requires rising { IsRising (S.items entries.now) }
+    ensures found { IfOk result (IsPlaceOf ssrc (S.items entries.now)) }
+    ensures absent { IfErr result (IsGapFor ssrc (S.items entries.now)) }
+{
+    if walks.pay() {
+        if let Some(found) = search_near(entries, ssrc) {
+            return found;
+        }
+    }
+    entries.find(ssrc)
 }
 
 /// Where the entry of a source stands if the SSRCs are spread evenly, as random ones are (RFC 3550, 8.1): by the
@@ -299,7 +379,12 @@ fn likely_place<S: Storage>(entries: &S, ssrc: u32) -> Option<usize>
 }
 
 /// As `search`, but the place behind the last one is tried first: the blocks of a report go by rising SSRC.
-fn search_behind<S: Storage>(entries: &S, last_place: usize, ssrc: u32) -> Result<usize, usize>
+fn search_behind<S: Storage>(
+    entries: &S,
+    walks: &mut Walks,
+    last_place: usize,
+    ssrc: u32,
+) -> Result<usize, usize>
     requires sound { S.is_sound entries.now }
     requires rising { IsRising (S.items entries.now) }
     ensures found { IfOk result (IsPlaceOf ssrc (S.items entries.now)) }
@@ -309,7 +394,7 @@ fn search_behind<S: Storage>(entries: &S, last_place: usize, ssrc: u32) -> Resul
     if next < entries.len() && entries.ssrc_at(next) == ssrc {
         return Ok(next);
     }
-    search(entries, last_place, ssrc)
+    search(entries, walks, last_place, ssrc)
 }
 
 /// A fact comes to the entry of its source, which stands at `at`.
@@ -394,7 +479,12 @@ fn admit<S: Storage>(
 
 /// How many entries have no SSRC above `above`: where the others begin. That is after the entry of `above`, if it is
 /// there; in a report, and in a listing, it is.
-fn first_above<S: Storage>(entries: &S, last_place: usize, above: Option<u32>) -> usize
+fn first_above<S: Storage>(
+    entries: &S,
+    walks: Walks,
+    last_place: usize,
+    above: Option<u32>,
+) -> usize
     requires sound { S.is_sound entries.now }
     requires rising { IsRising (S.items entries.now) }
     requires few { length (S.items entries.now) ≤ 1024 }
@@ -407,15 +497,20 @@ fn first_above<S: Storage>(entries: &S, last_place: usize, above: Option<u32>) -
     let Some(above) = above else {
         return 0;
     };
-    match search(entries, last_place, above) {
+    let mut walks = walks;
+    match search(entries, &mut walks, last_place, above) {
         Ok(at) => at + 1,
         Err(gap) => gap,
     }
 }
 
-/// Where those above `above` begin, as `first_above`. If its entry does not stand at the last place, it is searched by
-/// halves, which costs the same for any SSRCs.
-fn first_behind<S: Storage>(entries: &S, last_place: usize, above: Option<u32>) -> usize
+/// Where those above `above` begin, as `first_above`, in a listing: what it asks for is there.
+fn first_behind<S: Storage>(
+    entries: &S,
+    walks: Walks,
+    last_place: usize,
+    above: Option<u32>,
+) -> usize
     requires sound { S.is_sound entries.now }
     requires rising { IsRising (S.items entries.now) }
     requires few { length (S.items entries.now) ≤ 1024 }
@@ -429,7 +524,7 @@ fn first_behind<S: Storage>(entries: &S, last_place: usize, above: Option<u32>) 
     if last_place < entries.len() && entries.ssrc_at(last_place) == above {
         return last_place + 1;
     }
-    match entries.find(above) {
+    match search_again(entries, walks, above) {
         Ok(place) => place + 1,
         Err(gap) => gap,
     }
@@ -464,7 +559,7 @@ fn first_due<S: Storage>(entries: &S, from: usize, until: usize) -> Option<u32>
 }
 
 /// The block of the source whose entry stands at `at`, and which is counted as due no more.
-fn report_at<S: Storage>(entries: &mut S, counted: &mut u32, at: usize, ssrc: u32, t: u64) -> Block
+fn report_at<S: Storage>(entries: &mut S, counted: &mut u16, at: usize, ssrc: u32, t: u64) -> Block
     requires sound { S.is_sound entries.old }
     requires counted { counted.old ≡ tally_of is_due (S.items entries.old) }
     requires rising { IsRising (S.items entries.old) }

@@ -9,10 +9,10 @@ ghost use Rattle.rtcp_members.specs.declared.entry.Entry.{Entry};
 ghost use Rattle.rtcp_members.specs.Traces.{horizons_at};
 ghost use Rattle.rtcp_members.specs.ListViews.{lapsed, outlasts, IsPlaceOf};
 ghost use Rattle.rtcp_members.specs.SortedViews.{IsRising, IsGapFor};
-ghost use Rattle.rtcp_members.specs.Standing.{IsMeasured};
+ghost use Rattle.rtcp_members.specs.Standing.{AllStandBy, AreCounts, IsMeasured};
 ghost use Rattle.rtcp_members.specs.Storages.{LendsEntry};
 
-use crate::bounds::{Bounds, measure, measure_if_left};
+use crate::bounds::{Bounds, bounds_if_left, measure};
 use crate::counts::Counts;
 use crate::entry::Entry;
 use crate::table::MAX_CAPACITY;
@@ -95,11 +95,20 @@ pub trait Storage {
         ensures room { room self.new ≡ room self.old }
         ensures in_place { block self.new ≡ block self.old };
 
-    /// Drops the entries that do not outlast a check, and ends the sending of the idle ones. Returns the counts and
-    /// the bounds of those that stay.
-    fn drop_silent(&mut self, silent: u64, idle: u64, gone: u64) -> (Counts, Bounds)
+    /// Bounds of the entries which these horizons do not pass, if it finds such: then the check leaves each entry as
+    /// it is.
+    fn bounds_if_left(&self, silent: u64, idle: u64, gone: u64) -> Option<Bounds>
+        requires { is_sound self.now }
+        ensures stand { IfSome result (λ bounds. AllStandBy bounds (items self.now)) }
+        ensures within { IfSome result (λ bounds.
+            (silent ≤ bounds.silent) × (idle ≤ bounds.idle) × (gone ≤ bounds.gone)) };
+
+    /// Drops the entries that do not outlast a check, and ends the sending of the idle ones. It is given the counts of
+    /// all, and returns the counts and the bounds of those that stay.
+    fn drop_silent(&mut self, counts: Counts, silent: u64, idle: u64, gone: u64) -> (Counts, Bounds)
         requires sound { is_sound self.old }
         requires few { length (items self.old) ≤ 1024 }
+        requires counted { AreCounts counts (items self.old) }
         ensures sound { is_sound self.new }
         ensures items { items self.new
             ≡ retain_mut (outlasts (horizons_at silent idle gone)) (lapsed idle) (items self.old) }
@@ -174,11 +183,17 @@ impl Storage for ArrayVec<Entry, MAX_CAPACITY> {
             if seen == ssrc {
                 return Some(Ok(at));
             }
-            at = if seen < ssrc {
-                at.wrapping_add(1)
+            if seen < ssrc {
+                at += 1;
+                if at == self.len() || ssrc < self.as_slice()[at].ssrc {
+                    return Some(Err(at));
+                }
             } else {
-                at.wrapping_sub(1)
-            };
+                if at == 0 || self.as_slice()[at - 1].ssrc < ssrc {
+                    return Some(Err(at));
+                }
+                at -= 1;
+            }
         }
         None
     }
@@ -197,11 +212,17 @@ impl Storage for ArrayVec<Entry, MAX_CAPACITY> {
         ArrayVec::insert(self, at, entry);
     }
 
-    // A check that changes nothing only reads.
-    fn drop_silent(&mut self, silent: u64, idle: u64, gone: u64) -> (Counts, Bounds) {
-        if let Some(measured) = measure_if_left(self.as_slice(), silent, idle, gone) {
-            return measured;
-        }
+    fn bounds_if_left(&self, silent: u64, idle: u64, gone: u64) -> Option<Bounds> {
+        bounds_if_left(self.as_slice(), silent, idle, gone)
+    }
+
+    fn drop_silent(
+        &mut self,
+        _counts: Counts,
+        silent: u64,
+        idle: u64,
+        gone: u64,
+    ) -> (Counts, Bounds) {
         self.retain(|entry| entry.check(silent, idle, gone));
         measure(self.as_slice())
     }

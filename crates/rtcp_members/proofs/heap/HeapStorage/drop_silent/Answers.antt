@@ -1,7 +1,6 @@
 -- A slot comes to the front where its entry stays, and else is left where it is.
-use Rattle.std.proofs.Common.{◌≡◌, ◌<◌, ◌≤◌, ◌+◌, ◌++◌, ℕ, Bool, true, false, List, [], ◌∷◌, length, take, set, slice_index_or, arith, sym, ap, subst, ◌∙◌}
-use Rattle.std.proofs.lemmas.List.{length-map, length-set, length-take, length-take-le, get_or_read, get_or-map}
-use Rattle.rtcp_members.specs.declared.bounds.Bounds.{Bounds}
+use Rattle.std.proofs.Common.{◌≡◌, ◌<◌, ◌+◌, ◌++◌, ℕ, Bool, true, false, List, [], ◌∷◌, length, take, drop, set, slice_index_or, arith, sym, ap, subst, ◌∙◌}
+use Rattle.std.proofs.lemmas.List.{drop_all, length-map, length-set, length-take-le, get_or_read, get_or-map}
 use Rattle.rtcp_members.specs.declared.counts.Counts.{Counts}
 use Rattle.rtcp_members.specs.declared.cells.Cell.{Cell}
 use Rattle.rtcp_members.specs.declared.cells.Slot.{Slot}
@@ -9,9 +8,9 @@ use Rattle.rtcp_members.specs.declared.entry.Entry.{Entry}
 use Rattle.rtcp_members.specs.Traces.{horizons_at}
 use Rattle.rtcp_members.specs.ListViews.{lapsed, outlasts}
 use Rattle.rtcp_members.specs.Heaps.{no_slot, no_entry, no_cell, entries_in, pairs_in, slots_in, entry_in, picked}
-use Rattle.rtcp_members.specs.Standing.{IsMeasured}
-use Rattle.rtcp_members.proofs.Measuring.{measured_more, few_measured}
-use Rattle.rtcp_members.proofs.Dropping.{IsDropping, front_items, front_more, one_dropped, one_kept, all_dropped, heap_dropped, lapsed_ssrc}
+use Rattle.rtcp_members.specs.Standing.{AllStandBy}
+use Rattle.rtcp_members.proofs.Measuring.{AreShared, share_dropped, share_kept, share_has, all_more}
+use Rattle.rtcp_members.proofs.Dropping.{IsDropping, front_items, back_items, back_split, front_more, back_kept, one_dropped, one_kept, all_dropped, heap_dropped, lapsed_ssrc}
 use Rattle.rtcp_members.proofs.Pairs.{as_many, length_slots, slots_kept, slots_exchanged, slot_read, entry_written, over_whole}
 use Rattle.rtcp_members.proofs.heap.HeapStorage.drop_silent.Goals as goal
 
@@ -53,6 +52,19 @@ module _ (test : Entry → Bool) (change : Entry → Entry) (items : List Entry)
   pub dropped_items : next.ssrc ≡ (entry_in (entries_in cells) (slice_index_or (slots_in cells) at no_slot)).ssrc → picked (entries_in written) (take kept (slots_in written)) ≡ picked (entries_in cells) (take kept (slots_in cells))
   dropped_items its_ssrc = (λ i. picked (entries_now i) (take kept (slots_now i))) ∙ front_items test change items (entries_in cells) (slots_in cells) used kept at next so less its_ssrc
 
+  -- What is left is as it was, behind the entry.
+  pub dropped_back : next.ssrc ≡ (entry_in (entries_in cells) (slice_index_or (slots_in cells) at no_slot)).ssrc
+      → picked (entries_in written) (drop (at + 1) (take used (slots_in written))) ≡ picked (entries_in cells) (drop (at + 1) (take used (slots_in cells)))
+  dropped_back its_ssrc =
+      (λ i. picked (entries_now i) (drop (at + 1) (take used (slots_now i)))) ∙ back_items test change items (entries_in cells) (slots_in cells) used kept at next so less its_ssrc
+
+  pub shared_split : (counts : Counts) → next.ssrc ≡ (entry_in (entries_in cells) (slice_index_or (slots_in cells) at no_slot)).ssrc
+      → AreShared counts (picked (entries_in cells) (take kept (slots_in cells))) (picked (entries_in cells) (drop at (take used (slots_in cells))))
+      → AreShared counts (picked (entries_in cells) (take kept (slots_in cells))) (cell.entry ∷ picked (entries_in cells) (drop (at + 1) (take used (slots_in cells))))
+  shared_split counts its_ssrc shared =
+      subst (λ (e : Entry). AreShared counts (picked (entries_in cells) (take kept (slots_in cells))) (e ∷ picked (entries_in cells) (drop (at + 1) (take used (slots_in cells))))) (sym its_entry)
+      (subst (AreShared counts (picked (entries_in cells) (take kept (slots_in cells)))) (back_split test change items (entries_in cells) (slots_in cells) used kept at next so less its_ssrc) shared)
+
   -- Its slot and the first that is free change places.
   module _ (second : List Cell) (slots : pairs_in second ≡ set (set (pairs_in written) kept (slice_index_or (pairs_in written) at no_slot)) at (slice_index_or (pairs_in written) kept no_slot)) (entries : entries_in second ≡ entries_in written) where
     same_length : length written ≡ length cells
@@ -80,33 +92,14 @@ module _ (test : Entry → Bool) (change : Entry → Entry) (items : List Entry)
         ap (λ es. picked es (take (kept + 1) (slots_in second))) entries_then
         ∙ front_more test change items (entries_in cells) (slots_in cells) used kept at next so less its_ssrc (slots_in second) second_is
 
-few_kept : (all : ℕ) (first : List Entry) (first_slots : List Slot) → all ≤ length first_slots → length (picked first (take all first_slots)) ≤ 1024 → (kept at : ℕ) (entries : List Entry) (slots : List Slot) (counts : Counts) (bounds : Bounds)
-    → IsMeasured counts bounds (picked entries (take kept slots)) → kept ≤ at → at < all → (counts.members < 1024) × (counts.senders < 1024) × (counts.due < 1024)
-few_kept all first first_slots in_use few kept at entries slots counts bounds so order less =
-    let count : length (picked first (take all first_slots)) ≡ all = length-map (take all first_slots) (entry_in first) ∙ length-take-le all first_slots in_use in
-    let so_far : length (picked entries (take kept slots)) ≤ kept = omega (arith, length-map (take kept slots) (entry_in entries), length-take kept slots) in
-    few_measured counts bounds (picked entries (take kept slots)) 1024 so (omega (arith, count, so_far, few, order, less))
+    pub kept_back : next.ssrc ≡ (entry_in (entries_in cells) (slice_index_or (slots_in cells) at no_slot)).ssrc
+        → picked (entries_in second) (drop (at + 1) (take used (slots_in second))) ≡ picked (entries_in cells) (drop (at + 1) (take used (slots_in cells)))
+    kept_back its_ssrc =
+        ap (λ es. picked es (drop (at + 1) (take used (slots_in second)))) entries_then
+        ∙ back_kept test change items (entries_in cells) (slots_in cells) used kept at next so less its_ssrc (slots_in second) second_is
 
-pub add-requires-clause-members : goal.add-requires-clause-members
-add-requires-clause-members c =
-    let few = few_kept c.args.self.now.used (entries_in c.args.self.now.cells.items) (slots_in c.args.self.now.cells.items) c.requires.sound.in_use c.requires.few c.ranks.kept c.ranks.at (entries_in c.ranks.self.cells.items) (slots_in c.ranks.self.cells.items)
-    c.ranks.counts c.ranks.bounds c.ranks.invariant.measured c.ranks.invariant.dropping.order c.ranks-test.true in
-    omega (arith, few.0)
-
-pub add-requires-clause-senders : goal.add-requires-clause-senders
-add-requires-clause-senders c =
-    let few = few_kept c.args.self.now.used (entries_in c.args.self.now.cells.items) (slots_in c.args.self.now.cells.items) c.requires.sound.in_use c.requires.few c.ranks.kept c.ranks.at (entries_in c.ranks.self.cells.items) (slots_in c.ranks.self.cells.items)
-    c.ranks.counts c.ranks.bounds c.ranks.invariant.measured c.ranks.invariant.dropping.order c.ranks-test.true in
-    omega (arith, few.1)
-
-pub add-requires-clause-due : goal.add-requires-clause-due
-add-requires-clause-due c =
-    let few = few_kept c.args.self.now.used (entries_in c.args.self.now.cells.items) (slots_in c.args.self.now.cells.items) c.requires.sound.in_use c.requires.few c.ranks.kept c.ranks.at (entries_in c.ranks.self.cells.items) (slots_in c.ranks.self.cells.items)
-    c.ranks.counts c.ranks.bounds c.ranks.invariant.measured c.ranks.invariant.dropping.order c.ranks-test.true in
-    omega (arith, few.2)
-
-pub ranks-preserved-then-not-check : goal.ranks-preserved-then-not-check
-ranks-preserved-then-not-check c =
+pub remove-requires-clause-members : goal.remove-requires-clause-members
+remove-requires-clause-members c =
     let test : Entry → Bool = outlasts (horizons_at c.args.silent c.args.idle c.args.gone) in
     let change : Entry → Entry = lapsed c.args.idle in
     let items : List Entry = picked (entries_in c.args.self.now.cells.items) (take c.args.self.now.used (slots_in c.args.self.now.cells.items)) in
@@ -117,13 +110,85 @@ ranks-preserved-then-not-check c =
     let slot : Slot = c.slot_at-slot.result in
     let cell : Cell = c.index_mut-cell.result.now in
     let its : slot ≡ slice_index_or (pairs_in cells) c.ranks.at no_slot = c.slot_at-slot.ensures ∙ ap (λ xs. slice_index_or (pairs_in xs) c.ranks.at no_slot) c.deref.ensures.value in
-    let read = its_entry test change items cells used c.ranks.kept c.ranks.at so less slot its cell c.index_mut-cell.ensures.value c.check.new.self in
-    let changed = c.check.ensures.entry ∙ ap change read in
-    let its_ssrc = ap (λ (e : Entry). e.ssrc) changed ∙ lapsed_ssrc c.args.idle _ in
+    let read = its_entry test change items cells used c.ranks.kept c.ranks.at so less slot its cell c.index_mut-cell.ensures.value cell.entry in
+    let shared = shared_split test change items cells used c.ranks.kept c.ranks.at so less slot its cell c.index_mut-cell.ensures.value cell.entry c.ranks.counts (ap (λ (e : Entry). e.ssrc) read) c.ranks.invariant.shared in
+    (share_has c.ranks.counts (picked (entries_in cells) (take c.ranks.kept (slots_in cells))) (picked (entries_in cells) (drop (c.ranks.at + 1) (take used (slots_in cells)))) cell.entry shared).0
+
+pub remove-requires-clause-senders : goal.remove-requires-clause-senders
+remove-requires-clause-senders c =
+    let test : Entry → Bool = outlasts (horizons_at c.args.silent c.args.idle c.args.gone) in
+    let change : Entry → Entry = lapsed c.args.idle in
+    let items : List Entry = picked (entries_in c.args.self.now.cells.items) (take c.args.self.now.used (slots_in c.args.self.now.cells.items)) in
+    let cells : List Cell = c.ranks.self.cells.items in
+    let used : ℕ = c.ranks.self.used in
+    let so = c.ranks.invariant.dropping in
+    let less : c.ranks.at < used = omega (arith, c.ranks-test.true, c.ranks.invariant.used) in
+    let slot : Slot = c.slot_at-slot.result in
+    let cell : Cell = c.index_mut-cell.result.now in
+    let its : slot ≡ slice_index_or (pairs_in cells) c.ranks.at no_slot = c.slot_at-slot.ensures ∙ ap (λ xs. slice_index_or (pairs_in xs) c.ranks.at no_slot) c.deref.ensures.value in
+    let read = its_entry test change items cells used c.ranks.kept c.ranks.at so less slot its cell c.index_mut-cell.ensures.value cell.entry in
+    let shared = shared_split test change items cells used c.ranks.kept c.ranks.at so less slot its cell c.index_mut-cell.ensures.value cell.entry c.ranks.counts (ap (λ (e : Entry). e.ssrc) read) c.ranks.invariant.shared in
+    (share_has c.ranks.counts (picked (entries_in cells) (take c.ranks.kept (slots_in cells))) (picked (entries_in cells) (drop (c.ranks.at + 1) (take used (slots_in cells)))) cell.entry shared).1
+
+pub remove-requires-clause-due : goal.remove-requires-clause-due
+remove-requires-clause-due c =
+    let test : Entry → Bool = outlasts (horizons_at c.args.silent c.args.idle c.args.gone) in
+    let change : Entry → Entry = lapsed c.args.idle in
+    let items : List Entry = picked (entries_in c.args.self.now.cells.items) (take c.args.self.now.used (slots_in c.args.self.now.cells.items)) in
+    let cells : List Cell = c.ranks.self.cells.items in
+    let used : ℕ = c.ranks.self.used in
+    let so = c.ranks.invariant.dropping in
+    let less : c.ranks.at < used = omega (arith, c.ranks-test.true, c.ranks.invariant.used) in
+    let slot : Slot = c.slot_at-slot.result in
+    let cell : Cell = c.index_mut-cell.result.now in
+    let its : slot ≡ slice_index_or (pairs_in cells) c.ranks.at no_slot = c.slot_at-slot.ensures ∙ ap (λ xs. slice_index_or (pairs_in xs) c.ranks.at no_slot) c.deref.ensures.value in
+    let read = its_entry test change items cells used c.ranks.kept c.ranks.at so less slot its cell c.index_mut-cell.ensures.value cell.entry in
+    let shared = shared_split test change items cells used c.ranks.kept c.ranks.at so less slot its cell c.index_mut-cell.ensures.value cell.entry c.ranks.counts (ap (λ (e : Entry). e.ssrc) read) c.ranks.invariant.shared in
+    (share_has c.ranks.counts (picked (entries_in cells) (take c.ranks.kept (slots_in cells))) (picked (entries_in cells) (drop (c.ranks.at + 1) (take used (slots_in cells)))) cell.entry shared).2
+
+pub lapse-requires : goal.lapse-requires
+lapse-requires c =
+    let test : Entry → Bool = outlasts (horizons_at c.args.silent c.args.idle c.args.gone) in
+    let change : Entry → Entry = lapsed c.args.idle in
+    let items : List Entry = picked (entries_in c.args.self.now.cells.items) (take c.args.self.now.used (slots_in c.args.self.now.cells.items)) in
+    let cells : List Cell = c.ranks.self.cells.items in
+    let used : ℕ = c.ranks.self.used in
+    let so = c.ranks.invariant.dropping in
+    let less : c.ranks.at < used = omega (arith, c.ranks-test.true, c.ranks.invariant.used) in
+    let slot : Slot = c.slot_at-slot.result in
+    let cell : Cell = c.index_mut-cell.result.now in
+    let its : slot ≡ slice_index_or (pairs_in cells) c.ranks.at no_slot = c.slot_at-slot.ensures ∙ ap (λ xs. slice_index_or (pairs_in xs) c.ranks.at no_slot) c.deref.ensures.value in
+    let read = its_entry test change items cells used c.ranks.kept c.ranks.at so less slot its cell c.index_mut-cell.ensures.value cell.entry in
+    let shared = shared_split test change items cells used c.ranks.kept c.ranks.at so less slot its cell c.index_mut-cell.ensures.value cell.entry c.ranks.counts (ap (λ (e : Entry). e.ssrc) read) c.ranks.invariant.shared in
+    (share_has c.ranks.counts (picked (entries_in cells) (take c.ranks.kept (slots_in cells))) (picked (entries_in cells) (drop (c.ranks.at + 1) (take used (slots_in cells)))) cell.entry shared).1
+
+pub ranks-preserved-then-not-stays : goal.ranks-preserved-then-not-stays
+ranks-preserved-then-not-stays c =
+    let test : Entry → Bool = outlasts (horizons_at c.args.silent c.args.idle c.args.gone) in
+    let change : Entry → Entry = lapsed c.args.idle in
+    let items : List Entry = picked (entries_in c.args.self.now.cells.items) (take c.args.self.now.used (slots_in c.args.self.now.cells.items)) in
+    let cells : List Cell = c.ranks.self.cells.items in
+    let used : ℕ = c.ranks.self.used in
+    let so = c.ranks.invariant.dropping in
+    let less : c.ranks.at < used = omega (arith, c.ranks-test.true, c.ranks.invariant.used) in
+    let slot : Slot = c.slot_at-slot.result in
+    let cell : Cell = c.index_mut-cell.result.now in
+    let its : slot ≡ slice_index_or (pairs_in cells) c.ranks.at no_slot = c.slot_at-slot.ensures ∙ ap (λ xs. slice_index_or (pairs_in xs) c.ranks.at no_slot) c.deref.ensures.value in
+    let next : Entry = c.retire.new.self in
+    let now : List Cell = set cells slot.place (record cell { entry = next }) in
+    let read = its_entry test change items cells used c.ranks.kept c.ranks.at so less slot its cell c.index_mut-cell.ensures.value next in
+    let its_ssrc = c.retire.ensures.ssrc ∙ ap (λ (e : Entry). e.ssrc) read in
+    let fails = ap test (sym read) ∙ sym c.stays.ensures ∙ c.if-not-stays.true in
+    let front = dropped_items test change items cells used c.ranks.kept c.ranks.at so less slot its cell c.index_mut-cell.ensures.value next its_ssrc in
+    let back = dropped_back test change items cells used c.ranks.kept c.ranks.at so less slot its cell c.index_mut-cell.ensures.value next its_ssrc in
+    let shared = shared_split test change items cells used c.ranks.kept c.ranks.at so less slot its cell c.index_mut-cell.ensures.value next c.ranks.counts its_ssrc c.ranks.invariant.shared in
+    let counted = share_dropped c.ranks.counts c.remove.new.self (picked (entries_in cells) (take c.ranks.kept (slots_in cells))) (picked (entries_in cells) (drop (c.ranks.at + 1) (take used (slots_in cells)))) cell.entry shared
+    c.remove.ensures.members c.remove.ensures.senders c.remove.ensures.due in
     record {
-      dropping = dropped test change items cells used c.ranks.kept c.ranks.at so less slot its cell c.index_mut-cell.ensures.value c.check.new.self
-          its_ssrc (ap test (sym read) ∙ sym c.check.ensures.stays ∙ c.if-not-check.true);
-      measured = subst (IsMeasured c.ranks.counts c.ranks.bounds) (sym (dropped_items test change items cells used c.ranks.kept c.ranks.at so less slot its cell c.index_mut-cell.ensures.value c.check.new.self its_ssrc)) c.ranks.invariant.measured;
+      dropping = dropped test change items cells used c.ranks.kept c.ranks.at so less slot its cell c.index_mut-cell.ensures.value next its_ssrc fails;
+      shared = subst (λ xs. AreShared c.remove.new.self xs (picked (entries_in now) (drop (c.ranks.at + 1) (take used (slots_in now))))) (sym front)
+          (subst (AreShared c.remove.new.self (picked (entries_in cells) (take c.ranks.kept (slots_in cells)))) (sym back) counted);
+      stand = subst (AllStandBy c.ranks.bounds) (sym front) c.ranks.invariant.stand;
       used = c.ranks.invariant.used;
       room = c.ranks.invariant.room;
     }
@@ -140,22 +205,45 @@ ranks-preserved c =
     let slot : Slot = c.slot_at-slot.result in
     let cell : Cell = c.index_mut-cell.result.now in
     let its : slot ≡ slice_index_or (pairs_in cells) c.ranks.at no_slot = c.slot_at-slot.ensures ∙ ap (λ xs. slice_index_or (pairs_in xs) c.ranks.at no_slot) c.deref.ensures.value in
-    let read = its_entry test change items cells used c.ranks.kept c.ranks.at so less slot its cell c.index_mut-cell.ensures.value c.check.new.self in
-    let changed = c.check.ensures.entry ∙ ap change read in
-    let now : List Cell = set cells slot.place (record cell { entry = c.check.new.self }) in
+    let next : Entry = c.lapse.new.entry in
+    let read = its_entry test change items cells used c.ranks.kept c.ranks.at so less slot its cell c.index_mut-cell.ensures.value next in
+    let changed = c.lapse.ensures.entry ∙ ap change read in
+    let now : List Cell = set cells slot.place (record cell { entry = next }) in
     let second : List Cell = c.exchange.new.cells in
     let its_ssrc = ap (λ (e : Entry). e.ssrc) changed ∙ lapsed_ssrc c.args.idle _ in
+    let passes = ap test (sym read) ∙ sym c.stays.ensures ∙ c.if-not-stays.false in
     let slots = c.exchange.ensures.slots ∙ (λ i. set (set (pairs_in (c.deref_mut.ensures.value i)) c.ranks.kept (slice_index_or (pairs_in (c.deref_mut.ensures.value i)) c.ranks.at no_slot)) c.ranks.at (slice_index_or (pairs_in (c.deref_mut.ensures.value i)) c.ranks.kept no_slot)) in
     let entries = c.exchange.ensures.entries ∙ ap entries_in c.deref_mut.ensures.value in
-    let whole = over_whole c.ranks.self.cells.len now second (c.ranks.self.cells.ok.0 ∙ sym (length-set cells slot.place (record cell { entry = c.check.new.self }))) (as_many now second entries) in
+    let whole = over_whole c.ranks.self.cells.len now second (c.ranks.self.cells.ok.0 ∙ sym (length-set cells slot.place (record cell { entry = next }))) (as_many now second entries) in
+    let front = kept_items test change items cells used c.ranks.kept c.ranks.at so less slot its cell c.index_mut-cell.ensures.value next second slots entries its_ssrc in
+    let back = kept_back test change items cells used c.ranks.kept c.ranks.at so less slot its cell c.index_mut-cell.ensures.value next second slots entries its_ssrc in
+    let shared = shared_split test change items cells used c.ranks.kept c.ranks.at so less slot its cell c.index_mut-cell.ensures.value next c.ranks.counts its_ssrc c.ranks.invariant.shared in
+    let counted = share_kept c.ranks.counts c.lapse.new.self (picked (entries_in cells) (take c.ranks.kept (slots_in cells))) (picked (entries_in cells) (drop (c.ranks.at + 1) (take used (slots_in cells)))) cell.entry next shared
+    c.lapse.ensures.members c.lapse.ensures.senders c.lapse.ensures.due in
     record {
       dropping = subst (λ xs. IsDropping test change items (entries_in xs) (slots_in xs) used (c.ranks.kept + 1) (c.ranks.at + 1)) (sym whole)
-          (kept_more test change items cells used c.ranks.kept c.ranks.at so less slot its cell c.index_mut-cell.ensures.value c.check.new.self second slots entries its_ssrc (ap test (sym read) ∙ sym c.check.ensures.stays ∙ c.if-not-check.false) changed);
-      measured = subst (λ xs. IsMeasured c.add.new.self c.cover.new.self (picked (entries_in xs) (take (c.ranks.kept + 1) (slots_in xs)))) (sym whole)
-          (subst (IsMeasured c.add.new.self c.cover.new.self) (sym (kept_items test change items cells used c.ranks.kept c.ranks.at so less slot its cell c.index_mut-cell.ensures.value c.check.new.self second slots entries its_ssrc))
-          (measured_more c.ranks.counts c.add.new.self c.ranks.bounds c.cover.new.self (picked (entries_in cells) (take c.ranks.kept (slots_in cells))) c.check.new.self c.ranks.invariant.measured c.add.ensures.members c.add.ensures.senders c.add.ensures.due c.cover.ensures.no_later c.cover.ensures.stands));
+          (kept_more test change items cells used c.ranks.kept c.ranks.at so less slot its cell c.index_mut-cell.ensures.value next second slots entries its_ssrc passes changed);
+      shared = subst (λ xs. AreShared c.lapse.new.self (picked (entries_in xs) (take (c.ranks.kept + 1) (slots_in xs))) (picked (entries_in xs) (drop (c.ranks.at + 1) (take used (slots_in xs))))) (sym whole)
+          (subst (λ xs. AreShared c.lapse.new.self xs (picked (entries_in second) (drop (c.ranks.at + 1) (take used (slots_in second))))) (sym front)
+          (subst (AreShared c.lapse.new.self (picked (entries_in cells) (take c.ranks.kept (slots_in cells)) ++ next ∷ [])) (sym back) counted));
+      stand = subst (λ xs. AllStandBy c.cover.new.self (picked (entries_in xs) (take (c.ranks.kept + 1) (slots_in xs)))) (sym whole)
+          (subst (AllStandBy c.cover.new.self) (sym front)
+          (all_more c.ranks.bounds c.cover.new.self (picked (entries_in cells) (take c.ranks.kept (slots_in cells))) next c.ranks.invariant.stand c.cover.ensures.no_later c.cover.ensures.stands));
       used = c.ranks.invariant.used;
       room = c.ranks.invariant.room;
+    }
+
+pub returns-clause-measured : goal.returns-clause-measured
+returns-clause-measured c =
+    let cells : List Cell = c.ranks.self.cells.items in
+    let so = c.ranks.invariant.dropping in
+    let front : List Entry = picked (entries_in cells) (take c.ranks.kept (slots_in cells)) in
+    let none : drop c.ranks.at (take c.ranks.self.used (slots_in cells)) ≡ [] =
+    drop_all c.ranks.at (take c.ranks.self.used (slots_in cells)) (omega (arith, c.ranks-test.false, c.ranks.invariant.used, length-take-le c.ranks.self.used (slots_in cells) so.in_use)) in
+    let shared : AreShared c.ranks.counts front [] = subst (λ xs. AreShared c.ranks.counts front (picked (entries_in cells) xs)) none c.ranks.invariant.shared in
+    record {
+      counted = record { members = omega (arith, shared.members); senders = omega (arith, shared.senders); due = omega (arith, shared.due) };
+      stand = c.ranks.invariant.stand;
     }
 
 pub returns-clause-sound : goal.returns-clause-sound
