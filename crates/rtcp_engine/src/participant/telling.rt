@@ -179,6 +179,7 @@ impl<T: MemberTable> Participant<T> {
     pub fn sent_rtp_told(&mut self, now: u64, rtp_ts: u32, octets: u32) -> Reply
         ensures takes { (room : List ℕ) →
             Takes self.old (rtp_sent now rtp_ts octets) (reply_value room result) self.new }
+        ensures empty { kind_told result ≡ None }
         ensures within { KeepsCapacity self.new.presence }
         ensures refused { OnErr result (self.new ≡ self.old) }
     {
