@@ -20,7 +20,7 @@ use std::alloc::Global;
 
 /// Puts a participant of a session that begins now, at moment 0, into an empty handle. `word` is a random word, for the
 /// draw of the first interval. Call `jalwedd_tick` at the step's `next`. This call alone takes memory, in two blocks:
-/// 144 octets for each source of the capacity, and some 2,500.
+/// 144 octets for each source of the capacity, and 2,560.
 ///
 /// Statuses: 0; 21 where the handle holds a participant, which is then the one that the step tells of; 11 to 16 by the
 /// first of C1 to C6 that applies, where a CNAME of more than 255 octets and more than 7 items are tested before the

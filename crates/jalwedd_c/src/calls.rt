@@ -1,6 +1,6 @@
 //! The calls of a session: what came, what was sent, what time it is, and the leave.
 
-ghost use Rattle.std.specs.Prelude.{◌≡◌, ◌≢◌, List, Some, None, Result, length};
+ghost use Rattle.std.specs.Prelude.{◌≡◌, ◌≢◌, ◌≤◌, ◌<◌, List, Some, None, Result, length};
 ghost use Rattle.rtcp_wire.specs.declared.fault.WireFault.{WireFault as FirstFault};
 ghost use Rattle.rtcp_wire.specs.declared.rtp.fault.RtpFault.{RtpFault as HeadFault};
 ghost use Rattle.rtcp_wire.specs.Values.{RtcpPacket};
@@ -11,15 +11,18 @@ ghost use Rattle.rtcp_engine.specs.Histories.{History};
 ghost use Rattle.rtcp_engine.specs.InTime.{IsOverdue};
 ghost use Rattle.rtcp_engine.specs.Spacing.{KeepsBounds};
 ghost use Rattle.rtcp_engine.specs.States.{StandsAt};
-ghost use Rattle.jalwedd_c.specs.Answers.{HandsOut, IsBlank, Shows, status_of};
+ghost use Rattle.jalwedd_c.specs.Answers.{HandsNothing, HandsOut, IsBlank, Shows, status_of};
 ghost use Rattle.jalwedd_c.specs.Handles.{KeepsWithin, LeadsTo};
 
 use crate::handle::Handle;
 use crate::session::Session;
-use crate::status::EMPTY;
+use crate::status::{EMPTY, TOO_LONG};
 use crate::step::Step;
 use arrayvec::ArrayVec;
 use std::alloc::Global;
+
+/// The most octets of a UDP datagram.
+const LONGEST: usize = 65_535;
 
 /// An RTCP datagram came at the moment `now`, in microseconds since the session began, with the octets that UDP
 /// carried, at most 65,535. `peer` is a number for where it came from, which two peers do not share, and `word` a random
@@ -105,9 +108,11 @@ fn own_rtcp(
     handle.put_back(session, &reply, &room, step, octets)
 }
 
-/// An RTP datagram came, with the octets that UDP carried: as `jalwedd_arrive_rtcp`.
+/// An RTP datagram came, with the octets that UDP carried: as `jalwedd_arrive_rtcp`. Of one of more than 65,535 octets
+/// none is read, so that a host may give a size of -1 for what it did not receive.
 ///
-/// Statuses: 0; 1 to 4, 6 and 7, by the first of E1 to E4, E6 and E7 that applies; 20 where the handle is empty.
+/// Statuses: 0; 20 where the handle is empty; else 23 where the datagram has more than 65,535 octets; else 1 to 4, 6 and
+/// 7, by the first of E1 to E4, E6 and E7 that applies.
 #[unsafe(no_mangle)]
 pub extern "C" fn jalwedd_arrive_rtp(
     alloc: Global,
@@ -119,21 +124,25 @@ pub extern "C" fn jalwedd_arrive_rtp(
     step: &mut Step,
     octets: &mut [u8; 1472],
 ) -> u32
-    ensures status { (history : History) (reading : Result RtpValue HeadFault) →
+    ensures status { (history : History) (reading : Result RtpValue HeadFault) → length datagram.now ≤ 65535 →
         LeadsTo handle.old.owned.held history → IsRtpReading datagram.now reading →
         result ≡ status_of (answer_of history (rtp_came now peer word reading)) }
-    ensures handed { (history : History) (reading : Result RtpValue HeadFault) →
+    ensures handed { (history : History) (reading : Result RtpValue HeadFault) → length datagram.now ≤ 65535 →
         LeadsTo handle.old.owned.held history → IsRtpReading datagram.now reading →
         HandsOut step.new octets.old octets.new (answer_of history (rtp_came now peer word reading)) }
-    ensures stands { (history : History) (reading : Result RtpValue HeadFault) →
+    ensures stands { (history : History) (reading : Result RtpValue HeadFault) → length datagram.now ≤ 65535 →
         LeadsTo handle.old.owned.held history → IsRtpReading datagram.now reading →
         LeadsTo handle.new.owned.held (followed_by history (rtp_came now peer word reading)) }
-    ensures shows { (history : History) (reading : Result RtpValue HeadFault) →
+    ensures shows { (history : History) (reading : Result RtpValue HeadFault) → length datagram.now ≤ 65535 →
         LeadsTo handle.old.owned.held history → IsRtpReading datagram.now reading →
         Shows step.new (followed_by history (rtp_came now peer word reading)) }
-    ensures bounded { (history : History) (reading : Result RtpValue HeadFault) →
+    ensures bounded { (history : History) (reading : Result RtpValue HeadFault) → length datagram.now ≤ 65535 →
         LeadsTo handle.old.owned.held history → IsRtpReading datagram.now reading →
         KeepsBounds (followed_by history (rtp_came now peer word reading)) }
+    ensures too_long { (session : Session) → handle.old.owned.held ≡ Some session → 65535 < length datagram.now →
+        (result ≡ 23) × HandsNothing step.new × (octets.new ≡ octets.old) }
+    ensures still_shows { (history : History) → LeadsTo handle.old.owned.held history → 65535 < length datagram.now →
+        Shows step.new history }
     ensures within { KeepsWithin handle.old.owned.held → KeepsWithin handle.new.owned.held }
     ensures refused { result ≢ 0 → handle.new.owned.held ≡ handle.old.owned.held }
     ensures empty { handle.old.owned.held ≡ None → (result ≡ 20) × IsBlank step.new × (octets.new ≡ octets.old) }
@@ -141,6 +150,9 @@ pub extern "C" fn jalwedd_arrive_rtp(
     let Some(mut session) = handle.take(alloc) else {
         return empty(step);
     };
+    if datagram.len() > LONGEST {
+        return handle.put_back_untold(session, TOO_LONG, step);
+    }
     match session.participant.arrive_rtp_told(now, peer, datagram) {
         Some(reply) => handle.put_back(session, &reply, &[], step, octets),
         None => own_rtp(handle, session, now, peer, word, datagram, step, octets),
@@ -188,7 +200,7 @@ fn own_rtp(
 }
 
 /// The host sent an RTP packet at the moment `now`, with this RTP timestamp and so many octets of payload, without
-/// padding (RFC 3550, 6.3.8, 6.4.1).
+/// padding (RFC 3550, 6.3.8, 6.4.1). This never hands out anything.
 ///
 /// Statuses: 0; 1 to 4, by the first of E1 to E4 that applies; 20 where the handle is empty.
 #[unsafe(no_mangle)]
@@ -205,6 +217,7 @@ pub extern "C" fn jalwedd_sent_rtp(
         result ≡ status_of (answer_of history (rtp_sent now timestamp size)) }
     ensures handed { (history : History) → LeadsTo handle.old.owned.held history →
         HandsOut step.new octets.old octets.new (answer_of history (rtp_sent now timestamp size)) }
+    ensures nothing { (step.new.kind ≡ 0) × (octets.new ≡ octets.old) }
     ensures stands { (history : History) → LeadsTo handle.old.owned.held history →
         LeadsTo handle.new.owned.held (followed_by history (rtp_sent now timestamp size)) }
     ensures shows { (history : History) → LeadsTo handle.old.owned.held history →

@@ -5,7 +5,7 @@ ghost use Rattle.rtcp_members.specs.ListViews.{state_value};
 ghost use Rattle.rtcp_engine.specs.Histories.{History, life_at, setup_at};
 ghost use Rattle.rtcp_engine.specs.Lives.{TellsInLife, entries_in_life};
 ghost use Rattle.rtcp_engine.specs.Views.{reply_value};
-ghost use Rattle.jalwedd_c.specs.Answers.{HandsOut, IsBlank, Shows, status_of};
+ghost use Rattle.jalwedd_c.specs.Answers.{HandsNothing, HandsOut, IsBlank, Shows, status_of};
 ghost use Rattle.jalwedd_c.specs.Handles.{LeadsTo};
 ghost use Rattle.jalwedd_c.specs.Sources.{after_of};
 
@@ -78,6 +78,24 @@ impl Handle {
         *step = session.step(handed);
         self.put(session);
         handed.status
+    }
+
+    /// Puts back a session that a call told nothing, says how its participant stands, and returns the status.
+    pub(crate) fn put_back_untold(
+        &mut self,
+        session: Box<Session>,
+        status: u32,
+        step: &mut Step,
+    ) -> u32
+        requires { self.old.owned.held ≡ None }
+        ensures held { self.new.owned.held ≡ Some session.value }
+        ensures status { result ≡ status }
+        ensures nothing { HandsNothing step.new }
+        ensures shown { (history : History) → LeadsTo self.new.owned.held history → Shows step.new history }
+    {
+        *step = session.step(Handed::nothing(status));
+        self.put(session);
+        status
     }
 
     /// How many places of the table are taken: none where the handle is empty.

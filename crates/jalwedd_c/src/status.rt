@@ -42,6 +42,9 @@ pub(crate) const LIVE: u32 = 21;
 /// There is no memory for a participant.
 pub(crate) const NO_MEMORY: u32 = 22;
 
+/// The datagram has more octets than UDP carries.
+pub(crate) const TOO_LONG: u32 = 23;
+
 /// The status of a call that the participant refused.
 pub(crate) fn of_refusal(refusal: &Refusal) -> u32
     ensures { result ≡ status_of_refusal refusal.now }

@@ -169,6 +169,40 @@ fn arrivals(rt: HostRuntime) {
     jalwedd_free(alloc, &mut handle);
 }
 
+/// A packet of more octets than UDP carries changes nothing, and its moment is that of no call.
+#[test]
+fn too_long(rt: HostRuntime) {
+    let alloc = rt.alloc();
+    let (mut handle, mut step, mut octets) = (Handle::empty(alloc), Step::blank(), [7; 1_472]);
+    jalwedd_new(alloc, &mut handle, &CONFIG, b"a", &[], 0, &mut step);
+    let refused = jalwedd_arrive_rtp(
+        alloc,
+        &mut handle,
+        5,
+        7,
+        0,
+        &[0x80; 65_536],
+        &mut step,
+        &mut octets,
+    );
+    assert_eq!(rt;
+        (refused, step.next, step.entries, octets == [7; 1_472]),
+        (23, 1_026_037, 0, true)
+    );
+    let taken = jalwedd_arrive_rtp(
+        alloc,
+        &mut handle,
+        0,
+        7,
+        0,
+        &[0x80; 65_535],
+        &mut step,
+        &mut octets,
+    );
+    assert_eq!(rt; (taken, step.entries), (0, 1));
+    jalwedd_free(alloc, &mut handle);
+}
+
 /// The status of a configuration that is refused.
 fn refusal(alloc: Global, config: &Config, cname: &[u8], items: &[Item]) -> u32 {
     let (mut handle, mut step) = (Handle::empty(alloc), Step::blank());
