@@ -20,7 +20,7 @@
 enum { SESSIONS = 5000, OTHERS = 20, SMALL_STACK = 32768 };
 
 /* The library's memory, in place of package/memory.c: blocks and octets are counted. */
-static size_t octets_asked, blocks_asked, blocks_held;
+static size_t octets_asked, blocks_asked, blocks_held, asked_last, asked_before;
 
 struct rattle_block {
     uint8_t ok;
@@ -32,6 +32,8 @@ struct rattle_block rattle_alloc(size_t size, size_t alignment)
     void *at = malloc(size);
     HOLDS(at != NULL && alignment <= _Alignof(max_align_t));
     octets_asked += size;
+    asked_before = asked_last;
+    asked_last = size;
     blocks_asked++;
     blocks_held++;
     return (struct rattle_block){1, at};
@@ -74,7 +76,8 @@ static void take_part(jalwedd_handle *session, uint32_t others)
     HOLDS(step.kind == JALWEDD_REPORT);
 }
 
-/* At most 3 KB, and 150 octets for each source of the capacity, all of it as the session begins. */
+/* As the header says: 2,560 octets in one block and 144 for each source of the capacity in another, all of it as the
+ * session begins. */
 static void heap_by_capacity(void)
 {
     static const uint32_t capacities[] = {1, 20, 100, 1024};
@@ -84,7 +87,8 @@ static void heap_by_capacity(void)
         octets_asked = blocks_asked = 0;
         begin(&session, capacity);
         printf("heap at capacity %u: %zu octets in %zu blocks\n", capacity, octets_asked, blocks_asked);
-        HOLDS(octets_asked <= 3072 + 150 * (size_t)capacity && blocks_asked == 2);
+        HOLDS(octets_asked == JALWEDD_MEMORY(capacity) && blocks_asked == 2);
+        HOLDS((asked_last == 2560) != (asked_before == 2560));
         take_part(&session, capacity + 5);
         HOLDS(step.members == capacity + 1 && step.senders == capacity);
         HOLDS(blocks_asked == 2);

@@ -1,6 +1,7 @@
 /* The memory of the library: malloc and free. A host without them links its own rattle_alloc, rattle_realloc and
- * rattle_dealloc before libjalwedd.a, and this file is left out: jalwedd_new asks for two blocks, one of a fixed size and
- * one of 144 octets for each source of the capacity, and jalwedd_free gives them back. No other call asks for any. */
+ * rattle_dealloc before libjalwedd.a, and this file is left out: jalwedd_new asks for two blocks, one of 2,560 octets and
+ * one of 144 octets for each source of the capacity, aligned as malloc's are, and jalwedd_free gives them back. No other
+ * call asks for any. */
 #include <stdint.h>
 #include <stddef.h>
 #include <stdlib.h>
