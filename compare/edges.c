@@ -1,11 +1,14 @@
-/* Calls of the library at their edges: empty handles, handles that were freed, lengths of 0 and of 65,535, memory that
- * is refused, and what a refused call leaves. Ends with 0, or says the line that does not hold. (compare/embedding) */
+/* Calls of the library at their edges: empty handles, handles that were freed, lengths of 0 and of 65,535, sizes that
+ * nothing has, memory that is refused, and what a refused call leaves. Ends with 0, or says the line that does not hold.
+ * (compare/embedding) */
+#define _GNU_SOURCE
 #include "jalwedd.h"
 
 #include <stddef.h>
 #include <stdio.h>
 #include <stdlib.h>
 #include <string.h>
+#include <sys/mman.h>
 
 #define HOLDS(what)                                                                                                    \
     do {                                                                                                               \
@@ -136,6 +139,54 @@ static int lengths(void)
     HOLDS(jalwedd_free(&handle) == JALWEDD_TAKEN);
     free(longest);
     free(none);
+    return 0;
+}
+
+/* A packet of source 7 that says that it is padded: its last octet, how much. */
+static const uint8_t PADDED[] = {0xa0, 0, 0, 1, 0, 0, 0, 0, 0, 0, 0, 7, 0, 0, 0, 4};
+
+/* The octets before a page that cannot be read. */
+static uint8_t *before_guard(void)
+{
+    enum { PAGE = 4096, MOST = 16 * PAGE };
+    uint8_t *pages = mmap(NULL, MOST + PAGE, PROT_READ | PROT_WRITE, MAP_PRIVATE | MAP_ANONYMOUS, -1, 0);
+    if (pages == MAP_FAILED || mprotect(pages + MOST, PAGE, PROT_NONE) != 0)
+        exit(1);
+    return pages + MOST;
+}
+
+/* Sizes that no datagram, CNAME or list of items has, as that of a datagram that was not received: nothing is read. */
+static int sizes(void)
+{
+    static const size_t most[] = {65536, (size_t)1 << 31, (size_t)1 << 63, SIZE_MAX};
+    jalwedd_handle handle = JALWEDD_EMPTY, none = JALWEDD_EMPTY;
+    jalwedd_step step;
+    jalwedd_fault fault;
+    jalwedd_report report;
+    uint8_t octets[JALWEDD_OCTETS] = {0};
+    uint8_t *end = before_guard(), *padded = end - sizeof PADDED;
+    const jalwedd_item *items = (const jalwedd_item *)(end - sizeof(jalwedd_item));
+    memcpy(padded, PADDED, sizeof PADDED);
+    for (size_t at = 0; at < 4; at++) {
+        HOLDS(jalwedd_new(&handle, &CONFIG, padded, most[at], items, 1, 0, &step) == JALWEDD_CNAME);
+        HOLDS(jalwedd_new(&handle, &CONFIG, padded, 1, items, most[at], 0, &step) == JALWEDD_ITEM);
+    }
+    HOLDS(jalwedd_new(&handle, &CONFIG, padded, 1, items, 0, 0, &step) == JALWEDD_TAKEN);
+    HOLDS(jalwedd_arrive_rtp(&handle, 0, 1, 0, padded, sizeof PADDED, &step, octets) == JALWEDD_TAKEN);
+    HOLDS(step.entries == 1 && step.members == 1);
+    const uint64_t next = step.next;
+    for (size_t at = 0; at < 4; at++) {
+        HOLDS(jalwedd_arrive_rtp(&handle, 9, 1, 0, padded, most[at], &step, octets) == JALWEDD_TOO_LONG);
+        HOLDS(step.kind == 0 && step.next == next && step.entries == 1 && step.members == 1 && step.ssrc == 0xaa);
+        HOLDS(jalwedd_arrive_rtp(&none, 0, 1, 0, padded, most[at], &step, octets) == JALWEDD_IS_EMPTY);
+        HOLDS(jalwedd_arrive_rtcp(&handle, 9, 1, 0, padded, most[at], &step, octets) == JALWEDD_NO_COMPOUND);
+        HOLDS(jalwedd_check(padded, most[at], &fault) == JALWEDD_NO_COMPOUND && fault.reason == 10);
+        HOLDS(jalwedd_about(padded, most[at], 7, 0, &report) == JALWEDD_NO_COMPOUND);
+    }
+    /* moment 9 was that of no call that was taken; and 65,535 octets are still read */
+    HOLDS(jalwedd_arrive_rtp(&handle, 0, 1, 0, end - 65535, 65535, &step, octets) == JALWEDD_NO_RTP);
+    HOLDS(jalwedd_arrive_rtcp(&handle, 0, 1, 0, end - 65535, 65535, &step, octets) == JALWEDD_NO_COMPOUND);
+    HOLDS(jalwedd_free(&handle) == JALWEDD_TAKEN);
     return 0;
 }
 
@@ -334,6 +385,6 @@ static int memory(void)
 
 int main(void)
 {
-    return empty() || begun() || lengths() || reports() || parts() || no_parts() || sources() || changes() || listings()
-           || memory();
+    return empty() || begun() || lengths() || sizes() || reports() || parts() || no_parts() || sources() || changes()
+           || listings() || memory();
 }
