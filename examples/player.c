@@ -211,10 +211,11 @@ static void receive(struct player *player, int from, uint64_t now, uint8_t *octe
     if (from == player->rtp) {
         jalwedd_arrive_rtp(&player->session, now, number, random_word(), datagram, (size_t)size, &player->step, octets);
     } else {
+        /* first: the reports name the SSRC of now, which the call may change */
+        take_reports(player, now, datagram, (size_t)size);
+        take_cnames(player, datagram, (size_t)size);
         jalwedd_arrive_rtcp(&player->session, now, number, random_word(), datagram, (size_t)size, &player->step,
                             octets);
-        take_cnames(player, datagram, (size_t)size);
-        take_reports(player, now, datagram, (size_t)size);
     }
     send_out(player, octets);
 }

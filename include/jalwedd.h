@@ -14,10 +14,15 @@
  *     }
  *
  * WHAT THE HOST HAS TO KEEP, and nothing tests:
- * - Each pointer is valid, aligned, and not NULL, also one whose size is 0.
+ * - Each pointer is valid, aligned, and not NULL, also one whose size is 0: there any address will do, as that of the
+ *   handle.
+ * - At a pointer lie as many octets, items or sources as the size or count says. Of a datagram of more than 65,535
+ *   octets, of a CNAME of more than 255 and of more than 7 items nothing is read: such a call is refused. So is a size
+ *   of -1, as recv returns it.
  * - What a call writes (all that is not const) lies apart from all else that it is given.
- * - One call at a time uses a handle. Several handles may be used side by side.
- * - A handle is neither copied nor changed, and is freed before it goes away.
+ * - One call at a time uses a handle. Several handles may be used side by side, by several threads too.
+ * - A handle is not changed, and is freed before it goes away. It may be moved to another place, if the old one is not
+ *   used again. A child of fork does not go on with it: two would speak as one participant.
  *
  * Everything else is tested: whatever a datagram holds, whatever the numbers are and in whatever order the calls come,
  * each call returns, with a status. A call whose status is not JALWEDD_TAKEN changes nothing of the participant, and
@@ -25,8 +30,14 @@
  *
  * No call takes more than 8,192 octets of stack (as measured, at 1,000 members).
  *
- * Moments are microseconds since the session began, from 0 to 2^50, and never go back. Words are random, from 0 to
- * 2^32 - 1, each used once.
+ * Moments are microseconds since the session began, from 0 to 2^50, and never go back. Each participant has a moment 0
+ * of its own: jalwedd_new. Words are random, from 0 to 2^32 - 1, each used once.
+ *
+ * A participant has one SSRC. A host that sends several streams into a session is as many participants there, each with
+ * a handle: each of them is told what came, and also what the others of this host sent, as if it had come, so that all
+ * count the same members (RFC 3550, 6.2).
+ *
+ * A structure of this header never grows or changes its layout under one SONAME of the shared object.
  */
 #ifndef JALWEDD_H
 #define JALWEDD_H
@@ -38,7 +49,7 @@
 extern "C" {
 #endif
 
-/* ---- Statuses */
+/* ---- Statuses. Two of them have two names, so a switch takes one: NO_BLOCK or NO_PART, NO_SOURCE or NO_CHANGE. */
 
 enum {
     JALWEDD_TAKEN = 0,
@@ -69,7 +80,8 @@ enum {
 
     JALWEDD_IS_EMPTY = 20,      /* the handle holds no participant */
     JALWEDD_IS_LIVE = 21,       /* jalwedd_new: the handle holds a participant already */
-    JALWEDD_NO_MEMORY = 22      /* jalwedd_new: there is no memory */
+    JALWEDD_NO_MEMORY = 22,     /* jalwedd_new: there is no memory */
+    JALWEDD_TOO_LONG = 23       /* jalwedd_arrive_rtp: no UDP datagram has more than 65,535 octets */
 };
 
 /* ---- Values */
@@ -201,8 +213,12 @@ typedef struct jalwedd_role_change {
 
 /* ---- A participant */
 
+/* The octets of memory that a participant of this capacity takes: a block of 2,560 octets, and one of 144 octets for
+ * each source of the capacity. */
+#define JALWEDD_MEMORY(capacity) (2560 + 144 * (size_t)(capacity))
+
 /* Puts a participant of a session that begins now, at moment 0, into an empty handle. `word` is for the draw of the
- * first interval. Takes two blocks of memory: some 2.5 KB, and 144 octets for each source of the capacity.
+ * first interval. Takes memory, JALWEDD_MEMORY(config->capacity) octets in two blocks; no other call takes any.
  * Statuses: TAKEN; IS_LIVE, and the step is that of the participant that is there; CNAME to ITEM; NO_MEMORY. */
 uint32_t jalwedd_new(jalwedd_handle *handle, const jalwedd_config *config, const uint8_t *cname, size_t cname_size,
                      const jalwedd_item *items, size_t item_count, uint32_t word, jalwedd_step *step);
@@ -212,30 +228,37 @@ uint32_t jalwedd_new(jalwedd_handle *handle, const jalwedd_config *config, const
 uint32_t jalwedd_free(jalwedd_handle *handle);
 
 /* An RTCP datagram came at the moment `now`, with the octets that UDP carried (RFC 3550, 6.1). `peer` is a number for
- * where it came from, another one for each address and port; `word` is for a new SSRC, should it come to that (8.2).
+ * where it came from, another one for each address and port: of IPv4 these themselves, of IPv6 the place of address and
+ * port in a list that the host keeps. `word` is for a new SSRC, should it come to that (8.2).
+ * Hands out nothing, or, where it changes the SSRC, the BYE of the old one. Reports about the own stream that it brings
+ * are read before the call (jalwedd_about), as they name the SSRC of then.
  * Statuses: TAKEN; LEFT to NO_COMPOUND; OWN_SSRC; IS_EMPTY. */
 uint32_t jalwedd_arrive_rtcp(jalwedd_handle *handle, uint64_t now, uint64_t peer, uint32_t word,
                              const uint8_t *datagram, size_t size, jalwedd_step *step, uint8_t octets[JALWEDD_OCTETS]);
 
 /* An RTP datagram came: as jalwedd_arrive_rtcp.
- * Statuses: TAKEN; LEFT to TOO_MANY; NO_RTP; OWN_SSRC; IS_EMPTY. */
+ * Statuses: TAKEN; IS_EMPTY; TOO_LONG; LEFT to TOO_MANY; NO_RTP; OWN_SSRC. */
 uint32_t jalwedd_arrive_rtp(jalwedd_handle *handle, uint64_t now, uint64_t peer, uint32_t word,
                             const uint8_t *datagram, size_t size, jalwedd_step *step, uint8_t octets[JALWEDD_OCTETS]);
 
 /* The host sent an RTP packet at the moment `now`, with this RTP timestamp and so many octets of payload without
- * padding (6.3.8, 6.4.1).
+ * padding (6.3.8, 6.4.1). Hands out nothing.
  * Statuses: TAKEN; LEFT to TOO_MANY; IS_EMPTY. */
 uint32_t jalwedd_sent_rtp(jalwedd_handle *handle, uint64_t now, uint32_t timestamp, uint32_t payload,
                           jalwedd_step *step, uint8_t octets[JALWEDD_OCTETS]);
 
 /* Asks at the moment `now` what is due, and drops those who are silent for too long (6.3.5, 6.3.6). Call it at
- * step.next; a call before that sends nothing.
+ * step.next; a call before that hands out nothing. `first_word` is for the draw that decides whether what is due goes
+ * out now, or is put off (6.3.3, 6.3.6), and `second_word` for the draw of the interval after it.
+ * Hands out nothing, a report, or, after a leave, the BYE.
  * Statuses: TAKEN; LEFT to TOO_MANY; IS_EMPTY. */
 uint32_t jalwedd_tick(jalwedd_handle *handle, uint64_t now, uint32_t first_word, uint32_t second_word,
                       jalwedd_step *step, uint8_t octets[JALWEDD_OCTETS]);
 
-/* Leaves the session at the moment `now` (6.3.7). The BYE goes out at once, or, in a session of more than 50, from a
- * tick: go on until step.next is JALWEDD_NEVER. One that sent nothing leaves silently.
+/* Leaves the session at the moment `now` (6.3.7). The BYE is handed out at once, or, in a session of more than 50, by a
+ * tick: go on until step.next is JALWEDD_NEVER. One that sent nothing leaves silently. `word` is for the draw of when
+ * that tick is due.
+ * Hands out nothing, or the BYE.
  * Statuses: TAKEN; LEFT to TOO_MANY; IS_EMPTY. */
 uint32_t jalwedd_leave(jalwedd_handle *handle, uint64_t now, uint32_t word, jalwedd_step *step,
                        uint8_t octets[JALWEDD_OCTETS]);
@@ -254,8 +277,9 @@ uint32_t jalwedd_entries(jalwedd_handle *handle);
 
 /* Tells what is known of the source of least SSRC from `from` on: of members, of those that are not yet valid, and of
  * those that left and are held for a while, but not of the participant itself. It changes nothing. Begin with 0, and go
- * on with (uint64_t)ssrc + 1 until the status is not TAKEN: then each source was told once. `source` is left as it is
- * where there is no such source, once the participant leaves, and for an empty handle.
+ * on with (uint64_t)ssrc + 1 until the status is not TAKEN: then each source was told once. To ask for one source, let
+ * `from` be its SSRC, and see whether source->ssrc is that. `source` is left as it is where there is no such source,
+ * once the participant leaves, and for an empty handle.
  * Statuses: TAKEN; NO_SOURCE. */
 uint32_t jalwedd_source(jalwedd_handle *handle, uint64_t from, jalwedd_source_state *source);
 
@@ -270,9 +294,10 @@ uint32_t jalwedd_source(jalwedd_handle *handle, uint64_t from, jalwedd_source_st
  *         if (change.was == JALWEDD_AWAY)      joined(change.ssrc);
  *         else if (change.is == JALWEDD_AWAY)  gone(change.ssrc, change.left ? "by a BYE" : "silent for too long");
  *
- * A source that said goodbye is held for 5 seconds at least: between listings that are less than that apart, a member
- * that left by a BYE is told as such. One that came and went between them is not told. Once the participant leaves its
- * listing is empty, and says nothing of the others.
+ * A source that said goodbye is listed until a tick that comes 5 seconds or more after that, or one that finds that it
+ * was silent for too long before: so a host that lists after each call whose step.others_changed is 1 is told that it
+ * left by a BYE, and one that lists more seldom may be told that it was silent. One that came and went between two
+ * listings is not told. Once the participant leaves its listing is empty, and says nothing of the others.
  * Statuses: TAKEN; NO_CHANGE; NOT_RISING. */
 uint32_t jalwedd_change(const jalwedd_source_state *before, size_t before_count, const jalwedd_source_state *after,
                         size_t after_count, uint64_t from, jalwedd_role_change *change);

@@ -7,8 +7,10 @@ use std::fmt;
 
 /// The sources whose roles differ in two listings, by rising SSRC, each once: who joined, who left and how,
 /// who began to send and who stopped. A listing is what [`crate::Participant::sources`] gives. A source that
-/// said goodbye is held for 5 seconds at least: between listings that are less than that apart, a member that
-/// left by a BYE is told as such. One that came and went between them is not told.
+/// said goodbye is listed until a tick that comes 5 seconds or more after that, or one that finds that it was
+/// silent for too long before: so a host that lists after each call whose step says `others_changed` is told
+/// that it left by a BYE, and one that lists more seldom may be told that it was silent. One that came and
+/// went between two listings is not told.
 ///
 /// ```
 /// # use jalwedd::{Config, Participant};

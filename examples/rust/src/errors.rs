@@ -68,6 +68,8 @@ error! {
         NoRtp = sys::JALWEDD_NO_RTP, "the RTP datagram has no head that is read";
         /// E7: the datagram names the own SSRC, and changes it no more (8.2).
         OwnSsrc = sys::JALWEDD_OWN_SSRC, "the datagram names the own SSRC";
+        /// The RTP datagram has more than 65,535 octets, as none of UDP has. This comes before all others.
+        TooLong = sys::JALWEDD_TOO_LONG, "the RTP datagram has more than 65,535 octets";
     }
 }
 

@@ -218,8 +218,8 @@ impl Participant {
         self.answer(status)
     }
 
-    /// An RTP datagram came: as [`Participant::arrive_rtcp`]. Refused by `Left` to `TooMany`, `NoRtp` and
-    /// `OwnSsrc`.
+    /// An RTP datagram came: as [`Participant::arrive_rtcp`]. Refused by `TooLong`, `Left` to `TooMany`, `NoRtp`
+    /// and `OwnSsrc`.
     pub fn arrive_rtp(
         &mut self,
         now: u64,

@@ -29,6 +29,7 @@ pub const JALWEDD_ITEM: u32 = 16;
 pub const JALWEDD_IS_EMPTY: u32 = 20;
 pub const JALWEDD_IS_LIVE: u32 = 21;
 pub const JALWEDD_NO_MEMORY: u32 = 22;
+pub const JALWEDD_TOO_LONG: u32 = 23;
 
 // ---- Values
 

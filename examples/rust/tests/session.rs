@@ -130,6 +130,7 @@ fn a_refused_call_changes_nothing() {
     assert_eq!(session.tick(0, 0, 0), Err(Refusal::Backwards));
     assert_eq!(session.arrive_rtcp(1 << 50, 1, 0, &[]), Err(Refusal::NoCompound));
     assert_eq!(session.arrive_rtp(1 << 50, 1, 0, &[]), Err(Refusal::NoRtp));
+    assert_eq!(session.arrive_rtp(1 << 50, 1, 0, &[0x80; 65_536]), Err(Refusal::TooLong));
     assert_eq!(session.step(), after);
 }
 

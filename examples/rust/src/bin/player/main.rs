@@ -106,9 +106,10 @@ impl Player {
         match arrival.at {
             Port::Rtp => self.link.send_out(self.session.arrive_rtp(now, peer, word, datagram)),
             Port::Rtcp => {
-                self.link.send_out(self.session.arrive_rtcp(now, peer, word, datagram));
+                // first: the reports name the SSRC of now, which the call may change; there are none in a faulty one
                 let arrival = ntp_of(self.config.ntp_base, now);
-                let _ = self.notes.take(self.session.ssrc(), arrival, datagram); // there are none in a faulty one
+                let _ = self.notes.take(self.session.ssrc(), arrival, datagram);
+                self.link.send_out(self.session.arrive_rtcp(now, peer, word, datagram));
             }
         }
     }
