@@ -78,6 +78,7 @@ static int empty(void)
     HOLDS(jalwedd_entries(&handle) == 0);
     HOLDS(jalwedd_next(&handle) == JALWEDD_NEVER);
     HOLDS(jalwedd_free(&handle) == JALWEDD_IS_EMPTY && handle.at == NULL);
+    HOLDS(jalwedd_free(NULL) == JALWEDD_IS_EMPTY);
     return 0;
 }
 

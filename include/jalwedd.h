@@ -15,7 +15,7 @@
  *
  * WHAT THE HOST HAS TO KEEP, and nothing tests:
  * - Each pointer is valid, aligned, and not NULL, also one whose size is 0: there any address will do, as that of the
- *   handle.
+ *   handle. But jalwedd_free takes NULL.
  * - At a pointer lie as many octets, items or sources as the size or count says. Of a datagram of more than 65,535
  *   octets, of a CNAME of more than 255 and of more than 7 items nothing is read: such a call is refused. So is a size
  *   of -1, as recv returns it.
@@ -223,7 +223,8 @@ typedef struct jalwedd_role_change {
 uint32_t jalwedd_new(jalwedd_handle *handle, const jalwedd_config *config, const uint8_t *cname, size_t cname_size,
                      const jalwedd_item *items, size_t item_count, uint32_t word, jalwedd_step *step);
 
-/* Frees the participant of a handle, which is empty then. Nothing goes out: jalwedd_leave comes before.
+/* Frees the participant of a handle, which is empty then. Nothing goes out: jalwedd_leave comes before. Of NULL, as of
+ * an empty handle, it does nothing.
  * Statuses: TAKEN; IS_EMPTY. */
 uint32_t jalwedd_free(jalwedd_handle *handle);
 
