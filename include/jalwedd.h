@@ -14,8 +14,8 @@
  *     }
  *
  * WHAT THE HOST HAS TO KEEP, and nothing tests:
- * - Each pointer is valid, aligned, and not NULL, also one whose size is 0: there any address will do, as that of the
- *   handle. But jalwedd_free takes NULL.
+ * - Each pointer is valid, aligned, and not NULL, also one whose size is 0: there any aligned address will do, as that
+ *   of the handle. But jalwedd_free takes NULL.
  * - At a pointer lie as many octets, items or sources as the size or count says. Of a datagram of more than 65,535
  *   octets, of a CNAME of more than 255 and of more than 7 items nothing is read: such a call is refused. So is a size
  *   of -1, as recv returns it.

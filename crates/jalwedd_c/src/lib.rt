@@ -5,13 +5,13 @@
 //! Statuses: 0 taken; 1 to 7 a call that the participant refused, by E1 to E7, of which 5 is also a datagram
 //! that is no compound; 8 no such block, or no such other part of a datagram; 9 no such source, or no other one
 //! that changed; 10 a listing whose SSRCs do not rise; 11 to 16 a configuration that is refused, by C1 to C6;
-//! 20 a handle that holds no participant; 21 one that holds one already; 22 no memory; 23 an RTP datagram of more octets
-//! than UDP carries.
+//! 20 a handle that holds no participant; 21 one that holds one already; 22 no memory; 23 an RTP datagram of more
+//! octets than UDP carries.
 //!
 //! Nobody proves a C caller, so no call asks for anything of values: moments out of order, too many calls and bad
 //! configurations are statuses. What a caller has to keep, and nothing tests: that pointers are valid for the sizes
 //! given, that what is written lies apart from all else that the call is given, that a handle is used by one call at a
-//! time, and is neither copied nor changed.
+//! time, and that it is not changed, nor used again where it was once it is moved.
 //!
 //! Memory comes from three functions that the host may replace (package/memory.c). No call but `jalwedd_new` takes any.
 #![tactic(auto)]
