@@ -1,6 +1,7 @@
 -- The laws of this crate as lemmas, for the proofs of the crates above: each has the name of its law, and of the
 -- clause where the law has several.
 use Rattle.std.proofs.Common.{◌≡◌, ◌↔◌, map, ℕ, ◌+◌, ◌-◌, ◌*◌, ◌/◌, ◌%◌, ◌≤◌, ◌^◌, ◌<◌, Bool, false, is_some, option_map, List, [], ◌∷◌, ◌++◌, length, slice_get, Option, Some, None, Ok, Err, if◌then◌else◌, refl, sym, ap, ◌∙◌, arith, inl, inr}
+use Rattle.std.specs.Option.{option_or}
 use Rattle.std.proofs.lemmas.Bool.{ne_eqb, eq-eqb, lt-ltb, le-ltb, cases_lt}
 use Rattle.rtcp_wire.specs.Values.{ItemValue}
 use Rattle.rtcp_wire.proofs.LawLemmas as wire
@@ -12,20 +13,22 @@ use Rattle.rtcp_engine.specs.declared.refusal.Refusal.{Refusal}
 use Rattle.rtcp_engine.specs.Setups.{Setup, IsUsable}
 use Rattle.rtcp_engine.specs.Refused.{error_in}
 use Rattle.rtcp_engine.specs.Acts.{Datagram, Act, moment_of, IsReading, IsRtpReading, IsTotal, IsUnique}
-use Rattle.rtcp_engine.specs.Changes.{NewIdentifier, change_by, changing_peers, is_taken, most_taken, new_identifier}
-use Rattle.rtcp_engine.specs.Identities.{AreApart, IsFirstFree}
+use Rattle.rtcp_engine.specs.Lives.{out_by, own_bye}
+use Rattle.rtcp_engine.specs.Changes.{NewIdentifier, Session, bye_of_change, change_by, changed_by, changing_peers, is_taken, most_taken, new_identifier}
+use Rattle.rtcp_engine.specs.Identities.{AreApart, IsFirstFree, named}
 use Rattle.rtcp_engine.specs.OwnStreams.{OwnStep, packet_sent, check_passed, report_sent, counts_anew, sending_since}
 use Rattle.rtcp_engine.specs.OwnSending.{OutlastsChecks, IsSendingSince}
 use Rattle.rtcp_engine.specs.Reporting.{extra_item, last_reported_in}
 use Rattle.rtcp_engine.specs.Outcomes.{Outcome, timing_of}
 use Rattle.rtcp_engine.specs.Leaving.{Backoff, present, backing_off, leaving_timing}
-use Rattle.rtcp_engine.specs.Histories.{History, brought_by, life_at, session_at, with_act}
+use Rattle.rtcp_engine.specs.Histories.{History, brought_by, life_at, session_at, session_of, with_act}
 use Rattle.rtcp_engine.specs.Refusals.{refusal_after}
 use Rattle.rtcp_engine.specs.Steps.{answer_unless}
 use Rattle.rtcp_engine.specs.Answers.{step_by, answer_of, followed_by}
 use Rattle.rtcp_engine.specs.Taken.{IsHistory, NamesFew}
 use Rattle.rtcp_engine.specs.Sent.{reports_in, deciding_interval, sent_at, sent_with, handed_out, reports_of, counted_report}
 use Rattle.rtcp_engine.specs.Spacing.{newest_moment, LiesAfter, KeepsBounds}
+use Rattle.rtcp_engine.proofs.Changing.{bye_alone, same_but_name, usable_in}
 use Rattle.rtcp_engine.proofs.Choosing.{apart_listed, few_listed, new_is_free}
 use Rattle.rtcp_engine.proofs.Trying.{chosen_is_first}
 use Rattle.rtcp_engine.proofs.Usable.{usable_of_unrefused, unrefused_of_usable}
@@ -164,6 +167,17 @@ pub new_identifiers_are_free-first : (history : History) (datagram : Datagram) (
 new_identifiers_are_free-first history datagram word is fits few =
     let session = session_at history in
     chosen_is_first (most_taken session datagram) (is_taken session datagram) word fits (new_is_free history datagram word is fits few)
+
+pub changes_touch_the_identifier_alone-setup : (setup : Setup) (word : ℕ) (acts : List Act) → (session_of setup word acts).setup ≡ named (session_of setup word acts).setup.ssrc setup
+changes_touch_the_identifier_alone-setup = same_but_name
+
+pub changes_touch_the_identifier_alone-usable : (setup : Setup) (word : ℕ) (acts : List Act) → IsUsable setup → IsUsable (session_of setup word acts).setup
+changes_touch_the_identifier_alone-usable = usable_in
+
+pub changes_touch_the_identifier_alone-bye : (session : Session) (act : Act) (new : NewIdentifier) → change_by session act ≡ Some new → brought_by session act ≡ own_bye session.setup session.life
+changes_touch_the_identifier_alone-bye session act new is =
+    ap (λ (change : Option NewIdentifier). let now = changed_by change session in option_or (bye_of_change change session) (out_by now.setup act now.life)) is
+    ∙ bye_alone session act new is
 
 pub changes_are_few-few : (history : History) → IsHistory history → length (session_at history).changes ≤ 8
 changes_are_few-few history is = few_listed history.setup history.word history.acts is.taken

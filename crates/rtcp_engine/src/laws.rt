@@ -13,12 +13,13 @@ ghost use Rattle.rtcp_engine.specs.OwnStreams.{OwnStep, sending_since};
 ghost use Rattle.rtcp_engine.specs.OwnSending.{IsSendingSince};
 ghost use Rattle.rtcp_engine.specs.Reporting.{extra_item, last_reported_in};
 ghost use Rattle.rtcp_engine.specs.Outcomes.{Outcome, timing_of};
-ghost use Rattle.rtcp_engine.specs.Histories.{History, life_at, session_at, with_act};
+ghost use Rattle.rtcp_engine.specs.Histories.{History, brought_by, life_at, session_at, session_of, with_act};
 ghost use Rattle.rtcp_engine.specs.Leaving.{Backoff, present, backing_off, leaving_timing};
 ghost use Rattle.rtcp_engine.specs.Refusals.{refusal_after};
 ghost use Rattle.rtcp_engine.specs.Answers.{answer_of, followed_by};
-ghost use Rattle.rtcp_engine.specs.Changes.{changing_peers, is_taken, new_identifier};
-ghost use Rattle.rtcp_engine.specs.Identities.{AreApart, IsFirstFree};
+ghost use Rattle.rtcp_engine.specs.Lives.{own_bye};
+ghost use Rattle.rtcp_engine.specs.Changes.{NewIdentifier, Session, change_by, changing_peers, is_taken, new_identifier};
+ghost use Rattle.rtcp_engine.specs.Identities.{AreApart, IsFirstFree, named};
 ghost use Rattle.rtcp_engine.specs.Taken.{IsHistory, NamesFew};
 ghost use Rattle.rtcp_engine.specs.Sent.{reports_in, deciding_interval, sent_at, handed_out, reports_of, counted_report};
 ghost use Rattle.rtcp_engine.specs.Spacing.{newest_moment, LiesAfter, KeepsBounds};
@@ -57,6 +58,17 @@ pub fn new_identifiers_are_free()
     ensures first { (history : History) (datagram : Datagram) (word : ℕ) → IsHistory history → word < 2 ^ 32 →
         NamesFew datagram → let session = session_at history in
         IsFirstFree (is_taken session datagram) word (new_identifier word session datagram) }
+{}
+
+/// A change of identifier leaves the rest of the setup as it was, and hands out nothing but the BYE of the old one
+/// (RFC 3550, 8.2).
+pub fn changes_touch_the_identifier_alone()
+    ensures setup { (setup : Setup) (word : ℕ) (acts : List Act) → let now = (session_of setup word acts).setup in
+        now ≡ named now.ssrc setup }
+    ensures usable { (setup : Setup) (word : ℕ) (acts : List Act) → IsUsable setup →
+        IsUsable (session_of setup word acts).setup }
+    ensures bye { (session : Session) (act : Act) (new : NewIdentifier) → change_by session act ≡ Some new →
+        brought_by session act ≡ own_bye session.setup session.life }
 {}
 
 /// At most eight identifiers are given up, whatever was handed out for them, and each by a datagram of another peer
