@@ -1,0 +1,10 @@
+mod Deciding
+mod Loads
+mod Hearing
+mod Octets
+mod Pacing
+mod Sharing
+mod Compounds
+mod Crowding
+mod CrowdRows
+mod WrongRows
