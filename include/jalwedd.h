@@ -15,10 +15,10 @@
  *
  * WHAT THE HOST HAS TO KEEP, and nothing tests:
  * - Each pointer is valid, aligned, and not NULL, also one whose size is 0: there any aligned address will do, as that
- *   of the handle. But jalwedd_free takes NULL.
+ *   of the configuration. But jalwedd_free takes NULL.
  * - At a pointer lie as many octets, items or sources as the size or count says. Of a datagram of more than 65,535
  *   octets, of a CNAME of more than 255 and of more than 7 items nothing is read: such a call is refused. So is a size
- *   of -1, as recv returns it.
+ *   of -1, as recv returns it. But jalwedd_change reads a listing as far as its SSRCs rise, whatever its count says.
  * - What a call writes (all that is not const) lies apart from all else that it is given.
  * - One call at a time uses a handle. Several handles may be used side by side, by several threads too.
  * - A handle is not changed, and is freed before it goes away. It may be moved to another place, if the old one is not
@@ -127,7 +127,8 @@ enum { JALWEDD_NOTHING = 0, JALWEDD_REPORT = 1, JALWEDD_BYE = 2 };
 typedef struct jalwedd_step {
     uint64_t next;          /* when to call jalwedd_tick, or JALWEDD_NEVER once the participant has left. It may lie
                                before the moment of the call: then tick at once */
-    uint32_t members;       /* the members of the session, the participant included (6.2.1): 0 once it has left */
+    uint32_t members;       /* the members of the session, the participant included (6.2.1); after a leave that waits,
+                               it and one for each BYE packet that came since (6.3.7); 0 once it has left */
     uint32_t senders;       /* those of them that send RTP packets: 0 from a leave on */
     uint32_t ssrc;          /* the participant's SSRC */
     uint32_t changed;       /* 1 if the call changed that (8.2): media goes on under the new one. Else 0 */
@@ -250,7 +251,7 @@ uint32_t jalwedd_sent_rtp(jalwedd_handle *handle, uint64_t now, uint32_t timesta
 
 /* Asks at the moment `now` what is due, and drops those who are silent for too long (6.3.5, 6.3.6). Call it at
  * step.next; a call before that hands out nothing. `first_word` is for the draw that decides whether what is due goes
- * out now, or is put off (6.3.3, 6.3.6), and `second_word` for the draw of the interval after it.
+ * out now, or is put off (6.3.6, 6.3.7), and `second_word` for the draw of the interval after it.
  * Hands out nothing, a report, or, after a leave, the BYE.
  * Statuses: TAKEN; LEFT to TOO_MANY; IS_EMPTY. */
 uint32_t jalwedd_tick(jalwedd_handle *handle, uint64_t now, uint32_t first_word, uint32_t second_word,

@@ -89,7 +89,8 @@ pub struct Step {
     /// When to call [`Participant::tick`], in microseconds, or none once the participant has left. It may lie
     /// before the moment of the call: then tick at once.
     pub next: Option<u64>,
-    /// The members of the session, the participant included (RFC 3550, 6.2.1): 0 once it has left.
+    /// The members of the session, the participant included (RFC 3550, 6.2.1); after a leave that waits, it and
+    /// one for each BYE packet that came since (6.3.7); 0 once it has left.
     pub members: u32,
     /// Those of them that send RTP packets: 0 from a leave on.
     pub senders: u32,
@@ -164,8 +165,8 @@ unsafe impl Send for Participant {}
 //   `Copy` nor `Clone`, and `drop` frees it.
 impl Participant {
     /// A participant of a session that begins now, at moment 0, with its CNAME of 1 to 255 octets and at most
-    /// 7 items. `word` is for the draw of the first interval. Takes two blocks of memory: some 2.5 KB, and 144
-    /// octets for each source of the capacity.
+    /// 7 items. `word` is for the draw of the first interval. Takes two blocks of memory: 2,560 octets, and 144
+    /// for each source of the capacity.
     pub fn new(
         config: &Config,
         cname: &[u8],
@@ -282,7 +283,7 @@ impl Participant {
         self.step().next
     }
 
-    /// The members of the session, the participant included: 0 once it has left.
+    /// The members of the session, as [`Step::members`] counts them: 0 once it has left.
     pub fn members(&self) -> u32 {
         self.step.members
     }
