@@ -8,13 +8,17 @@
  * interval sends at its end, and a BYE goes out at once. Each group is a session of 64,000 bits a second without RTP; a
  * datagram reaches all others of the group as it is sent, and none is lost. The same seed gives the same picture.
  *
- *     cc -std=c11 -O2 crowd.c crowd_svg.c -o crowd $(pkg-config --cflags --libs jalwedd) -lm
+ * After each run of the library, every window of 1 to 300 seconds is held against the laws that are proved of what the
+ * participants of a session send (crowd_windows.h says which). A window that breaks one is named, and the status is 1.
+ *
+ *     cc -std=c11 -O2 crowd.c crowd_svg.c crowd_windows.c -o crowd $(pkg-config --cflags --libs jalwedd) -lm
  *     crowd [PARTICIPANTS [SEED]] > crowd-10000.svg          the figures go to standard error
  *
- * A participant with room for 1,024 others takes 150 KB of heap, so 10,000 of them 1.5 GB. The whole takes some three minutes of one core, and
- * `crowd 300` a second or two.
+ * A participant with room for 1,024 others takes 150 KB of heap, so 10,000 of them 1.5 GB. The whole takes some three
+ * minutes of one core, and `crowd 300` a second or two.
  */
 #include "crowd_svg.h"
+#include "crowd_windows.h"
 #include "jalwedd.h"
 
 #include <stdbool.h>
@@ -30,6 +34,7 @@ enum {
     HEADERS = 28,                       /* of UDP and IPv4 */
     REPORT = HEADERS + 36,              /* a receiver report without blocks, and a CNAME of 17 octets */
     GOODBYE = REPORT + 8,
+    SENDER_REPORT = 200,                /* the type of the packet */
     STEADY = 219,                       /* seconds before the leave: one interval of a full table */
     CLOSE_TO = 50                       /* who knows a count knows it but for one in so many */
 };
@@ -58,7 +63,8 @@ struct compound {
 };
 
 struct group {
-    struct compound *sent;
+    struct compound *compounds;
+    struct sent *sent;                  /* of each compound, what it was decided by */
     uint32_t count, room;
     uint32_t staying;
     uint32_t heard;                     /* without the library: those of whom a report went out, and no BYE */
@@ -155,7 +161,7 @@ static struct participant *next_due(struct crowd *crowd)
 
 /* ---- What is written down */
 
-static void write_down(struct crowd *crowd, const struct participant *who, bool is_bye, uint32_t octets)
+static void count_compound(struct crowd *crowd, const struct participant *who, bool is_bye, uint32_t octets)
 {
     struct course *course = &crowd->course;
     struct second *second = &course->seconds[(size_t)who->group * course->end + crowd->now / SECOND];
@@ -213,7 +219,7 @@ static void catch_up(struct crowd *crowd, struct participant *who)
     static uint8_t unused[JALWEDD_OCTETS];      /* only a change of SSRC hands out a compound here: none collide */
     const struct group *group = &crowd->groups[who->group];
     for (; who->told < group->count; who->told++) {
-        const struct compound *came = &group->sent[who->told];
+        const struct compound *came = &group->compounds[who->told];
         if (&crowd->all[came->from] == who)
             continue;
         const uint64_t next = who->step.next;
@@ -258,20 +264,23 @@ static uint32_t act(struct crowd *crowd, struct participant *who, uint8_t *octet
     return status;
 }
 
-static void put_out(struct crowd *crowd, const struct participant *from, const uint8_t *octets, uint32_t size)
+/* After a tick, its step has what a report was decided by. */
+static void put_out(struct crowd *crowd, const struct participant *who, const jalwedd_step *step, const uint8_t *octets)
 {
-    struct group *group = &crowd->groups[from->group];
-    if (group->count == group->room) {
+    struct group *group = &crowd->groups[who->group];
+    const uint32_t from = (uint32_t)(who - crowd->all), place = group->count++;
+    if (place == group->room) {
         group->room = 2 * group->room + 1024;
+        group->compounds = realloc(group->compounds, group->room * sizeof *group->compounds);
         group->sent = realloc(group->sent, group->room * sizeof *group->sent);
     }
-    struct compound *compound = group->sent == NULL ? NULL : &group->sent[group->count++];
-    if (compound == NULL || size > sizeof compound->octets)
+    if (group->compounds == NULL || group->sent == NULL || step->size > sizeof group->compounds->octets)
         stop("no room for a compound", JALWEDD_NO_MEMORY);
-    compound->moment = crowd->now;
-    compound->from = (uint32_t)(from - crowd->all);
-    compound->size = size;
-    memcpy(compound->octets, octets, size);
+    group->compounds[place] = (struct compound){.moment = crowd->now, .from = from, .size = step->size};
+    memcpy(group->compounds[place].octets, octets, step->size);
+    group->sent[place] = (struct sent){.moment = crowd->now, .from = from, .octets = step->size + HEADERS,
+                                       .members = step->members, .senders = step->senders,
+                                       .sends_rtp = octets[1] == SENDER_REPORT, .is_bye = step->kind == JALWEDD_BYE};
 }
 
 /* A BYE may bring the next report of those who stay sooner (reverse reconsideration): they are told at once. */
@@ -297,8 +306,8 @@ static void run_with(struct crowd *crowd)
         take_step(crowd, who);
         if (step.kind == JALWEDD_NOTHING)
             continue;
-        write_down(crowd, who, step.kind == JALWEDD_BYE, step.size + HEADERS);
-        put_out(crowd, who, octets, step.size);
+        count_compound(crowd, who, step.kind == JALWEDD_BYE, step.size + HEADERS);
+        put_out(crowd, who, &step, octets);
         if (step.kind == JALWEDD_BYE)
             tell_group(crowd, who->group);
     }
@@ -328,7 +337,7 @@ static void send_without(struct crowd *crowd, struct participant *who, bool is_b
     group->heard += is_bye ? -1u : !who->is_heard;
     group->average = (256 * octets + 15 * group->average) / 16;
     who->is_heard = !is_bye;
-    write_down(crowd, who, is_bye, octets);
+    count_compound(crowd, who, is_bye, octets);
     compare_members(crowd, &crowd->all[who->group], members_of(group));     /* one who stays, for all of them */
 }
 
@@ -388,25 +397,40 @@ static void tear_down(struct crowd *crowd)
 {
     for (uint32_t at = 0; at < crowd->course.participants; at++)
         jalwedd_free(&crowd->all[at].session);          /* refused, and nothing done, where it has left */
-    for (uint32_t at = 0; at < crowd->course.groups; at++)
+    for (uint32_t at = 0; at < crowd->course.groups; at++) {
+        free(crowd->groups[at].compounds);
         free(crowd->groups[at].sent);
+    }
     free(crowd->all);
     free(crowd->heap);
     free(crowd->groups);
 }
 
-/* The same crowd with and without reconsideration. */
-static void run(uint32_t participants, uint32_t groups, uint32_t leave, uint32_t end, uint64_t seed,
-                struct course course[2])
+/* What all windows of all groups come to. */
+static struct findings find(const struct crowd *crowd)
+{
+    const struct terms terms = {.participants = crowd->course.participants, .sender_bw = SENDER_BW,
+                                .receiver_bw = RECEIVER_BW, .size = REPORT};
+    struct findings findings = {.is_broken = false};
+    for (uint32_t at = 0; at < crowd->course.groups && !findings.is_broken; at++)
+        test_windows(&findings, &terms, crowd->groups[at].sent, crowd->groups[at].count);
+    return findings;
+}
+
+/* The same crowd with and without reconsideration, and what the windows of the first came to. */
+static struct findings run(uint32_t participants, uint32_t groups, uint32_t leave, uint32_t end, uint64_t seed,
+                           struct course course[2])
 {
     struct crowd crowd = set_up(participants, groups, leave, end, seed);
     run_with(&crowd);
     course[0] = crowd.course;
+    const struct findings findings = find(&crowd);
     tear_down(&crowd);
     crowd = set_up(participants, groups, leave, end, seed);
     run_without(&crowd);
     course[1] = crowd.course;
     tear_down(&crowd);
+    return findings;
 }
 
 /* The most compounds of any group in a second from `from` on and before `to`. */
@@ -455,15 +479,17 @@ int main(int count, char **words)
     }
     struct course groups[2], single[2];
     const uint32_t count_of_groups = (participants + ROOM) / (ROOM + 1);
-    run(participants, count_of_groups, 400, 700, seed, groups);
+    const struct findings in_groups = run(participants, count_of_groups, 400, 700, seed, groups);
     fprintf(stderr, "%u participants in groups: %u\n", participants, count_of_groups);
     print_figures(&groups[0], "with reconsideration");
+    print_findings(stderr, &in_groups);
     print_figures(&groups[1], "without");
-    run(participants, 1, 300, 340, seed, single);
+    const struct findings in_one = run(participants, 1, 300, 340, seed, single);
     fprintf(stderr, "%u participants in one group\n", participants);
     print_figures(&single[0], "with reconsideration");
+    print_findings(stderr, &in_one);
     print_figures(&single[1], "without");
     draw(stdout, groups, single, REPORT);
     free(groups[0].seconds), free(groups[1].seconds), free(single[0].seconds), free(single[1].seconds);
-    return ferror(stdout) != 0 || fflush(stdout) != 0;
+    return in_groups.is_broken || in_one.is_broken || ferror(stdout) != 0 || fflush(stdout) != 0;
 }
