@@ -9,13 +9,16 @@
  * datagram reaches all others of the group as it is sent, and none is lost. The same seed gives the same picture.
  *
  * After each run of the library, every window of 1 to 300 seconds is held against the laws that are proved of what the
- * participants of a session send (crowd_windows.h says which). A window that breaks one is named, and the status is 1.
+ * participants of a session send (crowd_windows.h). A window that breaks one is named with it, and the status is 1.
+ * `crowd windows` does so of one group alone: without RTP, with some five who send it, and, where a table has room for
+ * all, with every third sending it. Whoever sends RTP does so in turns of a minute.
  *
  *     cc -std=c11 -O2 crowd.c crowd_svg.c crowd_windows.c -o crowd $(pkg-config --cflags --libs jalwedd) -lm
  *     crowd [PARTICIPANTS [SEED]] > crowd-10000.svg          the figures go to standard error
+ *     crowd windows [PARTICIPANTS [SEED]]
  *
- * A participant with room for 1,024 others takes 150 KB of heap, so 10,000 of them 1.5 GB. The whole takes some three
- * minutes of one core, and `crowd 300` a second or two.
+ * A participant with room for 1,024 others takes 150 KB of heap, so 10,000 of them 1.5 GB. The picture takes half a
+ * minute of one core, and `crowd windows` two minutes; with 1,000 participants that is 8 seconds.
  */
 #include "crowd_svg.h"
 #include "crowd_windows.h"
@@ -36,7 +39,15 @@ enum {
     GOODBYE = REPORT + 8,
     SENDER_REPORT = 200,                /* the type of the packet */
     STEADY = 219,                       /* seconds before the leave: one interval of a full table */
-    CLOSE_TO = 50                       /* who knows a count knows it but for one in so many */
+    CLOSE_TO = 50,                      /* who knows a count knows it but for one in so many */
+    RATE = 8000,                        /* of the media clock, units a second */
+    RTP_HEAD = 12,                      /* octets */
+    RTP_EACH = 2,                       /* seconds: sooner than a sender is forgotten (RFC 3550, 6.3.5) */
+    RTP_TURN = 30,                      /* packets, and then a pause of as long */
+    FEW = 5,                            /* some so many send RTP, */
+    MANY = 3,                           /* or one in so many */
+    TEST_LEAVE = 900,                   /* seconds */
+    TEST_END = 1200
 };
 
 static const uint64_t NEVER = UINT64_MAX;
@@ -47,28 +58,42 @@ struct participant {
     jalwedd_handle session;
     jalwedd_step step;
     uint64_t joins, leaves;             /* microseconds of the virtual clock; NEVER for those who stay */
+    uint64_t rtp_due;                   /* when it sends its next RTP packet; NEVER for those who send none */
     uint64_t due;                       /* when it is to act next */
     uint32_t group, place;              /* its place in the heap */
-    uint32_t told;                      /* how many compounds of its group it was told, or joined too late for */
+    uint32_t told;                      /* how many datagrams of its group it was told, or joined too late for */
+    uint16_t sequence;                  /* the number of that packet */
     enum phase phase;
     bool is_wrong;                      /* it stays, and does not know how many stay */
     bool is_heard;                      /* without the library: a report of it went out */
 };
 
-/* A compound that went out. */
-struct compound {
+/* A datagram that went out, and where its octets stand among those of its group. */
+struct datagram {
     uint64_t moment;
+    size_t at;
     uint32_t from, size;
-    uint8_t octets[48];
+    bool is_rtp;
 };
 
 struct group {
-    struct compound *compounds;
-    struct sent *sent;                  /* of each compound, what it was decided by */
-    uint32_t count, room;
+    struct datagram *datagrams;
+    uint8_t *octets;
+    struct sent *sent;                  /* of each compound among these, what it was decided by */
+    size_t datagrams_room, octets_room, sent_room;
+    size_t size;                        /* of the octets */
+    uint32_t count, sent_count;
     uint32_t staying;
     uint32_t heard;                     /* without the library: those of whom a report went out, and no BYE */
     uint32_t average;                   /* without the library: the average size of compounds, in 1/256 octet */
+};
+
+/* What a run is of. Times are seconds since the join. */
+struct plan {
+    uint32_t participants, groups;
+    uint32_t sender_step;               /* one in so many of a group sends RTP; 0: none */
+    uint32_t leave, end;                /* when half of them leave, and when the run ends */
+    uint64_t seed;
 };
 
 /* The participants of all groups, one of each group after the other, and the heap of when they act next. */
@@ -89,14 +114,30 @@ static uint32_t random_word(struct crowd *crowd)
     return (uint32_t)((word ^ word >> 31) >> 32);
 }
 
+static _Noreturn void stop(const char *why, uint32_t status)
+{
+    fprintf(stderr, "crowd: %s (status %u)\n", why, status);
+    exit(1);
+}
+
 static void *zeros(size_t count, size_t size)
 {
     void *at = calloc(count, size);
-    if (at == NULL) {
-        fprintf(stderr, "crowd: no memory\n");
-        exit(1);
-    }
+    if (at == NULL)
+        stop("no memory", JALWEDD_NO_MEMORY);
     return at;
+}
+
+/* An array, or the one that takes its place, with room for so many things of a size. */
+static void *with_room(void *array, size_t *room, size_t count, size_t size)
+{
+    if (count <= *room)
+        return array;
+    *room = 2 * count + 1024;
+    array = realloc(array, *room * size);
+    if (array == NULL)
+        stop("no memory", JALWEDD_NO_MEMORY);
+    return array;
 }
 
 /* ---- The heap: whoever is due first stands at its top */
@@ -189,47 +230,64 @@ static void compare_members(struct crowd *crowd, struct participant *who, uint32
 
 /* ---- The crowd of the library's participants
  *
- * A compound comes to all others as it goes out. A report moves no one's next moment, so each is told it, with the
- * moment at which it came, when it acts next: then its table stays in the processor's cache for many reports. */
-
-static void stop(const char *why, uint32_t status)
-{
-    fprintf(stderr, "crowd: %s (status %u)\n", why, status);
-    exit(1);
-}
+ * A datagram comes to all others as it goes out. Neither a report nor an RTP packet moves anyone's next moment, so each
+ * is told it, with the moment at which it came, when it acts next: then its table stays in the processor's cache for
+ * many of them. */
 
 /* Goes by what a call told. */
 static void take_step(struct crowd *crowd, struct participant *who)
 {
+    const uint64_t host = who->leaves < who->rtp_due ? who->leaves : who->rtp_due;
     uint64_t due = who->joins + who->step.next;
     if (who->step.next == JALWEDD_NEVER) {
         who->phase = GONE;
         due = NEVER;
         jalwedd_free(&who->session);
-    } else if (who->phase == PRESENT && who->leaves < due) {
-        due = who->leaves;
+    } else if (who->phase == PRESENT && host < due) {
+        due = host;
     }
     set_due(crowd, who, due);
     compare_members(crowd, who, who->step.members);
 }
 
-/* Tells one the compounds of the others of its group that it was not told so far. */
-static void catch_up(struct crowd *crowd, struct participant *who)
+static uint32_t tell(struct crowd *crowd, struct participant *who, const struct datagram *came)
 {
     static uint8_t unused[JALWEDD_OCTETS];      /* only a change of SSRC hands out a compound here: none collide */
+    const uint64_t moment = came->moment - who->joins;
+    const uint8_t *octets = &crowd->groups[who->group].octets[came->at];
+    const uint32_t word = random_word(crowd);
+    if (came->is_rtp)
+        return jalwedd_arrive_rtp(&who->session, moment, came->from, word, octets, came->size, &who->step, unused);
+    return jalwedd_arrive_rtcp(&who->session, moment, came->from, word, octets, came->size, &who->step, unused);
+}
+
+/* Tells one the datagrams of the others of its group that it was not told so far. */
+static void catch_up(struct crowd *crowd, struct participant *who)
+{
     const struct group *group = &crowd->groups[who->group];
     for (; who->told < group->count; who->told++) {
-        const struct compound *came = &group->compounds[who->told];
+        const struct datagram *came = &group->datagrams[who->told];
         if (&crowd->all[came->from] == who)
             continue;
         const uint64_t next = who->step.next;
-        const uint32_t status = jalwedd_arrive_rtcp(&who->session, came->moment - who->joins, came->from,
-                                                    random_word(crowd), came->octets, came->size, &who->step, unused);
+        const uint32_t status = tell(crowd, who, came);
         if (status != JALWEDD_TAKEN || who->step.kind != JALWEDD_NOTHING)
-            stop("a compound was not taken", status);
+            stop("a datagram was not taken", status);
         if (who->step.next < next && came->moment < crowd->now)
-            stop("a compound was told too late", status);
+            stop("a datagram was told too late", status);
     }
+}
+
+static void put_out(struct crowd *crowd, const struct participant *from, const uint8_t *octets, uint32_t size,
+                    bool is_rtp)
+{
+    struct group *group = &crowd->groups[from->group];
+    group->datagrams = with_room(group->datagrams, &group->datagrams_room, group->count + 1, sizeof *group->datagrams);
+    group->octets = with_room(group->octets, &group->octets_room, group->size + size, 1);
+    memcpy(&group->octets[group->size], octets, size);
+    group->datagrams[group->count++] = (struct datagram){.moment = crowd->now, .at = group->size, .size = size,
+                                                         .from = (uint32_t)(from - crowd->all), .is_rtp = is_rtp};
+    group->size += size;
 }
 
 static uint32_t join(struct crowd *crowd, struct participant *who)
@@ -238,7 +296,7 @@ static uint32_t join(struct crowd *crowd, struct participant *who)
     /* an odd factor keeps all SSRCs distinct, and spreads them */
     const jalwedd_config config = {.ntp_base = (uint64_t)3900000000u << 32, .ssrc = (number + 1) * 2654435769u,
                                    .capacity = ROOM, .limit = 1472, .sender_bw = SENDER_BW,
-                                   .receiver_bw = RECEIVER_BW, .rate = 8000};
+                                   .receiver_bw = RECEIVER_BW, .rate = RATE};
     const jalwedd_item none = {0};
     char cname[32];
     const int size = snprintf(cname, sizeof cname, "p%04u@example.com", number);
@@ -248,39 +306,54 @@ static uint32_t join(struct crowd *crowd, struct participant *who)
                        &who->step);
 }
 
+static uint32_t leave(struct crowd *crowd, struct participant *who, uint32_t word, uint8_t *octets)
+{
+    who->phase = LEAVING;
+    const uint32_t status = jalwedd_leave(&who->session, crowd->now - who->joins, word, &who->step, octets);
+    crowd->course.silent += who->step.next == JALWEDD_NEVER && who->step.kind == JALWEDD_NOTHING;
+    return status;
+}
+
+/* Sends an RTP packet, of which the others are told the head alone. */
+static uint32_t send_rtp(struct crowd *crowd, struct participant *who, uint8_t *octets)
+{
+    const uint64_t moment = crowd->now - who->joins;
+    const uint32_t timestamp = (uint32_t)(moment * RATE / SECOND), ssrc = who->step.ssrc;
+    const uint8_t head[RTP_HEAD] = {
+        0x80, 0, (uint8_t)(who->sequence >> 8), (uint8_t)who->sequence,
+        (uint8_t)(timestamp >> 24), (uint8_t)(timestamp >> 16), (uint8_t)(timestamp >> 8), (uint8_t)timestamp,
+        (uint8_t)(ssrc >> 24), (uint8_t)(ssrc >> 16), (uint8_t)(ssrc >> 8), (uint8_t)ssrc};
+    put_out(crowd, who, head, RTP_HEAD, true);
+    who->sequence++;
+    who->rtp_due += (who->sequence % RTP_TURN == 0 ? RTP_TURN : 1) * (uint64_t)RTP_EACH * SECOND;
+    return jalwedd_sent_rtp(&who->session, moment, timestamp, RATE * RTP_EACH, &who->step, octets);
+}
+
 /* Does what it is due for: its octets, if it hands out any, go to `octets`. */
 static uint32_t act(struct crowd *crowd, struct participant *who, uint8_t *octets)
 {
     if (who->phase == AWAY)
         return join(crowd, who);
-    const uint64_t moment = crowd->now - who->joins;
     catch_up(crowd, who);
     const uint32_t word = random_word(crowd), another = random_word(crowd);
-    if (who->phase != PRESENT || who->leaves > crowd->now)
-        return jalwedd_tick(&who->session, moment, word, another, &who->step, octets);
-    who->phase = LEAVING;
-    const uint32_t status = jalwedd_leave(&who->session, moment, word, &who->step, octets);
-    crowd->course.silent += who->step.next == JALWEDD_NEVER && who->step.kind == JALWEDD_NOTHING;
-    return status;
+    if (who->phase == PRESENT && who->leaves <= crowd->now)
+        return leave(crowd, who, word, octets);
+    if (who->phase == PRESENT && who->rtp_due <= crowd->now)
+        return send_rtp(crowd, who, octets);
+    return jalwedd_tick(&who->session, crowd->now - who->joins, word, another, &who->step, octets);
 }
 
 /* After a tick, its step has what a report was decided by. */
-static void put_out(struct crowd *crowd, const struct participant *who, const jalwedd_step *step, const uint8_t *octets)
+static void write_down(struct crowd *crowd, const struct participant *who, const jalwedd_step *step,
+                       const uint8_t *octets)
 {
     struct group *group = &crowd->groups[who->group];
-    const uint32_t from = (uint32_t)(who - crowd->all), place = group->count++;
-    if (place == group->room) {
-        group->room = 2 * group->room + 1024;
-        group->compounds = realloc(group->compounds, group->room * sizeof *group->compounds);
-        group->sent = realloc(group->sent, group->room * sizeof *group->sent);
-    }
-    if (group->compounds == NULL || group->sent == NULL || step->size > sizeof group->compounds->octets)
-        stop("no room for a compound", JALWEDD_NO_MEMORY);
-    group->compounds[place] = (struct compound){.moment = crowd->now, .from = from, .size = step->size};
-    memcpy(group->compounds[place].octets, octets, step->size);
-    group->sent[place] = (struct sent){.moment = crowd->now, .from = from, .octets = step->size + HEADERS,
-                                       .members = step->members, .senders = step->senders,
-                                       .sends_rtp = octets[1] == SENDER_REPORT, .is_bye = step->kind == JALWEDD_BYE};
+    const bool is_bye = step->kind == JALWEDD_BYE;
+    group->sent = with_room(group->sent, &group->sent_room, group->sent_count + 1, sizeof *group->sent);
+    group->sent[group->sent_count++] = (struct sent){
+        .moment = crowd->now, .from = (uint32_t)(who - crowd->all), .octets = step->size + HEADERS,
+        .members = step->members, .senders = step->senders, .sends_rtp = octets[1] == SENDER_REPORT, .is_bye = is_bye};
+    count_compound(crowd, who, is_bye, step->size + HEADERS);
 }
 
 /* A BYE may bring the next report of those who stay sooner (reverse reconsideration): they are told at once. */
@@ -306,8 +379,8 @@ static void run_with(struct crowd *crowd)
         take_step(crowd, who);
         if (step.kind == JALWEDD_NOTHING)
             continue;
-        count_compound(crowd, who, step.kind == JALWEDD_BYE, step.size + HEADERS);
-        put_out(crowd, who, &step, octets);
+        write_down(crowd, who, &step, octets);
+        put_out(crowd, who, octets, step.size, false);
         if (step.kind == JALWEDD_BYE)
             tell_group(crowd, who->group);
     }
@@ -369,10 +442,12 @@ static void run_without(struct crowd *crowd)
 
 /* ---- A run, and its figures */
 
-static struct crowd set_up(uint32_t participants, uint32_t groups, uint32_t leave, uint32_t end, uint64_t seed)
+static struct crowd set_up(const struct plan *plan)
 {
-    struct crowd crowd = {.random = seed, .course = {.participants = participants, .groups = groups, .leave = leave,
-                                                     .end = end, .bandwidth = SENDER_BW + RECEIVER_BW}};
+    const uint32_t participants = plan->participants, groups = plan->groups, leave = plan->leave, end = plan->end;
+    struct crowd crowd = {.random = plan->seed, .course = {.participants = participants, .groups = groups,
+                                                           .leave = leave, .end = end,
+                                                           .bandwidth = SENDER_BW + RECEIVER_BW}};
     crowd.all = zeros(participants, sizeof *crowd.all);
     crowd.heap = zeros(participants, sizeof *crowd.heap);
     crowd.groups = zeros(groups, sizeof *crowd.groups);
@@ -385,6 +460,7 @@ static struct crowd set_up(uint32_t participants, uint32_t groups, uint32_t leav
         who->group = at % groups;
         who->joins = who->due = random_word(&crowd) % SECOND;
         who->leaves = stays ? NEVER : (uint64_t)leave * SECOND + random_word(&crowd) % SECOND;
+        who->rtp_due = plan->sender_step != 0 && at / groups % plan->sender_step == 0 ? who->joins : NEVER;
         who->place = at;
         group->staying += stays;
         group->average = 256 * REPORT;
@@ -398,7 +474,8 @@ static void tear_down(struct crowd *crowd)
     for (uint32_t at = 0; at < crowd->course.participants; at++)
         jalwedd_free(&crowd->all[at].session);          /* refused, and nothing done, where it has left */
     for (uint32_t at = 0; at < crowd->course.groups; at++) {
-        free(crowd->groups[at].compounds);
+        free(crowd->groups[at].datagrams);
+        free(crowd->groups[at].octets);
         free(crowd->groups[at].sent);
     }
     free(crowd->all);
@@ -413,24 +490,28 @@ static struct findings find(const struct crowd *crowd)
                                 .receiver_bw = RECEIVER_BW, .size = REPORT};
     struct findings findings = {.is_broken = false};
     for (uint32_t at = 0; at < crowd->course.groups && !findings.is_broken; at++)
-        test_windows(&findings, &terms, crowd->groups[at].sent, crowd->groups[at].count);
+        test_windows(&findings, &terms, crowd->groups[at].sent, crowd->groups[at].sent_count);
     return findings;
 }
 
-/* The same crowd with and without reconsideration, and what the windows of the first came to. */
-static struct findings run(uint32_t participants, uint32_t groups, uint32_t leave, uint32_t end, uint64_t seed,
-                           struct course course[2])
+/* A run of the library, and what its windows came to. */
+static struct findings run_library(const struct plan *plan, struct course *course)
 {
-    struct crowd crowd = set_up(participants, groups, leave, end, seed);
+    struct crowd crowd = set_up(plan);
     run_with(&crowd);
-    course[0] = crowd.course;
     const struct findings findings = find(&crowd);
-    tear_down(&crowd);
-    crowd = set_up(participants, groups, leave, end, seed);
-    run_without(&crowd);
-    course[1] = crowd.course;
+    *course = crowd.course;
     tear_down(&crowd);
     return findings;
+}
+
+/* The same crowd without reconsideration. */
+static void run_plainly(const struct plan *plan, struct course *course)
+{
+    struct crowd crowd = set_up(plan);
+    run_without(&crowd);
+    *course = crowd.course;
+    tear_down(&crowd);
 }
 
 /* The most compounds of any group in a second from `from` on and before `to`. */
@@ -469,27 +550,68 @@ static void print_figures(const struct course *course, const char *name)
     fprintf(stderr, "    those who stay know how many they are: %s\n", known);
 }
 
-int main(int count, char **words)
+/* The same crowd with and without reconsideration. Gives whether the laws held. */
+static bool run_pair(const struct plan *plan, struct course course[2])
 {
-    const uint32_t participants = count > 1 ? (uint32_t)strtoul(words[1], NULL, 10) : MOST;
-    const uint64_t seed = count > 2 ? strtoull(words[2], NULL, 10) : 3550;
-    if (count > 3 || participants < 2 || participants > MOST) {
-        fprintf(stderr, "usage: crowd [PARTICIPANTS [SEED]] > FILE.svg      2 to %u participants\n", MOST);
-        return 2;
-    }
+    const struct findings findings = run_library(plan, &course[0]);
+    run_plainly(plan, &course[1]);
+    print_figures(&course[0], "with reconsideration");
+    print_findings(stderr, &findings);
+    print_figures(&course[1], "without");
+    return !findings.is_broken;
+}
+
+static bool draw_crowds(uint32_t participants, uint64_t seed)
+{
     struct course groups[2], single[2];
-    const uint32_t count_of_groups = (participants + ROOM) / (ROOM + 1);
-    const struct findings in_groups = run(participants, count_of_groups, 400, 700, seed, groups);
-    fprintf(stderr, "%u participants in groups: %u\n", participants, count_of_groups);
-    print_figures(&groups[0], "with reconsideration");
-    print_findings(stderr, &in_groups);
-    print_figures(&groups[1], "without");
-    const struct findings in_one = run(participants, 1, 300, 340, seed, single);
+    const uint32_t count = (participants + ROOM) / (ROOM + 1);
+    const struct plan in_groups = {.participants = participants, .groups = count, .seed = seed, .leave = 400,
+                                   .end = 700};
+    const struct plan in_one = {.participants = participants, .groups = 1, .seed = seed, .leave = 300, .end = 340};
+    fprintf(stderr, "%u participants in groups: %u\n", participants, count);
+    bool is_kept = run_pair(&in_groups, groups);
     fprintf(stderr, "%u participants in one group\n", participants);
-    print_figures(&single[0], "with reconsideration");
-    print_findings(stderr, &in_one);
-    print_figures(&single[1], "without");
+    is_kept = run_pair(&in_one, single) && is_kept;
     draw(stdout, groups, single, REPORT);
     free(groups[0].seconds), free(groups[1].seconds), free(single[0].seconds), free(single[1].seconds);
-    return in_groups.is_broken || in_one.is_broken || ferror(stdout) != 0 || fflush(stdout) != 0;
+    return is_kept;
+}
+
+/* A run of one group, of which one in so many sends RTP, or none. Gives whether the laws held. */
+static bool test_group(uint32_t participants, uint32_t sender_step, uint64_t seed)
+{
+    const struct plan plan = {.participants = participants, .groups = 1, .sender_step = sender_step, .seed = seed,
+                              .leave = TEST_LEAVE, .end = TEST_END};
+    const uint32_t count = sender_step == 0 ? 0 : (participants + sender_step - 1) / sender_step;
+    struct course course;
+    printf("%u participants, %u of whom send RTP\n", participants, count);
+    fflush(stdout);
+    const struct findings findings = run_library(&plan, &course);
+    free(course.seconds);
+    print_findings(stdout, &findings);
+    return !findings.is_broken;
+}
+
+/* Those who send RTP are an odd step apart, so that some of them stay and some leave, as they do in turn. */
+static bool test_crowd(uint32_t participants, uint64_t seed)
+{
+    const uint32_t few = participants / FEW | 1;
+    return test_group(participants, 0, seed)
+        && test_group(participants, few > MANY ? few : MANY, seed)
+        && (participants > ROOM + 1 || few <= MANY || test_group(participants, MANY, seed));
+}
+
+int main(int count, char **words)
+{
+    const bool is_test = count > 1 && strcmp(words[1], "windows") == 0;
+    const int numbers = 1 + is_test;
+    const uint32_t participants = count > numbers ? (uint32_t)strtoul(words[numbers], NULL, 10) : MOST;
+    const uint64_t seed = count > numbers + 1 ? strtoull(words[numbers + 1], NULL, 10) : 3550;
+    if (count > numbers + 2 || participants < 2 || participants > MOST) {
+        fprintf(stderr, "usage: crowd [PARTICIPANTS [SEED]] > FILE.svg      2 to %u participants\n"
+                        "       crowd windows [PARTICIPANTS [SEED]]\n", MOST);
+        return 2;
+    }
+    const bool is_kept = is_test ? test_crowd(participants, seed) : draw_crowds(participants, seed);
+    return !is_kept || ferror(stdout) != 0 || fflush(stdout) != 0;
 }
