@@ -164,6 +164,9 @@ static int sizes(void)
     jalwedd_step step;
     jalwedd_fault fault;
     jalwedd_report report;
+    jalwedd_sender_info sender;
+    jalwedd_item_place item;
+    jalwedd_goodbye_place goodbye;
     uint8_t octets[JALWEDD_OCTETS] = {0};
     uint8_t *end = before_guard(), *padded = end - sizeof PADDED;
     const jalwedd_item *items = (const jalwedd_item *)(end - sizeof(jalwedd_item));
@@ -183,9 +186,16 @@ static int sizes(void)
         HOLDS(jalwedd_arrive_rtcp(&handle, 9, 1, 0, padded, most[at], &step, octets) == JALWEDD_NO_COMPOUND);
         HOLDS(jalwedd_check(padded, most[at], &fault) == JALWEDD_NO_COMPOUND && fault.reason == 10);
         HOLDS(jalwedd_about(padded, most[at], 7, 0, &report) == JALWEDD_NO_COMPOUND);
+        HOLDS(jalwedd_sender(padded, most[at], 0, &sender) == JALWEDD_NO_COMPOUND);
+        HOLDS(jalwedd_block(padded, most[at], 0, &report) == JALWEDD_NO_COMPOUND);
+        HOLDS(jalwedd_sdes_item(padded, most[at], 0, &item) == JALWEDD_NO_COMPOUND);
+        HOLDS(jalwedd_goodbye(padded, most[at], 0, &goodbye) == JALWEDD_NO_COMPOUND);
     }
-    /* moment 9 was that of no call that was taken; and 65,535 octets are still read */
-    HOLDS(jalwedd_arrive_rtp(&handle, 0, 1, 0, end - 65535, 65535, &step, octets) == JALWEDD_NO_RTP);
+    /* moment 9 was that of no call that was taken; and 65,535 octets are still read, up to the last: with the first one
+     * the packet is of version 2 and says that it is padded, and the last one says by 4 */
+    end[-65535] = 0xa0;
+    HOLDS(jalwedd_arrive_rtp(&handle, 0, 1, 0, end - 65535, 65535, &step, octets) == JALWEDD_TAKEN);
+    HOLDS(step.entries == 2);
     HOLDS(jalwedd_arrive_rtcp(&handle, 0, 1, 0, end - 65535, 65535, &step, octets) == JALWEDD_NO_COMPOUND);
     HOLDS(jalwedd_free(&handle) == JALWEDD_TAKEN);
     return 0;
