@@ -19,14 +19,14 @@
  * - At a pointer lie as many octets, items or sources as the size or count says. Of a datagram of more than 65,535
  *   octets, of a CNAME of more than 255 and of more than 7 items nothing is read: such a call is refused. So is a size
  *   of -1, as recv returns it. But jalwedd_change reads a listing as far as its SSRCs rise, whatever its count says.
- * - What a call writes (all that is not const) lies apart from all else that it is given.
+ * - Output arguments (all that is not const) do not overlap each other or any input.
  * - One call at a time uses a handle. Several handles may be used side by side, by several threads too.
  * - A handle is not changed, and is freed before it goes away. It may be moved to another place, if the old one is not
  *   used again. A child of fork does not go on with it: two would speak as one participant.
  *
  * Everything else is tested: whatever a datagram holds, whatever the numbers are and in whatever order the calls come,
  * each call returns, with a status. A call whose status is not JALWEDD_TAKEN changes nothing of the participant, and
- * hands out nothing. The step is written whatever the status is, so its next can always be waited for.
+ * hands out nothing. The step is written whatever the status, so step.next is always valid.
  *
  * No call takes more than 8,192 octets of stack (as measured, at 1,000 members).
  *
@@ -49,6 +49,16 @@
 extern "C" {
 #endif
 
+/* ---- The version of this header. Of two versions with the same first two numbers the later one has all of the other,
+ * under the same SONAME. */
+
+#define JALWEDD_VERSION_MAJOR 0
+#define JALWEDD_VERSION_MINOR 2
+#define JALWEDD_VERSION_PATCH 1
+
+/* The version of the library that is linked: of 0.2.1 it is 0x000201. */
+uint32_t jalwedd_version(void);
+
 /* ---- Statuses. Two of them have two names, so a switch takes one: NO_BLOCK or NO_PART, NO_SOURCE or NO_CHANGE. */
 
 enum {
@@ -61,7 +71,7 @@ enum {
     JALWEDD_TOO_MANY = 4,       /* E4: a session has fewer than 2^40 calls, and so many were taken */
     JALWEDD_NO_COMPOUND = 5,    /* E5: the RTCP datagram is not a compound (6.1): jalwedd_check says why */
     JALWEDD_NO_RTP = 6,         /* E6: the RTP datagram has no head that is read (5.1) */
-    JALWEDD_OWN_SSRC = 7,       /* E7: the datagram names the own SSRC, and changes it no more (8.2) */
+    JALWEDD_OWN_SSRC = 7,       /* E7: the datagram uses our SSRC, and its peer may not change it (again) (8.2) */
 
     JALWEDD_NO_BLOCK = 8,       /* jalwedd_about: there is no such block */
     JALWEDD_NO_PART = 8,        /* jalwedd_sender, _block, _sdes_item, _goodbye: no such part */
@@ -72,17 +82,46 @@ enum {
     /* A configuration that is refused: the first of these that applies, but that a CNAME of more than 255 octets and
      * more than 7 items come before the others. */
     JALWEDD_CNAME = 11,         /* C1: the CNAME has 0 octets, or more than 255 */
-    JALWEDD_CAPACITY = 12,      /* C2: the capacity is none of 1 to 1,024 */
-    JALWEDD_LIMIT = 13,         /* C3: the limit is none of 576 to 1,472, or no multiple of 4 */
-    JALWEDD_BANDWIDTH = 14,     /* C4: one of the bandwidths is none of 16 to 2^30 */
-    JALWEDD_RATE = 15,          /* C5: the rate is none of 1 to 2^20 */
-    JALWEDD_ITEM = 16,          /* C6: the type of an item is none of 2 to 8, or there are more than 7 items */
+    JALWEDD_CAPACITY = 12,      /* C2: the capacity is out of range 1 to 1,024 */
+    JALWEDD_LIMIT = 13,         /* C3: the limit is out of range 576 to 1,472, or no multiple of 4 */
+    JALWEDD_BANDWIDTH = 14,     /* C4: one of the bandwidths is out of range 16 to 2^30 */
+    JALWEDD_RATE = 15,          /* C5: the rate is out of range 1 to 2^20 */
+    JALWEDD_ITEM = 16,          /* C6: the type of an item is out of range 2 to 8, or there are more than 7 items */
 
     JALWEDD_IS_EMPTY = 20,      /* the handle holds no participant */
     JALWEDD_IS_LIVE = 21,       /* jalwedd_new: the handle holds a participant already */
     JALWEDD_NO_MEMORY = 22,     /* jalwedd_new: there is no memory */
     JALWEDD_TOO_LONG = 23       /* jalwedd_arrive_rtp: no UDP datagram has more than 65,535 octets */
 };
+
+/* A few words for each status, and for any other number. Of two statuses that are one number it has what both mean. */
+static inline const char *jalwedd_text(uint32_t status)
+{
+    switch (status) {
+    case JALWEDD_TAKEN:       return "taken";
+    case JALWEDD_LEFT:        return "the participant has left";
+    case JALWEDD_BACKWARDS:   return "the moment lies before the last one";
+    case JALWEDD_TOO_FAR:     return "the moment lies beyond 2^50 microseconds";
+    case JALWEDD_TOO_MANY:    return "too many calls for one session";
+    case JALWEDD_NO_COMPOUND: return "no RTCP compound";
+    case JALWEDD_NO_RTP:      return "no RTP packet";
+    case JALWEDD_OWN_SSRC:    return "the datagram has the own SSRC";
+    case JALWEDD_NO_BLOCK:    return "there is no such part";
+    case JALWEDD_NO_SOURCE:   return "there is no such source";
+    case JALWEDD_NOT_RISING:  return "the SSRCs of a listing do not rise";
+    case JALWEDD_CNAME:       return "the CNAME is empty or too long";
+    case JALWEDD_CAPACITY:    return "the capacity is out of range";
+    case JALWEDD_LIMIT:       return "the limit is out of range";
+    case JALWEDD_BANDWIDTH:   return "a bandwidth is out of range";
+    case JALWEDD_RATE:        return "the clock rate is out of range";
+    case JALWEDD_ITEM:        return "an item cannot be sent, or there are too many";
+    case JALWEDD_IS_EMPTY:    return "the handle holds no participant";
+    case JALWEDD_IS_LIVE:     return "the handle holds a participant already";
+    case JALWEDD_NO_MEMORY:   return "there is no memory";
+    case JALWEDD_TOO_LONG:    return "the datagram is longer than UDP carries";
+    default:                  return "no status of this version";
+    }
+}
 
 /* ---- Values */
 
@@ -218,6 +257,10 @@ typedef struct jalwedd_role_change {
  * each source of the capacity. */
 #define JALWEDD_MEMORY(capacity) (2560 + 144 * (size_t)(capacity))
 
+/* Has the library take its memory by `allocate`, which gives so many octets, aligned as malloc's are, or NULL, and give
+ * it back by `release`: in place of malloc and free. To be called once, before the first jalwedd_new, if at all. */
+void jalwedd_memory(void *(*allocate)(size_t size), void (*release)(void *at));
+
 /* Puts a participant of a session that begins now, at moment 0, into an empty handle. `word` is for the draw of the
  * first interval. Takes memory, JALWEDD_MEMORY(config->capacity) octets in two blocks; no other call takes any.
  * Statuses: TAKEN; IS_LIVE, and the step is that of the participant that is there; CNAME to ITEM; NO_MEMORY. */
@@ -230,8 +273,8 @@ uint32_t jalwedd_new(jalwedd_handle *handle, const jalwedd_config *config, const
 uint32_t jalwedd_free(jalwedd_handle *handle);
 
 /* An RTCP datagram came at the moment `now`, with the octets that UDP carried (RFC 3550, 6.1). `peer` is a number for
- * where it came from, another one for each address and port: of IPv4 these themselves, of IPv6 the place of address and
- * port in a list that the host keeps. `word` is for a new SSRC, should it come to that (8.2).
+ * where it came from, distinct for each address and port: of IPv4 these themselves, of IPv6 the place of address and
+ * port in a list that the host keeps. `word` seeds a new SSRC if one is needed (8.2).
  * Hands out nothing, or, where it changes the SSRC, the BYE of the old one. Reports about the own stream that it brings
  * are read before the call (jalwedd_about), as they name the SSRC of then.
  * Statuses: TAKEN; LEFT to NO_COMPOUND; OWN_SSRC; IS_EMPTY. */
@@ -277,7 +320,7 @@ uint32_t jalwedd_ssrc(jalwedd_handle *handle);
  * handle. */
 uint32_t jalwedd_entries(jalwedd_handle *handle);
 
-/* Tells what is known of the source of least SSRC from `from` on: of members, of those that are not yet valid, and of
+/* Tells what is known of the source of the lowest SSRC >= `from`: of members, of those that are not yet valid, and of
  * those that left and are held for a while, but not of the participant itself. It changes nothing. Begin with 0, and go
  * on with (uint64_t)ssrc + 1 until the status is not TAKEN: then each source was told once. To ask for one source, let
  * `from` be its SSRC, and see whether source->ssrc is that. `source` is left as it is where there is no such source,
@@ -287,7 +330,7 @@ uint32_t jalwedd_source(jalwedd_handle *handle, uint64_t from, jalwedd_source_st
 
 /* ---- Listings */
 
-/* Tells of the sources whose roles differ in two listings the one of least SSRC from `from` on. A listing is what
+/* Tells of the sources whose roles differ in two listings the one of the lowest SSRC >= `from`. A listing is what
  * jalwedd_source told of each source, one after the other. Begin with 0, and go on with (uint64_t)ssrc + 1 until the
  * status is not TAKEN: then each change was told once. `change` is left as it is then.
  *
@@ -326,7 +369,7 @@ uint32_t jalwedd_goodbye(const uint8_t *datagram, size_t size, uint32_t index, j
 
 /* The round-trip time by a report, in 1/65,536 of a second and modulo 2^32: `arrival` is the middle 32 bits of the NTP
  * timestamp of the moment at which it came, (uint32_t)(jalwedd_ntp_of(ntp_base, now) >> 16). A report whose lsr is 0
- * tells none; one of a participant with a coarse clock may tell a time below 0, as an int32_t has it. */
+ * tells none; with a coarse remote clock the result may be negative: cast it to int32_t. */
 uint32_t jalwedd_round_trip(uint32_t arrival, uint32_t lsr, uint32_t dlsr);
 
 /* The NTP timestamp of the moment `now` (section 4), in a session whose moment 0 has the timestamp `ntp_base`. */

@@ -1,10 +1,11 @@
-/* The memory of the library: malloc and free. A host without them links its own rattle_alloc, rattle_realloc and
- * rattle_dealloc before libjalwedd.a, and this file is left out: jalwedd_new asks for two blocks, one of 2,560 octets and
- * one of 144 octets for each source of the capacity, aligned as malloc's are, and jalwedd_free gives them back. No other
- * call asks for any. */
-#include <stdint.h>
-#include <stddef.h>
+/* The memory of the library: malloc and free, unless jalwedd_memory gave others. jalwedd_new asks for two blocks, one of
+ * 2,560 octets and one of 144 octets for each source of the capacity, aligned as malloc's are, and jalwedd_free gives
+ * them back. No other call asks for any. A host without a heap that links libjalwedd.a may also have its own
+ * rattle_alloc, rattle_realloc, rattle_dealloc and jalwedd_memory before it: then this file is left out. */
+#include "jalwedd.h"
+
 #include <stdlib.h>
+#include <string.h>
 
 /* A block, or `ok` 0 and any address that is not NULL. */
 struct rattle_block {
@@ -13,24 +14,32 @@ struct rattle_block {
 };
 
 static max_align_t nothing;
+static void *(*allocate_by)(size_t size) = malloc;
+static void (*release_by)(void *at) = free;
 
-static struct rattle_block block(void *at)
+void jalwedd_memory(void *(*allocate)(size_t size), void (*release)(void *at))
 {
-    return (struct rattle_block){at != NULL, at != NULL ? at : &nothing};
+    allocate_by = allocate;
+    release_by = release;
 }
 
 struct rattle_block rattle_alloc(size_t size, size_t alignment)
 {
-    return block(malloc(size != 0 ? size : alignment));
+    void *at = allocate_by(size != 0 ? size : alignment);
+    return (struct rattle_block){at != NULL, at != NULL ? at : &nothing};
 }
 
 struct rattle_block rattle_realloc(void *at, size_t old_size, size_t size, size_t alignment)
 {
-    (void)old_size;
-    return block(realloc(at, size != 0 ? size : alignment));
+    const struct rattle_block block = rattle_alloc(size, alignment);
+    if (block.ok) {
+        memcpy(block.at, at, old_size < size ? old_size : size);
+        release_by(at);
+    }
+    return block;
 }
 
 void rattle_dealloc(void *at)
 {
-    free(at);
+    release_by(at);
 }

@@ -1,0 +1,67 @@
+/* A host that is linked with the package: that the library is of the header's version, that each status has words of its
+ * own, and that it takes its memory where jalwedd_memory says, as much as the header says, and gives it back. It ends
+ * with status 0 where all of that holds. */
+#include <jalwedd.h>
+#include <stdio.h>
+#include <string.h>
+
+enum { SOURCES = 20 };
+
+#define HOLDS(what) ((what) ? 0 : (fprintf(stderr, "linked.c: not so: %s\n", #what), 1))
+
+static _Alignas(16) uint8_t room[JALWEDD_MEMORY(SOURCES)];
+static size_t taken, blocks, strangers;
+
+static void *take(size_t size)
+{
+    void *at = size <= sizeof room - taken ? room + taken : NULL;
+    taken += at != NULL ? size : 0;
+    blocks += at != NULL;
+    return at;
+}
+
+/* The memory is free again once both blocks are back. */
+static void give_back(void *at)
+{
+    strangers += (uint8_t *)at < room || (uint8_t *)at >= room + sizeof room;
+    if (--blocks == 0)
+        taken = 0;
+}
+
+static uint32_t begin(jalwedd_handle *session, uint32_t capacity)
+{
+    const jalwedd_config config = {.ssrc = 7, .capacity = capacity, .limit = 1472, .sender_bw = 100, .receiver_bw = 300,
+                                   .rate = 8000};
+    const jalwedd_item none = {.kind = 2};
+    jalwedd_step step;
+    return jalwedd_new(session, &config, (const uint8_t *)"a", 1, &none, 0, 0, &step);
+}
+
+static int memory(void)
+{
+    jalwedd_handle session = JALWEDD_EMPTY, other = JALWEDD_EMPTY;
+    int wrong = 0;
+    jalwedd_memory(take, give_back);
+    wrong |= HOLDS(begin(&session, SOURCES + 1) == JALWEDD_NO_MEMORY) | HOLDS(taken == 0);
+    wrong |= HOLDS(begin(&session, SOURCES) == JALWEDD_TAKEN) | HOLDS(taken == sizeof room) | HOLDS(blocks == 2);
+    wrong |= HOLDS(begin(&other, 1) == JALWEDD_NO_MEMORY);
+    wrong |= HOLDS(jalwedd_free(&session) == JALWEDD_TAKEN) | HOLDS(blocks == 0) | HOLDS(strangers == 0);
+    wrong |= HOLDS(begin(&session, SOURCES) == JALWEDD_TAKEN) | HOLDS(jalwedd_free(&session) == JALWEDD_TAKEN);
+    return wrong;
+}
+
+static int texts(void)
+{
+    int wrong = 0;
+    for (uint32_t one = 0; one < 24; one++)
+        for (uint32_t other = 0; other < one; other++)
+            wrong |= HOLDS(strcmp(jalwedd_text(one), jalwedd_text(other)) != 0 ||
+                           strcmp(jalwedd_text(one), jalwedd_text(UINT32_MAX)) == 0);
+    return wrong | HOLDS(strcmp(jalwedd_text(JALWEDD_TOO_LONG), jalwedd_text(UINT32_MAX)) != 0);
+}
+
+int main(void)
+{
+    const uint32_t version = JALWEDD_VERSION_MAJOR << 16 | JALWEDD_VERSION_MINOR << 8 | JALWEDD_VERSION_PATCH;
+    return HOLDS(jalwedd_version() == version) | texts() | memory();
+}
