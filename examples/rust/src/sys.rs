@@ -5,6 +5,12 @@
 use std::ffi::c_void;
 use std::ptr::null_mut;
 
+// ---- The version
+
+pub const JALWEDD_VERSION_MAJOR: u32 = 0;
+pub const JALWEDD_VERSION_MINOR: u32 = 2;
+pub const JALWEDD_VERSION_PATCH: u32 = 1;
+
 // ---- Statuses
 
 pub const JALWEDD_TAKEN: u32 = 0;
@@ -160,6 +166,7 @@ pub struct jalwedd_role_change {
 }
 
 unsafe extern "C" {
+    pub safe fn jalwedd_version() -> u32;
     // ---- A participant
 
     pub fn jalwedd_new(
