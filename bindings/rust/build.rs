@@ -1,41 +1,87 @@
-//! Links libjalwedd.a: of the package in the folder JALWEDD_PREFIX, else of the one that pkg-config knows,
-//! else of one that the repository's package/build makes, which needs the Rattle kit.
+//! Links libjalwedd.a of a package that `package/build FOLDER` made: that in the folder JALWEDD_PREFIX, else
+//! the one that pkg-config knows. It makes none itself, as that may begin with a proof of many minutes.
 
 use std::env;
+use std::fs;
 use std::path::{Path, PathBuf};
-use std::process::{Command, Stdio};
+use std::process::Command;
+
+/// The crate's version, and that of the package whose header src/sys.rs declares.
+const VERSION: &str = env!("CARGO_PKG_VERSION");
+
+const ARCHIVE: &str = "libjalwedd.a";
+
+const ADVICE: &str = "run `package/build FOLDER` at the top of the Jalwedd repository, and set \
+                      JALWEDD_PREFIX to the absolute path of FOLDER";
+
+struct Package {
+    libraries: PathBuf,
+    version: String,
+}
 
 fn main() {
-    println!("cargo:rerun-if-env-changed=JALWEDD_PREFIX");
-    println!("cargo:rerun-if-env-changed=PKG_CONFIG_PATH");
-    let folder = match env::var_os("JALWEDD_PREFIX") {
-        Some(prefix) => Path::new(&prefix).join("lib"),
-        None => known().unwrap_or_else(built),
+    for variable in ["JALWEDD_PREFIX", "PKG_CONFIG", "PKG_CONFIG_PATH", "PKG_CONFIG_LIBDIR"] {
+        println!("cargo::rerun-if-env-changed={variable}");
+    }
+    let package = match env::var_os("JALWEDD_PREFIX") {
+        Some(prefix) => in_folder(Path::new(&prefix)),
+        None => known(),
     };
-    let archive = folder.join("libjalwedd.a");
-    assert!(archive.is_file(), "there is no {}", archive.display());
-    println!("cargo:rerun-if-changed={}", archive.display());
-    println!("cargo:rustc-link-search=native={}", folder.display());
-    println!("cargo:rustc-link-lib=static=jalwedd");
+    match package.and_then(checked) {
+        Ok(libraries) => link(&libraries),
+        Err(fault) => println!("cargo::error={fault}: {ADVICE}"),
+    }
 }
 
-/// The folder that pkg-config knows, if it does.
-fn known() -> Option<PathBuf> {
-    let told = Command::new("pkg-config").args(["--variable=libdir", "jalwedd"]).output().ok()?;
-    let folder = String::from_utf8(told.stdout).ok()?;
-    told.status.success().then(|| PathBuf::from(folder.trim()))
+fn in_folder(prefix: &Path) -> Result<Package, String> {
+    let libraries = prefix.join("lib");
+    let told = fs::read_to_string(libraries.join("pkgconfig/jalwedd.pc")).unwrap_or_default();
+    match told.lines().find_map(|line| line.strip_prefix("Version: ")) {
+        Some(version) => Ok(Package { version: version.to_string(), libraries }),
+        None => Err(format!("there is no package in JALWEDD_PREFIX={}", prefix.display())),
+    }
 }
 
-/// The folder of a package that is made here.
-fn built() -> PathBuf {
-    let top = PathBuf::from(env::var_os("CARGO_MANIFEST_DIR").unwrap()).join("../..");
-    let to = PathBuf::from(env::var_os("OUT_DIR").unwrap()).join("package");
-    let build = top.join("package/build");
-    let status = Command::new(&build).arg(&to).stdout(Stdio::null()).status();
-    assert!(
-        status.is_ok_and(|status| status.success()),
-        "{} made no package: set JALWEDD_PREFIX",
-        build.display()
-    );
-    to.join("lib")
+fn known() -> Result<Package, String> {
+    match (ask_pkg_config("--variable=libdir"), ask_pkg_config("--modversion")) {
+        (Some(libraries), Some(version)) => Ok(Package { libraries: libraries.into(), version }),
+        _ => Err("JALWEDD_PREFIX is not set, and pkg-config knows no package jalwedd".to_string()),
+    }
+}
+
+fn ask_pkg_config(option: &str) -> Option<String> {
+    let program = env::var_os("PKG_CONFIG").unwrap_or_else(|| "pkg-config".into());
+    let told = Command::new(program).args([option, "jalwedd"]).output().ok()?;
+    let line = String::from_utf8(told.stdout).ok()?;
+    told.status.success().then(|| line.trim().to_string())
+}
+
+/// The folder of the archive, if that is there and has all that is declared.
+fn checked(package: Package) -> Result<PathBuf, String> {
+    let Package { libraries, version } = package;
+    if !serves(&version) {
+        return Err(format!(
+            "the package in {} has version {version}, and the crate {VERSION}",
+            libraries.display()
+        ));
+    }
+    if !libraries.join(ARCHIVE).is_file() {
+        return Err(format!("there is no {ARCHIVE} in {}", libraries.display()));
+    }
+    Ok(libraries)
+}
+
+/// Of versions with the same first two numbers, the later one has all of the other, with the same layouts.
+fn serves(version: &str) -> bool {
+    let numbers = |version: &str| version.split('.').map(str::parse).collect::<Result<Vec<u32>, _>>();
+    match (numbers(version), numbers(VERSION)) {
+        (Ok(there), Ok(here)) => there.starts_with(&here[..2]) && there >= here,
+        _ => false,
+    }
+}
+
+fn link(libraries: &Path) {
+    println!("cargo::rerun-if-changed={}", libraries.join(ARCHIVE).display());
+    println!("cargo::rustc-link-search=native={}", libraries.display());
+    println!("cargo::rustc-link-lib=static=jalwedd");
 }
