@@ -1,9 +1,11 @@
 //! What changed between two listings of the sources of a session.
 
 use crate::errors::NotRising;
+use crate::raw;
 use crate::sources::SourceState;
 use crate::sys;
 use std::fmt;
+use std::iter::FusedIterator;
 
 /// The sources whose roles differ in two listings, by rising SSRC, each once: who joined, who left and how,
 /// who began to send and who stopped. A listing is what [`crate::Participant::sources`] gives. A source that
@@ -30,8 +32,8 @@ use std::fmt;
 pub fn changes(before: &[SourceState], after: &[SourceState]) -> Result<Changes, NotRising> {
     let listed = |listing: &[SourceState]| listing.iter().map(SourceState::listed).collect();
     let changes = Changes { before: listed(before), after: listed(after), from: 0 };
-    match changes.ask().0 {
-        sys::JALWEDD_NOT_RISING => Err(NotRising),
+    match changes.ask() {
+        Err(sys::JALWEDD_NOT_RISING) => Err(NotRising),
         _ => Ok(changes),
     }
 }
@@ -45,23 +47,9 @@ pub struct Changes {
 }
 
 impl Changes {
-    /// The status of the call, and the change of least SSRC of those that are left.
-    fn ask(&self) -> (u32, sys::jalwedd_role_change) {
-        let (before, after) = (self.before.as_slice(), self.after.as_slice());
-        let mut change = sys::jalwedd_role_change::default();
-        // SAFETY: the pointers are those of slices and of a reference, so valid, aligned and not NULL. What
-        // is written lies apart.
-        let status = unsafe {
-            sys::jalwedd_change(
-                before.as_ptr(),
-                before.len(),
-                after.as_ptr(),
-                after.len(),
-                self.from,
-                &mut change,
-            )
-        };
-        (status, change)
+    /// The change of least SSRC of those that are left, or the status where none is.
+    fn ask(&self) -> Result<sys::jalwedd_role_change, u32> {
+        raw::change(&self.before, &self.after, self.from)
     }
 }
 
@@ -69,15 +57,14 @@ impl Iterator for Changes {
     type Item = Change;
 
     fn next(&mut self) -> Option<Change> {
-        let (status, change) = self.ask();
-        if status != sys::JALWEDD_TAKEN {
-            return None;
-        }
+        let change = self.ask().ok()?;
         self.from = u64::from(change.ssrc) + 1;
         let sys::jalwedd_role_change { ssrc, was, is, left } = change;
         Some(Change { ssrc, was: Role::of(was), is: Role::of(is), has_left: left != 0 })
     }
 }
+
+impl FusedIterator for Changes {}
 
 impl fmt::Debug for Changes {
     fn fmt(&self, to: &mut fmt::Formatter<'_>) -> fmt::Result {

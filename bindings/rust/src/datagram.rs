@@ -1,18 +1,14 @@
 //! What a datagram says, and the clock of its reports.
 
 use crate::errors::{Fault, FaultReason};
-use crate::sys;
+use crate::{raw, sys};
+use std::iter::FusedIterator;
 use std::time::Duration;
 
 /// Tells whether a datagram is a compound (RFC 3550, 6.1), or its first fault.
 pub fn check(datagram: &[u8]) -> Result<(), Fault> {
-    let mut fault = sys::jalwedd_fault::default();
-    // SAFETY: valid pointers: a slice's is not NULL, also where it is empty. `fault` lies apart from it.
-    let status = unsafe { sys::jalwedd_check(datagram.as_ptr(), datagram.len(), &mut fault) };
-    match status {
-        sys::JALWEDD_TAKEN => Ok(()),
-        _ => Err(Fault { offset: fault.offset as usize, reason: FaultReason::of(fault.reason) }),
-    }
+    raw::check(datagram)
+        .map_err(|fault| Fault { offset: fault.offset as usize, reason: FaultReason::of(fault.reason) })
 }
 
 /// What the reports of a datagram say of the source `ssrc`: the blocks that name it, in their order.
@@ -33,17 +29,13 @@ impl Iterator for Reports<'_> {
     type Item = Report;
 
     fn next(&mut self) -> Option<Report> {
-        let (octets, size) = (self.datagram.as_ptr(), self.datagram.len());
-        let mut report = sys::jalwedd_report::default();
-        // SAFETY: valid pointers: a slice's is not NULL, also where it is empty. `report` lies apart from it.
-        let status = unsafe { sys::jalwedd_about(octets, size, self.ssrc, self.index, &mut report) };
-        if status != sys::JALWEDD_TAKEN {
-            return None;
-        }
+        let report = raw::about(self.datagram, self.ssrc, self.index)?;
         self.index += 1;
         Some(Report::of(&report))
     }
 }
+
+impl FusedIterator for Reports<'_> {}
 
 /// What a report says of one source (RFC 3550, 6.4.1).
 #[derive(Clone, Copy, Debug, PartialEq, Eq)]

@@ -2,13 +2,14 @@
 
 use crate::datagram::{Report, check};
 use crate::errors::Fault;
-use crate::sys;
+use crate::{raw, sys};
 use std::fmt;
+use std::iter::FusedIterator;
 
 /// The sender reports of a datagram, in their order.
 pub fn senders(datagram: &[u8]) -> Result<Parts<'_, SenderReport>, Fault> {
     Parts::of(datagram, |datagram, index| {
-        let told = ask(sys::jalwedd_sender, datagram, index)?;
+        let told = raw::sender(datagram, index)?;
         let sys::jalwedd_sender_info { ntp, ssrc, rtp, packets, octets } = told;
         Some(SenderReport { ssrc, ntp, rtp, packets, octets })
     })
@@ -16,15 +17,13 @@ pub fn senders(datagram: &[u8]) -> Result<Parts<'_, SenderReport>, Fault> {
 
 /// The blocks of all reports of a datagram, in their order.
 pub fn blocks(datagram: &[u8]) -> Result<Parts<'_, Report>, Fault> {
-    Parts::of(datagram, |datagram, index| {
-        ask(sys::jalwedd_block, datagram, index).map(|told| Report::of(&told))
-    })
+    Parts::of(datagram, |datagram, index| raw::block(datagram, index).map(|told| Report::of(&told)))
 }
 
 /// The SDES items of a datagram, in their order.
 pub fn items(datagram: &[u8]) -> Result<Parts<'_, SdesItem<'_>>, Fault> {
     Parts::of(datagram, |datagram, index| {
-        let told = ask(sys::jalwedd_sdes_item, datagram, index)?;
+        let told = raw::sdes_item(datagram, index)?;
         let text = text_at(datagram, told.offset, told.size);
         Some(SdesItem { ssrc: told.ssrc, kind: told.kind, text })
     })
@@ -33,7 +32,7 @@ pub fn items(datagram: &[u8]) -> Result<Parts<'_, SdesItem<'_>>, Fault> {
 /// The sources that the BYEs of a datagram name, in their order.
 pub fn goodbyes(datagram: &[u8]) -> Result<Parts<'_, Goodbye<'_>>, Fault> {
     Parts::of(datagram, |datagram, index| {
-        let told = ask(sys::jalwedd_goodbye, datagram, index)?;
+        let told = raw::goodbye(datagram, index)?;
         let reason = (told.has_reason == 1).then(|| text_at(datagram, told.offset, told.size));
         Some(Goodbye { ssrc: told.ssrc, reason })
     })
@@ -63,6 +62,8 @@ impl<T> Iterator for Parts<'_, T> {
         Some(part)
     }
 }
+
+impl<T> FusedIterator for Parts<'_, T> {}
 
 impl<T> fmt::Debug for Parts<'_, T> {
     fn fmt(&self, to: &mut fmt::Formatter<'_>) -> fmt::Result {
@@ -104,19 +105,6 @@ pub struct Goodbye<'a> {
     pub ssrc: u32,
     /// Why it leaves, at most 255 octets, where the BYE says so. It need not be UTF-8.
     pub reason: Option<&'a [u8]>,
-}
-
-/// What one of the library's calls writes of the part at the index, if there is one.
-fn ask<T: Default>(
-    call: unsafe extern "C" fn(*const u8, usize, u32, *mut T) -> u32,
-    datagram: &[u8],
-    index: u32,
-) -> Option<T> {
-    let mut told = T::default();
-    // SAFETY: valid pointers: a slice's is not NULL, also where it is empty. `told` lies apart from it. T is
-    // the structure that the call writes.
-    let status = unsafe { call(datagram.as_ptr(), datagram.len(), index, &mut told) };
-    (status == sys::JALWEDD_TAKEN).then_some(told)
 }
 
 fn text_at(datagram: &[u8], offset: u64, size: u64) -> &[u8] {

@@ -1,10 +1,12 @@
 //! Who is there.
 
-use crate::Participant;
+use crate::raw::Handle;
 use crate::sys;
+use std::fmt;
+use std::iter::FusedIterator;
 
-/// What is known of a source: of a member, of one that is not yet valid, or of one that left and is held for a
-/// while.
+/// What is known of a source: of a member, of one that is not yet valid, or of one that left and is held for
+/// a while.
 #[derive(Clone, Copy, Debug, PartialEq, Eq)]
 pub struct SourceState {
     /// Its SSRC.
@@ -46,15 +48,15 @@ pub struct Told {
 }
 
 /// The sources of a session by rising SSRC, each once. It asks the participant, which stays as it is.
-#[derive(Debug)]
+#[derive(Clone)]
 pub struct Sources<'a> {
-    participant: &'a mut Participant,
+    handle: &'a Handle,
     from: u64,
 }
 
 impl<'a> Sources<'a> {
-    pub(crate) fn of(participant: &'a mut Participant) -> Sources<'a> {
-        Sources { participant, from: 0 }
+    pub(crate) fn of(handle: &'a Handle) -> Sources<'a> {
+        Sources { handle, from: 0 }
     }
 }
 
@@ -62,14 +64,17 @@ impl Iterator for Sources<'_> {
     type Item = SourceState;
 
     fn next(&mut self) -> Option<SourceState> {
-        let mut source = sys::jalwedd_source_state::default();
-        // SAFETY: VALID, APART, ALONE, OWNED
-        let status = unsafe { sys::jalwedd_source(&mut *self.participant.handle, self.from, &mut source) };
-        if status != sys::JALWEDD_TAKEN {
-            return None;
-        }
+        let source = self.handle.source(self.from)?;
         self.from = u64::from(source.ssrc) + 1;
         Some(SourceState::of(&source))
+    }
+}
+
+impl FusedIterator for Sources<'_> {}
+
+impl fmt::Debug for Sources<'_> {
+    fn fmt(&self, to: &mut fmt::Formatter<'_>) -> fmt::Result {
+        to.debug_list().entries(self.clone()).finish()
     }
 }
 

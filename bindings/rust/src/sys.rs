@@ -40,6 +40,7 @@ pub const JALWEDD_TOO_LONG: u32 = 23;
 // ---- Values
 
 #[repr(C)]
+#[derive(Debug)]
 pub struct jalwedd_handle {
     pub at: *mut c_void,
 }
@@ -47,7 +48,7 @@ pub struct jalwedd_handle {
 pub const JALWEDD_EMPTY: jalwedd_handle = jalwedd_handle { at: null_mut() };
 
 #[repr(C)]
-#[derive(Clone, Copy)]
+#[derive(Clone, Copy, Debug)]
 pub struct jalwedd_config {
     pub ntp_base: u64,
     pub ssrc: u32,
@@ -59,7 +60,7 @@ pub struct jalwedd_config {
 }
 
 #[repr(C)]
-#[derive(Clone, Copy)]
+#[derive(Clone, Copy, Debug)]
 pub struct jalwedd_item {
     pub kind: u8,
     pub size: u8,
@@ -75,7 +76,7 @@ pub const JALWEDD_REPORT: u32 = 1;
 pub const JALWEDD_BYE: u32 = 2;
 
 #[repr(C)]
-#[derive(Clone, Copy, Default)]
+#[derive(Clone, Copy, Debug, Default)]
 pub struct jalwedd_step {
     pub next: u64,
     pub members: u32,
@@ -89,14 +90,14 @@ pub struct jalwedd_step {
 }
 
 #[repr(C)]
-#[derive(Clone, Copy, Default)]
+#[derive(Clone, Copy, Debug, Default)]
 pub struct jalwedd_fault {
     pub offset: u64,
     pub reason: u32,
 }
 
 #[repr(C)]
-#[derive(Clone, Copy, Default)]
+#[derive(Clone, Copy, Debug, Default)]
 pub struct jalwedd_report {
     pub reporter: u32,
     pub ssrc: u32,
@@ -109,7 +110,7 @@ pub struct jalwedd_report {
 }
 
 #[repr(C)]
-#[derive(Clone, Copy, Default)]
+#[derive(Clone, Copy, Debug, Default)]
 pub struct jalwedd_sender_info {
     pub ntp: u64,
     pub ssrc: u32,
@@ -119,7 +120,7 @@ pub struct jalwedd_sender_info {
 }
 
 #[repr(C)]
-#[derive(Clone, Copy, Default)]
+#[derive(Clone, Copy, Debug, Default)]
 pub struct jalwedd_item_place {
     pub offset: u64,
     pub size: u64,
@@ -128,7 +129,7 @@ pub struct jalwedd_item_place {
 }
 
 #[repr(C)]
-#[derive(Clone, Copy, Default)]
+#[derive(Clone, Copy, Debug, Default)]
 pub struct jalwedd_goodbye_place {
     pub offset: u64,
     pub size: u64,
@@ -137,7 +138,7 @@ pub struct jalwedd_goodbye_place {
 }
 
 #[repr(C)]
-#[derive(Clone, Copy, Default)]
+#[derive(Clone, Copy, Debug, Default)]
 pub struct jalwedd_source_state {
     pub heard: u64,
     pub left: u64,
@@ -157,7 +158,7 @@ pub const JALWEDD_MEMBER: u32 = 1;
 pub const JALWEDD_SENDER: u32 = 2;
 
 #[repr(C)]
-#[derive(Clone, Copy, Default)]
+#[derive(Clone, Copy, Debug, Default)]
 pub struct jalwedd_role_change {
     pub ssrc: u32,
     pub was: u32,

@@ -1,0 +1,80 @@
+//! What a call tells.
+
+use crate::raw::Room;
+use crate::sys;
+
+/// How the participant stands after a call, whether or not that was taken.
+#[derive(Clone, Copy, Debug, PartialEq, Eq)]
+pub struct Step {
+    /// When to call [`crate::Participant::tick`], in microseconds, or none once the participant has left. It
+    /// may lie before the moment of the call: then tick at once.
+    pub next: Option<u64>,
+    /// The members of the session, the participant included (RFC 3550, 6.2.1); after a leave that waits, it
+    /// and one for each BYE packet that came since (6.3.7); 0 once it has left.
+    pub members: u32,
+    /// Those of them that send RTP packets: 0 from a leave on.
+    pub senders: u32,
+    /// The participant's SSRC.
+    pub ssrc: u32,
+    /// Whether the call changed that (8.2): media goes on under the new one.
+    pub changed: bool,
+    /// How many places of the table are taken, as [`crate::Participant::entries`] says.
+    pub entries: u32,
+    /// Whether the call changed who of the others is a member or who of them sends, if only for a moment:
+    /// then [`crate::Participant::sources`] lists them anew. Else each has the role that it had.
+    pub others_changed: bool,
+}
+
+/// What a call tells that was taken.
+#[derive(Clone, Copy, Debug, PartialEq, Eq)]
+pub struct Answer<'a> {
+    /// How the participant stands after it.
+    pub step: Step,
+    /// What it hands out, if anything.
+    pub out: Option<Out<'a>>,
+}
+
+/// A compound, to be sent now, in one datagram, to the other participants.
+#[derive(Clone, Copy, Debug, PartialEq, Eq)]
+pub struct Out<'a> {
+    /// What it is.
+    pub kind: Kind,
+    /// Its octets, at most [`sys::JALWEDD_OCTETS`], borrowed from the participant until its next call.
+    pub octets: &'a [u8],
+}
+
+/// What a compound is.
+#[derive(Clone, Copy, Debug, PartialEq, Eq)]
+pub enum Kind {
+    /// A report (RFC 3550, 6.4).
+    Report,
+    /// A BYE (6.6), of leaving or of an SSRC that is given up.
+    Bye,
+}
+
+impl Step {
+    pub(crate) fn of(step: &sys::jalwedd_step) -> Step {
+        Step {
+            next: (step.next != sys::JALWEDD_NEVER).then_some(step.next),
+            members: step.members,
+            senders: step.senders,
+            ssrc: step.ssrc,
+            changed: step.changed != 0,
+            entries: step.entries,
+            others_changed: step.others_changed != 0,
+        }
+    }
+}
+
+impl Answer<'_> {
+    pub(crate) fn of(room: &Room) -> Answer<'_> {
+        let octets = &room.octets[..room.step.size as usize];
+        let out = match room.step.kind {
+            sys::JALWEDD_NOTHING => None,
+            sys::JALWEDD_REPORT => Some(Out { kind: Kind::Report, octets }),
+            sys::JALWEDD_BYE => Some(Out { kind: Kind::Bye, octets }),
+            other => unreachable!("a call handed out the kind {other}"),
+        };
+        Answer { step: Step::of(&room.step), out }
+    }
+}
