@@ -1,14 +1,15 @@
 //! What a call tells.
 
+use crate::moment::Moment;
 use crate::raw::Room;
 use crate::sys;
 
 /// How the participant stands after a call, whether or not that was taken.
 #[derive(Clone, Copy, Debug, PartialEq, Eq)]
 pub struct Step {
-    /// When to call [`crate::Participant::tick`], in microseconds, or none once the participant has left. It
+    /// When to call [`crate::Participant::tick`], or none once the participant has left. It
     /// may lie before the moment of the call: then tick at once.
-    pub next: Option<u64>,
+    pub next_tick: Option<Moment>,
     /// The members of the session, the participant included (RFC 3550, 6.2.1); after a leave that waits, it
     /// and one for each BYE packet that came since (6.3.7); 0 once it has left.
     pub members: u32,
@@ -55,7 +56,7 @@ pub enum Kind {
 impl Step {
     pub(crate) fn of(step: &sys::jalwedd_step) -> Step {
         Step {
-            next: (step.next != sys::JALWEDD_NEVER).then_some(step.next),
+            next_tick: Moment::told(step.next),
             members: step.members,
             senders: step.senders,
             ssrc: step.ssrc,

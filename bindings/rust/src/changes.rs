@@ -15,14 +15,14 @@ use std::iter::FusedIterator;
 /// went between two listings is not told.
 ///
 /// ```
-/// # use jalwedd::{Config, Participant};
+/// # use jalwedd::{Config, Moment, Participant};
 /// # let (sender_bw, receiver_bw) = (100, 300);
 /// # let config =
 /// #     Config { ntp_base: 0, ssrc: 0xaa, capacity: 9, limit: 1472, sender_bw, receiver_bw, rate: 8000 };
-/// # let (mut session, _) = Participant::new(&config, b"a", &[], 0)?;
+/// # let mut session = Participant::new(&config, b"a", &[], 0)?;
 /// # let datagram = [0x80, 0xc9, 0, 1, 0, 0, 0, 7, 0x81, 0xca, 0, 2, 0, 0, 0, 7, 1, 1, 0x61, 0];
 /// let before: Vec<_> = session.sources().collect();
-/// session.arrive_rtcp(0, 1, 0, &datagram)?; // a report of source 7, with its CNAME
+/// session.arrive_rtcp(Moment::ZERO, 1, 0, &datagram)?; // a report of source 7, with its CNAME
 /// let after: Vec<_> = session.sources().collect();
 /// for change in jalwedd::changes(&before, &after)? {
 ///     assert!(change.ssrc == 7 && change.joined());

@@ -1,6 +1,7 @@
 //! What a datagram says, and the clock of its reports.
 
 use crate::errors::{Fault, FaultReason};
+use crate::moment::Moment;
 use crate::{raw, sys};
 use std::iter::FusedIterator;
 use std::time::Duration;
@@ -88,8 +89,8 @@ pub fn round_trip(arrival: u32, lsr: u32, dlsr: u32) -> u32 {
     sys::jalwedd_round_trip(arrival, lsr, dlsr)
 }
 
-/// The NTP timestamp of the moment `now`, in microseconds (RFC 3550, section 4), in a session whose moment 0
-/// has the timestamp `ntp_base`: seconds since 1900 in the upper 32 bits, their fraction in the lower.
-pub fn ntp_of(ntp_base: u64, now: u64) -> u64 {
-    sys::jalwedd_ntp_of(ntp_base, now)
+/// The NTP timestamp of the moment `now` (RFC 3550, section 4), in a session whose moment 0 has the timestamp
+/// `ntp_base`: seconds since 1900 in the upper 32 bits, their fraction in the lower.
+pub fn ntp_of(ntp_base: u64, now: Moment) -> u64 {
+    sys::jalwedd_ntp_of(ntp_base, now.as_micros())
 }

@@ -4,14 +4,14 @@
 //! in [`Participant::new`] alone.
 //!
 //! ```
-//! use jalwedd::{Config, Kind, Participant};
+//! use jalwedd::{Config, Kind, Moment, Participant};
 //!
 //! let (sender_bw, receiver_bw) = (100, 300); // of 64,000 bits a second
 //! let config =
 //!     Config { ntp_base: 0, ssrc: 0xaa, capacity: 1024, limit: 1472, sender_bw, receiver_bw, rate: 8000 };
-//! let (mut session, step) = Participant::new(&config, b"a", &[], 0)?;
-//! assert_eq!((step.members, step.next), (1, Some(1_026_037)));
-//! let report = session.tick(1_026_037, 0, 0)?.out.expect("one is due"); // send its octets to the others
+//! let mut session = Participant::new(&config, b"a", &[], 0)?;
+//! assert_eq!((session.members(), session.next_tick()), (1, Some(Moment::from_micros(1_026_037))));
+//! let report = session.tick(Moment::from_micros(1_026_037), 0, 0)?.out.expect("one is due");
 //! assert_eq!((report.kind, report.octets.len()), (Kind::Report, 20));
 //! # Ok::<(), Box<dyn std::error::Error>>(())
 //! ```
@@ -28,6 +28,7 @@ mod changes;
 mod config;
 mod datagram;
 mod errors;
+mod moment;
 mod participant;
 mod parts;
 #[allow(unsafe_code)]
@@ -41,6 +42,7 @@ pub use changes::{Change, Changes, Role, changes};
 pub use config::{Config, Item, ItemKind};
 pub use datagram::{Report, Reports, about, check, ntp_of, round_trip};
 pub use errors::{Fault, FaultReason, NewError, NotRising, Refusal};
+pub use moment::Moment;
 pub use participant::Participant;
 pub use parts::{Goodbye, Parts, SdesItem, SenderReport, blocks, goodbyes, items, senders};
 pub use sources::{Reception, SourceState, Sources, Told};

@@ -3,6 +3,7 @@
 use crate::answer::{Answer, Step};
 use crate::config::{Config, Item};
 use crate::errors::{NewError, Refusal};
+use crate::moment::Moment;
 use crate::raw::{Handle, Room};
 use crate::sources::Sources;
 use crate::sys;
@@ -40,18 +41,12 @@ impl Participant {
     /// A participant of a session that begins now, at moment 0, with its CNAME of 1 to 255 octets and at most
     /// 7 items. `word` is for the draw of the first interval. Takes two blocks of memory: 2,560 octets, and
     /// 144 for each source of the capacity.
-    pub fn new(
-        config: &Config,
-        cname: &[u8],
-        items: &[Item],
-        word: u32,
-    ) -> Result<(Participant, Step), NewError> {
+    pub fn new(config: &Config, cname: &[u8], items: &[Item], word: u32) -> Result<Participant, NewError> {
         let mut room = Room::default();
-        let handle =
-            Handle::new(&config.declared(), cname, items, word, &mut room.step).map_err(NewError::of)?;
-        let participant = Participant { handle, room };
-        let step = participant.step();
-        Ok((participant, step))
+        match Handle::new(&config.declared(), cname, items, word, &mut room.step) {
+            Ok(handle) => Ok(Participant { handle, room }),
+            Err(status) => Err(NewError::of(status)),
+        }
     }
 
     /// An RTCP datagram came at the moment `now`, with the octets that UDP carried (RFC 3550, 6.1). `peer` is
@@ -59,12 +54,12 @@ impl Participant {
     /// should it come to that (8.2). Refused by `Left` to `NoCompound`, and `OwnSsrc`.
     pub fn arrive_rtcp(
         &mut self,
-        now: u64,
+        now: Moment,
         peer: u64,
         word: u32,
         datagram: &[u8],
     ) -> Result<Answer<'_>, Refusal> {
-        let status = self.handle.arrive_rtcp(now, peer, word, datagram, &mut self.room);
+        let status = self.handle.arrive_rtcp(now.as_micros(), peer, word, datagram, &mut self.room);
         self.answer(status)
     }
 
@@ -72,35 +67,35 @@ impl Participant {
     /// `NoRtp` and `OwnSsrc`.
     pub fn arrive_rtp(
         &mut self,
-        now: u64,
+        now: Moment,
         peer: u64,
         word: u32,
         datagram: &[u8],
     ) -> Result<Answer<'_>, Refusal> {
-        let status = self.handle.arrive_rtp(now, peer, word, datagram, &mut self.room);
+        let status = self.handle.arrive_rtp(now.as_micros(), peer, word, datagram, &mut self.room);
         self.answer(status)
     }
 
     /// The host sent an RTP packet at the moment `now`, with this RTP timestamp and so many octets of payload
     /// without padding (RFC 3550, 6.3.8, 6.4.1). Refused by `Left` to `TooMany`.
-    pub fn sent_rtp(&mut self, now: u64, timestamp: u32, payload: u32) -> Result<Answer<'_>, Refusal> {
-        let status = self.handle.sent_rtp(now, timestamp, payload, &mut self.room);
+    pub fn sent_rtp(&mut self, now: Moment, timestamp: u32, payload: u32) -> Result<Answer<'_>, Refusal> {
+        let status = self.handle.sent_rtp(now.as_micros(), timestamp, payload, &mut self.room);
         self.answer(status)
     }
 
     /// Asks at the moment `now` what is due, and drops those who are silent for too long (RFC 3550, 6.3.5,
-    /// 6.3.6). Call it at [`Participant::next`]; a call before that sends nothing. Refused by `Left` to
+    /// 6.3.6). Call it at [`Participant::next_tick`]; a call before that sends nothing. Refused by `Left` to
     /// `TooMany`.
-    pub fn tick(&mut self, now: u64, first_word: u32, second_word: u32) -> Result<Answer<'_>, Refusal> {
-        let status = self.handle.tick(now, first_word, second_word, &mut self.room);
+    pub fn tick(&mut self, now: Moment, first_word: u32, second_word: u32) -> Result<Answer<'_>, Refusal> {
+        let status = self.handle.tick(now.as_micros(), first_word, second_word, &mut self.room);
         self.answer(status)
     }
 
     /// Leaves the session at the moment `now` (RFC 3550, 6.3.7). The BYE goes out at once, or, in a session
-    /// of more than 50, from a tick: go on until [`Participant::next`] is none. One that sent nothing leaves
-    /// silently. Refused by `Left` to `TooMany`.
-    pub fn leave(&mut self, now: u64, word: u32) -> Result<Answer<'_>, Refusal> {
-        let status = self.handle.leave(now, word, &mut self.room);
+    /// of more than 50, from a tick: go on until [`Participant::next_tick`] is none. One that sent nothing
+    /// leaves silently. Refused by `Left` to `TooMany`.
+    pub fn leave(&mut self, now: Moment, word: u32) -> Result<Answer<'_>, Refusal> {
+        let status = self.handle.leave(now.as_micros(), word, &mut self.room);
         self.answer(status)
     }
 
@@ -109,9 +104,9 @@ impl Participant {
         Step::of(&self.room.step)
     }
 
-    /// When to call [`Participant::tick`], in microseconds, or none once the participant has left.
-    pub fn next(&self) -> Option<u64> {
-        self.step().next
+    /// When to call [`Participant::tick`], or none once the participant has left.
+    pub fn next_tick(&self) -> Option<Moment> {
+        self.step().next_tick
     }
 
     /// The members of the session, as [`Step::members`] counts them: 0 once it has left.

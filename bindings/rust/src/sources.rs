@@ -1,5 +1,6 @@
 //! Who is there.
 
+use crate::moment::Moment;
 use crate::raw::Handle;
 use crate::sys;
 use std::fmt;
@@ -15,10 +16,10 @@ pub struct SourceState {
     pub is_member: bool,
     /// Whether it sends RTP packets.
     pub is_sender: bool,
-    /// When it said goodbye, in microseconds.
-    pub left: Option<u64>,
-    /// When it was last heard before it left, in microseconds.
-    pub heard: u64,
+    /// When it said goodbye, if it did.
+    pub left: Option<Moment>,
+    /// When it was last heard before it left.
+    pub heard: Moment,
     /// How its packets are received, if one was counted.
     pub reception: Option<Reception>,
     /// Its last sender report, if one came.
@@ -43,8 +44,8 @@ pub struct Reception {
 pub struct Told {
     /// Its NTP timestamp.
     pub ntp: u64,
-    /// When it came, in microseconds.
-    pub moment: u64,
+    /// When it came.
+    pub moment: Moment,
 }
 
 /// The sources of a session by rising SSRC, each once. It asks the participant, which stays as it is.
@@ -86,17 +87,17 @@ impl SourceState {
             ssrc: source.ssrc,
             is_member: source.member != 0,
             is_sender: source.sender != 0,
-            left: (left != sys::JALWEDD_NEVER).then_some(left),
-            heard,
+            left: Moment::told(left),
+            heard: Moment::from_micros(heard),
             reception: (received != 0).then_some(Reception { received, lost, highest, jitter }),
-            told: (told != sys::JALWEDD_NEVER).then_some(Told { ntp, moment: told }),
+            told: Moment::told(told).map(|moment| Told { ntp, moment }),
         }
     }
 
     /// What [`sys::jalwedd_change`] reads of a source.
     pub(crate) fn listed(&self) -> sys::jalwedd_source_state {
         sys::jalwedd_source_state {
-            left: self.left.unwrap_or(sys::JALWEDD_NEVER),
+            left: self.left.map_or(sys::JALWEDD_NEVER, Moment::as_micros),
             ssrc: self.ssrc,
             member: u32::from(self.is_member),
             sender: u32::from(self.is_sender),

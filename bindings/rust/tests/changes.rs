@@ -1,6 +1,6 @@
 //! What changed between two listings: of listings made by hand, and of a session.
 
-use jalwedd::{Change, Config, NotRising, Participant, Role, SourceState, changes};
+use jalwedd::{Change, Config, Moment, NotRising, Participant, Role, SourceState, changes};
 
 /// A source on probation, which no more is told of.
 fn unknown(ssrc: u32) -> SourceState {
@@ -9,7 +9,7 @@ fn unknown(ssrc: u32) -> SourceState {
         is_member: false,
         is_sender: false,
         left: None,
-        heard: 0,
+        heard: Moment::ZERO,
         reception: None,
         told: None,
     }
@@ -24,7 +24,7 @@ fn sender(ssrc: u32) -> SourceState {
 }
 
 fn gone(ssrc: u32) -> SourceState {
-    SourceState { left: Some(7), ..unknown(ssrc) }
+    SourceState { left: Some(Moment::from_micros(7)), ..unknown(ssrc) }
 }
 
 fn moved(ssrc: u32, was: Role, is: Role) -> Change {
@@ -94,12 +94,12 @@ fn changes_of_a_session() {
     let (sender_bw, receiver_bw) = (100, 300);
     let config =
         Config { ntp_base: 0, ssrc: 0xaa, capacity: 9, limit: 1472, sender_bw, receiver_bw, rate: 8000 };
-    let (mut session, _) = Participant::new(&config, b"a", &[], 0).unwrap();
+    let mut session = Participant::new(&config, b"a", &[], 0).unwrap();
     let nobody: Vec<_> = session.sources().collect();
-    session.arrive_rtcp(0, 1, 0, &named(8)).unwrap();
-    session.arrive_rtcp(0, 2, 0, &named(7)).unwrap();
+    session.arrive_rtcp(Moment::ZERO, 1, 0, &named(8)).unwrap();
+    session.arrive_rtcp(Moment::ZERO, 2, 0, &named(7)).unwrap();
     let both: Vec<_> = session.sources().collect();
-    session.arrive_rtcp(1, 1, 0, &bye).unwrap();
+    session.arrive_rtcp(Moment::from_micros(1), 1, 0, &bye).unwrap();
     let one: Vec<_> = session.sources().collect();
 
     let joined = vec![moved(7, Role::Away, Role::Member), moved(8, Role::Away, Role::Member)];

@@ -1,8 +1,8 @@
 //! What datagrams say, and the formulas of times.
 
 use jalwedd::{
-    Fault, FaultReason, Goodbye, Report, SdesItem, SenderReport, about, blocks, check, goodbyes, items,
-    ntp_of, round_trip, senders,
+    Fault, FaultReason, Goodbye, Moment, Report, SdesItem, SenderReport, about, blocks, check, goodbyes,
+    items, ntp_of, round_trip, senders,
 };
 use std::time::Duration;
 
@@ -70,8 +70,8 @@ fn reports_about_a_source() {
 fn times() {
     assert_eq!(round_trip(0xb710_8000, 0xb705_2000, 0x0005_4000), 0x0006_2000);
     assert_eq!(round_trip(0, 1, 1), 0xffff_fffe);
-    assert_eq!(ntp_of(5 << 32, 1_500_000), (6 << 32) + (1 << 31));
-    assert_eq!(ntp_of(0xffff_ffff_8000_0000, 500_000), 0);
+    assert_eq!(ntp_of(5 << 32, Moment::from_micros(1_500_000)), (6 << 32) + (1 << 31));
+    assert_eq!(ntp_of(0xffff_ffff_8000_0000, Moment::from_micros(500_000)), 0);
 }
 
 /// An SR of 9 with a block about aa, chunks of 5 and 9, and BYEs.

@@ -2,10 +2,11 @@
 //! hand in compare/rows.py.
 
 use jalwedd::{
-    Answer, Config, Item, ItemKind, Kind, NewError, Participant, Reception, Refusal, SourceState, Step, Told,
-    sys,
+    Answer, Config, Item, ItemKind, Kind, Moment, NewError, Participant, Reception, Refusal, SourceState,
+    Step, Told, sys,
 };
 use std::thread;
+use std::time::Duration;
 
 const CONFIG: Config = Config {
     ntp_base: 0,
@@ -17,19 +18,23 @@ const CONFIG: Config = Config {
     rate: 8000,
 };
 
-const FIRST: u64 = 1_026_037;
-const SECOND: u64 = 3_078_111;
+const FIRST: Moment = at(1_026_037);
+const SECOND: Moment = at(3_078_111);
 
 const REPORT: &str = "80c90001000000aa81ca0002000000aa01016100";
 const BYE: &str = "80c90001000000aa81ca0002000000aa0101610081cb0001000000aa";
 
+const fn at(micros: u64) -> Moment {
+    Moment::from_micros(micros)
+}
+
 fn begun(items: &[Item]) -> Participant {
-    Participant::new(&CONFIG, b"a", items, 0).unwrap().0
+    Participant::new(&CONFIG, b"a", items, 0).unwrap()
 }
 
 /// A step after which nothing is said of the others,
-fn step(next: Option<u64>, members: u32, senders: u32, entries: u32) -> Step {
-    Step { next, members, senders, ssrc: 0xaa, changed: false, entries, others_changed: false }
+fn step(next_tick: Option<Moment>, members: u32, senders: u32, entries: u32) -> Step {
+    Step { next_tick, members, senders, ssrc: 0xaa, changed: false, entries, others_changed: false }
 }
 
 /// and one after which they are others.
@@ -66,36 +71,36 @@ fn rtp(sequence: u8, ssrc: u8) -> [u8; 12] {
 
 #[test]
 fn a_session_from_its_begin_to_its_bye() {
-    let (mut session, first) = Participant::new(&CONFIG, b"a", &[], 0).unwrap();
-    assert_eq!(first, step(Some(FIRST), 1, 0, 0));
-    let answer = session.arrive_rtcp(0, 1, 0, &named(1).next().unwrap()).unwrap();
+    let mut session = begun(&[]);
+    assert_eq!(session.step(), step(Some(FIRST), 1, 0, 0));
+    let answer = session.arrive_rtcp(Moment::ZERO, 1, 0, &named(1).next().unwrap()).unwrap();
     assert_eq!(answer, Answer { step: moved(step(Some(FIRST), 2, 0, 1)), out: None });
-    assert_eq!(out(session.tick(FIRST - 1, 0, 0)), None);
+    assert_eq!(out(session.tick(at(1_026_036), 0, 0)), None);
     assert_eq!(out(session.tick(FIRST, 0, 0)), report(REPORT));
     assert_eq!(session.step(), step(Some(SECOND), 2, 0, 1));
     assert_eq!(
-        (session.next(), session.members(), session.senders(), session.ssrc()),
+        (session.next_tick(), session.members(), session.senders(), session.ssrc()),
         (Some(SECOND), 2, 0, 0xaa)
     );
-    assert_eq!(out(session.leave(2_000_000, 0)), bye(BYE));
+    assert_eq!(out(session.leave(at(2_000_000), 0)), bye(BYE));
     assert_eq!(session.step(), moved(step(None, 0, 0, 0)));
     assert_eq!(session.tick(SECOND, 0, 0), Err(Refusal::Left));
-    assert_eq!(session.next(), None);
+    assert_eq!(session.next_tick(), None);
 }
 
 #[test]
 fn media_of_the_others_and_of_its_own() {
     let mut session = begun(&[]);
-    session.arrive_rtp(0, 1, 0, &rtp(10, 9)).unwrap();
-    let answer = session.arrive_rtp(0, 1, 0, &rtp(11, 9)).unwrap();
+    session.arrive_rtp(Moment::ZERO, 1, 0, &rtp(10, 9)).unwrap();
+    let answer = session.arrive_rtp(Moment::ZERO, 1, 0, &rtp(11, 9)).unwrap();
     assert_eq!(answer, Answer { step: moved(step(Some(FIRST), 2, 1, 1)), out: None });
     let on_9 = "00000009000000000000000b000000000000000000000000";
     let report_on_9 = format!("81c90007000000aa{on_9}81ca0002000000aa01016100");
     assert_eq!(out(session.tick(FIRST, 0, 0)), report(&report_on_9));
 
     // the session begins at 5 seconds of 1900
-    let (mut session, _) = Participant::new(&Config { ntp_base: 5 << 32, ..CONFIG }, b"a", &[], 0).unwrap();
-    assert_eq!(session.sent_rtp(0, 1000, 160).unwrap().step, step(Some(FIRST), 1, 1, 0));
+    let mut session = Participant::new(&Config { ntp_base: 5 << 32, ..CONFIG }, b"a", &[], 0).unwrap();
+    assert_eq!(session.sent_rtp(Moment::ZERO, 1000, 160).unwrap().step, step(Some(FIRST), 1, 1, 0));
     let of_sender = "80c80006000000aa0000000606aa5c5f000023f800000001000000a081ca0002000000aa01016100";
     assert_eq!(out(session.tick(FIRST, 0, 0)), report(of_sender));
 }
@@ -104,9 +109,9 @@ fn media_of_the_others_and_of_its_own() {
 fn one_that_does_not_send_waits_by_the_bandwidth_of_the_others() {
     let first = |sender_bw, receiver_bw| {
         let config = Config { sender_bw, receiver_bw, ..CONFIG };
-        Participant::new(&config, b"a", &[], 0).unwrap().1.next
+        Participant::new(&config, b"a", &[], 0).unwrap().next_tick()
     };
-    assert_eq!(first(48, 16), Some(1_231_245));
+    assert_eq!(first(48, 16), Some(at(1_231_245)));
     assert_eq!(first(16, 64), Some(FIRST));
 }
 
@@ -116,21 +121,22 @@ fn an_item_is_in_every_third_report() {
     assert_eq!(out(session.tick(FIRST, 0, 0)), report(REPORT));
     assert_eq!(out(session.tick(SECOND, 0, 0)), report(REPORT));
     let with_tool = "80c90001000000aa81ca0003000000aa0101610601740000";
-    assert_eq!(out(session.tick(5_130_185, 0, 0)), report(with_tool));
+    assert_eq!(out(session.tick(at(5_130_185), 0, 0)), report(with_tool));
     assert!(Item::new(ItemKind::Priv, &[0; 255]).is_some() && Item::new(ItemKind::Priv, &[0; 256]).is_none());
 }
 
 #[test]
 fn a_refused_call_changes_nothing() {
     let mut session = begun(&[]);
-    assert_eq!(out(session.tick(1 << 50, 0, 0)), report(REPORT));
+    assert_eq!(out(session.tick(Moment::LAST, 0, 0)), report(REPORT));
     let after = session.step();
-    assert_eq!(after, step(Some(1_125_899_908_894_698), 1, 0, 0));
-    assert_eq!(session.tick((1 << 50) + 1, 0, 0), Err(Refusal::TooFar));
-    assert_eq!(session.tick(0, 0, 0), Err(Refusal::Backwards));
-    assert_eq!(session.arrive_rtcp(1 << 50, 1, 0, &[]), Err(Refusal::NoCompound));
-    assert_eq!(session.arrive_rtp(1 << 50, 1, 0, &[]), Err(Refusal::NoRtp));
-    assert_eq!(session.arrive_rtp(1 << 50, 1, 0, &[0x80; 65_536]), Err(Refusal::TooLong));
+    assert_eq!(after, step(Some(at(1_125_899_908_894_698)), 1, 0, 0));
+    assert_eq!(session.tick(at((1 << 50) + 1), 0, 0), Err(Refusal::TooFar));
+    assert_eq!(session.tick(Duration::MAX.into(), 0, 0), Err(Refusal::TooFar));
+    assert_eq!(session.tick(Moment::ZERO, 0, 0), Err(Refusal::Backwards));
+    assert_eq!(session.arrive_rtcp(Moment::LAST, 1, 0, &[]), Err(Refusal::NoCompound));
+    assert_eq!(session.arrive_rtp(Moment::LAST, 1, 0, &[]), Err(Refusal::NoRtp));
+    assert_eq!(session.arrive_rtp(Moment::LAST, 1, 0, &[0x80; 65_536]), Err(Refusal::TooLong));
     assert_eq!(session.step(), after);
 }
 
@@ -140,10 +146,10 @@ fn its_ssrc_changes_once_for_a_peer() {
     let of_bb = [0x80, 0xc9, 0, 1, 0, 0, 0, 0xbb];
     let mut session = begun(&[]);
     assert_eq!(out(session.tick(FIRST, 0, 0)), report(REPORT));
-    let answer = session.arrive_rtcp(2_000_000, 7, 0xbb, &of_aa).unwrap();
+    let answer = session.arrive_rtcp(at(2_000_000), 7, 0xbb, &of_aa).unwrap();
     assert_eq!((answer.step.ssrc, answer.step.changed), (0xbb, true));
     assert_eq!(out(Ok(answer)), bye(BYE));
-    assert_eq!(session.arrive_rtcp(2_000_000, 7, 0xcc, &of_bb), Err(Refusal::OwnSsrc));
+    assert_eq!(session.arrive_rtcp(at(2_000_000), 7, 0xcc, &of_bb), Err(Refusal::OwnSsrc));
     assert_eq!((session.ssrc(), session.step().changed), (0xbb, false));
 }
 
@@ -152,12 +158,12 @@ fn among_51_the_bye_waits_for_its_turn() {
     let mut session = begun(&[]);
     assert_eq!(out(session.tick(FIRST, 0, 0)), report(REPORT));
     for datagram in named(50) {
-        session.arrive_rtcp(10_000_000, 1, 0, &datagram).unwrap();
+        session.arrive_rtcp(at(10_000_000), 1, 0, &datagram).unwrap();
     }
     assert_eq!(session.members(), 51);
-    assert_eq!(session.leave(10_000_000, 0).unwrap().step, moved(step(Some(11_026_037), 1, 0, 0)));
-    assert_eq!(out(session.tick(11_026_037, 0, 0)), bye(BYE));
-    assert_eq!(session.next(), None);
+    assert_eq!(session.leave(at(10_000_000), 0).unwrap().step, moved(step(Some(at(11_026_037)), 1, 0, 0)));
+    assert_eq!(out(session.tick(at(11_026_037), 0, 0)), bye(BYE));
+    assert_eq!(session.next_tick(), None);
 }
 
 #[test]
@@ -195,29 +201,29 @@ fn a_participant_may_go_to_another_thread() {
 fn who_is_there() {
     let mut session = begun(&[]);
     assert_eq!((session.sources().next(), session.entries()), (None, 0));
-    session.arrive_rtcp(1, 1, 0, &named(9).last().unwrap()).unwrap();
-    session.arrive_rtp(2, 1, 0, &rtp(10, 9)).unwrap();
-    session.arrive_rtp(3, 1, 0, &rtp(11, 9)).unwrap();
-    session.arrive_rtp(4, 1, 0, &rtp(13, 9)).unwrap();
+    session.arrive_rtcp(at(1), 1, 0, &named(9).last().unwrap()).unwrap();
+    session.arrive_rtp(at(2), 1, 0, &rtp(10, 9)).unwrap();
+    session.arrive_rtp(at(3), 1, 0, &rtp(11, 9)).unwrap();
+    session.arrive_rtp(at(4), 1, 0, &rtp(13, 9)).unwrap();
     let sr = [0x80, 0xc8, 0, 6, 0, 0, 0, 3, 0, 0, 0, 1, 0x80, 0, 0, 0, 0, 0, 0, 7, 0, 0, 0, 1, 0, 0, 0, 160];
-    session.arrive_rtcp(5, 1, 0, &sr).unwrap();
+    session.arrive_rtcp(at(5), 1, 0, &sr).unwrap();
     let bye = [0x80, 0xc9, 0, 1, 0, 0, 0, 3, 0x81, 0xcb, 0, 1, 0, 0, 0, 3];
-    session.arrive_rtcp(6, 1, 0, &bye).unwrap();
+    session.arrive_rtcp(at(6), 1, 0, &bye).unwrap();
     let three = SourceState {
         ssrc: 3,
         is_member: false,
         is_sender: false,
-        left: Some(6),
-        heard: 6,
+        left: Some(at(6)),
+        heard: at(6),
         reception: None,
-        told: Some(Told { ntp: 0x0000_0001_8000_0000, moment: 5 }),
+        told: Some(Told { ntp: 0x0000_0001_8000_0000, moment: at(5) }),
     };
     let nine = SourceState {
         ssrc: 9,
         is_member: true,
         is_sender: true,
         left: None,
-        heard: 4,
+        heard: at(4),
         // 11 and 13 of 11 to 13 were counted
         reception: Some(Reception { received: 2, lost: 1, highest: 13, jitter: 0 }),
         told: None,
@@ -225,7 +231,7 @@ fn who_is_there() {
     assert_eq!(session.sources().collect::<Vec<_>>(), [three, nine]);
     assert_eq!(session.entries(), 2);
     session.tick(FIRST, 0, 0).unwrap();
-    session.leave(2_000_000, 0).unwrap();
+    session.leave(at(2_000_000), 0).unwrap();
     assert_eq!((session.sources().next(), session.entries()), (None, 0));
 }
 
@@ -245,8 +251,8 @@ fn the_library_says_what_the_step_does() {
     // SAFETY: all pointers are of local variables, and the handle is freed before it goes away
     unsafe {
         let new = sys::jalwedd_new(&mut handle, &config, b"a".as_ptr(), 1, &no_item, 0, 0, &mut step);
-        assert_eq!((new, step.next), (sys::JALWEDD_TAKEN, FIRST));
-        assert_eq!(sys::jalwedd_next(&mut handle), FIRST);
+        assert_eq!((new, step.next), (sys::JALWEDD_TAKEN, FIRST.as_micros()));
+        assert_eq!(sys::jalwedd_next(&mut handle), FIRST.as_micros());
         assert_eq!((sys::jalwedd_members(&mut handle), sys::jalwedd_senders(&mut handle)), (1, 0));
         assert_eq!(sys::jalwedd_ssrc(&mut handle), 0xaa);
         let again = sys::jalwedd_new(&mut handle, &config, b"a".as_ptr(), 1, &no_item, 0, 0, &mut step);

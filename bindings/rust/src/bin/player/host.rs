@@ -1,11 +1,12 @@
 //! What a player has from its machine: moments, the time of day, and random words.
 
+use jalwedd::Moment;
 use std::time::{Instant, SystemTime, UNIX_EPOCH};
 
 /// The seconds from 1900, where NTP timestamps begin, to 1970.
 const NTP_TO_UNIX: u64 = 2_208_988_800;
 
-/// Moments in microseconds, from 0 on.
+/// Moments from 0 on.
 pub struct Clock(Instant);
 
 impl Clock {
@@ -13,8 +14,8 @@ impl Clock {
         Clock(Instant::now())
     }
 
-    pub fn now(&self) -> u64 {
-        self.0.elapsed().as_micros() as u64
+    pub fn now(&self) -> Moment {
+        self.0.elapsed().into()
     }
 }
 

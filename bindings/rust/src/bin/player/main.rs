@@ -12,7 +12,7 @@ mod link;
 mod notes;
 
 use host::{Clock, Words, ntp_now};
-use jalwedd::{Config, Item, ItemKind, Participant, SourceState, Step, ntp_of};
+use jalwedd::{Config, Item, ItemKind, Moment, Participant, SourceState, Step, ntp_of};
 use link::{Arrival, Link, Port};
 use notes::{Note, Notes};
 use std::env;
@@ -22,8 +22,8 @@ use std::time::Duration;
 /// The octets of a packet's payload, and its units of the RTP clock.
 const PACKET: usize = 160;
 
-/// The microseconds from packet to packet.
-const PACKET_TIME: u64 = 20_000;
+/// The time from packet to packet.
+const PACKET_TIME: Duration = Duration::from_millis(20);
 
 const PACKETS_A_SECOND: u16 = 50;
 
@@ -34,7 +34,7 @@ struct Player {
     clock: Clock,
     words: Words,
     /// The moment of the next packet, until it leaves.
-    next_packet: Option<u64>,
+    next_packet: Option<Moment>,
     sequence: u16,
     timestamp: u32,
     notes: Notes,
@@ -64,33 +64,33 @@ fn begin(mut words: Words, link: Link) -> Result<Player, Box<dyn Error>> {
     };
     let clock = Clock::begin();
     let tool = Item::new(ItemKind::Tool, b"jalwedd").ok_or("the item is too long")?;
-    let (session, _) = Participant::new(&config, b"player@example.com", &[tool], words.draw())?;
-    let (next_packet, notes) = (Some(0), Notes::default());
+    let session = Participant::new(&config, b"player@example.com", &[tool], words.draw())?;
+    let (next_packet, notes) = (Some(Moment::ZERO), Notes::default());
     Ok(Player { session, config, link, clock, words, next_packet, sequence: 0, timestamp: 0, notes })
 }
 
 impl Player {
     /// Sends and takes part until an interrupt, and leaves.
     fn play(&mut self) {
-        while !interrupt::came() && self.session.next().is_some() {
+        while !interrupt::came() && self.session.next_tick().is_some() {
             self.turn();
         }
         self.next_packet = None;
         self.link.send_out(self.session.leave(self.clock.now(), self.words.draw()));
-        while self.session.next().is_some() {
+        while self.session.next_tick().is_some() {
             self.turn();
         }
     }
 
     /// One turn: waits for a datagram until something is to be done.
     fn turn(&mut self) {
-        let until = self.session.next().into_iter().chain(self.next_packet).min().unwrap_or(0);
-        let came = self.link.wait(Duration::from_micros(until.saturating_sub(self.clock.now())));
+        let until = self.session.next_tick().into_iter().chain(self.next_packet).min().unwrap_or_default();
+        let came = self.link.wait(until.saturating_duration_since(self.clock.now()));
         let now = self.clock.now();
         if let Some(arrival) = came {
             self.receive(now, &arrival);
         }
-        if self.session.next().is_some_and(|next| next <= now) {
+        if self.session.next_tick().is_some_and(|next| next <= now) {
             self.link.send_out(self.session.tick(now, self.words.draw(), self.words.draw()));
         }
         if self.next_packet.is_some_and(|next| next <= now) {
@@ -101,7 +101,7 @@ impl Player {
         }
     }
 
-    fn receive(&mut self, now: u64, arrival: &Arrival) {
+    fn receive(&mut self, now: Moment, arrival: &Arrival) {
         let (peer, word, datagram) = (arrival.peer, self.words.draw(), &arrival.datagram);
         match arrival.at {
             Port::Rtp => self.link.send_out(self.session.arrive_rtp(now, peer, word, datagram)),
@@ -115,16 +115,16 @@ impl Player {
     }
 
     /// Prints who is there.
-    fn print_sources(&mut self, now: u64) {
+    fn print_sources(&mut self, now: Moment) {
         let Step { members, senders, .. } = self.session.step();
-        println!("{:.1} s: {members} members, of whom {senders} send", now as f64 / 1e6);
+        println!("{:.1} s: {members} members, of whom {senders} send", Duration::from(now).as_secs_f64());
         for source in self.session.sources() {
             print_source(&source, self.notes.found(source.ssrc), self.config.rate);
         }
     }
 
     /// Sends a packet of mu-law silence, under the SSRC that the participant has now.
-    fn send_packet(&mut self, now: u64) {
+    fn send_packet(&mut self, now: Moment) {
         let mut packet = [0xff; 12 + PACKET];
         packet[..2].copy_from_slice(&[0x80, 0]);
         packet[2..4].copy_from_slice(&self.sequence.to_be_bytes());
@@ -134,7 +134,7 @@ impl Player {
         self.link.send_out(self.session.sent_rtp(now, self.timestamp, PACKET as u32));
         self.sequence = self.sequence.wrapping_add(1);
         self.timestamp = self.timestamp.wrapping_add(PACKET as u32);
-        self.next_packet = self.next_packet.map(|moment| moment + PACKET_TIME);
+        self.next_packet = self.next_packet.map(|moment| moment.saturating_add(PACKET_TIME));
     }
 }
 
