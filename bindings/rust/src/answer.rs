@@ -45,12 +45,15 @@ pub struct Out<'a> {
 }
 
 /// What a compound is.
-#[derive(Clone, Copy, Debug, PartialEq, Eq)]
+#[derive(Clone, Copy, Debug, PartialEq, Eq, Hash)]
+#[non_exhaustive]
 pub enum Kind {
     /// A report (RFC 3550, 6.4).
     Report,
     /// A BYE (6.6), of leaving or of an SSRC that is given up.
     Bye,
+    /// A number of the library that this version of the crate has no name for. It is sent like the others.
+    Unknown(u32),
 }
 
 impl Step {
@@ -70,12 +73,31 @@ impl Step {
 impl Answer<'_> {
     pub(crate) fn of(room: &Room) -> Answer<'_> {
         let octets = &room.octets[..room.step.size as usize];
-        let out = match room.step.kind {
-            sys::JALWEDD_NOTHING => None,
-            sys::JALWEDD_REPORT => Some(Out { kind: Kind::Report, octets }),
-            sys::JALWEDD_BYE => Some(Out { kind: Kind::Bye, octets }),
-            other => unreachable!("a call handed out the kind {other}"),
-        };
+        let out = Kind::of(room.step.kind).map(|kind| Out { kind, octets });
         Answer { step: Step::of(&room.step), out }
+    }
+}
+
+impl Kind {
+    fn of(number: u32) -> Option<Kind> {
+        match number {
+            sys::JALWEDD_NOTHING => None,
+            sys::JALWEDD_REPORT => Some(Kind::Report),
+            sys::JALWEDD_BYE => Some(Kind::Bye),
+            other => Some(Kind::Unknown(other)),
+        }
+    }
+}
+
+#[cfg(test)]
+mod tests {
+    use super::*;
+
+    #[test]
+    fn a_kind_that_has_no_name_is_sent() {
+        assert_eq!([0, 1, 2].map(Kind::of), [None, Some(Kind::Report), Some(Kind::Bye)]);
+        let mut room = Room::default();
+        (room.step.kind, room.step.size) = (3, 4);
+        assert_eq!(Answer::of(&room).out, Some(Out { kind: Kind::Unknown(3), octets: &[0; 4] }));
     }
 }

@@ -73,7 +73,8 @@ impl fmt::Debug for Changes {
 }
 
 /// What part a source takes in a session.
-#[derive(Clone, Copy, Debug, PartialEq, Eq)]
+#[derive(Clone, Copy, Debug, PartialEq, Eq, Hash)]
+#[non_exhaustive]
 pub enum Role {
     /// None: it is not there, not yet valid, or it left.
     Away,
@@ -81,6 +82,8 @@ pub enum Role {
     Member,
     /// It is a member, and sends RTP packets.
     Sender,
+    /// A number of the library that this version of the crate has no name for.
+    Unknown(u32),
 }
 
 impl Role {
@@ -89,7 +92,7 @@ impl Role {
             sys::JALWEDD_AWAY => Role::Away,
             sys::JALWEDD_MEMBER => Role::Member,
             sys::JALWEDD_SENDER => Role::Sender,
-            other => unreachable!("the library gave {other} for a role"),
+            other => Role::Unknown(other),
         }
     }
 }

@@ -1,5 +1,6 @@
 //! What a participant begins with.
 
+use crate::errors::TextTooLong;
 use crate::sys;
 use std::fmt;
 
@@ -49,12 +50,12 @@ pub enum ItemKind {
 pub struct Item(sys::jalwedd_item);
 
 impl Item {
-    /// An item with a text in UTF-8, which nothing tests: none if it has more than 255 octets.
-    pub fn new(kind: ItemKind, text: &[u8]) -> Option<Item> {
-        let mut item =
-            sys::jalwedd_item { kind: kind as u8, size: u8::try_from(text.len()).ok()?, text: [0; 255] };
+    /// An item with a text in UTF-8, which nothing tests, of at most 255 octets.
+    pub fn new(kind: ItemKind, text: &[u8]) -> Result<Item, TextTooLong> {
+        let size = u8::try_from(text.len()).map_err(|_| TextTooLong)?;
+        let mut item = sys::jalwedd_item { kind: kind as u8, size, text: [0; 255] };
         item.text[..text.len()].copy_from_slice(text);
-        Some(Item(item))
+        Ok(Item(item))
     }
 }
 

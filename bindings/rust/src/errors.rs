@@ -4,25 +4,36 @@ use crate::sys;
 use std::error::Error;
 use std::fmt;
 
-/// An error of which each case has a number of the library, and a text.
+/// An error that the library gives as a number, and what such a number is called; each case with its text.
 macro_rules! error {
-    ($(#[$meta:meta])* $name:ident { $($(#[$rule:meta])* $case:ident = $number:pat, $text:literal;)* }) => {
+    (
+        $(#[$meta:meta])*
+        $name:ident, $called:literal { $($(#[$rule:meta])* $case:ident = $number:pat, $text:literal;)* }
+    ) => {
         $(#[$meta])*
-        #[derive(Clone, Copy, Debug, PartialEq, Eq)]
-        pub enum $name { $($(#[$rule])* $case,)* }
+        #[derive(Clone, Copy, Debug, PartialEq, Eq, Hash)]
+        #[non_exhaustive]
+        pub enum $name {
+            $($(#[$rule])* $case,)*
+            #[doc = concat!("A ", $called, " of the library that this version of the crate has no name for.")]
+            Unknown(u32),
+        }
 
         impl $name {
             pub(crate) fn of(number: u32) -> $name {
                 match number {
                     $($number => $name::$case,)*
-                    _ => unreachable!("the library gave {number} for a {}", stringify!($name)),
+                    other => $name::Unknown(other),
                 }
             }
         }
 
         impl fmt::Display for $name {
             fn fmt(&self, to: &mut fmt::Formatter<'_>) -> fmt::Result {
-                to.write_str(match self { $($name::$case => $text,)* })
+                match self {
+                    $($name::$case => to.write_str($text),)*
+                    $name::Unknown(number) => write!(to, concat!("unknown ", $called, " {}"), number),
+                }
             }
         }
 
@@ -33,17 +44,17 @@ macro_rules! error {
 error! {
     /// Why a participant does not begin: the first of these that applies, but that a CNAME of more than 255
     /// octets and more than 7 items come before the others.
-    NewError {
+    NewError, "status" {
         /// C1: the CNAME has 0 octets, or more than 255.
         Cname = sys::JALWEDD_CNAME, "the CNAME does not have 1 to 255 octets";
         /// C2: the capacity is none of 1 to 1,024.
-        Capacity = sys::JALWEDD_CAPACITY, "the capacity is none of 1 to 1,024";
+        Capacity = sys::JALWEDD_CAPACITY, "the capacity is not 1 to 1,024 sources";
         /// C3: the limit is none of 576 to 1,472, or no multiple of 4.
-        Limit = sys::JALWEDD_LIMIT, "the limit is none of 576 to 1,472, or no multiple of 4";
+        Limit = sys::JALWEDD_LIMIT, "the limit is not a multiple of 4 from 576 to 1,472 octets";
         /// C4: one of the bandwidths is none of 16 to 2^30.
-        Bandwidth = sys::JALWEDD_BANDWIDTH, "a bandwidth is none of 16 to 2^30 octets a second";
+        Bandwidth = sys::JALWEDD_BANDWIDTH, "a bandwidth is not 16 to 2^30 octets a second";
         /// C5: the rate is none of 1 to 2^20.
-        Rate = sys::JALWEDD_RATE, "the rate is none of 1 to 2^20 units a second";
+        Rate = sys::JALWEDD_RATE, "the rate is not 1 to 2^20 units a second";
         /// C6: there are more than 7 items. Their types are right, as [`crate::ItemKind`] has no others.
         Item = sys::JALWEDD_ITEM, "there are more than 7 items";
         /// There is no memory.
@@ -53,29 +64,29 @@ error! {
 
 error! {
     /// Why a participant refused a call, which then changed nothing: the first of these that applies.
-    Refusal {
+    Refusal, "status" {
         /// E1: the participant has left the session (RFC 3550, 6.3.7).
         Left = sys::JALWEDD_LEFT, "the participant has left the session";
         /// E2: the moment lies before that of the last call that was taken.
         Backwards = sys::JALWEDD_BACKWARDS, "the moment lies before that of the last call";
-        /// E3: the moment lies beyond 2^50 microseconds, which are 35 years.
+        /// E3: the moment lies beyond [`Moment::LAST`](crate::Moment::LAST).
         TooFar = sys::JALWEDD_TOO_FAR, "the moment lies beyond 2^50 microseconds";
         /// E4: a session has fewer than 2^40 calls, and so many were taken.
         TooMany = sys::JALWEDD_TOO_MANY, "the session has had too many calls";
         /// E5: the RTCP datagram is not a compound (6.1): [`crate::check`] says why.
-        NoCompound = sys::JALWEDD_NO_COMPOUND, "the RTCP datagram is not a compound";
+        NoCompound = sys::JALWEDD_NO_COMPOUND, "the datagram is not an RTCP compound";
         /// E6: the RTP datagram has no head that is read (5.1).
-        NoRtp = sys::JALWEDD_NO_RTP, "the RTP datagram has no head that is read";
+        NoRtp = sys::JALWEDD_NO_RTP, "the datagram is not an RTP packet";
         /// E7: the datagram names the own SSRC, and changes it no more (8.2).
-        OwnSsrc = sys::JALWEDD_OWN_SSRC, "the datagram names the own SSRC";
+        OwnSsrc = sys::JALWEDD_OWN_SSRC, "the datagram names the participant's own SSRC";
         /// The RTP datagram has more than 65,535 octets, as none of UDP has. This comes before all others.
-        TooLong = sys::JALWEDD_TOO_LONG, "the RTP datagram has more than 65,535 octets";
+        TooLong = sys::JALWEDD_TOO_LONG, "the datagram has more than 65,535 octets";
     }
 }
 
 error! {
     /// The rule that a datagram breaks (RFC 3550, 6.1 to 6.7 and A.2).
-    FaultReason {
+    FaultReason, "reason" {
         /// F1: fewer than 4 octets are left for a packet's header.
         Short = 1, "fewer than 4 octets are left for a header";
         /// F2: the version is not 2.
@@ -87,20 +98,20 @@ error! {
         /// F5: the packet runs past the end of the datagram.
         Length = 5, "the packet runs past the end of the datagram";
         /// F6: the number of padding octets is 0, no multiple of 4, or too large.
-        Padding = 6, "the number of padding octets is 0, no multiple of 4, or too large";
+        Padding = 6, "the padding is 0 octets, no multiple of 4, or too large";
         /// F7: the body does not have the size that its type and count ask for.
-        Body = 7, "the body does not have the size that its type and count ask for";
+        Body = 7, "the body does not have the size of its type and count";
         /// F8: an SDES item runs past its packet.
         Item = 8, "an SDES item runs past its packet";
         /// F9: the reason of a BYE does not end in the packet's last word.
-        Reason = 9, "the BYE reason does not end in the last word of its packet";
+        Reason = 9, "the BYE reason does not end in the packet's last word";
         /// F10: the datagram has more than 65,535 octets.
         TooLong = 10, "the datagram has more than 65,535 octets";
     }
 }
 
 /// Why a datagram is not a compound: its first fault.
-#[derive(Clone, Copy, Debug, PartialEq, Eq)]
+#[derive(Clone, Copy, Debug, PartialEq, Eq, Hash)]
 pub struct Fault {
     /// Where the packet at fault begins, in octets: 0 for [`FaultReason::TooLong`].
     pub offset: usize,
@@ -117,13 +128,57 @@ impl fmt::Display for Fault {
 impl Error for Fault {}
 
 /// A listing does not have its sources by rising SSRC, each once.
-#[derive(Clone, Copy, Debug, PartialEq, Eq)]
+#[derive(Clone, Copy, Debug, PartialEq, Eq, Hash)]
 pub struct NotRising;
 
 impl fmt::Display for NotRising {
     fn fmt(&self, to: &mut fmt::Formatter<'_>) -> fmt::Result {
-        to.write_str("a listing does not have its sources by rising SSRC, each once")
+        to.write_str("the SSRCs of a listing do not rise")
     }
 }
 
 impl Error for NotRising {}
+
+/// The text of an item has more than 255 octets.
+#[derive(Clone, Copy, Debug, PartialEq, Eq, Hash)]
+pub struct TextTooLong;
+
+impl fmt::Display for TextTooLong {
+    fn fmt(&self, to: &mut fmt::Formatter<'_>) -> fmt::Result {
+        to.write_str("the text of an item has more than 255 octets")
+    }
+}
+
+impl Error for TextTooLong {}
+
+#[cfg(test)]
+mod tests {
+    use super::*;
+
+    /// The numbers of the header that `of` has a name for, of those that a status may be.
+    fn named<T: PartialEq>(of: fn(u32) -> T, unknown: fn(u32) -> T) -> Vec<u32> {
+        (0..=64).filter(|&number| of(number) != unknown(number)).collect()
+    }
+
+    #[test]
+    fn a_status_that_has_no_name_is_an_error() {
+        assert_eq!(named(Refusal::of, Refusal::Unknown), [1, 2, 3, 4, 5, 6, 7, 23]);
+        assert_eq!(named(NewError::of, NewError::Unknown), [11, 12, 13, 14, 15, 16, 22]);
+        assert_eq!(named(FaultReason::of, FaultReason::Unknown), [1, 2, 3, 4, 5, 6, 7, 8, 9, 10]);
+        assert_eq!(Refusal::of(u32::MAX), Refusal::Unknown(u32::MAX));
+        assert_eq!(NewError::of(99).to_string(), "unknown status 99");
+    }
+
+    #[test]
+    fn texts_are_short_and_in_lower_case() {
+        let refusals = (0..=23).map(|number| Refusal::of(number).to_string());
+        let new_errors = (0..=23).map(|number| NewError::of(number).to_string());
+        let reasons = (0..=10).map(|number| FaultReason::of(number).to_string());
+        for text in refusals.chain(new_errors).chain(reasons) {
+            assert!(
+                text.len() <= 60 && text.starts_with(char::is_lowercase) && !text.ends_with('.'),
+                "{text}"
+            );
+        }
+    }
+}

@@ -41,7 +41,7 @@ pub use answer::{Answer, Kind, Out, Step};
 pub use changes::{Change, Changes, Role, changes};
 pub use config::{Config, Item, ItemKind};
 pub use datagram::{Report, Reports, about, check, ntp_of, round_trip};
-pub use errors::{Fault, FaultReason, NewError, NotRising, Refusal};
+pub use errors::{Fault, FaultReason, NewError, NotRising, Refusal, TextTooLong};
 pub use moment::Moment;
 pub use participant::Participant;
 pub use parts::{Goodbye, Parts, SdesItem, SenderReport, blocks, goodbyes, items, senders};

@@ -3,7 +3,7 @@
 
 use jalwedd::{
     Answer, Config, Item, ItemKind, Kind, Moment, NewError, Participant, Reception, Refusal, SourceState,
-    Step, Told, sys,
+    Step, TextTooLong, Told, sys,
 };
 use std::thread;
 use std::time::Duration;
@@ -122,7 +122,8 @@ fn an_item_is_in_every_third_report() {
     assert_eq!(out(session.tick(SECOND, 0, 0)), report(REPORT));
     let with_tool = "80c90001000000aa81ca0003000000aa0101610601740000";
     assert_eq!(out(session.tick(at(5_130_185), 0, 0)), report(with_tool));
-    assert!(Item::new(ItemKind::Priv, &[0; 255]).is_some() && Item::new(ItemKind::Priv, &[0; 256]).is_none());
+    assert!(Item::new(ItemKind::Priv, &[0; 255]).is_ok());
+    assert_eq!(Item::new(ItemKind::Priv, &[0; 256]).unwrap_err(), TextTooLong);
 }
 
 #[test]
@@ -179,7 +180,7 @@ fn a_configuration_may_be_refused() {
     assert_eq!(refused(Config { limit: 574, ..CONFIG }, b"a", &[]), NewError::Limit);
     assert_eq!(refused(Config { receiver_bw: 15, ..CONFIG }, b"a", &[]), NewError::Bandwidth);
     assert_eq!(refused(Config { rate: 0, ..CONFIG }, b"a", &[]), NewError::Rate);
-    assert_eq!(NewError::Rate.to_string(), "the rate is none of 1 to 2^20 units a second");
+    assert_eq!(NewError::Rate.to_string(), "the rate is not 1 to 2^20 units a second");
 }
 
 #[test]

@@ -63,7 +63,7 @@ fn begin(mut words: Words, link: Link) -> Result<Player, Box<dyn Error>> {
         rate: 8000,
     };
     let clock = Clock::begin();
-    let tool = Item::new(ItemKind::Tool, b"jalwedd").ok_or("the item is too long")?;
+    let tool = Item::new(ItemKind::Tool, b"jalwedd")?;
     let session = Participant::new(&config, b"player@example.com", &[tool], words.draw())?;
     let (next_packet, notes) = (Some(Moment::ZERO), Notes::default());
     Ok(Player { session, config, link, clock, words, next_packet, sequence: 0, timestamp: 0, notes })
