@@ -4,8 +4,9 @@ use crate::errors::NotRising;
 use crate::raw;
 use crate::sources::SourceState;
 use crate::sys;
-use std::fmt;
-use std::iter::FusedIterator;
+use alloc::vec::Vec;
+use core::fmt;
+use core::iter::FusedIterator;
 
 /// The sources whose roles differ in two listings, by rising SSRC, each once: who joined, who left and how,
 /// who began to send and who stopped. A listing is what [`crate::Participant::sources`] gives. A source that
@@ -27,7 +28,7 @@ use std::iter::FusedIterator;
 /// for change in jalwedd::changes(&before, &after)? {
 ///     assert!(change.ssrc == 7 && change.joined());
 /// }
-/// # Ok::<(), Box<dyn std::error::Error>>(())
+/// # Ok::<(), Box<dyn core::error::Error>>(())
 /// ```
 pub fn changes(before: &[SourceState], after: &[SourceState]) -> Result<Changes, NotRising> {
     let listed = |listing: &[SourceState]| listing.iter().map(SourceState::listed).collect();

@@ -2,7 +2,7 @@
 
 use crate::errors::TextTooLong;
 use crate::sys;
-use std::fmt;
+use core::fmt;
 
 /// The session as its host knows it.
 #[derive(Clone, Copy, Debug, PartialEq, Eq)]

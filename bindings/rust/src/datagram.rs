@@ -3,8 +3,8 @@
 use crate::errors::{Fault, FaultReason};
 use crate::moment::Moment;
 use crate::{raw, sys};
-use std::iter::FusedIterator;
-use std::time::Duration;
+use core::iter::FusedIterator;
+use core::time::Duration;
 
 /// Tells whether a datagram is a compound (RFC 3550, 6.1), or its first fault.
 pub fn check(datagram: &[u8]) -> Result<(), Fault> {

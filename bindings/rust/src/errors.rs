@@ -1,8 +1,8 @@
 //! What a call refuses, and why.
 
 use crate::sys;
-use std::error::Error;
-use std::fmt;
+use core::error::Error;
+use core::fmt;
 
 /// An error that the library gives as a number, and what such a number is called; each case with its text.
 macro_rules! error {
@@ -154,6 +154,8 @@ impl Error for TextTooLong {}
 #[cfg(test)]
 mod tests {
     use super::*;
+    use alloc::string::ToString;
+    use alloc::vec::Vec;
 
     /// The numbers of the header that `of` has a name for, of those that a status may be.
     fn named<T: PartialEq>(of: fn(u32) -> T, unknown: fn(u32) -> T) -> Vec<u32> {

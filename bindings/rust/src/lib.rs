@@ -19,12 +19,20 @@
 //! Moments are microseconds since the session began, from 0 to 2^50, and never go back. Words are random,
 //! each used once. Whatever a datagram holds, whatever the numbers are and in whatever order the calls come,
 //! each call returns.
+#![no_std]
 #![deny(unsafe_code)]
 #![warn(missing_debug_implementations, missing_docs)]
+#![warn(clippy::alloc_instead_of_core, clippy::std_instead_of_alloc, clippy::std_instead_of_core)]
 #![warn(clippy::undocumented_unsafe_blocks)]
+
+extern crate alloc;
+#[cfg(feature = "std")]
+extern crate std;
 
 mod answer;
 mod changes;
+#[cfg(feature = "std")]
+mod clock;
 mod config;
 mod datagram;
 mod errors;
@@ -38,11 +46,13 @@ mod sources;
 pub mod sys;
 
 pub use answer::{Answer, Kind, Out, Step};
-pub use changes::{Change, Changes, Role, changes};
+pub use changes::{changes, Change, Changes, Role};
+#[cfg(feature = "std")]
+pub use clock::Clock;
 pub use config::{Config, Item, ItemKind};
-pub use datagram::{Report, Reports, about, check, ntp_of, round_trip};
+pub use datagram::{about, check, ntp_of, round_trip, Report, Reports};
 pub use errors::{Fault, FaultReason, NewError, NotRising, Refusal, TextTooLong};
 pub use moment::Moment;
 pub use participant::Participant;
-pub use parts::{Goodbye, Parts, SdesItem, SenderReport, blocks, goodbyes, items, senders};
+pub use parts::{blocks, goodbyes, items, senders, Goodbye, Parts, SdesItem, SenderReport};
 pub use sources::{Reception, SourceState, Sources, Told};

@@ -1,7 +1,7 @@
 //! Moments of a session.
 
 use crate::sys;
-use std::time::Duration;
+use core::time::Duration;
 
 /// A moment of a session: whole microseconds since the session began.
 ///
@@ -11,7 +11,7 @@ use std::time::Duration;
 ///
 /// ```
 /// use jalwedd::Moment;
-/// use std::time::Duration;
+/// use core::time::Duration;
 ///
 /// let moment = Moment::from(Duration::from_nanos(1_500_999)); // rounded down
 /// assert_eq!(moment, Moment::from_micros(1_500));

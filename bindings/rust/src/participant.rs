@@ -7,7 +7,7 @@ use crate::moment::Moment;
 use crate::raw::{Handle, Room};
 use crate::sources::Sources;
 use crate::sys;
-use std::fmt;
+use core::fmt;
 
 /// A participant of a session.
 ///

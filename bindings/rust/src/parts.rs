@@ -1,10 +1,10 @@
 //! The parts of a datagram, one after the other.
 
-use crate::datagram::{Report, check};
+use crate::datagram::{check, Report};
 use crate::errors::Fault;
 use crate::{raw, sys};
-use std::fmt;
-use std::iter::FusedIterator;
+use core::fmt;
+use core::iter::FusedIterator;
 
 /// The sender reports of a datagram, in their order.
 pub fn senders(datagram: &[u8]) -> Result<Parts<'_, SenderReport>, Fault> {

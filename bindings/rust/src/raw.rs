@@ -13,7 +13,7 @@
 
 use crate::config::Item;
 use crate::sys;
-use std::cell::UnsafeCell;
+use core::cell::UnsafeCell;
 
 /// A participant of the library.
 ///

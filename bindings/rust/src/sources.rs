@@ -3,8 +3,8 @@
 use crate::moment::Moment;
 use crate::raw::Handle;
 use crate::sys;
-use std::fmt;
-use std::iter::FusedIterator;
+use core::fmt;
+use core::iter::FusedIterator;
 
 /// What is known of a source: of a member, of one that is not yet valid, or of one that left and is held for
 /// a while.

@@ -2,8 +2,8 @@
 //! there.
 #![allow(non_camel_case_types, missing_docs)]
 
-use std::ffi::c_void;
-use std::ptr::null_mut;
+use core::ffi::c_void;
+use core::ptr::null_mut;
 
 // ---- The version
 

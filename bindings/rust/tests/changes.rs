@@ -1,6 +1,6 @@
 //! What changed between two listings: of listings made by hand, and of a session.
 
-use jalwedd::{Change, Config, Moment, NotRising, Participant, Role, SourceState, changes};
+use jalwedd::{changes, Change, Config, Moment, NotRising, Participant, Role, SourceState};
 
 /// A source on probation, which no more is told of.
 fn unknown(ssrc: u32) -> SourceState {

@@ -1,8 +1,8 @@
 //! What datagrams say, and the formulas of times.
 
 use jalwedd::{
-    Fault, FaultReason, Goodbye, Moment, Report, SdesItem, SenderReport, about, blocks, check, goodbyes,
-    items, ntp_of, round_trip, senders,
+    about, blocks, check, goodbyes, items, ntp_of, round_trip, senders, Fault, FaultReason, Goodbye, Moment,
+    Report, SdesItem, SenderReport,
 };
 use std::time::Duration;
 

@@ -2,8 +2,8 @@
 //! hand in compare/rows.py.
 
 use jalwedd::{
-    Answer, Config, Item, ItemKind, Kind, Moment, NewError, Participant, Reception, Refusal, SourceState,
-    Step, TextTooLong, Told, sys,
+    sys, Answer, Config, Item, ItemKind, Kind, Moment, NewError, Participant, Reception, Refusal,
+    SourceState, Step, TextTooLong, Told,
 };
 use std::thread;
 use std::time::Duration;

@@ -11,8 +11,8 @@ mod interrupt;
 mod link;
 mod notes;
 
-use host::{Clock, Words, ntp_now};
-use jalwedd::{Config, Item, ItemKind, Moment, Participant, SourceState, Step, ntp_of};
+use host::{ntp_now, Clock, Words};
+use jalwedd::{ntp_of, Config, Item, ItemKind, Moment, Participant, SourceState, Step};
 use link::{Arrival, Link, Port};
 use notes::{Note, Notes};
 use std::env;
@@ -95,7 +95,7 @@ impl Player {
         }
         if self.next_packet.is_some_and(|next| next <= now) {
             self.send_packet(now);
-            if self.sequence.is_multiple_of(PACKETS_A_SECOND) {
+            if self.sequence % PACKETS_A_SECOND == 0 {
                 self.print_sources(now);
             }
         }

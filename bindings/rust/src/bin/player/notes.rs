@@ -1,6 +1,6 @@
 //! What sources say that the participant does not keep.
 
-use jalwedd::{Fault, Report, about, items};
+use jalwedd::{about, items, Fault, Report};
 use std::time::Duration;
 
 /// The type of an SDES item that is a CNAME (RFC 3550, 6.5.1).
