@@ -1,23 +1,25 @@
 //! A player that sends a stream of silence and takes part in its RTP session: two UDP sockets, a thread that
 //! reads each, and the participant. It prints each second who is there, how their packets come, and what they
-//! report of its own. It leaves with a BYE at ctrl-C. It is the sibling of examples/player.c.
+//! report of its own. It leaves with a BYE at ctrl-C. On 127.0.0.1, with RTCP at the ports one above:
 //!
-//!     player SEED RTP-PORT PEER-RTP-PORT      on 127.0.0.1, with RTCP at the ports one above
+//!     cargo run --example player SEED RTP-PORT PEER-RTP-PORT
+//!
+//! as `1 6004 6014` here and `2 6014 6004` in another terminal.
 #![deny(unsafe_code)]
 
-mod host;
 #[allow(unsafe_code)]
 mod interrupt;
 mod link;
 mod notes;
+mod words;
 
-use host::{ntp_now, Clock, Words};
-use jalwedd::{ntp_of, Config, Item, ItemKind, Moment, Participant, SourceState, Step};
+use jalwedd::{ntp_of, Clock, Config, Item, ItemKind, Moment, Participant, SourceState, Step};
 use link::{Arrival, Link, Port};
 use notes::{Note, Notes};
 use std::env;
 use std::error::Error;
 use std::time::Duration;
+use words::Words;
 
 /// The octets of a packet's payload, and its units of the RTP clock.
 const PACKET: usize = 160;
@@ -52,9 +54,10 @@ fn main() -> Result<(), Box<dyn Error>> {
 }
 
 fn begin(mut words: Words, link: Link) -> Result<Player, Box<dyn Error>> {
+    let clock = Clock::start();
     // of a session of 64,000 bits a second 5 per cent are for RTCP, and a quarter of that for senders
     let config = Config {
-        ntp_base: ntp_now(),
+        ntp_base: clock.ntp_base(),
         ssrc: words.draw(),
         capacity: 1024,
         limit: 1472,
@@ -62,7 +65,6 @@ fn begin(mut words: Words, link: Link) -> Result<Player, Box<dyn Error>> {
         receiver_bw: 300,
         rate: 8000,
     };
-    let clock = Clock::begin();
     let tool = Item::new(ItemKind::Tool, b"jalwedd")?;
     let session = Participant::new(&config, b"player@example.com", &[tool], words.draw())?;
     let (next_packet, notes) = (Some(Moment::ZERO), Notes::default());
@@ -106,7 +108,7 @@ impl Player {
         match arrival.at {
             Port::Rtp => self.link.send_out(self.session.arrive_rtp(now, peer, word, datagram)),
             Port::Rtcp => {
-                // first: the reports name the SSRC of now, which the call may change; there are none in a faulty one
+                // first, as the call may change the SSRC that the reports name; a faulty datagram has none
                 let arrival = ntp_of(self.config.ntp_base, now);
                 let _ = self.notes.take(self.session.ssrc(), arrival, datagram);
                 self.link.send_out(self.session.arrive_rtcp(now, peer, word, datagram));
@@ -115,7 +117,7 @@ impl Player {
     }
 
     /// Prints who is there.
-    fn print_sources(&mut self, now: Moment) {
+    fn print_sources(&self, now: Moment) {
         let Step { members, senders, .. } = self.session.step();
         println!("{:.1} s: {members} members, of whom {senders} send", Duration::from(now).as_secs_f64());
         for source in self.session.sources() {
