@@ -4,55 +4,57 @@ use crate::moment::Moment;
 use crate::raw::Room;
 use crate::sys;
 
-/// How the participant stands after a call, whether or not that was taken.
-#[derive(Clone, Copy, Debug, PartialEq, Eq)]
+/// How a participant stands after a call, whether or not that was refused.
+#[derive(Clone, Copy, Debug, PartialEq, Eq, Hash)]
 pub struct Step {
-    /// When to call [`crate::Participant::tick`], or none once the participant has left. It
-    /// may lie before the moment of the call: then tick at once.
+    /// When to call [`Participant::tick`](crate::Participant::tick), or `None` once the participant has left.
+    /// It may lie before the moment of the call: then tick at once.
     pub next_tick: Option<Moment>,
-    /// The members of the session, the participant included (RFC 3550, 6.2.1); after a leave that waits, it
-    /// and one for each BYE packet that came since (6.3.7); 0 once it has left.
+    /// How many members the session has, the participant included (RFC 3550, 6.2.1). After a leave that waits
+    /// for a tick, the participant and one for each BYE packet that came since (6.3.7). 0 once it has left.
     pub members: u32,
-    /// Those of them that send RTP packets: 0 from a leave on.
+    /// How many of the members send RTP packets (RFC 3550, 6.3): 0 from a leave on.
     pub senders: u32,
     /// The participant's SSRC.
     pub ssrc: u32,
-    /// Whether the call changed that (8.2): media goes on under the new one.
+    /// Whether the call changed the SSRC (RFC 3550, 8.2): media goes on under the new one.
     pub changed: bool,
-    /// How many places of the table are taken, as [`crate::Participant::entries`] says.
+    /// How many places of the table are taken, as [`Participant::entries`](crate::Participant::entries) says.
     pub entries: u32,
     /// Whether the call changed who of the others is a member or who of them sends, if only for a moment:
-    /// then [`crate::Participant::sources`] lists them anew. Else each has the role that it had.
+    /// then [`Participant::sources`](crate::Participant::sources) lists them anew. If not, each has the role
+    /// that it had.
     pub others_changed: bool,
 }
 
-/// What a call tells that was taken.
-#[derive(Clone, Copy, Debug, PartialEq, Eq)]
+/// What a call tells that was not refused.
+#[derive(Clone, Copy, Debug, PartialEq, Eq, Hash)]
 pub struct Answer<'a> {
-    /// How the participant stands after it.
+    /// How the participant stands now.
     pub step: Step,
-    /// What it hands out, if anything.
+    /// What to send, if anything.
     pub out: Option<Out<'a>>,
 }
 
-/// A compound, to be sent now, in one datagram, to the other participants.
-#[derive(Clone, Copy, Debug, PartialEq, Eq)]
+/// A compound to send now, in one datagram, to the other participants (RFC 3550, 6.1).
+#[derive(Clone, Copy, Debug, PartialEq, Eq, Hash)]
 pub struct Out<'a> {
     /// What it is.
     pub kind: Kind,
-    /// Its octets, at most [`sys::JALWEDD_OCTETS`], borrowed from the participant until its next call.
+    /// The datagram, at most [`Config::limit`](crate::Config::limit) octets. It is borrowed from the
+    /// participant, until the next call.
     pub octets: &'a [u8],
 }
 
-/// What a compound is.
+/// What a compound is. It is sent whatever it is.
 #[derive(Clone, Copy, Debug, PartialEq, Eq, Hash)]
 #[non_exhaustive]
 pub enum Kind {
     /// A report (RFC 3550, 6.4).
     Report,
-    /// A BYE (6.6), of leaving or of an SSRC that is given up.
+    /// A BYE, of leaving (RFC 3550, 6.3.7, 6.6) or of an SSRC that is given up (8.2).
     Bye,
-    /// A number of the library that this version of the crate has no name for. It is sent like the others.
+    /// A kind that this version of the crate has no name for, by its number.
     Unknown(u32),
 }
 

@@ -8,12 +8,19 @@ use alloc::vec::Vec;
 use core::fmt;
 use core::iter::FusedIterator;
 
-/// The sources whose roles differ in two listings, by rising SSRC, each once: who joined, who left and how,
-/// who began to send and who stopped. A listing is what [`crate::Participant::sources`] gives. A source that
-/// said goodbye is listed until a tick that comes 5 seconds or more after that, or one that finds that it was
-/// silent for too long before: so a host that lists after each call whose step says `others_changed` is told
-/// that it left by a BYE, and one that lists more seldom may be told that it was silent. One that came and
-/// went between two listings is not told.
+/// Compares two listings of a session: the sources whose roles differ, by rising SSRC, each once.
+///
+/// A listing is what [`Participant::sources`](crate::Participant::sources) gives. Both are copied.
+///
+/// A source that said goodbye is listed until a tick that comes 5 seconds or more after that, or one that
+/// finds that it was silent for too long before. So a host that lists after each call whose
+/// [`Step::others_changed`](crate::Step::others_changed) is set learns that it left by a BYE, and one that
+/// lists more seldom may learn that it was silent. One that came and went between two listings is not told.
+/// The listing of a participant that leaves is empty, and says nothing of the others.
+///
+/// # Errors
+///
+/// [`NotRising`] if the SSRCs of a listing do not rise.
 ///
 /// ```
 /// # use jalwedd::{Config, Moment, Participant};
@@ -28,7 +35,7 @@ use core::iter::FusedIterator;
 /// for change in jalwedd::changes(&before, &after)? {
 ///     assert!(change.ssrc == 7 && change.joined());
 /// }
-/// # Ok::<(), Box<dyn core::error::Error>>(())
+/// # Ok::<(), Box<dyn std::error::Error>>(())
 /// ```
 pub fn changes(before: &[SourceState], after: &[SourceState]) -> Result<Changes, NotRising> {
     let listed = |listing: &[SourceState]| listing.iter().map(SourceState::listed).collect();
@@ -39,7 +46,7 @@ pub fn changes(before: &[SourceState], after: &[SourceState]) -> Result<Changes,
     }
 }
 
-/// The changes between two listings.
+/// The changes between two listings: see [`changes`].
 #[derive(Clone)]
 pub struct Changes {
     before: Vec<sys::jalwedd_source_state>,
@@ -73,17 +80,17 @@ impl fmt::Debug for Changes {
     }
 }
 
-/// What part a source takes in a session.
+/// What part a source takes in a session (RFC 3550, 6.2.1, 6.3).
 #[derive(Clone, Copy, Debug, PartialEq, Eq, Hash)]
 #[non_exhaustive]
 pub enum Role {
-    /// None: it is not there, not yet valid, or it left.
+    /// None: it is not known, not yet valid, or it left.
     Away,
     /// It is a member, and does not send RTP packets.
     Member,
     /// It is a member, and sends RTP packets.
     Sender,
-    /// A number of the library that this version of the crate has no name for.
+    /// A role that this version of the crate has no name for, by its number.
     Unknown(u32),
 }
 
@@ -99,7 +106,7 @@ impl Role {
 }
 
 /// A source whose role is another one than before.
-#[derive(Clone, Copy, Debug, PartialEq, Eq)]
+#[derive(Clone, Copy, Debug, PartialEq, Eq, Hash)]
 pub struct Change {
     /// Its SSRC.
     pub ssrc: u32,
@@ -122,7 +129,7 @@ impl Change {
         self.has_left && self.is_gone()
     }
 
-    /// Whether it took part, and was dropped without a BYE, since it was not heard for long (6.3.5).
+    /// Whether it took part, and was dropped without a BYE, as it was silent for too long (RFC 3550, 6.3.5).
     pub fn timed_out(&self) -> bool {
         !self.has_left && self.is_gone()
     }

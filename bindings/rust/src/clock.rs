@@ -7,8 +7,8 @@ use std::time::{Instant, SystemTime, UNIX_EPOCH};
 /// The seconds from 1900, where NTP timestamps begin, to 1970.
 const NTP_TO_UNIX: u64 = 2_208_988_800;
 
-/// The clock of a session, for a host with the standard library: moments that never go back, and the time of
-/// day at moment 0. A participant reads no clock, so a host may have any other.
+/// A clock for a host with the standard library: moments that never go back, and the time of day at moment 0.
+/// A participant reads no clock, so a host may have any other. Only with the feature `std`.
 ///
 /// ```
 /// use jalwedd::{ntp_of, Clock};
@@ -23,7 +23,7 @@ pub struct Clock {
 }
 
 impl Clock {
-    /// Reads the time of day, and is at moment 0. Call it where the participant begins.
+    /// Starts at moment 0, and reads the time of day beside it. The participant begins then.
     pub fn start() -> Clock {
         let since_1970 = SystemTime::now().duration_since(UNIX_EPOCH).unwrap_or_default();
         Clock { begin: Instant::now(), ntp_base: ntp_of_unix(since_1970) }

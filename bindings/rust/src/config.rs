@@ -4,23 +4,27 @@ use crate::errors::TextTooLong;
 use crate::sys;
 use core::fmt;
 
-/// The session as its host knows it.
-#[derive(Clone, Copy, Debug, PartialEq, Eq)]
+/// A session as the host knows it before it begins. [`Participant::new`](crate::Participant::new) refuses a
+/// value that is out of its range.
+#[derive(Clone, Copy, Debug, PartialEq, Eq, Hash)]
 pub struct Config {
-    /// The NTP timestamp of moment 0: seconds since 1900 in the upper 32 bits, their fraction in the lower.
+    /// The NTP timestamp of moment 0 (RFC 3550, section 4): seconds since 1900 in the upper 32 bits, their
+    /// fraction in the lower.
     pub ntp_base: u64,
-    /// The SSRC, to be chosen at random (RFC 3550, 8.1).
+    /// The participant's SSRC, chosen at random (RFC 3550, 8.1). The host's RTP packets go out under it.
     pub ssrc: u32,
-    /// How many other sources are kept track of, 1 to 1,024.
+    /// How many other sources are kept track of, 1 to 1,024. The participant takes 144 octets of memory for
+    /// each.
     pub capacity: u32,
     /// The most octets of a compound, without the headers of UDP and IP: 576 to 1,472, a multiple of 4.
     pub limit: u32,
     /// The bandwidth for the RTCP of senders, in octets a second, 16 to 2^30 (RFC 3556): usually 1.25 per
     /// cent of the session's.
     pub sender_bw: u32,
-    /// That for the RTCP of the others: usually 3.75 per cent.
+    /// The bandwidth for the RTCP of the other members, in octets a second, 16 to 2^30 (RFC 3556): usually
+    /// 3.75 per cent of the session's.
     pub receiver_bw: u32,
-    /// The units a second of the clock of RTP timestamps, 1 to 2^20.
+    /// The units a second of the clock of RTP timestamps, 1 to 2^20 (RFC 3550, 5.1): 8,000 for PCMU.
     pub rate: u32,
 }
 
@@ -31,26 +35,36 @@ impl Config {
     }
 }
 
-/// The type of an item (RFC 3550, 6.5.2 to 6.5.8).
-#[derive(Clone, Copy, Debug, PartialEq, Eq)]
-#[allow(missing_docs)]
+/// What an [`Item`] tells (RFC 3550, 6.5).
+#[derive(Clone, Copy, Debug, PartialEq, Eq, Hash)]
 pub enum ItemKind {
+    /// NAME: the user's name (6.5.2).
     Name = 2,
+    /// EMAIL: an address for electronic mail (6.5.3).
     Email = 3,
+    /// PHONE: a phone number (6.5.4).
     Phone = 4,
+    /// LOC: where the user is (6.5.5).
     Loc = 5,
+    /// TOOL: the name of the application (6.5.6).
     Tool = 6,
+    /// NOTE: a message about the state of the source (6.5.7).
     Note = 7,
+    /// PRIV: a prefix, with its length before it, and a value (6.5.8).
     Priv = 8,
 }
 
-/// What a participant says of itself beside its CNAME, one in every third report.
+/// What a participant tells of itself beside its CNAME, one in every third report (RFC 3550, 6.5).
 #[derive(Clone, Copy)]
 #[repr(transparent)]
 pub struct Item(sys::jalwedd_item);
 
 impl Item {
-    /// An item with a text in UTF-8, which nothing tests, of at most 255 octets.
+    /// An item with a text of at most 255 octets in UTF-8, which nothing tests.
+    ///
+    /// # Errors
+    ///
+    /// [`TextTooLong`] if the text has more octets.
     pub fn new(kind: ItemKind, text: &[u8]) -> Result<Item, TextTooLong> {
         let size = u8::try_from(text.len()).map_err(|_| TextTooLong)?;
         let mut item = sys::jalwedd_item { kind: kind as u8, size, text: [0; 255] };

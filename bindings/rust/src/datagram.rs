@@ -6,19 +6,31 @@ use crate::{raw, sys};
 use core::iter::FusedIterator;
 use core::time::Duration;
 
-/// Tells whether a datagram is a compound (RFC 3550, 6.1), or its first fault.
+/// Tells whether a datagram is an RTCP compound (RFC 3550, 6.1, A.2).
+///
+/// # Errors
+///
+/// The first [`Fault`] of a datagram that is not one.
 pub fn check(datagram: &[u8]) -> Result<(), Fault> {
     raw::check(datagram)
         .map_err(|fault| Fault { offset: fault.offset as usize, reason: FaultReason::of(fault.reason) })
 }
 
-/// What the reports of a datagram say of the source `ssrc`: the blocks that name it, in their order.
+/// What the reports of an RTCP datagram say of the source `ssrc`: the blocks that name it, in their order
+/// (RFC 3550, 6.4.1).
+///
+/// With [`Participant::ssrc`](crate::Participant::ssrc) it is how others receive the host's stream. A
+/// participant does not keep that.
+///
+/// # Errors
+///
+/// The first [`Fault`] of a datagram that is not a compound.
 pub fn about(datagram: &[u8], ssrc: u32) -> Result<Reports<'_>, Fault> {
     check(datagram)?;
     Ok(Reports { datagram, ssrc, index: 0 })
 }
 
-/// The reports of a datagram about one source.
+/// The reports of a datagram about one source: see [`about`].
 #[derive(Clone, Debug)]
 pub struct Reports<'a> {
     datagram: &'a [u8],
@@ -38,24 +50,24 @@ impl Iterator for Reports<'_> {
 
 impl FusedIterator for Reports<'_> {}
 
-/// What a report says of one source (RFC 3550, 6.4.1).
-#[derive(Clone, Copy, Debug, PartialEq, Eq)]
+/// What a report says of one source, in a report block (RFC 3550, 6.4.1).
+#[derive(Clone, Copy, Debug, PartialEq, Eq, Hash)]
 pub struct Report {
-    /// The SSRC of the source that sent it.
+    /// The SSRC of the source that sent the report.
     pub reporter: u32,
     /// The SSRC of the source that it speaks of.
     pub ssrc: u32,
-    /// The part of its packets that was lost since the last report, in 1/256.
+    /// The part of its packets that was lost since the last report, in 1/256: 0 to 255.
     pub fraction: u32,
-    /// How many were lost since the beginning: negative where packets came twice.
+    /// How many were lost since the beginning, from -2^23 to 2^23 - 1: negative where packets came twice.
     pub lost: i32,
-    /// The highest sequence number in the low 16 bits, and above them how often they wrapped.
+    /// The highest sequence number in the low 16 bits, and above them how often it wrapped.
     pub highest: u32,
     /// The jitter of their arrival, in units of their RTP timestamps.
     pub jitter: u32,
-    /// The middle 32 bits of the NTP timestamp of the source's last sender report, or 0.
+    /// The middle 32 bits of the NTP timestamp of the source's last sender report, or 0 where none came.
     pub lsr: u32,
-    /// The time since that report, in 1/65,536 of a second, or 0.
+    /// The time since that report came, in 1/65,536 of a second, or 0.
     pub dlsr: u32,
 }
 
@@ -73,8 +85,11 @@ impl Report {
         }
     }
 
-    /// The time to the reporter and back, if the report came at the NTP timestamp `arrival` (see [`ntp_of`]):
-    /// none where its `lsr` is 0, and 0 where the reporter's clock is coarser than the way is long.
+    /// The time to the reporter and back (RFC 3550, 6.4.1), where the report came at the NTP timestamp
+    /// `arrival` ([`ntp_of`] the moment).
+    ///
+    /// `None` where its [`lsr`](Report::lsr) is 0, and zero where the reporter's clock is coarser than the
+    /// trip.
     pub fn round_trip(&self, arrival: u64) -> Option<Duration> {
         let trip = round_trip((arrival >> 16) as u32, self.lsr, self.dlsr) as i32;
         let nanoseconds = u64::from(trip.max(0).unsigned_abs()) * 1_000_000_000 / 65_536;
@@ -82,15 +97,19 @@ impl Report {
     }
 }
 
-/// The round-trip time by a report, in 1/65,536 of a second and modulo 2^32: `arrival` is the middle 32 bits
-/// of the NTP timestamp at which it came, `lsr` and `dlsr` are the report's. It may be below 0, as an `i32`
-/// has it: [`Report::round_trip`] minds that.
+/// The round-trip time by a report, in 1/65,536 of a second and modulo 2^32 (RFC 3550, 6.4.1).
+///
+/// `arrival` is the middle 32 bits of the NTP timestamp at which it came; `lsr` and `dlsr` are the report's.
+/// It may be below 0, read as an `i32`, where the reporter's clock is coarse. [`Report::round_trip`] handles
+/// that, and an `lsr` of 0, which tells nothing.
 pub fn round_trip(arrival: u32, lsr: u32, dlsr: u32) -> u32 {
     sys::jalwedd_round_trip(arrival, lsr, dlsr)
 }
 
-/// The NTP timestamp of the moment `now` (RFC 3550, section 4), in a session whose moment 0 has the timestamp
-/// `ntp_base`: seconds since 1900 in the upper 32 bits, their fraction in the lower.
+/// The NTP timestamp of the moment `now` (RFC 3550, section 4): seconds since 1900 in the upper 32 bits,
+/// modulo 2^32, and their fraction in the lower.
+///
+/// `ntp_base` is that of moment 0, as in [`Config::ntp_base`](crate::Config::ntp_base).
 pub fn ntp_of(ntp_base: u64, now: Moment) -> u64 {
     sys::jalwedd_ntp_of(ntp_base, now.as_micros())
 }

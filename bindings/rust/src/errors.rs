@@ -47,23 +47,25 @@ error! {
     NewError, "status" {
         /// C1: the CNAME has 0 octets, or more than 255.
         Cname = sys::JALWEDD_CNAME, "the CNAME does not have 1 to 255 octets";
-        /// C2: the capacity is none of 1 to 1,024.
+        /// C2: [`Config::capacity`](crate::Config::capacity) is not 1 to 1,024.
         Capacity = sys::JALWEDD_CAPACITY, "the capacity is not 1 to 1,024 sources";
-        /// C3: the limit is none of 576 to 1,472, or no multiple of 4.
+        /// C3: [`Config::limit`](crate::Config::limit) is not a multiple of 4 from 576 to 1,472.
         Limit = sys::JALWEDD_LIMIT, "the limit is not a multiple of 4 from 576 to 1,472 octets";
-        /// C4: one of the bandwidths is none of 16 to 2^30.
+        /// C4: [`Config::sender_bw`](crate::Config::sender_bw) or
+        /// [`receiver_bw`](crate::Config::receiver_bw) is not 16 to 2^30.
         Bandwidth = sys::JALWEDD_BANDWIDTH, "a bandwidth is not 16 to 2^30 octets a second";
-        /// C5: the rate is none of 1 to 2^20.
+        /// C5: [`Config::rate`](crate::Config::rate) is not 1 to 2^20.
         Rate = sys::JALWEDD_RATE, "the rate is not 1 to 2^20 units a second";
-        /// C6: there are more than 7 items. Their types are right, as [`crate::ItemKind`] has no others.
+        /// C6: there are more than 7 items.
         Item = sys::JALWEDD_ITEM, "there are more than 7 items";
-        /// There is no memory.
+        /// There is no memory for its two blocks.
         NoMemory = sys::JALWEDD_NO_MEMORY, "there is no memory for a participant";
     }
 }
 
 error! {
-    /// Why a participant refused a call, which then changed nothing: the first of these that applies.
+    /// Why a participant refused a call, which then changed nothing and handed out nothing: the first of
+    /// these that applies.
     Refusal, "status" {
         /// E1: the participant has left the session (RFC 3550, 6.3.7).
         Left = sys::JALWEDD_LEFT, "the participant has left the session";
@@ -73,19 +75,22 @@ error! {
         TooFar = sys::JALWEDD_TOO_FAR, "the moment lies beyond 2^50 microseconds";
         /// E4: a session has fewer than 2^40 calls, and so many were taken.
         TooMany = sys::JALWEDD_TOO_MANY, "the session has had too many calls";
-        /// E5: the RTCP datagram is not a compound (6.1): [`crate::check`] says why.
+        /// E5: the RTCP datagram is not a compound (RFC 3550, 6.1): [`check`](crate::check) says why.
         NoCompound = sys::JALWEDD_NO_COMPOUND, "the datagram is not an RTCP compound";
-        /// E6: the RTP datagram has no head that is read (5.1).
+        /// E6: the RTP datagram is not a packet (RFC 3550, 5.1): it is cut short, or its version, payload
+        /// type, extension or padding is wrong.
         NoRtp = sys::JALWEDD_NO_RTP, "the datagram is not an RTP packet";
-        /// E7: the datagram names the own SSRC, and changes it no more (8.2).
+        /// E7: the datagram names the participant's own SSRC, and does not change it any more (RFC 3550,
+        /// 8.2), as in a loop.
         OwnSsrc = sys::JALWEDD_OWN_SSRC, "the datagram names the participant's own SSRC";
-        /// The RTP datagram has more than 65,535 octets, as none of UDP has. This comes before all others.
+        /// The RTP datagram has more than 65,535 octets, which UDP does not carry. This comes before all
+        /// others.
         TooLong = sys::JALWEDD_TOO_LONG, "the datagram has more than 65,535 octets";
     }
 }
 
 error! {
-    /// The rule that a datagram breaks (RFC 3550, 6.1 to 6.7 and A.2).
+    /// The rule of a compound that a datagram breaks (RFC 3550, 6.1 to 6.7 and A.2).
     FaultReason, "reason" {
         /// F1: fewer than 4 octets are left for a packet's header.
         Short = 1, "fewer than 4 octets are left for a header";
@@ -110,7 +115,7 @@ error! {
     }
 }
 
-/// Why a datagram is not a compound: its first fault.
+/// Why a datagram is not an RTCP compound: its first fault (RFC 3550, 6.1, A.2).
 #[derive(Clone, Copy, Debug, PartialEq, Eq, Hash)]
 pub struct Fault {
     /// Where the packet at fault begins, in octets: 0 for [`FaultReason::TooLong`].

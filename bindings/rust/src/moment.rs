@@ -42,8 +42,8 @@ impl Moment {
         (micros != sys::JALWEDD_NEVER).then_some(Moment(micros))
     }
 
-    /// The time from another moment to this one: zero where that is not earlier. With the moment of now it is
-    /// how long to wait for this one.
+    /// The time from an earlier moment to this one, or zero where that is not earlier. From the moment of
+    /// now, it is how long to wait for this one.
     pub const fn saturating_duration_since(self, earlier: Moment) -> Duration {
         Duration::from_micros(self.0.saturating_sub(earlier.0))
     }

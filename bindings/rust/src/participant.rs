@@ -9,18 +9,42 @@ use crate::sources::Sources;
 use crate::sys;
 use core::fmt;
 
-/// A participant of a session.
+/// A participant of an RTP session, with one SSRC.
 ///
-/// One call at a time uses it, and it is never copied:
+/// The host tells it of each datagram that came ([`arrive_rtcp`](Participant::arrive_rtcp),
+/// [`arrive_rtp`](Participant::arrive_rtp)), of each RTP packet that it sent
+/// ([`sent_rtp`](Participant::sent_rtp)), of the moments at which something may be due
+/// ([`tick`](Participant::tick)), and that it leaves ([`leave`](Participant::leave)). Each of these calls
+/// returns what to send, in an [`Answer`], or a [`Refusal`], and then it changed nothing.
 ///
-/// ```compile_fail
+/// ```
+/// use jalwedd::{Config, Kind, Moment, Participant};
+///
+/// let (sender_bw, receiver_bw) = (100, 300); // of a session of 64,000 bits a second
+/// let config =
+///     Config { ntp_base: 0, ssrc: 0xaa, capacity: 1024, limit: 1472, sender_bw, receiver_bw, rate: 8000 };
+/// let mut session = Participant::new(&config, b"a", &[], 0)?;
+/// let next = session.next_tick().expect("it has not left");
+/// assert_eq!((session.members(), next), (1, Moment::from_micros(1_026_037)));
+/// let report = session.tick(next, 0, 0)?.out.expect("a report is due");
+/// assert_eq!((report.kind, report.octets.len()), (Kind::Report, 20));
+/// # Ok::<(), Box<dyn std::error::Error>>(())
+/// ```
+///
+/// A host that sends several streams into a session is as many participants. Each is told of what came, and
+/// also of what the others of the host sent, as if it had come, with a `peer` of their own: so all count the
+/// same members (RFC 3550, 6.2).
+///
+/// A participant cannot be copied, and no child of `fork` goes on with it, as two would speak as one:
+///
+/// ```compile_fail,E0599
 /// fn twice(session: jalwedd::Participant) -> [jalwedd::Participant; 2] {
 ///     [session.clone(), session]
 /// }
 /// ```
 ///
-/// It may go to another thread, but two threads cannot share it: also [`Participant::sources`], which leaves
-/// it as it is, takes it out of its place in the library and puts it back.
+/// It may move to another thread, but two threads cannot share it: the library takes it out of its place and
+/// puts it back in every call, in those that only read too.
 ///
 /// ```
 /// fn moves<T: Send>() {}
@@ -31,6 +55,8 @@ use core::fmt;
 /// fn is_shared<T: Sync>() {}
 /// is_shared::<jalwedd::Participant>();
 /// ```
+///
+/// Dropping it frees its memory and sends nothing: [`leave`](Participant::leave) comes before.
 pub struct Participant {
     handle: Handle,
     /// What the last call told.
@@ -38,9 +64,18 @@ pub struct Participant {
 }
 
 impl Participant {
-    /// A participant of a session that begins now, at moment 0, with its CNAME of 1 to 255 octets and at most
-    /// 7 items. `word` is for the draw of the first interval. Takes two blocks of memory: 2,560 octets, and
-    /// 144 for each source of the capacity.
+    /// Begins to take part in a session, at [`Moment::ZERO`].
+    ///
+    /// `cname` is its CNAME, 1 to 255 octets, `user@host` for instance (RFC 3550, 6.5.1). `items` are at most
+    /// 7 that it tells beside that. `word` is random, for the draw of the first interval (6.3.1). Nothing
+    /// goes out before the first [`tick`](Participant::tick).
+    ///
+    /// The library allocates two blocks here, of 2,560 octets and of 144 for each source of
+    /// [`Config::capacity`], and none in any other call.
+    ///
+    /// # Errors
+    ///
+    /// A [`NewError`] says which of the arguments is out of its range, or that there is no memory.
     pub fn new(config: &Config, cname: &[u8], items: &[Item], word: u32) -> Result<Participant, NewError> {
         let mut room = Room::default();
         match Handle::new(&config.declared(), cname, items, word, &mut room.step) {
@@ -49,9 +84,21 @@ impl Participant {
         }
     }
 
-    /// An RTCP datagram came at the moment `now`, with the octets that UDP carried (RFC 3550, 6.1). `peer` is
-    /// a number for where it came from, another one for each address and port; `word` is for a new SSRC,
-    /// should it come to that (8.2). Refused by `Left` to `NoCompound`, and `OwnSsrc`.
+    /// Tells the participant that an RTCP datagram came at the moment `now` (RFC 3550, 6.1).
+    ///
+    /// `datagram` is what UDP carried. `peer` is a number for the address and port that it came from, another
+    /// one for each ([how](crate#arguments)). `word` is random, for a new SSRC should the datagram name the
+    /// participant's own (8.2).
+    ///
+    /// It hands out nothing, or, where it changes the SSRC, the BYE of the old one: media goes on under the
+    /// new one. Reports about the host's stream are read before this call ([`about`](crate::about)), since
+    /// they name the SSRC that the participant has before it.
+    ///
+    /// # Errors
+    ///
+    /// The first that applies of [`Refusal::Left`], [`Backwards`](Refusal::Backwards),
+    /// [`TooFar`](Refusal::TooFar), [`TooMany`](Refusal::TooMany), [`NoCompound`](Refusal::NoCompound) and
+    /// [`OwnSsrc`](Refusal::OwnSsrc).
     pub fn arrive_rtcp(
         &mut self,
         now: Moment,
@@ -63,8 +110,14 @@ impl Participant {
         self.answer(status)
     }
 
-    /// An RTP datagram came: as [`Participant::arrive_rtcp`]. Refused by `TooLong`, `Left` to `TooMany`,
-    /// `NoRtp` and `OwnSsrc`.
+    /// Tells the participant that an RTP datagram came at the moment `now` (RFC 3550, 5.1, A.1): as
+    /// [`arrive_rtcp`](Participant::arrive_rtcp).
+    ///
+    /// # Errors
+    ///
+    /// The first that applies of [`Refusal::TooLong`], [`Left`](Refusal::Left),
+    /// [`Backwards`](Refusal::Backwards), [`TooFar`](Refusal::TooFar), [`TooMany`](Refusal::TooMany),
+    /// [`NoRtp`](Refusal::NoRtp) and [`OwnSsrc`](Refusal::OwnSsrc).
     pub fn arrive_rtp(
         &mut self,
         now: Moment,
@@ -76,63 +129,92 @@ impl Participant {
         self.answer(status)
     }
 
-    /// The host sent an RTP packet at the moment `now`, with this RTP timestamp and so many octets of payload
-    /// without padding (RFC 3550, 6.3.8, 6.4.1). Refused by `Left` to `TooMany`.
+    /// Tells the participant that the host sent an RTP packet at the moment `now`, with the RTP timestamp
+    /// `timestamp` and `payload` octets of payload, without padding (RFC 3550, 6.3.8, 6.4.1). It hands out
+    /// nothing.
+    ///
+    /// # Errors
+    ///
+    /// The first that applies of [`Refusal::Left`], [`Backwards`](Refusal::Backwards),
+    /// [`TooFar`](Refusal::TooFar) and [`TooMany`](Refusal::TooMany).
     pub fn sent_rtp(&mut self, now: Moment, timestamp: u32, payload: u32) -> Result<Answer<'_>, Refusal> {
         let status = self.handle.sent_rtp(now.as_micros(), timestamp, payload, &mut self.room);
         self.answer(status)
     }
 
-    /// Asks at the moment `now` what is due, and drops those who are silent for too long (RFC 3550, 6.3.5,
-    /// 6.3.6). Call it at [`Participant::next_tick`]; a call before that sends nothing. Refused by `Left` to
-    /// `TooMany`.
+    /// Asks what is due at the moment `now`, and drops sources that are silent for too long (RFC 3550, 6.3.5,
+    /// 6.3.6).
+    ///
+    /// Call it at [`next_tick`](Participant::next_tick); a call before that hands out nothing. Both words are
+    /// random: the first is for the draw that decides whether what is due goes out now or is put off (6.3.6,
+    /// 6.3.7), the second for the draw of the interval after it.
+    ///
+    /// It hands out nothing, a report, or, after a [`leave`](Participant::leave), the BYE.
+    ///
+    /// # Errors
+    ///
+    /// The first that applies of [`Refusal::Left`], [`Backwards`](Refusal::Backwards),
+    /// [`TooFar`](Refusal::TooFar) and [`TooMany`](Refusal::TooMany).
     pub fn tick(&mut self, now: Moment, first_word: u32, second_word: u32) -> Result<Answer<'_>, Refusal> {
         let status = self.handle.tick(now.as_micros(), first_word, second_word, &mut self.room);
         self.answer(status)
     }
 
-    /// Leaves the session at the moment `now` (RFC 3550, 6.3.7). The BYE goes out at once, or, in a session
-    /// of more than 50, from a tick: go on until [`Participant::next_tick`] is none. One that sent nothing
-    /// leaves silently. Refused by `Left` to `TooMany`.
+    /// Leaves the session at the moment `now` (RFC 3550, 6.3.7).
+    ///
+    /// The BYE is handed out at once, or, in a session of more than 50 members, by a later tick: go on until
+    /// [`next_tick`](Participant::next_tick) is `None`. One that sent nothing leaves silently. `word` is
+    /// random, for the draw of when that tick is due.
+    ///
+    /// # Errors
+    ///
+    /// The first that applies of [`Refusal::Left`], [`Backwards`](Refusal::Backwards),
+    /// [`TooFar`](Refusal::TooFar) and [`TooMany`](Refusal::TooMany).
     pub fn leave(&mut self, now: Moment, word: u32) -> Result<Answer<'_>, Refusal> {
         let status = self.handle.leave(now.as_micros(), word, &mut self.room);
         self.answer(status)
     }
 
-    /// How the participant stands: the step of the last call, also where that was refused.
+    /// How the participant stands after the last call, also where that was refused.
     pub fn step(&self) -> Step {
         Step::of(&self.room.step)
     }
 
-    /// When to call [`Participant::tick`], or none once the participant has left.
+    /// When to call [`tick`](Participant::tick), or `None` once the participant has left. It may lie before
+    /// the moment of now: then tick at once.
     pub fn next_tick(&self) -> Option<Moment> {
         self.step().next_tick
     }
 
-    /// The members of the session, as [`Step::members`] counts them: 0 once it has left.
+    /// How many members the session has, the participant included (RFC 3550, 6.2.1), as [`Step::members`]
+    /// counts them: 0 once it has left.
     pub fn members(&self) -> u32 {
         self.room.step.members
     }
 
-    /// Those of them that send RTP packets: 0 from a leave on.
+    /// How many of the members send RTP packets (RFC 3550, 6.3): 0 from a leave on.
     pub fn senders(&self) -> u32 {
         self.room.step.senders
     }
 
-    /// The participant's SSRC: RTP packets go out under it.
+    /// The participant's SSRC: RTP packets go out under it (RFC 3550, 8.2).
     pub fn ssrc(&self) -> u32 {
         self.room.step.ssrc
     }
 
     /// How many places of the participant's table are taken: by members, by sources that are not yet valid,
-    /// and by those that left and are held for a while. As many as [`Config::capacity`] say that it is full.
-    /// 0 once the participant leaves.
+    /// and by those that left and are held for a while. 0 once the participant leaves.
+    ///
+    /// As many as [`Config::capacity`] say that the table is full, as under a flood of invented SSRCs: then
+    /// no other source is taken up until one is dropped.
     pub fn entries(&self) -> u32 {
         self.room.step.entries
     }
 
-    /// Who is there: what is known of each source, by rising SSRC, but for the participant itself. None once
-    /// it leaves.
+    /// What is known of each source, by rising SSRC: of members, of those that are not yet valid, and of
+    /// those that left and are held for a while, but not of the participant itself. No source once it leaves.
+    ///
+    /// It changes nothing. [`changes`](crate::changes) compares two such listings.
     pub fn sources(&self) -> Sources<'_> {
         Sources::of(&self.handle)
     }

@@ -6,7 +6,13 @@ use crate::{raw, sys};
 use core::fmt;
 use core::iter::FusedIterator;
 
-/// The sender reports of a datagram, in their order.
+/// The sender reports of an RTCP datagram, in their order (RFC 3550, 6.4.1).
+///
+/// Each has one moment as an NTP timestamp and as an RTP timestamp, by which streams are played in sync.
+///
+/// # Errors
+///
+/// The first [`Fault`] of a datagram that is not a compound.
 pub fn senders(datagram: &[u8]) -> Result<Parts<'_, SenderReport>, Fault> {
     Parts::of(datagram, |datagram, index| {
         let told = raw::sender(datagram, index)?;
@@ -15,12 +21,23 @@ pub fn senders(datagram: &[u8]) -> Result<Parts<'_, SenderReport>, Fault> {
     })
 }
 
-/// The blocks of all reports of a datagram, in their order.
+/// The blocks of all reports of an RTCP datagram, in their order (RFC 3550, 6.4.1).
+///
+/// [`about`](crate::about) gives those about one source.
+///
+/// # Errors
+///
+/// The first [`Fault`] of a datagram that is not a compound.
 pub fn blocks(datagram: &[u8]) -> Result<Parts<'_, Report>, Fault> {
     Parts::of(datagram, |datagram, index| raw::block(datagram, index).map(|told| Report::of(&told)))
 }
 
-/// The SDES items of a datagram, in their order.
+/// The SDES items of an RTCP datagram, in their order (RFC 3550, 6.5): CNAMEs, and what else sources tell of
+/// themselves.
+///
+/// # Errors
+///
+/// The first [`Fault`] of a datagram that is not a compound.
 pub fn items(datagram: &[u8]) -> Result<Parts<'_, SdesItem<'_>>, Fault> {
     Parts::of(datagram, |datagram, index| {
         let told = raw::sdes_item(datagram, index)?;
@@ -29,7 +46,11 @@ pub fn items(datagram: &[u8]) -> Result<Parts<'_, SdesItem<'_>>, Fault> {
     })
 }
 
-/// The sources that the BYEs of a datagram name, in their order.
+/// The sources that the BYEs of an RTCP datagram name, in their order (RFC 3550, 6.6).
+///
+/// # Errors
+///
+/// The first [`Fault`] of a datagram that is not a compound.
 pub fn goodbyes(datagram: &[u8]) -> Result<Parts<'_, Goodbye<'_>>, Fault> {
     Parts::of(datagram, |datagram, index| {
         let told = raw::goodbye(datagram, index)?;
@@ -38,7 +59,8 @@ pub fn goodbyes(datagram: &[u8]) -> Result<Parts<'_, Goodbye<'_>>, Fault> {
     })
 }
 
-/// The parts of a kind of a datagram, in their order, each once.
+/// The parts of one kind of a datagram, in their order, each once: see [`senders`], [`blocks`], [`items`] and
+/// [`goodbyes`].
 #[derive(Clone)]
 pub struct Parts<'a, T> {
     datagram: &'a [u8],
@@ -72,7 +94,7 @@ impl<T> fmt::Debug for Parts<'_, T> {
 }
 
 /// What a sender report says of its sender (RFC 3550, 6.4.1).
-#[derive(Clone, Copy, Debug, PartialEq, Eq)]
+#[derive(Clone, Copy, Debug, PartialEq, Eq, Hash)]
 pub struct SenderReport {
     /// The SSRC of the source that sent it.
     pub ssrc: u32,
@@ -81,14 +103,14 @@ pub struct SenderReport {
     pub ntp: u64,
     /// The same moment in units of the sender's RTP timestamps.
     pub rtp: u32,
-    /// How many RTP packets were sent up to then.
+    /// How many RTP packets it sent up to then, modulo 2^32.
     pub packets: u32,
-    /// How many octets their payloads have, without headers and padding.
+    /// How many octets their payloads have, without headers and padding, modulo 2^32.
     pub octets: u32,
 }
 
 /// What a source says of itself (RFC 3550, 6.5).
-#[derive(Clone, Copy, Debug, PartialEq, Eq)]
+#[derive(Clone, Copy, Debug, PartialEq, Eq, Hash)]
 pub struct SdesItem<'a> {
     /// The SSRC of the source.
     pub ssrc: u32,
@@ -99,7 +121,7 @@ pub struct SdesItem<'a> {
 }
 
 /// A source that leaves (RFC 3550, 6.6).
-#[derive(Clone, Copy, Debug, PartialEq, Eq)]
+#[derive(Clone, Copy, Debug, PartialEq, Eq, Hash)]
 pub struct Goodbye<'a> {
     /// The SSRC of the source.
     pub ssrc: u32,

@@ -7,16 +7,16 @@ use core::fmt;
 use core::iter::FusedIterator;
 
 /// What is known of a source: of a member, of one that is not yet valid, or of one that left and is held for
-/// a while.
-#[derive(Clone, Copy, Debug, PartialEq, Eq)]
+/// a while (RFC 3550, 6.2.1).
+#[derive(Clone, Copy, Debug, PartialEq, Eq, Hash)]
 pub struct SourceState {
     /// Its SSRC.
     pub ssrc: u32,
     /// Whether it is a member (RFC 3550, 6.2.1): it is valid, and did not leave.
     pub is_member: bool,
-    /// Whether it sends RTP packets.
+    /// Whether it sends RTP packets (RFC 3550, 6.3).
     pub is_sender: bool,
-    /// When it said goodbye, if it did.
+    /// When it said goodbye, if it did (RFC 3550, 6.3.4).
     pub left: Option<Moment>,
     /// When it was last heard before it left.
     pub heard: Moment,
@@ -26,29 +26,31 @@ pub struct SourceState {
     pub told: Option<Told>,
 }
 
-/// How the packets of a source are received (RFC 3550, A.1, A.3, A.8).
-#[derive(Clone, Copy, Debug, PartialEq, Eq)]
+/// How the packets of a source are received, since it came or since its sequence numbers jumped (RFC 3550,
+/// 6.4.1, A.1, A.3, A.8).
+#[derive(Clone, Copy, Debug, PartialEq, Eq, Hash)]
 pub struct Reception {
-    /// How many were counted, late and repeated ones included.
+    /// How many packets were counted, late and repeated ones included.
     pub received: u64,
     /// How many were lost: negative where packets came twice.
     pub lost: i32,
-    /// The highest sequence number in the low 16 bits, and above them how often they wrapped.
+    /// The highest sequence number in the low 16 bits, and above them how often it wrapped.
     pub highest: u32,
-    /// The jitter of their arrival, in units of their RTP timestamps.
+    /// The jitter of their arrival, in units of their RTP timestamps ([`Config::rate`](crate::Config::rate)).
     pub jitter: u32,
 }
 
-/// A sender report that came.
-#[derive(Clone, Copy, Debug, PartialEq, Eq)]
+/// The last sender report of a source (RFC 3550, 6.4.1).
+#[derive(Clone, Copy, Debug, PartialEq, Eq, Hash)]
 pub struct Told {
-    /// Its NTP timestamp.
+    /// Its NTP timestamp: seconds since 1900 in the upper 32 bits, their fraction in the lower.
     pub ntp: u64,
     /// When it came.
     pub moment: Moment,
 }
 
-/// The sources of a session by rising SSRC, each once. It asks the participant, which stays as it is.
+/// The sources of a session by rising SSRC, each once: see
+/// [`Participant::sources`](crate::Participant::sources).
 #[derive(Clone)]
 pub struct Sources<'a> {
     handle: &'a Handle,
