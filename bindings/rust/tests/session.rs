@@ -236,6 +236,32 @@ fn who_is_there() {
     assert_eq!((session.sources().next(), session.entries()), (None, 0));
 }
 
+/// Each call takes the participant out of its place, and puts it back.
+#[test]
+fn two_listings_side_by_side() {
+    let mut session = begun(&[]);
+    for datagram in named(3) {
+        session.arrive_rtcp(Moment::ZERO, 1, 0, &datagram).unwrap();
+    }
+    let (mut first, mut second) = (session.sources(), session.sources());
+    for ssrc in 1..=3 {
+        let (one, other) = (first.next().unwrap(), second.next().unwrap());
+        assert_eq!((one.ssrc, one), (ssrc, other));
+    }
+    assert_eq!((first.next(), second.next()), (None, None));
+}
+
+#[test]
+fn debug_shows_items_and_states() {
+    let item = Item::new(ItemKind::Tool, b"t\"\xff").unwrap();
+    assert_eq!(format!("{item:?}"), r#"Item { kind: 6, text: "t\"\xff" }"#);
+    let mut session = begun(&[item]);
+    session.arrive_rtcp(Moment::ZERO, 1, 0, &named(1).next().unwrap()).unwrap();
+    assert!(format!("{session:?}")
+        .starts_with("Participant(Step { next_tick: Some(Moment(1026037)), members: 2,"));
+    assert!(format!("{:?}", session.sources()).starts_with("[SourceState { ssrc: 1, is_member: true,"));
+}
+
 #[test]
 fn the_library_says_what_the_step_does() {
     let (mut handle, mut step) = (sys::JALWEDD_EMPTY, sys::jalwedd_step::default());
