@@ -75,13 +75,15 @@
 //!
 //! The crate links the library of a package, which `package/build FOLDER` makes at the top of the Jalwedd
 //! repository. Its build script takes the package in the folder `JALWEDD_PREFIX`, an absolute path, or else
-//! the one that pkg-config knows; its version has to begin with the crate's first two numbers. The library is
-//! for x86-64. It is written in Rattle, and proved to meet its contracts. This crate is plain Rust, which
-//! nothing proves, and all of its `unsafe` is in two files, `raw.rs` and `sys.rs`.
+//! the one that pkg-config knows. The package is for x86-64 or for 64-bit ARM, whichever it was made for, and
+//! has the crate's version or a later one with the same first two numbers. The library is written in Rattle,
+//! and proved to meet its contracts. This crate is plain Rust, which nothing proves: its tests were run on
+//! x86-64, and all of its `unsafe` is in two files, `raw.rs` and `sys.rs`.
 //!
 //! The feature `std`, on by default, adds `Clock`. Without it the crate needs `core` and `alloc`. The library
-//! calls `malloc` and `free`; a program without a C library defines `rattle_alloc`, `rattle_realloc` and
-//! `rattle_dealloc` in their place, in the form of the package's `share/jalwedd/memory.c`.
+//! takes its memory by `malloc` and `free`, or by functions that [`sys::jalwedd_memory`] names. A program
+//! without a C library defines `rattle_alloc`, `rattle_realloc` and `rattle_dealloc` in their place, in the
+//! form of the package's `share/jalwedd/memory.c`.
 #![no_std]
 #![deny(unsafe_code)]
 #![warn(missing_debug_implementations, missing_docs)]

@@ -1,5 +1,5 @@
-//! The declarations of include/jalwedd.h, in its order. What each is, and what a host has to keep, stands
-//! there.
+//! The declarations of include/jalwedd.h, in its order, for a host that calls the library itself. What each
+//! is, and what such a host has to keep, stands there.
 #![allow(non_camel_case_types, missing_docs)]
 
 use core::ffi::c_void;
@@ -167,8 +167,16 @@ pub struct jalwedd_role_change {
 }
 
 unsafe extern "C" {
+    // ---- The version
+
     pub safe fn jalwedd_version() -> u32;
+
     // ---- A participant
+
+    pub fn jalwedd_memory(
+        allocate: unsafe extern "C" fn(size: usize) -> *mut c_void,
+        release: unsafe extern "C" fn(at: *mut c_void),
+    );
 
     pub fn jalwedd_new(
         handle: *mut jalwedd_handle,

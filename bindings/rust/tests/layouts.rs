@@ -31,6 +31,15 @@ fn structures() {
     assert_layout!(jalwedd_role_change, 16, 4, ssrc: 0, was: 4, is: 8, left: 12);
 }
 
+/// A later package of the same layouts serves too.
+#[test]
+fn the_library_has_the_version_of_the_declarations() {
+    let (major, minor, patch) = (JALWEDD_VERSION_MAJOR, JALWEDD_VERSION_MINOR, JALWEDD_VERSION_PATCH);
+    assert_eq!(env!("CARGO_PKG_VERSION"), format!("{major}.{minor}.{patch}"));
+    assert_eq!(jalwedd_version() >> 8, major << 8 | minor);
+    assert!(jalwedd_version() & 0xff >= patch);
+}
+
 #[test]
 fn items_are_passed_as_they_are() {
     assert_eq!((size_of::<jalwedd::Item>(), align_of::<jalwedd::Item>()), (257, 1));
