@@ -1,15 +1,22 @@
 -- What would be wrong: each statement here is a law with a number moved or a part left out, and there is a session where
 -- it does not hold.
-use Rattle.std.proofs.Common.{◌≡◌, ℕ, ◌+◌, ◌*◌, ◌/◌, ◌≤◌, List, [], ◌∷◌, length, map, replicate, true, false, Ok, None, refl, arith}
-use Rattle.std.proofs.lemmas.List.Elements.{All-nil, All-cons, All-replicate}
-use Rattle.rtcp_wire.specs.Values.{rr, bye}
+use Rattle.std.proofs.Common.{◌≡◌, ℕ, ◌+◌, ◌*◌, ◌/◌, ◌≤◌, List, [], ◌∷◌, length, map, replicate, All, true, false, Ok, None, refl, arith, nat_le, filter, inr, Result}
+use Rattle.std.specs.List.{sum_by, IsDistinct}
+use Rattle.std.proofs.lemmas.List.Elements.{All-nil, All-cons, All-head, All-map, All-replicate}
+use Rattle.rtcp_wire.specs.declared.fault.WireFault.{WireFault}
+use Rattle.rtcp_wire.specs.Values.{RtcpPacket, rr, bye}
+use Rattle.rtcp_wire.specs.Grammar.{IsSpelling, IsAccepted}
+use Rattle.rtcp_members.specs.Entries.{entry_at, is_member, is_such}
 use Rattle.rtcp_timer.specs.declared.load.Load.{Load}
-use Rattle.rtcp_engine.specs.Acts.{Act, arrived, rtcp, ticked}
+use Rattle.rtcp_timer.specs.Loads.{interval_of}
+use Rattle.rtcp_engine.specs.Setups.{Setup}
+use Rattle.rtcp_engine.specs.Acts.{Act, arrived, rtcp, ticked, IsReading, rtcp_came}
+use Rattle.rtcp_engine.specs.Outcomes.{Outcome, load_of, nothing_yet}
 use Rattle.rtcp_engine.specs.Taken.{AllTaken, IsHistory}
 use Rattle.rtcp_engine.specs.Histories.{History}
 use Rattle.rtcp_engine.specs.Sent.{Sent, reports_in, sent_at}
-use Rattle.rtcp_session.specs.Windows.{in_window, later_ones, intervals_of, load_at, Joined, later_within}
-use Rattle.rtcp_session.specs.Crowds.{total_reports, total_as, those_as, Terms, CountsMost, TakesPart, IsCrowd, carried_in}
+use Rattle.rtcp_session.specs.Windows.{in_window, later_ones, intervals_of, Decided, load_at, decided_at, HasSize, Joined, later_within}
+use Rattle.rtcp_session.specs.Crowds.{total_reports, Paced, IsPaced, total_as, those_as, shares_within, AreHeard, Terms, CountsMost, TakesPart, IsCrowd, carried_in}
 use Rattle.rtcp_session.proofs.CrowdRows.{setup_of, named_came, packet_came, joined_with, who_hears, sender, sender_load, terms, pair, takes_part, first_of_pair, pair_is_crowd, stands}
 
 -- ---- A number less
@@ -161,3 +168,75 @@ without_senders law =
     let bound : total_reports 1231252 2052074 heard ≤ 3 = law terms 1231252 2052074 heard (omega arith) heard_are_crowd in
     let its : total_reports 1231252 2052074 heard ≡ 4 = refl in
     omega (arith, bound, its)
+
+-- ---- What the other laws would say
+
+-- the minimum of later reports for the first one too
+abbrev with_later_minimum : Decided → ℕ × ℕ
+with_later_minimum decided = (decided.report.interval, interval_of (record (load_at decided) { initial = false }))
+
+of_another_load : ((history : History) → All (λ decided. decided.report.interval ≡ interval_of (record (load_at decided) { initial = false })) (decided_at history)) → ⊥
+of_another_load law =
+    let history : History = (joined_with 1 (ticked 1231245 0 0 ∷ [])).history in
+    let P : ℕ × ℕ → Type 0 = λ (both : ℕ × ℕ). both.0 ≡ both.1 in
+    let all : All P ((3000000, 5000000) ∷ []) = All-map P with_later_minimum (decided_at history) (law history) in
+    let one : 3000000 ≡ 5000000 = All-head P (3000000, 5000000) [] all in
+    omega (arith, one)
+
+without_one_more : ((history : History) (from width least : ℕ) → IsHistory history → 1 ≤ least
+    → length (filter (λ report. nat_le least report.interval) (in_window from width (reports_of history))) ≤ 2 * 121828 * width / (100000 * least)) → ⊥
+without_one_more law =
+    let none = law first 2462489 0 6000000 first_stands (omega arith) in
+    let one : length (filter (λ report. nat_le 6000000 report.interval) (in_window 2462489 0 (reports_of first))) ≡ 1 = refl in
+    omega (arith, none, one)
+
+without_one_each : ((all : List Paced) (from width : ℕ) → All (IsPaced from width) all
+    → total_reports from width (map (λ paced. paced.joined) all) ≤ sum_by (λ paced. 2 * 121828 * width / (100000 * paced.least)) all) → ⊥
+without_one_each law =
+    let paced : Paced = record { joined = who_hears 187 170; least = 1 } in
+    let is : IsPaced 2462496 0 paced = record { stands = first_stands; some = omega arith; least = All-nil (λ (decided : Decided). 1 ≤ decided.report.interval) } in
+    let none : 1 ≤ 0 = law (paced ∷ []) 2462496 0 (All-cons (IsPaced 2462496 0) paced [] is (All-nil (IsPaced 2462496 0))) in
+    omega (arith, none)
+
+of_less_bandwidth : ((joined : Joined) (from width : ℕ) → IsHistory joined.history
+    → 100000 * 1000000 * shares_within from width joined ≤ 243655 * width * (256 * joined.history.setup.receiver_bw)) → ⊥
+of_less_bandwidth law =
+    let fits = law (who_hears 187 170) 2462496 2462489 first_stands in
+    let its : shares_within 2462496 2462489 (who_hears 187 170) ≡ 24576 = refl in
+    omega (arith, fits, its)
+
+others_as_if_counted : ((terms : Terms) (from width : ℕ) (all : List Joined) → 1 ≤ terms.size → IsCrowd terms from width all
+    → total_as false from width all ≤ carried_in width terms.receiver_bw (record terms { times = 1 })) → ⊥
+others_as_if_counted law =
+    let bound : total_as false 0 11491622 four ≤ 9 = law one_in_four 0 11491622 four (omega arith) deaf_are_crowd in
+    let its : total_as false 0 11491622 four ≡ 20 = refl in
+    omega (arith, bound, its)
+
+nobody_heard : AreHeard is_member (setup_of 1) nothing_yet []
+unfolding IsDistinct
+nobody_heard = record { apart = tt; heard = All-nil (λ (ssrc : ℕ). is_such is_member (entry_at 1024 8000 [] ssrc) ≡ true) }
+
+itself_twice : ((setup : Setup) (outcome : Outcome) (ssrcs : List ℕ) → AreHeard is_member setup outcome ssrcs → 2 + length ssrcs ≤ (load_of setup outcome).members) → ⊥
+itself_twice law =
+    let two : 2 ≤ 1 = law (setup_of 1) nothing_yet [] nobody_heard in
+    omega (arith, two)
+
+-- a receiver report without blocks, alone
+abbrev empty_report : List ℕ
+empty_report = 128 ∷ 201 ∷ 0 ∷ 1 ∷ 0 ∷ 0 ∷ 0 ∷ 1 ∷ []
+
+is_accepted : IsAccepted empty_report (rr 1 [] [] ∷ [])
+is_accepted = record { short = omega arith; begins = (inr refl, refl); joined = (empty_report, [], refl, is_spelled, refl) }
+  where
+    is_spelled : IsSpelling (rr 1 [] []) empty_report
+    is_spelled = record {
+      version = refl;
+      size = refl;
+      padding = λ padded. absurd cc;
+      body = (refl, record { id = 0 ∷ 0 ∷ 0 ∷ 1 ∷ []; rest = []; parts = refl; sender = (refl, refl); ends = record { reports = []; parts = refl; counted = refl; each = refl } });
+    }
+
+least_of_37 : ((moment peer word : ℕ) (octets : List ℕ) (reading : Result (List RtcpPacket) WireFault) → IsReading octets reading → HasSize 37 (rtcp_came moment peer word octets reading)) → ⊥
+least_of_37 law =
+    let large : 37 ≤ 36 = law 0 0 0 empty_report (Ok (rr 1 [] [] ∷ [])) is_accepted in
+    omega (arith, large)

@@ -107,8 +107,8 @@ pub fn averages_keep_to_the_sizes()
 {}
 
 /// A participant counts all whom it hears: sources that are members by its trace, no two of them the same, and itself;
-/// so of those that send, and of those that do not (RFC 3550, 6.2.1, 6.3.3). One that heard of each of the others and
-/// dropped none counts all, as a crowd has to.
+/// so of those that send, and of those that do not (RFC 3550, 6.2.1, 6.3.3). One to which each of the others is a member,
+/// in the role in which that reports, counts all, as a crowd has to.
 pub fn those_heard_are_counted()
     ensures members { (setup : Setup) (outcome : Outcome) (ssrcs : List ℕ) → AreHeard is_member setup outcome ssrcs →
         1 + length ssrcs ≤ (load_of setup outcome).members }
