@@ -1,7 +1,7 @@
-//! The program `rtcp_bench`: it reads datagrams from standard input, decodes all of them as often as its
-//! argument says, and prints what it added up. `bench/decode` measures it.
+//! The program `rtcp_bench`: it reads datagrams from standard input, decodes all of them as many times as its
+//! argument says, and prints the sums of their fields. `bench/decode` measures it.
 //!
-//! Each datagram stands after its length in two octets (RFC 4571, section 2).
+//! Each datagram follows its length in two octets (RFC 4571, section 2).
 #![tactic(auto)]
 
 ghost use Rattle.std.specs.Prelude.{◌<◌, length, IfSome};

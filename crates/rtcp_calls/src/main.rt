@@ -1,17 +1,17 @@
-//! The program `rtcp_calls`: it makes one kind of call of a participant again and again, and prints a digest of what the
-//! participant answered. `bench/calls` measures it, for what hosts in C do not reach.
+//! The program `rtcp_calls`: it makes one kind of call on a participant over and over, and prints a digest of the
+//! answers. `bench/calls` measures it, for calls that hosts in C cannot make.
 //!
 //!     rtcp_calls TABLE SHAPE SOURCES CALL COUNT
 //!
-//! TABLE is what the participant keeps its sources in: `heap`, `sorted` or `list`. SHAPE is that of their SSRCs: `random`,
-//! `numbered` or `clusters`. SOURCES is how many there are, from 1 to 1,024, and the table has room for no more. CALL is
-//! one of these, and COUNT how often it is made:
+//! TABLE is the table that holds the sources: `heap`, `sorted` or `list`. SHAPE is the pattern of their SSRCs:
+//! `random`, `numbered` or `clusters`. SOURCES is their number, from 1 to 1,024, and the capacity of the table. COUNT
+//! is how often CALL is made, which is one of these:
 //!
-//! - `present`: an RTP packet of one of the sources comes, of which one at random;
-//! - `absent`: one of a random SSRC comes, which as good as never is that of a source;
-//! - `tick`: two sources describe themselves, each in its turn, and a tick finds that nobody was silent for too long;
-//! - `walk`: the next source of a walk over all of them is asked for;
-//! - `members`: a datagram comes that is refused, and how many members there are is asked for.
+//! - `present`: an RTP packet of a source chosen at random arrives;
+//! - `absent`: an RTP packet of a random SSRC arrives, which is hardly ever that of a source;
+//! - `tick`: the next two sources describe themselves, and a tick finds that none was silent for too long;
+//! - `walk`: the next source of a walk over all of them is read;
+//! - `members`: a datagram that is refused arrives, and the member count is read.
 //!
 //! `all` for TABLE or CALL stands for each of them. All tables answer the same, so the digests of a call are equal.
 #![tactic(auto)]

@@ -2,7 +2,7 @@
 //! opens no socket, draws no random number and does not allocate. No call fails, and a result wraps around
 //! only where its formula says so.
 //!
-//! A moment is in microseconds since the session began. The calls take any moment; an interval to draw from
+//! Moments are in microseconds since the session began. The calls accept any moment; an interval to draw from
 //! is below 2^49. Division rounds down except where a formula says that it rounds up.
 //!
 //! ```
@@ -10,8 +10,7 @@
 //! assert_eq!(rt; draw(5_000_000, 0), 2_052_074);
 //! ```
 //!
-//! `specs/` defines the formula of each call (`Moments`, `Intervals`), and `laws` says what holds of the
-//! formulas.
+//! `specs/` defines the formula of each call (`Moments`, `Intervals`); `laws` states properties of the formulas.
 #![tactic(auto)]
 
 mod intervals;

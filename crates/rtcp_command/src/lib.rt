@@ -1,8 +1,8 @@
-//! The command line of the program `rtcp`, and what it does with one, from the words to the status to end with.
-//! [`order::order`] reads the words as an [`Order`]: a run over text, which [`command::command`] makes over any
-//! reader and any writer, or a session on a link. [`ends::end_line`] is the line for the end of a session, and
-//! [`listen::conclude`] gives its status. It touches no process: it reads no standard stream, no clock and no
-//! environment, and opens no socket.
+//! The command line of the program `rtcp`, from its arguments to the exit status. [`order::order`] reads the arguments
+//! as an [`Order`]: work over text, which [`command::command`] does over any reader and any writer, or a session over a
+//! link. [`ends::end_line`] is the line printed at the end of a session, and [`listen::conclude`] gives its exit
+//! status. The crate does not touch the process: it reads no standard stream, no clock and no environment, and opens no
+//! socket.
 //!
 //! ```
 //! let mut faults = Vec::new(alloc);
@@ -14,8 +14,8 @@
 //! assert_eq!(rt; faults.as_slice(), b"line 1: X4 Hex\n".as_slice());
 //! ```
 //!
-//! `specs/` defines what options say (`Options`, `Listening`, `Endpoints`), what a run writes (`Orders`), the line of
-//! an end (`EndText`) and the statuses (`Status`). `laws` states that an endpoint has one text.
+//! `specs/` defines the meaning of options (`Options`, `Listening`, `Endpoints`), what is written (`Orders`), the line
+//! at the end of a session (`EndText`) and the exit statuses (`Status`). `laws` states that an endpoint has one text.
 #![tactic(auto)]
 
 pub mod command;

@@ -1,10 +1,11 @@
-//! One RTCP participant of a session (RFC 3550, 6.2 to 6.5, 8.2): it is told what datagrams come, what its host
-//! sends and what time it is, and it answers who is there, what to send, and when to ask again. It reads no
-//! clock, opens no socket, draws no random number and does not allocate. What it answers is defined over all
-//! that it was told, and its reports never lie too close together, whatever comes ([`run`] has the promise).
+//! One RTCP participant of a session (RFC 3550, 6.2 to 6.5, 8.2). Its host tells it which datagrams arrive, which RTP
+//! packets it sends and what time it is; the participant answers with the member count, a compound to send, if there is
+//! one, and the next deadline. It reads no clock, opens no socket, draws no random number and does not allocate. Every
+//! answer is defined over everything that the participant was told, and two reports never lie too close together,
+//! whatever arrives ([`run`] states the promise).
 //!
-//! A host has two sockets, a clock and random words. It hands over what came and from whom, asks at `next`, and
-//! sends the compound of an answer that has one:
+//! A host has two sockets, a clock and random words. It passes on each datagram with the peer that it came from, calls
+//! `tick` once `next` has come, and sends the compound of an answer that has one:
 //!
 //! ```
 //! fn serve<T: MemberTable>(host: &mut Host<'_>, participant: &mut Participant<T>, turns: u32) {
@@ -26,16 +27,16 @@
 //! }
 //! ```
 //!
-//! To leave, a host calls `leave`, sends what that gives, and goes on until `next` is `None`: in a large
+//! To leave, a host calls `leave`, sends the compound that it may get, and goes on until `next` is `None`: in a large
 //! session the BYE comes later, from a tick (6.3.7).
 //!
-//! Each answer has room for a compound, 1.5 KB. A host with little stack keeps that room itself, and calls
-//! [`tick_into`](Participant::tick_into) and its like: a compound is written there, and a [`Told`] says what
-//! it is. An arrival without a compound needs no room: [`arrive_rtp_told`](Participant::arrive_rtp_told).
+//! Each answer has room for a compound, 1.5 KB. A host with little stack keeps that room itself and calls
+//! [`tick_into`](Participant::tick_into) and its like, which write a compound there and return a [`Told`] that
+//! describes it. An arrival without a compound needs no room: [`arrive_rtp_told`](Participant::arrive_rtp_told).
 //!
-//! A call that is refused (`Refusal`) changes nothing. What each call answers is defined over all that the
-//! participant was told, in `specs/` (`Histories`, `Ticks`, `Lives`, `Answers`); `laws` has what holds of these
-//! definitions. [`run`] makes the calls of a list of events, and hands on each answer.
+//! A call that is refused (`Refusal`) changes nothing. `specs/` defines the answer to each call over everything that
+//! the participant was told (`Histories`, `Ticks`, `Lives`, `Answers`); `laws` states properties of these definitions.
+//! [`run`] makes the calls of a list of events and passes on each answer.
 #![tactic(auto)]
 
 mod arrival;

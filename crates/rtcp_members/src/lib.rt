@@ -1,13 +1,12 @@
-//! Who is in an RTP session, who sends, and who has gone (RFC 3550, 6.2.1, 6.3.3 to 6.3.5, 6.3.7): the trait
-//! `MemberTable`, and tables of up to 1,024 entries. They are deterministic, read no clock, open no socket, draw
-//! no random number, and take no memory but for the making of a `HeapTable`.
+//! The members of an RTP session: who is present, who sends, and who has left (RFC 3550, 6.2.1, 6.3.3 to 6.3.5,
+//! 6.3.7). The crate has the trait `MemberTable` and tables of up to 1,024 entries. They are deterministic: they
+//! read no clock, open no socket and draw no random number, and only making a `HeapTable` allocates.
 //!
-//! Take a sorted table for a session: it keeps its entries by rising SSRC with running counts, so a fact costs a
-//! search among them, and with bounds of their moments, so most checks read no entry. `HeapTable` has them in a block
-//! of memory, of the size of its capacity, and keeps an index of them in order, so that a join moves no entry;
-//! `SortedTable` has the room for 1,024 in itself. `ListTable` keeps them in order of arrival and walks them in
-//! each call: it is the plain one, easy to believe. All meet the contract of `MemberTable`, so they return the
-//! same in each call.
+//! Use a sorted table for a session. It keeps its entries by rising SSRC with running counts, so that a fact costs
+//! one search, and with bounds on their moments, so that most checks read no entry. `HeapTable` has them in a block
+//! of memory of the size of its capacity, with an index in SSRC order, so that a join moves no entry; `SortedTable`
+//! has room for 1,024 in itself. `ListTable` keeps them in order of arrival and walks them in each call: it is the
+//! simplest one, to read first. All meet the contract of `MemberTable`, so they return the same in each call.
 //!
 //! ```
 //! let mut table = SortedTable::empty(1_024, 8_000);
@@ -19,10 +18,10 @@
 //! assert_eq!(rt; (dropped.entries, table.members()), (1, 0));
 //! ```
 //!
-//! Who is present, a member or a sender is defined in `specs/` over the whole trace of a session (`Traces`,
-//! `Stays`, `Entries`), and said in other words by `trace_laws`. A table is seen as a finite map (`Tables`),
-//! and `laws` ties the two. Which source is reported next is defined over that map (`Pending`) and over the
-//! trace (`News`); `turn_laws` has what holds of these.
+//! `specs/` defines over the whole trace of a session who is present, a member or a sender (`Traces`, `Stays`,
+//! `Entries`); `trace_laws` describes the same a second way. Contracts see a table as a finite map (`Tables`), and
+//! `laws` ties the two. Which source is reported next is defined over that map (`Pending`) and over the trace
+//! (`News`); `turn_laws` states properties of these.
 #![tactic(auto)]
 
 mod bounds;

@@ -1,5 +1,5 @@
-//! Compound reports of an RTP participant (RFC 3550, 6.1, 6.4, 6.5): what it sends when a report is due, over
-//! any table of members, and when it leaves. It is deterministic, reads no clock, opens no socket, draws no
+//! The compounds that an RTP participant sends (RFC 3550, 6.1, 6.4, 6.5): its reports, over any table of members,
+//! and the BYE with which it leaves. The crate is deterministic: it reads no clock, opens no socket, draws no
 //! random number and does not allocate.
 //!
 //! ```
@@ -10,7 +10,7 @@
 //! assert_eq!(rt; octets.len(), 20);
 //! ```
 //!
-//! What a report is, is defined in `specs/` (`Reports`, `Sizes`); `laws` has what holds of these definitions.
+//! `specs/` defines what a report holds (`Reports`, `Sizes`); `laws` states properties of these definitions.
 #![tactic(auto)]
 
 mod compound;

@@ -1,10 +1,9 @@
-//! The program `rtcp`: it shows what RTCP datagrams hold, replays the events of a participant, and takes part in
-//! a session over UDP.
+//! The program `rtcp`: it decodes RTCP datagrams, replays the events of a participant, and takes part in a session over
+//! UDP.
 //!
-//! Only this file touches the process: its command line and its standard streams. It lends its runtime to
-//! `udp_link`, for a clock and sockets. All else works over any reader, writer and link: the command line is that of
-//! `rtcp_command`, the texts are those of `rtcp_text`, and the sessions those of `rtcp_serve`. The calls of these three
-//! are passed on here.
+//! Only this file touches the process: its command line and its standard streams. `udp_link` borrows its runtime for
+//! the clock and the sockets. Everything else works over any reader, writer and link: `rtcp_command` has the command
+//! line, `rtcp_text` the texts and `rtcp_serve` the sessions. This file connects the three.
 #![tactic(auto)]
 
 ghost use Rattle.std.specs.Prelude.{IfOk, ◌≤◌};

@@ -1,7 +1,7 @@
-//! A participant on a link, which is a clock and two ports: [`serve`] runs it for so many turns, and lets it leave.
-//! Each compound that the participant hands out goes to the link once, and the calls of the link, with the random
-//! words, determine all that it was told. It opens no socket, reads no clock and draws no random number but through
-//! the link and the generator that its caller passes, and it does not allocate.
+//! A participant on a link, which is a clock and two ports: [`serve`] drives it for a number of turns, and then lets it
+//! leave. Each compound that the participant hands out is sent over the link once, and the calls of the link, with the
+//! random words, determine everything that it was told. Sockets, clock and random numbers are those of the link and the
+//! generator that the caller passes; the crate does not allocate.
 //!
 //! ```
 //! let mut buf = [0; 65_535];
@@ -9,8 +9,8 @@
 //! assert_eq!(rt; end.cause, Cause::Done);
 //! ```
 //!
-//! A host implements [`Link`]. `specs/` defines what a clause knows of a link (`Links`) and where a session stands
-//! after its calls (`Serving`, `Sessions`); `serve_laws` says in plain words what comes of it.
+//! A host implements [`Link`]. `specs/` defines what contracts see of a link (`Links`) and the state of a session after
+//! its calls (`Serving`, `Sessions`); `serve_laws` states in plain words what follows.
 #![tactic(auto)]
 
 mod link;

@@ -1,7 +1,7 @@
-//! One source of an RTP session, as its receiver knows it (RFC 3550, 6.4.1, appendices A.1, A.3 and A.8):
-//! which of its packets are counted, how many were lost, how much their arrival jitters, and the report block
-//! that says so. It is deterministic, reads no clock, opens no socket, draws no random number and does not
-//! allocate.
+//! One source of an RTP session as its receiver sees it (RFC 3550, 6.4.1, appendices A.1, A.3 and A.8):
+//! which of its packets are counted, how many were lost, the interarrival jitter, and the report block with
+//! these numbers. The crate is deterministic: it reads no clock, opens no socket, draws no random number and does
+//! not allocate.
 //!
 //! ```
 //! let mut source = Source::new();
@@ -10,8 +10,8 @@
 //! assert_eq!(rt; source.block(9, 0).highest, 11);
 //! ```
 //!
-//! A source is defined in `specs/`, over the list of all that it was given (`Packets`, `Summary`, `Blocks`);
-//! `laws` states what holds of these definitions.
+//! `specs/` defines a source over the list of everything that it was given (`Packets`, `Summary`, `Blocks`);
+//! `laws` states properties of these definitions.
 #![tactic(auto)]
 
 pub mod laws;

@@ -1,7 +1,7 @@
-//! The texts of RTCP: what datagrams are, a line of hex each ([`check::check`]), and what a participant answers to
-//! the events of a session, a line each ([`replay::replay`]). Both go line by line over any reader and any writer,
-//! and their contracts say what stands written after each way in which a run can end. It opens no file and no
-//! socket, reads no clock, draws no random number, and writes nothing but the answers.
+//! RTCP as text: [`check::check`] decodes datagrams, one line of hex each, and [`replay::replay`] runs a participant
+//! over the events of a session, one a line. Both work line by line over any reader and any writer, and their contracts
+//! say what has been written, however the call ends. The crate opens no file and no socket, reads no clock, draws no
+//! random number, and writes nothing but the answers.
 //!
 //! ```
 //! let mut reader = Counted::new(b"80c9000100000007\n\n".as_slice());
@@ -11,11 +11,11 @@
 //! assert_eq!(rt; text.as_slice(), b"ok RR(00000007,[],0)\nF1 Short at 0\n".as_slice());
 //! ```
 //!
-//! `specs/` defines the texts: of packets and faults (`Text`), of answers (`AnswerText`), of lines that say events
-//! (`EventLines`) and of whole inputs (`Lines`, `Check`, `Replay`). `laws` states that each input has one text.
+//! `specs/` defines the texts of packets and faults (`Text`), of answers (`AnswerText`), of event lines (`EventLines`)
+//! and of whole inputs (`Lines`, `Check`, `Replay`). `laws` states that each input has one text.
 //!
-//! The modules `answerer`, `blocks`, `event_line`, `numerals` and `text` are not for users: they are parts that a
-//! program with more texts, and the tests, call.
+//! The modules `answerer`, `blocks`, `event_line`, `numerals` and `text` are parts for programs with texts of their
+//! own, and for the tests.
 #![tactic(auto)]
 
 mod answer;

@@ -10,9 +10,9 @@
 //! assert_eq!(rt; schedule.next(), 3_078_111);
 //! ```
 //!
-//! Moments and intervals are in microseconds, and a moment counts from the start of the session. `specs/`
-//! defines what each call returns and changes (`Loads`, `Averages`, `Schedules`), and says a schedule's
-//! numbers in other words (`Departures`); `laws` says what holds of these definitions.
+//! Moments and intervals are in microseconds; moments count from the start of the session. `specs/` defines
+//! what each call returns and changes (`Loads`, `Averages`, `Schedules`), and describes a schedule's numbers a
+//! second way (`Departures`); `laws` states properties of these definitions.
 #![tactic(auto)]
 
 mod average;

@@ -1,6 +1,6 @@
-//! Reads and writes RTCP packets (RFC 3550, 6.1 to 6.7), and reads RTP packets (5.1). It is deterministic: it
-//! reads no clock, opens no socket, draws no random number and allocates nothing. What is read borrows from
-//! the datagram.
+//! Reads and writes RTCP packets (RFC 3550, 6.1 to 6.7), and reads the headers of RTP packets (5.1). The crate is
+//! deterministic: it reads no clock, opens no socket, draws no random number and does not allocate. Packets that
+//! are read borrow from the datagram.
 //!
 //! ```
 //! let datagram = [
@@ -19,12 +19,12 @@
 //! ```
 //!
 //! Here source 7 reports how it receives the packets of source 0xaa. From the block's LSR and DLSR,
-//! `round_trip` of rtcp_clock computes the time to source 7 and back. [`Compound::packets`] gives all that a
-//! compound holds, [`facts`] what it says of who is in the session.
+//! `round_trip` of rtcp_clock computes the time to source 7 and back. [`Compound::packets`] iterates over all
+//! packets of a compound, [`facts`] over what they say about the members of the session.
 //!
-//! `specs/` defines what octets mean (`Grammar`, `RtpHeads`), which fault they have (`Faults`), what packets
-//! say of sources (`Facts`, `About`) and what is written (`Writing`). The modules `laws`, `rtp_laws` and
-//! `write_laws` state laws of these definitions.
+//! `specs/` defines the meaning of octets (`Grammar`, `RtpHeads`), their first fault (`Faults`), what packets
+//! say about sources (`Facts`, `About`) and what is written (`Writing`). The modules `laws`, `rtp_laws` and
+//! `write_laws` state properties of these definitions.
 #![tactic(auto)]
 
 mod app;

@@ -1,11 +1,11 @@
-//! The program `rtcp_workloads`: it does one of the jobs that users of Jalwedd wait for, on input that it makes of a
+//! The program `rtcp_workloads`: it does one of the jobs that a host spends its time on, with input generated from a
 //! seed, and prints a digest of all results. `bench/run` measures it.
 //!
 //!     rtcp_workloads NAME COUNT SEED
 //!
 //! The names are `server`, `broadcast`, `flood`, `listing`, `captures` and `recording`, and `all` for one after the
-//! other. All calls are those of hosts and of the program: `Participant` over a table on the heap, and `check` and
-//! `replay` from memory to memory.
+//! other. They make the calls that hosts and the program `rtcp` make: `Participant` over a table on the heap, and
+//! `check` and `replay` from memory to memory.
 #![tactic(auto)]
 
 mod broadcast;
