@@ -2,8 +2,8 @@
 use Rattle.std.proofs.Common.{◌≡◌, ℕ, ◌+◌, ◌-◌, ◌%◌, ◌^◌, ◌<◌, ◌≤◌, ◌↔◌, ℤ, pos, unsigned_abs, option_map, Option, true, List, [], ◌∷◌, refl, rules}
 use Rattle.std.specs.Int.{cast_signed, w32}
 use Rattle.rtcp_source.specs.declared.taken.Taken.TheVariants.{Counted}
-use Rattle.rtcp_source.specs.Packets.{Given, packet_at, with_counted, packet_came, report_came, block_made, HasCounted, greatest_place, is_near, place_near, taken_in, transit_of, run_of, has_news_since, newest, PacketRun}
-use Rattle.rtcp_source.specs.Integers.{IsIntegerNear, HasIntegerNear, HasPlaceNear, IsPlaceOfInteger, place_of, greatest_integer}
+use Rattle.rtcp_source.specs.Packets.{Given, packet_at, with_counted, packet_came, report_came, block_made, HasCounted, greatest_ordinal, is_near, ordinal_near, taken_in, transit_of, run_of, has_news_since, newest, PacketRun}
+use Rattle.rtcp_source.specs.Integers.{IsIntegerNear, HasIntegerNear, HasOrdinalNear, IsOrdinalOfInteger, ordinal_of, greatest_integer}
 use Rattle.rtcp_source.specs.Summary.{ToldValue, summary_of, last_told, transit_distance}
 use Rattle.rtcp_source.specs.Blocks.{block_for, block_over, lsr_of, dlsr_of, news_of}
 use Rattle.rtcp_source.specs.Receptions.{reception_in, reception_over, figures_of, figures_in}
@@ -11,7 +11,7 @@ use Rattle.rtcp_source.specs.Steps.{no_source, taken_by, after_packet, after_tol
 use Rattle.rtcp_source.proofs.Summing.{same_taken, same_block, same_reception, same_figures}
 use Rattle.rtcp_source.proofs.Stepping.{packet_moves, block_moves}
 use Rattle.rtcp_source.proofs.News.{news_of_summary}
-use Rattle.rtcp_source.proofs.Integers.{has_integer, has_place, same_integer, greatest_high, counted_exactly, enters_run}
+use Rattle.rtcp_source.proofs.Integers.{has_integer, has_ordinal, same_integer, greatest_high, counted_exactly, enters_run}
 
 -- ---- What is kept of a source
 
@@ -50,24 +50,24 @@ summary_moves-block = block_moves
 
 -- ---- Integers
 
-pub counted_by_integer-greatest : (given : List Given) → HasCounted (run_of given) → 65536 ≤ greatest_place (run_of given).counted
+pub counted_by_integer-greatest : (given : List Given) → HasCounted (run_of given) → 65536 ≤ greatest_ordinal (run_of given).counted
 counted_by_integer-greatest = greatest_high
 
 pub counted_by_integer-counted : (given : List Given) (seq : ℕ) → seq < 65536 → HasCounted (run_of given) → (taken_in (run_of given) seq ≡ Counted) ↔ HasIntegerNear (greatest_integer (run_of given)) seq
 counted_by_integer-counted = counted_exactly
 
 pub counted_by_integer-enters : (given : List Given) (seq timestamp arrival : ℕ) (integer : ℤ) → seq < 65536 → HasCounted (run_of given) → IsIntegerNear (greatest_integer (run_of given)) seq integer
-    → run_of (packet_came seq timestamp arrival ∷ given) ≡ with_counted (packet_at (place_of integer) (transit_of timestamp arrival)) (run_of given)
+    → run_of (packet_came seq timestamp arrival ∷ given) ≡ with_counted (packet_at (ordinal_of integer) (transit_of timestamp arrival)) (run_of given)
 counted_by_integer-enters = enters_run
 
 pub counted_by_integer-one : (greatest : ℤ) (seq : ℕ) (a b : ℤ) → IsIntegerNear greatest seq a → IsIntegerNear greatest seq b → a ≡ b
 counted_by_integer-one = same_integer
 
-pub integer_is_found : (greatest seq : ℕ) (integer : ℤ) → seq < 65536 → IsIntegerNear (pos greatest) seq integer → HasPlaceNear (greatest + 65536) seq (place_of integer)
-integer_is_found = has_place
+pub integer_is_found : (greatest seq : ℕ) (integer : ℤ) → seq < 65536 → IsIntegerNear (pos greatest) seq integer → HasOrdinalNear (greatest + 65536) seq (ordinal_of integer)
+integer_is_found = has_ordinal
 
-pub place_has_integer : (greatest seq : ℕ) → seq < 65536 → is_near (greatest + 65536) seq ≡ true → IsPlaceOfInteger (pos greatest) seq (place_near (greatest + 65536) seq)
-place_has_integer = has_integer
+pub ordinal_has_integer : (greatest seq : ℕ) → seq < 65536 → is_near (greatest + 65536) seq ≡ true → IsOrdinalOfInteger (pos greatest) seq (ordinal_near (greatest + 65536) seq)
+ordinal_has_integer = has_integer
 
 -- ---- Transits
 

@@ -2,7 +2,7 @@
 use Rattle.std.proofs.Common.{◌≡◌, ℕ, suc, ◌+◌, true, false, if◌then◌else◌, List, [], ◌∷◌, length, Option, arith, refl, ap}
 use Rattle.rtcp_source.specs.declared.taken.Taken.{Taken}
 use Rattle.rtcp_source.specs.declared.taken.Taken.TheVariants.{Probation, Counted, Became, Restarted, Bad}
-use Rattle.rtcp_source.specs.Packets.{Given, packet_came, block_made, CountedPacket, PacketRun, is_near, follows, newest, taken_in, run_with, transit_of, run_of, greatest_place}
+use Rattle.rtcp_source.specs.Packets.{Given, packet_came, block_made, CountedPacket, PacketRun, is_near, follows, newest, taken_in, run_with, transit_of, run_of, greatest_ordinal}
 use Rattle.rtcp_source.specs.Summary.{ToldValue, SourceValue, numbers_of, packet_count, last_told, summary_of, StandsAt}
 use Rattle.rtcp_source.specs.Steps.{taken_by, source_with, after_packet, run_reported, after_block_made}
 
@@ -29,7 +29,7 @@ moves : (seq transit packets : ℕ) (last : Option ToldValue) (counted before : 
 moves seq transit packets last [] before strays =
     elim (follows (newest strays) seq) as (λ b. Moves seq transit packets last (record { counted = []; strays = strays; reported = before }) (if b then Became else Probation)) [ true ↦ refl | false ↦ refl ]
 moves seq transit packets last (p ∷ earlier) before strays =
-    elim (is_near (greatest_place (p ∷ earlier)) seq) as (λ near. Moves seq transit packets last (record { counted = p ∷ earlier; strays = strays; reported = before }) (if near then Counted else (if follows (newest strays) seq then Restarted else Bad))) [
+    elim (is_near (greatest_ordinal (p ∷ earlier)) seq) as (λ near. Moves seq transit packets last (record { counted = p ∷ earlier; strays = strays; reported = before }) (if near then Counted else (if follows (newest strays) seq then Restarted else Bad))) [
       | true ↦ counted_moves seq transit packets last p earlier before strays
       | false ↦ elim (follows (newest strays) seq) as (λ b. Moves seq transit packets last (record { counted = p ∷ earlier; strays = strays; reported = before }) (if b then Restarted else Bad)) [ true ↦ refl | false ↦ refl ]
     ]

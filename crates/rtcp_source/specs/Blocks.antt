@@ -3,7 +3,7 @@ use Rattle.std.specs.Prelude.{ℕ, ℤ, pos, negsuc, ◌-ℤ◌, ◌+◌, ◌-�
 use Rattle.std.specs.Int.{int_min, int_max}
 use Rattle.rtcp_wire.specs.Values.{ReportBlock}
 use Rattle.rtcp_clock.specs.Moments.{short_seconds}
-use Rattle.rtcp_source.specs.Packets.{Given, CountedPacket, PacketRun, greatest_place, run_of}
+use Rattle.rtcp_source.specs.Packets.{Given, CountedPacket, PacketRun, greatest_ordinal, run_of}
 use Rattle.rtcp_source.specs.Summary.{RunValue, ToldValue, SourceValue, expected_of, jitter_of, last_told}
 
 -- ---- The fields
@@ -40,14 +40,14 @@ fraction_since counted reported =
     fraction_of (expected_of counted - expected_of reported) (length counted - length reported)
 
 -- The block of a source over these packets, with what is known of its last sender report. The extended
--- highest sequence number is the greatest integer, 65536 below the greatest place, modulo 2^32.
+-- highest sequence number is the greatest integer, 65536 below the greatest ordinal, modulo 2^32.
 abbrev pub block_of_packets : (ssrc lsr dlsr : ℕ) (counted reported : List CountedPacket) → ReportBlock
 block_of_packets ssrc lsr dlsr counted reported =
     record {
       ssrc = ssrc;
       fraction = fraction_since counted reported;
       lost = lost_of (expected_of counted) (length counted);
-      highest = (greatest_place counted - 65536) % 2 ^ 32;
+      highest = (greatest_ordinal counted - 65536) % 2 ^ 32;
       jitter = jitter_of counted / 16;
       lsr = lsr;
       dlsr = dlsr;

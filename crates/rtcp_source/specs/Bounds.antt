@@ -2,7 +2,7 @@
 use Rattle.std.specs.Prelude.{ℕ, ◌+◌, ◌*◌, ◌^◌, ◌≤◌, Option, Some, None}
 use Rattle.rtcp_source.specs.Summary.{RunValue}
 
--- A counted packet is at most 2999 places above the greatest one, so no more than 3000 places come to be
+-- A counted packet is at most 2999 above the greatest one, so no more than 3000 ordinals come to be
 -- expected with it.
 pub record IsRunBounded (packets : ℕ) (run : RunValue) : Type 0 where
   pub first_low : 65536 ≤ run.first

@@ -13,14 +13,14 @@ pub data Given : Type 0 where
   -- a report block was made of the source (6.4.1)
   block_made : Given
 
--- A counted packet. Its place is 65536 above its integer, which may be negative. Its transit is its arrival
+-- A counted packet. Its ordinal is 65536 above its integer, which may be negative. Its transit is its arrival
 -- less its timestamp, modulo 2^32 (6.4.1, A.8).
 pub record CountedPacket : Type 0 where
-  pub place : ℕ
+  pub ordinal : ℕ
   pub transit : ℕ
 
-abbrev pub packet_at : (place transit : ℕ) → CountedPacket
-packet_at place transit = record { place = place; transit = transit }
+abbrev pub packet_at : (ordinal transit : ℕ) → CountedPacket
+packet_at ordinal transit = record { ordinal = ordinal; transit = transit }
 
 -- The last run of packets: those counted in it, the numbers of the strays since it started, newest first, and
 -- the packets that had been counted in it when a block was last made. Before the first run no packet is
@@ -34,31 +34,31 @@ pub record PacketRun : Type 0 where
 abbrev pub HasCounted : PacketRun → Type 0
 HasCounted run = 1 ≤ length run.counted
 
--- ---- Places
+-- ---- Ordinals
 
--- How far a number is ahead of a place, modulo 65536.
+-- How far a number is ahead of an ordinal, modulo 65536.
 abbrev pub ahead : (greatest seq : ℕ) → ℕ
 ahead greatest seq = (seq + 65536 - greatest % 65536) % 65536
 
--- Whether a number has a place from 99 below the greatest one to 2999 above it.
+-- Whether a number has an ordinal from 99 below the greatest one to 2999 above it.
 abbrev pub is_near : (greatest seq : ℕ) → Bool
 is_near greatest seq = nat_lt (ahead greatest seq) 3000 || nat_lt 65436 (ahead greatest seq)
 
--- That place.
-abbrev pub place_near : (greatest seq : ℕ) → ℕ
-place_near greatest seq =
+-- That ordinal.
+abbrev pub ordinal_near : (greatest seq : ℕ) → ℕ
+ordinal_near greatest seq =
     let above : ℕ = greatest + ahead greatest seq in
     if nat_lt (ahead greatest seq) 3000 then above else above - 65536
 
-abbrev pub greatest_place : List CountedPacket → ℕ
-greatest_place [] = 0
-greatest_place (p ∷ []) = p.place
-greatest_place (p ∷ q ∷ earlier) = max p.place (greatest_place (q ∷ earlier))
+abbrev pub greatest_ordinal : List CountedPacket → ℕ
+greatest_ordinal [] = 0
+greatest_ordinal (p ∷ []) = p.ordinal
+greatest_ordinal (p ∷ q ∷ earlier) = max p.ordinal (greatest_ordinal (q ∷ earlier))
 
-abbrev pub first_place : List CountedPacket → ℕ
-first_place [] = 0
-first_place (p ∷ []) = p.place
-first_place (p ∷ q ∷ earlier) = first_place (q ∷ earlier)
+abbrev pub first_ordinal : List CountedPacket → ℕ
+first_ordinal [] = 0
+first_ordinal (p ∷ []) = p.ordinal
+first_ordinal (p ∷ q ∷ earlier) = first_ordinal (q ∷ earlier)
 
 -- ---- Runs
 
@@ -67,8 +67,8 @@ abbrev pub follows : Option ℕ → ℕ → Bool
 follows None seq = false
 follows (Some last) seq = seq == (last + 1) % 65536
 
--- What a packet is, by the greatest place of the run, or none before the first run, and by the last stray. A
--- packet near the greatest place is counted. Any other one starts a run if its number is the successor of the
+-- What a packet is, by the greatest ordinal of the run, or none before the first run, and by the last stray. A
+-- packet near the greatest ordinal is counted. Any other one starts a run if its number is the successor of the
 -- last stray's, and is a stray if not. Before the first run this is probation as in A.1: each packet whose
 -- number is no successor begins probation anew.
 abbrev pub taken_as : (greatest stray : Option ℕ) (seq : ℕ) → Taken
@@ -78,7 +78,7 @@ taken_as (Some greatest) stray seq =
 
 abbrev pub greatest_of : List CountedPacket → Option ℕ
 greatest_of [] = None
-greatest_of (p ∷ earlier) = Some (greatest_place (p ∷ earlier))
+greatest_of (p ∷ earlier) = Some (greatest_ordinal (p ∷ earlier))
 
 abbrev pub newest : List ℕ → Option ℕ
 newest [] = None
@@ -101,7 +101,7 @@ with_counted packet run = record run { counted = packet ∷ run.counted }
 -- The run after one packet more.
 abbrev pub run_with : Taken → (seq transit : ℕ) → PacketRun → PacketRun
 run_with Counted seq transit run =
-    with_counted (packet_at (place_near (greatest_place run.counted) seq) transit) run
+    with_counted (packet_at (ordinal_near (greatest_ordinal run.counted) seq) transit) run
 run_with Became seq transit run = run_started seq transit
 run_with Restarted seq transit run = run_started seq transit
 run_with Probation seq transit run = record run { strays = seq ∷ run.strays }

@@ -2,7 +2,7 @@
 -- A.3, A.8).
 use Rattle.std.specs.Prelude.{ℕ, ℤ, ◌-◌, ◌/◌, ◌%◌, ◌^◌, List, [], ◌∷◌, length, Option, Some, None, option_map}
 use Rattle.rtcp_wire.specs.Values.{ReportBlock}
-use Rattle.rtcp_source.specs.Packets.{Given, CountedPacket, greatest_place, run_of}
+use Rattle.rtcp_source.specs.Packets.{Given, CountedPacket, greatest_ordinal, run_of}
 use Rattle.rtcp_source.specs.Summary.{RunValue, SourceValue, expected_of, jitter_of}
 use Rattle.rtcp_source.specs.Blocks.{lost_of, expected_in}
 
@@ -23,7 +23,7 @@ reception_of_packets counted =
     record {
       received = length counted;
       lost = lost_of (expected_of counted) (length counted);
-      highest = (greatest_place counted - 65536) % 2 ^ 32;
+      highest = (greatest_ordinal counted - 65536) % 2 ^ 32;
       jitter = jitter_of counted / 16;
     }
 

@@ -2,7 +2,7 @@
 use Rattle.std.specs.Prelude.{ℕ, ◌+◌, max, Option, Some, None}
 use Rattle.rtcp_source.specs.declared.taken.Taken.{Taken}
 use Rattle.rtcp_source.specs.declared.taken.Taken.TheVariants.{Probation, Counted, Became, Restarted, Bad}
-use Rattle.rtcp_source.specs.Packets.{place_near, taken_as, transit_of}
+use Rattle.rtcp_source.specs.Packets.{ordinal_near, taken_as, transit_of}
 use Rattle.rtcp_source.specs.Summary.{RunValue, SourceValue, transit_distance, jitter_with}
 use Rattle.rtcp_source.specs.Blocks.{expected_in}
 
@@ -35,7 +35,7 @@ run_from seq transit =
 abbrev pub run_after : (seq transit : ℕ) → RunValue → RunValue
 run_after seq transit run =
     record run {
-      greatest = max (place_near run.greatest seq) run.greatest;
+      greatest = max (ordinal_near run.greatest seq) run.greatest;
       received = run.received + 1;
       transit = transit;
       jitter = jitter_with run.jitter (transit_distance transit run.transit);

@@ -1,10 +1,10 @@
 -- What is kept of what a source was given: counts, extremes and folds of the lists of its last run.
 use Rattle.std.specs.Prelude.{◌≡◌, ℕ, ◌+◌, ◌-◌, ◌/◌, ◌%◌, ◌^◌, min, List, [], ◌∷◌, length, Option, Some, None}
-use Rattle.rtcp_source.specs.Packets.{Given, packet_came, report_came, block_made, CountedPacket, greatest_place, first_place, newest, run_of}
+use Rattle.rtcp_source.specs.Packets.{Given, packet_came, report_came, block_made, CountedPacket, greatest_ordinal, first_ordinal, newest, run_of}
 
 -- A run in numbers.
 pub record RunValue : Type 0 where
-  -- the place of its first packet, and the greatest place
+  -- the ordinal of its first packet, and the greatest ordinal
   pub first : ℕ
   pub greatest : ℕ
   -- how many packets were counted in it
@@ -36,7 +36,7 @@ pub record SourceValue : Type 0 where
 -- How many packets are expected (A.3): as many as there are integers from the first packet's to the greatest.
 abbrev pub expected_of : List CountedPacket → ℕ
 expected_of [] = 0
-expected_of (p ∷ earlier) = greatest_place (p ∷ earlier) + 1 - first_place (p ∷ earlier)
+expected_of (p ∷ earlier) = greatest_ordinal (p ∷ earlier) + 1 - first_ordinal (p ∷ earlier)
 
 -- The distance of two transits, whose difference is a signed number of 32 bits.
 abbrev pub transit_distance : (transit before : ℕ) → ℕ
@@ -60,8 +60,8 @@ abbrev pub numbers_of : (counted before : List CountedPacket) → Option RunValu
 numbers_of [] before = None
 numbers_of (p ∷ earlier) before =
     Some (record {
-      first = first_place (p ∷ earlier);
-      greatest = greatest_place (p ∷ earlier);
+      first = first_ordinal (p ∷ earlier);
+      greatest = greatest_ordinal (p ∷ earlier);
       received = length (p ∷ earlier);
       expected_before = expected_of before;
       received_before = length before;

@@ -3,8 +3,8 @@
 ghost use Rattle.std.specs.Prelude.{◌≡◌, [], ◌∷◌, ◌+◌, ◌≤◌, ◌<◌, ◌↔◌, ℕ, ℤ, pos, true, List, ◌-◌, ◌%◌, ◌^◌, unsigned_abs, option_map};
 ghost use Rattle.std.specs.Int.{cast_signed, w32};
 ghost use Rattle.rtcp_source.specs.declared.taken.Taken.TheVariants.{Counted};
-ghost use Rattle.rtcp_source.specs.Packets.{Given, packet_came, report_came, block_made, HasCounted, packet_at, with_counted, greatest_place, is_near, place_near, taken_in, transit_of, run_of, has_news_since};
-ghost use Rattle.rtcp_source.specs.Integers.{IsIntegerNear, HasIntegerNear, HasPlaceNear, IsPlaceOfInteger, place_of, greatest_integer};
+ghost use Rattle.rtcp_source.specs.Packets.{Given, packet_came, report_came, block_made, HasCounted, packet_at, with_counted, greatest_ordinal, is_near, ordinal_near, taken_in, transit_of, run_of, has_news_since};
+ghost use Rattle.rtcp_source.specs.Integers.{IsIntegerNear, HasIntegerNear, HasOrdinalNear, IsOrdinalOfInteger, ordinal_of, greatest_integer};
 ghost use Rattle.rtcp_source.specs.Blocks.{block_for, block_over, news_of};
 ghost use Rattle.rtcp_source.specs.Receptions.{reception_in, reception_over, figures_of, figures_in};
 ghost use Rattle.rtcp_source.specs.Steps.{no_source, taken_by, after_packet, after_told, after_block_made};
@@ -43,32 +43,32 @@ pub fn summary_moves()
 
 /// The greatest integer of a run is never negative. Once a run was started, a packet is counted in it exactly
 /// where its number has an integer near the greatest one; there is at most one such integer, and the packet
-/// enters the run with its place (RFC 3550, A.1).
+/// enters the run with its ordinal (RFC 3550, A.1).
 pub fn counted_by_integer()
     ensures greatest { (given : List Given) → HasCounted (run_of given) →
-        65536 ≤ greatest_place (run_of given).counted }
+        65536 ≤ greatest_ordinal (run_of given).counted }
     ensures counted { (given : List Given) (seq : ℕ) → seq < 65536 → HasCounted (run_of given) →
         (taken_in (run_of given) seq ≡ Counted) ↔ HasIntegerNear (greatest_integer (run_of given)) seq }
     ensures enters { (given : List Given) (seq timestamp arrival : ℕ) (integer : ℤ) → seq < 65536 →
         HasCounted (run_of given) → IsIntegerNear (greatest_integer (run_of given)) seq integer →
         run_of (packet_came seq timestamp arrival ∷ given)
-        ≡ with_counted (packet_at (place_of integer) (transit_of timestamp arrival)) (run_of given) }
+        ≡ with_counted (packet_at (ordinal_of integer) (transit_of timestamp arrival)) (run_of given) }
     ensures one { (greatest : ℤ) (seq : ℕ) (a b : ℤ) →
         IsIntegerNear greatest seq a → IsIntegerNear greatest seq b → a ≡ b }
 {}
 
-/// A number that has an integer near the greatest one is near the greatest place, and has that integer's
-/// place (RFC 3550, A.1).
+/// A number that has an integer near the greatest one is near the greatest ordinal, and has that integer's
+/// ordinal (RFC 3550, A.1).
 pub fn integer_is_found()
     ensures { (greatest seq : ℕ) (integer : ℤ) → seq < 65536 → IsIntegerNear (pos greatest) seq integer →
-        HasPlaceNear (greatest + 65536) seq (place_of integer) }
+        HasOrdinalNear (greatest + 65536) seq (ordinal_of integer) }
 {}
 
-/// A number that is near the greatest place has an integer near the greatest one, and its place there is the
-/// place of that integer.
-pub fn place_has_integer()
+/// A number that is near the greatest ordinal has an integer near the greatest one, and its ordinal there is the
+/// ordinal of that integer.
+pub fn ordinal_has_integer()
     ensures { (greatest seq : ℕ) → seq < 65536 → is_near (greatest + 65536) seq ≡ true →
-        IsPlaceOfInteger (pos greatest) seq (place_near (greatest + 65536) seq) }
+        IsOrdinalOfInteger (pos greatest) seq (ordinal_near (greatest + 65536) seq) }
 {}
 
 /// The distance of two transits is the absolute value of their difference, as a signed number of 32 bits

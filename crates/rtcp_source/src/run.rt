@@ -11,17 +11,17 @@ ghost use Rattle.rtcp_source.specs.Receptions.{reception_of_run};
 ghost use Rattle.rtcp_source.specs.Views.{run_value, reception_value};
 
 use crate::reception::Reception;
-use crate::sequence::{FIRST, nearest_place};
+use crate::sequence::{FIRST, nearest_ordinal};
 use rtcp_wire::Block;
 
-/// The counted packets of a run, in numbers. Places are those of `sequence`.
+/// The counted packets of a run, in numbers. Ordinals are those of `sequence`.
 #[derive(Clone, Copy)]
 pub(crate) struct Run {
-    /// The place of the first packet.
+    /// The ordinal of the first packet.
     pub(crate) first: u32,
     /// The transit of the newest packet: its arrival less its timestamp, modulo 2^32.
     pub(crate) transit: u32,
-    /// The greatest place.
+    /// The greatest ordinal.
     pub(crate) greatest: u64,
     /// How many packets were counted, late and repeated ones included.
     pub(crate) received: u64,
@@ -51,7 +51,7 @@ impl Run {
         }
     }
 
-    /// The run with one more packet, whose number is near the greatest place.
+    /// The run with one more packet, whose number is near the greatest ordinal.
     pub(crate) fn with(self, seq: u16, transit: u32) -> Run
         requires few { self.received < 2 ^ 40 }
         requires bounded { IsRunBounded self.received (run_value self) }
@@ -60,7 +60,7 @@ impl Run {
     {
         let distance = distance(transit, self.transit) as u64;
         Run {
-            greatest: self.greatest.max(nearest_place(self.greatest, seq)),
+            greatest: self.greatest.max(nearest_ordinal(self.greatest, seq)),
             received: self.received + 1,
             transit,
             jitter: self.jitter + distance - (self.jitter + 8) / 16,

@@ -1,26 +1,25 @@
-//! Sequence numbers (RFC 3550, appendix A.1). A place stands for an integer that is congruent to a packet's
+//! Sequence numbers (RFC 3550, appendix A.1). An ordinal stands for an integer that is congruent to a packet's
 //! sequence number modulo 65536, and that counts the wraps. It is 65536 above that integer, so that it is
 //! never negative.
 
 ghost use Rattle.std.specs.Prelude.{◌≡◌, ◌≤◌, ◌<◌, ◌^◌, option_map};
-ghost use Rattle.rtcp_source.specs.Packets.{ahead, is_near, place_near, follows, taken_as};
+ghost use Rattle.rtcp_source.specs.Packets.{ahead, is_near, ordinal_near, follows, taken_as};
 
 use crate::taken::Taken;
 
-/// How far the place of a run's first packet is above its number.
+/// How far the ordinal of a run's first packet is above its number.
 pub(crate) const FIRST: u64 = 65_536;
 
-/// A.1's MAX_DROPOUT: a packet that is ahead by fewer places is counted.
+/// MAX_DROPOUT (A.1): a packet that is less far ahead than this is counted.
 const MAX_DROPOUT: u16 = 3000;
 
-/// MAX_MISORDER: a packet fewer places behind than this is late, and counted (A.1).
+/// MAX_MISORDER (A.1): a packet that is less far behind than this is late, and counted.
 const MAX_MISORDER: u16 = 100;
 
-/// 65536 less MAX_MISORDER: a packet that is ahead by more places, modulo 65536, is behind by fewer than
-/// MAX_MISORDER.
+/// 65536 less MAX_MISORDER: a packet that is further ahead than this, modulo 65536, is late.
 const LATE: u16 = u16::MAX - MAX_MISORDER + 1;
 
-/// What a packet is, by the greatest place of the run, if one was started, and by the number of the last
+/// What a packet is, by the greatest ordinal of the run, if one was started, and by the number of the last
 /// stray.
 pub(crate) fn judge(greatest: Option<u64>, stray: Option<u16>, seq: u16) -> Taken
     ensures { result ≡ taken_as greatest stray seq }
@@ -56,11 +55,11 @@ fn follows_stray(stray: Option<u16>, seq: u16) -> bool
     }
 }
 
-/// The place of a number that is near the greatest place: the congruent one that is near it.
-pub(crate) fn nearest_place(greatest: u64, seq: u16) -> u64
+/// The ordinal of a number that is near the greatest ordinal: the congruent one that is near it.
+pub(crate) fn nearest_ordinal(greatest: u64, seq: u16) -> u64
     requires low { 65536 ≤ greatest }
     requires high { greatest < 2 ^ 60 }
-    ensures { result ≡ place_near greatest seq }
+    ensures { result ≡ ordinal_near greatest seq }
 {
     let distance = distance_ahead(greatest, seq);
     if distance < MAX_DROPOUT {
@@ -70,7 +69,7 @@ pub(crate) fn nearest_place(greatest: u64, seq: u16) -> u64
     }
 }
 
-/// How far the number is ahead of the place, modulo 65536.
+/// How far the number is ahead of the ordinal, modulo 65536.
 fn distance_ahead(greatest: u64, seq: u16) -> u16
     ensures { result ≡ ahead greatest seq }
 {
