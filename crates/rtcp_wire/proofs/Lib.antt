@@ -1,4 +1,4 @@
-mod FirstRows
+mod FirstFound
 mod Joining
 mod Prefixes
 mod Fixed

@@ -6,11 +6,11 @@ use Rattle.rtcp_wire.specs.declared.fault.FaultReason.{FaultReason}
 use Rattle.rtcp_wire.specs.declared.fault.WireFault.{WireFault}
 use Rattle.rtcp_wire.specs.Values.{RtcpPacket}
 use Rattle.rtcp_wire.specs.Grammar.{Joins, IsSpelling, MayBegin, IsAccepted}
-use Rattle.rtcp_wire.specs.Faults.{IsFirstRow, MayStand, StopsAt, IsFirstFault}
+use Rattle.rtcp_wire.specs.Faults.{IsFirstFound, MayStand, StopsAt, IsFirstFault}
 use Rattle.rtcp_wire.proofs.Joining.{Extends, Extends-none, comparing}
 use Rattle.rtcp_wire.proofs.Prefixes.{no_prefix, no_rest, cut_prefix}
 use Rattle.rtcp_wire.proofs.Spellings.{same_header, spelling_length, spelling_has_octets, one_spelling}
-use Rattle.rtcp_wire.proofs.Stops.{begins_at, one_row}
+use Rattle.rtcp_wire.proofs.Stops.{begins_at, one_found}
 
 -- ---- Prefixes before a fault
 
@@ -70,16 +70,16 @@ same_stop_prefix octets f g h k =
       | inr on ↦ sym (stop_is_last octets g k ys.0 xs.0 h.prefix h.rest (before_begins h.prefix h.before) on).0
     ]
 
--- a first row at equal offsets
-row_at : (r : FaultReason) (a c x y : List ℕ) → a ≡ c → x ≡ y → IsFirstRow r (length a == 0) x → IsFirstRow r (length c == 0) y
-row_at r a c x y prefixes rests h = subst (λ (t : List ℕ). IsFirstRow r (length t == 0) y) prefixes (subst (λ (t : List ℕ). IsFirstRow r (length a == 0) t) rests h)
+-- a first fault at equal offsets
+found_at : (r : FaultReason) (a c x y : List ℕ) → a ≡ c → x ≡ y → IsFirstFound r (length a == 0) x → IsFirstFound r (length c == 0) y
+found_at r a c x y prefixes rests h = subst (λ (t : List ℕ). IsFirstFound r (length t == 0) y) prefixes (subst (λ (t : List ℕ). IsFirstFound r (length a == 0) t) rests h)
 
 -- A datagram stops at one offset for one reason.
 one_stop : (octets : List ℕ) (f g : WireFault) → StopsAt octets f → StopsAt octets g → f ≡ g
 one_stop octets f g h k =
     let prefixes : h.prefix ≡ k.prefix = same_stop_prefix octets f g h k in
     let rests : h.rest ≡ k.rest = cut_prefix h.prefix k.prefix h.rest k.rest prefixes (sym h.parts ∙ k.parts) in
-    same_fault f g (one_row f.reason g.reason (length k.prefix == 0) k.rest (row_at f.reason h.prefix k.prefix h.rest k.rest prefixes rests h.row) k.row) (h.place ∙ ap length prefixes ∙ sym k.place)
+    same_fault f g (one_found f.reason g.reason (length k.prefix == 0) k.rest (found_at f.reason h.prefix k.prefix h.rest k.rest prefixes rests h.first) k.first) (h.place ∙ ap length prefixes ∙ sym k.place)
 
 -- A datagram has one first fault.
 pub one_fault : (octets : List ℕ) (f g : WireFault) → IsFirstFault octets f → IsFirstFault octets g → f ≡ g

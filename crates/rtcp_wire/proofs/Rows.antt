@@ -4,11 +4,11 @@ use Rattle.rtcp_wire.specs.declared.fault.FaultReason.{FaultReason}
 use Rattle.rtcp_wire.specs.declared.fault.FaultReason.TheVariants.{Short, FirstPadding, Length, Body, Item}
 use Rattle.rtcp_wire.specs.Values.{ItemValue, ChunkValue, rr, sdes, bye}
 use Rattle.rtcp_wire.specs.Grammar.{version_of, is_padded, count_of, type_of, size_of, body_of, IsSpelling, IsAccepted}
-use Rattle.rtcp_wire.specs.Faults.{EndsInsideChunk, FindsInBody, IsFirstRow, IsFirstFault}
+use Rattle.rtcp_wire.specs.Faults.{EndsInsideChunk, FindsInBody, IsFirstFound, IsFirstFault}
 use Rattle.rtcp_wire.specs.Parts.{IsWhole}
 use Rattle.rtcp_wire.proofs.Prefixes.{cons_not_nil}
 use Rattle.rtcp_wire.proofs.Spellings.{own, is_own}
-use Rattle.rtcp_wire.proofs.Standing.{none_at_first, not_both_bits, before_first_padding, before_length, HasBody, body_row}
+use Rattle.rtcp_wire.proofs.Standing.{none_at_first, not_both_bits, before_first_padding, before_length, HasBody, body_found}
 use Rattle.rtcp_wire.proofs.Walking.{HasPassed, none_passed, stops_next}
 
 -- A bit that is clear isn't set.
@@ -163,12 +163,12 @@ cut_off_refused =
     (record { found = omega arith; no_earlier = before_length true cut_off (omega arith) refl (λ e. (inr refl, refl)) })
 
 -- What is found in the body of a whole packet without padding is found first.
-pub first_row : (reason : FaultReason) (first : Bool) (octets : List ℕ) → IsWhole first octets → is_padded octets ≡ false → FindsInBody reason (type_of octets) (count_of octets) (body_of octets) → IsFirstRow reason first octets
-first_row reason first octets good unpadded found =
+pub first_found : (reason : FaultReason) (first : Bool) (octets : List ℕ) → IsWhole first octets → is_padded octets ≡ false → FindsInBody reason (type_of octets) (count_of octets) (body_of octets) → IsFirstFound reason first octets
+first_found reason first octets good unpadded found =
     let padded = (is_own octets good.size).parts.header.padded in
     let has : HasBody first octets (body_of (own octets)) (type_of octets) (count_of octets) =
     record { good = good; unpadded = (refl, λ set. absurd (not_both_bits (is_padded (own octets)) set (sym padded ∙ unpadded))); kind_is = refl; count_is = refl } in
-    body_row first octets (body_of (own octets)) (type_of octets) (count_of octets) has reason found
+    body_found first octets (body_of (own octets)) (type_of octets) (count_of octets) has reason found
 
 -- 81c9000100000007
 abbrev no_block : List ℕ
@@ -178,7 +178,7 @@ no_block = 129 ∷ 201 ∷ 0 ∷ 1 ∷ 0 ∷ 0 ∷ 0 ∷ 7 ∷ []
 pub no_block_refused : IsFirstFault no_block (record { reason = Body; place = 0 })
 no_block_refused =
     stops_next no_block no_block 0 (none_passed no_block (omega arith)) refl Body
-    (first_row Body true no_block (record { header = omega arith; version = refl; size = omega arith; may_stand = λ e. (inr refl, refl) }) refl (inl (omega arith)))
+    (first_found Body true no_block (record { header = omega arith; version = refl; size = omega arith; may_stand = λ e. (inr refl, refl) }) refl (inl (omega arith)))
 
 -- a description whose one item says five octets of text, and has two
 abbrev long_item : List ℕ
@@ -209,4 +209,4 @@ later octets enough version room = record { header = enough; version = version; 
 pub long_item_refused : IsFirstFault (report ++ long_item) (record { reason = Item; place = 8 })
 long_item_refused =
     stops_next (report ++ long_item) long_item 8 (after_report long_item (cons_not_nil 129 (drop 1 long_item)) (omega arith)) refl Item
-    (first_row Item false long_item (later long_item (omega arith) refl (omega arith)) refl (refl, ends_inside))
+    (first_found Item false long_item (later long_item (omega arith) refl (omega arith)) refl (refl, ends_inside))

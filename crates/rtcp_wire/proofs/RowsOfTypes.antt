@@ -7,7 +7,7 @@ use Rattle.rtcp_wire.specs.Faults.{IsFirstFault}
 use Rattle.rtcp_wire.proofs.Joining.{Joins-one}
 use Rattle.rtcp_wire.proofs.Prefixes.{cons_not_nil}
 use Rattle.rtcp_wire.proofs.Walking.{stops_next}
-use Rattle.rtcp_wire.proofs.Rows.{differs, report, report_spelled, after_report, later, first_row}
+use Rattle.rtcp_wire.proofs.Rows.{differs, report, report_spelled, after_report, later, first_found}
 
 -- ---- Sender reports
 
@@ -149,7 +149,7 @@ long_reason = 129 ∷ 203 ∷ 0 ∷ 2 ∷ 0 ∷ 0 ∷ 0 ∷ 7 ∷ 5 ∷ 97 ∷ 9
 pub long_reason_refused : IsFirstFault (report ++ long_reason) (record { reason = Reason; place = 8 })
 long_reason_refused =
     stops_next (report ++ long_reason) long_reason 8 (after_report long_reason (cons_not_nil 129 (drop 1 long_reason)) (omega arith)) refl Reason
-    (first_row Reason false long_reason (later long_reason (omega arith) refl (omega arith)) refl (refl, inl (omega arith)))
+    (first_found Reason false long_reason (later long_reason (omega arith) refl (omega arith)) refl (refl, inl (omega arith)))
 
 -- 81cb0003 00000007 02616200 00000000
 abbrev word_more : List ℕ
@@ -159,7 +159,7 @@ word_more = 129 ∷ 203 ∷ 0 ∷ 3 ∷ 0 ∷ 0 ∷ 0 ∷ 7 ∷ 2 ∷ 97 ∷ 98 
 pub word_more_refused : IsFirstFault (report ++ word_more) (record { reason = Reason; place = 8 })
 word_more_refused =
     stops_next (report ++ word_more) word_more 8 (after_report word_more (cons_not_nil 129 (drop 1 word_more)) (omega arith)) refl Reason
-    (first_row Reason false word_more (later word_more (omega arith) refl (omega arith)) refl (refl, inr (omega arith)))
+    (first_found Reason false word_more (later word_more (omega arith) refl (omega arith)) refl (refl, inr (omega arith)))
 
 -- 82cb0001 00000007
 abbrev one_id_short : List ℕ
@@ -169,7 +169,7 @@ one_id_short = 130 ∷ 203 ∷ 0 ∷ 1 ∷ 0 ∷ 0 ∷ 0 ∷ 7 ∷ []
 pub one_id_short_refused : IsFirstFault (report ++ one_id_short) (record { reason = Body; place = 8 })
 one_id_short_refused =
     stops_next (report ++ one_id_short) one_id_short 8 (after_report one_id_short (cons_not_nil 130 (drop 1 one_id_short)) (omega arith)) refl Body
-    (first_row Body false one_id_short (later one_id_short (omega arith) refl (omega arith)) refl (inl (omega arith)))
+    (first_found Body false one_id_short (later one_id_short (omega arith) refl (omega arith)) refl (inl (omega arith)))
 
 -- 80cc0001 00000007
 abbrev no_name : List ℕ
@@ -179,4 +179,4 @@ no_name = 128 ∷ 204 ∷ 0 ∷ 1 ∷ 0 ∷ 0 ∷ 0 ∷ 7 ∷ []
 pub no_name_refused : IsFirstFault (report ++ no_name) (record { reason = Body; place = 8 })
 no_name_refused =
     stops_next (report ++ no_name) no_name 8 (after_report no_name (cons_not_nil 128 (drop 1 no_name)) (omega arith)) refl Body
-    (first_row Body false no_name (later no_name (omega arith) refl (omega arith)) refl (inl (omega arith)))
+    (first_found Body false no_name (later no_name (omega arith) refl (omega arith)) refl (inl (omega arith)))

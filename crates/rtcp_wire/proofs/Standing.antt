@@ -1,4 +1,4 @@
--- Where a packet should begin, one does, or a row of the tests is the first that finds a fault.
+-- Where a packet should begin, one does, or one of the tests is the first that finds a fault.
 use Rattle.std.proofs.Common.{◌≡◌, ◌≢◌, ℕ, suc, ◌+◌, ◌-◌, ◌*◌, ◌%◌, ◌<◌, ◌≤◌, ◌⊎◌, Bool, true, false, cond, List, length, get_or, drop, Result, Ok, Err, MatchResult, refl, sym, ◌∙◌, arith, inl, inr, lit<}
 use Rattle.std.proofs.lemmas.Bool.{cases_lt, cases_eq, cases_Bool}
 use Rattle.std.proofs.lemmas.List.{take-append-drop, length-drop, length-take-le}
@@ -6,35 +6,35 @@ use Rattle.byteorder.specs.Endian.{big_number}
 use Rattle.rtcp_wire.specs.declared.fault.FaultReason.{FaultReason}
 use Rattle.rtcp_wire.specs.declared.fault.FaultReason.TheVariants.{Short, Version, FirstType, FirstPadding, Length, Padding, Body, Item, Reason}
 use Rattle.rtcp_wire.specs.Grammar.{version_of, is_padded, count_of, type_of, size_of, padding_of, body_of, IsPadding, IsSpelling}
-use Rattle.rtcp_wire.specs.Faults.{FindsInBody, Finds, row_of, IsFirstRow, MayStand}
+use Rattle.rtcp_wire.specs.Faults.{FindsInBody, Finds, number_of, IsFirstFound, MayStand}
 use Rattle.rtcp_wire.specs.Parts.{Takes, IsWhole, IsUnpadded}
 use Rattle.rtcp_wire.specs.Validity.{IsSomeBody, IsSomePacket}
 use Rattle.rtcp_wire.proofs.Spellings.{own, is_own}
-use Rattle.rtcp_wire.proofs.Stops.{body_at, padding_at, begins_at, reason_in, reason_in_row}
+use Rattle.rtcp_wire.proofs.Stops.{body_at, padding_at, begins_at, reason_in, reason_has_number}
 use Rattle.rtcp_wire.proofs.BodyFaults.{body_or_item, body_or_reason, item_or_reason}
 use Rattle.rtcp_wire.proofs.Deciding.{body_from}
-use Rattle.rtcp_wire.proofs.FirstRows.{first_of_all, one_further}
+use Rattle.rtcp_wire.proofs.FirstFound.{first_of_all, one_further}
 
--- ---- Rows
+-- ---- Tests
 
--- No test of an earlier row finds a fault.
+-- No earlier test finds a fault.
 abbrev pub NoneBefore : ℕ → Bool → List ℕ → Type 0
-NoneBefore n first b = (earlier : FaultReason) → row_of earlier < n → Finds earlier first b → ⊥
+NoneBefore n first b = (earlier : FaultReason) → number_of earlier < n → Finds earlier first b → ⊥
 
 -- No test comes before the first.
 pub none_at_first : (first : Bool) (b : List ℕ) → NoneBefore 1 first b
-none_at_first first b = first_of_all row_of reason_in reason_in_row (lit< tt) (λ reason. Finds reason first b)
+none_at_first first b = first_of_all number_of reason_in reason_has_number (lit< tt) (λ reason. Finds reason first b)
 
--- one row further, where its test finds nothing
-next_row : (r : FaultReason) (first : Bool) (b : List ℕ) → NoneBefore (row_of r) first b → (Finds r first b → ⊥) → NoneBefore (suc (row_of r)) first b
-next_row r first b = one_further row_of reason_in reason_in_row (lit< tt) (λ reason. Finds reason first b) r
+-- one test further, where this one finds nothing
+next_test : (r : FaultReason) (first : Bool) (b : List ℕ) → NoneBefore (number_of r) first b → (Finds r first b → ⊥) → NoneBefore (suc (number_of r)) first b
+next_test r first b = one_further number_of reason_in reason_has_number (lit< tt) (λ reason. Finds reason first b) r
 
--- Some row is the first that finds a fault.
+-- Some test is the first that finds a fault.
 abbrev pub IsFaulty : Bool → List ℕ → Type 0
-IsFaulty first b = (reason : FaultReason) × IsFirstRow reason first b
+IsFaulty first b = (reason : FaultReason) × IsFirstFound reason first b
 
--- The row that comes next finds one.
-faulty : (r : FaultReason) (first : Bool) (b : List ℕ) → NoneBefore (row_of r) first b → Finds r first b → IsFaulty first b
+-- The test that comes next finds one.
+faulty : (r : FaultReason) (first : Bool) (b : List ℕ) → NoneBefore (number_of r) first b → Finds r first b → IsFaulty first b
 faulty r first b none found = (r, record { found = found; no_earlier = none })
 
 -- ---- Single tests
@@ -80,24 +80,24 @@ not_both_bits p set clear = cc
 -- ---- The header
 
 module _ (first : Bool) (b : List ℕ) where
-  -- Each test of a header that finds nothing leads to the next row.
+  -- Each test of a header that finds nothing leads to the next.
   before_version : 4 ≤ length b → NoneBefore 2 first b
-  before_version enough = next_row Short first b (none_at_first first b) (λ (few : length b < 4). omega (arith, few, enough))
+  before_version enough = next_test Short first b (none_at_first first b) (λ (few : length b < 4). omega (arith, few, enough))
 
   before_type : 4 ≤ length b → version_of b ≡ 2 → NoneBefore 3 first b
-  before_type enough version = next_row Version first b (before_version enough) (λ differs. differs version)
+  before_type enough version = next_test Version first b (before_version enough) (λ differs. differs version)
 
   pub before_first_padding : 4 ≤ length b → version_of b ≡ 2 → (first ≡ true → (type_of b ≡ 200) ⊎ (type_of b ≡ 201)) → NoneBefore 4 first b
-  before_first_padding enough version kind = next_row FirstType first b (before_type enough version) (λ bad. elim (kind bad.0) [ inl e ↦ bad.1 e | inr e ↦ bad.2 e ])
+  before_first_padding enough version kind = next_test FirstType first b (before_type enough version) (λ bad. elim (kind bad.0) [ inl e ↦ bad.1 e | inr e ↦ bad.2 e ])
 
   pub before_length : 4 ≤ length b → version_of b ≡ 2 → MayStand first b → NoneBefore 5 first b
   before_length enough version may =
-      next_row FirstPadding first b (before_first_padding enough version (λ is_first. (may is_first).0)) (λ bad. not_both_bits (is_padded b) bad.1 (may bad.0).1)
+      next_test FirstPadding first b (before_first_padding enough version (λ is_first. (may is_first).0)) (λ bad. not_both_bits (is_padded b) bad.1 (may bad.0).1)
 
   before_padding : IsWhole first b → NoneBefore 6 first b
-  before_padding good = next_row Length first b (before_length good.header good.version good.may_stand) (λ (few : length b < size_of b). omega (arith, few, good.size))
+  before_padding good = next_test Length first b (before_length good.header good.version good.may_stand) (λ (few : length b < size_of b). omega (arith, few, good.size))
 
-  -- A header is good, or a first row finds a fault.
+  -- A header is good, or a first test finds a fault.
   header_from : IsWhole first b ⊎ IsFaulty first b
   header_from =
       elim (cases_lt (length b) 4) [
@@ -119,8 +119,8 @@ module _ (first : Bool) (b : List ℕ) where
       ]
 
 -- A padding that is not good is the first fault.
-padding_row : (first : Bool) (b : List ℕ) → IsWhole first b → Finds Padding false (own b) → IsFirstRow Padding first b
-padding_row first b good found =
+padding_found : (first : Bool) (b : List ℕ) → IsWhole first b → Finds Padding false (own b) → IsFirstFound Padding first b
+padding_found first b good found =
     let same = (is_own b good.size).parts in
     record {
       found = (same.header.padded ∙ found.0, λ padding. found.1 (padding_at (size_of b) (size_of (own b)) (padding_of b) (padding_of (own b)) same.header.size same.padding padding));
@@ -160,22 +160,22 @@ module _ (first : Bool) (b body : List ℕ) (kind count : ℕ) (h : HasBody firs
   before_body : NoneBefore 7 first b
   before_body =
       let same = (is_own b h.good.size).parts in
-      next_row Padding first b (before_padding first b h.good) (λ bad. bad.1 (
+      next_test Padding first b (before_padding first b h.good) (λ bad. bad.1 (
       padding_at (size_of (own b)) (size_of b) (padding_of (own b)) (padding_of b) (sym same.header.size) (sym same.padding) (h.unpadded.1 (sym same.header.padded ∙ bad.0))
       ))
 
   -- The fault of a body is the first one.
-  pub body_row : (r : FaultReason) → FindsInBody r (type_of b) (count_of b) (body_of b) → IsFirstRow r first b
-  body_row Body found = record { found = found; no_earlier = before_body }
-  body_row Item found = record { found = found; no_earlier = next_row Body first b before_body (λ body. body_or_item (type_of b) (count_of b) (body_of b) body found) }
-  body_row Reason found =
-      let none8 : NoneBefore 8 first b = next_row Body first b before_body (λ body. body_or_reason (type_of b) (count_of b) (body_of b) body found) in
-      record { found = found; no_earlier = next_row Item first b none8 (λ item. item_or_reason (type_of b) (count_of b) (body_of b) item found) }
-  body_row r found = absurd found
+  pub body_found : (r : FaultReason) → FindsInBody r (type_of b) (count_of b) (body_of b) → IsFirstFound r first b
+  body_found Body found = record { found = found; no_earlier = before_body }
+  body_found Item found = record { found = found; no_earlier = next_test Body first b before_body (λ body. body_or_item (type_of b) (count_of b) (body_of b) body found) }
+  body_found Reason found =
+      let none8 : NoneBefore 8 first b = next_test Body first b before_body (λ body. body_or_reason (type_of b) (count_of b) (body_of b) body found) in
+      record { found = found; no_earlier = next_test Item first b none8 (λ item. item_or_reason (type_of b) (count_of b) (body_of b) item found) }
+  body_found r found = absurd found
 
   -- What is found in a body is found of the packet.
   pub packet_passed : (tested : Result Unit FaultReason) → MatchResult tested (λ _. IsSomeBody kind count body) (λ reason. FindsInBody reason kind count body)
-      → MatchResult tested (λ _. Takes b (drop (size_of b) b) (λ s. IsSomePacket s × MayStand first s)) (λ reason. IsFirstRow reason first b)
+      → MatchResult tested (λ _. Takes b (drop (size_of b) b) (λ s. IsSomePacket s × MayStand first s)) (λ reason. IsFirstFound reason first b)
   packet_passed (Ok done) made =
       let mine = is_own b h.good.size in
       let header = mine.parts.header in
@@ -186,7 +186,7 @@ module _ (first : Bool) (b body : List ℕ) (kind count : ℕ) (h : HasBody firs
         body = body_at made.0 kind (type_of (own b)) count (count_of (own b)) body (body_of (own b)) (h.kind_is ∙ header.kind) (h.count_is ∙ header.count) h.unpadded.0 made.1;
       } in
       (own b, sym (take-append-drop (size_of b) b), ((made.0, spelled), λ is_first. begins_at (own b) b header (h.good.may_stand is_first)))
-  packet_passed (Err reason) found = body_row reason (rw (← h.kind_is, ← h.count_is, ← (h.unpadded.0 ∙ sym (is_own b h.good.size).parts.body)) found)
+  packet_passed (Err reason) found = body_found reason (rw (← h.kind_is, ← h.count_is, ← (h.unpadded.0 ∙ sym (is_own b h.good.size).parts.body)) found)
 
 -- ---- The packet
 
@@ -194,13 +194,13 @@ module _ (first : Bool) (b body : List ℕ) (kind count : ℕ) (h : HasBody firs
 abbrev pub TakesPacket : Bool → List ℕ → List ℕ → Type 0
 TakesPacket first old new = Takes old new (λ octets. IsSomePacket octets × MayStand first octets)
 
--- A packet is taken, or a first row finds a fault: by the steps of the tests.
+-- A packet is taken, or a first test finds a fault: by the steps of the tests.
 pub packet_from : (first : Bool) (b : List ℕ) → TakesPacket first b (drop (size_of b) b) ⊎ IsFaulty first b
 packet_from first b =
     elim (header_from first b) [
       | inr fault ↦ inr fault
       | inl good ↦ elim (padding_is_good (is_padded (own b)) (size_of (own b)) (padding_of (own b))) [
-        | inl bad ↦ inr (Padding, padding_row first b good bad)
+        | inl bad ↦ inr (Padding, padding_found first b good bad)
         | inr padding ↦ (let has : HasBody first b (body_of (own b)) (type_of b) (count_of b) = record { good = good; unpadded = (refl, padding); kind_is = refl; count_is = refl } in
             elim (body_from (type_of b) (count_of b) (body_of (own b)) (body_is_words (own b) (is_own b good.size).size padding)) [
               | inl some ↦ inl (packet_passed first b (body_of (own b)) (type_of b) (count_of b) has (Ok tt) some)

@@ -5,9 +5,9 @@ use Rattle.rtcp_wire.specs.declared.fault.FaultReason.{FaultReason}
 use Rattle.rtcp_wire.specs.declared.fault.FaultReason.TheVariants.{Short, Version, FirstType, FirstPadding, Length, Padding, Body, Item, Reason, TooLong}
 use Rattle.rtcp_wire.specs.Values.{RtcpPacket}
 use Rattle.rtcp_wire.specs.Grammar.{is_padded, count_of, type_of, size_of, padding_of, body_of, IsPadding, IsBody, IsSpelling, MayBegin}
-use Rattle.rtcp_wire.specs.Faults.{FindsInBody, Finds, row_of, IsFirstRow, MayStand}
+use Rattle.rtcp_wire.specs.Faults.{FindsInBody, Finds, number_of, IsFirstFound, MayStand}
 use Rattle.rtcp_wire.proofs.BodyFaults.{no_body_fault}
-use Rattle.rtcp_wire.proofs.FirstRows.{one_first}
+use Rattle.rtcp_wire.proofs.FirstFound.{one_first}
 use Rattle.rtcp_wire.proofs.Spellings.{SameHeader, spelling_length, spelling_parts}
 
 -- ---- No spelling at a fault
@@ -76,25 +76,25 @@ finds_no_spelling r first b found p s after e h may = at_spelling r first p s af
 
 -- ---- The order of the tests
 
--- the reason in this row
+-- the reason of this number
 abbrev pub reason_in : ℕ → FaultReason
 reason_in n =
     if n == 1 then Short else if n == 2 then Version else if n == 3 then FirstType else if n == 4 then FirstPadding else if n == 5 then Length
     else if n == 6 then Padding else if n == 7 then Body else if n == 8 then Item else if n == 9 then Reason else TooLong
 
--- Each reason is the one in its row.
-pub reason_in_row : (r : FaultReason) → reason_in (row_of r) ≡ r
-reason_in_row Short = refl
-reason_in_row Version = refl
-reason_in_row FirstType = refl
-reason_in_row FirstPadding = refl
-reason_in_row Length = refl
-reason_in_row Padding = refl
-reason_in_row Body = refl
-reason_in_row Item = refl
-reason_in_row Reason = refl
-reason_in_row TooLong = refl
+-- Each reason is that of its number.
+pub reason_has_number : (r : FaultReason) → reason_in (number_of r) ≡ r
+reason_has_number Short = refl
+reason_has_number Version = refl
+reason_has_number FirstType = refl
+reason_has_number FirstPadding = refl
+reason_has_number Length = refl
+reason_has_number Padding = refl
+reason_has_number Body = refl
+reason_has_number Item = refl
+reason_has_number Reason = refl
+reason_has_number TooLong = refl
 
--- The first row that finds a fault is one.
-pub one_row : (r q : FaultReason) (first : Bool) (b : List ℕ) → IsFirstRow r first b → IsFirstRow q first b → r ≡ q
-one_row r q first b h k = one_first row_of reason_in reason_in_row (lit< tt) (λ reason. Finds reason first b) r q h.found h.no_earlier k.found k.no_earlier
+-- There is one first test that finds a fault.
+pub one_found : (r q : FaultReason) (first : Bool) (b : List ℕ) → IsFirstFound r first b → IsFirstFound q first b → r ≡ q
+one_found r q first b h k = one_first number_of reason_in reason_has_number (lit< tt) (λ reason. Finds reason first b) r q h.found h.no_earlier k.found k.no_earlier

@@ -8,7 +8,7 @@ use Rattle.rtcp_wire.specs.declared.fault.FaultReason.TheVariants.{TooLong}
 use Rattle.rtcp_wire.specs.declared.fault.WireFault.{WireFault}
 use Rattle.rtcp_wire.specs.Values.{RtcpPacket}
 use Rattle.rtcp_wire.specs.Grammar.{size_of, IsSpelling, MayBegin}
-use Rattle.rtcp_wire.specs.Faults.{IsFirstRow, IsFirstFault}
+use Rattle.rtcp_wire.specs.Faults.{IsFirstFound, IsFirstFault}
 use Rattle.rtcp_wire.specs.Validity.{IsSomeDatagram}
 use Rattle.rtcp_wire.proofs.Joining.{Joins-push}
 use Rattle.rtcp_wire.proofs.Prefixes.{cons_not_nil, length_parts}
@@ -47,9 +47,9 @@ module _ (datagram old : List ℕ) (place : ℕ) (h : HasPassed datagram old) (i
   place_is = omega (arith, is, length_parts datagram h.prefix old h.parts)
 
   -- The next packet's fault is the datagram's first.
-  pub stops_next : (reason : FaultReason) → IsFirstRow reason (place == 0) old → IsFirstFault datagram (record { reason = reason; place = place })
-  stops_next reason row =
-      let here : IsFirstRow reason (length h.prefix == 0) old = subst (λ (n : ℕ). IsFirstRow reason (n == 0) old) place_is row in
+  pub stops_next : (reason : FaultReason) → IsFirstFound reason (place == 0) old → IsFirstFault datagram (record { reason = reason; place = place })
+  stops_next reason first =
+      let here : IsFirstFound reason (length h.prefix == 0) old = subst (λ (n : ℕ). IsFirstFound reason (n == 0) old) place_is first in
       inr (record {
         short = h.short;
         prefix = h.prefix;
@@ -59,7 +59,7 @@ module _ (datagram old : List ℕ) (place : ℕ) (h : HasPassed datagram old) (i
         before = h.before;
         more = h.more;
         unreadable = finds_no_spelling reason (length h.prefix == 0) old here.found;
-        row = here;
+        first = here;
       })
 
   module _ (new : List ℕ) (taken : TakesPacket (place == 0) old new) where

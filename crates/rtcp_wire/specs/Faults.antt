@@ -77,23 +77,23 @@ Finds Reason is_first octets = FindsInBody Reason (type_of octets) (count_of oct
 -- This one is a test of the whole datagram.
 Finds TooLong is_first octets = ⊥
 
--- the order of the tests
-abbrev pub row_of : FaultReason → ℕ
-row_of Short = 1
-row_of Version = 2
-row_of FirstType = 3
-row_of FirstPadding = 4
-row_of Length = 5
-row_of Padding = 6
-row_of Body = 7
-row_of Item = 8
-row_of Reason = 9
-row_of TooLong = 10
+-- The number of its test, in whose order they are made.
+abbrev pub number_of : FaultReason → ℕ
+number_of Short = 1
+number_of Version = 2
+number_of FirstType = 3
+number_of FirstPadding = 4
+number_of Length = 5
+number_of Padding = 6
+number_of Body = 7
+number_of Item = 8
+number_of Reason = 9
+number_of TooLong = 10
 
 -- The test of this reason finds a fault, and no earlier one does.
-pub record IsFirstRow (reason : FaultReason) (is_first : Bool) (octets : List ℕ) : Type 0 where
+pub record IsFirstFound (reason : FaultReason) (is_first : Bool) (octets : List ℕ) : Type 0 where
   pub found : Finds reason is_first octets
-  pub no_earlier : (earlier : FaultReason) → row_of earlier < row_of reason →
+  pub no_earlier : (earlier : FaultReason) → number_of earlier < number_of reason →
       Finds earlier is_first octets → ⊥
 
 -- These octets of a packet may stand here: the first packet of a datagram has its own rules.
@@ -111,7 +111,7 @@ pub record StopsAt (octets : List ℕ) (fault : WireFault) : Type 0 where
   pub more : (rest ≢ []) ⊎ (octets ≡ [])
   pub unreadable : (packet : RtcpPacket) (spelling after : List ℕ) → rest ≡ spelling ++ after →
       IsSpelling packet spelling → MayStand (length prefix == 0) spelling → ⊥
-  pub row : IsFirstRow fault.reason (length prefix == 0) rest
+  pub first : IsFirstFound fault.reason (length prefix == 0) rest
 
 -- the datagram's first fault
 abbrev pub IsFirstFault : List ℕ → WireFault → Type 0

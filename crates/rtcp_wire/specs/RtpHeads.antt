@@ -121,18 +121,18 @@ FindsRtp Padding octets =
     × ((after_extension octets ≡ []) ⊎ (last_of (after_extension octets) ≡ 0)
     ⊎ (length (after_extension octets) < last_of (after_extension octets)))
 
--- the order of the tests
-abbrev pub rtp_row_of : RtpFault → ℕ
-rtp_row_of Short = 1
-rtp_row_of Version = 2
-rtp_row_of PayloadType = 3
-rtp_row_of Extension = 4
-rtp_row_of Padding = 5
+-- The number of its test, in whose order they are made.
+abbrev pub rtp_number_of : RtpFault → ℕ
+rtp_number_of Short = 1
+rtp_number_of Version = 2
+rtp_number_of PayloadType = 3
+rtp_number_of Extension = 4
+rtp_number_of Padding = 5
 
 -- The test of this fault finds it, and no earlier one finds any.
 pub record IsRtpFault (octets : List ℕ) (fault : RtpFault) : Type 0 where
   pub found : FindsRtp fault octets
-  pub no_earlier : (earlier : RtpFault) → rtp_row_of earlier < rtp_row_of fault → FindsRtp earlier octets → ⊥
+  pub no_earlier : (earlier : RtpFault) → rtp_number_of earlier < rtp_number_of fault → FindsRtp earlier octets → ⊥
 
 -- ---- What the readers of the parts return, for the contracts between them.
 

@@ -4,7 +4,7 @@ ghost use Rattle.std.specs.Prelude.{◌≡◌, ◌≤◌, length, MatchResult, I
 ghost use Rattle.rtcp_wire.specs.Grammar.{version_of, is_padded, count_of, type_of, size_of, body_of};
 ghost use Rattle.rtcp_wire.specs.Validity.{IsSomePacket};
 ghost use Rattle.rtcp_wire.specs.Parts.{IsWhole, IsUnpadded};
-ghost use Rattle.rtcp_wire.specs.Faults.{Finds, IsFirstRow};
+ghost use Rattle.rtcp_wire.specs.Faults.{Finds, IsFirstFound};
 
 use crate::fault::FaultReason;
 use crate::layout::{HEADER_SIZE, RECEIVER_REPORT, SENDER_REPORT, VERSION, WORD_SIZE};
@@ -34,7 +34,7 @@ pub(crate) struct Header {
 pub(crate) fn read_header(octets: &[u8], is_first: bool) -> Result<Header, FaultReason>
     ensures whole { MatchResult result
         (λ _. IsWhole is_first octets.now)
-        (λ reason. IsFirstRow reason is_first octets.now) }
+        (λ reason. IsFirstFound reason is_first octets.now) }
     ensures fields { IfOk result (λ header.
         (header.count ≡ count_of octets.now) × (header.kind ≡ type_of octets.now)
         × (header.size ≡ size_of octets.now) × (header.is_padded ≡ is_padded octets.now)) }

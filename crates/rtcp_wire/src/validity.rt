@@ -2,7 +2,7 @@
 //! in the order of `FaultReason`. They make no values.
 
 ghost use Rattle.std.specs.Prelude.{◌≡◌, ◌≤◌, ◌%◌, length, MatchResult};
-ghost use Rattle.rtcp_wire.specs.Faults.{least_size, FindsInBody, IsNoReason, IsFirstRow, IsFirstFault, MayStand};
+ghost use Rattle.rtcp_wire.specs.Faults.{least_size, FindsInBody, IsNoReason, IsFirstFound, IsFirstFault, MayStand};
 ghost use Rattle.rtcp_wire.specs.Parts.{Takes};
 ghost use Rattle.rtcp_wire.specs.Validity.{IsSomeBody, IsSomePacket, IsSomeDatagram};
 
@@ -57,7 +57,7 @@ fn check_packets(datagram: &[u8]) -> Result<(), WireFault>
 fn pass_packet(reader: &mut Reader<'_>, is_first: bool) -> Result<(), FaultReason>
     ensures { MatchResult result
         (λ _. Takes reader.old reader.new (λ octets. IsSomePacket octets × MayStand is_first octets))
-        (λ reason. IsFirstRow reason is_first reader.old) }
+        (λ reason. IsFirstFound reason is_first reader.old) }
 {
     let header = read_header(reader.rest(), is_first)?;
     let octets = reader.take(header.size);
