@@ -12,11 +12,11 @@ use Rattle.rtcp_members.specs.declared.table.Place.TheVariants.{Kept, Ignored, L
 use Rattle.rtcp_wire.specs.Facts.{subject, is_gone}
 use Rattle.rtcp_members.specs.Entries.{EntryValue}
 use Rattle.rtcp_members.specs.Tables.{EntryMap, TableValue, IsApart, new_entry, entry_after, entry_with_fact, place_of, changes, placed, counted, counted_of, after_fact, has_room}
-use Rattle.rtcp_members.specs.ListViews.{entry_value, rows_of, map_of, table_of, IsPlaceOf}
+use Rattle.rtcp_members.specs.ListViews.{entry_value, rows_of, map_of, table_of, IsRankOf}
 use Rattle.rtcp_members.proofs.Listing.{map_set, apart_set, tied_key}
 
 -- what is read at a place is the entry there
-pub read_there : (ssrc : ℕ) (entries : List Entry) (at : ℕ) (d : Entry) → (place : IsPlaceOf ssrc entries at) → slice_index_or entries at d ≡ place.entry
+pub read_there : (ssrc : ℕ) (entries : List Entry) (at : ℕ) (d : Entry) → (place : IsRankOf ssrc entries at) → slice_index_or entries at d ≡ place.entry
 read_there ssrc entries at d place = get_or_from_slice_get entries at place.entry d place.stands
 
 -- To put what is there changes nothing.
@@ -49,7 +49,7 @@ found_after capacity rate fact t entries value found =
     put_after capacity rate fact t entries value (has_room table) found
     ∙ ap (λ o. if changes (place_of fact o (has_room table)) then table_with capacity rate (finite.insert entries (subject fact) (entry_after rate fact t (unwrap_or o new_entry))) else table_with capacity rate entries) (sym found)
 
-pub table_applied : (entries : List Entry) (at : ℕ) (fact : Fact) (t rate : ℕ) (d next : Entry) → IsApart (rows_of entries) → IsPlaceOf (subject fact) entries at
+pub table_applied : (entries : List Entry) (at : ℕ) (fact : Fact) (t rate : ℕ) (d next : Entry) → IsApart (rows_of entries) → IsRankOf (subject fact) entries at
     → next.ssrc ≡ (slice_index_or entries at d).ssrc → entry_value next ≡ entry_with_fact rate fact t (entry_value (slice_index_or entries at d))
     → (capacity : ℕ) → table_of capacity rate (set entries at next) ≡ after_fact fact t (table_of capacity rate entries)
 table_applied entries at fact t rate d next apart place same value capacity =
@@ -59,17 +59,17 @@ table_applied entries at fact t rate d next apart place same value capacity =
     ∙ (λ i. finite.insert (map_of entries) (place.its_ssrc i) ((value ∙ ap (λ (y : Entry). entry_with_fact rate fact t (entry_value y)) there) i)))
     ∙ found_after capacity rate fact t (map_of entries) (entry_value place.entry) place.found
 
-pub apart_applied : (ssrc : ℕ) (entries : List Entry) (at : ℕ) (d next : Entry) → IsApart (rows_of entries) → IsPlaceOf ssrc entries at → next.ssrc ≡ (slice_index_or entries at d).ssrc → IsApart (rows_of (set entries at next))
+pub apart_applied : (ssrc : ℕ) (entries : List Entry) (at : ℕ) (d next : Entry) → IsApart (rows_of entries) → IsRankOf ssrc entries at → next.ssrc ≡ (slice_index_or entries at d).ssrc → IsApart (rows_of (set entries at next))
 apart_applied ssrc entries at d next apart place same =
     apart_set entries at place.entry next apart place.stands (same ∙ ap (λ (y : Entry). y.ssrc) (read_there ssrc entries at d place))
 
-pub place_applied : (entries : List Entry) (at : ℕ) (fact : Fact) (rate : ℕ) (d : Entry) (its : Place) → IsPlaceOf (subject fact) entries at
+pub place_applied : (entries : List Entry) (at : ℕ) (fact : Fact) (rate : ℕ) (d : Entry) (its : Place) → IsRankOf (subject fact) entries at
     → ((room : Bool) → its ≡ place_of fact (Some (entry_value (slice_index_or entries at d))) room) → (capacity : ℕ) → its ≡ placed (table_of capacity rate entries) fact
 place_applied entries at fact rate d its place says capacity =
     says (has_room (table_of capacity rate entries))
     ∙ ap (λ o. place_of fact o (has_room (table_of capacity rate entries))) (ap (λ (y : Entry). Some (entry_value y)) (read_there (subject fact) entries at d place) ∙ sym place.found)
 
-pub counted_applied : (entries : List Entry) (at : ℕ) (fact : Fact) (rate : ℕ) (d : Entry) (its : Bool) → IsPlaceOf (subject fact) entries at
+pub counted_applied : (entries : List Entry) (at : ℕ) (fact : Fact) (rate : ℕ) (d : Entry) (its : Bool) → IsRankOf (subject fact) entries at
     → its ≡ counted_of fact (Some (entry_value (slice_index_or entries at d))) → (capacity : ℕ) → its ≡ counted (table_of capacity rate entries) fact
 counted_applied entries at fact rate d its place says capacity =
     says ∙ ap (counted_of fact) (ap (λ (y : Entry). Some (entry_value y)) (read_there (subject fact) entries at d place) ∙ sym place.found)

@@ -9,7 +9,7 @@ use Rattle.std.proofs.lemmas.List.Elements.{All-nil, All-head, All-tail, All-con
 use Rattle.std.proofs.lemmas.List.Edits.{length-insert}
 use Rattle.rtcp_members.specs.declared.entry.Entry.{Entry}
 use Rattle.rtcp_members.specs.declared.cells.Slot.{Slot}
-use Rattle.rtcp_members.specs.ListViews.{IsPlaceOf}
+use Rattle.rtcp_members.specs.ListViews.{IsRankOf}
 use Rattle.rtcp_members.specs.SortedViews.{IsRising, IsGapFor}
 use Rattle.rtcp_members.proofs.Pairs.{take_inserted, behind}
 use Rattle.rtcp_members.specs.Heaps.{no_slot, no_entry, entry_in, picked, IsHalved, IsKeyed, IsHeap, IsPut}
@@ -71,7 +71,7 @@ module _ (entries : List Entry) (slots : List Slot) (keyed : All (IsKeyed entrie
     pub lower_half : ssrc ≤ (slice_index_or slots middle no_slot).ssrc → IsHalved slots ssrc low middle
     lower_half = lowered low high middle so above (omega (arith, below, so.until))
 
-  pub slot_found : (at : ℕ) → at < length slots → (slice_index_or slots at no_slot).ssrc ≡ ssrc → IsPlaceOf ssrc (picked entries slots) at
+  pub slot_found : (at : ℕ) → at < length slots → (slice_index_or slots at no_slot).ssrc ≡ ssrc → IsRankOf ssrc (picked entries slots) at
   slot_found at within same =
       ssrc_found ssrc (picked entries slots) at (slice_index_or slots at no_slot).ssrc rising (omega (arith, within, length-map slots (entry_in entries))) (λ e. key at no_slot e within) same
 

@@ -9,7 +9,7 @@ use Rattle.std.proofs.lemmas.Option.{slice_get_within}
 use Rattle.std.proofs.lemmas.Bool.Decides.{nat_tests}
 use Rattle.rtcp_members.specs.declared.entry.Entry.{Entry}
 use Rattle.rtcp_members.specs.Tables.{TableValue}
-use Rattle.rtcp_members.specs.ListViews.{entry_value, row_of, rows_of, map_of, table_of, tally_of, IsPlaceOf}
+use Rattle.rtcp_members.specs.ListViews.{entry_value, row_of, rows_of, map_of, table_of, tally_of, IsRankOf}
 use Rattle.rtcp_members.specs.SortedViews.{IsRising, IsGapFor}
 use Rattle.rtcp_members.specs.Pending.{EntryRow, due_rows, in_turn, first_ssrc, is_above, is_due, pending}
 use Rattle.rtcp_members.proofs.Listing.{get_rows}
@@ -52,7 +52,7 @@ cut_gap entries a n above is gap =
     (cut_at (is_above (Some a)) entries n (λ k d before within. no_more _ a (omega (arith, gap.lesser k d before))) (λ k d from within. more _ a (gap.greater k d from within)))
 
 -- The rows above a source begin after its entry.
-pub cut_after : (entries : List Entry) (a at : ℕ) (above : Option ℕ) → above ≡ Some a → IsRising entries → IsPlaceOf a entries at
+pub cut_after : (entries : List Entry) (a at : ℕ) (above : Option ℕ) → above ≡ Some a → IsRising entries → IsRankOf a entries at
     → (filter (is_above above) (rows_of entries) ≡ rows_of (drop (at + 1) entries)) × (filter (λ (row : EntryRow). not (is_above above row)) (rows_of entries) ≡ rows_of (take (at + 1) entries))
 cut_after entries a at above is rising place =
     subst (λ o. (filter (is_above o) (rows_of entries) ≡ rows_of (drop (at + 1) entries)) × (filter (λ (row : EntryRow). not (is_above o row)) (rows_of entries) ≡ rows_of (take (at + 1) entries))) (sym is)

@@ -13,7 +13,7 @@ use Rattle.std.specs.FinMap.Entries.{put, by_order}
 use Rattle.rtcp_members.specs.declared.entry.Entry.{Entry}
 use Rattle.rtcp_members.specs.Entries.{EntryValue}
 use Rattle.rtcp_members.specs.Tables.{TableValue, IsApart}
-use Rattle.rtcp_members.specs.ListViews.{table_of, entry_value, row_of, rows_of, map_of, IsPlaceOf}
+use Rattle.rtcp_members.specs.ListViews.{table_of, entry_value, row_of, rows_of, map_of, IsRankOf}
 
 not_both : {b : Bool} → b ≡ true → b ≡ false → ⊥
 not_both is isnt = absurd cc
@@ -158,7 +158,7 @@ apart_set (x ∷ xs) (suc at) e next apart is same = (find_none_set xs at e next
 -- ---- A source's place
 
 pub place_found : (ssrc : ℕ) (entries : List Entry) (at : ℕ) (e : Entry) → at < length entries → e ≡ slice_index_or entries at e → e.ssrc ≡ ssrc
-    → finite.get (map_of entries) ssrc ≡ finite.find nat_cmp ssrc (rows_of (drop at entries)) → IsPlaceOf ssrc entries at
+    → finite.get (map_of entries) ssrc ≡ finite.find nat_cmp ssrc (rows_of (drop at entries)) → IsRankOf ssrc entries at
 place_found ssrc entries at e within read is from =
     record {
       entry = e;

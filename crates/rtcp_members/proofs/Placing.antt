@@ -5,14 +5,14 @@ use Rattle.rtcp_members.specs.declared.entry.Entry.{Entry}
 use Rattle.rtcp_members.specs.Entries.{EntryValue, is_member, is_sender, is_such}
 use Rattle.rtcp_members.specs.Tables.{IsFew}
 use Rattle.rtcp_members.specs.Pending.{is_due, reported_entry}
-use Rattle.rtcp_members.specs.ListViews.{entry_value, map_of, tally_of, weight_of, IsPlaceOf}
+use Rattle.rtcp_members.specs.ListViews.{entry_value, map_of, tally_of, weight_of, IsRankOf}
 use Rattle.rtcp_members.specs.SortedViews.{IsOrdered}
 use Rattle.rtcp_members.proofs.Applying.{read_there}
 use Rattle.rtcp_members.proofs.Turns.{not_due}
 use Rattle.rtcp_members.proofs.Rising.{rising_set}
 use Rattle.rtcp_members.proofs.Weights.{tally_set, weight_within}
 
-module _ (ssrc : ℕ) (entries : List Entry) (at : ℕ) (d : Entry) (place : IsPlaceOf ssrc entries at) where
+module _ (ssrc : ℕ) (entries : List Entry) (at : ℕ) (d : Entry) (place : IsRankOf ssrc entries at) where
   pub counted_there : (test : EntryValue → Bool) → weight_of test (slice_index_or entries at d) ≤ tally_of test entries
   counted_there test = omega (arith, ap (weight_of test) (read_there ssrc entries at d place), weight_within test entries at place.entry place.stands)
 

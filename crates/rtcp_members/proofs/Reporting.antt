@@ -7,11 +7,11 @@ use Rattle.rtcp_members.specs.declared.entry.Entry.{Entry}
 use Rattle.rtcp_members.specs.Entries.{EntryValue}
 use Rattle.rtcp_members.specs.Tables.{TableValue, IsApart}
 use Rattle.rtcp_members.specs.Pending.{block_at, reported_entry, with_reported, after_block}
-use Rattle.rtcp_members.specs.ListViews.{entry_value, rows_of, map_of, table_of, IsPlaceOf}
+use Rattle.rtcp_members.specs.ListViews.{entry_value, rows_of, map_of, table_of, IsRankOf}
 use Rattle.rtcp_members.proofs.Listing.{map_set}
 use Rattle.rtcp_members.proofs.Applying.{read_there}
 
-pub block_reported : (ssrc t : ℕ) (entries : List Entry) (at : ℕ) (d : Entry) (block : Option ReportBlock) → IsPlaceOf ssrc entries at
+pub block_reported : (ssrc t : ℕ) (entries : List Entry) (at : ℕ) (d : Entry) (block : Option ReportBlock) → IsRankOf ssrc entries at
     → block ≡ block_for (slice_index_or entries at d).ssrc t (slice_index_or entries at d).source
     → (capacity rate : ℕ) → block ≡ block_at ssrc t (table_of capacity rate entries)
 block_reported ssrc t entries at d block place is capacity rate =
@@ -19,7 +19,7 @@ block_reported ssrc t entries at d block place is capacity rate =
     ∙ ap (λ s. block_for s t place.entry.source) place.its_ssrc
     ∙ ap (option_and_then (λ (entry : EntryValue). block_for ssrc t entry.source)) (sym place.found)
 
-pub table_reported : (ssrc : ℕ) (entries : List Entry) (at : ℕ) (d next : Entry) → IsApart (rows_of entries) → IsPlaceOf ssrc entries at
+pub table_reported : (ssrc : ℕ) (entries : List Entry) (at : ℕ) (d next : Entry) → IsApart (rows_of entries) → IsRankOf ssrc entries at
     → next.ssrc ≡ (slice_index_or entries at d).ssrc → entry_value next ≡ reported_entry (entry_value (slice_index_or entries at d))
     → (capacity rate : ℕ) → table_of capacity rate (set entries at next) ≡ after_block ssrc (table_of capacity rate entries)
 table_reported ssrc entries at d next apart place same value capacity rate =

@@ -12,7 +12,7 @@ use Rattle.rtcp_members.specs.declared.entry.Entry.{Entry}
 use Rattle.rtcp_members.specs.Entries.{is_such}
 use Rattle.rtcp_members.specs.Tables.{TableValue, IsApart}
 use Rattle.rtcp_members.specs.Pending.{is_due, is_due_at}
-use Rattle.rtcp_members.specs.ListViews.{entry_value, rows_of, map_of, table_of, IsPlaceOf}
+use Rattle.rtcp_members.specs.ListViews.{entry_value, rows_of, map_of, table_of, IsRankOf}
 use Rattle.rtcp_members.specs.SortedViews.{IsRising, IsGapFor}
 use Rattle.rtcp_members.proofs.Listing.{get_rows, find_set, tied_itself, tied_key}
 use Rattle.rtcp_members.proofs.Rising.{rising_apart, rises}
@@ -20,7 +20,7 @@ use Rattle.rtcp_members.proofs.Rising.{rising_apart, rises}
 -- ---- Found
 
 -- an entry of the source, which stands there, is the one that the map has
-pub stands_found : (ssrc : ℕ) (entries : List Entry) (at : ℕ) (e : Entry) → IsApart (rows_of entries) → slice_get entries at ≡ Some e → e.ssrc ≡ ssrc → IsPlaceOf ssrc entries at
+pub stands_found : (ssrc : ℕ) (entries : List Entry) (at : ℕ) (e : Entry) → IsApart (rows_of entries) → slice_get entries at ≡ Some e → e.ssrc ≡ ssrc → IsRankOf ssrc entries at
 stands_found ssrc entries at e apart is same =
     let as_it_was : set entries at e ≡ entries = ap (set entries at) (sym (get_or_from_slice_get entries at e e is)) ∙ set-get_or entries at e in
     record {
@@ -35,11 +35,11 @@ stands_found ssrc entries at e apart is same =
     }
 
 -- what was read at an index is the source's entry
-pub read_found : (ssrc : ℕ) (entries : List Entry) (at : ℕ) (e : Entry) → IsRising entries → at < length entries → e ≡ slice_index_or entries at e → e.ssrc ≡ ssrc → IsPlaceOf ssrc entries at
+pub read_found : (ssrc : ℕ) (entries : List Entry) (at : ℕ) (e : Entry) → IsRising entries → at < length entries → e ≡ slice_index_or entries at e → e.ssrc ≡ ssrc → IsRankOf ssrc entries at
 read_found ssrc entries at e rising within read same = stands_found ssrc entries at e (rising_apart entries rising) (slice_get_read entries (length entries) at e refl within read) same
 
 -- so was one of which the SSRC was read
-pub ssrc_found : (ssrc : ℕ) (entries : List Entry) (at its : ℕ) → IsRising entries → at < length entries → ((d : Entry) → its ≡ (slice_index_or entries at d).ssrc) → its ≡ ssrc → IsPlaceOf ssrc entries at
+pub ssrc_found : (ssrc : ℕ) (entries : List Entry) (at its : ℕ) → IsRising entries → at < length entries → ((d : Entry) → its ≡ (slice_index_or entries at d).ssrc) → its ≡ ssrc → IsRankOf ssrc entries at
 ssrc_found ssrc [] at its rising within read same = absurd (omega arith)
 ssrc_found ssrc (x ∷ xs) at its rising within read same =
     let e : Entry = slice_index_or (x ∷ xs) at x in
@@ -52,14 +52,14 @@ searchable entries rising ssrc =
     searchable_from_sorted nat_cmp_total (λ (e : Entry). e.ssrc) entries ssrc
     (λ k d _ within. ap is_lt (sym (nat_cmp_is (slice_index_or entries (k + 1) d).ssrc (slice_index_or entries k d).ssrc Greater (rises entries rising k (k + 1) d (omega arith) within))))
 
-stands_equal : (entries : List Entry) → IsRising entries → (ssrc at : ℕ) → at < length entries → ((d : Entry) → nat_cmp (slice_index_or entries at d).ssrc ssrc ≡ Equal) → IsPlaceOf ssrc entries at
+stands_equal : (entries : List Entry) → IsRising entries → (ssrc at : ℕ) → at < length entries → ((d : Entry) → nat_cmp (slice_index_or entries at d).ssrc ssrc ≡ Equal) → IsRankOf ssrc entries at
 stands_equal [] rising ssrc at within equal = absurd (omega arith)
 stands_equal (x ∷ xs) rising ssrc at within equal =
     let e : Entry = slice_index_or (x ∷ xs) at x in
     stands_found ssrc (x ∷ xs) at e (rising_apart (x ∷ xs) rising) (slice_get-get_or (x ∷ xs) at x within) (ranked e.ssrc ssrc Equal (sym (equal x)))
 
 pub searched : (entries : List Entry) → IsRising entries → (ssrc : ℕ) → (r : Result ℕ ℕ) → IsSearchInRange r (length entries) → IsBinarySearchResult (λ (e : Entry). nat_cmp e.ssrc ssrc) entries r
-    → IfOk r (IsPlaceOf ssrc entries) × IfErr r (IsGapFor ssrc entries)
+    → IfOk r (IsRankOf ssrc entries) × IfErr r (IsGapFor ssrc entries)
 searched entries rising ssrc (Ok at) within equal = (stands_equal entries rising ssrc at within equal, tt)
 searched entries rising ssrc (Err at) within parted =
     let split = parted (searchable entries rising ssrc) in (
@@ -121,7 +121,7 @@ due_is_found ssrc capacity rate entries table (Err at) is due absent = absurd (n
     not_due e = absurd cc
 
 -- The search finds an entry exactly where the table has one.
-pub found_is_held : (ssrc capacity rate : ℕ) (entries : List Entry) (table : TableValue) (found : Result ℕ ℕ) → table_of capacity rate entries ≡ table → IfOk found (IsPlaceOf ssrc entries) → IfErr found (IsGapFor ssrc entries)
+pub found_is_held : (ssrc capacity rate : ℕ) (entries : List Entry) (table : TableValue) (found : Result ℕ ℕ) → table_of capacity rate entries ≡ table → IfOk found (IsRankOf ssrc entries) → IfErr found (IsGapFor ssrc entries)
     → is_ok found ≡ is_some (finite.get table.entries ssrc)
 found_is_held ssrc capacity rate entries table (Ok at) is place absent = sym (ap is_some place.found) ∙ ap (λ (t : TableValue). is_some (finite.get t.entries ssrc)) is
 found_is_held ssrc capacity rate entries table (Err at) is place absent =

@@ -20,7 +20,7 @@ use Rattle.rtcp_members.specs.Pending.{is_due}
 use Rattle.rtcp_members.specs.Traces.{horizons_at}
 use Rattle.rtcp_members.specs.Stays.{is_before}
 use Rattle.rtcp_members.specs.Tables.{entry_with_fact}
-use Rattle.rtcp_members.specs.ListViews.{entry_value, mark_in, sending_in, is_left, IsPlaceOf}
+use Rattle.rtcp_members.specs.ListViews.{entry_value, mark_in, sending_in, is_left, IsRankOf}
 use Rattle.rtcp_members.specs.declared.cells.Slot.{Slot}
 use Rattle.rtcp_members.specs.Heaps.{no_slot, no_entry, entry_in, picked}
 use Rattle.rtcp_members.proofs.Applying.{read_there}
@@ -73,7 +73,7 @@ there b (x ∷ entries) zero e is all =
     subst (stands b) same (All-head (stands b) x entries all)
 there b (x ∷ entries) (suc at) e is all = there b entries at e is (All-tail (stands b) x entries all)
 
-pub stands_there : (b : Bounds) (entries : List Entry) (at : ℕ) (d : Entry) (ssrc : ℕ) → IsPlaceOf ssrc entries at → AllStandBy b entries → StandsBy b (entry_value (slice_index_or entries at d))
+pub stands_there : (b : Bounds) (entries : List Entry) (at : ℕ) (d : Entry) (ssrc : ℕ) → IsRankOf ssrc entries at → AllStandBy b entries → StandsBy b (entry_value (slice_index_or entries at d))
 stands_there b entries at d ssrc place all = subst (stands b) (sym (read_there ssrc entries at d place)) (there b entries at place.entry place.stands all)
 
 -- ---- A check

@@ -70,7 +70,7 @@ abbrev pub is_left : Horizons → Entry → Bool
 is_left horizons e = not (lapses horizons.idle e) && outlasts horizons e
 
 -- A source's entry stands here, and is the one that the map has.
-pub record IsPlaceOf (ssrc : ℕ) (entries : List Entry) (at : ℕ) : Type 0 where
+pub record IsRankOf (ssrc : ℕ) (entries : List Entry) (at : ℕ) : Type 0 where
   pub entry : Entry
   pub stands : slice_get entries at ≡ Some entry
   pub its_ssrc : entry.ssrc ≡ ssrc

@@ -3,12 +3,12 @@ use Rattle.std.specs.Prelude.{ℕ, ◌<◌, List}
 use Rattle.rtcp_members.specs.declared.entry.Entry.{Entry}
 use Rattle.rtcp_members.specs.declared.heap.Look.{Look}
 use Rattle.rtcp_members.specs.declared.heap.Look.TheVariants.{Stands, Missing, Below, Above}
-use Rattle.rtcp_members.specs.ListViews.{IsPlaceOf}
+use Rattle.rtcp_members.specs.ListViews.{IsRankOf}
 use Rattle.rtcp_members.specs.SortedViews.{IsGapFor}
 
 -- Its rank is that of the source, or that which it would have; and there are cells before one that is too far.
 abbrev pub Sees : (ssrc : ℕ) → List Entry → (at : ℕ) → Look → Type 0
-Sees ssrc entries at (Stands rank) = IsPlaceOf ssrc entries rank
+Sees ssrc entries at (Stands rank) = IsRankOf ssrc entries rank
 Sees ssrc entries at (Missing rank) = IsGapFor ssrc entries rank
 Sees ssrc entries at Below = 0 < at
 Sees ssrc entries at Above = Unit {0}

@@ -96,9 +96,9 @@ impl Entry {
 
     /// Takes a fact of the source at the moment `t`, where the entry has no mark. Returns whether the fact
     /// was a packet that was counted.
-    // Inlined, and the next two, so that where the kind of a fact is known nothing is asked of it.
+    // Inlined, as the next two are, so that no test of the fact is made where its kind is known.
     #[inline(always)]
-    pub(crate) fn take(&mut self, fact: Fact, t: u64, rate: u32) -> bool
+    pub(crate) fn take_fact(&mut self, fact: Fact, t: u64, rate: u32) -> bool
         requires { IsTrue (is_media fact) → self.old.source.packets < 2 ^ 40 }
         ensures counted { result ≡ counts fact self.old.source }
         ensures ssrc { self.new.ssrc ≡ self.old.ssrc }
@@ -159,7 +159,7 @@ impl Entry {
             Fact::Gone(_) => Place::Left,
             _ => Place::Kept,
         };
-        let counted = self.take(fact, t, rate);
+        let counted = self.take_fact(fact, t, rate);
         Applied { place, counted }
     }
 

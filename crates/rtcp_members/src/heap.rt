@@ -5,7 +5,7 @@ ghost use Rattle.std.specs.Vec as vectors;
 ghost use Rattle.rtcp_members.specs.Heaps.{IsHalved, IsHeap, IsPut, no_slot, entries_in, pairs_in, slots_in, spared_slots, picked, place_at, with_entry_at};
 ghost use Rattle.rtcp_members.specs.Looks.{Sees};
 ghost use Rattle.rtcp_members.specs.SortedViews.{IsRising, IsGapFor};
-ghost use Rattle.rtcp_members.specs.ListViews.{IsPlaceOf};
+ghost use Rattle.rtcp_members.specs.ListViews.{IsRankOf};
 ghost use Rattle.rtcp_members.specs.HeapLaws.{written_at, sound_at};
 
 use crate::bounds::Bounds;
@@ -137,7 +137,7 @@ impl Heap {
             (vectors.vec_capacity self.now.cells) }
         requires rising { IsRising (picked (entries_in self.now.cells.items)
             (take self.now.used (slots_in self.now.cells.items))) }
-        ensures found { IfOk result (λ rank. IfOk rank (IsPlaceOf ssrc (picked (entries_in self.now.cells.items)
+        ensures found { IfOk result (λ rank. IfOk rank (IsRankOf ssrc (picked (entries_in self.now.cells.items)
             (take self.now.used (slots_in self.now.cells.items))))) }
         ensures absent { IfOk result (λ rank. IfErr rank (IsGapFor ssrc (picked (entries_in self.now.cells.items)
             (take self.now.used (slots_in self.now.cells.items))))) }
@@ -165,7 +165,7 @@ impl Heap {
             (vectors.vec_capacity self.now.cells) }
         requires rising { IsRising (picked (entries_in self.now.cells.items)
             (take self.now.used (slots_in self.now.cells.items))) }
-        ensures found { IfSome result (λ rank. IfOk rank (IsPlaceOf ssrc (picked (entries_in self.now.cells.items)
+        ensures found { IfSome result (λ rank. IfOk rank (IsRankOf ssrc (picked (entries_in self.now.cells.items)
             (take self.now.used (slots_in self.now.cells.items))))) }
         ensures absent { IfSome result (λ rank. IfErr rank (IsGapFor ssrc (picked (entries_in self.now.cells.items)
             (take self.now.used (slots_in self.now.cells.items))))) }
@@ -297,7 +297,7 @@ impl Storage for Heap {
         &mut cell.entry
     }
 
-    // The slots behind those in use stay where they are, but for the one that the new slot takes the place of.
+    // The slots after those in use stay where they are, except the one that the new slot replaces.
     fn insert(&mut self, at: usize, entry: Entry) {
         let ssrc = entry.ssrc;
         let until = self.used / 2 + 1;

@@ -5,7 +5,7 @@ ghost use Rattle.std.specs.FinMap as finite;
 ghost use Rattle.std.specs.List.{retain_mut};
 ghost use Rattle.rtcp_wire.specs.Facts.{subject, is_media};
 ghost use Rattle.rtcp_members.specs.Traces.{horizons_at};
-ghost use Rattle.rtcp_members.specs.ListViews.{entry_value, state_value, rows_of, map_of, table_of, tally_of, lapsed, outlasts, IsListed, IsPlaceOf};
+ghost use Rattle.rtcp_members.specs.ListViews.{entry_value, state_value, rows_of, map_of, table_of, tally_of, lapsed, outlasts, IsListed, IsRankOf};
 ghost use Rattle.rtcp_wire.specs.Views.{block_value};
 ghost use Rattle.rtcp_wire.specs.Writing.{IsWritableBlock};
 ghost use Rattle.rtcp_members.specs.Entries.{is_member, is_sender, is_such};
@@ -57,7 +57,7 @@ impl MemberTable for ListTable {
     ghost content = { λ t. t };
 
     fn apply(&mut self, fact: Fact, t: u64) -> Applied {
-        if let Some(at) = place_in(self.entries.as_slice(), fact.ssrc()) {
+        if let Some(at) = rank_in(self.entries.as_slice(), fact.ssrc()) {
             return apply_at(self.entries.as_mut_slice(), at, fact, t, self.rate);
         }
         let place = admit(&mut self.entries, self.capacity, fact, t, self.rate);
@@ -85,7 +85,7 @@ impl MemberTable for ListTable {
     }
 
     fn holds(&self, ssrc: u32) -> bool {
-        place_in(self.entries.as_slice(), ssrc).is_some()
+        rank_in(self.entries.as_slice(), ssrc).is_some()
     }
 
     fn entries(&self) -> u32 {
@@ -109,7 +109,7 @@ impl MemberTable for ListTable {
     }
 
     fn block_of(&mut self, ssrc: u32, t: u64) -> Block {
-        let at = place_in(self.entries.as_slice(), ssrc).unwrap();
+        let at = rank_in(self.entries.as_slice(), ssrc).unwrap();
         report_at(self.entries.as_mut_slice(), at, ssrc, t)
     }
 
@@ -125,7 +125,7 @@ impl MemberTable for ListTable {
 /// A fact comes to the entry of its source, which stands at `at`.
 fn apply_at(entries: &mut [Entry], at: usize, fact: Fact, t: u64, rate: u32) -> Applied
     requires apart { IsApart (rows_of entries.old) }
-    requires place { IsPlaceOf (subject fact) entries.old at }
+    requires rank { IsRankOf (subject fact) entries.old at }
     requires few { IsTrue (is_media fact) → IfSome (finite.get (map_of entries.old) (subject fact)) IsFew }
     ensures apart { IsApart (rows_of entries.new) }
     ensures place { (capacity : ℕ) → result.place ≡ placed (table_of capacity rate entries.old) fact }
@@ -158,7 +158,7 @@ fn admit(
         return Place::NoRoom;
     }
     let mut entry = Entry::new(fact.ssrc());
-    let _ = entry.take(fact, t, rate);
+    let _ = entry.take_fact(fact, t, rate);
     entries.push(entry);
     Place::Added
 }
@@ -201,7 +201,7 @@ fn least_above(entries: &[Entry], above: Option<u32>) -> Option<u32>
 fn state_in(entries: &[Entry], ssrc: u32) -> Option<SourceState>
     ensures { option_map state_value result ≡ state_for ssrc (finite.get (map_of entries.now) ssrc) }
 {
-    match place_in(entries, ssrc) {
+    match rank_in(entries, ssrc) {
         Some(at) => Some(entries[at].state()),
         None => None,
     }
@@ -220,7 +220,7 @@ fn lesser(found: Option<u32>, ssrc: u32) -> Option<u32>
 /// The block of the source whose entry stands at `at`.
 fn report_at(entries: &mut [Entry], at: usize, ssrc: u32, t: u64) -> Block
     requires apart { IsApart (rows_of entries.old) }
-    requires place { IsPlaceOf ssrc entries.old at }
+    requires rank { IsRankOf ssrc entries.old at }
     requires due { IsTrue (is_such is_due (finite.get (map_of entries.old) ssrc)) }
     ensures apart { IsApart (rows_of entries.new) }
     ensures block { (capacity rate : ℕ) →
@@ -233,9 +233,9 @@ fn report_at(entries: &mut [Entry], at: usize, ssrc: u32, t: u64) -> Block
 }
 
 /// Where the entry of a source stands, if it has one.
-fn place_in(entries: &[Entry], ssrc: u32) -> Option<usize>
+fn rank_in(entries: &[Entry], ssrc: u32) -> Option<usize>
     ensures { MatchOption result (finite.get (map_of entries.now) ssrc
-        ≡ None) (λ (at : ℕ). IsPlaceOf ssrc entries.now at) }
+        ≡ None) (λ (at : ℕ). IsRankOf ssrc entries.now at) }
 {
     'entries: for at in 0..entries.len() {
         if entries[at].ssrc == ssrc {

@@ -5,7 +5,7 @@ ghost use Rattle.std.specs.FinMap as finite;
 ghost use Rattle.rtcp_wire.specs.Facts.{subject, is_media};
 ghost use Rattle.rtcp_members.specs.Traces.{horizons_at};
 ghost use Rattle.rtcp_members.specs.Told.{first_state};
-ghost use Rattle.rtcp_members.specs.ListViews.{entry_value, state_value, rows_of, map_of, table_of, tally_of, IsPlaceOf};
+ghost use Rattle.rtcp_members.specs.ListViews.{entry_value, state_value, rows_of, map_of, table_of, tally_of, IsRankOf};
 ghost use Rattle.rtcp_members.specs.SortedViews.{IsRising, IsOrdered, IsSortedTable, IsGapFor};
 ghost use Rattle.rtcp_members.specs.declared.bounds.Bounds.{Bounds as BoundsOf};
 ghost use Rattle.rtcp_members.specs.Standing.{AllStandBy, IsEdited, IsUpTo};
@@ -38,14 +38,14 @@ const SHORT_LIST: u64 = 64;
 pub struct Sorted<S: Storage> {
     capacity: u16,
     /// Where the source of the last fact, block or telling stands, or would.
-    last_place: u16,
+    last_rank: u16,
     rate: u32,
     entries: S,
     counts: Counts,
     /// Whether walks to a source pay.
     walks: Walks,
     /// The source of the last fact: the next one is often of the same. Where it is not, what stands at the last
-    /// place need not be read.
+    /// rank need not be read.
     last_ssrc: u32,
     /// Up to which moments a check changes nothing.
     bounds: Bounds,
@@ -109,7 +109,7 @@ impl<S: Storage> Sorted<S> {
     {
         Sorted {
             capacity: capacity as u16,
-            last_place: 0,
+            last_rank: 0,
             rate,
             entries,
             counts: Counts::none(),
@@ -155,19 +155,19 @@ impl<S: Storage> MemberTable for Sorted<S> {
         self.bounds.lower(fact, t);
         let ssrc = fact.ssrc();
         let hint = if ssrc == self.last_ssrc {
-            usize::from(self.last_place)
+            usize::from(self.last_rank)
         } else {
             usize::MAX
         };
         self.last_ssrc = ssrc;
         match search(&self.entries, &mut self.walks, hint, ssrc) {
             Ok(at) => {
-                self.last_place = at as u16;
+                self.last_rank = at as u16;
                 let (entries, counts) = (&mut self.entries, &mut self.counts);
                 apply_at(entries, counts, at, fact, t, self.rate)
             }
             Err(gap) => {
-                self.last_place = gap as u16;
+                self.last_rank = gap as u16;
                 let (entries, counts) = (&mut self.entries, &mut self.counts);
                 let capacity = u32::from(self.capacity);
                 let place = admit(entries, counts, gap, capacity, fact, t, self.rate);
@@ -196,8 +196,8 @@ impl<S: Storage> MemberTable for Sorted<S> {
     }
 
     fn holds(&self, ssrc: u32) -> bool {
-        let (mut walks, last_place) = (self.walks, usize::from(self.last_place));
-        search(&self.entries, &mut walks, last_place, ssrc).is_ok()
+        let (mut walks, last_rank) = (self.walks, usize::from(self.last_rank));
+        search(&self.entries, &mut walks, last_rank, ssrc).is_ok()
     }
 
     fn entries(&self) -> u32 {
@@ -216,8 +216,8 @@ impl<S: Storage> MemberTable for Sorted<S> {
         if self.counts.due == 0 {
             return None;
         }
-        let (entries, last_place) = (&self.entries, usize::from(self.last_place));
-        let first = first_above(entries, self.walks, last_place, after);
+        let (entries, last_rank) = (&self.entries, usize::from(self.last_rank));
+        let first = first_above(entries, self.walks, last_rank, after);
         match first_due(entries, first, entries.len()) {
             Some(ssrc) => Some(ssrc),
             None => first_due(entries, 0, first),
@@ -225,9 +225,9 @@ impl<S: Storage> MemberTable for Sorted<S> {
     }
 
     fn block_of(&mut self, ssrc: u32, t: u64) -> Block {
-        let last_place = usize::from(self.last_place);
-        let at = search_behind(&self.entries, &mut self.walks, last_place, ssrc).unwrap();
-        self.last_place = at as u16;
+        let last_rank = usize::from(self.last_rank);
+        let at = search_behind(&self.entries, &mut self.walks, last_rank, ssrc).unwrap();
+        self.last_rank = at as u16;
         let (entries, due) = (&mut self.entries, &mut self.counts.due);
         report_at(entries, due, at, ssrc, t)
     }
@@ -243,40 +243,40 @@ impl<S: Storage> MemberTable for Sorted<S> {
         }
     }
 
-    fn source_from(&self, after: Option<u32>, place: &mut usize) -> Option<SourceState> {
+    fn source_from(&self, after: Option<u32>, rank: &mut usize) -> Option<SourceState> {
         let entries = &self.entries;
-        *place = first_above(entries, self.walks, *place, after);
-        state_at(entries, *place)
+        *rank = first_above(entries, self.walks, *rank, after);
+        state_at(entries, *rank)
     }
 
-    // The last place becomes that of the source told, which the next call most likely goes on from.
+    // The last rank becomes that of the source told, which the next call most likely goes on from.
     fn next_source(&mut self, after: Option<u32>) -> Option<SourceState> {
-        let place = first_behind(
+        let rank = first_behind(
             &self.entries,
             self.walks,
-            usize::from(self.last_place),
+            usize::from(self.last_rank),
             after,
         );
-        self.last_place = place as u16;
-        state_at(&self.entries, place)
+        self.last_rank = rank as u16;
+        state_at(&self.entries, rank)
     }
 }
 
-/// Where the entry of a source stands, or else the gap where it would. The places where it likely stands are tried
-/// first: the last one, and those that a walk from the likely place comes to, if walks pay.
+/// The rank of the entry of a source, or else the gap where it would stand. The ranks where it likely stands are tried
+/// first: the last one, and those that a walk from the likely rank comes to, if walks pay.
 fn search<S: Storage>(
     entries: &S,
     walks: &mut Walks,
-    last_place: usize,
+    last_rank: usize,
     ssrc: u32,
 ) -> Result<usize, usize>
     requires sound { S.is_sound entries.now }
     requires rising { IsRising (S.items entries.now) }
-    ensures found { IfOk result (IsPlaceOf ssrc (S.items entries.now)) }
+    ensures found { IfOk result (IsRankOf ssrc (S.items entries.now)) }
     ensures absent { IfErr result (IsGapFor ssrc (S.items entries.now)) }
 {
-    if last_place < entries.len() && entries.ssrc_at(last_place) == ssrc {
-        return Ok(last_place);
+    if last_rank < entries.len() && entries.ssrc_at(last_rank) == ssrc {
+        return Ok(last_rank);
     }
     if walks.pay() {
         if let Some(found) = search_near(entries, ssrc) {
@@ -290,12 +290,12 @@ fn search<S: Storage>(
     search_apart(entries, walks, ssrc)
 }
 
-/// What `search` returns, if a walk from the likely place soon comes to where the source stands or would: an
+/// What `search` returns, if a walk from the likely rank soon comes to where the source stands or would: an
 /// interpolation search that ends with a walk (Perl, Itai and Avni, 1978).
 fn search_near<S: Storage>(entries: &S, ssrc: u32) -> Option<Result<usize, usize>>
     requires sound { S.is_sound entries.now }
     requires rising { IsRising (S.items entries.now) }
-    ensures found { IfSome result (λ rank. IfOk rank (IsPlaceOf ssrc (S.items entries.now))) }
+    ensures found { IfSome result (λ rank. IfOk rank (IsRankOf ssrc (S.items entries.now))) }
     ensures absent { IfSome result (λ rank. IfErr rank (IsGapFor ssrc (S.items entries.now))) }
 {
     entries.walk_to(ssrc, likely_place(entries, ssrc)?)
@@ -307,7 +307,7 @@ fn search_near<S: Storage>(entries: &S, ssrc: u32) -> Option<Result<usize, usize
 fn search_apart<S: Storage>(entries: &S, walks: &mut Walks, ssrc: u32) -> Result<usize, usize>
     requires sound { S.is_sound entries.now }
     requires rising { IsRising (S.items entries.now) }
-    ensures found { IfOk result (IsPlaceOf ssrc (S.items entries.now)) }
+    ensures found { IfOk result (IsRankOf ssrc (S.items entries.now)) }
     ensures absent { IfErr result (IsGapFor ssrc (S.items entries.now)) }
 {
     let (count, gap) = (entries.len(), walks.last_gap());
@@ -348,7 +348,7 @@ fn is_gap<S: Storage>(entries: &S, rank: usize, ssrc: u32) -> bool
 fn search_again<S: Storage>(entries: &S, walks: Walks, ssrc: u32) -> Result<usize, usize>
     requires sound { S.is_sound entries.now }
     requires rising { IsRising (S.items entries.now) }
-    ensures found { IfOk result (IsPlaceOf ssrc (S.items entries.now)) }
+    ensures found { IfOk result (IsRankOf ssrc (S.items entries.now)) }
     ensures absent { IfErr result (IsGapFor ssrc (S.items entries.now)) }
 {
     if walks.pay() {
@@ -360,41 +360,41 @@ fn search_again<S: Storage>(entries: &S, walks: Walks, ssrc: u32) -> Result<usiz
 }
 
 /// Where the entry of a source stands if the SSRCs are spread evenly, as random ones are (RFC 3550, 8.1): by the
-/// whole list, and in a long one, where that is still far off, by what stands at that place.
+/// whole list, and in a long one, where that is still far off, by what stands at that rank.
 fn likely_place<S: Storage>(entries: &S, ssrc: u32) -> Option<usize>
     requires { S.is_sound entries.now }
 {
     let count = entries.len() as u64;
-    let place = (u64::from(ssrc).wrapping_mul(count) >> 32) as usize;
+    let rank = (u64::from(ssrc).wrapping_mul(count) >> 32) as usize;
     if count <= SHORT_LIST {
-        return Some(place);
+        return Some(rank);
     }
-    if place >= entries.len() {
+    if rank >= entries.len() {
         return None;
     }
-    let seen = entries.ssrc_at(place);
+    let seen = entries.ssrc_at(rank);
     let ahead = u64::from(ssrc).wrapping_sub(u64::from(seen));
-    let places = ahead.wrapping_mul(count).cast_signed() >> 32;
-    Some(place.wrapping_add(places.cast_unsigned() as usize))
+    let ranks = ahead.wrapping_mul(count).cast_signed() >> 32;
+    Some(rank.wrapping_add(ranks.cast_unsigned() as usize))
 }
 
-/// As `search`, but the place behind the last one is tried first: the blocks of a report go by rising SSRC.
+/// As `search`, but the rank after the last one is tried first: the blocks of a report go by rising SSRC.
 fn search_behind<S: Storage>(
     entries: &S,
     walks: &mut Walks,
-    last_place: usize,
+    last_rank: usize,
     ssrc: u32,
 ) -> Result<usize, usize>
     requires sound { S.is_sound entries.now }
     requires rising { IsRising (S.items entries.now) }
-    ensures found { IfOk result (IsPlaceOf ssrc (S.items entries.now)) }
+    ensures found { IfOk result (IsRankOf ssrc (S.items entries.now)) }
     ensures absent { IfErr result (IsGapFor ssrc (S.items entries.now)) }
 {
-    let next = last_place.wrapping_add(1);
+    let next = last_rank.wrapping_add(1);
     if next < entries.len() && entries.ssrc_at(next) == ssrc {
         return Ok(next);
     }
-    search(entries, walks, last_place, ssrc)
+    search(entries, walks, last_rank, ssrc)
 }
 
 /// A fact comes to the entry of its source, which stands at `at`.
@@ -411,7 +411,7 @@ fn apply_at<S: Storage>(
     requires ordered { IsOrdered counts.old.members counts.old.senders (S.items entries.old) }
     requires its_due { counts.old.due ≡ tally_of is_due (S.items entries.old) }
     requires within { length (S.items entries.old) ≤ 1024 }
-    requires place { IsPlaceOf (subject fact) (S.items entries.old) at }
+    requires rank { IsRankOf (subject fact) (S.items entries.old) at }
     requires few { IsTrue (is_media fact) →
         IfSome (finite.get (map_of (S.items entries.old)) (subject fact)) IsFew }
     ensures kept { IsEdited (length (S.items entries.old)) (S.room entries.old)
@@ -471,7 +471,7 @@ fn admit<S: Storage>(
         return Place::NoRoom;
     }
     let mut entry = Entry::new(fact.ssrc());
-    let _ = entry.take(fact, t, rate);
+    let _ = entry.take_fact(fact, t, rate);
     counts.add(&entry);
     entries.insert(gap, entry);
     Place::Added
@@ -479,12 +479,7 @@ fn admit<S: Storage>(
 
 /// How many entries have no SSRC above `above`: where the others begin. That is after the entry of `above`, if it is
 /// there; in a report, and in a listing, it is.
-fn first_above<S: Storage>(
-    entries: &S,
-    walks: Walks,
-    last_place: usize,
-    above: Option<u32>,
-) -> usize
+fn first_above<S: Storage>(entries: &S, walks: Walks, last_rank: usize, above: Option<u32>) -> usize
     requires sound { S.is_sound entries.now }
     requires rising { IsRising (S.items entries.now) }
     requires few { length (S.items entries.now) ≤ 1024 }
@@ -498,7 +493,7 @@ fn first_above<S: Storage>(
         return 0;
     };
     let mut walks = walks;
-    match search(entries, &mut walks, last_place, above) {
+    match search(entries, &mut walks, last_rank, above) {
         Ok(at) => at + 1,
         Err(gap) => gap,
     }
@@ -508,7 +503,7 @@ fn first_above<S: Storage>(
 fn first_behind<S: Storage>(
     entries: &S,
     walks: Walks,
-    last_place: usize,
+    last_rank: usize,
     above: Option<u32>,
 ) -> usize
     requires sound { S.is_sound entries.now }
@@ -521,11 +516,11 @@ fn first_behind<S: Storage>(
     let Some(above) = above else {
         return 0;
     };
-    if last_place < entries.len() && entries.ssrc_at(last_place) == above {
-        return last_place + 1;
+    if last_rank < entries.len() && entries.ssrc_at(last_rank) == above {
+        return last_rank + 1;
     }
     match search_again(entries, walks, above) {
-        Ok(place) => place + 1,
+        Ok(rank) => rank + 1,
         Err(gap) => gap,
     }
 }
@@ -563,7 +558,7 @@ fn report_at<S: Storage>(entries: &mut S, counted: &mut u16, at: usize, ssrc: u3
     requires sound { S.is_sound entries.old }
     requires counted { counted.old ≡ tally_of is_due (S.items entries.old) }
     requires rising { IsRising (S.items entries.old) }
-    requires place { IsPlaceOf ssrc (S.items entries.old) at }
+    requires rank { IsRankOf ssrc (S.items entries.old) at }
     requires due { IsTrue (is_such is_due (finite.get (map_of (S.items entries.old)) ssrc)) }
     ensures kept { IsEdited (length (S.items entries.old)) (S.room entries.old)
         (S.items entries.new) (S.room entries.new) (S.is_sound entries.new) }

@@ -15,7 +15,7 @@ pub struct Sources<'a, T: MemberTable> {
     table: Option<&'a T>,
     after: Option<u32>,
     /// Where the last one stands, as far as the table said so.
-    place: usize,
+    rank: usize,
 }
 
 impl<'a, T: MemberTable> Model for Sources<'a, T> {
@@ -36,7 +36,7 @@ impl<'a, T: MemberTable> Sources<'a, T> {
         Sources {
             table: Some(table),
             after: None,
-            place: 0,
+            rank: 0,
         }
     }
 
@@ -47,7 +47,7 @@ impl<'a, T: MemberTable> Sources<'a, T> {
         Sources {
             table: None,
             after: None,
-            place: 0,
+            rank: 0,
         }
     }
 }
@@ -61,7 +61,7 @@ impl<'a, T: MemberTable> Iterator for Sources<'a, T> {
 
     fn next(&mut self) -> Option<SourceState> {
         match self.table {
-            Some(table) => match table.source_from(self.after, &mut self.place) {
+            Some(table) => match table.source_from(self.after, &mut self.rank) {
                 Some(state) => {
                     self.after = Some(state.ssrc);
                     Some(state)

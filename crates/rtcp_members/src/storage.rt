@@ -7,7 +7,7 @@ ghost use denote.RawPtr.{Ptr};
 ghost use Rattle.arrayvec.specs.ArrayVec as arrays;
 ghost use Rattle.rtcp_members.specs.declared.entry.Entry.{Entry};
 ghost use Rattle.rtcp_members.specs.Traces.{horizons_at};
-ghost use Rattle.rtcp_members.specs.ListViews.{lapsed, outlasts, IsPlaceOf};
+ghost use Rattle.rtcp_members.specs.ListViews.{lapsed, outlasts, IsRankOf};
 ghost use Rattle.rtcp_members.specs.SortedViews.{IsRising, IsGapFor};
 ghost use Rattle.rtcp_members.specs.Standing.{AllStandBy, AreCounts, IsMeasured};
 ghost use Rattle.rtcp_members.specs.Storages.{LendsEntry};
@@ -62,14 +62,14 @@ pub trait Storage {
     fn find(&self, ssrc: u32) -> Result<usize, usize>
         requires sound { is_sound self.now }
         requires rising { IsRising (items self.now) }
-        ensures found { IfOk result (IsPlaceOf ssrc (items self.now)) }
+        ensures found { IfOk result (IsRankOf ssrc (items self.now)) }
         ensures absent { IfErr result (IsGapFor ssrc (items self.now)) };
 
     /// What `find` returns, where a walk from the rank `from` soon comes to it.
     fn walk_to(&self, ssrc: u32, from: usize) -> Option<Result<usize, usize>>
         requires sound { is_sound self.now }
         requires rising { IsRising (items self.now) }
-        ensures found { IfSome result (λ rank. IfOk rank (IsPlaceOf ssrc (items self.now))) }
+        ensures found { IfSome result (λ rank. IfOk rank (IsRankOf ssrc (items self.now))) }
         ensures absent { IfSome result (λ rank. IfErr rank (IsGapFor ssrc (items self.now))) };
 
     /// The entry of a rank.
@@ -88,7 +88,7 @@ pub trait Storage {
     /// Puts an entry before the one of the rank `at`.
     fn insert(&mut self, at: usize, entry: Entry)
         requires sound { is_sound self.old }
-        requires place { at ≤ length (items self.old) }
+        requires rank { at ≤ length (items self.old) }
         requires room { length (items self.old) < room self.old }
         ensures sound { is_sound self.new }
         ensures items { items self.new ≡ insert (items self.old) at entry }

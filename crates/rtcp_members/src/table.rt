@@ -119,9 +119,9 @@ pub trait MemberTable {
     fn source_above(&self, after: Option<u32>) -> Option<SourceState>
         ensures { option_map state_value result ≡ state_above after (content self.now) };
 
-    /// `source_above`, for a walk: `place` hints at where the source of `after` stands. A table may use it to
+    /// `source_above`, for a walk: `rank` hints at where the source of `after` stands. A table may use it to
     /// find the next one sooner, and leaves the hint for the next call. The answer is the same for any hint.
-    fn source_from(&self, after: Option<u32>, _place: &mut usize) -> Option<SourceState>
+    fn source_from(&self, after: Option<u32>, _rank: &mut usize) -> Option<SourceState>
         ensures { option_map state_value result ≡ state_above after (content self.now) }
     {
         self.source_above(after)
@@ -133,8 +133,8 @@ pub trait MemberTable {
         ensures told { option_map state_value result ≡ state_above after (content self.old) }
         ensures content { content self.new ≡ content self.old }
     {
-        let mut place = 0;
-        self.source_from(after, &mut place)
+        let mut rank = 0;
+        self.source_from(after, &mut rank)
     }
 }
 

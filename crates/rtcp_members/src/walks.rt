@@ -3,7 +3,7 @@
 /// How far walks may have been in vain, each counted as two, beyond those that came to a source.
 const MOST_IN_VAIN: u16 = 8;
 
-/// How many searches then go without a walk, before one is tried again.
+/// One search more than this then goes without a walk, before one is tried again.
 const REST: u16 = 64;
 
 /// Whether walks come to their sources, as they do where SSRCs are spread evenly (RFC 3550, 8.1), and where a search

@@ -43,23 +43,23 @@ add-requires-clause-due g c =
 
 pub returns-clause-its_due : goal.returns-clause-its_due
 returns-clause-its_due g c =
-    rw c.insert.ensures.items (omega (arith, c.requires.its_due, c.add.ensures.due, tally_insert is_due (g.S.Storage.items c.args.entries.now) c.args.gap c.take.new.self))
+    rw c.insert.ensures.items (omega (arith, c.requires.its_due, c.add.ensures.due, tally_insert is_due (g.S.Storage.items c.args.entries.now) c.args.gap c.take_fact.new.self))
 
 pub returns-clause-sorted : goal.returns-clause-sorted
 returns-clause-sorted g c =
     rw c.insert.ensures.items
-    (sorted_insert c.args.capacity c.args.counts.now.members c.args.counts.now.senders c.add.new.self.members c.add.new.self.senders (g.S.Storage.items c.args.entries.now) c.args.gap c.take.new.self (subject c.args.fact) c.requires.sorted c.requires.gap (search rules)
+    (sorted_insert c.args.capacity c.args.counts.now.members c.args.counts.now.senders c.add.new.self.members c.add.new.self.senders (g.S.Storage.items c.args.entries.now) c.args.gap c.take_fact.new.self (subject c.args.fact) c.requires.sorted c.requires.gap (search rules)
     (omega (arith, c.len.ensures.value, c.if-len-capacity.false)) c.add.ensures.members c.add.ensures.senders)
 
 pub returns-clause-place : goal.returns-clause-place
 returns-clause-place g c =
-    (admitted c.args.capacity c.args.rate (g.S.Storage.items c.args.entries.now) (insert (g.S.Storage.items c.args.entries.now) c.args.gap c.take.new.self) c.args.fact c.args.t (rising_apart (g.S.Storage.items c.args.entries.now) c.requires.sorted.ordered.rising)
+    (admitted c.args.capacity c.args.rate (g.S.Storage.items c.args.entries.now) (insert (g.S.Storage.items c.args.entries.now) c.args.gap c.take_fact.new.self) c.args.fact c.args.t (rising_apart (g.S.Storage.items c.args.entries.now) c.requires.sorted.ordered.rising)
     (none_in_gap (subject c.args.fact) (g.S.Storage.items c.args.entries.now) c.args.gap c.requires.gap) (search rules) (omega (arith, c.len.ensures.value, c.if-len-capacity.false))
-    (map_inserted c.args.rate (g.S.Storage.items c.args.entries.now) c.args.gap c.args.fact c.args.t c.take.new.self c.requires.gap (search rules) (search rules))).0
+    (map_inserted c.args.rate (g.S.Storage.items c.args.entries.now) c.args.gap c.args.fact c.args.t c.take_fact.new.self c.requires.gap (search rules) (search rules))).0
 
 pub returns-clause-table : goal.returns-clause-table
 returns-clause-table g c =
     rw c.insert.ensures.items
-    ((admitted c.args.capacity c.args.rate (g.S.Storage.items c.args.entries.now) (insert (g.S.Storage.items c.args.entries.now) c.args.gap c.take.new.self) c.args.fact c.args.t (rising_apart (g.S.Storage.items c.args.entries.now) c.requires.sorted.ordered.rising)
+    ((admitted c.args.capacity c.args.rate (g.S.Storage.items c.args.entries.now) (insert (g.S.Storage.items c.args.entries.now) c.args.gap c.take_fact.new.self) c.args.fact c.args.t (rising_apart (g.S.Storage.items c.args.entries.now) c.requires.sorted.ordered.rising)
     (none_in_gap (subject c.args.fact) (g.S.Storage.items c.args.entries.now) c.args.gap c.requires.gap) (search rules) (omega (arith, c.len.ensures.value, c.if-len-capacity.false))
-    (map_inserted c.args.rate (g.S.Storage.items c.args.entries.now) c.args.gap c.args.fact c.args.t c.take.new.self c.requires.gap (search rules) (search rules))).1)
+    (map_inserted c.args.rate (g.S.Storage.items c.args.entries.now) c.args.gap c.args.fact c.args.t c.take_fact.new.self c.requires.gap (search rules) (search rules))).1)

@@ -5,4 +5,4 @@ use Rattle.rtcp_members.proofs.sorted_table.search_behind.Goals as goal
 
 pub returns-then-ssrc_at-ssrc-clause-found : goal.returns-then-ssrc_at-ssrc-clause-found
 returns-then-ssrc_at-ssrc-clause-found g c =
-    ssrc_found c.args.ssrc (g.S.Storage.items c.args.entries.now) ((c.args.last_place + 1) % 18446744073709551616) c.ssrc_at.result c.requires.rising (omega (arith, c.len.ensures.value, c.if-next-len.true)) c.ssrc_at.ensures c.if-ssrc_at-ssrc.true
+    ssrc_found c.args.ssrc (g.S.Storage.items c.args.entries.now) ((c.args.last_rank + 1) % 18446744073709551616) c.ssrc_at.result c.requires.rising (omega (arith, c.len.ensures.value, c.if-next-len.true)) c.ssrc_at.ensures c.if-ssrc_at-ssrc.true

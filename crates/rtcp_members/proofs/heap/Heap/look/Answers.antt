@@ -5,7 +5,7 @@ use Rattle.rtcp_members.specs.declared.cells.Cell.{Cell}
 use Rattle.rtcp_members.specs.declared.cells.Slot.{Slot}
 use Rattle.rtcp_members.specs.declared.heap.Heap.{Heap}
 use Rattle.rtcp_members.specs.Heaps.{no_slot, entries_in, slots_in, picked, IsHeap}
-use Rattle.rtcp_members.specs.ListViews.{IsPlaceOf}
+use Rattle.rtcp_members.specs.ListViews.{IsRankOf}
 use Rattle.rtcp_members.specs.SortedViews.{IsRising, IsGapFor}
 use Rattle.rtcp_members.proofs.Heaps.{slot_found, gap_between}
 use Rattle.rtcp_members.proofs.Pairs.{used_read, even_used, odd_used}
@@ -22,13 +22,13 @@ module _ (h : Heap) (ssrc at : ℕ) (cell : Cell) (sound : IsHeap (entries_in h.
   odd_here : 2 * at + 1 < h.used → (slice_index_or (take h.used (slots_in h.cells.items)) (2 * at + 1) no_slot).ssrc ≡ cell.odd.ssrc
   odd_here early = odd_used h.cells.items h.used at cell sound.in_use read (2 * at + 1) refl early
 
-  stands : (rank : ℕ) → rank < h.used → (slice_index_or (take h.used (slots_in h.cells.items)) rank no_slot).ssrc ≡ ssrc → IsPlaceOf ssrc (picked (entries_in h.cells.items) (take h.used (slots_in h.cells.items))) rank
+  stands : (rank : ℕ) → rank < h.used → (slice_index_or (take h.used (slots_in h.cells.items)) rank no_slot).ssrc ≡ ssrc → IsRankOf ssrc (picked (entries_in h.cells.items) (take h.used (slots_in h.cells.items))) rank
   stands rank early same = slot_found (entries_in h.cells.items) (take h.used (slots_in h.cells.items)) sound.keyed rising ssrc rank (omega (arith, early, as_long)) same
 
-  pub stands_first : ssrc ≡ cell.even.ssrc → IsPlaceOf ssrc (picked (entries_in h.cells.items) (take h.used (slots_in h.cells.items))) (2 * at)
+  pub stands_first : ssrc ≡ cell.even.ssrc → IsRankOf ssrc (picked (entries_in h.cells.items) (take h.used (slots_in h.cells.items))) (2 * at)
   stands_first same = stands (2 * at) below (even_here ∙ sym same)
 
-  pub stands_second : 2 * at + 1 < h.used → ssrc ≡ cell.odd.ssrc → IsPlaceOf ssrc (picked (entries_in h.cells.items) (take h.used (slots_in h.cells.items))) (2 * at + 1)
+  pub stands_second : 2 * at + 1 < h.used → ssrc ≡ cell.odd.ssrc → IsRankOf ssrc (picked (entries_in h.cells.items) (take h.used (slots_in h.cells.items))) (2 * at + 1)
   stands_second early same = stands (2 * at + 1) early (odd_here early ∙ sym same)
 
   -- it would stand after the first of the cell, before what comes there

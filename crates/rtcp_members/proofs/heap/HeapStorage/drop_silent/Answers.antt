@@ -26,14 +26,14 @@ module _ (test : Entry → Bool) (change : Entry → Entry) (items : List Entry)
   pub its_slot : slot ≡ slice_index_or (slots_in cells) at no_slot
   its_slot = its ∙ slot_read cells at in_cells
 
-  place_in : slot.place < length cells
-  place_in =
+  rank_in : slot.place < length cells
+  rank_in =
       omega (arith, subst (λ (s : Slot). s.place < length (entries_in cells)) (sym its_slot) (so.places.within at no_slot (omega (arith, less, so.in_use))), length-map cells (λ (c : Cell). c.entry))
 
   pub its_entry : cell.entry ≡ entry_in (entries_in cells) (slice_index_or (slots_in cells) at no_slot)
   its_entry =
-      ap (λ (c : Cell). c.entry) (get_or_read cells slot.place cell place_in read no_cell)
-      ∙ sym (get_or-map (λ (c : Cell). c.entry) cells slot.place no_cell no_entry place_in)
+      ap (λ (c : Cell). c.entry) (get_or_read cells slot.place cell rank_in read no_cell)
+      ∙ sym (get_or-map (λ (c : Cell). c.entry) cells slot.place no_cell no_entry rank_in)
       ∙ ap (entry_in (entries_in cells)) its_slot
 
   entries_now : entries_in written ≡ set (entries_in cells) (slice_index_or (slots_in cells) at no_slot).place next

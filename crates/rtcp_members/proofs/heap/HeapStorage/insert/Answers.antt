@@ -54,7 +54,7 @@ returns-clause-sound c =
     let value : c.deref_mut.result.now ≡ cells = c.deref_mut.ensures.value in
     let until : ℕ = c.args.self.now.used / 2 + 1 in
     let slot : Slot = record { ssrc = c.args.entry.ssrc; place = c.put-place.result } in
-    still_sound c.args.self.now cells c.shift.new.cells c.args.at until c.put-place.result put.cells.len c.args.entry c.requires.sound c.put-place.ensures.put c.requires.place
+    still_sound c.args.self.now cells c.shift.new.cells c.args.at until c.put-place.result put.cells.len c.args.entry c.requires.sound c.put-place.ensures.put c.requires.rank
     refl put.cells.ok.0
     (c.shift.ensures.slots ∙ (λ i. take (2 * until) (insert (pairs_in (value i)) c.args.at slot) ++ drop (2 * until) (pairs_in (value i)))) (c.shift.ensures.entries ∙ ap entries_in value)
     put.used put.cells.cap c.put-place.ensures.used c.put-place.ensures.room
@@ -66,7 +66,7 @@ returns-clause-items c =
     let value : c.deref_mut.result.now ≡ cells = c.deref_mut.ensures.value in
     let until : ℕ = c.args.self.now.used / 2 + 1 in
     let slot : Slot = record { ssrc = c.args.entry.ssrc; place = c.put-place.result } in
-    its_items c.args.self.now cells c.shift.new.cells c.args.at until c.put-place.result put.cells.len c.args.entry c.requires.sound c.put-place.ensures.put c.requires.place
+    its_items c.args.self.now cells c.shift.new.cells c.args.at until c.put-place.result put.cells.len c.args.entry c.requires.sound c.put-place.ensures.put c.requires.rank
     refl put.cells.ok.0
     (c.shift.ensures.slots ∙ (λ i. take (2 * until) (insert (pairs_in (value i)) c.args.at slot) ++ drop (2 * until) (pairs_in (value i)))) (c.shift.ensures.entries ∙ ap entries_in value)
     put.used c.put-place.ensures.used

@@ -1,13 +1,13 @@
--- The first entry above is the first of the table's, and a place is less than 2^16.
+-- The first entry above is the first of the table's, and a rank is less than 2^16.
 use Rattle.std.proofs.Common.{arith, option_map}
 use Rattle.rtcp_members.specs.ListViews.{state_value}
 use Rattle.rtcp_members.proofs.Above.{told_of_sorted}
 use Rattle.rtcp_members.proofs.sorted_table.SortedMemberTable.next_source.Goals as goal
 
 pub overflow_cast-self : goal.overflow_cast-self
-overflow_cast-self g c = omega (arith, c.first_behind-place.ensures.bound, c.self.invariant.sorted.within)
+overflow_cast-self g c = omega (arith, c.first_behind-rank.ensures.bound, c.self.invariant.sorted.within)
 
 pub returns-clause-told : goal.returns-clause-told
 returns-clause-told g c =
-    told_of_sorted c.args.after c.self.inside.capacity c.self.inside.rate (g.S.Storage.items c.self.inside.entries) c.first_behind-place.result c.args.self.now (option_map state_value c.state_at.result)
-    c.self.view_is c.self.invariant.sorted.ordered.rising c.first_behind-place.ensures.rest c.state_at.ensures
+    told_of_sorted c.args.after c.self.inside.capacity c.self.inside.rate (g.S.Storage.items c.self.inside.entries) c.first_behind-rank.result c.args.self.now (option_map state_value c.state_at.result)
+    c.self.view_is c.self.invariant.sorted.ordered.rising c.first_behind-rank.ensures.rest c.state_at.ensures

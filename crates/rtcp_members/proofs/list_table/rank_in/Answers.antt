@@ -1,7 +1,7 @@
 -- The entry at the index is the first that is the source's.
 use Rattle.std.proofs.Common.{rules}
 use Rattle.rtcp_members.proofs.Listing.{get_rows, place_found}
-use Rattle.rtcp_members.proofs.list_table.place_in.Goals as goal
+use Rattle.rtcp_members.proofs.list_table.rank_in.Goals as goal
 
 pub entries-init : goal.entries-init
 entries-init c = get_rows c.args.entries.now c.args.ssrc

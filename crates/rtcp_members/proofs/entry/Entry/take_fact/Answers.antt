@@ -2,7 +2,7 @@
 use Rattle.std.proofs.Common.{sym, ap, ◌∙◌}
 use Rattle.rtcp_members.specs.ListViews.{entry_value}
 use Rattle.rtcp_members.specs.Tables.{counts, entry_after}
-use Rattle.rtcp_members.proofs.entry.Entry.take.Goals as goal
+use Rattle.rtcp_members.proofs.entry.Entry.take_fact.Goals as goal
 
 pub returns-in-Media-clause-counted : goal.returns-in-Media-clause-counted
 returns-in-Media-clause-counted c = c.take_packet.ensures.counted c.in-Media.field-0 ∙ ap (λ fact. counts fact c.args.self.now.source) (sym c.in-Media.is)
