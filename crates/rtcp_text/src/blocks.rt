@@ -55,6 +55,6 @@ pub fn answer_blocks<A: Answerer, R: Read, W: Write>(
         if count == 0 {
             return cutter.finish(writer);
         }
-        cutter.take(&block[..count], writer)?;
+        cutter.take_block(&block[..count], writer)?;
     }
 }

@@ -50,7 +50,7 @@ impl<A: Answerer> LineCutter<A> {
     ///
     /// Those of [`answer_blocks`](crate::blocks::answer_blocks) but for `Read`. The cutter is not to be used
     /// after one.
-    pub(crate) fn take<W: Write>(
+    pub(crate) fn take_block<W: Write>(
         &mut self,
         block: &[u8],
         writer: &mut Counted<W>,

@@ -26,39 +26,39 @@ pub turns-preserved : goal.turns-preserved
 turns-preserved g c =
     let so_far = c.turns.invariant.written in
     let given = c.in-Ok.ensures.bytes in
-    let written = c.in_ok-take.ensures.written in
+    let written = c.in_ok-take_block.ensures.written in
     let cutter = c.turns.cutter in
     let block = take c.in-Ok.count c.read.new.buf in
     record {
-      between = c.in_ok-take.ensures.between;
+      between = c.in_ok-take_block.ensures.between;
       size = omega arith;
       reading = omega (arith, c.in-Ok.ensures.counted);
-      writing = zero_unless _ (λ failed. let wrong = c.in_ok-take.ensures.failed.1 failed in cc);
+      writing = zero_unless _ (λ failed. let wrong = c.in_ok-take_block.ensures.failed.1 failed in cc);
       written = (
         so_far.0 ++ block,
         so_far.1 ++ written.0,
         Consumes-trans _ _ _ so_far.0 block so_far.2 given.0,
         Appends-trans _ _ _ so_far.1 written.0 (Appends-kept _ _ _ _ so_far.3 c.in_ok-flush.ensures.kept) written.1,
         PartLeaves-after g.A.Answerer.answers g.A.Answerer.refuses 0 cutter.answered c.args.answerer cutter.answerer so_far.0 cutter.pending.items so_far.1 block so_far.4
-            {A = Unit {0}} (Ok tt) c.take.new.self.answered c.take.new.self.answerer c.take.new.self.pending.items written.0 written.2,
+            {A = Unit {0}} (Ok tt) c.take_block.new.self.answered c.take_block.new.self.answerer c.take_block.new.self.pending.items written.0 written.2,
       );
     }
 
-pub returns-in_err-take-clause-leaves : goal.returns-in_err-take-clause-leaves
-returns-in_err-take-clause-leaves g c =
+pub returns-in_err-take_block-clause-leaves : goal.returns-in_err-take_block-clause-leaves
+returns-in_err-take_block-clause-leaves g c =
     let so_far = c.turns.invariant.written in
     let given = c.in-Ok.ensures.bytes in
-    let written = c.in_err-take.ensures.written in
-    let fault = c.in_err-take.field-0.0 in
+    let written = c.in_err-take_block.ensures.written in
+    let fault = c.in_err-take_block.field-0.0 in
     let cutter = c.turns.cutter in
-    let after = c.take.new.self in
+    let after = c.take_block.new.self in
     let short : length (take c.in-Ok.count c.read.new.buf) ≤ 8192 = rw length-take (omega arith) in
     let start = g.R.Read.remaining (inner_of c.args.reader.now) in
     let left = g.R.Read.remaining (inner_of c.read.new.self) in
     let held = g.W.Write.contents (inner_of c.args.writer.now) in
-    let last = g.W.Write.contents (inner_of c.take.new.writer) in
+    let last = g.W.Write.contents (inner_of c.take_block.new.writer) in
     at_exit (λ r. Writes start held last (RunLeaves (IsTextFrom g.A.Answerer.answers g.A.Answerer.refuses 1 c.args.answerer) r left))
-    c.from_residual-in_err-take.result fault c.from_residual-in_err-take.ensures.1
+    c.from_residual-in_err-take_block.result fault c.from_residual-in_err-take_block.ensures.1
     (Writes-at_fault g.A.Answerer.answers g.A.Answerer.refuses c.args.answerer cutter.answerer after.answerer
     fault start (g.R.Read.remaining (inner_of c.turns.reader)) left held (g.W.Write.contents (inner_of c.flush.new.writer)) last
     so_far.0 cutter.pending.items so_far.1 (take c.in-Ok.count c.read.new.buf) written.0 after.pending.items cutter.answered after.answered

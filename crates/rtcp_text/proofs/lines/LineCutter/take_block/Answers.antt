@@ -4,7 +4,7 @@ use Rattle.std.proofs.KnownBytes.{Appends-trans}
 use Rattle.rtcp_text.specs.Progress.{PartLeaves}
 use Rattle.rtcp_text.proofs.CountedLemmas.{zero_unless}
 use Rattle.rtcp_text.proofs.ProgressLemmas.{at_exit, some_from_test, block_refused, turn_failed, turn_answered, IsBetween-answered}
-use Rattle.rtcp_text.proofs.lines.LineCutter.take.Goals as goal
+use Rattle.rtcp_text.proofs.lines.LineCutter.take_block.Goals as goal
 
 pub loop-rest-preserved : goal.loop-rest-preserved
 loop-rest-preserved g c =

@@ -2,7 +2,7 @@ use Rattle.std.proofs.Common.{◌≡◌, ◌++◌, ℕ, List, length}
 use Rattle.std.specs.Io.KnownBytes.{Appends}
 use Rattle.rtcp_text.specs.Counted.{failures_of, inner_of}
 use Rattle.rtcp_text.specs.Progress.{IsBetween, AnswersLines}
-use Rattle.rtcp_text.proofs.lines.LineCutter.take.Given as goal
+use Rattle.rtcp_text.proofs.lines.LineCutter.take_block.Given as goal
 
 -- a prefix of the block is taken, and its lines are answered
 abbrev pub invariant-loop-rest : goal.invariant-loop-rest
