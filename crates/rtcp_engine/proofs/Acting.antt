@@ -46,7 +46,7 @@ pub outside : {p w q : ParticipantValue} {act : Act} {out : Option OutValue} {mo
 outside {p} {w} {q} {act} {out} {moved} is acts = subst (λ (x : ParticipantValue). Acts x q act out moved) is acts
 
 pub same_stays : (s : State) → Stays s s
-same_stays s = record { setup = refl; last = refl; calls = refl }
+same_stays s = record { setup = refl; latest = refl; calls = refl }
 
 -- what one does that takes part
 pub acts_from_present : {p q : ParticipantValue} {act : Act} {out : Option OutValue} {moved : Bool} → p.phase ≡ taking_part → Stays p.presence q.presence → q.changes ≡ p.changes
@@ -127,7 +127,7 @@ acted_stands {p} {mid} {q} {act} {out} {moved} h change stands takes words at ca
             changes = acts.changes ∙ at.changes;
             life = subst (λ (setup : Setup). IsAt q (lived setup act now.life)) at.setup lives;
           });
-      last = acts.stays.last;
+      latest = acts.stays.latest;
       calls = acts.stays.calls ∙ ap (λ (n : ℕ). n + 1) (calls ∙ stands.calls) ∙ omega arith;
     }
 

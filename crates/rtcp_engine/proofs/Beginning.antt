@@ -38,7 +38,7 @@ start_is_sound setup word table timing average own usable start = record {
   reports = omega arith;
   calls = omega arith;
   timing = subst (λ (t : Timing). t.last ≤ 0) (sym start.is_timing) (omega arith);
-  last = omega arith;
+  latest = omega arith;
 }
 
 pub start_stands : (setup : Setup) (word : ℕ) (table : TableValue) (timing : Timing) (average : ℕ) (own : OwnValue) → IsUsable setup → word < 2 ^ 32 →
@@ -65,7 +65,7 @@ start_stands setup word table timing average own usable word_fits start =
           },
         );
       };
-      last = refl;
+      latest = refl;
       calls = refl;
     }
 

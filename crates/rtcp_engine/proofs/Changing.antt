@@ -3,7 +3,7 @@ use Rattle.std.proofs.Common.{◌≡◌, ℕ, List, [], ◌∷◌, Option, Some,
 use Rattle.std.specs.Option.{option_or}
 use Rattle.rtcp_engine.specs.Setups.{Setup, IsUsable}
 use Rattle.rtcp_engine.specs.Acts.{Act, arrived, rtp_sent, ticked, left}
-use Rattle.rtcp_engine.specs.Identities.{named}
+use Rattle.rtcp_engine.specs.Identities.{with_ssrc}
 use Rattle.rtcp_engine.specs.Leaving.{Life, present, backing_off, gone}
 use Rattle.rtcp_engine.specs.Lives.{out_by, own_bye}
 use Rattle.rtcp_engine.specs.Changes.{NewIdentifier, Session, change_by, changed_by, changed_to}
@@ -11,20 +11,20 @@ use Rattle.rtcp_engine.specs.Histories.{session_of}
 
 -- ---- Setups
 
-named_again : (setup : Setup) (session : Session) (change : Option NewIdentifier) → session.setup ≡ named session.setup.ssrc setup → (changed_by change session).setup ≡ named (changed_by change session).setup.ssrc setup
-named_again setup session None same = same
-named_again setup session (Some new) same = ap (named new.ssrc) same
+ssrc_again : (setup : Setup) (session : Session) (change : Option NewIdentifier) → session.setup ≡ with_ssrc session.setup.ssrc setup → (changed_by change session).setup ≡ with_ssrc (changed_by change session).setup.ssrc setup
+ssrc_again setup session None same = same
+ssrc_again setup session (Some new) same = ap (with_ssrc new.ssrc) same
 
 -- The setup of a session is the one it began with, but for the identifier.
-pub same_but_name : (setup : Setup) (word : ℕ) (acts : List Act) → (session_of setup word acts).setup ≡ named (session_of setup word acts).setup.ssrc setup
-same_but_name setup word [] = refl
-same_but_name setup word (act ∷ earlier) =
+pub same_but_ssrc : (setup : Setup) (word : ℕ) (acts : List Act) → (session_of setup word acts).setup ≡ with_ssrc (session_of setup word acts).setup.ssrc setup
+same_but_ssrc setup word [] = refl
+same_but_ssrc setup word (act ∷ earlier) =
     let before = session_of setup word earlier in
-    named_again setup before (change_by before act) (same_but_name setup word earlier)
+    ssrc_again setup before (change_by before act) (same_but_ssrc setup word earlier)
 
 -- A setup under another identifier is as usable.
-pub usable_named : (ssrc : ℕ) (setup : Setup) → IsUsable setup → IsUsable (named ssrc setup)
-usable_named ssrc setup u = record {
+pub usable_with_ssrc : (ssrc : ℕ) (setup : Setup) → IsUsable setup → IsUsable (with_ssrc ssrc setup)
+usable_with_ssrc ssrc setup u = record {
   cname = u.cname;
   capacity = u.capacity;
   limit = u.limit;
@@ -37,7 +37,7 @@ usable_named ssrc setup u = record {
 }
 
 pub usable_in : (setup : Setup) (word : ℕ) (acts : List Act) → IsUsable setup → IsUsable (session_of setup word acts).setup
-usable_in setup word acts usable = subst IsUsable (sym (same_but_name setup word acts)) (usable_named _ setup usable)
+usable_in setup word acts usable = subst IsUsable (sym (same_but_ssrc setup word acts)) (usable_with_ssrc _ setup usable)
 
 -- ---- What is handed out
 

@@ -8,7 +8,7 @@ use Rattle.rtcp_engine.specs.Outcomes.{Outcome, Report, interval_at, member_coun
 use Rattle.rtcp_engine.specs.Ticks.{checked, has_come, has_passed, reported, put_off}
 use Rattle.rtcp_engine.specs.Reporting.{bye_octets, report_octets}
 use Rattle.rtcp_engine.specs.Leaving.{Backoff, Life, present, backing_off, gone, few_members, is_bye_due, is_unheard, after_wait, backoff_from, leaving_interval}
-use Rattle.rtcp_engine.specs.Lives.{lived, bye_out, out_by, own_bye, report_out, with_new_name}
+use Rattle.rtcp_engine.specs.Lives.{lived, bye_out, out_by, own_bye, report_out, with_new_ssrc}
 use Rattle.rtcp_engine.specs.Changes.{NewIdentifier, Session, bye_of_change, change_by, changed_by, changed_to}
 use Rattle.rtcp_engine.specs.Histories.{session_of}
 use Rattle.rtcp_engine.specs.Steps.{OutValue}
@@ -44,7 +44,7 @@ heard_by : (setup : Setup) (t : ℕ) (heard : Bool) (outcome : Outcome) (sent : 
 heard_by setup t true outcome sent h = h
 heard_by setup t false outcome sent h = h
 
-one_change : (setup : Setup) (t : ℕ) (life : Life) (sent : List Sent) → reports_of life ≡ counted sent → reports_of (with_new_name setup life) ≡ counted (sent_with t 0 true (own_bye setup life) ++ sent)
+one_change : (setup : Setup) (t : ℕ) (life : Life) (sent : List Sent) → reports_of life ≡ counted sent → reports_of (with_new_ssrc setup life) ≡ counted (sent_with t 0 true (own_bye setup life) ++ sent)
 one_change setup t (present outcome) sent h = heard_by setup t (has_sent outcome.own) outcome sent h
 one_change setup t (backing_off outcome backoff) sent h = heard_by setup t (has_sent outcome.own) outcome sent h
 one_change setup t (gone outcome) sent h = h

@@ -27,7 +27,7 @@ pub both : {a b c : State} {f g : Setup → Outcome → Outcome} → Does a b f 
 both {a} {b} {c} {f} {g} first second = record {
   stays = record {
     setup = second.stays.setup ∙ first.stays.setup;
-    last = second.stays.last ∙ first.stays.last;
+    latest = second.stays.latest ∙ first.stays.latest;
     calls = second.stays.calls ∙ first.stays.calls;
   };
   follows = λ outcome agrees. subst (λ (setup : Setup). Agrees c (g setup (f a.setup outcome))) first.stays.setup (second.follows (f a.setup outcome) (first.follows outcome agrees));
@@ -40,10 +40,10 @@ seen {s} {w} is outcome agrees = subst (λ (x : State). Agrees x outcome) (sym i
 pub of_view : {A : Type 0} {s w : State} {a : A} → s ≡ w → (exact : Setup → Outcome → A) → ((outcome : Outcome) → Agrees s outcome → a ≡ exact s.setup outcome) → (outcome : Outcome) → Agrees w outcome → a ≡ exact w.setup outcome
 of_view {A} {s} {w} {a} is exact inside = subst (λ (x : State). (outcome : Outcome) → Agrees x outcome → a ≡ exact x.setup outcome) is inside
 
-pub stays_by : {s w v : State} → s ≡ w → v.setup ≡ s.setup → v.last ≡ s.last → v.calls ≡ s.calls → Stays w v
-stays_by {s} {w} {v} is setup last calls = record {
+pub stays_by : {s w v : State} → s ≡ w → v.setup ≡ s.setup → v.latest ≡ s.latest → v.calls ≡ s.calls → Stays w v
+stays_by {s} {w} {v} is setup latest calls = record {
   setup = setup ∙ ap (λ (x : State). x.setup) is;
-  last = last ∙ ap (λ (x : State). x.last) is;
+  latest = latest ∙ ap (λ (x : State). x.latest) is;
   calls = calls ∙ ap (λ (x : State). x.calls) is;
 }
 
@@ -206,7 +206,7 @@ makes {s} {w} is t table average own cursor table_is average_is adds cursor_is =
     let same : new ≡ record s { table = after_blocks (rows_in t s) s.table; average = moved_average s.average (length (octets_in t s)); own = own; cursor = last_reported s.cursor (rows_in t s); reports = s.reports + 1 } =
     λ i. record s { table = table_is i; average = average_is i; own = own; cursor = cursor_is i; reports = s.reports + 1 } in
     subst (λ (x : State). Does x new (λ setup. with_report setup t)) is
-    (record { stays = record { setup = refl; last = refl; calls = refl }; follows = λ outcome a. subst (λ (x : State). Agrees x (with_report s.setup t outcome)) (sym same) (sent_reports_agree s outcome t own adds a) })
+    (record { stays = record { setup = refl; latest = refl; calls = refl }; follows = λ outcome a. subst (λ (x : State). Agrees x (with_report s.setup t outcome)) (sym same) (sent_reports_agree s outcome t own adds a) })
 
 -- a report is due, or none is, whatever the outcome is that the numbers agree with
 abbrev pub IsDueBy : State → (t word : ℕ) → Bool → Type 0
@@ -253,7 +253,7 @@ pub takes_media : {s w : State} → s ≡ w → (t : ℕ) (head : RtpValue) (tab
 takes_media {s} {w} is t head table table_is =
     subst (λ (x : State). Does x (record s { table = table }) (λ setup. with_media setup t head)) is
     (record {
-      stays = record { setup = refl; last = refl; calls = refl };
+      stays = record { setup = refl; latest = refl; calls = refl };
       follows = λ outcome a. subst (λ (x : TableValue). Agrees (record s { table = x }) (with_media s.setup t head outcome)) (sym table_is) (media_agree s outcome t head a);
     })
 
@@ -320,13 +320,13 @@ waits_first {s} {w} is average t average_is outcome agrees =
     let a = seen is outcome agrees in
     record { timing = a.timing; average = average_is; still = record { table = a.table; capacity = a.capacity; rate = a.rate; own = a.own; cursor = a.cursor; reports = a.reports } }
 
-pub backs_off : {s w : State} → s ≡ w → (average word td : ℕ) (timing : Timing) → average ≡ leaving_average s.setup [] → IsWaitingInterval (record s { average = average }) 1 td → timing ≡ after (transmitted s.last (drawn_interval td word) 1) s.timing
-    → (outcome : Outcome) → Agrees w outcome → Waits (record s { average = average; timing = timing }) outcome (backoff_from w.setup w.last word outcome)
+pub backs_off : {s w : State} → s ≡ w → (average word td : ℕ) (timing : Timing) → average ≡ leaving_average s.setup [] → IsWaitingInterval (record s { average = average }) 1 td → timing ≡ after (transmitted s.latest (drawn_interval td word) 1) s.timing
+    → (outcome : Outcome) → Agrees w outcome → Waits (record s { average = average; timing = timing }) outcome (backoff_from w.setup w.latest word outcome)
 backs_off {s} {w} is average word td timing average_is interval steps =
     let new : State = record s { average = average; timing = timing } in
-    subst (λ (x : State). (outcome : Outcome) → Agrees x outcome → Waits new outcome (backoff_from x.setup x.last word outcome)) is
+    subst (λ (x : State). (outcome : Outcome) → Agrees x outcome → Waits new outcome (backoff_from x.setup x.latest word outcome)) is
     (λ outcome a. record {
-      timing = steps ∙ ap (λ (d : ℕ). after (transmitted s.last (drawn_interval d word) 1) s.timing) (interval outcome (unstarted s.last outcome) (waits_first {s = s} refl average s.last average_is outcome a) refl);
+      timing = steps ∙ ap (λ (d : ℕ). after (transmitted s.latest (drawn_interval d word) 1) s.timing) (interval outcome (unstarted s.latest outcome) (waits_first {s = s} refl average s.latest average_is outcome a) refl);
       average = average_is;
       still = record { table = a.table; capacity = a.capacity; rate = a.rate; own = a.own; cursor = a.cursor; reports = a.reports };
     })

@@ -133,7 +133,7 @@ same_in_change session None ssrc = refl
 same_in_change session (Some new) ssrc = under session.setup new session.life
   where
     under : (setup : Setup) (new : NewIdentifier) (life : Life)
-        → entry_in_life setup life ssrc ≡ entry_in_life (Rattle.rtcp_engine.specs.Identities.named new.ssrc setup) (Rattle.rtcp_engine.specs.Lives.with_new_name setup life) ssrc
+        → entry_in_life setup life ssrc ≡ entry_in_life (Rattle.rtcp_engine.specs.Identities.with_ssrc new.ssrc setup) (Rattle.rtcp_engine.specs.Lives.with_new_ssrc setup life) ssrc
     under setup new (present outcome) = refl
     under setup new (backing_off outcome backoff) = refl
     under setup new (gone outcome) = refl

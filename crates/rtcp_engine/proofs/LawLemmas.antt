@@ -15,7 +15,7 @@ use Rattle.rtcp_engine.specs.Refused.{error_in}
 use Rattle.rtcp_engine.specs.Acts.{Datagram, Act, moment_of, IsReading, IsRtpReading, IsTotal, IsUnique}
 use Rattle.rtcp_engine.specs.Lives.{out_by, own_bye}
 use Rattle.rtcp_engine.specs.Changes.{NewIdentifier, Session, bye_of_change, change_by, changed_by, changing_peers, is_taken, most_taken, new_identifier}
-use Rattle.rtcp_engine.specs.Identities.{AreApart, IsFirstFree, named}
+use Rattle.rtcp_engine.specs.Identities.{AreApart, IsFirstFree, with_ssrc}
 use Rattle.rtcp_engine.specs.OwnStreams.{OwnStep, packet_sent, check_passed, report_sent, counts_anew, sending_since}
 use Rattle.rtcp_engine.specs.OwnSending.{OutlastsChecks, IsSendingSince}
 use Rattle.rtcp_engine.specs.Reporting.{extra_item, last_reported_in}
@@ -28,7 +28,7 @@ use Rattle.rtcp_engine.specs.Answers.{step_by, answer_of, followed_by}
 use Rattle.rtcp_engine.specs.Taken.{IsHistory, NamesFew}
 use Rattle.rtcp_engine.specs.Sent.{reports_in, deciding_interval, sent_at, sent_with, handed_out, reports_of, counted_report}
 use Rattle.rtcp_engine.specs.Spacing.{newest_moment, LiesAfter, KeepsBounds}
-use Rattle.rtcp_engine.proofs.Changing.{bye_alone, same_but_name, usable_in}
+use Rattle.rtcp_engine.proofs.Changing.{bye_alone, same_but_ssrc, usable_in}
 use Rattle.rtcp_engine.proofs.Choosing.{apart_listed, few_listed, new_is_free}
 use Rattle.rtcp_engine.proofs.Trying.{chosen_is_first}
 use Rattle.rtcp_engine.proofs.Usable.{usable_of_unrefused, unrefused_of_usable}
@@ -168,8 +168,8 @@ new_identifiers_are_free-first history datagram word is fits few =
     let session = session_at history in
     chosen_is_first (most_taken session datagram) (is_taken session datagram) word fits (new_is_free history datagram word is fits few)
 
-pub changes_touch_the_identifier_alone-setup : (setup : Setup) (word : ℕ) (acts : List Act) → (session_of setup word acts).setup ≡ named (session_of setup word acts).setup.ssrc setup
-changes_touch_the_identifier_alone-setup = same_but_name
+pub changes_touch_the_identifier_alone-setup : (setup : Setup) (word : ℕ) (acts : List Act) → (session_of setup word acts).setup ≡ with_ssrc (session_of setup word acts).setup.ssrc setup
+changes_touch_the_identifier_alone-setup = same_but_ssrc
 
 pub changes_touch_the_identifier_alone-usable : (setup : Setup) (word : ℕ) (acts : List Act) → IsUsable setup → IsUsable (session_of setup word acts).setup
 changes_touch_the_identifier_alone-usable = usable_in

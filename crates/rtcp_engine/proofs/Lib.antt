@@ -19,7 +19,7 @@ mod LeavingRows
 mod LifeLemmas
 mod Moving
 mod OneMore
-mod Renaming
+mod ChangeLemmas
 mod Rows
 mod Saying
 mod Sending

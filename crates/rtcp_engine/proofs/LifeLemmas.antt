@@ -37,7 +37,7 @@ not_over over call none ended = absurd cc
 
 -- One that does not refuse a call is not gone.
 pub is_there : (t : ℕ) (p : ParticipantValue) → refusal_by t p ≡ None → p.phase ≡ over → ⊥
-is_there t p none = not_over p.phase (call_refusal t p.presence.last p.presence.calls) none
+is_there t p none = not_over p.phase (call_refusal t p.presence.latest p.presence.calls) none
 
 -- ---- Farewells
 

@@ -28,10 +28,10 @@ use Rattle.rtcp_engine.specs.Refusals.{refusal_after}
 use Rattle.rtcp_engine.specs.Steps.{OutValue}
 use Rattle.rtcp_engine.specs.Taken.{HasWords, AllTaken}
 use Rattle.rtcp_engine.specs.Leaving.{Farewell, Backoff, Life, present, backing_off, gone, backoff_from, bye_count, few_members, is_bye_due, is_unheard, after_wait, leaving_count, leaving_interval, leaving_load, leaving_timing}
-use Rattle.rtcp_engine.specs.Lives.{while_present, while_backing_off, lived, bye_out, out_by, own_bye, report_out, with_new_name}
+use Rattle.rtcp_engine.specs.Lives.{while_present, while_backing_off, lived, bye_out, out_by, own_bye, report_out, with_new_ssrc}
 use Rattle.rtcp_engine.specs.Sent.{Sent, interval_by, is_report, reports_in, sent_by, sent_over, sent_with}
 use Rattle.rtcp_engine.specs.Spacing.{HalfPasses, newest_moment, leave_moment, first_leave, IsLate}
-use Rattle.rtcp_engine.proofs.Changing.{bye_alone, nothing_more, same_but_name, usable_in, usable_named}
+use Rattle.rtcp_engine.proofs.Changing.{bye_alone, nothing_more, same_but_ssrc, usable_in, usable_with_ssrc}
 use Rattle.rtcp_engine.proofs.Choosing.{unrefused}
 
 -- ---- Draws
@@ -340,7 +340,7 @@ change_reports setup moment true sent = refl
 change_reports setup moment false sent = refl
 
 change_apart : (setup : Setup) (t moment : ℕ) (leave : Option ℕ) (life : Life) (sent : List Sent) → IsUsable setup → t ≤ moment → KeepsApart setup.limit t leave life sent
-    → KeepsApart setup.limit moment leave (with_new_name setup life) (sent_with moment 0 true (own_bye setup life) ++ sent)
+    → KeepsApart setup.limit moment leave (with_new_ssrc setup life) (sent_with moment 0 true (own_bye setup life) ++ sent)
 change_apart setup t moment leave (present outcome) sent usable order h = record {
   up_to = later moment order h.up_to;
   newest = h.newest ∙ sym (ap newest_moment (change_reports setup moment (has_sent outcome.own) sent));
@@ -381,7 +381,7 @@ step_apart session t leave act sent (Some new) is usable order words h =
     let moment = moment_of act in
     let before = sent_with moment 0 true (own_bye session.setup session.life) ++ sent in
     let P : List Sent → Type 0 = KeepsApart session.setup.limit moment (option_or leave (leave_moment act)) (lived now.setup act now.life) in
-    let apart = keeps_apart now.setup moment leave act now.life before (usable_named new.ssrc session.setup usable) (omega arith) words (change_apart session.setup t moment leave session.life sent usable order h) in
+    let apart = keeps_apart now.setup moment leave act now.life before (usable_with_ssrc new.ssrc session.setup usable) (omega arith) words (change_apart session.setup t moment leave session.life sent usable order h) in
     let alone : P before = subst (λ (out : Option OutValue). P (sent_with moment (interval_by now.setup act now.life) false out ++ before)) (nothing_more session act new is now.setup now.life) apart in
     subst (λ (out : Option OutValue). P (sent_with moment 0 true out ++ sent)) (sym (bye_alone session act new is)) alone
 
@@ -404,7 +404,7 @@ session_keeps_apart setup word [] usable taken = record {
 }
 session_keeps_apart setup word (act ∷ earlier) usable taken =
     let before = session_of setup word earlier in
-    let same = ap (λ (s : Setup). s.limit) (same_but_name setup word earlier) in
+    let same = ap (λ (s : Setup). s.limit) (same_but_ssrc setup word earlier) in
     let earlier_apart = subst (λ (limit : ℕ). KeepsApart limit (last_moment earlier) (first_leave earlier) before.life (sent_over setup word earlier)) (sym same) (session_keeps_apart setup word earlier usable taken.2) in
     subst (λ (limit : ℕ). KeepsApart limit (moment_of act) (option_or (first_leave earlier) (leave_moment act)) (session_of setup word (act ∷ earlier)).life (sent_by before act ++ sent_over setup word earlier)) same
     (step_apart before (last_moment earlier) (first_leave earlier) act (sent_over setup word earlier) (change_by before act) refl (usable_in setup word earlier usable)

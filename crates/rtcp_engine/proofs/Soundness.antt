@@ -23,15 +23,15 @@ pub record IsKept (old new : TableValue) (packets : ℕ) : Type 0 where
   pub few : HasFew packets new
 
 -- a last transmission, a number of reports, a moment and a number of calls that go together
-pub record IsInStep (transmission reports last calls : ℕ) : Type 0 where
-  pub is_past : transmission ≤ last
-  pub in_range : last ≤ 2 ^ 50
+pub record IsInStep (transmission reports latest calls : ℕ) : Type 0 where
+  pub is_past : transmission ≤ latest
+  pub in_range : latest ≤ 2 ^ 50
   pub fewer : reports ≤ calls
   pub few : calls < 2 ^ 40
 
-pub kept : {s : State} → IsSound s → (table : TableValue) (timing : Timing) (average : ℕ) (own : OwnValue) (cursor : Option ℕ) (reports last calls : ℕ) →
-    IsKept s.table table calls → IsInStep timing.last reports last calls → IsSound (state_with s.setup table timing average own cursor reports last calls)
-kept {s} sound table timing average own cursor reports last calls is_kept in_step = record {
+pub kept : {s : State} → IsSound s → (table : TableValue) (timing : Timing) (average : ℕ) (own : OwnValue) (cursor : Option ℕ) (reports latest calls : ℕ) →
+    IsKept s.table table calls → IsInStep timing.last reports latest calls → IsSound (state_with s.setup table timing average own cursor reports latest calls)
+kept {s} sound table timing average own cursor reports latest calls is_kept in_step = record {
   usable = sound.usable;
   capacity = is_kept.bounds.capacity ∙ sound.capacity;
   rate = is_kept.bounds.rate ∙ sound.rate;
@@ -40,7 +40,7 @@ kept {s} sound table timing average own cursor reports last calls is_kept in_ste
   reports = in_step.fewer;
   calls = in_step.few;
   timing = in_step.is_past;
-  last = in_step.in_range;
+  latest = in_step.in_range;
 }
 
 -- ---- Tables
@@ -105,5 +105,5 @@ media_kept {s} sound some few head t =
 -- ---- Schedules and calls
 
 -- no call is taken
-pub no_call : {s : State} → IsSound s → IsInStep s.timing.last s.reports s.last s.calls
-no_call {s} sound = record { is_past = sound.timing; in_range = sound.last; fewer = sound.reports; few = sound.calls }
+pub no_call : {s : State} → IsSound s → IsInStep s.timing.last s.reports s.latest s.calls
+no_call {s} sound = record { is_past = sound.timing; in_range = sound.latest; fewer = sound.reports; few = sound.calls }

@@ -22,7 +22,7 @@ pub refusal_is : (p : ParticipantValue) (h : History) (act : Act) (call datagram
 refusal_is p h act call datagram stands calls datagrams =
     let own = refusal_of_datagram (session_at h) act in
     refusal_at p (life_at h) stands.session.life (call_refusal (moment_of act) (last_moment h.acts) (length h.acts)) own
-    ∙ (λ i. option_or (refusal_in_phase p.phase (call_refusal (moment_of act) (sym stands.last i) (sym stands.calls i))) own)
+    ∙ (λ i. option_or (refusal_in_phase p.phase (call_refusal (moment_of act) (sym stands.latest i) (sym stands.calls i))) own)
     ∙ (λ i. option_or (calls i) (datagrams i))
 
 -- ---- Answers

@@ -14,7 +14,7 @@ use Rattle.rtcp_timer.specs.Departures.{members_known, last_departure}
 use Rattle.rtcp_timer.proofs.LawLemmas.{due_in_time}
 use Rattle.rtcp_engine.specs.Setups.{Setup, IsUsable}
 use Rattle.rtcp_engine.specs.Acts.{rtcp, rtp, Act, arrived, rtp_sent, ticked, left, moment_of}
-use Rattle.rtcp_engine.specs.Identities.{named}
+use Rattle.rtcp_engine.specs.Identities.{with_ssrc}
 use Rattle.rtcp_engine.specs.OwnStreams.{has_sent}
 use Rattle.rtcp_engine.specs.Outcomes.{Outcome, interval_at, member_count, nothing_yet}
 use Rattle.rtcp_engine.specs.Ticks.{checked, has_come, has_passed, is_report_due, put_off, reported, with_recount, with_report}
@@ -25,7 +25,7 @@ use Rattle.rtcp_engine.specs.Refusals.{refusal_after}
 use Rattle.rtcp_engine.specs.Reporting.{bye_octets, report_octets}
 use Rattle.rtcp_engine.specs.Taken.{HasWords, AllTaken, IsHistory}
 use Rattle.rtcp_engine.specs.Leaving.{Backoff, Farewell, Life, present, backing_off, gone, after_wait, backoff_from, bye_count, few_members, is_bye_due, is_unheard, leaving_count, leaving_interval, leaving_load, leaving_timing}
-use Rattle.rtcp_engine.specs.Lives.{lived, bye_out, out_by, report_out, with_new_name}
+use Rattle.rtcp_engine.specs.Lives.{lived, bye_out, out_by, report_out, with_new_ssrc}
 use Rattle.rtcp_engine.specs.Sent.{Sent, interval_by, reports_in, sent_at}
 use Rattle.rtcp_engine.specs.Spacing.{first_leave, newest_moment}
 use Rattle.rtcp_engine.specs.InTime.{AllInTime, HasWaited, IsInTime, greatest_by, greatest_interval, is_fall, last_fall}
@@ -243,20 +243,20 @@ waits_after setup fall greatest t act (gone outcome) order words h = tt
 -- ---- Sessions
 
 -- A change of identifier makes no difference.
-name_keeps_time : (setup : Setup) (fall greatest t : ℕ) (life : Life) → KeepsTime setup fall greatest t life → KeepsTime setup fall greatest t (with_new_name setup life)
+name_keeps_time : (setup : Setup) (fall greatest t : ℕ) (life : Life) → KeepsTime setup fall greatest t life → KeepsTime setup fall greatest t (with_new_ssrc setup life)
 name_keeps_time setup fall greatest t (present outcome) h = record { known = h.known; fell = h.fell; drawn = h.drawn; past = h.past }
 name_keeps_time setup fall greatest t (backing_off outcome backoff) h = hears_own setup (has_sent outcome.own) backoff h
 name_keeps_time setup fall greatest t (gone outcome) h = tt
 
-keeps_named : (setup : Setup) (ssrc fall greatest t : ℕ) (life : Life) → KeepsTime setup fall greatest t life → KeepsTime (named ssrc setup) fall greatest t life
-keeps_named setup ssrc fall greatest t (present outcome) h = record { known = h.known; fell = h.fell; drawn = h.drawn; past = h.past }
-keeps_named setup ssrc fall greatest t (backing_off outcome backoff) h = h
-keeps_named setup ssrc fall greatest t (gone outcome) h = tt
+keeps_with_ssrc : (setup : Setup) (ssrc fall greatest t : ℕ) (life : Life) → KeepsTime setup fall greatest t life → KeepsTime (with_ssrc ssrc setup) fall greatest t life
+keeps_with_ssrc setup ssrc fall greatest t (present outcome) h = record { known = h.known; fell = h.fell; drawn = h.drawn; past = h.past }
+keeps_with_ssrc setup ssrc fall greatest t (backing_off outcome backoff) h = h
+keeps_with_ssrc setup ssrc fall greatest t (gone outcome) h = tt
 
 change_keeps_time : (session : Session) (fall greatest t : ℕ) (change : Option NewIdentifier) → KeepsTime session.setup fall greatest t session.life → KeepsTime (changed_by change session).setup fall greatest t (changed_by change session).life
 change_keeps_time session fall greatest t None h = h
 change_keeps_time session fall greatest t (Some new) h =
-    keeps_named session.setup new.ssrc fall greatest t (with_new_name session.setup session.life) (name_keeps_time session.setup fall greatest t session.life h)
+    keeps_with_ssrc session.setup new.ssrc fall greatest t (with_new_ssrc session.setup session.life) (name_keeps_time session.setup fall greatest t session.life h)
 
 pub session_keeps_time : (setup : Setup) (word : ℕ) (acts : List Act) → word < 2 ^ 32 → AllTaken setup word acts → let session = session_of setup word acts in
     KeepsTime session.setup (last_fall setup word acts) (greatest_interval setup word acts) (last_moment acts) session.life

@@ -7,10 +7,10 @@ use Rattle.rtcp_members.specs.Entries.{entry_at}
 use Rattle.rtcp_engine.specs.declared.changes.Change.{Change}
 use Rattle.rtcp_engine.specs.Setups.{Setup}
 use Rattle.rtcp_engine.specs.Acts.{Datagram, rtcp, rtp, Act, arrived}
-use Rattle.rtcp_engine.specs.Identities.{first_free, is_among, most_changes, named}
+use Rattle.rtcp_engine.specs.Identities.{first_free, is_among, most_changes, with_ssrc}
 use Rattle.rtcp_engine.specs.Steps.{OutValue}
 use Rattle.rtcp_engine.specs.Leaving.{Life, present, backing_off, gone}
-use Rattle.rtcp_engine.specs.Lives.{own_bye, with_new_name}
+use Rattle.rtcp_engine.specs.Lives.{own_bye, with_new_ssrc}
 
 -- What a session has come to.
 pub record Session : Type 0 where
@@ -82,9 +82,9 @@ change_by session act = None
 
 abbrev pub changed_to : NewIdentifier → Session → Session
 changed_to new session = record {
-  setup = named new.ssrc session.setup;
+  setup = with_ssrc new.ssrc session.setup;
   changes = record { peer = new.peer; former = session.setup.ssrc } ∷ session.changes;
-  life = with_new_name session.setup session.life;
+  life = with_new_ssrc session.setup session.life;
 }
 
 abbrev pub changed_by : Option NewIdentifier → Session → Session

@@ -32,15 +32,15 @@ packet_code =
 abbrev pub own_code : Coded OwnValue
 own_code =
     code_by (Option ℕ × (Option PacketValue × (ℕ × (ℕ × Bool)))) (coded× (coded_option coded_ℕ) (coded× (coded_option packet_code) (coded× coded_ℕ (coded× coded_ℕ coded_bool))))
-    (λ o. (o.sending, (o.last, (o.packets, (o.octets, o.heard)))))
-    (λ p. record { sending = p.0; last = p.1.0; packets = p.1.1.0; octets = p.1.1.1.0; heard = p.1.1.1.1 })
+    (λ o. (o.sending, (o.newest, (o.packets, (o.octets, o.heard)))))
+    (λ p. record { sending = p.0; newest = p.1.0; packets = p.1.1.0; octets = p.1.1.1.0; heard = p.1.1.1.1 })
     (λ _. refl)
 
 abbrev pub state_code : Coded State
 state_code =
     code_by (Setup × (TableValue × (Timing × (ℕ × (OwnValue × (Option ℕ × (ℕ × (ℕ × ℕ)))))))) (coded× setup_code (coded× table_code (coded× timing_code (coded× coded_ℕ (coded× own_code (coded× (coded_option coded_ℕ) (coded× coded_ℕ (coded× coded_ℕ coded_ℕ))))))))
-    (λ s. (s.setup, (s.table, (s.timing, (s.average, (s.own, (s.cursor, (s.reports, (s.last, s.calls)))))))))
-    (λ p. record { setup = p.0; table = p.1.0; timing = p.1.1.0; average = p.1.1.1.0; own = p.1.1.1.1.0; cursor = p.1.1.1.1.1.0; reports = p.1.1.1.1.1.1.0; last = p.1.1.1.1.1.1.1.0; calls = p.1.1.1.1.1.1.1.1 })
+    (λ s. (s.setup, (s.table, (s.timing, (s.average, (s.own, (s.cursor, (s.reports, (s.latest, s.calls)))))))))
+    (λ p. record { setup = p.0; table = p.1.0; timing = p.1.1.0; average = p.1.1.1.0; own = p.1.1.1.1.0; cursor = p.1.1.1.1.1.0; reports = p.1.1.1.1.1.1.0; latest = p.1.1.1.1.1.1.1.0; calls = p.1.1.1.1.1.1.1.1 })
     (λ _. refl)
 
 -- ---- The whole participant

@@ -3,8 +3,8 @@ use Rattle.std.specs.Prelude.{ℕ, suc, zero, ◌≡◌, ◌<◌, ◌+◌, ◌%�
 use Rattle.std.specs.List.{list_any}
 use Rattle.rtcp_engine.specs.Setups.{Setup}
 
-abbrev pub named : (ssrc : ℕ) → Setup → Setup
-named ssrc setup = record setup { ssrc = ssrc }
+abbrev pub with_ssrc : (ssrc : ℕ) → Setup → Setup
+with_ssrc ssrc setup = record setup { ssrc = ssrc }
 
 abbrev pub is_among : List ℕ → ℕ → Bool
 is_among numbers number = list_any (λ other. other == number) numbers

@@ -42,11 +42,11 @@ lived setup act (backing_off outcome backoff) = while_backing_off setup act outc
 lived setup act (gone outcome) = gone outcome
 
 -- A change of identifier: the BYE of the old one counts as a compound that was sent, if something was sent under it.
-abbrev pub with_new_name : Setup → Life → Life
-with_new_name setup (present outcome) = present (with_change setup outcome)
-with_new_name setup (backing_off outcome backoff) =
+abbrev pub with_new_ssrc : Setup → Life → Life
+with_new_ssrc setup (present outcome) = present (with_change setup outcome)
+with_new_ssrc setup (backing_off outcome backoff) =
     backing_off (counted_anew outcome) (after_own_bye setup outcome backoff)
-with_new_name setup (gone outcome) = gone outcome
+with_new_ssrc setup (gone outcome) = gone outcome
 
 -- ---- Counts, with the participant among them until it is gone
 

@@ -56,20 +56,20 @@ pub record PacketValue : Type 0 where
   pub moment : ℕ
   pub timestamp : ℕ
 
-abbrev pub last_packet : List OwnStep → Option PacketValue
-last_packet [] = None
-last_packet (packet_sent moment timestamp octets ∷ earlier) =
+abbrev pub newest_packet : List OwnStep → Option PacketValue
+newest_packet [] = None
+newest_packet (packet_sent moment timestamp octets ∷ earlier) =
     Some (record { moment = moment; timestamp = timestamp })
-last_packet (check_passed idle ∷ earlier) = last_packet earlier
-last_packet (report_sent ∷ earlier) = last_packet earlier
-last_packet (counts_anew ∷ earlier) = last_packet earlier
+newest_packet (check_passed idle ∷ earlier) = newest_packet earlier
+newest_packet (report_sent ∷ earlier) = newest_packet earlier
+newest_packet (counts_anew ∷ earlier) = newest_packet earlier
 
 -- ---- The few numbers that it comes to
 
 pub record OwnValue : Type 0 where
   -- the moment since which the participant sends
   pub sending : Option ℕ
-  pub last : Option PacketValue
+  pub newest : Option PacketValue
   -- how many packets and octets of payload were sent, modulo 2^32
   pub packets : ℕ
   pub octets : ℕ
@@ -79,7 +79,7 @@ pub record OwnValue : Type 0 where
 abbrev pub own_of : List OwnStep → OwnValue
 own_of own = record {
   sending = sending_since own;
-  last = last_packet own;
+  newest = newest_packet own;
   packets = packets_sent own % 2 ^ 32;
   octets = octets_sent own % 2 ^ 32;
   heard = has_sent own;
@@ -101,7 +101,7 @@ sent_of ntp_base rate t own =
     if is_some own.sending
     then Some (record {
       ntp = ntp_moment ntp_base t;
-      rtp = timestamp_at rate t own.last;
+      rtp = timestamp_at rate t own.newest;
       packets = own.packets;
       octets = own.octets;
     })

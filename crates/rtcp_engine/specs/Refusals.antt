@@ -10,9 +10,9 @@ use Rattle.rtcp_engine.specs.Changes.{Session, changing_peers, is_about}
 use Rattle.rtcp_engine.specs.Histories.{History, last_moment, session_at}
 
 -- why any act at a moment is refused, by the last act's moment and how many calls were taken: the first of the reasons
-abbrev pub call_refusal : (moment last calls : ℕ) → Option Refusal
-call_refusal moment last calls =
-    if nat_lt moment last then Some Backwards
+abbrev pub call_refusal : (moment latest calls : ℕ) → Option Refusal
+call_refusal moment latest calls =
+    if nat_lt moment latest then Some Backwards
     else (if nat_lt (2 ^ 50) moment then Some TooFar
     else (if nat_le (2 ^ 40 - 1) calls then Some TooMany
     else None))

@@ -8,7 +8,7 @@ use Rattle.rtcp_engine.specs.declared.changes.Change.{Change}
 use Rattle.rtcp_engine.specs.declared.refusal.Refusal.{Refusal}
 use Rattle.rtcp_engine.specs.declared.refusal.Refusal.TheVariants.{Left}
 use Rattle.rtcp_engine.specs.Setups.{Setup, IsUsable}
-use Rattle.rtcp_engine.specs.Identities.{named}
+use Rattle.rtcp_engine.specs.Identities.{with_ssrc}
 use Rattle.rtcp_engine.specs.OwnStreams.{OwnValue, own_of}
 use Rattle.rtcp_engine.specs.OwnValues.{own_anew}
 use Rattle.rtcp_engine.specs.Outcomes.{Outcome, average_size, timing_of}
@@ -33,13 +33,13 @@ pub record State : Type 0 where
   pub cursor : Option ℕ
   -- how many reports were sent
   pub reports : ℕ
-  -- the moment of the last call
-  pub last : ℕ
+  -- the moment of the latest call
+  pub latest : ℕ
   -- how many calls were taken
   pub calls : ℕ
 
-abbrev pub state_with : Setup → TableValue → Timing → (average : ℕ) → OwnValue → Option ℕ → (reports last calls : ℕ) → State
-state_with setup table timing average own cursor reports last calls = record {
+abbrev pub state_with : Setup → TableValue → Timing → (average : ℕ) → OwnValue → Option ℕ → (reports latest calls : ℕ) → State
+state_with setup table timing average own cursor reports latest calls = record {
   setup = setup;
   table = table;
   timing = timing;
@@ -47,7 +47,7 @@ state_with setup table timing average own cursor reports last calls = record {
   own = own;
   cursor = cursor;
   reports = reports;
-  last = last;
+  latest = latest;
   calls = calls;
 }
 
@@ -64,18 +64,18 @@ pub record Agrees (state : State) (outcome : Outcome) : Type 0 where
 
 -- One call more, at a moment.
 abbrev pub with_call : (moment : ℕ) → State → State
-with_call moment state = record state { last = moment; calls = state.calls + 1 }
+with_call moment state = record state { latest = moment; calls = state.calls + 1 }
 
 -- A call at a moment comes in order, and there is room for it.
 pub record Admits (state : State) (now : ℕ) : Type 0 where
-  pub order : state.last ≤ now
+  pub order : state.latest ≤ now
   pub moment : now ≤ 2 ^ 50
   pub calls : state.calls < 2 ^ 40 - 1
 
 -- What is no call.
 pub record Stays (old new : State) : Type 0 where
   pub setup : new.setup ≡ old.setup
-  pub last : new.last ≡ old.last
+  pub latest : new.latest ≡ old.latest
   pub calls : new.calls ≡ old.calls
 
 -- One step of a participant that takes part: what it does to an outcome it does to the table and the numbers.
@@ -128,8 +128,8 @@ with_own_bye state =
     }
 
 -- The counts of the own stream begin anew.
-abbrev pub renamed : (ssrc : ℕ) → State → State
-renamed ssrc state = record (with_own_bye state) { setup = named ssrc state.setup; own = own_anew state.own }
+abbrev pub after_change : (ssrc : ℕ) → State → State
+after_change ssrc state = record (with_own_bye state) { setup = with_ssrc ssrc state.setup; own = own_anew state.own }
 
 -- ---- Soundness
 
@@ -142,8 +142,8 @@ pub record IsSound (state : State) : Type 0 where
   pub few : HasFew state.calls state.table
   pub reports : state.reports ≤ state.calls
   pub calls : state.calls < 2 ^ 40
-  pub timing : state.timing.last ≤ state.last
-  pub last : state.last ≤ 2 ^ 50
+  pub timing : state.timing.last ≤ state.latest
+  pub latest : state.latest ≤ 2 ^ 50
 
 -- The table holds no more sources than it may.
 abbrev pub KeepsCapacity : State → Type 0
@@ -189,7 +189,7 @@ refusal_in_phase over refusal = Some Left
 -- why a call at a moment is refused, whatever it tells
 abbrev pub refusal_by : (moment : ℕ) → ParticipantValue → Option Refusal
 refusal_by moment participant =
-    refusal_in_phase participant.phase (call_refusal moment participant.presence.last participant.presence.calls)
+    refusal_in_phase participant.phase (call_refusal moment participant.presence.latest participant.presence.calls)
 
 -- A participant whose call was counted does as its session does with an act, hands this out, and says whether the act
 -- changed who of the others is there or sends.
@@ -211,7 +211,7 @@ pub record IsIn (participant : ParticipantValue) (session : Session) : Type 0 wh
 pub record StandsAt (participant : ParticipantValue) (history : History) : Type 0 where
   pub is_history : IsHistory history
   pub session : IsIn participant (session_at history)
-  pub last : participant.presence.last ≡ last_moment history.acts
+  pub latest : participant.presence.latest ≡ last_moment history.acts
   pub calls : participant.presence.calls ≡ length history.acts
 
 -- one that takes part, under its first identifier

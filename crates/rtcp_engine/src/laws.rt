@@ -19,7 +19,7 @@ ghost use Rattle.rtcp_engine.specs.Refusals.{refusal_after};
 ghost use Rattle.rtcp_engine.specs.Answers.{answer_of, followed_by};
 ghost use Rattle.rtcp_engine.specs.Lives.{own_bye};
 ghost use Rattle.rtcp_engine.specs.Changes.{NewIdentifier, Session, change_by, changing_peers, is_taken, new_identifier};
-ghost use Rattle.rtcp_engine.specs.Identities.{AreApart, IsFirstFree, named};
+ghost use Rattle.rtcp_engine.specs.Identities.{AreApart, IsFirstFree, with_ssrc};
 ghost use Rattle.rtcp_engine.specs.Taken.{IsHistory, NamesFew};
 ghost use Rattle.rtcp_engine.specs.Sent.{reports_in, deciding_interval, sent_at, handed_out, reports_of, counted_report};
 ghost use Rattle.rtcp_engine.specs.Spacing.{newest_moment, LiesAfter, KeepsBounds};
@@ -64,7 +64,7 @@ pub fn new_identifiers_are_free()
 /// (RFC 3550, 8.2).
 pub fn changes_touch_the_identifier_alone()
     ensures setup { (setup : Setup) (word : ℕ) (acts : List Act) → let now = (session_of setup word acts).setup in
-        now ≡ named now.ssrc setup }
+        now ≡ with_ssrc now.ssrc setup }
     ensures usable { (setup : Setup) (word : ℕ) (acts : List Act) → IsUsable setup →
         IsUsable (session_of setup word acts).setup }
     ensures bye { (session : Session) (act : Act) (new : NewIdentifier) → change_by session act ≡ Some new →

@@ -11,7 +11,7 @@ use std::marker::Model;
 
 /// The last packet that was sent.
 #[derive(Clone, Copy, Debug)]
-pub(crate) struct LastPacket {
+pub(crate) struct NewestPacket {
     moment: u64,
     timestamp: u32,
 }
@@ -21,7 +21,7 @@ pub(crate) struct LastPacket {
 pub(crate) struct OwnStream {
     /// The moment of the last packet, until a check finds that too long ago.
     sending: Option<u64>,
-    last: Option<LastPacket>,
+    newest: Option<NewestPacket>,
     /// How many packets were sent, modulo 2^32.
     packets: u32,
     /// How many octets of payload were sent, modulo 2^32.
@@ -39,7 +39,7 @@ impl Model for OwnStream {
 
     ghost view = { λ own. record {
       sending = own.sending;
-      last = option_map packet_value own.last;
+      newest = option_map packet_value own.newest;
       packets = own.packets;
       octets = own.octets;
       heard = own.heard;
@@ -53,7 +53,7 @@ impl OwnStream {
     {
         OwnStream {
             sending: None,
-            last: None,
+            newest: None,
             packets: 0,
             octets: 0,
             heard: false,
@@ -65,7 +65,7 @@ impl OwnStream {
         ensures { Adds self.old self.new (packet_sent moment timestamp octets) }
     {
         self.sending = Some(moment);
-        self.last = Some(LastPacket { moment, timestamp });
+        self.newest = Some(NewestPacket { moment, timestamp });
         self.packets = self.packets.wrapping_add(1);
         self.octets = self.octets.wrapping_add(octets);
         self.heard = true;
@@ -120,7 +120,7 @@ impl OwnStream {
         }
         Some(SrPart {
             ntp: ntp_of(ntp_base, t),
-            rtp: timestamp_of(self.last, rate, t),
+            rtp: timestamp_of(self.newest, rate, t),
             packets: self.packets,
             octets: self.octets,
         })
@@ -128,10 +128,10 @@ impl OwnStream {
 }
 
 /// The RTP timestamp of the moment `t`: that of the last packet, and the units of the media's clock since.
-fn timestamp_of(last: Option<LastPacket>, rate: u32, t: u64) -> u32
-    ensures { result ≡ timestamp_at rate t (option_map packet_value last) }
+fn timestamp_of(newest: Option<NewestPacket>, rate: u32, t: u64) -> u32
+    ensures { result ≡ timestamp_at rate t (option_map packet_value newest) }
 {
-    match last {
+    match newest {
         Some(packet) => {
             let since = rtp_units(t.saturating_sub(packet.moment), rate);
             packet.timestamp.wrapping_add(since)

@@ -22,8 +22,8 @@ use rtcp_timer::{Average, Load, Schedule, interval};
 use std::marker::Model;
 
 mod arrivals;
+mod identifier;
 mod leaving;
-mod renaming;
 mod ticks;
 
 /// The greatest moment, in microseconds since the session began: some 35 years.
@@ -38,8 +38,8 @@ const MAX_CALLS: u64 = (1 << 40) - 1;
 // configuration, which has 2 KB, so that it takes few cache lines.
 #[derive(Drop)]
 pub(crate) struct Presence<T: MemberTable> {
-    /// the moment of the last call that was taken
-    last: u64,
+    /// the moment of the latest call that was taken
+    latest: u64,
     /// how many calls were taken
     calls: u64,
     schedule: Schedule,
@@ -63,11 +63,11 @@ impl<T: MemberTable> Model for Presence<T> {
     ghost coded = { state_code };
 
     ghost view = { λ p.
-        state_with (setup_of p.config) (T.content p.table) p.schedule p.average p.own p.cursor p.reports p.last
+        state_with (setup_of p.config) (T.content p.table) p.schedule p.average p.own p.cursor p.reports p.latest
         p.calls };
 
     ghost invariant = { λ p. IsSound (
-        state_with (setup_of p.config) (T.content p.table) p.schedule p.average p.own p.cursor p.reports p.last
+        state_with (setup_of p.config) (T.content p.table) p.schedule p.average p.own p.cursor p.reports p.latest
         p.calls) };
 }
 
@@ -97,7 +97,7 @@ impl<T: MemberTable> Presence<T> {
             own: OwnStream::new(),
             cursor: None,
             reports: 0,
-            last: 0,
+            latest: 0,
             calls: 0,
             config,
         }
@@ -166,9 +166,9 @@ impl<T: MemberTable> Presence<T> {
 
     /// Why a call at the moment `now` is refused, whatever it tells.
     pub(crate) fn refusal(&self, now: u64) -> Option<Refusal>
-        ensures { result ≡ call_refusal now self.now.last self.now.calls }
+        ensures { result ≡ call_refusal now self.now.latest self.now.calls }
     {
-        if now < self.last {
+        if now < self.latest {
             return Some(Refusal::Backwards);
         }
         if now > MAX_MOMENT {

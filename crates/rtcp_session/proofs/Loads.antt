@@ -20,13 +20,13 @@ use Rattle.rtcp_timer.specs.declared.load.Load.{Load}
 use Rattle.rtcp_timer.specs.Averages.{with_headers, average_of}
 use Rattle.rtcp_engine.specs.Setups.{Setup, IsUsable}
 use Rattle.rtcp_engine.specs.Acts.{Act, Datagram, rtcp, rtp, arrived, rtp_sent, ticked, left}
-use Rattle.rtcp_engine.specs.Identities.{named}
+use Rattle.rtcp_engine.specs.Identities.{with_ssrc}
 use Rattle.rtcp_engine.specs.OwnStreams.{has_sent, we_sent}
 use Rattle.rtcp_engine.specs.Outcomes.{Outcome, first_size_of, load_of, member_count, one_if}
 use Rattle.rtcp_engine.specs.Ticks.{checked, after_tick, has_come, has_passed, put_off, reported}
 use Rattle.rtcp_engine.specs.Arrivals.{with_datagram}
 use Rattle.rtcp_engine.specs.Leaving.{Backoff, Life, present, backing_off, gone, after_wait, backoff_from, few_members, is_bye_due, is_unheard}
-use Rattle.rtcp_engine.specs.Lives.{lived, with_new_name}
+use Rattle.rtcp_engine.specs.Lives.{lived, with_new_ssrc}
 use Rattle.rtcp_engine.specs.Changes.{NewIdentifier, Session, change_by, changed_by}
 use Rattle.rtcp_engine.specs.Reporting.{bye_octets, report_octets, reporter_at, reported_at, extra_item}
 use Rattle.rtcp_engine.specs.Histories.{History, session_of}
@@ -67,7 +67,7 @@ pub record IsLoadOf (setup : Setup) (load : Load) : Type 0 where
   pub some_more : 1 ≤ load.receiver_bw
   pub ordered : load.senders ≤ load.members
 
-of_setup : (setup now : Setup) (outcome : Outcome) → now ≡ named now.ssrc setup → IsUsable setup → IsLoadOf setup (load_of now outcome)
+of_setup : (setup now : Setup) (outcome : Outcome) → now ≡ with_ssrc now.ssrc setup → IsUsable setup → IsLoadOf setup (load_of now outcome)
 of_setup setup now outcome same usable =
     let senders : now.sender_bw ≡ setup.sender_bw = ap (λ (s : Setup). s.sender_bw) same in
     let others : now.receiver_bw ≡ setup.receiver_bw = ap (λ (s : Setup). s.receiver_bw) same in
@@ -194,7 +194,7 @@ lived_large least setup (ticked moment first_word second_word) (backing_off outc
 lived_large least setup (left moment word) (backing_off outcome backoff) own large h = tt
 lived_large least setup act (gone outcome) own large h = tt
 
-renamed_large : (least : ℕ) (setup : Setup) (life : Life) → IsLarge least (first_size_of setup) → AreLargeIn least life → AreLargeIn least (with_new_name setup life)
+renamed_large : (least : ℕ) (setup : Setup) (life : Life) → IsLarge least (first_size_of setup) → AreLargeIn least life → AreLargeIn least (with_new_ssrc setup life)
 renamed_large least setup (present outcome) own h = by (has_sent outcome.own)
   where
     by : (heard : Bool) → All (IsLarge least) (if heard then length (bye_octets setup) ∷ outcome.sizes else outcome.sizes)

@@ -64,7 +64,7 @@ impl<T: MemberTable> Participant<T> {
         ensures within { KeepsCapacity self.new.presence }
     {
         self.take_call(now);
-        let others_changed = self.take(now, arrival);
+        let others_changed = self.take_datagram(now, arrival);
         self.told(Brought {
             out: None,
             others_changed,
@@ -110,7 +110,7 @@ impl<T: MemberTable> Participant<T> {
         let ssrc = self.free_ssrc(w, &arrival);
         let out = self.change(peer, ssrc, octets);
         self.take_call(now);
-        let others_changed = self.take(now, &arrival);
+        let others_changed = self.take_datagram(now, &arrival);
         let mut told = self.told(Brought {
             out,
             others_changed,
@@ -165,21 +165,21 @@ impl<T: MemberTable> Participant<T> {
             out_with octets.new.items result ≡ own_bye session.setup session.life }
         ensures new { (session : Session) → IsIn self.old session →
             IsIn self.new (changed_to (record { peer = peer; ssrc = ssrc }) session) }
-        ensures last { self.new.presence.last ≡ self.old.presence.last }
+        ensures latest { self.new.presence.latest ≡ self.old.presence.latest }
         ensures calls { self.new.presence.calls ≡ self.old.presence.calls }
         ensures within { KeepsCapacity self.new.presence }
         ensures untouched { result ≡ None → octets.new ≡ octets.old }
     {
         self.changes.add(peer, self.presence.ssrc());
-        self.presence.rename(ssrc, octets)
+        self.presence.change_identifier(ssrc, octets)
     }
 
     /// Takes a datagram under the present SSRC: nothing of it counts in a backoff but BYE packets. Returns whether it
     /// changed who of the others is a member or who sends.
     // Inlined, so that each call takes its own kind of datagram on a path without the other.
     #[inline(always)]
-    fn take(&mut self, now: u64, arrival: &Arrival<'_>) -> bool
-        requires order { self.old.presence.last ≡ now }
+    fn take_datagram(&mut self, now: u64, arrival: &Arrival<'_>) -> bool
+        requires order { self.old.presence.latest ≡ now }
         requires size { size_of arrival.now ≤ 65535 }
         requires reports { self.old.presence.reports < self.old.presence.calls }
         requires few { HasFew (self.old.presence.calls - 1) self.old.presence.table }
@@ -188,7 +188,7 @@ impl<T: MemberTable> Participant<T> {
         ensures within { KeepsCapacity self.new.presence }
     {
         match self.phase {
-            Phase::Present => self.presence.take(now, arrival),
+            Phase::Present => self.presence.take_datagram(now, arrival),
             Phase::BackingOff(members) => {
                 if let Arrival::Rtcp(compound, size) = arrival {
                     self.count_farewell(compound, *size, members);

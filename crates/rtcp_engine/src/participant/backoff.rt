@@ -46,7 +46,7 @@ impl<T: MemberTable> Participant<T> {
         w2: u32,
         octets: &mut ArrayVec<u8, MAX_COMPOUND>,
     ) -> Brought
-        requires order { self.old.presence.last ≡ now }
+        requires order { self.old.presence.latest ≡ now }
         requires reports { self.old.presence.reports < self.old.presence.calls }
         ensures new { Acts self.old self.new (ticked now w1 w2) (out_with octets.new.items result.out)
             result.others_changed }
@@ -56,7 +56,7 @@ impl<T: MemberTable> Participant<T> {
         match self.phase {
             Phase::Present => self.presence.tick(now, w1, w2, octets),
             Phase::BackingOff(members) => Brought {
-                out: self.wait(now, w1, members, octets),
+                out: self.try_bye(now, w1, members, octets),
                 others_changed: false,
             },
             Phase::Gone => NOTHING,
@@ -70,7 +70,7 @@ impl<T: MemberTable> Participant<T> {
         w: u32,
         octets: &mut ArrayVec<u8, MAX_COMPOUND>,
     ) -> Brought
-        requires order { self.old.presence.last ≡ now }
+        requires order { self.old.presence.latest ≡ now }
         ensures new { Acts self.old self.new (left now w) (out_with octets.new.items result.out)
             result.others_changed }
         ensures within { KeepsCapacity self.new.presence }
@@ -93,7 +93,7 @@ impl<T: MemberTable> Participant<T> {
     fn depart(&mut self, w: u32, octets: &mut ArrayVec<u8, MAX_COMPOUND>) -> Option<OutKind>
         requires phase { self.old.phase ≡ taking_part }
         ensures new { (others_changed : Bool) → HasOthers self.old.presence others_changed →
-            Acts self.old self.new (left self.old.presence.last w) (out_with octets.new.items result)
+            Acts self.old self.new (left self.old.presence.latest w) (out_with octets.new.items result)
             others_changed }
         ensures within { KeepsCapacity self.new.presence }
         ensures untouched { result ≡ None → octets.new ≡ octets.old }
@@ -130,7 +130,7 @@ impl<T: MemberTable> Participant<T> {
 
     /// Writes the BYE if it is due, and is gone then.
     #[cold]
-    fn wait(
+    fn try_bye(
         &mut self,
         now: u64,
         w1: u32,
@@ -143,7 +143,7 @@ impl<T: MemberTable> Participant<T> {
         ensures within { KeepsCapacity self.new.presence }
         ensures untouched { result ≡ None → octets.new ≡ octets.old }
     {
-        if !self.presence.wait(now, w1, members) {
+        if !self.presence.expire_backoff(now, w1, members) {
             return None;
         }
         self.phase = Phase::Gone;

@@ -22,7 +22,7 @@ impl<T: MemberTable> Presence<T> {
         ensures few { HasFew (self.new.calls - 1) self.new.table }
         ensures within { KeepsCapacity self.new }
     {
-        self.last = now;
+        self.latest = now;
         self.calls += 1;
     }
 
@@ -34,12 +34,12 @@ impl<T: MemberTable> Presence<T> {
         self.own.sent(now, rtp_ts, octets);
     }
 
-    /// Takes a datagram that came at the moment of the last call, and returns whether that changed who of the others
+    /// Takes a datagram that came at the moment of the latest call, and returns whether that changed who of the others
     /// is a member or who sends.
-    // Inlined, as in `Participant::take`.
+    // Inlined, as in `Participant::take_datagram`.
     #[inline(always)]
-    pub(crate) fn take(&mut self, now: u64, arrival: &Arrival<'_>) -> bool
-        requires order { self.old.last ≡ now }
+    pub(crate) fn take_datagram(&mut self, now: u64, arrival: &Arrival<'_>) -> bool
+        requires order { self.old.latest ≡ now }
         requires size { size_of arrival.now ≤ 65535 }
         requires reports { self.old.reports < self.old.calls }
         requires few { HasFew (self.old.calls - 1) self.old.table }
@@ -55,7 +55,7 @@ impl<T: MemberTable> Presence<T> {
 
     /// Takes a compound of `size` octets, and counts the members again, as some may have departed.
     fn take_compound(&mut self, now: u64, size: usize, compound: &Compound<'_>) -> bool
-        requires order { self.old.last ≡ now }
+        requires order { self.old.latest ≡ now }
         requires size { size ≤ 65535 }
         ensures new { Does self.old self.new (λ setup. with_compound setup now size compound.now) }
         ensures moved { Moves self.old result (λ setup. with_compound setup now size compound.now) }

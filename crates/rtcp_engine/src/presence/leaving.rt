@@ -29,16 +29,16 @@ impl<T: MemberTable> Presence<T> {
         write_bye(self.config.ssrc, &self.config.cname, octets);
     }
 
-    /// Begins to back off at the moment of the last call, with a random word for the draw.
+    /// Begins to back off at the moment of the latest call, with a random word for the draw.
     pub(crate) fn back_off(&mut self, w: u32)
         ensures stays { Stays self.old self.new }
         ensures waits { (outcome : Outcome) → Agrees self.old outcome →
-            Waits self.new outcome (backoff_from self.old.setup self.old.last w outcome) }
+            Waits self.new outcome (backoff_from self.old.setup self.old.latest w outcome) }
         ensures within { KeepsCapacity self.new }
     {
         self.average = Average::start(bye_size(&self.config.cname));
         let td = self.backoff_interval(1);
-        self.schedule.leave(self.last, td, w);
+        self.schedule.leave(self.latest, td, w);
     }
 
     /// Moves the average by a compound of `size` octets with BYE packets.
@@ -54,7 +54,7 @@ impl<T: MemberTable> Presence<T> {
 
     /// Whether the BYE of a backoff with so many members is due at the moment `now`, by a random word for the
     /// draw. If it is not, it is put off where its moment has come.
-    pub(crate) fn wait(&mut self, now: u64, w: u32, members: u32) -> bool
+    pub(crate) fn expire_backoff(&mut self, now: u64, w: u32, members: u32) -> bool
         requires some { 1 ≤ members }
         requires few { members ≤ 65535 }
         ensures due { (outcome : Outcome) (backoff : Backoff) → Waits self.old outcome backoff →

@@ -37,7 +37,7 @@ impl<T: MemberTable> Presence<T> {
         w2: u32,
         octets: &mut ArrayVec<u8, MAX_COMPOUND>,
     ) -> Brought
-        requires order { self.old.last ≡ now }
+        requires order { self.old.latest ≡ now }
         requires reports { self.old.reports < self.old.calls }
         ensures report { (outcome : Outcome) → Agrees self.old outcome → out_with octets.new.items result.out
             ≡ option_map report_out (report_due self.old.setup now w1 (checked self.old.setup now outcome)) }
@@ -56,7 +56,7 @@ impl<T: MemberTable> Presence<T> {
     /// Drops those who are silent for too long, and counts the members again. Returns whether that changed who of the
     /// others is a member or who sends.
     fn check_members(&mut self, now: u64) -> bool
-        requires order { self.old.last ≡ now }
+        requires order { self.old.latest ≡ now }
         ensures new { Does self.old self.new (λ setup. checked setup now) }
         ensures moved { Moves self.old result (λ setup. checked setup now) }
         ensures reports { self.new.reports ≡ self.old.reports }
@@ -68,7 +68,7 @@ impl<T: MemberTable> Presence<T> {
 
     /// Drops those who are silent for too long, the participant among the senders too.
     fn drop_silent(&mut self, now: u64) -> bool
-        requires order { self.old.last ≡ now }
+        requires order { self.old.latest ≡ now }
         ensures new { Does self.old self.new (λ setup. without_silent setup now) }
         ensures moved { Moves self.old result (λ setup. without_silent setup now) }
         ensures reports { self.new.reports ≡ self.old.reports }
@@ -88,7 +88,7 @@ impl<T: MemberTable> Presence<T> {
 
     /// Counts the members again, as some may have departed.
     pub(super) fn recount(&mut self, now: u64)
-        requires order { self.old.last ≡ now }
+        requires order { self.old.latest ≡ now }
         ensures new { Does self.old self.new (λ setup. with_recount setup now) }
         ensures reports { self.new.reports ≡ self.old.reports }
         ensures within { KeepsCapacity self.new }
@@ -117,7 +117,7 @@ impl<T: MemberTable> Presence<T> {
         w2: u32,
         octets: &mut ArrayVec<u8, MAX_COMPOUND>,
     ) -> Option<OutKind>
-        requires order { self.old.last ≡ now }
+        requires order { self.old.latest ≡ now }
         requires reports { self.old.reports < self.old.calls }
         ensures report { (outcome : Outcome) → Agrees self.old outcome → out_with octets.new.items result
             ≡ option_map report_out (report_due self.old.setup now w1 outcome) }
@@ -125,7 +125,7 @@ impl<T: MemberTable> Presence<T> {
         ensures within { KeepsCapacity self.new }
         ensures untouched { result ≡ None → octets.new ≡ octets.old }
     {
-        if !self.is_due(now, w1) {
+        if !self.try_report(now, w1) {
             return None;
         }
         self.send_report(now, w2, octets);
@@ -133,7 +133,7 @@ impl<T: MemberTable> Presence<T> {
     }
 
     /// Whether a report is due. If its moment has come, it is put off until it is sent.
-    fn is_due(&mut self, now: u64, w1: u32) -> bool
+    fn try_report(&mut self, now: u64, w1: u32) -> bool
         ensures due { (outcome : Outcome) → Agrees self.old outcome →
             result ≡ is_report_due self.old.setup now w1 outcome }
         ensures new { Does self.old self.new (λ setup. tried_at setup now w1) }
@@ -151,7 +151,7 @@ impl<T: MemberTable> Presence<T> {
 
     /// Writes the report, and draws the interval after it.
     fn send_report(&mut self, now: u64, w2: u32, octets: &mut ArrayVec<u8, MAX_COMPOUND>)
-        requires order { self.old.last ≡ now }
+        requires order { self.old.latest ≡ now }
         requires reports { self.old.reports < self.old.calls }
         ensures report { (outcome : Outcome) → Agrees self.old outcome →
             octets.new.items ≡ report_octets self.old.setup now outcome }
@@ -164,7 +164,7 @@ impl<T: MemberTable> Presence<T> {
 
     /// Draws the next interval.
     fn draw_next(&mut self, now: u64, w2: u32)
-        requires order { self.old.last ≡ now }
+        requires order { self.old.latest ≡ now }
         ensures new { Does self.old self.new (λ setup. drawn_anew setup now w2) }
         ensures within { KeepsCapacity self.new }
     {

@@ -5,7 +5,7 @@ use Rattle.rtcp_engine.specs.Identities.{is_among}
 use Rattle.rtcp_engine.specs.States.{State, ParticipantValue}
 use Rattle.rtcp_engine.specs.Views.{datagram_of}
 use Rattle.rtcp_engine.proofs.Among.{or_assoc}
-use Rattle.rtcp_engine.proofs.Renaming.{held_at}
+use Rattle.rtcp_engine.proofs.ChangeLemmas.{held_at}
 use Rattle.rtcp_engine.proofs.participant.Participant.is_taken.Goals.{then-is_own, else-is_own}
 use Rattle.rtcp_engine.proofs.participant.Participant.is_taken.Goals as goal
 

@@ -13,4 +13,4 @@ pub returns-in-Gone-clause-new : goal.returns-in-Gone-clause-new
 returns-in-Gone-clause-new g c = acts_gone (sym (ap (λ (p : ParticipantValue). p.phase) c.self.view_is) ∙ ap phase_value c.in-Gone.is)
 
 pub returns-in-BackingOff-clause-new : goal.returns-in-BackingOff-clause-new
-returns-in-BackingOff-clause-new g c = c.wait.ensures.new c.args.w2
+returns-in-BackingOff-clause-new g c = c.try_bye.ensures.new c.args.w2

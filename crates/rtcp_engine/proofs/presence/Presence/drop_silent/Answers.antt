@@ -15,7 +15,7 @@ invariant_of-self g c =
     let content = g.T.MemberTable.content in
     let horizons = horizons_at c.saturating_sub.result c.saturating_sub-idle.result c.saturating_sub-2.result in
     let is_kept = subst (λ (table : TableValue). IsKept (content inside.table) table inside.calls) (sym c.check-moved.ensures.content) (check_kept c.self.invariant horizons) in
-    kept c.self.invariant (content c.check-moved.new.table) inside.schedule inside.average c.check.new.self inside.cursor inside.reports inside.last inside.calls is_kept (no_call c.self.invariant)
+    kept c.self.invariant (content c.check-moved.new.table) inside.schedule inside.average c.check.new.self inside.cursor inside.reports inside.latest inside.calls is_kept (no_call c.self.invariant)
 
 pub returns-clause-new : goal.returns-clause-new
 returns-clause-new g c =

@@ -16,13 +16,13 @@ invariant_of-self g c =
     let rows = reported_rows (reporter_by (setup_of inside.config) inside.own (inside.reports + 1) c.args.now) inside.config.limit inside.cursor (content inside.table) in
     let is_kept = subst (λ (table : TableValue). IsKept (content inside.table) table inside.calls) (sym c.write_numbered.ensures.content) (blocks_kept c.self.invariant rows) in
     let fewer : inside.reports + 1 ≤ inside.calls = omega (arith, c.requires.reports, ap (λ (s : State). s.reports) c.self.view_is, ap (λ (s : State). s.calls) c.self.view_is) in
-    let in_step : IsInStep inside.schedule.last (inside.reports + 1) inside.last inside.calls = record {
+    let in_step : IsInStep inside.schedule.last (inside.reports + 1) inside.latest inside.calls = record {
       is_past = c.self.invariant.timing;
-      in_range = c.self.invariant.last;
+      in_range = c.self.invariant.latest;
       fewer = fewer;
       few = c.self.invariant.calls;
     } in
-    kept c.self.invariant (content c.write_numbered.new.table) inside.schedule c.add.new.self c.reported.new.self c.write_numbered.new.cursor (inside.reports + 1) inside.last inside.calls is_kept in_step
+    kept c.self.invariant (content c.write_numbered.new.table) inside.schedule c.add.new.self c.reported.new.self c.write_numbered.new.cursor (inside.reports + 1) inside.latest inside.calls is_kept in_step
 
 pub returns-clause-report : goal.returns-clause-report
 returns-clause-report g c outcome agrees = c.write_numbered.ensures.octets ∙ octets_of c.self.view_is c.args.now outcome agrees

@@ -15,7 +15,7 @@ invariant_of-self g c =
     let content = g.T.MemberTable.content in
     let applied = subst (λ (packets : List RtcpPacket). IsKept (content inside.table) (after_facts (facts_of packets) c.args.now (content inside.table)) inside.calls) (sym c.packets.ensures) (facts_kept c.self.invariant (facts_of c.args.compound.now) c.args.now (compounds_give_no_media c.args.compound.now)) in
     let is_kept = subst (λ (table : TableValue). IsKept (content inside.table) table inside.calls) (sym c.apply_packets-moved.ensures.content) applied in
-    kept c.self.invariant (content c.apply_packets-moved.new.table) inside.schedule c.add.new.self inside.own inside.cursor inside.reports inside.last inside.calls is_kept (no_call c.self.invariant)
+    kept c.self.invariant (content c.apply_packets-moved.new.table) inside.schedule c.add.new.self inside.own inside.cursor inside.reports inside.latest inside.calls is_kept (no_call c.self.invariant)
 
 pub returns-clause-new : goal.returns-clause-new
 returns-clause-new g c =

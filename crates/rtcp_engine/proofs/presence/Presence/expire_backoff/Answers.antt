@@ -3,7 +3,7 @@ use Rattle.std.proofs.lemmas.Grind.{common_steps}
 use Rattle.rtcp_clock.specs.Intervals.{drawn_interval}
 use Rattle.rtcp_timer.specs.Schedules.{Timing}
 use Rattle.rtcp_engine.proofs.Doing.{bye_due_by, waits_on}
-use Rattle.rtcp_engine.proofs.presence.Presence.wait.Goals as goal
+use Rattle.rtcp_engine.proofs.presence.Presence.expire_backoff.Goals as goal
 
 pub returns-clause-due : goal.returns-clause-due
 returns-clause-due g c outcome backoff h count =

@@ -3,7 +3,7 @@
 ghost use Rattle.std.specs.Prelude.{◌≡◌, None, is_some, option_map};
 ghost use Rattle.std.specs.FinMap as map;
 ghost use Rattle.rtcp_engine.specs.Lives.{bye_out};
-ghost use Rattle.rtcp_engine.specs.States.{KeepsCapacity, own_bye_in, renamed, with_own_bye};
+ghost use Rattle.rtcp_engine.specs.States.{KeepsCapacity, own_bye_in, after_change, with_own_bye};
 ghost use Rattle.rtcp_engine.specs.Views.{out_with};
 
 use super::Presence;
@@ -29,14 +29,14 @@ impl<T: MemberTable> Presence<T> {
 
     /// Gives up the SSRC for another. If something was sent under the old one, it writes a BYE of that, which
     /// moves the average. The own stream's counts begin anew, and nothing else does.
-    pub(crate) fn rename(
+    pub(crate) fn change_identifier(
         &mut self,
         ssrc: u32,
         octets: &mut ArrayVec<u8, MAX_COMPOUND>,
     ) -> Option<OutKind>
         ensures bye { out_with octets.new.items result ≡ option_map bye_out (own_bye_in self.old) }
         ensures untouched { result ≡ None → octets.new ≡ octets.old }
-        ensures new { self.new ≡ renamed ssrc self.old }
+        ensures new { self.new ≡ after_change ssrc self.old }
         ensures within { KeepsCapacity self.new }
     {
         let bye = self.bye_if_heard(octets);

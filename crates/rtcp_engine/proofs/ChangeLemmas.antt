@@ -9,27 +9,27 @@ use Rattle.std.specs.FinMap as finite
 use Rattle.rtcp_members.specs.Entries.{entry_at}
 use Rattle.rtcp_timer.specs.Averages.{average_of, moved_average}
 use Rattle.rtcp_engine.specs.Setups.{Setup}
-use Rattle.rtcp_engine.specs.Identities.{named}
+use Rattle.rtcp_engine.specs.Identities.{with_ssrc}
 use Rattle.rtcp_engine.specs.OwnStreams.{OwnStep, OwnValue, has_sent, counts_anew, own_of}
 use Rattle.rtcp_engine.specs.OwnValues.{own_anew}
 use Rattle.rtcp_engine.specs.Outcomes.{Outcome}
 use Rattle.rtcp_engine.specs.Arrivals.{with_change}
 use Rattle.rtcp_engine.specs.Reporting.{bye_octets}
 use Rattle.rtcp_engine.specs.Leaving.{Farewell, Backoff, Life, present, backing_off, gone, after_own_bye, counted_anew, leaving_average, leaving_count, leaving_timing}
-use Rattle.rtcp_engine.specs.Lives.{bye_out, own_bye, with_new_name}
+use Rattle.rtcp_engine.specs.Lives.{bye_out, own_bye, with_new_ssrc}
 use Rattle.rtcp_engine.specs.Changes.{NewIdentifier, Session, changed_to, is_in_table}
-use Rattle.rtcp_engine.specs.States.{State, Agrees, StandsStill, Waits, ParticipantValue, IsAt, IsIn, leaving, over, own_bye_in, renamed}
+use Rattle.rtcp_engine.specs.States.{State, Agrees, StandsStill, Waits, ParticipantValue, IsAt, IsIn, leaving, over, own_bye_in, after_change}
 
 -- ---- Sizes
 
 -- A BYE is as long for any identifier.
-pub byes_are_of_one_size : (ssrc : ℕ) (setup : Setup) → length (bye_octets (named ssrc setup)) ≡ length (bye_octets setup)
+pub byes_are_of_one_size : (ssrc : ℕ) (setup : Setup) → length (bye_octets (with_ssrc ssrc setup)) ≡ length (bye_octets setup)
 byes_are_of_one_size ssrc setup = parts ssrc ∙ sym (parts setup.ssrc)
   where
     report : ℕ → List ℕ
     report id = written_all (packets_with (receiver_named id setup.cname) [])
 
-    parts : (id : ℕ) → length (bye_octets (named id setup)) ≡ Rattle.rtcp_report.specs.Sizes.report_size (receiver_named setup.ssrc setup.cname) 0 + 8
+    parts : (id : ℕ) → length (bye_octets (with_ssrc id setup)) ≡ Rattle.rtcp_report.specs.Sizes.report_size (receiver_named setup.ssrc setup.cname) 0 + 8
     parts id =
         ap length (flat_map-append written (packets_with (receiver_named id setup.cname) []) (goodbye id ∷ []))
         ∙ length-append (report id) (written_all (goodbye id ∷ []))
@@ -48,8 +48,8 @@ sizes_by : (heard : Bool) (first size : ℕ) (sizes : List ℕ) → (if heard th
 sizes_by true first size sizes = refl
 sizes_by false first size sizes = refl
 
-pub renamed_agrees : (s : State) (o : Outcome) (ssrc : ℕ) → Agrees s o → Agrees (renamed ssrc s) (with_change s.setup o)
-renamed_agrees s o ssrc a = record {
+pub changed_agrees : (s : State) (o : Outcome) (ssrc : ℕ) → Agrees s o → Agrees (after_change ssrc s) (with_change s.setup o)
+changed_agrees s o ssrc a = record {
   table = a.table;
   capacity = a.capacity;
   rate = a.rate;
@@ -62,8 +62,8 @@ renamed_agrees s o ssrc a = record {
   reports = a.reports;
 }
 
-renamed_still : (s : State) (o : Outcome) (ssrc : ℕ) → StandsStill s o → StandsStill (renamed ssrc s) (counted_anew o)
-renamed_still s o ssrc still = record { table = still.table; capacity = still.capacity; rate = still.rate; own = own_agrees s o.own still.own; cursor = still.cursor; reports = still.reports }
+changed_still : (s : State) (o : Outcome) (ssrc : ℕ) → StandsStill s o → StandsStill (after_change ssrc s) (counted_anew o)
+changed_still s o ssrc still = record { table = still.table; capacity = still.capacity; rate = still.rate; own = own_agrees s o.own still.own; cursor = still.cursor; reports = still.reports }
 
 -- ---- Backoffs
 
@@ -83,24 +83,24 @@ bye_moves_average : (heard : Bool) (size : ℕ) (setup : Setup) (backoff : Backo
 bye_moves_average true size setup backoff = refl
 bye_moves_average false size setup backoff = refl
 
-average_named : (ssrc : ℕ) (setup : Setup) (farewells : List Farewell) → leaving_average (named ssrc setup) farewells ≡ leaving_average setup farewells
-average_named ssrc setup farewells = ap (λ (n : ℕ). average_of n (map (λ (farewell : Farewell). farewell.size) farewells)) (byes_are_of_one_size ssrc setup)
+average_with_ssrc : (ssrc : ℕ) (setup : Setup) (farewells : List Farewell) → leaving_average (with_ssrc ssrc setup) farewells ≡ leaving_average setup farewells
+average_with_ssrc ssrc setup farewells = ap (λ (n : ℕ). average_of n (map (λ (farewell : Farewell). farewell.size) farewells)) (byes_are_of_one_size ssrc setup)
 
-renamed_average : (s : State) (o : Outcome) (backoff : Backoff) (ssrc : ℕ) → StandsStill s o → s.average ≡ leaving_average s.setup backoff.farewells
-    → (renamed ssrc s).average ≡ leaving_average (named ssrc s.setup) (after_own_bye s.setup o backoff).farewells
-renamed_average s o backoff ssrc still average =
+changed_average : (s : State) (o : Outcome) (backoff : Backoff) (ssrc : ℕ) → StandsStill s o → s.average ≡ leaving_average s.setup backoff.farewells
+    → (after_change ssrc s).average ≡ leaving_average (with_ssrc ssrc s.setup) (after_own_bye s.setup o backoff).farewells
+changed_average s o backoff ssrc still average =
     let size = length (bye_octets s.setup) in
     ap (λ (heard : Bool). if heard then moved_average s.average size else s.average) (heard_agrees s o.own still.own)
     ∙ ap (λ (n : ℕ). if has_sent o.own then moved_average n size else n) average
     ∙ bye_moves_average (has_sent o.own) size s.setup backoff
-    ∙ sym (average_named ssrc s.setup (after_own_bye s.setup o backoff).farewells)
+    ∙ sym (average_with_ssrc ssrc s.setup (after_own_bye s.setup o backoff).farewells)
 
 -- ---- Where it stands
 
-renamed_is_at : (p q : ParticipantValue) (ssrc : ℕ) (life : Life) → IsAt p life → (p.phase ≡ over → ⊥) → q.presence ≡ renamed ssrc p.presence → q.phase ≡ p.phase → IsAt q (with_new_name p.presence.setup life)
-renamed_is_at p q ssrc (present outcome) at there same phase =
-    (phase ∙ at.0, subst (λ (s : State). Agrees s (with_change p.presence.setup outcome)) (sym same) (renamed_agrees p.presence outcome ssrc at.1))
-renamed_is_at p q ssrc (backing_off outcome backoff) at there same phase =
+changed_is_at : (p q : ParticipantValue) (ssrc : ℕ) (life : Life) → IsAt p life → (p.phase ≡ over → ⊥) → q.presence ≡ after_change ssrc p.presence → q.phase ≡ p.phase → IsAt q (with_new_ssrc p.presence.setup life)
+changed_is_at p q ssrc (present outcome) at there same phase =
+    (phase ∙ at.0, subst (λ (s : State). Agrees s (with_change p.presence.setup outcome)) (sym same) (changed_agrees p.presence outcome ssrc at.1))
+changed_is_at p q ssrc (backing_off outcome backoff) at there same phase =
     let heard = has_sent outcome.own in
     let size = length (bye_octets p.presence.setup) in
     let next = after_own_bye p.presence.setup outcome backoff in (
@@ -108,18 +108,18 @@ renamed_is_at p q ssrc (backing_off outcome backoff) at there same phase =
       subst (λ (s : State). Waits s (counted_anew outcome) next) (sym same)
           (record {
             timing = at.1.timing ∙ sym (bye_keeps_timing heard size backoff);
-            average = renamed_average p.presence outcome backoff ssrc at.1.still at.1.average;
-            still = renamed_still p.presence outcome ssrc at.1.still;
+            average = changed_average p.presence outcome backoff ssrc at.1.still at.1.average;
+            still = changed_still p.presence outcome ssrc at.1.still;
           }),
     )
-renamed_is_at p q ssrc (gone outcome) at there same phase = absurd (there at)
+changed_is_at p q ssrc (gone outcome) at there same phase = absurd (there at)
 
-pub renamed_is_in : (p q : ParticipantValue) (session : Session) (new : NewIdentifier) → IsIn p session → (p.phase ≡ over → ⊥) → q.presence ≡ renamed new.ssrc p.presence → q.phase ≡ p.phase
+pub changed_is_in : (p q : ParticipantValue) (session : Session) (new : NewIdentifier) → IsIn p session → (p.phase ≡ over → ⊥) → q.presence ≡ after_change new.ssrc p.presence → q.phase ≡ p.phase
     → q.changes ≡ record { peer = new.peer; former = p.presence.setup.ssrc } ∷ p.changes → IsIn q (changed_to new session)
-renamed_is_in p q session new is there same phase changes = record {
-  setup = ap (λ (s : State). s.setup) same ∙ ap (named new.ssrc) is.setup;
+changed_is_in p q session new is there same phase changes = record {
+  setup = ap (λ (s : State). s.setup) same ∙ ap (with_ssrc new.ssrc) is.setup;
   changes = changes ∙ (λ i. record { peer = new.peer; former = (is.setup i).ssrc } ∷ is.changes i);
-  life = subst (λ (setup : Setup). IsAt q (with_new_name setup session.life)) is.setup (renamed_is_at p q new.ssrc session.life is.life there same phase);
+  life = subst (λ (setup : Setup). IsAt q (with_new_ssrc setup session.life)) is.setup (changed_is_at p q new.ssrc session.life is.life there same phase);
 }
 
 -- ---- What it hands out
@@ -128,14 +128,14 @@ bye_by : (heard : Bool) (octets : List ℕ) → option_map bye_out (if heard the
 bye_by true octets = refl
 bye_by false octets = refl
 
-pub renamed_out : (p : ParticipantValue) (setup : Setup) (life : Life) → IsAt p life → (p.phase ≡ over → ⊥) → p.presence.setup ≡ setup → option_map bye_out (own_bye_in p.presence) ≡ own_bye setup life
-renamed_out p setup (present outcome) at there same =
+pub changed_out : (p : ParticipantValue) (setup : Setup) (life : Life) → IsAt p life → (p.phase ≡ over → ⊥) → p.presence.setup ≡ setup → option_map bye_out (own_bye_in p.presence) ≡ own_bye setup life
+changed_out p setup (present outcome) at there same =
     bye_by p.presence.own.heard (bye_octets p.presence.setup)
     ∙ (λ i. if heard_agrees p.presence outcome.own at.1.own i then Some (bye_out (bye_octets (same i))) else None)
-renamed_out p setup (backing_off outcome backoff) at there same =
+changed_out p setup (backing_off outcome backoff) at there same =
     bye_by p.presence.own.heard (bye_octets p.presence.setup)
     ∙ (λ i. if heard_agrees p.presence outcome.own at.1.still.own i then Some (bye_out (bye_octets (same i))) else None)
-renamed_out p setup (gone outcome) at there same = absurd (there at)
+changed_out p setup (gone outcome) at there same = absurd (there at)
 
 -- ---- Tables
 
