@@ -1,40 +1,40 @@
-/* The control half of an RTP participant (RFC 3550), proved: what arrives, what is sent and what time it is go in, and
- * the reports to send, the members and the next moment come out. It opens no socket, reads no clock, draws no random
- * number, starts no thread, and takes memory in jalwedd_new alone.
+/* The control half of an RTP participant (RFC 3550), proved: pass in the datagrams that arrive, the packets that are
+ * sent and the time, and get back the reports to send, the members and the next deadline. It opens no socket, reads no
+ * clock, draws no random number, starts no thread, and allocates only in jalwedd_new.
  *
- * A host keeps two sockets, a clock that does not go back, and random words:
+ * A host keeps two sockets, a monotonic clock, and a source of random words:
  *
  *     jalwedd_handle session = JALWEDD_EMPTY;
  *     jalwedd_new(&session, &config, cname, cname_size, items, item_count, random_word(), &step);
  *     for (;;) {
  *         wait until step.next, or until a datagram comes
- *         jalwedd_arrive_rtcp(&session, now, peer, random_word(), datagram, size, &step, octets);    what came, or
+ *         jalwedd_arrive_rtcp(&session, now, peer, random_word(), datagram, size, &step, octets);    a datagram, or
  *         jalwedd_tick(&session, now, random_word(), random_word(), &step, octets);                  at step.next
- *         if (step.kind) send step.size of the octets to the others
+ *         if (step.kind) send the first step.size of the octets to the others
  *     }
  *
- * WHAT THE HOST HAS TO KEEP, and nothing tests:
- * - Each pointer is valid, aligned, and not NULL, also one whose size is 0: there any aligned address will do, as that
- *   of the configuration. But jalwedd_free takes NULL.
- * - At a pointer lie as many octets, items or sources as the size or count says. Of a datagram of more than 65,535
- *   octets, of a CNAME of more than 255 and of more than 7 items nothing is read: such a call is refused. So is a size
- *   of -1, as recv returns it. But jalwedd_change reads a listing as far as its SSRCs rise, whatever its count says.
- * - Output arguments (all that is not const) do not overlap each other or any input.
+ * WHAT THE HOST MUST ENSURE, as nothing tests it:
+ * - Each pointer is valid, aligned, and not NULL, even if its size is 0: then any aligned address will do, such as that
+ *   of the configuration. Only jalwedd_free accepts NULL.
+ * - Each pointer leads to as many octets, items or sources as its size or count says. A datagram of more than 65,535
+ *   octets, a CNAME of more than 255 and more than 7 items are not read: such a call is refused. So is a size of -1, as
+ *   returned by recv. But jalwedd_change reads a listing as far as its SSRCs rise, whatever its count says.
+ * - Output arguments (all that are not const) do not overlap each other or any input.
  * - One call at a time uses a handle. Several handles may be used side by side, by several threads too.
- * - A handle is not changed, and is freed before it goes away. It may be moved to another place, if the old one is not
- *   used again. A child of fork does not go on with it: two would speak as one participant.
+ * - The host does not change a handle's contents, and frees it before it goes out of scope. It may be moved, if the old
+ *   copy is not used again. A child of fork does not use it: two processes would act as one participant.
  *
  * Everything else is tested: whatever a datagram holds, whatever the numbers are and in whatever order the calls come,
- * each call returns, with a status. A call whose status is not JALWEDD_TAKEN changes nothing of the participant, and
- * hands out nothing. The step is written whatever the status, so step.next is always valid.
+ * each call returns, with a status. A call whose status is not JALWEDD_TAKEN does not change the participant, and hands
+ * out nothing. The step is written whatever the status, so step.next is always valid.
  *
  * No call takes more than 8,192 octets of stack (as measured, at 1,000 members).
  *
- * Moments are microseconds since the session began, from 0 to 2^50, and never go back. Each participant has a moment 0
- * of its own: jalwedd_new. Words are random, from 0 to 2^32 - 1, each used once.
+ * Moments are microseconds since the session began, from 0 to 2^50, and never go back. Moment 0 of a participant is its
+ * jalwedd_new. Words are random, from 0 to 2^32 - 1, each used once.
  *
  * A participant has one SSRC. A host that sends several streams into a session is as many participants there, each with
- * a handle: each of them is told what came, and also what the others of this host sent, as if it had come, so that all
+ * a handle: pass to each of them what came, and also what the others of this host sent, as if it had come, so that all
  * count the same members (RFC 3550, 6.2).
  *
  * A structure of this header never grows or changes its layout under one SONAME of the shared object.
@@ -49,41 +49,42 @@
 extern "C" {
 #endif
 
-/* ---- The version of this header. Of two versions with the same first two numbers the later one has all of the other,
- * under the same SONAME. */
+/* ---- The version of this header. If two versions share their first two numbers, the later one has everything of the
+ * earlier one, under the same SONAME. */
 
 #define JALWEDD_VERSION_MAJOR 0
 #define JALWEDD_VERSION_MINOR 2
 #define JALWEDD_VERSION_PATCH 1
 
-/* The version of the library that is linked: of 0.2.1 it is 0x000201. */
+/* The version of the linked library: 0x000201 for 0.2.1. */
 uint32_t jalwedd_version(void);
 
-/* ---- Statuses. Two of them have two names, so a switch takes one: NO_BLOCK or NO_PART, NO_SOURCE or NO_CHANGE. */
+/* ---- Statuses. Two of them have two names, of which a switch can use only one: NO_BLOCK or NO_PART, and NO_SOURCE or
+ * NO_CHANGE. */
 
 enum {
     JALWEDD_TAKEN = 0,
 
     /* A call that the participant refused: the first of these that applies. */
     JALWEDD_LEFT = 1,           /* E1: it has left the session (RFC 3550, 6.3.7) */
-    JALWEDD_BACKWARDS = 2,      /* E2: the moment lies before that of the last call that was taken */
+    JALWEDD_BACKWARDS = 2,      /* E2: the moment lies before that of the latest call that was taken */
     JALWEDD_TOO_FAR = 3,        /* E3: the moment lies beyond 2^50 */
-    JALWEDD_TOO_MANY = 4,       /* E4: a session has fewer than 2^40 calls, and so many were taken */
+    JALWEDD_TOO_MANY = 4,       /* E4: a session has fewer than 2^40 calls, and 2^40 - 1 were taken */
     JALWEDD_NO_COMPOUND = 5,    /* E5: the RTCP datagram is not a compound (6.1): jalwedd_check says why */
-    JALWEDD_NO_RTP = 6,         /* E6: the RTP datagram has no head that is read (5.1) */
+    JALWEDD_NO_RTP = 6,         /* E6: the RTP datagram has no valid head (5.1) */
     JALWEDD_OWN_SSRC = 7,       /* E7: the datagram uses our SSRC, and its peer may not change it (again) (8.2) */
 
     JALWEDD_NO_BLOCK = 8,       /* jalwedd_about: there is no such block */
     JALWEDD_NO_PART = 8,        /* jalwedd_sender, _block, _sdes_item, _goodbye: no such part */
     JALWEDD_NO_SOURCE = 9,      /* jalwedd_source: there is no such source */
-    JALWEDD_NO_CHANGE = 9,      /* jalwedd_change: no other source changed */
+    JALWEDD_NO_CHANGE = 9,      /* jalwedd_change: no further source changed its role */
     JALWEDD_NOT_RISING = 10,    /* jalwedd_change: the SSRCs of a listing do not rise */
 
-    /* A configuration that is refused: the first of these that applies, but that a CNAME of more than 255 octets and
+    /* A configuration that is refused: the first of these that applies, except that a CNAME of more than 255 octets and
      * more than 7 items come before the others. */
     JALWEDD_CNAME = 11,         /* C1: the CNAME has 0 octets, or more than 255 */
     JALWEDD_CAPACITY = 12,      /* C2: the capacity is out of range 1 to 1,024 */
-    JALWEDD_LIMIT = 13,         /* C3: the limit is out of range 576 to 1,472, or no multiple of 4 */
+    JALWEDD_LIMIT = 13,         /* C3: the limit is out of range 576 to 1,472, or not a multiple of 4 */
     JALWEDD_BANDWIDTH = 14,     /* C4: one of the bandwidths is out of range 16 to 2^30 */
     JALWEDD_RATE = 15,          /* C5: the rate is out of range 1 to 2^20 */
     JALWEDD_ITEM = 16,          /* C6: the type of an item is out of range 2 to 8, or there are more than 7 items */
@@ -94,7 +95,7 @@ enum {
     JALWEDD_TOO_LONG = 23       /* jalwedd_arrive_rtp: no UDP datagram has more than 65,535 octets */
 };
 
-/* A few words for each status, and for any other number. Of two statuses that are one number it has what both mean. */
+/* A short text for each status, and for any other number. Two statuses with the same number share a text. */
 static inline const char *jalwedd_text(uint32_t status)
 {
     switch (status) {
@@ -125,158 +126,159 @@ static inline const char *jalwedd_text(uint32_t status)
 
 /* ---- Values */
 
-/* A participant, or none: NULL at first, and again after jalwedd_free. Its field is not the host's. */
+/* A participant, or none: NULL at first, and again after jalwedd_free. The field is private to the library. */
 typedef struct jalwedd_handle {
     void *at;
 } jalwedd_handle;
 
 #define JALWEDD_EMPTY {NULL}
 
-/* The session as its host knows it. */
+/* The session and the participant, as the host configures them. */
 typedef struct jalwedd_config {
     uint64_t ntp_base;      /* the NTP timestamp of moment 0: seconds since 1900 in the upper 32 bits, their fraction
                                in the lower */
     uint32_t ssrc;          /* the SSRC, to be chosen at random (8.1) */
     uint32_t capacity;      /* how many other sources are kept track of, 1 to 1,024 */
-    uint32_t limit;         /* the most octets of a compound, without the headers of UDP and IP: 576 to 1,472, a
+    uint32_t limit;         /* the maximum size of a compound in octets, without UDP and IP headers: 576 to 1,472, a
                                multiple of 4 */
-    uint32_t sender_bw;     /* the bandwidth for the RTCP of senders, octets a second, 16 to 2^30 (RFC 3556): usually
-                               1.25 per cent of the session's */
-    uint32_t receiver_bw;   /* that for the RTCP of the others: usually 3.75 per cent */
+    uint32_t sender_bw;     /* the RTCP bandwidth for senders, in octets a second, 16 to 2^30 (RFC 3556): usually 1.25
+                               per cent of the session bandwidth */
+    uint32_t receiver_bw;   /* the RTCP bandwidth for the others: usually 3.75 per cent */
     uint32_t rate;          /* the units a second of the clock of RTP timestamps, 1 to 2^20 */
 } jalwedd_config;
 
-/* What a participant says of itself beside its CNAME, one in every third report (RFC 3550, 6.5.2 to 6.5.8). */
+/* What a participant says about itself besides its CNAME, one in every third report (RFC 3550, 6.5.2 to 6.5.8). */
 typedef struct jalwedd_item {
     uint8_t kind;           /* NAME 2, EMAIL 3, PHONE 4, LOC 5, TOOL 6, NOTE 7, PRIV 8 */
     uint8_t size;           /* the octets of the text */
     uint8_t text[255];      /* the text in UTF-8, which nothing tests, and anything after it */
 } jalwedd_item;
 
-/* The room for a compound. */
+/* The size of the buffer for a compound, in octets. */
 #define JALWEDD_OCTETS 1472
 
-/* step.next where there is no moment to tick at. */
+/* The value of step.next if there is no moment to tick at. */
 #define JALWEDD_NEVER UINT64_MAX
 
 /* What a call hands out. */
 enum { JALWEDD_NOTHING = 0, JALWEDD_REPORT = 1, JALWEDD_BYE = 2 };
 
-/* What a call tells. Of a handle that is empty, next is JALWEDD_NEVER and all else 0. */
+/* The result of a call. For an empty handle, next is JALWEDD_NEVER and all else 0. */
 typedef struct jalwedd_step {
     uint64_t next;          /* when to call jalwedd_tick, or JALWEDD_NEVER once the participant has left. It may lie
                                before the moment of the call: then tick at once */
-    uint32_t members;       /* the members of the session, the participant included (6.2.1); after a leave that waits,
-                               it and one for each BYE packet that came since (6.3.7); 0 once it has left */
-    uint32_t senders;       /* those of them that send RTP packets: 0 from a leave on */
+    uint32_t members;       /* the members of the session, the participant included (6.2.1); in the backoff after a
+                               leave, it and one for each BYE packet that came since (6.3.7); 0 once it has left */
+    uint32_t senders;       /* how many of the members send RTP packets: 0 from a leave on */
     uint32_t ssrc;          /* the participant's SSRC */
-    uint32_t changed;       /* 1 if the call changed that (8.2): media goes on under the new one. Else 0 */
+    uint32_t changed;       /* 1 if the call changed the SSRC (8.2): media goes on under the new one. Otherwise 0 */
     uint32_t kind;          /* what the call hands out: send it now, in one datagram, to the other participants */
-    uint32_t size;          /* its octets */
-    uint32_t entries;       /* as jalwedd_entries: config.capacity of them fill the table */
-    uint32_t others_changed; /* 1 if the call changed who of the others is a member or who of them sends, if only for
-                               a moment: then jalwedd_source lists them anew. Else 0, and each has the role it had */
+    uint32_t size;          /* its size in octets */
+    uint32_t entries;       /* as jalwedd_entries: the table is full if this is config.capacity */
+    uint32_t others_changed; /* 1 if the call changed which other sources are members or which of them send, if only
+                               for a moment: list them again with jalwedd_source. 0 if each has the role it had */
 } jalwedd_step;
 
 /* Why a datagram is not a compound. */
 typedef struct jalwedd_fault {
-    uint64_t offset;        /* where the packet at fault begins, in octets */
-    uint32_t reason;        /* 1 header cut short, 2 version, 3 first packet no report, 4 first packet padded, 5 length,
-                               6 padding, 7 body, 8 SDES item, 9 BYE reason, 10 more than 65,535 octets */
+    uint64_t offset;        /* the offset of the packet at fault, in octets */
+    uint32_t reason;        /* the rule broken: 1 header cut short, 2 version, 3 first packet not a report, 4 first
+                               packet padded, 5 length, 6 padding, 7 body, 8 SDES item, 9 BYE reason, 10 more than
+                               65,535 octets */
 } jalwedd_fault;
 
-/* What a report says of one source (6.4.1). */
+/* What a report says about one source (6.4.1). */
 typedef struct jalwedd_report {
-    uint32_t reporter;      /* the SSRC of the source that sent it */
-    uint32_t ssrc;          /* the SSRC of the source that it speaks of */
-    uint32_t fraction;      /* the part of its packets that was lost since the last report, in 1/256 */
-    int32_t lost;           /* how many were lost since the beginning: negative where packets came twice */
-    uint32_t highest;       /* the highest sequence number in the low 16 bits, and above them how often they wrapped */
-    uint32_t jitter;        /* the jitter of their arrival, in units of their RTP timestamps */
-    uint32_t lsr;           /* the middle 32 bits of the NTP timestamp of the source's last sender report, or 0 */
+    uint32_t reporter;      /* the SSRC of the source that sent the report */
+    uint32_t ssrc;          /* the SSRC of the source that the block is about */
+    uint32_t fraction;      /* the fraction of its packets lost since the previous report, in 1/256 */
+    int32_t lost;           /* how many were lost since the beginning: negative if packets were repeated */
+    uint32_t highest;       /* the highest sequence number in the low 16 bits, and above them how often it wrapped */
+    uint32_t jitter;        /* the interarrival jitter, in units of its RTP timestamps */
+    uint32_t lsr;           /* the middle 32 bits of the NTP timestamp of the source's latest sender report, or 0 */
     uint32_t dlsr;          /* the time since that report, in 1/65,536 of a second, or 0 */
 } jalwedd_report;
 
-/* What a sender report says of its sender (6.4.1). */
+/* What a sender report says about its sender (6.4.1). */
 typedef struct jalwedd_sender_info {
     uint64_t ntp;           /* when it was sent, as an NTP timestamp: seconds since 1900 in the upper 32 bits, their
                                fraction in the lower */
     uint32_t ssrc;          /* the SSRC of the source that sent it */
     uint32_t rtp;           /* the same moment in units of the sender's RTP timestamps */
-    uint32_t packets;       /* how many RTP packets were sent up to then */
-    uint32_t octets;        /* how many octets their payloads have, without headers and padding */
+    uint32_t packets;       /* how many RTP packets it had sent by then */
+    uint32_t octets;        /* how many payload octets they had, without headers and padding */
 } jalwedd_sender_info;
 
-/* An SDES item (6.5), and where its text stands in the datagram. */
+/* An SDES item (6.5), and where its text is in the datagram. */
 typedef struct jalwedd_item_place {
-    uint64_t offset;        /* the octets before the text */
+    uint64_t offset;        /* the offset of the text, in octets */
     uint64_t size;          /* the octets of the text, 0 to 255: no zero octet follows it */
     uint32_t ssrc;          /* the SSRC of the source that it describes */
     uint32_t kind;          /* CNAME 1, NAME 2, EMAIL 3, PHONE 4, LOC 5, TOOL 6, NOTE 7, PRIV 8, or another */
 } jalwedd_item_place;
 
-/* A source that leaves (6.6), and where the reason stands in the datagram. */
+/* A source that leaves (6.6), and where the reason is in the datagram. */
 typedef struct jalwedd_goodbye_place {
-    uint64_t offset;        /* the octets before the reason's text, or 0 where there is none */
+    uint64_t offset;        /* the offset of the reason's text, or 0 if there is no reason */
     uint64_t size;          /* the octets of the text, 0 to 255 */
     uint32_t ssrc;          /* the SSRC of the source */
-    uint32_t has_reason;    /* 1 if the BYE gives a reason, also one of 0 octets, else 0 */
+    uint32_t has_reason;    /* 1 if the BYE gives a reason, even one of 0 octets, otherwise 0 */
 } jalwedd_goodbye_place;
 
-/* What is known of a source. */
+/* What is known about a source. */
 typedef struct jalwedd_source_state {
     uint64_t heard;         /* when it was last heard before it left */
     uint64_t left;          /* when it said goodbye, or JALWEDD_NEVER */
-    uint64_t told;          /* when its last sender report came, or JALWEDD_NEVER */
+    uint64_t told;          /* when its latest sender report came, or JALWEDD_NEVER */
     uint64_t ntp;           /* the NTP timestamp of that report, or 0 */
     uint64_t received;      /* how many of its packets were counted, late and repeated ones included, since it came or
-                               its sequence numbers jumped (A.1). Where none was, it is 0, and so are the next three */
-    int32_t lost;           /* how many were lost since then: negative where packets came twice */
-    uint32_t highest;       /* the highest sequence number in the low 16 bits, and above them how often they wrapped */
-    uint32_t jitter;        /* the jitter of their arrival, in units of their RTP timestamps */
+                               its sequence numbers jumped (A.1). If none was, this is 0, and so are the next three */
+    int32_t lost;           /* how many were lost since then: negative if packets were repeated */
+    uint32_t highest;       /* the highest sequence number in the low 16 bits, and above them how often it wrapped */
+    uint32_t jitter;        /* the interarrival jitter, in units of its RTP timestamps */
     uint32_t ssrc;
-    uint32_t member;        /* 1 if it is a member (6.2.1), else 0: it is not yet valid, or it left */
-    uint32_t sender;        /* 1 if it sends RTP packets, else 0 */
+    uint32_t member;        /* 1 if it is a member (6.2.1), otherwise 0: it is not yet valid, or it left */
+    uint32_t sender;        /* 1 if it sends RTP packets, otherwise 0 */
 } jalwedd_source_state;
 
-/* What part a source takes in a session: none, as it is not there, not yet valid, or left; or that of a member (6.2.1)
- * that does not send RTP packets, or does. */
+/* The role of a source in a session: away (not present, not yet valid, or left), a member (6.2.1) that does not send
+ * RTP packets, or one that does. */
 enum { JALWEDD_AWAY = 0, JALWEDD_MEMBER = 1, JALWEDD_SENDER = 2 };
 
-/* A source whose role is another one than before. */
+/* A source whose role differs from before. */
 typedef struct jalwedd_role_change {
     uint32_t ssrc;
     uint32_t was;           /* its role before */
     uint32_t is;            /* its role now */
-    uint32_t left;          /* 1 if it said goodbye, as far as is known of it now, else 0 */
+    uint32_t left;          /* 1 if it said goodbye, by the later listing, otherwise 0 */
 } jalwedd_role_change;
 
 /* ---- A participant */
 
-/* The octets of memory that a participant of this capacity takes: a block of 2,560 octets, and one of 144 octets for
+/* The memory, in octets, that a participant of this capacity takes: a block of 2,560 octets, and one of 144 octets for
  * each source of the capacity. */
 #define JALWEDD_MEMORY(capacity) (2560 + 144 * (size_t)(capacity))
 
-/* Has the library take its memory by `allocate`, which gives so many octets, aligned as malloc's are, or NULL, and give
- * it back by `release`: in place of malloc and free. To be called once, before the first jalwedd_new, if at all. */
+/* Makes the library use `allocate` and `release` in place of malloc and free. `allocate` returns a block of `size`
+ * octets, aligned as by malloc, or NULL. Call this at most once, before the first jalwedd_new. */
 void jalwedd_memory(void *(*allocate)(size_t size), void (*release)(void *at));
 
-/* Puts a participant of a session that begins now, at moment 0, into an empty handle. `word` is for the draw of the
- * first interval. Takes memory, JALWEDD_MEMORY(config->capacity) octets in two blocks; no other call takes any.
- * Statuses: TAKEN; IS_LIVE, and the step is that of the participant that is there; CNAME to ITEM; NO_MEMORY. */
+/* Makes a participant in an empty handle; its session begins now, at moment 0. `word` is for the draw of the first
+ * interval. Allocates JALWEDD_MEMORY(config->capacity) octets in two blocks; no other call allocates.
+ * Statuses: TAKEN; IS_LIVE, and the step is that of the participant already there; CNAME to ITEM; NO_MEMORY. */
 uint32_t jalwedd_new(jalwedd_handle *handle, const jalwedd_config *config, const uint8_t *cname, size_t cname_size,
                      const jalwedd_item *items, size_t item_count, uint32_t word, jalwedd_step *step);
 
-/* Frees the participant of a handle, which is empty then. Nothing goes out: jalwedd_leave comes before. Of NULL, as of
- * an empty handle, it does nothing.
+/* Frees the participant of a handle and leaves the handle empty. It sends no BYE: call jalwedd_leave before it. For
+ * NULL, as for an empty handle, it does nothing.
  * Statuses: TAKEN; IS_EMPTY. */
 uint32_t jalwedd_free(jalwedd_handle *handle);
 
-/* An RTCP datagram came at the moment `now`, with the octets that UDP carried (RFC 3550, 6.1). `peer` is a number for
- * where it came from, distinct for each address and port: of IPv4 these themselves, of IPv6 the place of address and
+/* An RTCP datagram came at the moment `now`; `datagram` is its UDP payload (RFC 3550, 6.1). `peer` is a number for
+ * where it came from, distinct for each address and port: for IPv4 these themselves, for IPv6 the index of address and
  * port in a list that the host keeps. `word` seeds a new SSRC if one is needed (8.2).
- * Hands out nothing, or, where it changes the SSRC, the BYE of the old one. Reports about the own stream that it brings
- * are read before the call (jalwedd_about), as they name the SSRC of then.
+ * Hands out nothing, or, if it changes the SSRC, the BYE of the old one if anything was sent under it. Read its reports
+ * about the host's own stream before the call (jalwedd_about), as they name the SSRC before a change.
  * Statuses: TAKEN; LEFT to NO_COMPOUND; OWN_SSRC; IS_EMPTY. */
 uint32_t jalwedd_arrive_rtcp(jalwedd_handle *handle, uint64_t now, uint64_t peer, uint32_t word,
                              const uint8_t *datagram, size_t size, jalwedd_step *step, uint8_t octets[JALWEDD_OCTETS]);
@@ -286,23 +288,23 @@ uint32_t jalwedd_arrive_rtcp(jalwedd_handle *handle, uint64_t now, uint64_t peer
 uint32_t jalwedd_arrive_rtp(jalwedd_handle *handle, uint64_t now, uint64_t peer, uint32_t word,
                             const uint8_t *datagram, size_t size, jalwedd_step *step, uint8_t octets[JALWEDD_OCTETS]);
 
-/* The host sent an RTP packet at the moment `now`, with this RTP timestamp and so many octets of payload without
- * padding (6.3.8, 6.4.1). Hands out nothing.
+/* The host sent an RTP packet at the moment `now`, with this RTP timestamp and `payload` octets of payload, not
+ * counting padding (6.3.8, 6.4.1). Hands out nothing.
  * Statuses: TAKEN; LEFT to TOO_MANY; IS_EMPTY. */
 uint32_t jalwedd_sent_rtp(jalwedd_handle *handle, uint64_t now, uint32_t timestamp, uint32_t payload,
                           jalwedd_step *step, uint8_t octets[JALWEDD_OCTETS]);
 
-/* Asks at the moment `now` what is due, and drops those who are silent for too long (6.3.5, 6.3.6). Call it at
- * step.next; a call before that hands out nothing. `first_word` is for the draw that decides whether what is due goes
- * out now, or is put off (6.3.6, 6.3.7), and `second_word` for the draw of the interval after it.
+/* Hands out what is due at the moment `now`, and drops sources that were silent for too long (6.3.5, 6.3.6). Call it at
+ * step.next; a call before that hands out nothing. `first_word` is for the draw that decides whether a report or BYE
+ * goes out now or is put off (6.3.6, 6.3.7), and `second_word` for the draw of the interval after a report.
  * Hands out nothing, a report, or, after a leave, the BYE.
  * Statuses: TAKEN; LEFT to TOO_MANY; IS_EMPTY. */
 uint32_t jalwedd_tick(jalwedd_handle *handle, uint64_t now, uint32_t first_word, uint32_t second_word,
                       jalwedd_step *step, uint8_t octets[JALWEDD_OCTETS]);
 
-/* Leaves the session at the moment `now` (6.3.7). The BYE is handed out at once, or, in a session of more than 50, by a
- * tick: go on until step.next is JALWEDD_NEVER. One that sent nothing leaves silently. `word` is for the draw of when
- * that tick is due.
+/* Leaves the session at the moment `now` (6.3.7). The BYE is handed out at once, or, in a session of more than 50
+ * members, by a later tick: go on until step.next is JALWEDD_NEVER. A participant that sent nothing leaves silently.
+ * `word` is for the draw of when that tick is due.
  * Hands out nothing, or the BYE.
  * Statuses: TAKEN; LEFT to TOO_MANY; IS_EMPTY. */
 uint32_t jalwedd_leave(jalwedd_handle *handle, uint64_t now, uint32_t word, jalwedd_step *step,
@@ -320,47 +322,47 @@ uint32_t jalwedd_ssrc(jalwedd_handle *handle);
  * handle. */
 uint32_t jalwedd_entries(jalwedd_handle *handle);
 
-/* Tells what is known of the source of the lowest SSRC >= `from`: of members, of those that are not yet valid, and of
- * those that left and are held for a while, but not of the participant itself. It changes nothing. Begin with 0, and go
- * on with (uint64_t)ssrc + 1 until the status is not TAKEN: then each source was told once. To ask for one source, let
- * `from` be its SSRC, and see whether source->ssrc is that. `source` is left as it is where there is no such source,
- * once the participant leaves, and for an empty handle.
+/* Gives what is known about the source with the lowest SSRC >= `from`: among members, sources that are not yet valid,
+ * and those that left and are held for a while, but not the participant itself. It changes nothing. To list all, begin
+ * with 0 and go on with (uint64_t)ssrc + 1 until the status is not TAKEN: then each source was given once. To look up
+ * one source, pass its SSRC as `from` and compare source->ssrc with it. `source` is left as it is if there is no such
+ * source, once the participant leaves, and for an empty handle.
  * Statuses: TAKEN; NO_SOURCE. */
 uint32_t jalwedd_source(jalwedd_handle *handle, uint64_t from, jalwedd_source_state *source);
 
 /* ---- Listings */
 
-/* Tells of the sources whose roles differ in two listings the one of the lowest SSRC >= `from`. A listing is what
- * jalwedd_source told of each source, one after the other. Begin with 0, and go on with (uint64_t)ssrc + 1 until the
- * status is not TAKEN: then each change was told once. `change` is left as it is then.
+/* Gives, of the sources whose roles differ between two listings, the one with the lowest SSRC >= `from`. A listing is
+ * what jalwedd_source gave for each source, one after the other. Begin with 0 and go on with (uint64_t)ssrc + 1 until
+ * the status is not TAKEN: then each such source was given once. `change` is left as it is then.
  *
  *     for (from = 0; jalwedd_change(before, before_count, after, after_count, from, &change) == JALWEDD_TAKEN;
  *          from = (uint64_t)change.ssrc + 1)
  *         if (change.was == JALWEDD_AWAY)      joined(change.ssrc);
  *         else if (change.is == JALWEDD_AWAY)  gone(change.ssrc, change.left ? "by a BYE" : "silent for too long");
  *
- * A source that said goodbye is listed until a tick that comes 5 seconds or more after that, or one that finds that it
- * was silent for too long before: so a host that lists after each call whose step.others_changed is 1 is told that it
- * left by a BYE, and one that lists more seldom may be told that it was silent. One that came and went between two
- * listings is not told. Once the participant leaves its listing is empty, and says nothing of the others.
+ * A source that said goodbye is listed until a tick 5 seconds or more after that, or until an earlier tick finds it
+ * silent for too long: so a host that lists after each call whose step.others_changed is 1 sees that it left by a BYE,
+ * and one that lists less often may take it for silent. A source that came and went between two listings is not given.
+ * Once the participant leaves, its listing is empty, and says nothing about the others.
  * Statuses: TAKEN; NO_CHANGE; NOT_RISING. */
 uint32_t jalwedd_change(const jalwedd_source_state *before, size_t before_count, const jalwedd_source_state *after,
                         size_t after_count, uint64_t from, jalwedd_role_change *change);
 
 /* ---- Datagrams */
 
-/* Tells whether a datagram is a compound (6.1). Where it is, `fault` is left as it is.
+/* Accepts a datagram that is a compound (6.1), leaving `fault` as it is, or gives its first fault.
  * Statuses: TAKEN; NO_COMPOUND. */
 uint32_t jalwedd_check(const uint8_t *datagram, size_t size, jalwedd_fault *fault);
 
-/* Tells what the reports of a datagram say of the source `ssrc`: of the blocks that name it, in their order, the one at
- * `index`, from 0 on. Ask until the status is not TAKEN; then `report` is left as it is.
+/* Gives what the reports of a datagram say about the source `ssrc`: of the blocks about it, in their order, the one at
+ * `index`, from 0 on. Go on until the status is not TAKEN; then `report` is left as it is.
  * Statuses: TAKEN; NO_COMPOUND; NO_BLOCK. */
 uint32_t jalwedd_about(const uint8_t *datagram, size_t size, uint32_t ssrc, uint32_t index, jalwedd_report *report);
 
-/* Tells of a datagram the part at `index`, from 0 on, of those of a kind, in their order: of its sender reports, of the
- * blocks of all its reports, of the items of all its source descriptions, and of the sources that its BYEs name. Ask
- * with 0, 1, .. until the status is not TAKEN: then each was told once. What is written to is left as it is then.
+/* Each gives the part of one kind at `index`, from 0 on, in the order of the datagram: of its sender reports, of the
+ * blocks of all its reports, of the items of all its source descriptions, and of the sources that its BYEs name. Go on
+ * with 0, 1, .. until the status is not TAKEN: then each was given once. The output is left as it is then.
  * Statuses: TAKEN; NO_COMPOUND; NO_PART. */
 uint32_t jalwedd_sender(const uint8_t *datagram, size_t size, uint32_t index, jalwedd_sender_info *sender);
 uint32_t jalwedd_block(const uint8_t *datagram, size_t size, uint32_t index, jalwedd_report *report);
@@ -369,7 +371,7 @@ uint32_t jalwedd_goodbye(const uint8_t *datagram, size_t size, uint32_t index, j
 
 /* The round-trip time by a report, in 1/65,536 of a second and modulo 2^32: `arrival` is the middle 32 bits of the NTP
  * timestamp of the moment at which it came, (uint32_t)(jalwedd_ntp_of(ntp_base, now) >> 16). A report whose lsr is 0
- * tells none; with a coarse remote clock the result may be negative: cast it to int32_t. */
+ * gives none; with a coarse remote clock the result may be negative: cast it to int32_t. */
 uint32_t jalwedd_round_trip(uint32_t arrival, uint32_t lsr, uint32_t dlsr);
 
 /* The NTP timestamp of the moment `now` (section 4), in a session whose moment 0 has the timestamp `ntp_base`. */
