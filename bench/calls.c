@@ -1,28 +1,28 @@
-/* One kind of call of jalwedd.h, again and again: prints the nanoseconds of a call, the median of all batches, and a
- * digest of what was answered. (bench/calls)
+/* Repeats one kind of call of jalwedd.h: prints the nanoseconds per call, the median of all batches, and a digest of
+ * the answers. (bench/calls)
  *
  *     calls CALL SHAPE SOURCES [BATCHES]
  *
- * SHAPE is how the SSRCs of the sources lie among each other: random, numbered or clusters, as in crates/rtcp_calls.
- * The table has room for SOURCES, from 1 to 1,024, and all of them come before anything is timed. CALL is one of these:
+ * SHAPE says how the SSRCs of the sources are distributed: random, numbered or clusters, as in crates/rtcp_calls. The
+ * table has room for SOURCES, from 1 to 1,024, and all of them come before anything is timed. CALL is one of these:
  *
- *     present      jalwedd_arrive_rtp of a packet of a source, of which one at random
- *     sessions     the same in 200 sessions, of which one at random
- *     absent       one of a random SSRC, which as good as never is that of a source
- *     own-rtp      one of the own SSRC, by a peer that used it before: it is refused
- *     own-rtcp     jalwedd_arrive_rtcp of a compound like that
+ *     present      jalwedd_arrive_rtp of a packet of a source chosen at random
+ *     sessions     the same in 200 sessions, one of them chosen at random
+ *     absent       one with a random SSRC, which is almost never that of a source
+ *     own-rtp      one with the participant's own SSRC, from a peer that used it before: it is refused
+ *     own-rtcp     jalwedd_arrive_rtcp of such a compound
  *     join         jalwedd_arrive_rtcp of a compound by which a source joins, after all had left
  *     rising       jalwedd_source, for each source of a listing
  *     falling      jalwedd_source of each SSRC, from the greatest to the least
  *     unordered    the same in no order
  *     drop         a jalwedd_tick that drops every other source
- *     tick         two sources describe themselves, each in its turn, and a jalwedd_tick finds that nobody was silent
- *                  for too long: 25 ms lie between two descriptions, so of a thousand sources the oldest was heard just
+ *     tick         two sources describe themselves, in rotation, and a jalwedd_tick finds that nobody was silent for
+ *                  too long: 25 ms lie between two descriptions, so of a thousand sources the oldest was heard just
  *                  under 25 seconds ago, which is as long as it may be silent
- *     lapse        the same where the two send RTP packets, so that the tick ends the sending of two others
+ *     lapse        the same, but the two send RTP packets, so that the tick ends the sending of two others
  *
- * Putting an SSRC and a sequence number into a packet is timed, too, and so is the digest. Under callgrind, two runs of
- * which BATCHES differs tell the instructions of a call. */
+ * The times include putting an SSRC and a sequence number into a packet, and the digest. Under callgrind, the
+ * difference between two invocations with different BATCHES gives the instructions per call. */
 #define _GNU_SOURCE
 #include "jalwedd.h"
 
@@ -57,7 +57,7 @@ static void expect(int holds, const char *what)
     }
 }
 
-/* The time by a clock that a virtual machine does not adjust. */
+/* The time by a clock that is not adjusted, which matters in a virtual machine. */
 static double nanoseconds(void)
 {
     struct timespec time;
@@ -180,7 +180,7 @@ static double absent(void)
     return (nanoseconds() - start) / BATCH;
 }
 
-/* The first time that a peer uses the own SSRC, this is changed. */
+/* The first time that a peer uses the participant's own SSRC, the SSRC is changed. */
 static double own_rtp(void)
 {
     come(step.ssrc, 1);
@@ -240,7 +240,7 @@ static double asked(void)
     return (nanoseconds() - start) / sources;
 }
 
-/* A tick just before sends what report is due. */
+/* A tick just before sends any report that is due. */
 static double drop(void)
 {
     now += SECOND;
@@ -260,7 +260,7 @@ static double drop(void)
     return spent;
 }
 
-/* The tick comes a little before the next description, so that the oldest moment that the last one saw is past. */
+/* The tick comes a little before the next description, so that the oldest moment that the previous one saw is past. */
 static double turns_of(void (*hear)(uint32_t source))
 {
     static uint32_t source = 0;
@@ -293,7 +293,7 @@ static double lapses(void)
 
 /* ---- A row */
 
-/* In a session with so much bandwidth that a source may be silent for 25 seconds, from the first report on. */
+/* In a session with enough bandwidth that a source may be silent for 25 seconds, from the first report on. */
 static void begin(const char *shape)
 {
     const jalwedd_config config = {.ssrc = 0x0badcafe, .capacity = sources, .limit = 1472, .sender_bw = 1 << 20,

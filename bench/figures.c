@@ -1,9 +1,9 @@
-/* What a participant's calls cost in a session of so many others: prints the nanoseconds of one call, the octets of the
- * reports, the octets that the participant takes on the heap, and the peak resident memory. Each round is a session of
- * its own. Calls are timed by the batch, over datagrams that are made before: of each batch the least of all rounds
- * counts, and of these the mean.
+/* What a participant's calls cost in a session with MEMBERS others: prints the nanoseconds per call, the octets of the
+ * reports, the octets that the participant takes on the heap, and the peak resident memory. Each round is a new
+ * session. Calls are timed in batches, over datagrams made beforehand: the result is the mean over the batches, each at
+ * its least of all rounds.
  *
- *     session MEMBERS ROUNDS      (bench/session builds it over the library, and over GStreamer's rtpsession) */
+ *     session MEMBERS ROUNDS      (bench/session builds it with the library, and with GStreamer's rtpsession) */
 #define _GNU_SOURCE
 #include "participant.h"
 
@@ -18,7 +18,7 @@ enum { MOST_MEMBERS = 1000, BATCHES = MOST_MEMBERS / BATCH, REPORTS = 4, MOST_BL
 enum call { NEW, RR, SR, RTP, TICK, TICK_SEND, AWAKE, AWAKE_SEND, CALLS };
 
 static const char *const NAMES[CALLS] = {"new", "rr", "sr", "rtp", "tick", "tick-send", "awake", "awake-send"};
-static double least[CALLS][BATCHES]; /* 0 where nothing was measured */
+static double least[CALLS][BATCHES]; /* 0 if nothing was measured */
 static size_t report_octets[2];
 static size_t heap;
 static uint32_t members;
@@ -94,7 +94,7 @@ static double mean(enum call call)
     return sum / batches;
 }
 
-/* Datagrams of all members in turn, whose SSRCs lie as if drawn at random. */
+/* Datagrams of all members, one after the other, with SSRCs spread as if drawn at random. */
 static void arrive(enum call call)
 {
     static struct datagram datagrams[BATCH];
@@ -109,7 +109,7 @@ static void arrive(enum call call)
     expect(participant_others() == members, "all members are known");
 }
 
-/* Counts where the first packet is as full as it may be: rtpsession ends each turn of all senders with the few left. */
+/* Counts only a full first packet: rtpsession ends each round over all senders with the few that are left. */
 static void report(int is_sending)
 {
     uint8_t octets[MOST_OCTETS];

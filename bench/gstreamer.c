@@ -1,4 +1,4 @@
-/* GStreamer's rtpsession as a participant, in GStreamer's harness and on its clock for tests. (bench/session) */
+/* GStreamer's rtpsession as a participant, in GStreamer's test harness and on its test clock. (bench/session) */
 #include "participant.h"
 
 #include <gst/check/gstharness.h>
@@ -9,7 +9,7 @@ static GstElement *session;
 static GstHarness *media, *control;
 static int has_reported;
 
-/* The thread that makes the reports waits by the clock: a tick is what it does between two waits. */
+/* The thread that makes the reports waits on the clock: a tick is what it does between two waits. */
 static GstClockReturn (*wait_of_clock)(GstClock *, GstClockEntry *, GstClockTimeDiff *);
 static double woken, asleep;
 
@@ -21,7 +21,7 @@ static GstClockReturn timed_wait(GstClock *clock, GstClockEntry *entry, GstClock
     return result;
 }
 
-/* What is made once for all participants: the clock, and the plugin is loaded. */
+/* Once for all participants: makes the clock, and loads the plugin. */
 static void prepare(void)
 {
     gst_init(NULL, NULL);
@@ -90,7 +90,7 @@ size_t participant_report(uint8_t octets[MOST_OCTETS], struct tick *tick)
     return size;
 }
 
-/* Its own source is among them from its first report on. */
+/* Its own source is one of them from its first report on. */
 uint32_t participant_others(void)
 {
     GObject *inner;

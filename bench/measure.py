@@ -1,5 +1,5 @@
 #!/usr/bin/env python3
-"""Prints the processor time a line, the least of three runs, and the peak memory of `PROGRAM check` over a
+"""Prints the processor time per line, the least of three repetitions, and the peak memory of `PROGRAM check` over a
 file of lines.
 usage: bench/measure.py PROGRAM FILE NAME"""
 import os
@@ -20,7 +20,7 @@ def processor_seconds(command, path):
 
 
 def peak_megabytes(command, path):
-    """The most memory that was resident, read from the system after all lines were sent and before the input ends."""
+    """The peak resident memory, read from the system after all lines were sent and before the input ends."""
     with open(path, "rb") as lines, open(os.devnull, "w") as nothing:
         running = subprocess.Popen(command, stdin=subprocess.PIPE, stdout=nothing)
         while piece := lines.read(1 << 20):

@@ -19,16 +19,16 @@ enum port { RTP_PORT, RTCP_PORT };
 void participant_begin(void);
 void participant_end(void);
 
-/* Takes up to BATCH datagrams that arrive at a port. Returns the nanoseconds of all. */
+/* Takes up to BATCH datagrams that arrive at a port. Returns the nanoseconds for all of them. */
 double participant_arrive(enum port port, const struct datagram *datagrams, size_t count);
 
-/* The nanoseconds of a tick, and those of it without the switch to a thread of its own. */
+/* The nanoseconds of a tick, and of the same tick without the switch to the reporting thread. */
 struct tick {
     double spent;
     double awake;
 };
 
-/* Ticks whenever it is time to, until a report goes out. Returns its size, and what that tick took. */
+/* Ticks whenever a tick is due, until a report goes out. Returns its size, and the time of that tick. */
 size_t participant_report(uint8_t octets[MOST_OCTETS], struct tick *tick);
 
 /* How many others it knows. */

@@ -14,7 +14,7 @@ static uint32_t random_word(void)
     return ((uint32_t)random() << 16) ^ (uint32_t)random();
 }
 
-/* Of a session of 64,000 bits a second, as rtpsession takes it to be, with reports of at most 31 blocks, as it makes. */
+/* In a session of 64,000 bits a second, the default of rtpsession, with reports of at most 31 blocks, like its own. */
 void participant_begin(void)
 {
     const jalwedd_config config = {.ssrc = random_word(), .capacity = 1024, .limit = 804, .sender_bw = 100,

@@ -4,7 +4,7 @@
 small: a receiver report and an SDES with a CNAME of one octet, 20 octets.
 blocks: a sender report with 31 blocks, and an SDES.
 mixed: SR, RR, SDES and BYE, about 1,400 octets.
-damaged: the lines of the three others in turn, with one octet changed at random in each.
+damaged: lines of the three others, one after the other, with one octet changed at random in each.
 """
 import random
 import sys
