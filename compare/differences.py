@@ -1,5 +1,5 @@
-"""Holds `rtcp replay` against the plain model: whether they differ over a session, what is needed of it for a
-difference, and what kinds of answers there are."""
+"""Compares `rtcp replay` with the plain model: whether they differ over a session, which lines a difference needs, and
+what kinds of answers there are."""
 import collections
 import re
 import shlex

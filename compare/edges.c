@@ -1,5 +1,5 @@
-/* Calls of the library at their edges: empty handles, handles that were freed, lengths of 0 and of 65,535, sizes that
- * nothing has, memory that is refused, and what a refused call leaves. Ends with 0, or says the line that does not hold.
+/* Edge cases of the library's calls: empty and freed handles, lengths of 0 and of 65,535, impossible sizes, memory that
+ * is refused, and the state after a refused call. Ends with 0, or prints the line of the test that fails.
  * (compare/embedding) */
 #define _GNU_SOURCE
 #include "jalwedd.h"

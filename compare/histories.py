@@ -1,4 +1,4 @@
-"""Sessions made at random: command lines and lines of `rtcp replay`."""
+"""Random sessions: command lines and lines of `rtcp replay`."""
 import random
 
 import decoder

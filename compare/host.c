@@ -1,8 +1,8 @@
-/* A host in C that plays `rtcp replay`: it is given the options, reads events, a line each, and writes the answers of
- * the library behind jalwedd.h. It takes options and lines that are right, and does not look for faults of text; where
- * the configuration is refused it writes the status. Of a refused RTP datagram the library does not say the fault.
- * With `sources` each answer, refused or not, also says whether others changed and how many entries there are, and a
- * line for each source that the library tells of follows it.
+/* A host in C that acts as `rtcp replay`: it takes the options, reads events, one per line, and writes the answers of
+ * the library. It expects well-formed options and lines, and does not look for faults of text; if the configuration is
+ * refused it writes the status. For a refused RTP datagram the library does not give the fault.
+ * With `sources` each answer, refused or not, also says whether others changed and how many entries there are, and is
+ * followed by a line for each source that the library lists.
  * usage: host replay|sources OPTION.. < EVENTS        (compare/embedding) */
 #include "jalwedd.h"
 

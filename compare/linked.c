@@ -1,6 +1,6 @@
-/* A host that is linked with the package: that the library is of the header's version, that each status has words of its
- * own, and that it takes its memory where jalwedd_memory says, as much as the header says, and gives it back. It ends
- * with status 0 where all of that holds. */
+/* A host linked with the package. It tests that the library has the header's version, that each status has a text of
+ * its own, and that the library takes its memory where jalwedd_memory says, as much as the header says, and gives it
+ * back. Ends with status 0 if all of this holds. */
 #include <jalwedd.h>
 #include <stdio.h>
 #include <string.h>

@@ -1,7 +1,7 @@
-"""Hostile datagrams, grown from good ones by some changes: cuts, joins, and wrong lengths, counts, paddings,
-versions, types and octets. Some changes keep a datagram whole, so that a part of what is made stays acceptable.
+"""Hostile datagrams, derived from good ones by mutations: cuts, joins, and wrong lengths, counts, paddings, versions,
+types and octets. Some mutations keep a datagram well formed, so that some of the results stay acceptable.
 
-Everything is drawn from the `rng` that is given, so a seed makes the same datagrams again."""
+Everything is drawn from the given `rng`, so a seed reproduces the same datagrams."""
 import functools
 from pathlib import Path
 

@@ -1,9 +1,9 @@
 #!/usr/bin/env python3
 """A plain model of `rtcp replay`, written from docs/PROTOCOL.md and docs/FORMATS.md alone.
 
-It keeps all that happened in lists and works out what it needs from these. Failed reads and writes, want of memory and
-the text of a command line that is not understood are not modelled. With `sources` in place of `replay` each answer also
-says whether others changed and how many entries there are, and a line for each source follows it.
+It keeps all that happened in lists and computes what it needs from these. Failed reads and writes, lack of memory and
+the text of a command line that is not understood are not modelled. With `sources` instead of `replay` each answer also
+says whether others changed and how many entries there are, and is followed by a line for each source.
 
 usage: compare/participant.py [replay | sources] OPTION VALUE ... < LINES
        compare/participant.py --self-test"""

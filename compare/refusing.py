@@ -1,4 +1,4 @@
-"""A malloc that refuses one request of one program, put before that of the C library. It needs a C compiler."""
+"""A malloc that refuses one allocation of one program, preloaded before that of the C library. Needs a C compiler."""
 import os
 import subprocess
 from pathlib import Path

@@ -1,4 +1,4 @@
-"""What stands between `rtcp listen` and the other side of a session: it passes datagrams on, and keeps what it saw."""
+"""A relay between `rtcp listen` and the other side of a session: it forwards datagrams, and records what it saw."""
 import collections
 import re
 import socket

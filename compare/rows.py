@@ -1,4 +1,4 @@
-"""Sessions worked by hand, of a participant 000000aa with the CNAME `a`, and what it answers to each."""
+"""Sessions worked by hand, for a participant 000000aa with the CNAME `a`, and its answers to each."""
 
 PLAIN = ["--ssrc", "000000aa", "--cname", "a"]
 TOOL = PLAIN + ["--tool", "t"]

@@ -1,5 +1,5 @@
-"""Sends RTP at an even pace, but holds back while much of it waits to be received, and a sender report each second,
-until it is ended. usage: compare/sender.py RTP-PORT RTCP-PORT"""
+"""Sends RTP at an even pace, pausing while much of it is still unreceived, and a sender report each second, until it is
+killed. usage: compare/sender.py RTP-PORT RTCP-PORT"""
 import socket
 import struct
 import sys

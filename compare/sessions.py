@@ -1,7 +1,7 @@
-"""Hostile sessions, grown from parts of the sample sessions and of histories made at random, by some changes: lines
-that are dropped, doubled, exchanged or put in, other moments, words and datagrams, other options.
+"""Hostile sessions, derived from parts of the sample sessions and of random histories, by mutations: lines that are
+dropped, doubled, exchanged or inserted, other moments, words and datagrams, other options.
 
-Everything is drawn from a seed and a number, so these make the same session again."""
+Everything is drawn from a seed and a number, so these reproduce the same session."""
 import functools
 import random
 import re

@@ -1,6 +1,6 @@
-/* The heap and the stack of small hosts: what jalwedd_new asks of the heap at a capacity of 1, 20, 100 and 1,024, that
- * no other call asks for any, that 5,000 sessions of 20 others stand beside each other, and that a thread with a stack of
- * 32 KB begins a session, takes what comes, reports and leaves. Ends with 0, or says the line that does not hold.
+/* The heap and the stack of small hosts: how much jalwedd_new allocates at a capacity of 1, 20, 100 and 1,024, that no
+ * other call allocates, that 5,000 sessions of 20 others exist side by side, and that a thread with a stack of 32 KB
+ * begins a session, takes datagrams, reports and leaves. Ends with 0, or prints the line of the test that fails.
  * (compare/embedding) */
 #include "jalwedd.h"
 

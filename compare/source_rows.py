@@ -1,4 +1,4 @@
-"""Sessions worked by hand, of the participant of compare/rows.py, and what is told of the others after each answer."""
+"""Sessions worked by hand, for the participant of compare/rows.py, and the listing of the others after each answer."""
 from rows import (BYE, FIRST_CHANGE, LEFT, PLAIN, R, REPORT, REPORT_ON_9, REPORT_SENT, SENDER_REPORT, leave, named, ok,
                   tick)
 

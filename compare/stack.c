@@ -1,5 +1,5 @@
-/* Measures the stack that calls of the library take: each kind runs on a stack of its own that was painted before, over
- * a session of 1,000 others. Prints the octets of each, and ends with 0 where they are as the header says.
+/* Measures the stack that calls of the library take: each kind of call is made on its own stack, painted beforehand, in
+ * a session of 1,000 others. Prints the octets for each, and ends with 0 if they are within the header's limit.
  * (compare/embedding) */
 #define _XOPEN_SOURCE 700
 #include "jalwedd.h"

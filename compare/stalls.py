@@ -1,4 +1,4 @@
-"""Watches for how long a process that wants to run has to wait, on each processor.
+"""Measures how long a runnable process has to wait, on each processor.
 usage: compare/stalls.py PROCESSOR      until standard input ends; prints the longest wait in milliseconds"""
 import os
 import select
