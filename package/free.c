@@ -1,5 +1,5 @@
-/* jalwedd_free as C has free: of NULL it does nothing. What is exported by the crate takes a reference, which is never
- * null, so package/build gives it another name, and this one stands before it. */
+/* jalwedd_free does nothing for NULL, as free does. The function that the crate exports takes a reference, which is
+ * never null, so package/build renames it, and this one calls it. */
 #include "jalwedd.h"
 
 uint32_t rattle_jalwedd_free(jalwedd_handle *handle);

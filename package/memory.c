@@ -1,13 +1,13 @@
-/* The memory of the library: malloc and free, unless jalwedd_memory gave others. jalwedd_new asks for two blocks, one of
- * 2,560 octets and one of 144 octets for each source of the capacity, aligned as malloc's are, and jalwedd_free gives
- * them back. No other call asks for any. A host without a heap that links libjalwedd.a may also have its own
- * rattle_alloc, rattle_realloc, rattle_dealloc and jalwedd_memory before it: then this file is left out. */
+/* The memory of the library: malloc and free, unless jalwedd_memory named others. jalwedd_new allocates two blocks, one
+ * of 2,560 octets and one of 144 octets for each source of the capacity, aligned as by malloc, and jalwedd_free frees
+ * them. No other call allocates. A host without a heap that links libjalwedd.a may instead put its own rattle_alloc,
+ * rattle_realloc, rattle_dealloc and jalwedd_memory before the archive: then this file is not linked. */
 #include "jalwedd.h"
 
 #include <stdlib.h>
 #include <string.h>
 
-/* A block, or `ok` 0 and any address that is not NULL. */
+/* A block; or `ok` is 0, and `at` any address that is not NULL. */
 struct rattle_block {
     uint8_t ok;
     void *at;
