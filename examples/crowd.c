@@ -1,24 +1,25 @@
-/* A crowd on a virtual clock: 10,000 participants of one process join within a second, stay, and then half of them
- * leave within a second. It shows how many reports and BYEs go out, and what part of the bandwidth for RTCP they take:
+/* A crowd on a virtual clock: 10,000 participants in one process join within a second, stay, and then half of them
+ * leave within a second. It shows how many reports and BYEs go out, and what part of the RTCP bandwidth they take:
  *
  * - in groups of at most 1,025, for which a table has room: ten groups of 1,000;
  * - all in one group, where each knows 1,024 others and reports as often as if there were no more.
  *
- * Beside each run is the same crowd without reconsideration, in arithmetic of this program's own: whoever has drawn an
- * interval sends at its end, and a BYE goes out at once. Each group is a session of 64,000 bits a second without RTP; a
- * datagram reaches all others of the group as it is sent, and none is lost. The same seed gives the same picture.
+ * Beside each is the same crowd without reconsideration, by this program's own arithmetic: a participant that has drawn
+ * an interval sends at its end, and a BYE goes out at once. Each group is a session of 64,000 bits a second without
+ * RTP; a datagram reaches all others of the group as it is sent, and none is lost. The same seed gives the same
+ * picture.
  *
- * After each run of the library, every window of 1 to 300 seconds is held against the laws that are proved of what the
+ * After each session of the library, every window of 1 to 300 seconds is held against the laws proved about what the
  * participants of a session send (crowd_windows.h). A window that breaks one is named with it, and the status is 1.
- * `crowd windows` does so of one group alone: without RTP, with some five who send it, and, where a table has room for
- * all, with every third sending it. Whoever sends RTP does so in turns of a minute.
+ * `crowd windows` does this for one group alone: without RTP, with some five who send it, and, if a table has room for
+ * all, with every third sending it. Those who send RTP send for a minute and then pause as long.
  *
  *     cc -std=c11 -O2 crowd.c crowd_svg.c crowd_windows.c -o crowd $(pkg-config --cflags --libs jalwedd) -lm
- *     crowd [PARTICIPANTS [SEED]] > crowd-10000.svg          the figures go to standard error
+ *     crowd [PARTICIPANTS [SEED]] > crowd-10000.svg          figures on standard error
  *     crowd windows [PARTICIPANTS [SEED]]
  *
- * A participant with room for 1,024 others takes 150 KB of heap, so 10,000 of them 1.5 GB. The picture takes half a
- * minute of one core, and `crowd windows` two minutes; with 1,000 participants that is 8 seconds.
+ * A participant with room for 1,024 others takes 150 KB of heap, so 10,000 of them take 1.5 GB. The picture takes half
+ * a minute of one core, and `crowd windows` two minutes, or 8 seconds with 1,000 participants.
  */
 #include "crowd_svg.h"
 #include "crowd_windows.h"
@@ -234,7 +235,7 @@ static void compare_members(struct crowd *crowd, struct participant *who, uint32
  * is told it, with the moment at which it came, when it acts next: then its table stays in the processor's cache for
  * many of them. */
 
-/* Goes by what a call told. */
+/* Acts on the step of a call. */
 static void take_step(struct crowd *crowd, struct participant *who)
 {
     const uint64_t host = who->leaves < who->rtp_due ? who->leaves : who->rtp_due;
@@ -261,7 +262,7 @@ static uint32_t tell(struct crowd *crowd, struct participant *who, const struct 
     return jalwedd_arrive_rtcp(&who->session, moment, came->from, word, octets, came->size, &who->step, unused);
 }
 
-/* Tells one the datagrams of the others of its group that it was not told so far. */
+/* Passes to a participant the datagrams of the others of its group that it has not been told yet. */
 static void catch_up(struct crowd *crowd, struct participant *who)
 {
     const struct group *group = &crowd->groups[who->group];
@@ -314,7 +315,7 @@ static uint32_t leave(struct crowd *crowd, struct participant *who, uint32_t wor
     return status;
 }
 
-/* Sends an RTP packet, of which the others are told the head alone. */
+/* Sends an RTP packet; the others are told only its head. */
 static uint32_t send_rtp(struct crowd *crowd, struct participant *who, uint8_t *octets)
 {
     const uint64_t moment = crowd->now - who->joins;
@@ -329,7 +330,7 @@ static uint32_t send_rtp(struct crowd *crowd, struct participant *who, uint8_t *
     return jalwedd_sent_rtp(&who->session, moment, timestamp, RATE * RTP_EACH, &who->step, octets);
 }
 
-/* Does what it is due for: its octets, if it hands out any, go to `octets`. */
+/* Does what is due for a participant; the compound, if it hands one out, goes to `octets`. */
 static uint32_t act(struct crowd *crowd, struct participant *who, uint8_t *octets)
 {
     if (who->phase == AWAY)

@@ -1,5 +1,5 @@
-/* The picture of a crowd: a row for each run, with the seconds after the join, those after the leave, and the share of
- * the bandwidth in the whole run. */
+/* The picture of a crowd: a row for each session, with the seconds after the join, those after the leave, and the share
+ * of the bandwidth over the whole session. */
 #include "crowd_svg.h"
 
 #include <math.h>

@@ -1,4 +1,4 @@
-/* The courses of a crowd's runs, and their picture. */
+/* What a crowd sent in each of its sessions, second by second, and the picture of it. */
 #ifndef CROWD_SVG_H
 #define CROWD_SVG_H
 

@@ -1,6 +1,6 @@
-/* The laws of a session's windows, by one sweep for each width: the window moves on over all that was sent, and is
- * tested after each compound that comes into it or goes out of it. So whatever a window of this width can hold is
- * tested, wherever it begins. For counts alone, windows that begin at a report would do, since no other holds more; but
+/* The laws about a session's windows, tested by one sweep for each width: the window moves over all that was sent, and
+ * is tested after each compound that enters or leaves it. So everything that a window of this width can hold is tested,
+ * wherever it begins. For counts alone, windows that begin at a report would suffice, since no other holds more; but
  * one more report in a window may also be one that counted fewer members, and then more is allowed. */
 #include "crowd_windows.h"
 

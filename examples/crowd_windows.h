@@ -1,5 +1,5 @@
-/* What the participants of a session send in windows of time, held against what crates/rtcp_session proves of that: the
- * laws `windows_hold_their_intervals`, `windows_keep_to_the_share` and `crowds_do_not_flood`. */
+/* What the participants of a session send in windows of time, held against what crates/rtcp_session proves about it:
+ * the laws `windows_hold_their_intervals`, `windows_keep_to_the_share` and `crowds_do_not_flood`. */
 #ifndef CROWD_WINDOWS_H
 #define CROWD_WINDOWS_H
 

@@ -1,6 +1,6 @@
 /* A player that sends a stream of silence and takes part in its RTP session: two UDP sockets, `poll`, and the library.
- * It prints each second who is there, how their packets come, and what they report of its own. It leaves with a BYE at
- * ctrl-C.
+ * Each second it prints the sources, how their packets are received, and what they report about its own. At ctrl-C it
+ * leaves with a BYE.
  *
  *     player SEED RTP-PORT PEER-RTP-PORT      on 127.0.0.1, with RTCP at the ports one above
  */
@@ -21,7 +21,7 @@
 
 enum { PACKET = 160, PACKET_TIME = 20000, SECOND = 1000000, MOST_OCTETS = 65535, CNAME = 1, NOTES = 32 };
 
-/* What a source says that the library does not keep. */
+/* What a source says and the library does not keep. */
 struct note {
     uint32_t ssrc;
     char cname[256];
@@ -51,7 +51,7 @@ static void stop(int signal)
     is_over = 1;
 }
 
-/* A word for a draw; a player in use takes it from the system (getrandom). */
+/* A word for a draw; a real player takes it from the system (getrandom). */
 static uint32_t random_word(void)
 {
     return ((uint32_t)random() << 16) ^ (uint32_t)random();
@@ -120,7 +120,7 @@ static struct note *found_note(struct player *player, uint32_t ssrc)
     return NULL;
 }
 
-/* The note of a source: where there is none yet and no room, that of the oldest is given up. */
+/* The note of a source; if there is none yet and no room, the oldest note is given up. */
 static struct note *note_of(struct player *player, uint32_t ssrc)
 {
     struct note *note = found_note(player, ssrc);
@@ -147,7 +147,7 @@ static void take_cnames(struct player *player, const uint8_t *datagram, size_t s
             note_cname(note_of(player, item.ssrc), datagram + item.offset, item.size);
 }
 
-/* How the stream comes to others. */
+/* How the stream is received by others. */
 static void take_reports(struct player *player, uint64_t now, const uint8_t *datagram, size_t size)
 {
     jalwedd_report report;
@@ -165,7 +165,7 @@ static void print_report(const struct note *note)
     printf("; reports loss %.1f %%", report->fraction / 2.56);
     if (report->lsr == 0)
         return;
-    /* below 0 where the other's clock is coarser than the way is long */
+    /* may be negative if the other's clock is coarser than the round trip */
     const int32_t trip = (int32_t)jalwedd_round_trip(note->arrival, report->lsr, report->dlsr);
     printf(", round trip %.2f ms", trip > 0 ? trip / 65.536 : 0.0);
 }
@@ -211,7 +211,7 @@ static void receive(struct player *player, int from, uint64_t now, uint8_t *octe
     if (from == player->rtp) {
         jalwedd_arrive_rtp(&player->session, now, number, random_word(), datagram, (size_t)size, &player->step, octets);
     } else {
-        /* first: the reports name the SSRC of now, which the call may change */
+        /* first: the reports name the present SSRC, which the call may change */
         take_reports(player, now, datagram, (size_t)size);
         take_cnames(player, datagram, (size_t)size);
         jalwedd_arrive_rtcp(&player->session, now, number, random_word(), datagram, (size_t)size, &player->step,

@@ -1,16 +1,16 @@
 /* A conference server: 200 sessions of 5 to 20 members on a virtual clock, with a participant in each. The server keeps
- * no table of its own. Where a call tells that others changed, it lists the sources again, and the changes between the
+ * no table of its own. When a step has `others_changed`, it lists the sources again, and the role changes between the
  * two listings say who joined, left, timed out, began to send or stopped. The members lose packets, fall silent, and
  * take the server's SSRC; in some sessions a flood of invented SSRCs fills the table.
  *
- * Each second of each session, what the server lists and counts is compared with what docs/PROTOCOL.md says that it has
- * to be (server_rules.c), by the datagrams that came (server_members.c). The first difference ends the program with
+ * Each second of each session, the server's listing and counts are compared with what docs/PROTOCOL.md requires
+ * (server_rules.c), given the datagrams that came (server_members.c). The first difference ends the program with
  * status 1. The same seed gives the same sessions.
  *
  *     cc -std=c11 -O2 server.c server_members.c server_rules.c -o server $(pkg-config --cflags --libs jalwedd)
- *     server [SEED [SESSION]]         prints what changes in one of them
+ *     server [SEED [SESSION]]         prints the role changes in that session
  *
- * The time that a listing takes goes to standard error. The whole takes some three seconds of one core.
+ * The time that a listing takes is printed on standard error. The whole takes some three seconds of one core.
  */
 #include "server_rules.h"
 
@@ -129,7 +129,7 @@ static enum event event_of(const jalwedd_role_change *change)
     return change->is == JALWEDD_SENDER ? BEGAN : STOPPED;
 }
 
-/* Lists the sources again, and goes by what changed since they were listed before. */
+/* Lists the sources again, and acts on what changed since the previous listing. */
 static void take_changes(struct session *session)
 {
     const struct listing before = session->listing;
@@ -144,7 +144,7 @@ static void take_changes(struct session *session)
     }
 }
 
-/* Goes by what a call told. A compound that it hands out would go to all members here. */
+/* Acts on the step of a call. A compound that it hands out would go to all members here. */
 static void take_step(struct session *session)
 {
     const bool was_full = session->is_full;
@@ -182,7 +182,7 @@ static void tick(struct session *session)
     compare(session, "others changed", session->step.others_changed, session->known.others_changed);
 }
 
-/* Tells the participant what came, if anything. */
+/* Passes what came to the participant, if anything did. */
 static void hear(struct session *session)
 {
     static uint8_t octets[JALWEDD_OCTETS];
@@ -197,7 +197,7 @@ static void hear(struct session *session)
     compare(session, "others changed", session->step.others_changed, session->known.others_changed);
 }
 
-/* In each fourth session the server says something as each minute begins: a packet a second, for ten seconds. */
+/* In each fourth session the server speaks as each minute begins: a packet a second, for ten seconds. */
 static void speak(struct session *session)
 {
     static uint8_t octets[JALWEDD_OCTETS];
@@ -261,8 +261,8 @@ static void compare_all(struct session *session)
     compare(session, "entries", step->entries, known->count);
 }
 
-/* One second: what comes in it, and what the participant is to be asked. The sessions go side by side, a second at a
- * time: nothing goes from one to another. */
+/* One second: the datagrams that come in it, and the calls that are due. The sessions advance side by side, a second at
+ * a time: nothing goes from one to another. */
 static void run_second(struct session *session, uint64_t end)
 {
     const struct members *members = &session->members;
@@ -332,7 +332,7 @@ static struct session *begin_all(uint64_t seed, uint32_t shown)
     return all;
 }
 
-/* The participants leave. From then on they know nobody. */
+/* The participants leave. From then on they list nobody. */
 static void end_all(struct session *all)
 {
     static uint8_t octets[JALWEDD_OCTETS];

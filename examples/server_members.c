@@ -2,7 +2,7 @@
 
 #include <string.h>
 
-/* Members act at whole hundredths of a second, so now and then a datagram comes just at a horizon of a check. */
+/* Members act at whole hundredths of a second, so sometimes a datagram comes exactly at a horizon of a check. */
 enum { HUNDREDTH = SECOND / 100, UNITS = RATE / 25, FLOOD_PEER = 0 };
 
 uint32_t random_word(uint64_t *state)
@@ -33,7 +33,7 @@ static void put(struct datagram *datagram, uint32_t word)
     datagram->size += 4;
 }
 
-/* A head alone: nobody here looks at a payload. */
+/* A head alone: nothing here reads a payload. */
 static void write_packet(struct datagram *datagram)
 {
     put(datagram, 0x80000000u | datagram->sequence);

@@ -1,4 +1,4 @@
-/* The members of one session of a conference, on a virtual clock: which datagram comes when. */
+/* The members of one session of a conference, on a virtual clock: the datagrams that they send, and when. */
 #ifndef SERVER_MEMBERS_H
 #define SERVER_MEMBERS_H
 

@@ -1,5 +1,5 @@
-/* What a participant has to know of the members of its session, by docs/PROTOCOL.md alone and from what they send: who
- * is there, and what changes. */
+/* What a participant must know about the members of its session, by docs/PROTOCOL.md alone and from what they send: the
+ * sources, and what changes. */
 #ifndef SERVER_RULES_H
 #define SERVER_RULES_H
 
@@ -8,7 +8,7 @@
 
 enum { ROOM = 32, MOST_CHANGES = 8 };   /* in the table, and of the own SSRC */
 
-/* What happens to the others; FULL is that the table becomes full. Who joins by a packet sends as well. */
+/* What happens to the others; FULL is that the table becomes full. A source that joins by a packet sends as well. */
 enum event { JOINED, LEFT, TIMED_OUT, BEGAN, STOPPED, FULL, EVENTS };
 
 /* A source that is present. */
@@ -33,8 +33,8 @@ struct known {
     uint32_t tally[EVENTS];             /* how often each happened */
 };
 
-/* A datagram came. The status that the call has to have. `word` is the one that the participant was given for a new
- * SSRC: no other source has it. */
+/* A datagram came. Returns the status that the call must have. `word` is the one that was passed to the participant for
+ * a new SSRC: no other source has it. */
 uint32_t know_datagram(struct known *known, uint64_t now, const struct datagram *datagram, uint32_t word);
 
 /* The participant sent a packet. */
