@@ -1,5 +1,6 @@
-//! Links libjalwedd.a of a package that `package/build FOLDER` made: that in the folder JALWEDD_PREFIX, else
-//! the one that pkg-config knows. It makes none itself, as that may begin with a proof of many minutes.
+//! Links libjalwedd.a of a package made by `package/build FOLDER`: the one in the folder JALWEDD_PREFIX, or
+//! otherwise the one that pkg-config finds. It builds no package itself, as that may take a proof of many
+//! minutes.
 
 use std::env;
 use std::fs;

@@ -1,17 +1,17 @@
-//! What a call tells.
+//! The result of a call.
 
 use crate::moment::Moment;
 use crate::raw::Room;
 use crate::sys;
 
-/// How a participant stands after a call, whether or not that was refused.
+/// The state of a participant after a call, whether or not the call was refused.
 #[derive(Clone, Copy, Debug, PartialEq, Eq, Hash)]
 pub struct Step {
     /// When to call [`Participant::tick`](crate::Participant::tick), or `None` once the participant has left.
     /// It may lie before the moment of the call: then tick at once.
     pub next_tick: Option<Moment>,
-    /// How many members the session has, the participant included (RFC 3550, 6.2.1). After a leave that waits
-    /// for a tick, the participant and one for each BYE packet that came since (6.3.7). 0 once it has left.
+    /// How many members the session has, the participant included (RFC 3550, 6.2.1). In the backoff after a
+    /// leave, the participant and one for each BYE packet that came since (6.3.7). 0 once it has left.
     pub members: u32,
     /// How many of the members send RTP packets (RFC 3550, 6.3): 0 from a leave on.
     pub senders: u32,
@@ -21,16 +21,16 @@ pub struct Step {
     pub changed: bool,
     /// How many places of the table are taken, as [`Participant::entries`](crate::Participant::entries) says.
     pub entries: u32,
-    /// Whether the call changed who of the others is a member or who of them sends, if only for a moment:
-    /// then [`Participant::sources`](crate::Participant::sources) lists them anew. If not, each has the role
+    /// Whether the call changed which other sources are members or which of them send, if only for a moment:
+    /// list them again with [`Participant::sources`](crate::Participant::sources). If not, each has the role
     /// that it had.
     pub others_changed: bool,
 }
 
-/// What a call tells that was not refused.
+/// The result of a call that was not refused.
 #[derive(Clone, Copy, Debug, PartialEq, Eq, Hash)]
 pub struct Answer<'a> {
-    /// How the participant stands now.
+    /// The state of the participant now.
     pub step: Step,
     /// What to send, if anything.
     pub out: Option<Out<'a>>,

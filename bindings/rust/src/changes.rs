@@ -12,11 +12,11 @@ use core::iter::FusedIterator;
 ///
 /// A listing is what [`Participant::sources`](crate::Participant::sources) gives. Both are copied.
 ///
-/// A source that said goodbye is listed until a tick that comes 5 seconds or more after that, or one that
-/// finds that it was silent for too long before. So a host that lists after each call whose
-/// [`Step::others_changed`](crate::Step::others_changed) is set learns that it left by a BYE, and one that
-/// lists more seldom may learn that it was silent. One that came and went between two listings is not told.
-/// The listing of a participant that leaves is empty, and says nothing of the others.
+/// A source that said goodbye is listed until a tick 5 seconds or more after that, or until an earlier tick
+/// finds it silent for too long. So a host that lists after each call whose
+/// [`Step::others_changed`](crate::Step::others_changed) is set sees that it left by a BYE, and one that
+/// lists less often may take it for silent. A source that came and went between two listings is not given.
+/// The listing of a participant that leaves is empty, and says nothing about the others.
 ///
 /// # Errors
 ///
@@ -55,7 +55,7 @@ pub struct Changes {
 }
 
 impl Changes {
-    /// The change of least SSRC of those that are left, or the status where none is.
+    /// The remaining change with the lowest SSRC, or the status if there is none.
     fn ask(&self) -> Result<sys::jalwedd_role_change, u32> {
         raw::change(&self.before, &self.after, self.from)
     }
@@ -80,11 +80,11 @@ impl fmt::Debug for Changes {
     }
 }
 
-/// What part a source takes in a session (RFC 3550, 6.2.1, 6.3).
+/// The role of a source in a session (RFC 3550, 6.2.1, 6.3).
 #[derive(Clone, Copy, Debug, PartialEq, Eq, Hash)]
 #[non_exhaustive]
 pub enum Role {
-    /// None: it is not known, not yet valid, or it left.
+    /// Away: it is not known, not yet valid, or it left.
     Away,
     /// It is a member, and does not send RTP packets.
     Member,
@@ -105,7 +105,7 @@ impl Role {
     }
 }
 
-/// A source whose role is another one than before.
+/// A source whose role differs from before.
 #[derive(Clone, Copy, Debug, PartialEq, Eq, Hash)]
 pub struct Change {
     /// Its SSRC.
@@ -114,7 +114,7 @@ pub struct Change {
     pub was: Role,
     /// Its role now.
     pub is: Role,
-    /// Whether it said goodbye, as far as is known of it now.
+    /// Whether it said goodbye, by the later listing.
     pub has_left: bool,
 }
 

@@ -23,13 +23,13 @@ pub struct Clock {
 }
 
 impl Clock {
-    /// Starts at moment 0, and reads the time of day beside it. The participant begins then.
+    /// Starts at moment 0, and reads the time of day together with it. The participant begins then.
     pub fn start() -> Clock {
         let since_1970 = SystemTime::now().duration_since(UNIX_EPOCH).unwrap_or_default();
         Clock { begin: Instant::now(), ntp_base: ntp_of_unix(since_1970) }
     }
 
-    /// The moment of now, by a clock that never goes back (`Instant`).
+    /// The present moment, by a monotonic clock (`Instant`).
     pub fn now(&self) -> Moment {
         self.begin.elapsed().into()
     }
@@ -42,7 +42,7 @@ impl Clock {
     }
 }
 
-/// The NTP timestamp of so long after 1970. Its seconds are modulo 2^32: they begin anew in 2036.
+/// The NTP timestamp of a time after 1970. Its seconds are modulo 2^32: they begin again in 2036.
 fn ntp_of_unix(since_1970: Duration) -> u64 {
     let fraction = (u64::from(since_1970.subsec_nanos()) << 32) / 1_000_000_000;
     since_1970.as_secs().wrapping_add(NTP_TO_UNIX) << 32 | fraction

@@ -1,11 +1,11 @@
-//! What a participant begins with.
+//! The configuration of a participant.
 
 use crate::errors::TextTooLong;
 use crate::sys;
 use core::fmt;
 
-/// A session as the host knows it before it begins. [`Participant::new`](crate::Participant::new) refuses a
-/// value that is out of its range.
+/// The session and the participant, as the host configures them.
+/// [`Participant::new`](crate::Participant::new) refuses a value that is out of its range.
 #[derive(Clone, Copy, Debug, PartialEq, Eq, Hash)]
 pub struct Config {
     /// The NTP timestamp of moment 0 (RFC 3550, section 4): seconds since 1900 in the upper 32 bits, their
@@ -16,13 +16,13 @@ pub struct Config {
     /// How many other sources are kept track of, 1 to 1,024. The participant takes 144 octets of memory for
     /// each.
     pub capacity: u32,
-    /// The most octets of a compound, without the headers of UDP and IP: 576 to 1,472, a multiple of 4.
+    /// The maximum size of a compound in octets, without UDP and IP headers: 576 to 1,472, a multiple of 4.
     pub limit: u32,
-    /// The bandwidth for the RTCP of senders, in octets a second, 16 to 2^30 (RFC 3556): usually 1.25 per
-    /// cent of the session's.
+    /// The RTCP bandwidth for senders, in octets a second, 16 to 2^30 (RFC 3556): usually 1.25 per cent of
+    /// the session bandwidth.
     pub sender_bw: u32,
-    /// The bandwidth for the RTCP of the other members, in octets a second, 16 to 2^30 (RFC 3556): usually
-    /// 3.75 per cent of the session's.
+    /// The RTCP bandwidth for the other members, in octets a second, 16 to 2^30 (RFC 3556): usually 3.75 per
+    /// cent of the session bandwidth.
     pub receiver_bw: u32,
     /// The units a second of the clock of RTP timestamps, 1 to 2^20 (RFC 3550, 5.1): 8,000 for PCMU.
     pub rate: u32,
@@ -35,7 +35,7 @@ impl Config {
     }
 }
 
-/// What an [`Item`] tells (RFC 3550, 6.5).
+/// What an [`Item`] is (RFC 3550, 6.5).
 #[derive(Clone, Copy, Debug, PartialEq, Eq, Hash)]
 pub enum ItemKind {
     /// NAME: the user's name (6.5.2).
@@ -54,7 +54,7 @@ pub enum ItemKind {
     Priv = 8,
 }
 
-/// What a participant tells of itself beside its CNAME, one in every third report (RFC 3550, 6.5).
+/// What a participant says about itself besides its CNAME, one in every third report (RFC 3550, 6.5).
 #[derive(Clone, Copy)]
 #[repr(transparent)]
 pub struct Item(sys::jalwedd_item);

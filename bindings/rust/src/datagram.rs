@@ -6,7 +6,7 @@ use crate::{raw, sys};
 use core::iter::FusedIterator;
 use core::time::Duration;
 
-/// Tells whether a datagram is an RTCP compound (RFC 3550, 6.1, A.2).
+/// Accepts a datagram that is an RTCP compound (RFC 3550, 6.1, A.2).
 ///
 /// # Errors
 ///
@@ -16,11 +16,11 @@ pub fn check(datagram: &[u8]) -> Result<(), Fault> {
         .map_err(|fault| Fault { offset: fault.offset as usize, reason: FaultReason::of(fault.reason) })
 }
 
-/// What the reports of an RTCP datagram say of the source `ssrc`: the blocks that name it, in their order
+/// What the reports of an RTCP datagram say about the source `ssrc`: the blocks about it, in their order
 /// (RFC 3550, 6.4.1).
 ///
-/// With [`Participant::ssrc`](crate::Participant::ssrc) it is how others receive the host's stream. A
-/// participant does not keep that.
+/// With [`Participant::ssrc`](crate::Participant::ssrc) this is how others receive the host's stream, which a
+/// participant does not keep.
 ///
 /// # Errors
 ///
@@ -50,22 +50,22 @@ impl Iterator for Reports<'_> {
 
 impl FusedIterator for Reports<'_> {}
 
-/// What a report says of one source, in a report block (RFC 3550, 6.4.1).
+/// What a report says about one source, in a report block (RFC 3550, 6.4.1).
 #[derive(Clone, Copy, Debug, PartialEq, Eq, Hash)]
 pub struct Report {
     /// The SSRC of the source that sent the report.
     pub reporter: u32,
-    /// The SSRC of the source that it speaks of.
+    /// The SSRC of the source that the block is about.
     pub ssrc: u32,
-    /// The part of its packets that was lost since the last report, in 1/256: 0 to 255.
+    /// The fraction of its packets lost since the previous report, in 1/256: 0 to 255.
     pub fraction: u32,
-    /// How many were lost since the beginning, from -2^23 to 2^23 - 1: negative where packets came twice.
+    /// How many were lost since the beginning, from -2^23 to 2^23 - 1: negative if packets were repeated.
     pub lost: i32,
     /// The highest sequence number in the low 16 bits, and above them how often it wrapped.
     pub highest: u32,
-    /// The jitter of their arrival, in units of their RTP timestamps.
+    /// The interarrival jitter, in units of its RTP timestamps.
     pub jitter: u32,
-    /// The middle 32 bits of the NTP timestamp of the source's last sender report, or 0 where none came.
+    /// The middle 32 bits of the NTP timestamp of the source's latest sender report, or 0 if none came.
     pub lsr: u32,
     /// The time since that report came, in 1/65,536 of a second, or 0.
     pub dlsr: u32,
@@ -85,11 +85,11 @@ impl Report {
         }
     }
 
-    /// The time to the reporter and back (RFC 3550, 6.4.1), where the report came at the NTP timestamp
-    /// `arrival` ([`ntp_of`] the moment).
+    /// The time to the reporter and back (RFC 3550, 6.4.1), if the report came at the NTP timestamp `arrival`
+    /// ([`ntp_of`] the moment).
     ///
-    /// `None` where its [`lsr`](Report::lsr) is 0, and zero where the reporter's clock is coarser than the
-    /// trip.
+    /// `None` if its [`lsr`](Report::lsr) is 0, and zero if the result is negative because the reporter's
+    /// clock is coarse.
     pub fn round_trip(&self, arrival: u64) -> Option<Duration> {
         let trip = round_trip((arrival >> 16) as u32, self.lsr, self.dlsr) as i32;
         let nanoseconds = u64::from(trip.max(0).unsigned_abs()) * 1_000_000_000 / 65_536;
@@ -100,8 +100,8 @@ impl Report {
 /// The round-trip time by a report, in 1/65,536 of a second and modulo 2^32 (RFC 3550, 6.4.1).
 ///
 /// `arrival` is the middle 32 bits of the NTP timestamp at which it came; `lsr` and `dlsr` are the report's.
-/// It may be below 0, read as an `i32`, where the reporter's clock is coarse. [`Report::round_trip`] handles
-/// that, and an `lsr` of 0, which tells nothing.
+/// Read as an `i32`, the result may be negative if the reporter's clock is coarse. [`Report::round_trip`]
+/// handles that, and an `lsr` of 0, which gives no round trip.
 pub fn round_trip(arrival: u32, lsr: u32, dlsr: u32) -> u32 {
     sys::jalwedd_round_trip(arrival, lsr, dlsr)
 }

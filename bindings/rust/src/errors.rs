@@ -42,8 +42,8 @@ macro_rules! error {
 }
 
 error! {
-    /// Why a participant does not begin: the first of these that applies, but that a CNAME of more than 255
-    /// octets and more than 7 items come before the others.
+    /// Why a participant does not begin: the first of these that applies, except that a CNAME of more than
+    /// 255 octets and more than 7 items come before the others.
     NewError, "status" {
         /// C1: the CNAME has 0 octets, or more than 255.
         Cname = sys::JALWEDD_CNAME, "the CNAME does not have 1 to 255 octets";
@@ -69,19 +69,19 @@ error! {
     Refusal, "status" {
         /// E1: the participant has left the session (RFC 3550, 6.3.7).
         Left = sys::JALWEDD_LEFT, "the participant has left the session";
-        /// E2: the moment lies before that of the last call that was taken.
+        /// E2: the moment lies before that of the latest call that was taken.
         Backwards = sys::JALWEDD_BACKWARDS, "the moment lies before that of the last call";
         /// E3: the moment lies beyond [`Moment::LAST`](crate::Moment::LAST).
         TooFar = sys::JALWEDD_TOO_FAR, "the moment lies beyond 2^50 microseconds";
-        /// E4: a session has fewer than 2^40 calls, and so many were taken.
+        /// E4: a session has fewer than 2^40 calls, and 2^40 - 1 were taken.
         TooMany = sys::JALWEDD_TOO_MANY, "the session has had too many calls";
         /// E5: the RTCP datagram is not a compound (RFC 3550, 6.1): [`check`](crate::check) says why.
         NoCompound = sys::JALWEDD_NO_COMPOUND, "the datagram is not an RTCP compound";
         /// E6: the RTP datagram is not a packet (RFC 3550, 5.1): it is cut short, or its version, payload
         /// type, extension or padding is wrong.
         NoRtp = sys::JALWEDD_NO_RTP, "the datagram is not an RTP packet";
-        /// E7: the datagram names the participant's own SSRC, and does not change it any more (RFC 3550,
-        /// 8.2), as in a loop.
+        /// E7: the datagram names the participant's own SSRC, and may not change it (again) (RFC 3550, 8.2),
+        /// as in a loop.
         OwnSsrc = sys::JALWEDD_OWN_SSRC, "the datagram names the participant's own SSRC";
         /// The RTP datagram has more than 65,535 octets, which UDP does not carry. This comes before all
         /// others.
@@ -102,9 +102,9 @@ error! {
         FirstPadding = 4, "the first packet is padded";
         /// F5: the packet runs past the end of the datagram.
         Length = 5, "the packet runs past the end of the datagram";
-        /// F6: the number of padding octets is 0, no multiple of 4, or too large.
+        /// F6: the number of padding octets is 0, not a multiple of 4, or too large.
         Padding = 6, "the padding is 0 octets, no multiple of 4, or too large";
-        /// F7: the body does not have the size that its type and count ask for.
+        /// F7: the body does not have the size that its type and count require.
         Body = 7, "the body does not have the size of its type and count";
         /// F8: an SDES item runs past its packet.
         Item = 8, "an SDES item runs past its packet";
@@ -132,7 +132,7 @@ impl fmt::Display for Fault {
 
 impl Error for Fault {}
 
-/// A listing does not have its sources by rising SSRC, each once.
+/// A listing whose sources are not in order of rising SSRC, each once.
 #[derive(Clone, Copy, Debug, PartialEq, Eq, Hash)]
 pub struct NotRising;
 

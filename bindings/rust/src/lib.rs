@@ -1,9 +1,9 @@
 //! The control half of an RTP participant: RTCP by RFC 3550, in the AVP profile of RFC 3551.
 //!
-//! A [`Participant`] is told what arrives, what the host sends and what time it is, and returns the reports
-//! and BYEs to send, who is in the session and how their packets arrive, and when to call it next. It opens
-//! no socket, reads no clock, draws no random number and starts no thread. It allocates in
-//! [`Participant::new`] alone.
+//! Pass to a [`Participant`] the datagrams that arrive, the packets that the host sends and the time; it
+//! returns the reports and BYEs to send, the sources of the session and how their packets are received, and
+//! when to call it next. It opens no socket, reads no clock, draws no random number and starts no thread. It
+//! allocates only in [`Participant::new`].
 //!
 //! # The loop of a host
 //!
@@ -16,7 +16,7 @@
 //!
 //! fn main() -> Result<(), Box<dyn std::error::Error>> {
 //!     let (rtcp, others) = (UdpSocket::bind("127.0.0.1:6005")?, "127.0.0.1:6015");
-//!     let word = || RandomState::new().hash_one(0) as u32; // a host in use asks `getrandom`
+//!     let word = || RandomState::new().hash_one(0) as u32; // a real host calls `getrandom`
 //!     let send = |answer: Result<Answer<'_>, Refusal>| match answer {
 //!         Ok(Answer { out: Some(out), .. }) => rtcp.send_to(out.octets, others).map(drop),
 //!         _ => Ok(()),
@@ -25,10 +25,10 @@
 //!     let config = Config {
 //!         ntp_base: clock.ntp_base(),
 //!         ssrc: word(),
-//!         capacity: 1024,   // other participants to keep track of
-//!         limit: 1472,      // octets of a compound
-//!         sender_bw: 100,   // octets a second: for a session of 64,000 bits a second, of which
-//!         receiver_bw: 300, // 5 per cent are for RTCP, a quarter of them for senders
+//!         capacity: 1024,   // how many other sources to keep track of
+//!         limit: 1472,      // maximum octets of a compound
+//!         sender_bw: 100,   // octets a second, in a session of 64,000 bits a second:
+//!         receiver_bw: 300, // 5 per cent is for RTCP, a quarter of that for senders
 //!         rate: 8000,       // units a second of the RTP timestamps
 //!     };
 //!     let mut session = Participant::new(&config, b"player@example.com", &[], word())?;
@@ -44,7 +44,7 @@
 //!             send(session.arrive_rtcp(now, peer, word(), &datagram[..size]))?;
 //!         }
 //!         if next <= now {
-//!             send(session.tick(now, word(), word()))?; // also where datagrams never cease
+//!             send(session.tick(now, word(), word()))?; // even if datagrams keep coming
 //!         }
 //!         if end.take_if(|end| *end <= now).is_some() {
 //!             send(session.leave(now, word()))?; // `next_tick` is `None` once the BYE has gone out
@@ -56,34 +56,34 @@
 //!
 //! With media, the host also calls [`arrive_rtp`](Participant::arrive_rtp) for each RTP datagram that comes,
 //! and [`sent_rtp`](Participant::sent_rtp) for each RTP packet that it sends.
-//! [`sources`](Participant::sources) lists who is there, and [`changes`] says who joined or left from one
-//! listing to the next. [`about`] reads from a datagram how others receive the host's stream, [`items`] their
-//! names, and [`senders`] what lip sync needs. The example `player` has all of it.
+//! [`sources`](Participant::sources) lists the sources, and [`changes`] says who joined or left between two
+//! listings. [`about`] reads from a datagram how others receive the host's stream, [`items`] their names, and
+//! [`senders`] what lip sync needs. The example `player` shows all of this.
 //!
 //! # Arguments
 //!
 //! - A [`Moment`] counts microseconds since the session began. Moments never go back.
-//! - A `word` is 32 random bits, used once. Random words keep the reports of many participants apart.
-//! - A `peer` is a number for the address and port that a datagram came from, another one for each. For IPv4
-//!   it is the address and the port themselves, as above; for IPv6 it is their position in a list that the
-//!   host keeps.
+//! - A `word` is 32 random bits, used once. Random words spread the reports of many participants.
+//! - A `peer` is a number for the address and port that a datagram came from, different for each. For IPv4 it
+//!   is the address and the port themselves, as above; for IPv6 it is their index in a list that the host
+//!   keeps.
 //!
 //! Whatever a datagram holds, whatever the numbers are, and in whatever order the calls come, each call
-//! returns. A call that is refused ([`Refusal`]) changes nothing, and hands out nothing.
+//! returns. A call that is refused ([`Refusal`]) changes nothing and hands out nothing.
 //!
 //! # Building
 //!
-//! The crate links the library of a package, which `package/build FOLDER` makes at the top of the Jalwedd
-//! repository. Its build script takes the package in the folder `JALWEDD_PREFIX`, an absolute path, or else
-//! the one that pkg-config knows. The package is for x86-64 or for 64-bit ARM, whichever it was made for, and
-//! has the crate's version or a later one with the same first two numbers. The library is written in Rattle,
-//! and proved to meet its contracts. This crate is plain Rust, which nothing proves: its tests were run on
-//! x86-64, and all of its `unsafe` is in two files, `raw.rs` and `sys.rs`.
+//! The crate links the library of a package, made by `package/build FOLDER` at the top of the Jalwedd
+//! repository. The build script uses the package in the folder `JALWEDD_PREFIX`, an absolute path, or
+//! otherwise the one that pkg-config finds. The package is for x86-64 or for 64-bit ARM, and must have the
+//! crate's version or a later one with the same first two numbers. The library is written in Rattle, and
+//! proved to meet its contracts. This crate is plain Rust and is not proved: its tests were run on x86-64,
+//! and all of its `unsafe` is in two files, `raw.rs` and `sys.rs`.
 //!
-//! The feature `std`, on by default, adds `Clock`. Without it the crate needs `core` and `alloc`. The library
-//! takes its memory by `malloc` and `free`, or by functions that [`sys::jalwedd_memory`] names. A program
-//! without a C library defines `rattle_alloc`, `rattle_realloc` and `rattle_dealloc` in their place, in the
-//! form of the package's `share/jalwedd/memory.c`.
+//! The feature `std`, on by default, adds `Clock`. Without it the crate needs only `core` and `alloc`. The
+//! library allocates with `malloc` and `free`, or with the functions passed to [`sys::jalwedd_memory`]. A
+//! program without a C library defines `rattle_alloc`, `rattle_realloc` and `rattle_dealloc` instead, as in
+//! the package's `share/jalwedd/memory.c`.
 #![no_std]
 #![deny(unsafe_code)]
 #![warn(missing_debug_implementations, missing_docs)]

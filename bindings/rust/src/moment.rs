@@ -27,7 +27,7 @@ impl Moment {
     /// The last moment at which a participant takes a call: 2^50 microseconds.
     pub const LAST: Moment = Moment(1 << 50);
 
-    /// The moment that lies so many microseconds after the beginning of the session.
+    /// The moment that many microseconds after the beginning of the session.
     pub const fn from_micros(micros: u64) -> Moment {
         Moment(micros)
     }
@@ -42,29 +42,29 @@ impl Moment {
         (micros != sys::JALWEDD_NEVER).then_some(Moment(micros))
     }
 
-    /// The time from an earlier moment to this one, or zero where that is not earlier. From the moment of
-    /// now, it is how long to wait for this one.
+    /// The time from an earlier moment to this one, or zero if that is not earlier. From the present moment,
+    /// it is how long to wait for this one.
     pub const fn saturating_duration_since(self, earlier: Moment) -> Duration {
         Duration::from_micros(self.0.saturating_sub(earlier.0))
     }
 
-    /// The moment that lies so much later, in whole microseconds, rounded down: 2^64 - 1 microseconds where
-    /// that is too far for 64 bits.
+    /// The moment that much later, in whole microseconds, rounded down: 2^64 - 1 microseconds if that does
+    /// not fit 64 bits.
     pub fn saturating_add(self, time: Duration) -> Moment {
         Moment(self.0.saturating_add(Moment::from(time).0))
     }
 }
 
 impl From<Duration> for Moment {
-    /// The moment that lies so long after the beginning of the session, rounded down to whole microseconds:
-    /// 2^64 - 1 of them where that is too far for 64 bits.
+    /// The moment that long after the beginning of the session, rounded down to whole microseconds: 2^64 - 1
+    /// of them if that does not fit 64 bits.
     fn from(since_begin: Duration) -> Moment {
         Moment(u64::try_from(since_begin.as_micros()).unwrap_or(u64::MAX))
     }
 }
 
 impl From<Moment> for Duration {
-    /// The time from the beginning of the session to the moment. Nothing is lost.
+    /// The time from the beginning of the session to the moment, exactly.
     fn from(moment: Moment) -> Duration {
         Duration::from_micros(moment.0)
     }

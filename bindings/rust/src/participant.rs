@@ -66,9 +66,9 @@ pub struct Participant {
 impl Participant {
     /// Begins to take part in a session, at [`Moment::ZERO`].
     ///
-    /// `cname` is its CNAME, 1 to 255 octets, `user@host` for instance (RFC 3550, 6.5.1). `items` are at most
-    /// 7 that it tells beside that. `word` is random, for the draw of the first interval (6.3.1). Nothing
-    /// goes out before the first [`tick`](Participant::tick).
+    /// `cname` is its CNAME, 1 to 255 octets, for example `user@host` (RFC 3550, 6.5.1). `items` are at most
+    /// 7 further items to send. `word` is random, for the draw of the first interval (6.3.1). No report goes
+    /// out before the first [`tick`](Participant::tick).
     ///
     /// The library allocates two blocks here, of 2,560 octets and of 144 for each source of
     /// [`Config::capacity`], and none in any other call.
@@ -86,13 +86,13 @@ impl Participant {
 
     /// Tells the participant that an RTCP datagram came at the moment `now` (RFC 3550, 6.1).
     ///
-    /// `datagram` is what UDP carried. `peer` is a number for the address and port that it came from, another
-    /// one for each ([how](crate#arguments)). `word` is random, for a new SSRC should the datagram name the
-    /// participant's own (8.2).
+    /// `datagram` is the UDP payload. `peer` is a number for the address and port that it came from,
+    /// different for each ([how](crate#arguments)). `word` is random, for a new SSRC should the datagram name
+    /// the participant's own (8.2).
     ///
-    /// It hands out nothing, or, where it changes the SSRC, the BYE of the old one: media goes on under the
-    /// new one. Reports about the host's stream are read before this call ([`about`](crate::about)), since
-    /// they name the SSRC that the participant has before it.
+    /// It hands out nothing, or, if it changes the SSRC, the BYE of the old one if anything was sent under
+    /// it: media goes on under the new one. Read its reports about the host's stream before this call
+    /// ([`about`](crate::about)), since they name the SSRC that the participant has before it.
     ///
     /// # Errors
     ///
@@ -130,8 +130,8 @@ impl Participant {
     }
 
     /// Tells the participant that the host sent an RTP packet at the moment `now`, with the RTP timestamp
-    /// `timestamp` and `payload` octets of payload, without padding (RFC 3550, 6.3.8, 6.4.1). It hands out
-    /// nothing.
+    /// `timestamp` and `payload` octets of payload, not counting padding (RFC 3550, 6.3.8, 6.4.1). It hands
+    /// out nothing.
     ///
     /// # Errors
     ///
@@ -142,12 +142,12 @@ impl Participant {
         self.answer(status)
     }
 
-    /// Asks what is due at the moment `now`, and drops sources that are silent for too long (RFC 3550, 6.3.5,
-    /// 6.3.6).
+    /// Hands out what is due at the moment `now`, and drops sources that were silent for too long (RFC 3550,
+    /// 6.3.5, 6.3.6).
     ///
     /// Call it at [`next_tick`](Participant::next_tick); a call before that hands out nothing. Both words are
-    /// random: the first is for the draw that decides whether what is due goes out now or is put off (6.3.6,
-    /// 6.3.7), the second for the draw of the interval after it.
+    /// random: the first is for the draw that decides whether a report or BYE goes out now or is put off
+    /// (6.3.6, 6.3.7), the second for the draw of the interval after a report.
     ///
     /// It hands out nothing, a report, or, after a [`leave`](Participant::leave), the BYE.
     ///
@@ -163,8 +163,8 @@ impl Participant {
     /// Leaves the session at the moment `now` (RFC 3550, 6.3.7).
     ///
     /// The BYE is handed out at once, or, in a session of more than 50 members, by a later tick: go on until
-    /// [`next_tick`](Participant::next_tick) is `None`. One that sent nothing leaves silently. `word` is
-    /// random, for the draw of when that tick is due.
+    /// [`next_tick`](Participant::next_tick) is `None`. A participant that sent nothing leaves silently.
+    /// `word` is random, for the draw of when that tick is due.
     ///
     /// # Errors
     ///

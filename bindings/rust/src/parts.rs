@@ -32,8 +32,8 @@ pub fn blocks(datagram: &[u8]) -> Result<Parts<'_, Report>, Fault> {
     Parts::of(datagram, |datagram, index| raw::block(datagram, index).map(|told| Report::of(&told)))
 }
 
-/// The SDES items of an RTCP datagram, in their order (RFC 3550, 6.5): CNAMEs, and what else sources tell of
-/// themselves.
+/// The SDES items of an RTCP datagram, in their order (RFC 3550, 6.5): CNAMEs, and what else sources say
+/// about themselves.
 ///
 /// # Errors
 ///
@@ -93,7 +93,7 @@ impl<T> fmt::Debug for Parts<'_, T> {
     }
 }
 
-/// What a sender report says of its sender (RFC 3550, 6.4.1).
+/// What a sender report says about its sender (RFC 3550, 6.4.1).
 #[derive(Clone, Copy, Debug, PartialEq, Eq, Hash)]
 pub struct SenderReport {
     /// The SSRC of the source that sent it.
@@ -103,13 +103,13 @@ pub struct SenderReport {
     pub ntp: u64,
     /// The same moment in units of the sender's RTP timestamps.
     pub rtp: u32,
-    /// How many RTP packets it sent up to then, modulo 2^32.
+    /// How many RTP packets it had sent by then, modulo 2^32.
     pub packets: u32,
-    /// How many octets their payloads have, without headers and padding, modulo 2^32.
+    /// How many payload octets they had, without headers and padding, modulo 2^32.
     pub octets: u32,
 }
 
-/// What a source says of itself (RFC 3550, 6.5).
+/// What a source says about itself (RFC 3550, 6.5).
 #[derive(Clone, Copy, Debug, PartialEq, Eq, Hash)]
 pub struct SdesItem<'a> {
     /// The SSRC of the source.
@@ -125,7 +125,7 @@ pub struct SdesItem<'a> {
 pub struct Goodbye<'a> {
     /// The SSRC of the source.
     pub ssrc: u32,
-    /// Why it leaves, at most 255 octets, where the BYE says so. It need not be UTF-8.
+    /// Why it leaves, at most 255 octets, if the BYE gives a reason. It need not be UTF-8.
     pub reason: Option<&'a [u8]>,
 }
 

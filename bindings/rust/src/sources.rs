@@ -1,4 +1,4 @@
-//! Who is there.
+//! The sources of a session.
 
 use crate::moment::Moment;
 use crate::raw::Handle;
@@ -6,8 +6,8 @@ use crate::sys;
 use core::fmt;
 use core::iter::FusedIterator;
 
-/// What is known of a source: of a member, of one that is not yet valid, or of one that left and is held for
-/// a while (RFC 3550, 6.2.1).
+/// What is known about a source: a member, one that is not yet valid, or one that left and is held for a
+/// while (RFC 3550, 6.2.1).
 #[derive(Clone, Copy, Debug, PartialEq, Eq, Hash)]
 pub struct SourceState {
     /// Its SSRC.
@@ -22,7 +22,7 @@ pub struct SourceState {
     pub heard: Moment,
     /// How its packets are received, if one was counted.
     pub reception: Option<Reception>,
-    /// Its last sender report, if one came.
+    /// Its latest sender report, if one came.
     pub told: Option<Told>,
 }
 
@@ -32,15 +32,15 @@ pub struct SourceState {
 pub struct Reception {
     /// How many packets were counted, late and repeated ones included.
     pub received: u64,
-    /// How many were lost: negative where packets came twice.
+    /// How many were lost: negative if packets were repeated.
     pub lost: i32,
     /// The highest sequence number in the low 16 bits, and above them how often it wrapped.
     pub highest: u32,
-    /// The jitter of their arrival, in units of their RTP timestamps ([`Config::rate`](crate::Config::rate)).
+    /// The interarrival jitter, in units of its RTP timestamps ([`Config::rate`](crate::Config::rate)).
     pub jitter: u32,
 }
 
-/// The last sender report of a source (RFC 3550, 6.4.1).
+/// The latest sender report of a source (RFC 3550, 6.4.1).
 #[derive(Clone, Copy, Debug, PartialEq, Eq, Hash)]
 pub struct Told {
     /// Its NTP timestamp: seconds since 1900 in the upper 32 bits, their fraction in the lower.

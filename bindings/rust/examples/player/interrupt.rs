@@ -1,4 +1,4 @@
-//! Ctrl-C, which std does not tell of.
+//! Ctrl-C, which std does not handle.
 
 use std::ffi::c_int;
 use std::sync::atomic::{AtomicBool, Ordering};
@@ -16,7 +16,7 @@ extern "C" fn note(_number: c_int) {
     CAME.store(true, Ordering::Relaxed);
 }
 
-/// From now on an interrupt ends nothing by itself, and `came` tells of it.
+/// From now on an interrupt does not end the process, and `came` reports it.
 pub fn catch() {
     // SAFETY: the declaration is C's, and the handler only stores to an atomic, as it may at any moment
     unsafe { signal(SIGINT, note) };

@@ -1,4 +1,4 @@
-//! The two UDP sockets: what comes, by a thread for each, and what is sent.
+//! The two UDP sockets: a thread for each receives, and the player sends.
 
 use jalwedd::{Answer, Refusal};
 use std::io;
@@ -9,7 +9,7 @@ use std::time::Duration;
 
 const MOST_OCTETS: usize = 65_535;
 
-/// How many datagrams are kept before the session has taken them: any more stay with the sockets.
+/// How many datagrams are queued before the session takes them: any more stay in the sockets.
 const KEPT: usize = 64;
 
 #[derive(Clone, Copy, PartialEq, Eq)]
@@ -21,7 +21,7 @@ pub enum Port {
 /// A datagram that came.
 pub struct Arrival {
     pub at: Port,
-    /// A number for where it came from, another one for each address and port.
+    /// A number for where it came from, different for each address and port.
     pub peer: u64,
     pub datagram: Vec<u8>,
 }
@@ -52,7 +52,7 @@ impl Link {
         self.arrivals.recv_timeout(time).ok()
     }
 
-    /// Sends an RTP packet. One that cannot be sent is lost, as others are on their way.
+    /// Sends an RTP packet. One that cannot be sent is lost, like those lost on the way.
     pub fn send_packet(&self, packet: &[u8]) {
         let _ = self.rtp.send_to(packet, self.to_rtp);
     }
@@ -65,7 +65,7 @@ impl Link {
     }
 }
 
-/// Hands on what comes at a socket, as long as there is a session.
+/// Passes on what comes at a socket, as long as there is a session.
 fn read(socket: &UdpSocket, at: Port, to_session: &SyncSender<Arrival>) {
     let mut room = [0; MOST_OCTETS];
     loop {

@@ -1,10 +1,11 @@
 //! A player that sends a stream of silence and takes part in its RTP session: two UDP sockets, a thread that
-//! reads each, and the participant. It prints each second who is there, how their packets come, and what they
-//! report of its own. It leaves with a BYE at ctrl-C. On 127.0.0.1, with RTCP at the ports one above:
+//! reads each, and the participant. Each second it prints the sources, how their packets are received, and
+//! what they report about its own. At ctrl-C it leaves with a BYE. On 127.0.0.1, with RTCP at the ports one
+//! above:
 //!
 //!     cargo run --example player SEED RTP-PORT PEER-RTP-PORT
 //!
-//! as `1 6004 6014` here and `2 6014 6004` in another terminal.
+//! for example with `1 6004 6014` here and `2 6014 6004` in another terminal.
 #![deny(unsafe_code)]
 
 #[allow(unsafe_code)]

@@ -1,4 +1,4 @@
-//! What sources say that the participant does not keep.
+//! What sources say and the participant does not keep.
 
 use jalwedd::{about, items, Fault, Report};
 use std::time::Duration;
@@ -8,7 +8,7 @@ const CNAME: u32 = 1;
 
 const MOST: usize = 32;
 
-/// What a source said last.
+/// The latest that a source said.
 pub struct Note {
     ssrc: u32,
     pub cname: String,
@@ -16,7 +16,7 @@ pub struct Note {
     pub report: Option<(Report, Option<Duration>)>,
 }
 
-/// Notes of at most 32 sources: further ones take the places of the oldest.
+/// Notes about at most 32 sources: further ones replace the oldest.
 #[derive(Default)]
 pub struct Notes {
     kept: Vec<Note>,

@@ -1,6 +1,6 @@
 //! Random words.
 
-/// Words for draws, by splitmix64 from a seed. A player in use takes each from the system (getrandom).
+/// Words for draws, by splitmix64 from a seed. A real player takes each from the system (getrandom).
 pub struct Words(pub u64);
 
 impl Words {
