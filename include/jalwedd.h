@@ -17,8 +17,8 @@
  * - Each pointer is valid, aligned, and not NULL, even if its size is 0: then any aligned address will do, such as that
  *   of the configuration. Only jalwedd_free accepts NULL.
  * - Each pointer leads to as many octets, items or sources as its size or count says. A datagram of more than 65,535
- *   octets, a CNAME of more than 255 and more than 7 items are not read: such a call is refused. So is a size of -1, as
- *   returned by recv. But jalwedd_change reads a listing as far as its SSRCs rise, whatever its count says.
+ *   octets, a CNAME of more than 255 and a list of more than 7 items are not read: such a call is refused. So is a size
+ *   of -1, as returned by recv. But jalwedd_change reads a listing as far as its SSRCs rise, whatever its count says.
  * - Output arguments (all that are not const) do not overlap each other or any input.
  * - One call at a time uses a handle. Several handles may be used side by side, by several threads too.
  * - The host does not change a handle's contents, and frees it before it goes out of scope. It may be moved, if the old
@@ -303,8 +303,8 @@ uint32_t jalwedd_tick(jalwedd_handle *handle, uint64_t now, uint32_t first_word,
                       jalwedd_step *step, uint8_t octets[JALWEDD_OCTETS]);
 
 /* Leaves the session at the moment `now` (6.3.7). The BYE is handed out at once, or, in a session of more than 50
- * members, by a later tick: go on until step.next is JALWEDD_NEVER. A participant that sent nothing leaves silently.
- * `word` is for the draw of when that tick is due.
+ * members, by a later tick: go on until step.next is JALWEDD_NEVER. A participant that sent nothing under its present
+ * SSRC leaves silently. `word` is for the draw of when that tick is due.
  * Hands out nothing, or the BYE.
  * Statuses: TAKEN; LEFT to TOO_MANY; IS_EMPTY. */
 uint32_t jalwedd_leave(jalwedd_handle *handle, uint64_t now, uint32_t word, jalwedd_step *step,

@@ -163,8 +163,8 @@ impl Participant {
     /// Leaves the session at the moment `now` (RFC 3550, 6.3.7).
     ///
     /// The BYE is handed out at once, or, in a session of more than 50 members, by a later tick: go on until
-    /// [`next_tick`](Participant::next_tick) is `None`. A participant that sent nothing leaves silently.
-    /// `word` is random, for the draw of when that tick is due.
+    /// [`next_tick`](Participant::next_tick) is `None`. A participant that sent nothing under its present
+    /// SSRC leaves silently. `word` is random, for the draw of when that tick is due.
     ///
     /// # Errors
     ///
