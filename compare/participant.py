@@ -589,8 +589,8 @@ def configuration(arguments):
     return options
 
 
-def answer(participant, line):
-    """The answer to a line, without its line feed. Its fault has no line number yet."""
+def call_of(line):
+    """The call that a line is, and its values. Its fault has no line number yet."""
     if len(line) > LONGEST_LINE:
         raise Fault("X1 LineTooLong")
     kind, *fields = line.split(b" ")
@@ -603,6 +603,12 @@ def answer(participant, line):
         if value is None:
             raise Fault("X5 Number" if form in NUMBERS else "X4 Hex")
         values.append(value)
+    return call, values
+
+
+def answer(participant, line):
+    """The answer to a line, without its line feed. Its fault has no line number yet."""
+    call, values = call_of(line)
     try:
         return "ok " + call(participant, *values)
     except Refusal as refusal:
