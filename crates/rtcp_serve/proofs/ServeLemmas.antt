@@ -49,6 +49,39 @@ called_on calls more x y z first second = record {
   failed_sends = omega (arith, how_many_joined is_failed_send more calls, first.failed_sends, second.failed_sends);
 }
 
+-- ---- Links that stay
+
+-- What is told moves neither the log of a link nor its counts.
+pub record Stays (y z : LinkValue) : Type 0 where
+  pub log : z.log ≡ y.log
+  pub failed_receives : z.failed_receives ≡ y.failed_receives
+  pub failed_sends : z.failed_sends ≡ y.failed_sends
+
+pub called_still : (calls : List Call) (x y z : LinkValue) → WereCalled calls x y → Stays y z → WereCalled calls x z
+called_still calls x y z called stays = record {
+  log = subst (GrowsBy calls x.log) (sym stays.log) called.log;
+  failed_receives = stays.failed_receives ∙ called.failed_receives;
+  failed_sends = stays.failed_sends ∙ called.failed_sends;
+}
+
+pub called_after : (calls : List Call) (x y z : LinkValue) → Stays x y → WereCalled calls y z → WereCalled calls x z
+called_after calls x y z stays called = record {
+  log = subst (λ log. GrowsBy calls log z.log) stays.log called.log;
+  failed_receives = omega (arith, stays.failed_receives, called.failed_receives);
+  failed_sends = omega (arith, stays.failed_sends, called.failed_sends);
+}
+
+pub room_still : (more : ℕ) (tally : Tally) (y z : LinkValue) → Stays y z → HasRoom more tally y → HasRoom more tally z
+room_still more tally y z stays room = record {
+  received = room.received;
+  refused = room.refused;
+  sent = room.sent;
+  send_failures = room.send_failures;
+  recv_failures = room.recv_failures;
+  failed_receives = omega (arith, stays.failed_receives, room.failed_receives);
+  failed_sends = omega (arith, stays.failed_sends, room.failed_sends);
+}
+
 -- ---- Standings
 
 joined_calls : (reader : Reader) (total : ℕ) (s : Standing) (more calls : List Call)
@@ -74,6 +107,11 @@ leads_on reader total calls more s t u x y z first second = record {
   reached = second.reached ∙ ap (λ t. after_calls reader total t more) first.reached ∙ sym (joined_calls reader total s more calls);
   called = called_on calls more x y z first.called second.called;
 }
+
+pub leads_after : (reader : Reader) (total : ℕ) (calls : List Call) (s t : Standing) (x y z : LinkValue) → Stays x y
+    → Leads reader total calls s t y z → Leads reader total calls s t x z
+leads_after reader total calls s t x y z stays leads =
+    record { fit = leads.fit; reached = leads.reached; called = called_after calls x y z stays leads.called }
 
 -- one call, where a session goes on from s as t
 pub leads_by : (reader : Reader) (total : ℕ) (call : Call) (s t : Standing) (x y : LinkValue) → going total s ≡ t → Fits call t.stage

@@ -3,6 +3,7 @@
 ghost use Rattle.std.specs.Prelude.{◌≡◌, ◌<◌, ◌-◌, ◌^◌, [], ◌∷◌, length, is_err};
 ghost use Rattle.rtcp_serve.specs.Links.{LinkValue, WereCalled, IsWithin, clock_read, port_heard, compound_sent, heard_in};
 
+use rtcp_engine::{Answer, Event};
 use thiserror::Error;
 
 /// One of the two ports of a session (RFC 3550, 11).
@@ -56,4 +57,12 @@ pub trait Link {
         requires { (value self.old).failed_sends < 2 ^ 64 - 1 }
         ensures { WereCalled (compound_sent bytes.now (is_err result) ∷ [])
             (value self.old) (value self.new) };
+
+    /// Is told what the participant was told, and what it answered, before the compound of the answer is sent, if it
+    /// has one. A link that lets nobody watch its session does nothing here.
+    fn told(&mut self, _event: &Event<'_>, _answer: &Answer)
+        ensures log { (value self.new).log ≡ (value self.old).log }
+        ensures receives { (value self.new).failed_receives ≡ (value self.old).failed_receives }
+        ensures sends { (value self.new).failed_sends ≡ (value self.old).failed_sends }
+    {}
 }

@@ -15,4 +15,5 @@ mod memory_link;
 mod reader;
 mod rows;
 mod session;
+mod watch;
 mod zeros;

@@ -16,7 +16,7 @@ use crate::link::{Link, Port, Received};
 use crate::serving::Cause;
 use crate::serving::tally::{Tally, is_limit};
 use rand_core::Rng;
-use rtcp_engine::{Answer, Participant};
+use rtcp_engine::{Answer, Event, Participant};
 use rtcp_members::MemberTable;
 
 /// How long a port is listened to in a turn, in microseconds.
@@ -59,6 +59,10 @@ fn hear<L: Link, T: MemberTable, R: Rng>(
             let (octets, _) = buf.split_at(count);
             let drawn = rng.next_u32();
             let answer = arrive(port, participant, tally.moment, peer, drawn, octets);
+            link.told(
+                &arrival_event(port, tally.moment, peer, drawn, octets),
+                &answer,
+            );
             tally.arrival(&answer);
             hand_over(link, tally, answer)?;
             Ok(())
@@ -86,6 +90,24 @@ fn arrive<T: MemberTable>(
     match port {
         Port::Rtcp => participant.arrive_rtcp(now, peer, word, octets),
         Port::Rtp => participant.arrive_rtp(now, peer, word, octets),
+    }
+}
+
+/// The event of a datagram that came to a port.
+fn arrival_event(port: Port, now: u64, peer: u64, w: u32, bytes: &[u8]) -> Event<'_> {
+    match port {
+        Port::Rtcp => Event::ArriveRtcp {
+            now,
+            peer,
+            w,
+            bytes,
+        },
+        Port::Rtp => Event::ArriveRtp {
+            now,
+            peer,
+            w,
+            bytes,
+        },
     }
 }
 
@@ -144,6 +166,12 @@ fn tick<L: Link, T: MemberTable, R: Rng>(
     let first = rng.next_u32();
     let second = rng.next_u32();
     let answer = participant.tick(tally.moment, first, second);
+    let event = Event::Tick {
+        now: tally.moment,
+        w1: first,
+        w2: second,
+    };
+    link.told(&event, &answer);
     hand_over(link, tally, answer)?;
     Ok(())
 }
@@ -227,6 +255,11 @@ fn take_leave<L: Link, T: MemberTable, R: Rng>(
 {
     let word = rng.next_u32();
     let answer = participant.leave(tally.moment, word);
+    let event = Event::Leave {
+        now: tally.moment,
+        w: word,
+    };
+    link.told(&event, &answer);
     hand_over(link, tally, answer)
 }
 

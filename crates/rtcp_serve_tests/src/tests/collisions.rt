@@ -2,6 +2,7 @@
 
 use super::log::Made;
 use super::memory_link::{Coming, MemoryLink};
+use super::reader::{reads, reads_with};
 use super::rows::{IDLE, is_sent};
 use super::session::{BYE, REPORT, named, participant, served};
 use super::*;
@@ -58,6 +59,10 @@ fn gives_up_with_a_bye(rt: HostRuntime) -> Result<(), Fail> {
             }
             _ => panic!(rt; "there are {} calls", link.log.calls.len()),
         }
+        assert_eq!(rt;
+            reads(&rt, rt.alloc(), &link, participant(&rt), 2),
+            end.cause
+        );
     }
     Ok(())
 }
@@ -113,6 +118,10 @@ fn leaves_with_another_bye(rt: HostRuntime) -> Result<(), Fail> {
         }
         _ => panic!(rt; "there are {} calls", link.log.calls.len()),
     }
+    assert_eq!(rt;
+        reads(&rt, rt.alloc(), &link, participant(&rt), 3),
+        end.cause
+    );
     Ok(())
 }
 
@@ -141,5 +150,8 @@ fn draws_in_order(rt: HostRuntime) -> Result<(), Fail> {
         let _ = words.next_u32();
     }
     assert_eq!(rt; given.next_u32(), words.next_u32());
+    let again = Pcg32::seed_from_u64(5);
+    let cause = reads_with(&rt, rt.alloc(), &link, participant(&rt), again, 2);
+    assert_eq!(rt; cause, end.cause);
     Ok(())
 }

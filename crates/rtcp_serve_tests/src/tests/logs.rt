@@ -2,7 +2,7 @@
 
 use super::log::Made;
 use super::memory_link::{Coming, MemoryLink};
-use super::reader::Reader;
+use super::reader::reads;
 use super::session::{participant, served};
 use super::*;
 
@@ -33,7 +33,7 @@ fn in_order(rt: HostRuntime) -> Result<(), Fail> {
         let (end, drawn) = served(&mut link, &mut sender(&rt), 5);
         assert_eq!(rt; drawn, 14);
         assert_eq!(rt; end.sent, 4);
-        Reader::new(link.log.calls.as_slice(), sender(&rt)).session(&rt, 5);
+        assert_eq!(rt; reads(&rt, rt.alloc(), &link, sender(&rt), 5), Cause::Done);
     }
     Ok(())
 }
@@ -69,7 +69,10 @@ fn backs_off(rt: HostRuntime) -> Result<(), Fail> {
     assert_eq!(rt; drawn, 52 * 2 + 51 + 1 + 2 * 2);
     assert!(rt; leaving.next().is_none());
     assert_eq!(rt; link.log.calls.len(), 54 * 4 + 2);
-    Reader::new(link.log.calls.as_slice(), participant(&rt)).session(&rt, 52);
+    assert_eq!(rt;
+        reads(&rt, rt.alloc(), &link, participant(&rt), 52),
+        Cause::Done
+    );
     Ok(())
 }
 

@@ -5,6 +5,8 @@ ghost use Rattle.rtcp_serve.specs.Links.{LinkValue, IsWithin};
 
 use super::log::{Log, Told};
 use super::session::named;
+use super::watch::Watch;
+use rtcp_engine::{Answer, Event};
 use rtcp_serve::{Link, LinkFault, Port, Received};
 use std::alloc::{AllocError, Global};
 
@@ -19,7 +21,7 @@ pub(crate) enum Coming {
     Failure,
 }
 
-/// A link that answers from lists, and keeps a log.
+/// A link that answers from lists, and keeps a log and what it is told.
 #[derive(Drop)]
 pub(crate) struct MemoryLink {
     /// The moments that the clock gives, the last one again once they are used up.
@@ -34,13 +36,14 @@ pub(crate) struct MemoryLink {
     failing: Vec<u64>,
     sends: u64,
     pub(crate) log: Log,
+    pub(crate) watch: Watch,
     failed_receives: u64,
     failed_sends: u64,
 }
 
 impl MemoryLink {
     /// A link that gives these moments, to which these come and then nothing, and which fails at the sends of
-    /// these numbers. Its log has room for so many calls.
+    /// these numbers. Its log has room for so many calls, and it keeps as many events.
     pub(crate) fn new(
         alloc: Global,
         moments: &[u64],
@@ -60,6 +63,7 @@ impl MemoryLink {
             failing: Vec::from_slice(alloc, failing)?,
             sends: 0,
             log: Log::new(alloc, room),
+            watch: Watch::new(alloc, room),
             failed_receives: 0,
             failed_sends: 0,
         })
@@ -116,6 +120,10 @@ impl Link for MemoryLink {
             return Err(LinkFault);
         }
         Ok(())
+    }
+
+    fn told(&mut self, event: &Event<'_>, answer: &Answer) {
+        self.watch.note(event, answer);
     }
 }
 

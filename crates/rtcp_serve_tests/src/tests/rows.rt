@@ -2,6 +2,7 @@
 
 use super::log::Made;
 use super::memory_link::{Coming, MemoryLink};
+use super::reader::reads;
 use super::session::{BYE, REPORT, participant, served};
 use super::*;
 
@@ -63,6 +64,11 @@ fn failed_send(rt: HostRuntime) -> Result<(), Fail> {
         }
         _ => panic!(rt; "there are {} calls", link.log.calls.len()),
     }
+    assert_eq!(rt;
+        reads(&rt, rt.alloc(), &link, participant(&rt), 2),
+        end.cause
+    );
+    assert_eq!(rt; link.watch.tellings.len(), 3);
     Ok(())
 }
 
@@ -87,6 +93,8 @@ fn failed_receives(rt: HostRuntime) -> Result<(), Fail> {
         assert_eq!(rt; drawn, words);
         assert!(rt; link.log.is_whole);
         assert_eq!(rt; link.log.calls.len(), calls);
+        let cause = reads(&rt, rt.alloc(), &link, participant(&rt), turns);
+        assert_eq!(rt; cause, want.cause);
     }
     Ok(())
 }
@@ -105,6 +113,11 @@ fn too_far(rt: HostRuntime) -> Result<(), Fail> {
     );
     assert_eq!(rt; drawn, 2);
     assert_eq!(rt; link.log.calls.len(), 4);
+    assert_eq!(rt;
+        reads(&rt, rt.alloc(), &link, participant(&rt), 100),
+        end.cause
+    );
+    assert_eq!(rt; link.watch.tellings.len(), 1);
     Ok(())
 }
 
@@ -162,6 +175,10 @@ fn later_row(rt: HostRuntime) -> Result<(), Fail> {
         }
     );
     assert_eq!(rt; link.log.calls.len(), 64 * 4 - 1);
+    assert_eq!(rt;
+        reads(&rt, rt.alloc(), &link, participant(&rt), 100),
+        end.cause
+    );
     Ok(())
 }
 
@@ -196,6 +213,12 @@ fn arrivals(rt: HostRuntime) -> Result<(), Fail> {
         .filter(|made| is_whole(made, &PACKET))
         .count();
     assert_eq!(rt; largest, 2);
+    assert_eq!(rt;
+        reads(&rt, rt.alloc(), &link, participant(&rt), 3),
+        end.cause
+    );
+    // Five datagrams, two of them refused, three ticks and the leave.
+    assert_eq!(rt; link.watch.tellings.len(), 9);
     Ok(())
 }
 

@@ -3,14 +3,15 @@ use Rattle.std.proofs.Common.{◌≡◌, Err, sym, ap, ◌∙◌, subst}
 use Rattle.std.proofs.lemmas.Result.{err_from_is_err_and}
 use Rattle.rtcp_serve.specs.Serving.{after_port, ended}
 use Rattle.rtcp_serve.specs.Sessions.{Reaches, ReachesBy}
-use Rattle.rtcp_serve.proofs.ServeLemmas.{came_as, comes_either_way, datagram_room, datagram_told, leads_on}
+use Rattle.rtcp_serve.proofs.ServeLemmas.{Stays, called_still, came_as, comes_either_way, datagram_room, datagram_told, leads_on}
 use Rattle.rtcp_serve.proofs.serving.turns.hear.Goals as goal
 
 pub returns-in_err-hand_over-in-Got-clause-leads : goal.returns-in_err-hand_over-in-Got-clause-leads
 returns-in_err-hand_over-in-Got-clause-leads g c = λ reader total s reads holds stage.
     let octets = c.split_at.result.0.now in
     let next = after_port c.args.port in
-    let called = came_as _ _ _ _ _ _ _ c.split_at.ensures.front c.in-Got.ensures.called in
+    let stays : Stays _ _ = record { log = c.told.ensures.log; failed_receives = c.told.ensures.receives; failed_sends = c.told.ensures.sends } in
+    let called = called_still _ _ _ _ (came_as _ _ _ _ _ _ _ c.split_at.ensures.front c.in-Got.ensures.called) stays in
     let answers = (c.arrive-answer.ensures reader reads).answer s.history holds.participant in
     let stands = (c.arrive-answer.ensures reader reads).stands s.history holds.participant in
     let (t, leads, held, at, turns, leaving) = datagram_told reader total c.args.port c.in-Got.peer octets s _ _ _ _ _ _ _ _ _ _ _ holds stage called c.next_u32-drawn.ensures c.datagram.ensures c.arrival.ensures answers stands in
@@ -22,13 +23,15 @@ returns-in_err-hand_over-in-Got-clause-leads g c = λ reader total s reads holds
 
 pub returns-in_err-hand_over-in-Got-clause-room : goal.returns-in_err-hand_over-in-Got-clause-room
 returns-in_err-hand_over-in-Got-clause-room g c = λ more room.
-    c.hand_over.ensures.room more (datagram_room more _ _ _ _ _ _ _ _ _ _ room c.datagram.ensures c.arrival.ensures c.in-Got.ensures.called)
+    let stays : Stays _ _ = record { log = c.told.ensures.log; failed_receives = c.told.ensures.receives; failed_sends = c.told.ensures.sends } in
+    c.hand_over.ensures.room more (datagram_room more _ _ _ _ _ _ _ _ _ _ room c.datagram.ensures c.arrival.ensures (called_still _ _ _ _ c.in-Got.ensures.called stays))
 
 pub returns-in_ok-hand_over-in-Got-clause-leads : goal.returns-in_ok-hand_over-in-Got-clause-leads
 returns-in_ok-hand_over-in-Got-clause-leads g c = λ reader total s reads holds stage.
     let octets = c.split_at.result.0.now in
     let next = after_port c.args.port in
-    let called = came_as _ _ _ _ _ _ _ c.split_at.ensures.front c.in-Got.ensures.called in
+    let stays : Stays _ _ = record { log = c.told.ensures.log; failed_receives = c.told.ensures.receives; failed_sends = c.told.ensures.sends } in
+    let called = called_still _ _ _ _ (came_as _ _ _ _ _ _ _ c.split_at.ensures.front c.in-Got.ensures.called) stays in
     let answers = (c.arrive-answer.ensures reader reads).answer s.history holds.participant in
     let stands = (c.arrive-answer.ensures reader reads).stands s.history holds.participant in
     let (t, leads, held, at, turns, leaving) = datagram_told reader total c.args.port c.in-Got.peer octets s _ _ _ _ _ _ _ _ _ _ _ holds stage called c.next_u32-drawn.ensures c.datagram.ensures c.arrival.ensures answers stands in
@@ -38,4 +41,5 @@ returns-in_ok-hand_over-in-Got-clause-leads g c = λ reader total s reads holds 
 
 pub returns-in_ok-hand_over-in-Got-clause-room : goal.returns-in_ok-hand_over-in-Got-clause-room
 returns-in_ok-hand_over-in-Got-clause-room g c = λ more room.
-    c.hand_over.ensures.room more (datagram_room more _ _ _ _ _ _ _ _ _ _ room c.datagram.ensures c.arrival.ensures c.in-Got.ensures.called)
+    let stays : Stays _ _ = record { log = c.told.ensures.log; failed_receives = c.told.ensures.receives; failed_sends = c.told.ensures.sends } in
+    c.hand_over.ensures.room more (datagram_room more _ _ _ _ _ _ _ _ _ _ room c.datagram.ensures c.arrival.ensures (called_still _ _ _ _ c.in-Got.ensures.called stays))

@@ -1,0 +1,134 @@
+//! What a link is told, as a test reads it.
+
+use rtcp_engine::{Answer, Event, Reply, Told};
+use rtcp_serve::Port;
+use std::alloc::{AllocError, Global};
+
+/// An event, with its moment first.
+#[derive(Drop, Debug, PartialEq, Eq)]
+pub(crate) enum Happening {
+    /// A datagram of these octets came to a port, from the peer of this number. A word was drawn for it.
+    Came(Port, u64, u64, u32, Vec<u8>),
+    /// The host sent an RTP packet, of this timestamp and so many octets.
+    SentRtp(u64, u32, u32),
+    /// A tick, with its two words.
+    Tick(u64, u32, u32),
+    /// The leave, with its word.
+    Leave(u64, u32),
+}
+
+/// An event that a participant was told, and what it answered, with the octets of the compound apart.
+#[derive(Drop, Debug, PartialEq, Eq)]
+pub(crate) struct Telling {
+    pub(crate) event: Happening,
+    pub(crate) reply: Reply,
+    pub(crate) octets: Vec<u8>,
+}
+
+/// What a link was told, in its order, as long as it fits the room that was reserved for it.
+#[derive(Drop)]
+pub(crate) struct Watch {
+    alloc: Global,
+    pub(crate) tellings: Vec<Telling>,
+    /// Whether all of it fitted.
+    pub(crate) is_whole: bool,
+}
+
+impl Watch {
+    /// A watch with room for so many events, and none where there is no memory for them.
+    pub(crate) fn new(alloc: Global, room: usize) -> Watch {
+        match Vec::with_capacity(alloc, room) {
+            Ok(tellings) => Watch {
+                alloc,
+                tellings,
+                is_whole: true,
+            },
+            Err(_) => Watch {
+                alloc,
+                tellings: Vec::new(alloc),
+                is_whole: false,
+            },
+        }
+    }
+
+    /// Notes an event with its answer, if it fits.
+    pub(crate) fn note(&mut self, event: &Event<'_>, answer: &Answer) {
+        match telling_of(self.alloc, event, answer) {
+            Ok(telling) => self.push(telling),
+            Err(_) => self.is_whole = false,
+        }
+    }
+
+    fn push(&mut self, telling: Telling) {
+        self.is_whole = self.is_whole
+            && self.tellings.len() < self.tellings.capacity()
+            && self.tellings.push(telling).is_ok();
+    }
+}
+
+/// An event with its answer, as it is noted.
+fn telling_of(alloc: Global, event: &Event<'_>, answer: &Answer) -> Result<Telling, AllocError> {
+    let event = happening_of(alloc, event)?;
+    let (reply, octets) = reply_of(alloc, answer)?;
+    Ok(Telling {
+        event,
+        reply,
+        octets,
+    })
+}
+
+/// An event, as it is noted.
+fn happening_of(alloc: Global, event: &Event<'_>) -> Result<Happening, AllocError> {
+    match *event {
+        Event::ArriveRtcp {
+            now,
+            peer,
+            w,
+            bytes,
+        } => {
+            let octets = Vec::from_slice(alloc, bytes)?;
+            Ok(Happening::Came(Port::Rtcp, now, peer, w, octets))
+        }
+        Event::ArriveRtp {
+            now,
+            peer,
+            w,
+            bytes,
+        } => {
+            let octets = Vec::from_slice(alloc, bytes)?;
+            Ok(Happening::Came(Port::Rtp, now, peer, w, octets))
+        }
+        Event::SentRtp {
+            now,
+            rtp_ts,
+            octets,
+        } => Ok(Happening::SentRtp(now, rtp_ts, octets)),
+        Event::Tick { now, w1, w2 } => Ok(Happening::Tick(now, w1, w2)),
+        Event::Leave { now, w } => Ok(Happening::Leave(now, w)),
+    }
+}
+
+/// An answer without its compound, and the octets of that.
+fn reply_of(alloc: Global, answer: &Answer) -> Result<(Reply, Vec<u8>), AllocError> {
+    let step = match answer {
+        Ok(step) => step,
+        Err(refusal) => return Ok((Err(*refusal), Vec::new(alloc))),
+    };
+    let (out, octets) = match &step.out {
+        Some(out) => (
+            Some(out.kind),
+            Vec::from_slice(alloc, out.bytes.as_slice())?,
+        ),
+        None => (None, Vec::new(alloc)),
+    };
+    let told = Told {
+        out,
+        members: step.members,
+        senders: step.senders,
+        entries: step.entries,
+        next: step.next,
+        changed: step.changed,
+        others_changed: step.others_changed,
+    };
+    Ok((Ok(told), octets))
+}
