@@ -10,6 +10,7 @@ mod tests;
 use mio::net::UdpSocket;
 use mio::{Events, Interest, Poll, Token};
 use rtcp_command::RunFault;
+use rtcp_engine::{Answer, Event};
 use rtcp_serve::{Link, LinkFault, Port, Received};
 use std::alloc::Global;
 use std::io::{self, ErrorKind};
@@ -91,6 +92,7 @@ impl<'r, R: Net + Clock> UdpLink<'r, R> {
 impl<'r, R: Net + Clock> Link for UdpLink<'r, R> {
     ghost value = { λ link. record {
       log = None;
+      told = None;
       failed_receives = link.failed_receives;
       failed_sends = link.failed_sends;
     } };
@@ -133,6 +135,8 @@ impl<'r, R: Net + Clock> Link for UdpLink<'r, R> {
         self.failed_sends += 1;
         Err(LinkFault)
     }
+
+    fn told(&mut self, _event: &Event<'_>, _answer: &Answer) {}
 }
 
 /// A socket at an address, for whose datagrams `poll` waits.

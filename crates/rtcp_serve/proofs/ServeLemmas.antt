@@ -5,24 +5,24 @@ use Rattle.std.proofs.lemmas.List.Elements.{filter-append}
 use Rattle.rtcp_serve.specs.declared.link.Port.{Port}
 use Rattle.rtcp_serve.specs.declared.link.Port.TheVariants.{Rtcp as RtcpPort}
 use Rattle.rtcp_serve.specs.declared.serving.Cause.TheVariants.{Done}
-use Rattle.rtcp_serve.specs.Links.{Call, LinkValue, GrowsBy, WereCalled, clock_read, port_heard, Heard, datagram, how_many, is_failed_receive, is_failed_send}
+use Rattle.rtcp_serve.specs.Links.{Call, LinkValue, GrowsBy, WereCalled, clock_read, port_heard, compound_sent, Heard, datagram, how_many, is_failed_receive, is_failed_send, Telling, telling}
 use Rattle.rand_core.specs.Stream.{Stream, next_u32}
-use Rattle.rtcp_engine.specs.Acts.{Act, ticked, left as asked_to_leave}
+use Rattle.rtcp_engine.specs.Acts.{Act, ticked, left as asked_to_leave, EventValue, time_passed, leave_asked}
 use Rattle.rtcp_engine.specs.Answers.{answer_of, followed_by}
 use Rattle.rtcp_engine.specs.States.{ParticipantValue, StandsAt}
-use Rattle.rtcp_engine.specs.Steps.{AnswerValue}
+use Rattle.rtcp_engine.specs.Steps.{AnswerValue, OutValue}
 use Rattle.rtcp_serve.specs.declared.serving.tally.Tally.{Tally}
-use Rattle.rtcp_serve.specs.Tallies.{HasRoom, is_limit, with_arrival, with_datagram, with_moment, with_refused}
-use Rattle.rtcp_serve.specs.Serving.{Reader, Stage, resting, beginning, hearing, deciding, sending, ended, Standing, rested, going, ReadsClock, Hears, Fits, at_stage, with_turns, turn_by, turn_or, after_turns, gone_on, left_with, arrival_at, after_port, came_with, heard_at, after_clock, after_call, after_calls, AllFit, stage_to_send, ticked_with, ticked_now, with_tally}
-use Rattle.rtcp_serve.specs.Sessions.{Leads, Comes, Holds, IsLeaveDue, HasTurn, ReachesBy, next_at}
+use Rattle.rtcp_serve.specs.Tallies.{HasRoom, is_limit, with_arrival, with_datagram, with_moment, with_refused, with_send}
+use Rattle.rtcp_serve.specs.Serving.{Reader, Stage, resting, beginning, hearing, deciding, sending, ended, Standing, rested, going, ReadsClock, Hears, Sends, Fits, at_stage, with_turns, turn_by, turn_or, after_turns, gone_on, left_with, event_at, arrival_at, after_port, came_with, heard_at, after_clock, after_sending, after_call, after_calls, AllFit, stage_to_send, ticked_with, ticked_now, with_tally}
+use Rattle.rtcp_serve.specs.Sessions.{Moves, Tells, Leads, Comes, Holds, IsLeaveDue, HasTurn, ReachesBy, next_at}
 
 -- ---- Logs
 
-grows_by_none : (log : Option (List Call)) → GrowsBy [] log log
+pub grows_by_none : {A : Type 0} (log : Option (List A)) → GrowsBy [] log log
 grows_by_none None = tt {0}
 grows_by_none (Some calls) = (calls, refl, refl)
 
-grows_on : (calls more : List Call) (x y z : Option (List Call)) → GrowsBy calls x y → GrowsBy more y z → GrowsBy (more ++ calls) x z
+grows_on : {A : Type 0} (calls more : List A) (x y z : Option (List A)) → GrowsBy calls x y → GrowsBy more y z → GrowsBy (more ++ calls) x z
 grows_on calls more x y None first second = tt {0}
 grows_on calls more x y (Some log) first (earlier, is, joined) =
     let (start, began, grew) = subst (GrowsBy calls x) is first in
@@ -97,29 +97,73 @@ joined_fit reader total s (call ∷ more) calls fit (rest, fits) = (
   subst (λ t. Fits call (going total t).stage) (sym (joined_calls reader total s more calls)) fits,
 )
 
-pub leads_nowhere : (reader : Reader) (total : ℕ) (s : Standing) (v : LinkValue) → Leads reader total [] s s v v
-leads_nowhere reader total s v = record { fit = tt {0}; reached = refl; called = no_calls_made v }
+moves_nowhere : (reader : Reader) (total : ℕ) (s : Standing) (v : LinkValue) → Moves reader total [] s s v v
+moves_nowhere reader total s v = record { fit = tt {0}; reached = refl; called = no_calls_made v }
 
-pub leads_on : (reader : Reader) (total : ℕ) (calls more : List Call) (s t u : Standing) (x y z : LinkValue)
-    → Leads reader total calls s t x y → Leads reader total more t u y z → Leads reader total (more ++ calls) s u x z
-leads_on reader total calls more s t u x y z first second = record {
+pub moves_on : (reader : Reader) (total : ℕ) (calls more : List Call) (s t u : Standing) (x y z : LinkValue)
+    → Moves reader total calls s t x y → Moves reader total more t u y z → Moves reader total (more ++ calls) s u x z
+moves_on reader total calls more s t u x y z first second = record {
   fit = joined_fit reader total s more calls first.fit (subst (λ t. AllFit reader total t more) first.reached second.fit);
   reached = second.reached ∙ ap (λ t. after_calls reader total t more) first.reached ∙ sym (joined_calls reader total s more calls);
   called = called_on calls more x y z first.called second.called;
 }
 
-pub leads_after : (reader : Reader) (total : ℕ) (calls : List Call) (s t : Standing) (x y z : LinkValue) → Stays x y
-    → Leads reader total calls s t y z → Leads reader total calls s t x z
-leads_after reader total calls s t x y z stays leads =
-    record { fit = leads.fit; reached = leads.reached; called = called_after calls x y z stays leads.called }
+pub moves_after : (reader : Reader) (total : ℕ) (calls : List Call) (s t : Standing) (x y z : LinkValue) → Stays x y
+    → Moves reader total calls s t y z → Moves reader total calls s t x z
+moves_after reader total calls s t x y z stays moves =
+    record { fit = moves.fit; reached = moves.reached; called = called_after calls x y z stays moves.called }
 
 -- one call, where a session goes on from s as t
-pub leads_by : (reader : Reader) (total : ℕ) (call : Call) (s t : Standing) (x y : LinkValue) → going total s ≡ t → Fits call t.stage
-    → WereCalled (call ∷ []) x y → Leads reader total (call ∷ []) s (after_call reader call t) x y
-leads_by reader total call s t x y goes fits called = record {
+moves_by : (reader : Reader) (total : ℕ) (call : Call) (s t : Standing) (x y : LinkValue) → going total s ≡ t → Fits call t.stage
+    → WereCalled (call ∷ []) x y → Moves reader total (call ∷ []) s (after_call reader call t) x y
+moves_by reader total call s t x y goes fits called = record {
   fit = (tt {0}, subst (λ t. Fits call t.stage) (sym goes) fits);
   reached = ap (after_call reader call) (sym goes);
   called = called;
+}
+
+-- ---- Tellings
+
+-- nothing is told
+tells_none : (s t : Standing) (x y : LinkValue) → t.tellings ≡ s.tellings → y.told ≡ x.told → Tells s t x y
+tells_none s t x y same kept = record {
+  grows = λ start grown. subst (GrowsBy t.tellings start) (sym kept) (subst (λ tellings. GrowsBy tellings start x.told) (sym same) grown);
+}
+
+-- the same growth from an earlier link, which had been told as much
+pub grew_since : {A : Type 0} (more : List A) (x y z : Option (List A)) → y ≡ x → GrowsBy more y z → GrowsBy more x z
+grew_since more x y z same grew = subst (λ before. GrowsBy more before z) same grew
+
+-- one event is told
+pub tells_one : (one : Telling) (s t : Standing) (x y : LinkValue) → t.tellings ≡ one ∷ s.tellings
+    → GrowsBy (one ∷ []) x.told y.told → Tells s t x y
+tells_one one s t x y same grew = record {
+  grows = λ start grown. subst (λ tellings. GrowsBy tellings start y.told) (sym same)
+      (grows_on s.tellings (one ∷ []) start x.told y.told grown grew);
+}
+
+pub tells_on : (s t u : Standing) (x y z : LinkValue) → Tells s t x y → Tells t u y z → Tells s u x z
+tells_on s t u x y z first second = record { grows = λ start grown. second.grows start (first.grows start grown) }
+
+-- ---- Calls and tellings
+
+pub leads_nowhere : (reader : Reader) (total : ℕ) (s : Standing) (v : LinkValue) → Leads reader total [] s s v v
+leads_nowhere reader total s v = record { moves = moves_nowhere reader total s v; tells = tells_none s s v v refl refl }
+
+pub leads_on : (reader : Reader) (total : ℕ) (calls more : List Call) (s t u : Standing) (x y z : LinkValue)
+    → Leads reader total calls s t x y → Leads reader total more t u y z → Leads reader total (more ++ calls) s u x z
+leads_on reader total calls more s t u x y z first second = record {
+  moves = moves_on reader total calls more s t u x y z first.moves second.moves;
+  tells = tells_on s t u x y z first.tells second.tells;
+}
+
+-- one call that tells the participant nothing
+leads_by : (reader : Reader) (total : ℕ) (call : Call) (s t : Standing) (x y : LinkValue) → going total s ≡ t → Fits call t.stage
+    → (after_call reader call t).tellings ≡ s.tellings → WereCalled (call ∷ []) x y → y.told ≡ x.told
+    → Leads reader total (call ∷ []) s (after_call reader call t) x y
+leads_by reader total call s t x y goes fits none called kept = record {
+  moves = moves_by reader total call s t x y goes fits called;
+  tells = tells_none s (after_call reader call t) x y none kept;
 }
 
 -- ---- Stages
@@ -155,13 +199,15 @@ AreDrawn words first second rest = (mid : Stream) × ((first, mid) ≡ next_u32 
 
 -- The clock is read, and the participant told that time has passed.
 pub tick_told : (reader : Reader) (total moment : ℕ) (s : Standing) (before after : ParticipantValue) (words rest : Stream) (first second : ℕ)
-    (counted told : Tally) (x y : LinkValue) → Holds s before words counted → s.stage ≡ deciding
+    (counted told : Tally) (answer : AnswerValue) (x y : LinkValue) → Holds s before words counted → s.stage ≡ deciding
     → WereCalled (clock_read moment ∷ []) x y → told ≡ with_moment moment counted → AreDrawn words first second rest
+    → answer ≡ answer_of s.history (ticked told.moment first second)
     → StandsAt after (followed_by s.history (ticked told.moment first second))
+    → GrowsBy (telling (time_passed told.moment first second) answer ∷ []) x.told y.told
     → (t : Standing) × Leads reader total (clock_read moment ∷ []) s t x y × Holds t after rest told
     × (t.stage ≡ stage_to_send resting resting (answer_of s.history (ticked told.moment first second)))
     × (t.turns ≡ s.turns) × (t.leaving ≡ s.leaving)
-tick_told reader total moment s before after words rest first second counted told x y holds is called counts (mid, one, two) stands =
+tick_told reader total moment s before after words rest first second counted told answer x y holds is called counts (mid, one, two) answers stands grew =
     let u = with_tally (with_moment moment s.tally) s in
     let t = ticked_with (first, mid) (second, rest) u in
     let same : told ≡ with_moment moment s.tally = counts ∙ ap (with_moment moment) holds.tally in
@@ -169,10 +215,17 @@ tick_told reader total moment s before after words rest first second counted tol
     let ticks : ticked_now u ≡ t = ap (λ p. ticked_with p (next_u32 p.1) u) drawn ∙ ap (λ q. ticked_with (first, mid) q u) (sym two) in
     let reached : after_call reader (clock_read moment) s ≡ t = ap (λ stage. after_clock moment stage s) is ∙ ticks in
     let fits : Fits (clock_read moment) s.stage = subst ReadsClock (sym is) (tt {0}) in
-    let leads = leads_by reader total (clock_read moment) s s x y (going_under_way total s deciding is (tt {0})) fits called in
-    let same_act : ticked told.moment first second ≡ ticked (with_moment moment s.tally).moment first second = ap (λ c. ticked c.moment first second) same in (
+    let moves = moves_by reader total (clock_read moment) s s x y (going_under_way total s deciding is (tt {0})) fits called in
+    let same_act : ticked told.moment first second ≡ ticked (with_moment moment s.tally).moment first second = ap (λ c. ticked c.moment first second) same in
+    let same_telling : telling (time_passed told.moment first second) answer
+    ≡ telling (time_passed u.tally.moment first second) (answer_of s.history (ticked u.tally.moment first second)) =
+    ap (λ a. telling (time_passed told.moment first second) a) answers
+    ∙ ap (λ c. telling (time_passed c.moment first second) (answer_of s.history (ticked c.moment first second))) same in (
       t,
-      subst (λ t. Leads reader total (clock_read moment ∷ []) s t x y) reached leads,
+      record {
+        moves = subst (λ t. Moves reader total (clock_read moment ∷ []) s t x y) reached moves;
+        tells = tells_one _ s t x y (ap (λ one. one ∷ s.tellings) (sym same_telling)) grew;
+      },
       record {
         participant = subst (λ act. StandsAt after (followed_by s.history act)) same_act stands;
         words = refl;
@@ -196,13 +249,13 @@ turn_begins total left s has = ap (λ stage. rested (turn_or (after_turns total 
 
 -- A turn begins with the clock.
 pub turn_clocked : (reader : Reader) (total left moment : ℕ) (s : Standing) (kept : ParticipantValue) (words : Stream) (counted told : Tally) (x y : LinkValue)
-    → Holds s kept words counted → HasTurn left s → WereCalled (clock_read moment ∷ []) x y → told ≡ with_moment moment counted
+    → Holds s kept words counted → HasTurn left s → WereCalled (clock_read moment ∷ []) x y → y.told ≡ x.told → told ≡ with_moment moment counted
     → (t : Standing) × Leads reader total (clock_read moment ∷ []) s t x y × Holds t kept words told
     × (t.stage ≡ hearing RtcpPort) × (t.turns ≡ left) × (t.leaving ≡ s.leaving)
-turn_clocked reader total left moment s kept words counted told x y holds has called counts =
+turn_clocked reader total left moment s kept words counted told x y holds has called still counts =
     let begun = at_stage beginning (with_turns left s.leaving s) in (
       _,
-      leads_by reader total (clock_read moment) s begun x y (turn_begins total left s has) (tt {0}) called,
+      leads_by reader total (clock_read moment) s begun x y (turn_begins total left s has) (tt {0}) refl called still,
       record {
         participant = holds.participant;
         words = holds.words;
@@ -215,9 +268,9 @@ turn_clocked reader total left moment s kept words counted told x y holds has ca
 
 -- Then a port is listened to.
 port_listened : (reader : Reader) (total : ℕ) (port : Port) (what : Heard) (s : Standing) (x y : LinkValue) → s.stage ≡ hearing port
-    → WereCalled (port_heard port 20000 what ∷ []) x y → Leads reader total (port_heard port 20000 what ∷ []) s (heard_at reader port what s) x y
+    → WereCalled (port_heard port 20000 what ∷ []) x y → Moves reader total (port_heard port 20000 what ∷ []) s (heard_at reader port what s) x y
 port_listened reader total port what s x y is called =
-    leads_by reader total (port_heard port 20000 what) s s x y (going_under_way total s (hearing port) is (tt {0}))
+    moves_by reader total (port_heard port 20000 what) s s x y (going_under_way total s (hearing port) is (tt {0}))
     (subst (Hears port 20000) (sym is) (refl, refl)) called
 
 -- the octets of a datagram, under another name
@@ -227,22 +280,32 @@ came_as port wait peer octets given x y same called = subst (λ o. WereCalled (p
 
 -- A datagram came, a word is drawn, and the participant is told.
 pub datagram_told : (reader : Reader) (total : ℕ) (port : Port) (peer : ℕ) (octets : List ℕ) (s : Standing) (before after : ParticipantValue)
-    (words rest : Stream) (word : ℕ) (counted mid told : Tally) (answer : AnswerValue) (x y : LinkValue) → Holds s before words counted
+    (words rest : Stream) (word : ℕ) (counted mid told : Tally) (event : EventValue) (answer : AnswerValue) (x y : LinkValue) → Holds s before words counted
     → s.stage ≡ hearing port → WereCalled (port_heard port 20000 (datagram peer octets) ∷ []) x y → (word, rest) ≡ next_u32 words
-    → mid ≡ with_datagram counted → told ≡ with_arrival answer mid → answer ≡ answer_of s.history (arrival_at reader port mid.moment peer word octets)
+    → mid ≡ with_datagram counted → told ≡ with_arrival answer mid → event ≡ event_at port mid.moment peer word octets
+    → answer ≡ answer_of s.history (arrival_at reader port mid.moment peer word octets)
     → StandsAt after (followed_by s.history (arrival_at reader port mid.moment peer word octets))
+    → GrowsBy (telling event answer ∷ []) x.told y.told
     → (t : Standing) × Leads reader total (port_heard port 20000 (datagram peer octets) ∷ []) s t x y × Holds t after rest told
     × (t.stage ≡ stage_to_send (after_port port) (after_port port) answer) × (t.turns ≡ s.turns) × (t.leaving ≡ s.leaving)
-datagram_told reader total port peer octets s before after words rest word counted mid told answer x y holds is called drawn counts tells answers stands =
+datagram_told reader total port peer octets s before after words rest word counted mid told event answer x y holds is called drawn counts tells event_is answers stands grew =
     let act_by : ℕ → Act = λ w. arrival_at reader port s.tally.moment peer w octets in
-    let t = came_with act_by (after_port port) (word, rest) s in
+    let event_by : ℕ → EventValue = λ w. event_at port s.tally.moment peer w octets in
+    let t = came_with event_by act_by (after_port port) (word, rest) s in
     let same : mid ≡ with_datagram s.tally = counts ∙ ap with_datagram holds.tally in
     let same_act : arrival_at reader port mid.moment peer word octets ≡ act_by word = ap (λ c. arrival_at reader port c.moment peer word octets) same in
+    let same_event : event ≡ event_by word = event_is ∙ ap (λ c. event_at port c.moment peer word octets) same in
     let draws : next_u32 s.words ≡ (word, rest) = ap next_u32 (sym holds.words) ∙ sym drawn in
-    let reached : heard_at reader port (datagram peer octets) s ≡ t = ap (λ p. came_with act_by (after_port port) p s) draws in
-    let answered : answer ≡ answer_of s.history (act_by word) = answers ∙ ap (answer_of s.history) same_act in (
+    let reached : heard_at reader port (datagram peer octets) s ≡ t = ap (λ p. came_with event_by act_by (after_port port) p s) draws in
+    let answered : answer ≡ answer_of s.history (act_by word) = answers ∙ ap (answer_of s.history) same_act in
+    let same_telling : telling event answer ≡ telling (event_by word) (answer_of s.history (act_by word)) =
+    ap (λ e. telling e answer) same_event ∙ ap (telling (event_by word)) answered in
+    let moves = port_listened reader total port (datagram peer octets) s x y is called in (
       t,
-      subst (λ t. Leads reader total (port_heard port 20000 (datagram peer octets) ∷ []) s t x y) reached (port_listened reader total port (datagram peer octets) s x y is called),
+      record {
+        moves = subst (λ t. Moves reader total (port_heard port 20000 (datagram peer octets) ∷ []) s t x y) reached moves;
+        tells = tells_one _ s t x y (ap (λ one. one ∷ s.tellings) (sym same_telling)) grew;
+      },
       record {
         participant = subst (λ act. StandsAt after (followed_by s.history act)) same_act stands;
         words = refl;
@@ -262,6 +325,34 @@ pub turns_left : (s : Standing) → IsTrue (is_some (next_at s)) → (next_at s 
 turns_left s there (inl none) = absurd cc
 turns_left s there (inr zero) = zero
 
+-- ---- Compounds
+
+-- The compound that comes next is sent.
+pub compound_goes : (reader : Reader) (total : ℕ) (next : Stage) (out : OutValue) (changed : Option ℕ) (octets : List ℕ) (failed counts : Bool) (s : Standing)
+    (kept : ParticipantValue) (words : Stream) (counted told : Tally) (x y : LinkValue) → Holds s kept words counted → s.stage ≡ sending out changed next
+    → octets ≡ out.octets → counts ≡ failed → WereCalled (compound_sent octets failed ∷ []) x y → y.told ≡ x.told → told ≡ with_send out.kind changed counts counted
+    → (calls : List Call) × (t : Standing) × Leads reader total calls s t x y × Holds t kept words told × (t.stage ≡ next) × (t.turns ≡ s.turns)
+    × (t.leaving ≡ s.leaving) × (t.history ≡ s.history)
+compound_goes reader total next out changed octets failed counts s kept words counted told x y holds is same known called still counting =
+    let call = compound_sent octets failed in
+    let t = at_stage next (with_tally (with_send out.kind changed failed s.tally) s) in
+    let reached : after_call reader call s ≡ t = ap (λ stage. after_sending failed stage s) is in
+    let fits : Fits call s.stage = subst (Sends octets) (sym is) same in
+    let moves = moves_by reader total call s s x y (going_under_way total s (sending out changed next) is (tt {0})) fits called in (
+      call ∷ [],
+      t,
+      record { moves = subst (λ t. Moves reader total (call ∷ []) s t x y) reached moves; tells = tells_none s t x y refl still },
+      record {
+        participant = holds.participant;
+        words = holds.words;
+        tally = counting ∙ ap (λ counts. with_send out.kind changed counts counted) known ∙ ap (with_send out.kind changed failed) holds.tally;
+      },
+      refl,
+      refl,
+      refl,
+      refl,
+    )
+
 -- ---- What comes next
 
 goes_alike : (reader : Reader) (total : ℕ) (s u : Standing) (calls : List Call) → going total s ≡ going total u → AllFit reader total u calls
@@ -277,18 +368,18 @@ comes_alike reader total calls s u t x y same comes =
     let (fit, reached) = goes_alike reader total s u calls same comes.fit in
     record { fit = fit; reached = comes.reached ∙ sym reached; called = comes.called }
 
-pub comes_then : (reader : Reader) (total : ℕ) (calls : List Call) (s t v : Standing) (x y : LinkValue) → Leads reader total calls s t x y
+pub comes_then : (reader : Reader) (total : ℕ) (calls : List Call) (s t v : Standing) (x y : LinkValue) → Moves reader total calls s t x y
     → v ≡ going total t → Comes reader total calls s v x y
-comes_then reader total calls s t v x y leads next =
-    record { fit = leads.fit; reached = next ∙ ap (going total) leads.reached; called = leads.called }
+comes_then reader total calls s t v x y moves next =
+    record { fit = moves.fit; reached = next ∙ ap (going total) moves.reached; called = moves.called }
 
-pub comes_on : (reader : Reader) (total : ℕ) (calls more : List Call) (s t v : Standing) (x y z : LinkValue) → Leads reader total calls s t x y
+pub comes_on : (reader : Reader) (total : ℕ) (calls more : List Call) (s t v : Standing) (x y z : LinkValue) → Moves reader total calls s t x y
     → Comes reader total more t v y z → Comes reader total (more ++ calls) s v x z
-comes_on reader total calls more s t v x y z leads comes = record {
-  fit = joined_fit reader total s more calls leads.fit (subst (λ t. AllFit reader total t more) leads.reached comes.fit);
-  reached = comes.reached ∙ ap (λ t. going total (after_calls reader total t more)) leads.reached
+comes_on reader total calls more s t v x y z moves comes = record {
+  fit = joined_fit reader total s more calls moves.fit (subst (λ t. AllFit reader total t more) moves.reached comes.fit);
+  reached = comes.reached ∙ ap (λ t. going total (after_calls reader total t more)) moves.reached
       ∙ ap (going total) (sym (joined_calls reader total s more calls));
-  called = called_on calls more x y z leads.called comes.called;
+  called = called_on calls more x y z moves.called comes.called;
 }
 
 -- ---- The leave
@@ -309,6 +400,7 @@ pub leave_told : (total : ℕ) (s : Standing) (before after : ParticipantValue) 
     → Holds s before words counted → IsLeaveDue s → (word, rest) ≡ next_u32 words → StandsAt after (followed_by s.history (asked_to_leave counted.moment word))
     → (u : Standing) × (going total s ≡ going total u) × Holds u after rest counted
     × (u.stage ≡ stage_to_send resting (ended Done) (answer_of s.history (asked_to_leave counted.moment word))) × (u.turns ≡ total) × (u.leaving ≡ true)
+    × (u.tellings ≡ telling (leave_asked counted.moment word) (answer_of s.history (asked_to_leave counted.moment word)) ∷ s.tellings)
 leave_told total s before after words rest word counted holds due drawn stands =
     let same : next_u32 s.words ≡ (word, rest) = ap next_u32 (sym holds.words) ∙ sym drawn in
     let u = left_with total (word, rest) s in
@@ -323,6 +415,7 @@ leave_told total s before after words rest word counted holds due drawn stands =
       ap (λ act. stage_to_send resting (ended Done) (answer_of s.history act)) (sym same_act),
       refl,
       refl,
+      ap (λ c. telling (leave_asked c.moment word) (answer_of s.history (asked_to_leave c.moment word)) ∷ s.tellings) (sym holds.tally),
     )
 
 -- ---- The end

@@ -1,7 +1,7 @@
 -- What a session comes to, call by call: the compounds, and the totals.
 use Rattle.std.proofs.Common.{◌≡◌, ℕ, zero, suc, ◌+◌, Bool, true, false, List, [], ◌∷◌, ◌++◌, Option, Some, None, Ok, Err, if◌then◌else◌, refl, sym, ap, ◌∙◌, subst, arith, append_assoc}
 use Rattle.rand_core.specs.Stream.{Stream, next_u32}
-use Rattle.rtcp_engine.specs.Acts.{Act, left as asked_to_leave}
+use Rattle.rtcp_engine.specs.Acts.{Act, left as asked_to_leave, EventValue, leave_asked}
 use Rattle.rtcp_engine.specs.Histories.{History, life_at}
 use Rattle.rtcp_engine.specs.Lives.{next_in_life}
 use Rattle.rtcp_engine.specs.Steps.{OutValue, AnswerValue}
@@ -12,9 +12,9 @@ use Rattle.rtcp_serve.specs.declared.serving.Cause.TheVariants.{Done, LinkDown, 
 use Rattle.rtcp_serve.specs.declared.serving.tally.Tally.{Tally}
 use Rattle.rtcp_serve.specs.Sessions.{Comes}
 use Rattle.rtcp_serve.specs.Tallies.{is_limit, with_arrival, with_datagram, with_refused}
-use Rattle.rtcp_serve.specs.Links.{Call, LinkValue, Heard, how_many, is_datagram, is_failed_receive, is_failed_send, is_sent, datagram, silence, failure, clock_read, port_heard, compound_sent}
-use Rattle.rtcp_serve.specs.Serving.{Reader, Stage, resting, beginning, hearing, deciding, sending, ended, Standing, at_stage, with_turns, with_tally, with_words, stage_to_send, stage_after_step, asked, arrived, after_port, heard_at, turn_by, rested, gone_on, left_with, going, ReadsClock, Hears, Sends, Fits, after_clock, after_sending, after_call, after_calls, AllFit, at_the_start}
-use Rattle.rtcp_serve.specs.Handing.{octets_of, handed_by, history_after, handed_out, given, given_in}
+use Rattle.rtcp_serve.specs.Links.{Call, LinkValue, Heard, how_many, is_datagram, is_failed_receive, is_failed_send, is_sent, datagram, silence, failure, clock_read, port_heard, compound_sent, telling}
+use Rattle.rtcp_serve.specs.Serving.{Reader, Stage, resting, beginning, hearing, deciding, sending, ended, Standing, at_stage, with_turns, with_tally, with_words, stage_to_send, stage_after_step, asked, arrived, event_at, arrival_at, after_port, heard_at, turn_by, rested, gone_on, left_with, going, ReadsClock, Hears, Sends, Fits, after_clock, after_sending, after_call, after_calls, AllFit, at_the_start}
+use Rattle.rtcp_serve.specs.Handing.{act_in, acts_in, answers_given, answers_in, octets_of, handed_by, history_after, handed_out, given, given_in}
 
 -- ---- Compounds
 
@@ -28,31 +28,40 @@ pending deciding = []
 pending (sending out changed next) = pending next ++ out.octets ∷ []
 pending (ended cause) = []
 
--- The compounds that were handed out are those that the link was given, and the one that is to be sent next.
-pub record Accounts (start : History) (s : Standing) (sent : List (List ℕ)) : Type 0 where
+-- The compounds that were handed out are those that the link was given, and the one that is to be sent next. What was
+-- told are the acts, and the answers.
+pub record Accounts (reader : Reader) (start : History) (s : Standing) (sent : List (List ℕ)) : Type 0 where
   pub history : s.history ≡ history_after start s.told
   pub handed : handed_out start s.told ≡ pending s.stage ++ sent
+  pub acts : acts_in reader s.tellings ≡ s.told
+  pub answers : answers_in s.tellings ≡ answers_given start s.told
 
 -- no compound is pending at a stage
 abbrev pub HasNone : Stage → Type 0
 HasNone stage = pending stage ≡ []
 
-restaged : (start : History) (s : Standing) (stage : Stage) (sent : List (List ℕ)) → Accounts start s sent → HasNone s.stage → HasNone stage
-    → Accounts start (at_stage stage s) sent
-restaged start s stage sent accounts none now = record {
+restaged : (reader : Reader) (start : History) (s : Standing) (stage : Stage) (sent : List (List ℕ)) → Accounts reader start s sent → HasNone s.stage → HasNone stage
+    → Accounts reader start (at_stage stage s) sent
+restaged reader start s stage sent accounts none now = record {
   history = accounts.history;
   handed = accounts.handed ∙ ap (λ p. p ++ sent) (none ∙ sym now);
+  acts = accounts.acts;
+  answers = accounts.answers;
 }
 
 -- An act is told, and what its answer hands out is pending.
-told_accounts : (start : History) (s t : Standing) (act : Act) (stage : Stage) (sent : List (List ℕ)) → Accounts start s sent → HasNone s.stage
+told_accounts : (reader : Reader) (start : History) (s t : Standing) (event : EventValue) (act : Act) (stage : Stage) (sent : List (List ℕ)) → Accounts reader start s sent → HasNone s.stage
     → t.history ≡ followed_by s.history act → t.told ≡ act ∷ s.told → t.stage ≡ stage → pending stage ≡ handed_by (answer_of s.history act)
-    → Accounts start t sent
-told_accounts start s t act stage sent accounts none history told at same = record {
+    → t.tellings ≡ telling event (answer_of s.history act) ∷ s.tellings → act_in reader event ≡ act
+    → Accounts reader start t sent
+told_accounts reader start s t event act stage sent accounts none history told at same tells is = record {
   history = history ∙ ap (λ h. followed_by h act) accounts.history ∙ ap (history_after start) (sym told);
   handed = ap (handed_out start) told ∙ ap (λ h. handed_by (answer_of h act) ++ handed_out start s.told) (sym accounts.history)
       ∙ ap (λ l. handed_by (answer_of s.history act) ++ l) (accounts.handed ∙ ap (λ p. p ++ sent) none)
       ∙ ap (λ p. p ++ sent) (sym same ∙ ap pending (sym at));
+  acts = ap (acts_in reader) tells ∙ ap (λ a. a ∷ acts_in reader s.tellings) is ∙ ap (λ l. act ∷ l) accounts.acts ∙ sym told;
+  answers = ap answers_in tells ∙ ap (λ l. answer_of s.history act ∷ l) accounts.answers
+      ∙ ap (λ h. answer_of h act ∷ answers_given start s.told) accounts.history ∙ ap (answers_given start) (sym told);
 }
 
 step_pends : (next : Stage) (changed : Option ℕ) (out : Option OutValue) → HasNone next → pending (stage_after_step next changed out) ≡ octets_of out
@@ -73,51 +82,60 @@ answer_pends next refused (Err refusal) none refuses = refusal_pends refused (is
 none_at : (stage : Stage) (s : Standing) → s.stage ≡ stage → HasNone stage → HasNone s.stage
 none_at stage s is none = ap pending is ∙ none
 
-asked_accounts : (start : History) (refused : Stage) (act : Act) (s : Standing) (sent : List (List ℕ)) → Accounts start s sent → HasNone s.stage
-    → HasNone refused → Accounts start (asked refused act s) sent
-asked_accounts start refused act s sent accounts none refuses =
-    told_accounts start s (asked refused act s) act _ sent accounts none refl refl refl (answer_pends resting refused (answer_of s.history act) refl refuses)
+asked_accounts : (reader : Reader) (start : History) (refused : Stage) (event : EventValue) (act : Act) (s : Standing) (sent : List (List ℕ)) → Accounts reader start s sent → HasNone s.stage
+    → HasNone refused → act_in reader event ≡ act → Accounts reader start (asked refused event act s) sent
+asked_accounts reader start refused event act s sent accounts none refuses is =
+    told_accounts reader start s (asked refused event act s) event act _ sent accounts none refl refl refl (answer_pends resting refused (answer_of s.history act) refl refuses) refl is
 
-arrived_accounts : (start : History) (next : Stage) (act : Act) (s : Standing) (sent : List (List ℕ)) → Accounts start s sent → HasNone s.stage
-    → HasNone next → Accounts start (arrived next act s) sent
-arrived_accounts start next act s sent accounts none comes =
-    told_accounts start s (arrived next act s) act _ sent accounts none refl refl refl (answer_pends next next (answer_of s.history act) comes comes)
+arrived_accounts : (reader : Reader) (start : History) (next : Stage) (event : EventValue) (act : Act) (s : Standing) (sent : List (List ℕ)) → Accounts reader start s sent → HasNone s.stage
+    → HasNone next → act_in reader event ≡ act → Accounts reader start (arrived next event act s) sent
+arrived_accounts reader start next event act s sent accounts none comes is =
+    told_accounts reader start s (arrived next event act s) event act _ sent accounts none refl refl refl (answer_pends next next (answer_of s.history act) comes comes) refl is
 
 -- counts, words and turns change nothing of it
-counted_accounts : (start : History) (s t : Standing) (sent : List (List ℕ)) → Accounts start s sent → t.history ≡ s.history → t.told ≡ s.told
-    → t.stage ≡ s.stage → Accounts start t sent
-counted_accounts start s t sent accounts history told stage = record {
+counted_accounts : (reader : Reader) (start : History) (s t : Standing) (sent : List (List ℕ)) → Accounts reader start s sent → t.history ≡ s.history → t.told ≡ s.told
+    → t.stage ≡ s.stage → t.tellings ≡ s.tellings → Accounts reader start t sent
+counted_accounts reader start s t sent accounts history told stage tells = record {
   history = history ∙ accounts.history ∙ ap (history_after start) (sym told);
   handed = ap (handed_out start) told ∙ accounts.handed ∙ ap (λ stage. pending stage ++ sent) (sym stage);
+  acts = ap (acts_in reader) tells ∙ accounts.acts ∙ sym told;
+  answers = ap answers_in tells ∙ accounts.answers ∙ ap (answers_given start) (sym told);
 }
 
-clock_accounts : (start : History) (moment : ℕ) (stage : Stage) (s : Standing) (sent : List (List ℕ)) → s.stage ≡ stage → ReadsClock stage
-    → Accounts start s sent → Accounts start (after_clock moment stage s) sent
-clock_accounts start moment resting s sent is fits accounts = absurd fits
-clock_accounts start moment beginning s sent is fits accounts =
-    restaged start (with_tally _ s) (hearing RtcpPort) sent (counted_accounts start s _ sent accounts refl refl refl) (none_at beginning s is refl) refl
-clock_accounts start moment (hearing port) s sent is fits accounts = absurd fits
-clock_accounts start moment deciding s sent is fits accounts =
-    asked_accounts start resting _ _ sent (counted_accounts start s _ sent accounts refl refl refl) (none_at deciding s is refl) refl
-clock_accounts start moment (sending out changed next) s sent is fits accounts = absurd fits
-clock_accounts start moment (ended cause) s sent is fits accounts = absurd fits
+clock_accounts : (reader : Reader) (start : History) (moment : ℕ) (stage : Stage) (s : Standing) (sent : List (List ℕ)) → s.stage ≡ stage → ReadsClock stage
+    → Accounts reader start s sent → Accounts reader start (after_clock moment stage s) sent
+clock_accounts reader start moment resting s sent is fits accounts = absurd fits
+clock_accounts reader start moment beginning s sent is fits accounts =
+    restaged reader start (with_tally _ s) (hearing RtcpPort) sent (counted_accounts reader start s _ sent accounts refl refl refl refl) (none_at beginning s is refl) refl
+clock_accounts reader start moment (hearing port) s sent is fits accounts = absurd fits
+clock_accounts reader start moment deciding s sent is fits accounts =
+    asked_accounts reader start resting _ _ _ sent (counted_accounts reader start s _ sent accounts refl refl refl refl) (none_at deciding s is refl) refl refl
+clock_accounts reader start moment (sending out changed next) s sent is fits accounts = absurd fits
+clock_accounts reader start moment (ended cause) s sent is fits accounts = absurd fits
 
 failed_stage : (next : Stage) (last : Bool) → HasNone next → HasNone (if last then ended LinkDown else next)
 failed_stage next true none = refl
 failed_stage next false none = none
 
+-- a datagram that came is the act that it says
+arrival_reads : (reader : Reader) (port : Port) (moment peer word : ℕ) (octets : List ℕ)
+    → act_in reader (event_at port moment peer word octets) ≡ arrival_at reader port moment peer word octets
+arrival_reads reader RtcpPort moment peer word octets = refl
+arrival_reads reader RtpPort moment peer word octets = refl
+
 port_pends : (port : Port) → HasNone (after_port port)
 port_pends RtcpPort = refl
 port_pends RtpPort = refl
 
-heard_accounts : (start : History) (reader : Reader) (port : Port) (what : Heard) (s : Standing) (sent : List (List ℕ)) → HasNone s.stage
-    → Accounts start s sent → Accounts start (heard_at reader port what s) sent
-heard_accounts start reader port (datagram peer octets) s sent none accounts =
-    arrived_accounts start (after_port port) _ _ sent (counted_accounts start s _ sent accounts refl refl refl) none (port_pends port)
-heard_accounts start reader port silence s sent none accounts =
-    restaged start _ (after_port port) sent (counted_accounts start s _ sent accounts refl refl refl) none (port_pends port)
-heard_accounts start reader port failure s sent none accounts =
-    restaged start _ _ sent (counted_accounts start s _ sent accounts refl refl refl) none (failed_stage (after_port port) _ (port_pends port))
+heard_accounts : (reader : Reader) (start : History) (port : Port) (what : Heard) (s : Standing) (sent : List (List ℕ)) → HasNone s.stage
+    → Accounts reader start s sent → Accounts reader start (heard_at reader port what s) sent
+heard_accounts reader start port (datagram peer octets) s sent none accounts =
+    arrived_accounts reader start (after_port port) _ _ _ sent (counted_accounts reader start s _ sent accounts refl refl refl refl) none (port_pends port)
+    (arrival_reads reader port _ _ _ _)
+heard_accounts reader start port silence s sent none accounts =
+    restaged reader start _ (after_port port) sent (counted_accounts reader start s _ sent accounts refl refl refl refl) none (port_pends port)
+heard_accounts reader start port failure s sent none accounts =
+    restaged reader start _ _ sent (counted_accounts reader start s _ sent accounts refl refl refl refl) none (failed_stage (after_port port) _ (port_pends port))
 
 -- a port is listened to only where nothing is pending
 hears_none : (port : Port) (wait : ℕ) (stage : Stage) → Hears port wait stage → HasNone stage
@@ -128,75 +146,77 @@ hears_none port wait deciding fits = refl
 hears_none port wait (sending out changed next) fits = absurd fits
 hears_none port wait (ended cause) fits = refl
 
-sent_accounts : (start : History) (octets : List ℕ) (failed : Bool) (stage : Stage) (s : Standing) (sent : List (List ℕ)) → s.stage ≡ stage
-    → Sends octets stage → Accounts start s sent → Accounts start (after_sending failed stage s) (octets ∷ sent)
-sent_accounts start octets failed resting s sent is fits accounts = absurd fits
-sent_accounts start octets failed beginning s sent is fits accounts = absurd fits
-sent_accounts start octets failed (hearing port) s sent is fits accounts = absurd fits
-sent_accounts start octets failed deciding s sent is fits accounts = absurd fits
-sent_accounts start octets failed (sending out changed next) s sent is fits accounts = record {
+sent_accounts : (reader : Reader) (start : History) (octets : List ℕ) (failed : Bool) (stage : Stage) (s : Standing) (sent : List (List ℕ)) → s.stage ≡ stage
+    → Sends octets stage → Accounts reader start s sent → Accounts reader start (after_sending failed stage s) (octets ∷ sent)
+sent_accounts reader start octets failed resting s sent is fits accounts = absurd fits
+sent_accounts reader start octets failed beginning s sent is fits accounts = absurd fits
+sent_accounts reader start octets failed (hearing port) s sent is fits accounts = absurd fits
+sent_accounts reader start octets failed deciding s sent is fits accounts = absurd fits
+sent_accounts reader start octets failed (sending out changed next) s sent is fits accounts = record {
   history = accounts.history;
   handed = accounts.handed ∙ ap (λ stage. pending stage ++ sent) is ∙ append_assoc (pending next) (out.octets ∷ []) sent
       ∙ ap (λ o. pending next ++ o ∷ sent) (sym fits);
+  acts = accounts.acts;
+  answers = accounts.answers;
 }
-sent_accounts start octets failed (ended cause) s sent is fits accounts = absurd fits
+sent_accounts reader start octets failed (ended cause) s sent is fits accounts = absurd fits
 
-call_accounts : (start : History) (reader : Reader) (call : Call) (s : Standing) (sent : List (List ℕ)) → Fits call s.stage
-    → Accounts start s sent → Accounts start (after_call reader call s) (given call ++ sent)
-call_accounts start reader (clock_read moment) s sent fits accounts = clock_accounts start moment s.stage s sent refl fits accounts
-call_accounts start reader (port_heard port wait what) s sent fits accounts =
-    heard_accounts start reader port what s sent (hears_none port wait s.stage fits) accounts
-call_accounts start reader (compound_sent octets failed) s sent fits accounts = sent_accounts start octets failed s.stage s sent refl fits accounts
+call_accounts : (reader : Reader) (start : History) (call : Call) (s : Standing) (sent : List (List ℕ)) → Fits call s.stage
+    → Accounts reader start s sent → Accounts reader start (after_call reader call s) (given call ++ sent)
+call_accounts reader start (clock_read moment) s sent fits accounts = clock_accounts reader start moment s.stage s sent refl fits accounts
+call_accounts reader start (port_heard port wait what) s sent fits accounts =
+    heard_accounts reader start port what s sent (hears_none port wait s.stage fits) accounts
+call_accounts reader start (compound_sent octets failed) s sent fits accounts = sent_accounts reader start octets failed s.stage s sent refl fits accounts
 
 -- ---- What comes next
 
-rested_accounts : (start : History) (next s : Standing) (stage : Stage) (sent : List (List ℕ)) → (stage ≡ resting → Accounts start next sent)
-    → Accounts start s sent → Accounts start (rested next stage s) sent
-rested_accounts start next s resting sent comes accounts = comes refl
-rested_accounts start next s beginning sent comes accounts = accounts
-rested_accounts start next s (hearing port) sent comes accounts = accounts
-rested_accounts start next s deciding sent comes accounts = accounts
-rested_accounts start next s (sending out changed after) sent comes accounts = accounts
-rested_accounts start next s (ended cause) sent comes accounts = accounts
+rested_accounts : (reader : Reader) (start : History) (next s : Standing) (stage : Stage) (sent : List (List ℕ)) → (stage ≡ resting → Accounts reader start next sent)
+    → Accounts reader start s sent → Accounts reader start (rested next stage s) sent
+rested_accounts reader start next s resting sent comes accounts = comes refl
+rested_accounts reader start next s beginning sent comes accounts = accounts
+rested_accounts reader start next s (hearing port) sent comes accounts = accounts
+rested_accounts reader start next s deciding sent comes accounts = accounts
+rested_accounts reader start next s (sending out changed after) sent comes accounts = accounts
+rested_accounts reader start next s (ended cause) sent comes accounts = accounts
 
-turn_accounts : (start : History) (next : Option ℕ) (turns : ℕ) (otherwise s : Standing) (sent : List (List ℕ)) → HasNone s.stage
-    → Accounts start otherwise sent → Accounts start s sent → Accounts start (turn_by next turns otherwise s) sent
-turn_accounts start None turns otherwise s sent none last accounts = restaged start s (ended Done) sent accounts none refl
-turn_accounts start (Some moment) zero otherwise s sent none last accounts = last
-turn_accounts start (Some moment) (suc turns) otherwise s sent none last accounts =
-    restaged start (with_turns turns s.leaving s) beginning sent (counted_accounts start s _ sent accounts refl refl refl) none refl
+turn_accounts : (reader : Reader) (start : History) (next : Option ℕ) (turns : ℕ) (otherwise s : Standing) (sent : List (List ℕ)) → HasNone s.stage
+    → Accounts reader start otherwise sent → Accounts reader start s sent → Accounts reader start (turn_by next turns otherwise s) sent
+turn_accounts reader start None turns otherwise s sent none last accounts = restaged reader start s (ended Done) sent accounts none refl
+turn_accounts reader start (Some moment) zero otherwise s sent none last accounts = last
+turn_accounts reader start (Some moment) (suc turns) otherwise s sent none last accounts =
+    restaged reader start (with_turns turns s.leaving s) beginning sent (counted_accounts reader start s _ sent accounts refl refl refl refl) none refl
 
-gone_on_accounts : (start : History) (s : Standing) (sent : List (List ℕ)) → Accounts start s sent → Accounts start (gone_on s) sent
-gone_on_accounts start s sent accounts = rested_accounts start _ s s.stage sent (λ rests.
-    turn_accounts start (next_in_life (life_at s.history)) s.turns _ s sent (none_at resting s rests refl)
-    (restaged start s (ended Done) sent accounts (none_at resting s rests refl) refl) accounts) accounts
+gone_on_accounts : (reader : Reader) (start : History) (s : Standing) (sent : List (List ℕ)) → Accounts reader start s sent → Accounts reader start (gone_on s) sent
+gone_on_accounts reader start s sent accounts = rested_accounts reader start _ s s.stage sent (λ rests.
+    turn_accounts reader start (next_in_life (life_at s.history)) s.turns _ s sent (none_at resting s rests refl)
+    (restaged reader start s (ended Done) sent accounts (none_at resting s rests refl) refl) accounts) accounts
 
-last_accounts : (start : History) (total : ℕ) (leaving : Bool) (s : Standing) (sent : List (List ℕ)) → HasNone s.stage → Accounts start s sent
-    → Accounts start (if leaving then at_stage (ended Done) s else gone_on (left_with total (next_u32 s.words) s)) sent
-last_accounts start total true s sent none accounts = restaged start s (ended Done) sent accounts none refl
-last_accounts start total false s sent none accounts = gone_on_accounts start (left_with total (next_u32 s.words) s) sent
-    (asked_accounts start (ended Done) (asked_to_leave s.tally.moment (next_u32 s.words).0) (with_turns total true (with_words (next_u32 s.words).1 s)) sent (counted_accounts start s _ sent accounts refl refl refl) none refl)
+last_accounts : (reader : Reader) (start : History) (total : ℕ) (leaving : Bool) (s : Standing) (sent : List (List ℕ)) → HasNone s.stage → Accounts reader start s sent
+    → Accounts reader start (if leaving then at_stage (ended Done) s else gone_on (left_with total (next_u32 s.words) s)) sent
+last_accounts reader start total true s sent none accounts = restaged reader start s (ended Done) sent accounts none refl
+last_accounts reader start total false s sent none accounts = gone_on_accounts reader start (left_with total (next_u32 s.words) s) sent
+    (asked_accounts reader start (ended Done) (leave_asked s.tally.moment (next_u32 s.words).0) (asked_to_leave s.tally.moment (next_u32 s.words).0) (with_turns total true (with_words (next_u32 s.words).1 s)) sent (counted_accounts reader start s _ sent accounts refl refl refl refl) none refl refl)
 
-going_accounts : (start : History) (total : ℕ) (s : Standing) (sent : List (List ℕ)) → Accounts start s sent → Accounts start (going total s) sent
-going_accounts start total s sent accounts = rested_accounts start _ s s.stage sent (λ rests.
-    turn_accounts start (next_in_life (life_at s.history)) s.turns _ s sent (none_at resting s rests refl)
-    (last_accounts start total s.leaving s sent (none_at resting s rests refl) accounts) accounts) accounts
+going_accounts : (reader : Reader) (start : History) (total : ℕ) (s : Standing) (sent : List (List ℕ)) → Accounts reader start s sent → Accounts reader start (going total s) sent
+going_accounts reader start total s sent accounts = rested_accounts reader start _ s s.stage sent (λ rests.
+    turn_accounts reader start (next_in_life (life_at s.history)) s.turns _ s sent (none_at resting s rests refl)
+    (last_accounts reader start total s.leaving s sent (none_at resting s rests refl) accounts) accounts) accounts
 
 -- ---- Sessions
 
 pub session_accounts : (reader : Reader) (start : History) (words : Stream) (total : ℕ) (calls : List Call)
     → AllFit reader total (at_the_start start words total) calls
-    → Accounts start (after_calls reader total (at_the_start start words total) calls) (given_in calls)
-session_accounts reader start words total [] fit = record { history = refl; handed = refl }
+    → Accounts reader start (after_calls reader total (at_the_start start words total) calls) (given_in calls)
+session_accounts reader start words total [] fit = record { history = refl; handed = refl; acts = refl; answers = refl }
 session_accounts reader start words total (call ∷ earlier) (fit, fits) =
-    call_accounts start reader call _ (given_in earlier) fits
-    (going_accounts start total _ (given_in earlier) (session_accounts reader start words total earlier fit))
+    call_accounts reader start call _ (given_in earlier) fits
+    (going_accounts reader start total _ (given_in earlier) (session_accounts reader start words total earlier fit))
 
 pub session_comes : (reader : Reader) (start : History) (words : Stream) (total : ℕ) (calls : List Call) (t : Standing) (x y : LinkValue)
-    → Comes reader total calls (at_the_start start words total) t x y → Accounts start t (given_in calls)
+    → Comes reader total calls (at_the_start start words total) t x y → Accounts reader start t (given_in calls)
 session_comes reader start words total calls t x y comes =
-    subst (λ t. Accounts start t (given_in calls)) (sym comes.reached)
-    (going_accounts start total _ (given_in calls) (session_accounts reader start words total calls comes.fit))
+    subst (λ t. Accounts reader start t (given_in calls)) (sym comes.reached)
+    (going_accounts reader start total _ (given_in calls) (session_accounts reader start words total calls comes.fit))
 
 -- ---- Totals
 

@@ -6,7 +6,7 @@ use Rattle.rtcp_wire.specs.declared.fault.WireFault.{WireFault}
 use Rattle.rtcp_wire.specs.declared.rtp.fault.RtpFault.{RtpFault}
 use Rattle.rtcp_wire.specs.Values.{RtcpPacket}
 use Rattle.rtcp_wire.specs.RtpHeads.{RtpValue}
-use Rattle.rtcp_engine.specs.Acts.{Act, rtcp_came, rtp_came, ticked, left, IsReading, IsRtpReading}
+use Rattle.rtcp_engine.specs.Acts.{Act, rtcp_came, rtp_came, ticked, left, IsReading, IsRtpReading, EventValue, rtcp_arrived, rtp_arrived, time_passed, leave_asked}
 use Rattle.rtcp_engine.specs.Histories.{History, life_at}
 use Rattle.rtcp_engine.specs.Lives.{next_in_life}
 use Rattle.rtcp_engine.specs.Steps.{OutValue, AnswerValue}
@@ -17,7 +17,7 @@ use Rattle.rtcp_serve.specs.declared.serving.Cause.{Cause}
 use Rattle.rtcp_serve.specs.declared.serving.Cause.TheVariants.{Done, LinkDown, Limit}
 use Rattle.rtcp_serve.specs.declared.serving.tally.Tally.{Tally}
 use Rattle.rtcp_serve.specs.Tallies.{is_limit, no_calls, with_arrival, with_datagram, with_failed_receive, with_moment, with_send, with_silence}
-use Rattle.rtcp_serve.specs.Links.{Heard, datagram, silence, failure, Call, clock_read, port_heard, compound_sent}
+use Rattle.rtcp_serve.specs.Links.{Heard, datagram, silence, failure, Call, clock_read, port_heard, compound_sent, Telling, telling}
 
 -- ---- Readings
 
@@ -53,6 +53,8 @@ pub record Standing : Type 0 where
   pub history : History
   -- all acts that it was told in this session, those that it refused too
   pub told : List Act
+  -- the same as events, each with its answer
+  pub tellings : List Telling
   -- the random words that are left
   pub words : Stream
   -- the counts, and the greatest moment so far
@@ -67,6 +69,7 @@ abbrev pub at_stage : Stage → Standing → Standing
 at_stage stage s = record {
   history = s.history;
   told = s.told;
+  tellings = s.tellings;
   words = s.words;
   tally = s.tally;
   turns = s.turns;
@@ -78,6 +81,7 @@ abbrev pub with_tally : Tally → Standing → Standing
 with_tally tally s = record {
   history = s.history;
   told = s.told;
+  tellings = s.tellings;
   words = s.words;
   tally = tally;
   turns = s.turns;
@@ -89,6 +93,7 @@ abbrev pub with_words : Stream → Standing → Standing
 with_words words s = record {
   history = s.history;
   told = s.told;
+  tellings = s.tellings;
   words = words;
   tally = s.tally;
   turns = s.turns;
@@ -100,6 +105,7 @@ abbrev pub with_turns : (turns : ℕ) → (leaving : Bool) → Standing → Stan
 with_turns turns leaving s = record {
   history = s.history;
   told = s.told;
+  tellings = s.tellings;
   words = s.words;
   tally = s.tally;
   turns = turns;
@@ -107,11 +113,12 @@ with_turns turns leaving s = record {
   stage = s.stage;
 }
 
--- the participant is told an act
-abbrev pub told_act : Act → Standing → Standing
-told_act act s = record {
+-- the participant is told an event, which is this act
+abbrev pub told_act : EventValue → Act → Standing → Standing
+told_act event act s = record {
   history = followed_by s.history act;
   told = act ∷ s.told;
+  tellings = telling event (answer_of s.history act) ∷ s.tellings;
   words = s.words;
   tally = s.tally;
   turns = s.turns;
@@ -133,20 +140,29 @@ stage_to_send next refused (Err refusal) = if is_limit refusal then ended Limit 
 
 -- ---- Arrivals
 
-abbrev pub arrived : (next : Stage) → Act → Standing → Standing
-arrived next act s = let answer = answer_of s.history act in
-    at_stage (stage_to_send next next answer) (with_tally (with_arrival answer s.tally) (told_act act s))
+abbrev pub arrived : (next : Stage) → EventValue → Act → Standing → Standing
+arrived next event act s = let answer = answer_of s.history act in
+    at_stage (stage_to_send next next answer) (with_tally (with_arrival answer s.tally) (told_act event act s))
 
 -- A word is drawn for a datagram, and the participant is told that it came.
-abbrev pub came_with : (act_of : (word : ℕ) → Act) → (next : Stage) → (word : ℕ × Stream) → Standing → Standing
-came_with act_of next word s = arrived next (act_of word.0) (with_words word.1 (with_tally (with_datagram s.tally) s))
+abbrev pub came_with : (event_of : (word : ℕ) → EventValue) → (act_of : (word : ℕ) → Act) → (next : Stage)
+    → (word : ℕ × Stream) → Standing → Standing
+came_with event_of act_of next word s =
+    arrived next (event_of word.0) (act_of word.0) (with_words word.1 (with_tally (with_datagram s.tally) s))
 
-abbrev pub heard : (act_of : (peer word : ℕ) → List ℕ → Act) → (next : Stage) → Heard → Standing → Standing
-heard act_of next (datagram peer octets) s = came_with (λ word. act_of peer word octets) next (next_u32 s.words) s
-heard act_of next silence s = at_stage next (with_tally (with_silence s.tally) s)
+abbrev pub heard : (event_of : (peer word : ℕ) → List ℕ → EventValue) → (act_of : (peer word : ℕ) → List ℕ → Act)
+    → (next : Stage) → Heard → Standing → Standing
+heard event_of act_of next (datagram peer octets) s =
+    came_with (λ word. event_of peer word octets) (λ word. act_of peer word octets) next (next_u32 s.words) s
+heard event_of act_of next silence s = at_stage next (with_tally (with_silence s.tally) s)
 -- the 64th failed receive in a row ends the session
-heard act_of next failure s =
+heard event_of act_of next failure s =
     at_stage (if suc s.tally.failures == 64 then ended LinkDown else next) (with_tally (with_failed_receive s.tally) s)
+
+-- the event of a datagram that came to a port
+abbrev pub event_at : Port → (moment peer word : ℕ) → List ℕ → EventValue
+event_at RtcpPort moment peer word octets = rtcp_arrived moment peer word octets
+event_at RtpPort moment peer word octets = rtp_arrived moment peer word octets
 
 -- the act of a datagram that came to a port
 abbrev pub arrival_at : Reader → Port → (moment peer word : ℕ) → List ℕ → Act
@@ -159,16 +175,18 @@ after_port RtcpPort = hearing RtpPort
 after_port RtpPort = deciding
 
 abbrev pub heard_at : Reader → Port → Heard → Standing → Standing
-heard_at reader port what s = heard (arrival_at reader port s.tally.moment) (after_port port) what s
+heard_at reader port what s =
+    heard (event_at port s.tally.moment) (arrival_at reader port s.tally.moment) (after_port port) what s
 
 -- ---- Ticks and the leave
 
-abbrev pub asked : (refused : Stage) → Act → Standing → Standing
-asked refused act s = at_stage (stage_to_send resting refused (answer_of s.history act)) (told_act act s)
+abbrev pub asked : (refused : Stage) → EventValue → Act → Standing → Standing
+asked refused event act s = at_stage (stage_to_send resting refused (answer_of s.history act)) (told_act event act s)
 
 -- Two words are drawn, and the participant is told that time has passed.
 abbrev pub ticked_with : (first second : ℕ × Stream) → Standing → Standing
-ticked_with first second s = asked resting (ticked s.tally.moment first.0 second.0) (with_words second.1 s)
+ticked_with first second s = let moment = s.tally.moment in
+    asked resting (time_passed moment first.0 second.0) (ticked moment first.0 second.0) (with_words second.1 s)
 
 abbrev pub ticked_now : Standing → Standing
 ticked_now s = let first = next_u32 s.words in ticked_with first (next_u32 first.1) s
@@ -176,8 +194,8 @@ ticked_now s = let first = next_u32 s.words in ticked_with first (next_u32 first
 -- A word is drawn, and the participant is asked to leave at the greatest moment so far. As many turns again are
 -- left then.
 abbrev pub left_with : (total : ℕ) → (word : ℕ × Stream) → Standing → Standing
-left_with total word s =
-    asked (ended Done) (left s.tally.moment word.0) (with_turns total true (with_words word.1 s))
+left_with total word s = let moment = s.tally.moment in
+    asked (ended Done) (leave_asked moment word.0) (left moment word.0) (with_turns total true (with_words word.1 s))
 
 -- ---- Turns
 
@@ -286,6 +304,7 @@ abbrev pub at_the_start : History → Stream → (turns : ℕ) → Standing
 at_the_start history words turns = record {
   history = history;
   told = [];
+  tellings = [];
   words = words;
   tally = no_calls;
   turns = turns;

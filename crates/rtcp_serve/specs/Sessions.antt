@@ -9,7 +9,7 @@ use Rattle.rtcp_serve.specs.declared.serving.Cause.{Cause}
 use Rattle.rtcp_serve.specs.declared.serving.Cause.TheVariants.{Done}
 use Rattle.rtcp_serve.specs.declared.serving.tally.Tally.{Tally}
 use Rattle.rtcp_serve.specs.Tallies.{end_of}
-use Rattle.rtcp_serve.specs.Links.{Call, LinkValue, WereCalled}
+use Rattle.rtcp_serve.specs.Links.{Call, LinkValue, WereCalled, Telling, GrowsBy}
 use Rattle.rtcp_serve.specs.Serving.{Reader, Stage, resting, ended, Standing, going, after_calls, AllFit}
 
 -- What is kept is where a session stands.
@@ -50,12 +50,25 @@ EndsAs (Ok done) s = s.stage ≡ ended Done
 EndsAs (Err cause) s = s.stage ≡ ended cause
 
 -- Calls of a link, each the one that came next, led from one standing to another.
-pub record Leads (reader : Reader) (total : ℕ) (calls : List Call) (s t : Standing) (before after : LinkValue) : Type 0 where
+pub record Moves (reader : Reader) (total : ℕ) (calls : List Call) (s t : Standing) (before after : LinkValue)
+    : Type 0 where
   pub fit : AllFit reader total s calls
   pub reached : t ≡ after_calls reader total s calls
   pub called : WereCalled calls before after
 
--- The same, up to what comes next.
+-- Between two standings a link was told what the participant was told: if all that it was told since some start was
+-- what the participant had been told at the first, it is so at the second.
+pub record Tells (s t : Standing) (before after : LinkValue) : Type 0 where
+  pub grows : (start : Option (List Telling)) → GrowsBy s.tellings start before.told
+      → GrowsBy t.tellings start after.told
+
+-- Calls led from one standing to another, and the link was told what the participant was told.
+pub record Leads (reader : Reader) (total : ℕ) (calls : List Call) (s t : Standing) (before after : LinkValue)
+    : Type 0 where
+  pub moves : Moves reader total calls s t before after
+  pub tells : Tells s t before after
+
+-- Calls of a link, each the one that came next, led from one standing to another and on to what comes next.
 pub record Comes (reader : Reader) (total : ℕ) (calls : List Call) (s t : Standing) (before after : LinkValue) : Type 0 where
   pub fit : AllFit reader total s calls
   pub reached : t ≡ going total (after_calls reader total s calls)

@@ -9,8 +9,9 @@
 //! assert_eq!(rt; end.cause, Cause::Done);
 //! ```
 //!
-//! A host implements [`Link`]. `specs/` defines what contracts see of a link (`Links`) and the state of a session after
-//! its calls (`Serving`, `Sessions`); `serve_laws` states in plain words what follows.
+//! A host implements [`Link`], and may watch its session by [`Link::told`]. `specs/` defines what contracts see of a
+//! link (`Links`) and the state of a session after its calls (`Serving`, `Sessions`); `serve_laws` states in plain
+//! words what follows.
 #![tactic(auto)]
 
 mod link;

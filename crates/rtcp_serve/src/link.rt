@@ -1,7 +1,8 @@
 //! What a participant needs of a network and a clock.
 
 ghost use Rattle.std.specs.Prelude.{◌≡◌, ◌<◌, ◌-◌, ◌^◌, [], ◌∷◌, length, is_err};
-ghost use Rattle.rtcp_serve.specs.Links.{LinkValue, WereCalled, IsWithin, clock_read, port_heard, compound_sent, heard_in};
+ghost use Rattle.rtcp_engine.specs.Views.{answer_value, event_value};
+ghost use Rattle.rtcp_serve.specs.Links.{LinkValue, WereCalled, GrowsBy, IsWithin, clock_read, port_heard, compound_sent, heard_in, telling};
 
 use rtcp_engine::{Answer, Event};
 use thiserror::Error;
@@ -33,12 +34,14 @@ pub struct LinkFault;
 
 /// A clock and two ports. What becomes of a datagram that was handed over nobody promises.
 pub trait Link {
-    /// What a clause knows of it: its calls so far, where it tells them, and how many failed.
+    /// What a clause knows of it: its calls so far and what it was told, where it exposes these, and how many calls
+    /// failed.
     ghost value: { Self → LinkValue };
 
     /// The moment, in microseconds since the session began. It may go back.
     fn now(&mut self) -> u64
-        ensures { WereCalled (clock_read result ∷ []) (value self.old) (value self.new) };
+        ensures called { WereCalled (clock_read result ∷ []) (value self.old) (value self.new) }
+        ensures told { (value self.new).told ≡ (value self.old).told };
 
     /// Waits for a datagram on a port, for `wait_us` microseconds at most. What does not fit the buffer is lost.
     fn recv(&mut self, port: Port, buf: &mut [u8], wait_us: u64) -> Received
@@ -46,7 +49,8 @@ pub trait Link {
         ensures called { WereCalled (port_heard port wait_us (heard_in buf.new result) ∷ [])
             (value self.old) (value self.new) }
         ensures length { length buf.new ≡ length buf.old }
-        ensures within { IsWithin result buf.new };
+        ensures within { IsWithin result buf.new }
+        ensures told { (value self.new).told ≡ (value self.old).told };
 
     /// Sends a datagram to the others.
     ///
@@ -55,14 +59,16 @@ pub trait Link {
     /// [`LinkFault`] where it was not handed to the network.
     fn send(&mut self, bytes: &[u8]) -> Result<(), LinkFault>
         requires { (value self.old).failed_sends < 2 ^ 64 - 1 }
-        ensures { WereCalled (compound_sent bytes.now (is_err result) ∷ [])
-            (value self.old) (value self.new) };
+        ensures called { WereCalled (compound_sent bytes.now (is_err result) ∷ [])
+            (value self.old) (value self.new) }
+        ensures told { (value self.new).told ≡ (value self.old).told };
 
-    /// Is told what the participant was told, and what it answered, before the compound of the answer is sent, if it
-    /// has one. A link that lets nobody watch its session does nothing here.
-    fn told(&mut self, _event: &Event<'_>, _answer: &Answer)
+    /// Is called after each event that the participant was told, refused or not, with its answer, and before the
+    /// compound of the answer is sent, if it has one. A link that nobody watches does nothing here.
+    fn told(&mut self, event: &Event<'_>, answer: &Answer)
+        ensures told { GrowsBy (telling (event_value event.now) (answer_value answer.now) ∷ [])
+            (value self.old).told (value self.new).told }
         ensures log { (value self.new).log ≡ (value self.old).log }
         ensures receives { (value self.new).failed_receives ≡ (value self.old).failed_receives }
-        ensures sends { (value self.new).failed_sends ≡ (value self.old).failed_sends }
-    {}
+        ensures sends { (value self.new).failed_sends ≡ (value self.old).failed_sends };
 }

@@ -4,7 +4,7 @@ ghost use Rattle.std.specs.Prelude.{◌≡◌, ◌++◌, ℕ, List, Some, revers
 ghost use Rattle.rand_core.specs.Stream.{Stream};
 ghost use Rattle.rtcp_engine.specs.Histories.{History};
 ghost use Rattle.rtcp_serve.specs.declared.serving.Cause.{Cause};
-ghost use Rattle.rtcp_serve.specs.Handing.{given_in, handed_out, history_after};
+ghost use Rattle.rtcp_serve.specs.Handing.{acts_in, answers_given, answers_in, given_in, handed_out, history_after};
 ghost use Rattle.rtcp_serve.specs.Links.{Call, LinkValue, how_many, is_datagram, is_failed_receive, is_failed_send, is_sent};
 ghost use Rattle.rtcp_serve.specs.Serving.{IsReader, Reader, Standing, at_the_start, ended};
 ghost use Rattle.rtcp_serve.specs.Sessions.{Comes};
@@ -28,6 +28,19 @@ pub fn compounds_go_out_once()
         (t : Standing) (before after : LinkValue) →
         Comes reader turns calls (at_the_start history words turns) t before after →
         t.history ≡ history_after history t.told }
+{}
+
+/// The events that a link is told are the acts that the participant was told, in their order, each with the answer of
+/// the history before it.
+pub fn links_are_told_all()
+    ensures acts { (reader : Reader) (history : History) (words : Stream) (turns : ℕ) (calls : List Call)
+        (t : Standing) (before after : LinkValue) →
+        Comes reader turns calls (at_the_start history words turns) t before after →
+        acts_in reader t.tellings ≡ t.told }
+    ensures answers { (reader : Reader) (history : History) (words : Stream) (turns : ℕ) (calls : List Call)
+        (t : Standing) (before after : LinkValue) →
+        Comes reader turns calls (at_the_start history words turns) t before after →
+        answers_in t.tellings ≡ answers_given history t.told }
 {}
 
 /// The totals of a session are counts of its calls.

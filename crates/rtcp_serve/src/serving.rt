@@ -3,7 +3,7 @@
 ghost use Rattle.std.specs.Prelude.{◌≡◌, ◌≤◌, ◌<◌, ◌^◌, List};
 ghost use Rattle.rtcp_engine.specs.Histories.{History};
 ghost use Rattle.rtcp_engine.specs.States.{StandsAt};
-ghost use Rattle.rtcp_serve.specs.Links.{Call};
+ghost use Rattle.rtcp_serve.specs.Links.{Call, GrowsBy};
 ghost use Rattle.rtcp_serve.specs.Serving.{IsReader, Reader, Standing, at_the_start, ended};
 ghost use Rattle.rtcp_serve.specs.Sessions.{Comes, EndsAs, IsEnd};
 
@@ -50,12 +50,13 @@ pub struct End {
 /// Runs a participant on a link, for so many turns, and then lets it leave: with as many turns more, where it
 /// backs off before its BYE.
 ///
-/// A turn reads the clock, listens to the port of RTCP and then to that of RTP, for 20 milliseconds each, reads
-/// the clock again, draws two words, asks the participant what is due, and sends what it answers. For a datagram
-/// that came it draws a word too, before the participant is told. Where one changes the SSRC (RFC 3550, 8.2), the
-/// BYE of the old one goes out at once, before the turn goes on. The moment is the greatest that the clock gave,
-/// and a compound goes to the link once, whether or not it failed to send it. After the last turn a word is drawn
-/// for the leave, at that moment. Once the participant has left, there is no further call.
+/// A turn reads the clock, listens to the port of RTCP and then to that of RTP, for 20 milliseconds each, reads the
+/// clock again, draws two words, asks the participant what is due, and sends what it answers. For a datagram that
+/// came it draws a word too, before the participant is told. Where one changes the SSRC (RFC 3550, 8.2), the BYE of
+/// the old one goes out at once, before the turn goes on. The link is told each event with its answer, before the
+/// compound of the answer goes out. The moment is the greatest that the clock gave, and a compound goes to the link
+/// once, whether or not it failed to send it. After the last turn a word is drawn for the leave, at that moment.
+/// Once the participant has left, there is no further call.
 ///
 /// It ends early where the 64th receive in a row failed, over both ports, and where the participant met a limit.
 pub fn serve<L: Link, T: MemberTable, R: Rng>(
@@ -74,6 +75,12 @@ pub fn serve<L: Link, T: MemberTable, R: Rng>(
         (calls : List Call) × (t : Standing) × Comes reader turns calls
         (at_the_start history (R.stream rng.old) turns) t (L.value link.old) (L.value link.new)
         × StandsAt participant.new t.history × (R.stream rng.new ≡ t.words) × IsEnd result t }
+    // In that session the link was told the events that the participant was told, in their order, each with its answer.
+    ensures told { (reader : Reader) (history : History) → IsReader reader → StandsAt participant.old history →
+        (calls : List Call) × (t : Standing) × Comes reader turns calls
+        (at_the_start history (R.stream rng.old) turns) t (L.value link.old) (L.value link.new)
+        × StandsAt participant.new t.history × (R.stream rng.new ≡ t.words) × IsEnd result t
+        × GrowsBy t.tellings (L.value link.old).told (L.value link.new).told }
 {
     let mut tally = Tally::new();
     let returned = turns::session(link, participant, rng, &mut tally, turns, buf);

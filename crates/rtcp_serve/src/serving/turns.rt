@@ -5,11 +5,11 @@ ghost use Rattle.rand_core.specs.Stream.{Stream, next_u32};
 ghost use Rattle.rtcp_engine.specs.Acts.{Act, ticked, left};
 ghost use Rattle.rtcp_engine.specs.Promises.{Takes};
 ghost use Rattle.rtcp_engine.specs.States.{ParticipantValue, StandsAt};
-ghost use Rattle.rtcp_engine.specs.Views.{answer_value};
+ghost use Rattle.rtcp_engine.specs.Views.{answer_value, event_value};
 ghost use Rattle.rtcp_serve.specs.declared.serving.Cause.TheVariants.{Done};
 ghost use Rattle.rtcp_serve.specs.Links.{Call, WereCalled, clock_read};
-ghost use Rattle.rtcp_serve.specs.Serving.{IsReader, Reader, Stage, Standing, after_port, arrival_at, deciding, ended, going, hearing, resting, stage_to_send};
-ghost use Rattle.rtcp_serve.specs.Sessions.{Comes, EndsAs, EndsTurns, IsLeaveDue, Holds, HasTurn, Leads, Reaches, ReachesBy};
+ghost use Rattle.rtcp_serve.specs.Serving.{IsReader, Reader, Stage, Standing, after_port, arrival_at, deciding, ended, event_at, going, hearing, resting, stage_to_send};
+ghost use Rattle.rtcp_serve.specs.Sessions.{Comes, EndsAs, EndsTurns, IsLeaveDue, Holds, HasTurn, Leads, Moves, Reaches, ReachesBy, Tells};
 ghost use Rattle.rtcp_serve.specs.Tallies.{HasRoom, with_moment};
 
 use crate::link::{Link, Port, Received};
@@ -26,6 +26,7 @@ const WAIT: u64 = 20_000;
 fn read_clock<L: Link>(link: &mut L, tally: &mut Tally)
     ensures called { (moment : ℕ) × WereCalled (clock_read moment ∷ []) (L.value link.old) (L.value link.new)
         × (tally.new ≡ with_moment moment tally.old) }
+    ensures told { (L.value link.new).told ≡ (L.value link.old).told }
     ensures room { (more : ℕ) → HasRoom more tally.old (L.value link.old) →
         HasRoom more tally.new (L.value link.new) }
 {
@@ -58,11 +59,9 @@ fn hear<L: Link, T: MemberTable, R: Rng>(
             tally.datagram();
             let (octets, _) = buf.split_at(count);
             let drawn = rng.next_u32();
+            let event = arrival_event(port, tally.moment, peer, drawn, octets);
             let answer = arrive(port, participant, tally.moment, peer, drawn, octets);
-            link.told(
-                &arrival_event(port, tally.moment, peer, drawn, octets),
-                &answer,
-            );
+            link.told(&event, &answer);
             tally.arrival(&answer);
             hand_over(link, tally, answer)?;
             Ok(())
@@ -94,7 +93,9 @@ fn arrive<T: MemberTable>(
 }
 
 /// The event of a datagram that came to a port.
-fn arrival_event(port: Port, now: u64, peer: u64, w: u32, bytes: &[u8]) -> Event<'_> {
+fn arrival_event(port: Port, now: u64, peer: u64, w: u32, bytes: &[u8]) -> Event<'_>
+    ensures { event_value result ≡ event_at port now peer w bytes.now }
+{
     match port {
         Port::Rtcp => Event::ArriveRtcp {
             now,
@@ -246,7 +247,8 @@ fn take_leave<L: Link, T: MemberTable, R: Rng>(
     ensures leads { (reader : Reader) (total : ℕ) (s : Standing) →
         Holds s participant.old (R.stream rng.old) tally.old → IsLeaveDue s →
         (u : Standing) × (going total s ≡ going total u) × (calls : List Call) × (t : Standing)
-        × Leads reader total calls u t (L.value link.old) (L.value link.new)
+        × Moves reader total calls u t (L.value link.old) (L.value link.new)
+        × Tells s t (L.value link.old) (L.value link.new)
         × Holds t participant.new (R.stream rng.new) tally.new × ReachesBy resting (ended Done) result t
         × (t.turns ≡ total) × (t.leaving ≡ true) }
     ensures row { tally.new.failures ≡ tally.old.failures }
@@ -278,7 +280,8 @@ pub(crate) fn session<L: Link, T: MemberTable, R: Rng>(
         Holds s participant.old (R.stream rng.old) tally.old → s.stage ≡ resting → s.turns ≡ turns →
         s.leaving ≡ false → (calls : List Call) × (t : Standing)
         × Comes reader turns calls s t (L.value link.old) (L.value link.new)
-        × Holds t participant.new (R.stream rng.new) tally.new × EndsAs result t }
+        × Holds t participant.new (R.stream rng.new) tally.new × EndsAs result t
+        × Tells s t (L.value link.old) (L.value link.new) }
 {
     make_turns(link, participant, rng, tally, turns, buf)?;
     if participant.next().is_none() {

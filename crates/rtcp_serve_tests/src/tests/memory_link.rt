@@ -5,7 +5,7 @@ ghost use Rattle.rtcp_serve.specs.Links.{LinkValue, IsWithin};
 
 use super::log::{Log, Told};
 use super::session::named;
-use super::watch::Watch;
+use super::watch::{Watch, Watched};
 use rtcp_engine::{Answer, Event};
 use rtcp_serve::{Link, LinkFault, Port, Received};
 use std::alloc::{AllocError, Global};
@@ -72,6 +72,7 @@ impl MemoryLink {
     /// What comes next.
     fn next(&mut self) -> Coming
         ensures log { self.new.log ≡ self.old.log }
+        ensures watch { self.new.watch ≡ self.old.watch }
         ensures receives { self.new.failed_receives ≡ self.old.failed_receives }
         ensures sends { self.new.failed_sends ≡ self.old.failed_sends }
     {
@@ -87,6 +88,7 @@ impl MemoryLink {
 impl Link for MemoryLink {
     ghost value = { λ link. record {
       log = ⟦<Log as Told>⟧.calls link.log;
+      told = ⟦<Watch as Watched>⟧.told link.watch;
       failed_receives = link.failed_receives;
       failed_sends = link.failed_sends;
     } };
@@ -123,7 +125,7 @@ impl Link for MemoryLink {
     }
 
     fn told(&mut self, event: &Event<'_>, answer: &Answer) {
-        self.watch.note(event, answer);
+        self.watch.note(self.log.calls.len(), event, answer);
     }
 }
 

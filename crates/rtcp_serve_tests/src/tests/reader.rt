@@ -73,7 +73,8 @@ impl<'a, R: Rng> Reader<'a, R> {
         }
         let (now, w) = (self.moment, self.words.next_u32());
         let answer = self.participant.leave(now, w);
-        self.watch.note(&Event::Leave { now, w }, &answer);
+        self.watch
+            .note(self.place, &Event::Leave { now, w }, &answer);
         if self.compound(rt, answer)? {
             self.turns(rt, turns)?;
         }
@@ -92,7 +93,8 @@ impl<'a, R: Rng> Reader<'a, R> {
             self.clock(rt);
             let (now, w1, w2) = (self.moment, self.words.next_u32(), self.words.next_u32());
             let answer = self.participant.tick(now, w1, w2);
-            self.watch.note(&Event::Tick { now, w1, w2 }, &answer);
+            self.watch
+                .note(self.place, &Event::Tick { now, w1, w2 }, &answer);
             let _ = self.compound(rt, answer)?;
         }
         Ok(())
@@ -158,7 +160,7 @@ impl<'a, R: Rng> Reader<'a, R> {
             Port::Rtcp => self.participant.arrive_rtcp(now, peer, w, bytes),
             Port::Rtp => self.participant.arrive_rtp(now, peer, w, bytes),
         };
-        self.watch.note(&event, &answer);
+        self.watch.note(self.place, &event, &answer);
         let _ = self.compound(rt, answer)?;
         Ok(())
     }

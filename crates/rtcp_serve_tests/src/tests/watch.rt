@@ -1,10 +1,17 @@
 //! What a link is told, as a test reads it.
 
+ghost use Rattle.std.specs.Prelude.{◌≡◌, List, [], ◌∷◌, map, reverse, Option, Some, None, IfOk, if◌then◌else◌};
+ghost use Rattle.rtcp_engine.specs.Acts.{packet_sent, time_passed, leave_asked};
+ghost use Rattle.rtcp_engine.specs.Views.{answer_value, event_value, reply_value};
+ghost use Rattle.rtcp_serve.specs.Links.{Telling as TellingValue, GrowsBy, telling};
+ghost use Rattle.rtcp_serve.specs.Serving.{event_at};
+ghost use Rattle.rtcp_serve_tests.specs.declared.tests.watch.Happening.TheVariants.{Came, SentRtp, Tick, Leave};
+
 use rtcp_engine::{Answer, Event, Reply, Told};
 use rtcp_serve::Port;
 use std::alloc::{AllocError, Global};
 
-/// An event, with its moment first.
+/// An event, as a test keeps it: with its moment, its peer and its words.
 #[derive(Drop, Debug, PartialEq, Eq)]
 pub(crate) enum Happening {
     /// A datagram of these octets came to a port, from the peer of this number. A word was drawn for it.
@@ -20,9 +27,16 @@ pub(crate) enum Happening {
 /// An event that a participant was told, and what it answered, with the octets of the compound apart.
 #[derive(Drop, Debug, PartialEq, Eq)]
 pub(crate) struct Telling {
-    pub(crate) event: Happening,
-    pub(crate) reply: Reply,
-    pub(crate) octets: Vec<u8>,
+    /// How many calls of the link came before it.
+    calls: usize,
+    event: Happening,
+    reply: Reply,
+    octets: Vec<u8>,
+}
+
+/// What a clause knows of a watch.
+pub(crate) trait Watched {
+    ghost told: { Self → Option (List TellingValue) };
 }
 
 /// What a link was told, in its order, as long as it fits the room that was reserved for it.
@@ -32,6 +46,15 @@ pub(crate) struct Watch {
     pub(crate) tellings: Vec<Telling>,
     /// Whether all of it fitted.
     pub(crate) is_whole: bool,
+}
+
+impl Watched for Watch {
+    ghost told = { λ watch. if watch.is_whole then Some (reverse (map (λ noted. telling (elim noted.event [
+      | Came port now peer w octets ↦ event_at port now peer w octets.items
+      | SentRtp now timestamp octets ↦ packet_sent now timestamp octets
+      | Tick now first second ↦ time_passed now first second
+      | Leave now w ↦ leave_asked now w
+    ]) (reply_value noted.octets.items noted.reply)) watch.tellings.items)) else None };
 }
 
 impl Watch {
@@ -51,26 +74,51 @@ impl Watch {
         }
     }
 
-    /// Notes an event with its answer, if it fits.
-    pub(crate) fn note(&mut self, event: &Event<'_>, answer: &Answer) {
-        match telling_of(self.alloc, event, answer) {
-            Ok(telling) => self.push(telling),
+    /// Notes an event with its answer, after so many calls of the link, if it fits.
+    pub(crate) fn note(&mut self, calls: usize, event: &Event<'_>, answer: &Answer)
+        ensures { GrowsBy (telling (event_value event.now) (answer_value answer.now) ∷ [])
+            (⟦<Watch as Watched>⟧.told self.old) (⟦<Watch as Watched>⟧.told self.new) }
+    {
+        match telling_of(self.alloc, calls, event, answer) {
+            Ok(noted) => self.push(noted),
             Err(_) => self.is_whole = false,
         }
     }
 
-    fn push(&mut self, telling: Telling) {
+    fn push(&mut self, noted: Telling)
+        ensures { GrowsBy (telling (elim noted.event [
+          | Came port now peer w octets ↦ event_at port now peer w octets.items
+          | SentRtp now timestamp octets ↦ packet_sent now timestamp octets
+          | Tick now first second ↦ time_passed now first second
+          | Leave now w ↦ leave_asked now w
+        ]) (reply_value noted.octets.items noted.reply) ∷ [])
+            (⟦<Watch as Watched>⟧.told self.old) (⟦<Watch as Watched>⟧.told self.new) }
+    {
         self.is_whole = self.is_whole
             && self.tellings.len() < self.tellings.capacity()
-            && self.tellings.push(telling).is_ok();
+            && self.tellings.push(noted).is_ok();
     }
 }
 
 /// An event with its answer, as it is noted.
-fn telling_of(alloc: Global, event: &Event<'_>, answer: &Answer) -> Result<Telling, AllocError> {
+fn telling_of(
+    alloc: Global,
+    calls: usize,
+    event: &Event<'_>,
+    answer: &Answer,
+) -> Result<Telling, AllocError>
+    ensures { IfOk result (λ noted. telling (elim noted.event [
+      | Came port now peer w octets ↦ event_at port now peer w octets.items
+      | SentRtp now timestamp octets ↦ packet_sent now timestamp octets
+      | Tick now first second ↦ time_passed now first second
+      | Leave now w ↦ leave_asked now w
+    ]) (reply_value noted.octets.items noted.reply)
+        ≡ telling (event_value event.now) (answer_value answer.now)) }
+{
     let event = happening_of(alloc, event)?;
     let (reply, octets) = reply_of(alloc, answer)?;
     Ok(Telling {
+        calls,
         event,
         reply,
         octets,
@@ -78,7 +126,14 @@ fn telling_of(alloc: Global, event: &Event<'_>, answer: &Answer) -> Result<Telli
 }
 
 /// An event, as it is noted.
-fn happening_of(alloc: Global, event: &Event<'_>) -> Result<Happening, AllocError> {
+fn happening_of(alloc: Global, event: &Event<'_>) -> Result<Happening, AllocError>
+    ensures { IfOk result (λ noted. elim noted [
+      | Came port now peer w octets ↦ event_at port now peer w octets.items
+      | SentRtp now timestamp octets ↦ packet_sent now timestamp octets
+      | Tick now first second ↦ time_passed now first second
+      | Leave now w ↦ leave_asked now w
+    ] ≡ event_value event.now) }
+{
     match *event {
         Event::ArriveRtcp {
             now,
@@ -109,7 +164,9 @@ fn happening_of(alloc: Global, event: &Event<'_>) -> Result<Happening, AllocErro
 }
 
 /// An answer without its compound, and the octets of that.
-fn reply_of(alloc: Global, answer: &Answer) -> Result<(Reply, Vec<u8>), AllocError> {
+fn reply_of(alloc: Global, answer: &Answer) -> Result<(Reply, Vec<u8>), AllocError>
+    ensures { IfOk result (λ noted. reply_value noted.1.items noted.0 ≡ answer_value answer.now) }
+{
     let step = match answer {
         Ok(step) => step,
         Err(refusal) => return Ok((Err(*refusal), Vec::new(alloc))),

@@ -1,9 +1,12 @@
 -- The clock, and then the compound of the tick, if it has one.
-use Rattle.std.proofs.Common.{◌≡◌, ◌+◌, Err, sym, ap, ◌∙◌, subst}
+use Rattle.std.proofs.Common.{◌≡◌, ◌+◌, [], ◌∷◌, Err, sym, ap, ◌∙◌, subst}
 use Rattle.std.proofs.lemmas.Result.{err_from_is_err_and}
+use Rattle.rtcp_engine.specs.Acts.{time_passed}
+use Rattle.rtcp_engine.specs.Views.{answer_value}
+use Rattle.rtcp_serve.specs.Links.{telling}
 use Rattle.rtcp_serve.specs.Serving.{resting, ended, stage_to_send}
 use Rattle.rtcp_serve.specs.Sessions.{Reaches, ReachesBy}
-use Rattle.rtcp_serve.proofs.ServeLemmas.{Stays, called_still, comes_either_way, leads_on, room_still, tick_told}
+use Rattle.rtcp_serve.proofs.ServeLemmas.{Stays, called_still, comes_either_way, grew_since, leads_on, room_still, tick_told}
 use Rattle.rtcp_serve.proofs.serving.turns.tick.Goals as goal
 
 pub returns-in_err-hand_over-clause-leads : goal.returns-in_err-hand_over-clause-leads
@@ -11,7 +14,7 @@ returns-in_err-hand_over-clause-leads g c = λ reader total s holds stage.
     let (moment, read, counts) = c.read_clock.ensures.called in
     let stays : Stays _ _ = record { log = c.told.ensures.log; failed_receives = c.told.ensures.receives; failed_sends = c.told.ensures.sends } in
     let called = called_still _ _ _ _ read stays in
-    let (t, leads, held, at, turns, leaving) = tick_told reader total moment s _ _ _ _ _ _ _ _ _ _ holds stage called counts (_, c.next_u32-first.ensures, c.next_u32-second.ensures) (c.tick-answer.ensures.takes.stands s.history holds.participant) in
+    let (t, leads, held, at, turns, leaving) = tick_told reader total moment s _ _ _ _ _ _ _ _ _ _ _ holds stage called counts (_, c.next_u32-first.ensures, c.next_u32-second.ensures) (c.tick-answer.ensures.takes.answer s.history holds.participant) (c.tick-answer.ensures.takes.stands s.history holds.participant) (grew_since (telling (time_passed c.read_clock.new.tally.moment c.next_u32-first.result c.next_u32-second.result) (answer_value c.tick-answer.result) ∷ []) _ _ _ c.read_clock.ensures.told c.told.ensures.told) in
     let answered = ap (stage_to_send resting resting) (sym (c.tick-answer.ensures.takes.answer s.history holds.participant)) in
     let (calls, u, on, holds', ends, turns', leaving', history) = c.hand_over.ensures.leads reader total resting resting _ _ t held (at ∙ answered) in
     let exit = err_from_is_err_and c.from_residual.result c.from_residual.ensures.1 in
@@ -29,7 +32,7 @@ returns-clause-leads g c = λ reader total s holds stage.
     let (moment, read, counts) = c.read_clock.ensures.called in
     let stays : Stays _ _ = record { log = c.told.ensures.log; failed_receives = c.told.ensures.receives; failed_sends = c.told.ensures.sends } in
     let called = called_still _ _ _ _ read stays in
-    let (t, leads, held, at, turns, leaving) = tick_told reader total moment s _ _ _ _ _ _ _ _ _ _ holds stage called counts (_, c.next_u32-first.ensures, c.next_u32-second.ensures) (c.tick-answer.ensures.takes.stands s.history holds.participant) in
+    let (t, leads, held, at, turns, leaving) = tick_told reader total moment s _ _ _ _ _ _ _ _ _ _ _ holds stage called counts (_, c.next_u32-first.ensures, c.next_u32-second.ensures) (c.tick-answer.ensures.takes.answer s.history holds.participant) (c.tick-answer.ensures.takes.stands s.history holds.participant) (grew_since (telling (time_passed c.read_clock.new.tally.moment c.next_u32-first.result c.next_u32-second.result) (answer_value c.tick-answer.result) ∷ []) _ _ _ c.read_clock.ensures.told c.told.ensures.told) in
     let answered = ap (stage_to_send resting resting) (sym (c.tick-answer.ensures.takes.answer s.history holds.participant)) in
     let (calls, u, on, holds', ends, turns', leaving', history) = c.hand_over.ensures.leads reader total resting resting _ _ t held (at ∙ answered) in
     (_, u, leads_on reader total _ calls s t u _ _ _ leads on, holds', comes_either_way resting c.in_ok-hand_over.field-0 u (subst (λ r. ReachesBy resting resting r u) c.in_ok-hand_over.was ends), turns' ∙ turns, leaving' ∙ leaving)

@@ -10,7 +10,7 @@ use Rattle.rtcp_serve.proofs.serving.turns.turn.Goals as goal
 pub returns-in_err-hear-clause-leads : goal.returns-in_err-hear-clause-leads
 returns-in_err-hear-clause-leads g c = λ reader total left s reads holds has.
     let (moment, called, counts) = c.read_clock.ensures.called in
-    let (t, leads, held, at, turns, leaving) = turn_clocked reader total left moment s _ _ _ _ _ _ holds has called counts in
+    let (t, leads, held, at, turns, leaving) = turn_clocked reader total left moment s _ _ _ _ _ _ holds has called c.read_clock.ensures.told counts in
     let (calls, u, on, held', ends, turns', leaving') = c.hear.ensures.leads reader total t reads held at in
     let exit = err_from_is_err_and c.from_residual.result c.from_residual.ensures.1 in
     let ended_by : u.stage ≡ ended c.in_err-hear.field-0.0 = subst (λ r. Reaches (hearing RtpPort) r u) c.in_err-hear.was ends in (
@@ -33,7 +33,7 @@ hear-requires-2-clause-room g c = c.hear.ensures.room 2 (c.read_clock.ensures.ro
 pub returns-in_err-hear-2-clause-leads : goal.returns-in_err-hear-2-clause-leads
 returns-in_err-hear-2-clause-leads g c = λ reader total left s reads holds has.
     let (moment, called, counts) = c.read_clock.ensures.called in
-    let (t, leads, held, at, turns, leaving) = turn_clocked reader total left moment s _ _ _ _ _ _ holds has called counts in
+    let (t, leads, held, at, turns, leaving) = turn_clocked reader total left moment s _ _ _ _ _ _ holds has called c.read_clock.ensures.told counts in
     let (calls, u, on, held', next, turns', leaving') = c.hear.ensures.leads reader total t reads held at in
     let at' : u.stage ≡ hearing RtpPort = subst (λ r. Reaches (hearing RtpPort) r u) c.in_ok-hear.was next in
     let (more, v, on', held'', ends, turns'', leaving'') = c.hear-2.ensures.leads reader total u reads held' at' in
@@ -59,7 +59,7 @@ tick-requires g c = record { room = c.hear-2.ensures.room 1 (c.hear.ensures.room
 pub returns-clause-leads : goal.returns-clause-leads
 returns-clause-leads g c = λ reader total left s reads holds has.
     let (moment, called, counts) = c.read_clock.ensures.called in
-    let (t, leads, held, at, turns, leaving) = turn_clocked reader total left moment s _ _ _ _ _ _ holds has called counts in
+    let (t, leads, held, at, turns, leaving) = turn_clocked reader total left moment s _ _ _ _ _ _ holds has called c.read_clock.ensures.told counts in
     let (calls, u, on, held', next, turns', leaving') = c.hear.ensures.leads reader total t reads held at in
     let at' : u.stage ≡ hearing RtpPort = subst (λ r. Reaches (hearing RtpPort) r u) c.in_ok-hear.was next in
     let (more, v, on', held'', next', turns'', leaving'') = c.hear-2.ensures.leads reader total u reads held' at' in
