@@ -6,6 +6,7 @@ mod DigitBlocks
 mod DigitTable
 mod DigitText
 mod EventRows
+mod EventTextLemmas
 mod FieldLemmas
 mod Joined
 pub mod LawLemmas

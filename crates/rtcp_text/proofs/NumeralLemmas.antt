@@ -31,7 +31,7 @@ AllDigits-from_test (digit ∷ digits) h =
     let parts = and_parts (is_digit digit 10) (list_all (λ d. is_digit d 10) digits) h in
     (ltb-true (digit_value digit) 10 parts.0, AllDigits-from_test digits parts.1)
 
-test-from_AllDigits : (text : List ℕ) → AllDigits 10 text → list_all (λ digit. is_digit digit 10) text ≡ true
+pub test-from_AllDigits : (text : List ℕ) → AllDigits 10 text → list_all (λ digit. is_digit digit 10) text ≡ true
 test-from_AllDigits [] all = refl
 test-from_AllDigits (digit ∷ digits) all =
     and_from (is_digit digit 10) (list_all (λ d. is_digit d 10) digits) (lt-ltb (digit_value digit) 10 all.0) (test-from_AllDigits digits all.1)

@@ -1,10 +1,12 @@
 -- What a line of a session says, as `rtcp replay` reads it.
-use Rattle.std.specs.Prelude.{ℕ, ◌==◌, List, [], ◌∷◌, if◌then◌else◌, Option, Some, None, Result, Ok, Err, codes}
+use Rattle.std.specs.Prelude.{ℕ, ◌==◌, ◌<◌, ◌^◌, List, [], ◌∷◌, ◌++◌, if◌then◌else◌, Option, Some, None, Result, Ok, Err, codes}
 use Rattle.std.specs.Borrow.{Bor}
+use Rattle.std.specs.Fmt.{decimal}
 use Rattle.std.specs.Int.{w32}
 use Rattle.std.specs.List.{slice_split}
 use Rattle.std.specs.Option.{ok_or}
 use Rattle.std.specs.Str.{bytes_eq}
+use Rattle.hex.specs.Hex.{IsBytes, encode_lower}
 use Rattle.rtcp_engine.specs.Acts.{EventValue, rtcp_arrived, rtp_arrived, packet_sent, time_passed, leave_asked}
 use Rattle.rtcp_text.specs.declared.event_line.LineKind.{LineKind}
 use Rattle.rtcp_text.specs.declared.event_line.LineKind.TheVariants.{Rtcp, Rtp, Sent, Ticked, Left}
@@ -12,6 +14,7 @@ use Rattle.rtcp_text.specs.declared.fault.LineFault.{LineFault}
 use Rattle.rtcp_text.specs.declared.fault.LineFault.TheVariants.{Words, Hex, Number}
 use Rattle.rtcp_text.specs.Numerals.{decimal_in, hex_in, datagram_in}
 use Rattle.rtcp_text.specs.Results.{◌>>=◌}
+use Rattle.rtcp_text.specs.Text.{hex_word}
 
 -- ---- Fields
 
@@ -100,3 +103,52 @@ event_of (name ∷ fields) = event_with (kind_named name) fields
 -- The event of a line, or the first fault of the line.
 abbrev pub event_in : (line : List ℕ) → Result EventValue LineFault
 event_in line = event_of (fields_of line)
+
+-- ---- Events as lines
+
+-- a datagram as a field: a hyphen where it is empty, else two lower-case digits an octet
+abbrev pub datagram_text : List ℕ → List ℕ
+datagram_text [] = codes "-"
+datagram_text (octet ∷ octets) = encode_lower (octet ∷ octets)
+
+-- fields with a space (32) between them
+abbrev pub spaced : List (List ℕ) → List ℕ
+spaced [] = []
+spaced (field ∷ []) = field
+spaced (field ∷ next ∷ others) = field ++ 32 ∷ spaced (next ∷ others)
+
+abbrev pub arrival_fields : (moment peer word : ℕ) → List ℕ → List (List ℕ)
+arrival_fields moment peer word octets = decimal moment ∷ decimal peer ∷ hex_word word ∷ datagram_text octets ∷ []
+
+-- The fields of an event: numbers have no leading zeros, and hex digits are lower-case.
+abbrev pub event_fields : EventValue → List (List ℕ)
+event_fields (rtcp_arrived moment peer word octets) = codes "rtcp" ∷ arrival_fields moment peer word octets
+event_fields (rtp_arrived moment peer word octets) = codes "rtp" ∷ arrival_fields moment peer word octets
+event_fields (packet_sent moment timestamp octets) =
+    codes "sent" ∷ decimal moment ∷ decimal timestamp ∷ decimal octets ∷ []
+event_fields (time_passed moment first_word second_word) =
+    codes "tick" ∷ decimal moment ∷ hex_word first_word ∷ hex_word second_word ∷ []
+event_fields (leave_asked moment word) = codes "leave" ∷ decimal moment ∷ hex_word word ∷ []
+
+-- The line of an event, without its line feed.
+abbrev pub event_text : EventValue → List ℕ
+event_text event = spaced (event_fields event)
+
+-- The numbers of an event are those of its call: 64 bits for moments and peers, 32 for the rest.
+abbrev pub IsCallable : EventValue → Type 0
+IsCallable (rtcp_arrived moment peer word octets) =
+    (moment < 2 ^ 64) × (peer < 2 ^ 64) × (word < 2 ^ 32) × IsBytes octets
+IsCallable (rtp_arrived moment peer word octets) =
+    (moment < 2 ^ 64) × (peer < 2 ^ 64) × (word < 2 ^ 32) × IsBytes octets
+IsCallable (packet_sent moment timestamp octets) = (moment < 2 ^ 64) × (timestamp < 2 ^ 32) × (octets < 2 ^ 32)
+IsCallable (time_passed moment first_word second_word) =
+    (moment < 2 ^ 64) × (first_word < 2 ^ 32) × (second_word < 2 ^ 32)
+IsCallable (leave_asked moment word) = (moment < 2 ^ 64) × (word < 2 ^ 32)
+
+-- the octets of the datagram that an event brings
+abbrev pub datagram_in_event : EventValue → List ℕ
+datagram_in_event (rtcp_arrived moment peer word octets) = octets
+datagram_in_event (rtp_arrived moment peer word octets) = octets
+datagram_in_event (packet_sent moment timestamp octets) = []
+datagram_in_event (time_passed moment first_word second_word) = []
+datagram_in_event (leave_asked moment word) = []

@@ -1,4 +1,5 @@
-//! The text of packets, faults and answers, as `rtcp check` and `rtcp replay` show them.
+//! The text of packets, faults and answers, as `rtcp check` and `rtcp replay` show them, and of events, as `rtcp replay`
+//! reads them.
 //!
 //! # Errors
 //!
@@ -12,6 +13,7 @@ ghost use Rattle.rtcp_text.specs.Text.{packet_text, accepted_text, reason_text, 
 mod answers;
 mod descriptions;
 pub mod digits;
+mod events;
 mod goodbyes;
 mod joined;
 mod others;
@@ -22,6 +24,7 @@ pub(crate) use answers::push_reply;
 pub use answers::{push_answer, push_start};
 use descriptions::push_description;
 use digits::push_decimal;
+pub use events::push_event;
 use goodbyes::push_goodbye;
 use others::{push_application, push_other};
 use reports::{push_receiver_report, push_sender_report};

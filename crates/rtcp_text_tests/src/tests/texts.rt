@@ -1,9 +1,11 @@
 //! Texts of packets, faults and answers.
 
 use arrayvec::ArrayVec;
-use rtcp_engine::{Answer, Out, OutKind, Refusal, Step};
+use rtcp_engine::{Answer, Event, Out, OutKind, Refusal, Step};
 use rtcp_text::text::digits::{push_decimal, push_octets, push_signed};
-use rtcp_text::text::{push_accepted, push_answer, push_fault, push_packet, push_start};
+use rtcp_text::text::{
+    push_accepted, push_answer, push_event, push_fault, push_packet, push_start,
+};
 use rtcp_wire::{Compound, FaultReason, RtpFault, WireFault};
 use std::alloc::{AllocError, Global};
 use std::test::Fail;
@@ -215,6 +217,48 @@ fn answer_line(alloc: Global, answer: Answer) -> Result<Vec<u8>, AllocError> {
     let mut out = Vec::new(alloc);
     push_answer(&mut out, &answer)?;
     Ok(out)
+}
+
+/// The line of each kind of event, as docs/FORMATS.md describes them.
+#[test]
+fn events(rt: HostRuntime) -> Result<(), Fail> {
+    let rtcp = Event::ArriveRtcp {
+        now: 0,
+        peer: 139_637_976_798_093,
+        w: 0xbb,
+        bytes: &EMPTY_REPORT,
+    };
+    let rtp = Event::ArriveRtp {
+        now: 1_125_899_906_842_624,
+        peer: u64::MAX,
+        w: u32::MAX,
+        bytes: &[],
+    };
+    let sent = Event::SentRtp {
+        now: 20_000,
+        rtp_ts: u32::MAX,
+        octets: 160,
+    };
+    let tick = Event::Tick {
+        now: 1_026_037,
+        w1: 0,
+        w2: 0x89ab_cdef,
+    };
+    let leave = Event::Leave {
+        now: 2_000_000,
+        w: 1,
+    };
+    let mut out = Vec::new(rt.alloc());
+    for event in [rtcp, rtp, sent, tick, leave] {
+        push_event(&mut out, &event)?;
+    }
+    let want = "rtcp 0 139637976798093 000000bb 80c9000101234567\n\
+        rtp 1125899906842624 18446744073709551615 ffffffff -\n\
+        sent 20000 4294967295 160\n\
+        tick 1026037 00000000 89abcdef\n\
+        leave 2000000 00000001\n";
+    assert_eq!(rt; out.as_slice(), want.as_bytes());
+    Ok(())
 }
 
 #[test]

@@ -1,0 +1,414 @@
+-- The line of an event is read as that event.
+use Rattle.std.proofs.Common.{option_map, ◌≡◌, ◌≢◌, ℕ, suc, ◌+◌, ◌*◌, ◌<◌, ◌≤◌, ◌^◌, ◌==◌, ◌&&◌, Bool, true, false, nat_le, nat_lt, List, [], ◌∷◌, ◌++◌, length, All, if◌then◌else◌, Option, Some, None, Result, Ok, Err, codes, w32, refl, sym, ap, subst, ◌∙◌, arith, lit<, zero, map, length-append, append_assoc}
+use Rattle.std.specs.Fmt.{decimal}
+use Rattle.std.specs.Char.{is_digit}
+use Rattle.std.specs.Int.{to_be_bytes, from_be_bytes}
+use Rattle.std.specs.List.{flat_map, list_all}
+use Rattle.std.specs.Option.{ok_or}
+use Rattle.std.specs.Result.{result_ok, result_unwrap_or}
+use Rattle.std.specs.Str.{bytes_eq}
+use Rattle.std.specs.Str.Parse.{AllDigits, digits_value}
+use Rattle.std.proofs.lemmas.Bool.{and_from, and_parts, cond-true, false_from_ne_true, lt-ltb, le-leb, ltb-true}
+use Rattle.std.proofs.lemmas.Fmt.{decimal_is_IsNumeral, length-decimal-le}
+use Rattle.std.proofs.lemmas.Bool.Decides.{nat_tests}
+use Rattle.std.proofs.lemmas.List.Elements.{All-weaker, All-cons, All-nil, All-append, All-head, All-tail}
+use Rattle.std.proofs.lemmas.List.Sums.{AllPass-from_list_all}
+use Rattle.std.proofs.lemmas.List.Splits.{slice_split_at, slice_split_none}
+use Rattle.std.proofs.lemmas.Nat.{from_be_bytes-to_be_bytes_4}
+use Rattle.std.proofs.lemmas.Str.Parse.{digit_from_value}
+use Rattle.std.proofs.lemmas.Slice.Eq.{bytes_eq-Decides}
+use Rattle.hex.specs.Hex.{IsBytes, decode_of, decode_sized, encode_lower, is_hex_digit, lower_digits}
+use Rattle.hex.specs.declared.error.FromHexError.{FromHexError}
+use Rattle.hex.proofs.HexLemmas.{decode_of-encode_lower, decode_of-ok, decode_sized-encode_lower, decode_sized-ok, decode_sized-twice, length-encode_with}
+use Rattle.rtcp_engine.specs.Acts.{EventValue, rtcp_arrived, rtp_arrived, packet_sent, time_passed, leave_asked}
+use Rattle.rtcp_text.specs.declared.event_line.LineKind.{LineKind}
+use Rattle.rtcp_text.specs.declared.event_line.LineKind.TheVariants.{Rtcp, Rtp, Sent, Ticked, Left}
+use Rattle.rtcp_text.specs.declared.fault.LineFault.{LineFault}
+use Rattle.rtcp_text.specs.declared.fault.LineFault.TheVariants.{Hex, Number}
+use Rattle.rtcp_text.specs.Numerals.{is_decimal, decimal_in, hex_in, datagram_in}
+use Rattle.rtcp_text.specs.EventLines.{fields_of, event_in, event_of, event_text, arrival_fields, event_fields, spaced, datagram_text, moment_in, peer_in, short_in, word_in, octets_in, arrival, sending, tick, leave, kind_named, event_with, datagram_in_event, IsCallable}
+use Rattle.rtcp_text.specs.Lines.{lines_of, HasNoLineFeed}
+use Rattle.rtcp_text.specs.Results.{◌>>=◌}
+use Rattle.rtcp_text.specs.Text.{hex_word}
+use Rattle.rtcp_text.proofs.LinesLemmas.{lines_of-line}
+use Rattle.rtcp_text.proofs.NumeralLemmas.{test-from_AllDigits}
+
+-- ---- Fields
+
+-- Digits and a hyphen lie above a space (32) and a line feed (10).
+abbrev pub IsField : List ℕ → Type 0
+IsField field = All (λ octet. 32 < octet) field
+
+no_space : (octet : ℕ) → 32 < octet → (octet == 32) ≡ false
+no_space octet above = grind (arith, nat_tests, above)
+
+without_spaces : (field : List ℕ) → IsField field → All (λ octet. (octet == 32) ≡ false) field
+without_spaces field h = All-weaker (λ octet. 32 < octet) (λ octet. (octet == 32) ≡ false) no_space field h
+
+abbrev pub EachIsField : List (List ℕ) → Type 0
+EachIsField [] = Unit {0}
+EachIsField (field ∷ fields) = IsField field × EachIsField fields
+
+fields_of-spaced : (field : List ℕ) (others : List (List ℕ)) → EachIsField (field ∷ others)
+    → fields_of (spaced (field ∷ others)) ≡ field ∷ others
+fields_of-spaced field [] h = slice_split_none (λ octet. octet == 32) field (without_spaces field h.0)
+fields_of-spaced field (next ∷ others) h =
+    slice_split_at (λ octet. octet == 32) field 32 (spaced (next ∷ others)) (without_spaces field h.0) refl
+    ∙ ap (λ fields. field ∷ fields) (fields_of-spaced next others h.1)
+
+digits_field : (text : List ℕ) → AllDigits 10 text → IsField text
+digits_field [] all = All-nil (λ octet. 32 < octet)
+digits_field (digit ∷ digits) all =
+    let range = digit_from_value digit all.0 in
+    All-cons (λ octet. 32 < octet) digit digits (omega (arith, range)) (digits_field digits all.1)
+
+pub decimal_field : (n : ℕ) → n < 2 ^ 64 → IsField (decimal n)
+decimal_field n small = digits_field (decimal n) (decimal_is_IsNumeral n small).0.1
+
+hex_digit_field : (octet : ℕ) → is_hex_digit octet ≡ true → 32 < octet
+hex_digit_field octet h = grind (arith, nat_tests, h)
+
+pub hex_field : (octets : List ℕ) → IsBytes octets → IsField (encode_lower octets)
+hex_field octets bytes =
+    All-weaker (λ octet. is_hex_digit octet ≡ true) (λ octet. 32 < octet) hex_digit_field (encode_lower octets)
+    (decode_of-ok (encode_lower octets) octets (decode_of-encode_lower octets bytes)).1
+
+-- ---- Fields are read back
+
+pub decimal_read_back : (bits n : ℕ) → n < 2 ^ 64 → n < 2 ^ bits → decimal_in bits (decimal n) ≡ Some n
+decimal_read_back bits n small fits =
+    let numeral = decimal_is_IsNumeral n small in
+    let text : List ℕ = decimal n in
+    let few : length text ≤ 20 = length-decimal-le 20 n (lit< tt) (omega (arith, small)) small in
+    let all = test-from_AllDigits text numeral.0.1 in
+    let short = and_from (nat_le 1 (length text)) (nat_le (length text) 20)
+        (le-leb 1 (length text) (omega (arith, numeral.0.0))) (le-leb (length text) 20 few) in
+    let digits = and_from (nat_le 1 (length text) && nat_le (length text) 20)
+        (list_all (λ d. is_digit d 10) text) short all in
+    let below = lt-ltb (digits_value 10 text) (2 ^ bits) (subst (λ (m : ℕ). m < 2 ^ bits) (sym numeral.1) fits) in
+    cond-true (is_decimal text && nat_lt (digits_value 10 text) (2 ^ bits)) (Some (digits_value 10 text)) None
+    (and_from (is_decimal text) (nat_lt (digits_value 10 text) (2 ^ bits)) digits below)
+    ∙ ap Some numeral.1
+
+word_bytes : (n : ℕ) → IsBytes (to_be_bytes w32 n)
+word_bytes n zero = omega arith
+word_bytes n (suc zero) = omega arith
+word_bytes n (suc (suc zero)) = omega arith
+word_bytes n (suc (suc (suc zero))) = omega arith
+word_bytes n (suc (suc (suc (suc i)))) = omega arith
+
+pub word_read_back : (n : ℕ) → n < 2 ^ 32 → hex_in w32 (hex_word n) ≡ Some n
+word_read_back n small =
+    ap (λ r. option_map (from_be_bytes w32) (result_ok r))
+        (decode_sized-encode_lower (to_be_bytes w32 n) 4 refl (word_bytes n))
+    ∙ ap Some (from_be_bytes-to_be_bytes_4 n small)
+
+pub word_field : (n : ℕ) → IsField (hex_word n)
+word_field n = hex_field (to_be_bytes w32 n) (word_bytes n)
+
+pub datagram_read_back : (octets : List ℕ) → IsBytes octets → datagram_in (datagram_text octets) ≡ Some octets
+datagram_read_back [] bytes = refl
+datagram_read_back (octet ∷ octets) bytes =
+    let text : List ℕ = encode_lower (octet ∷ octets) in
+    let long : length text ≡ 2 * suc (length octets) = length-encode_with lower_digits (octet ∷ octets) in
+    let no_hyphen : bytes_eq text (codes "-") ≡ false =
+        false_from_ne_true (bytes_eq text (codes "-"))
+        (λ yes. omega (arith, long, ap length ((bytes_eq-Decides text (codes "-")).0 yes))) in
+    let some : (length text == 0) ≡ false = grind (arith, nat_tests, long) in
+    ap (λ b. if b then Some [] else (if length text == 0 then None else result_ok (decode_of text))) no_hyphen
+    ∙ ap (λ b. if b then None else result_ok (decode_of text)) some
+    ∙ ap result_ok (decode_of-encode_lower (octet ∷ octets) bytes)
+
+pub datagram_field : (octets : List ℕ) → IsBytes octets → IsField (datagram_text octets)
+datagram_field [] bytes = All-cons (λ octet. 32 < octet) 45 [] (lit< tt) (All-nil (λ octet. 32 < octet))
+datagram_field (octet ∷ octets) bytes = hex_field (octet ∷ octets) bytes
+
+-- ---- Lines are read back
+
+moment_read : (n : ℕ) → n < 2 ^ 64 → moment_in (decimal n) ≡ Ok n
+moment_read n small = ap (λ o. ok_or o Number) (decimal_read_back 64 n small small)
+
+short_read : (n : ℕ) → n < 2 ^ 32 → short_in (decimal n) ≡ Ok n
+short_read n small = ap (λ o. ok_or o Number) (decimal_read_back 32 n (omega arith) small)
+
+word_read : (n : ℕ) → n < 2 ^ 32 → word_in (hex_word n) ≡ Ok n
+word_read n small = ap (λ o. ok_or o Hex) (word_read_back n small)
+
+octets_read : (octets : List ℕ) → IsBytes octets → octets_in (datagram_text octets) ≡ Ok octets
+octets_read octets bytes = ap (λ o. ok_or o Hex) (datagram_read_back octets bytes)
+
+arrival_read : (arrived : (moment peer word : ℕ) → List ℕ → EventValue) (moment peer word : ℕ) (octets : List ℕ)
+    → moment < 2 ^ 64 → peer < 2 ^ 64 → word < 2 ^ 32 → IsBytes octets
+    → arrival arrived (arrival_fields moment peer word octets) ≡ Ok (arrived moment peer word octets)
+arrival_read arrived moment peer word octets now from small bytes =
+    rw (moment_read moment now, moment_read peer from, word_read word small, octets_read octets bytes) refl
+
+-- ---- Each field is one
+
+arrival_are : (moment peer word : ℕ) (octets : List ℕ) → moment < 2 ^ 64 → peer < 2 ^ 64 → IsBytes octets
+    → EachIsField (arrival_fields moment peer word octets)
+arrival_are moment peer word octets now from bytes =
+    (decimal_field moment now, (decimal_field peer from, (word_field word, (datagram_field octets bytes, tt))))
+
+name_field : (name : List ℕ) → list_all (λ octet. nat_lt 32 octet) name ≡ true → IsField name
+name_field name h = All-weaker (λ octet. nat_lt 32 octet ≡ true) (λ octet. 32 < octet) (ltb-true 32) name
+    (AllPass-from_list_all (nat_lt 32) name h)
+
+event_are : (event : EventValue) → IsCallable event → EachIsField (event_fields event)
+event_are (rtcp_arrived moment peer word octets) h =
+    (name_field (codes "rtcp") refl, arrival_are moment peer word octets h.0 h.1 h.3)
+event_are (rtp_arrived moment peer word octets) h =
+    (name_field (codes "rtp") refl, arrival_are moment peer word octets h.0 h.1 h.3)
+event_are (packet_sent moment timestamp octets) h = (
+  name_field (codes "sent") refl,
+  (
+    decimal_field moment h.0,
+    (decimal_field timestamp (omega (arith, h.1)), (decimal_field octets (omega (arith, h.2)), tt)),
+  ),
+)
+event_are (time_passed moment first second) h =
+    (name_field (codes "tick") refl, (decimal_field moment h.0, (word_field first, (word_field second, tt))))
+event_are (leave_asked moment word) h =
+    (name_field (codes "leave") refl, (decimal_field moment h.0, (word_field word, tt)))
+
+-- ---- Lines are read back
+
+fields_read : (event : EventValue) → IsCallable event → event_of (event_fields event) ≡ Ok event
+fields_read (rtcp_arrived moment peer word octets) h = arrival_read rtcp_arrived moment peer word octets h.0 h.1 h.2 h.3
+fields_read (rtp_arrived moment peer word octets) h = arrival_read rtp_arrived moment peer word octets h.0 h.1 h.2 h.3
+fields_read (packet_sent moment timestamp octets) h =
+    rw (moment_read moment h.0, short_read timestamp h.1, short_read octets h.2) refl
+fields_read (time_passed moment first second) h =
+    rw (moment_read moment h.0, word_read first h.1, word_read second h.2) refl
+fields_read (leave_asked moment word) h = rw (moment_read moment h.0, word_read word h.1) refl
+
+fields_of_event : (event : EventValue) → EachIsField (event_fields event) → fields_of (event_text event)
+    ≡ event_fields event
+fields_of_event (rtcp_arrived moment peer word octets) h = fields_of-spaced _ _ h
+fields_of_event (rtp_arrived moment peer word octets) h = fields_of-spaced _ _ h
+fields_of_event (packet_sent moment timestamp octets) h = fields_of-spaced _ _ h
+fields_of_event (time_passed moment first second) h = fields_of-spaced _ _ h
+fields_of_event (leave_asked moment word) h = fields_of-spaced _ _ h
+
+pub read_back : (event : EventValue) → IsCallable event → event_in (event_text event) ≡ Ok event
+read_back event h = ap event_of (fields_of_event event (event_are event h)) ∙ fields_read event h
+
+-- ---- One line, and not too long
+
+no_feed : (octet : ℕ) → 32 < octet → octet ≢ 10
+no_feed octet above same = omega arith
+
+spaced_line : (fields : List (List ℕ)) → EachIsField fields → HasNoLineFeed (spaced fields)
+spaced_line [] h = All-nil (λ octet. octet ≢ 10)
+spaced_line (field ∷ []) h = All-weaker (λ octet. 32 < octet) (λ octet. octet ≢ 10) no_feed field h.0
+spaced_line (field ∷ next ∷ others) h =
+    All-append (λ octet. octet ≢ 10) field (32 ∷ spaced (next ∷ others))
+        (All-weaker (λ octet. 32 < octet) (λ octet. octet ≢ 10) no_feed field h.0)
+    (All-cons (λ octet. octet ≢ 10) 32 (spaced (next ∷ others)) (λ same. omega arith) (spaced_line (next ∷ others) h.1))
+
+pub one_line : (event : EventValue) → IsCallable event → HasNoLineFeed (event_text event)
+one_line event h = spaced_line (event_fields event) (event_are event h)
+
+-- so many octets at most, with the spaces
+record IsShort (most : ℕ) (fields : List (List ℕ)) : Type 0 where
+  short : length (spaced fields) ≤ most
+
+last_short : (most : ℕ) (field : List ℕ) → length field ≤ most → IsShort most (field ∷ [])
+last_short most field h = record { short = h }
+
+longer : (most more : ℕ) (field next : List ℕ) (others : List (List ℕ)) → length field ≤ more
+    → IsShort most (next ∷ others)
+    → IsShort (more + 1 + most) (field ∷ next ∷ others)
+longer most more field next others h k = record {
+  short = omega (arith, h, k.short, length-append field (32 ∷ spaced (next ∷ others)));
+}
+
+decimal_short : (n : ℕ) → n < 2 ^ 64 → length (decimal n) ≤ 20
+decimal_short n small = length-decimal-le 20 n (lit< tt) (omega (arith, small)) small
+
+word_short : (n : ℕ) → length (hex_word n) ≤ 8
+word_short n = omega (arith, length-encode_with lower_digits (to_be_bytes w32 n))
+
+datagram_short : (octets : List ℕ) → length octets ≤ 65535 → length (datagram_text octets) ≤ 131070
+datagram_short [] h = lit< tt
+datagram_short (octet ∷ octets) h = omega (arith, h, length-encode_with lower_digits (octet ∷ octets))
+
+arrival_short : (moment peer word : ℕ) (octets : List ℕ) → moment < 2 ^ 64 → peer < 2 ^ 64 → length octets ≤ 65535
+    → IsShort 131121 (arrival_fields moment peer word octets)
+arrival_short moment peer word octets now from few =
+    longer 131100 20 (decimal moment) (decimal peer) _ (decimal_short moment now)
+    (longer 131079 20 (decimal peer) (hex_word word) _ (decimal_short peer from)
+    (longer 131070 8 (hex_word word) (datagram_text octets) _ (word_short word)
+        (last_short 131070 (datagram_text octets) (datagram_short octets few))))
+
+pub short_line : (event : EventValue) → IsCallable event → length (datagram_in_event event) ≤ 65535
+    → length (event_text event) ≤ 131200
+short_line (rtcp_arrived moment peer word octets) h few =
+    omega (arith, (longer 131121 4 (codes "rtcp") _ _ (lit< tt)
+        (arrival_short moment peer word octets h.0 h.1 few)).short)
+short_line (rtp_arrived moment peer word octets) h few =
+    omega (arith, (longer 131121 3 (codes "rtp") _ _ (lit< tt)
+        (arrival_short moment peer word octets h.0 h.1 few)).short)
+short_line (packet_sent moment timestamp octets) h few =
+    omega (
+      arith,
+      (longer 62 4 (codes "sent") _ _ (lit< tt)
+          (longer 41 20 (decimal moment) (decimal timestamp) _ (decimal_short moment h.0)
+          (longer 20 20 (decimal timestamp) (decimal octets) _ (decimal_short timestamp (omega (arith, h.1)))
+          (last_short 20 (decimal octets) (decimal_short octets (omega (arith, h.2))))))).short,
+    )
+short_line (time_passed moment first second) h few =
+    omega (
+      arith,
+      (longer 38 4 (codes "tick") _ _ (lit< tt)
+          (longer 17 20 (decimal moment) (hex_word first) _ (decimal_short moment h.0)
+          (longer 8 8 (hex_word first) (hex_word second) _ (word_short first)
+              (last_short 8 (hex_word second) (word_short second))))).short,
+    )
+short_line (leave_asked moment word) h few =
+    omega (
+      arith,
+      (longer 29 5 (codes "leave") _ _ (lit< tt)
+          (longer 8 20 (decimal moment) (hex_word word) _ (decimal_short moment h.0)
+          (last_short 8 (hex_word word) (word_short word)))).short,
+    )
+
+-- ---- A record
+
+pub record_read : (events : List EventValue) → All IsCallable events
+    → map event_in (lines_of (flat_map (λ event. event_text event ++ 10 ∷ []) events)) ≡ map Ok events
+record_read [] h = refl
+record_read (event ∷ events) h =
+    let rest : List ℕ = flat_map (λ e. event_text e ++ 10 ∷ []) events in
+    let its = All-head IsCallable event events h in
+    ap (λ octets. map event_in (lines_of octets)) (append_assoc (event_text event) (10 ∷ []) rest)
+    ∙ ap (λ lines. map event_in lines) (lines_of-line (event_text event) rest (one_line event its))
+    ∙ ap (λ first. first ∷ map event_in (lines_of rest)) (read_back event its)
+    ∙ ap (λ others. Ok event ∷ others) (record_read events (All-tail IsCallable event events h))
+
+-- ---- What is read can be told
+
+bind_ok : {A B : Type 0} (r : Result A LineFault) (f : A → Result B LineFault) (y : B) → (r >>= f) ≡ Ok y
+    → (x : A) × (r ≡ Ok x) × (f x ≡ Ok y)
+bind_ok (Ok x) f y h = (x, refl, h)
+bind_ok (Err fault) f y h = cc h
+
+ok_inside : {A : Type 0} (x y : A) → ◌≡◌ {A = Result A LineFault} (Ok x) (Ok y) → x ≡ y
+ok_inside x y same = ap (λ r. result_unwrap_or r x) same
+
+read_below : (bits : ℕ) (text : List ℕ) (fault : LineFault) (n : ℕ) → ok_or (decimal_in bits text) fault ≡ Ok n
+    → n < 2 ^ bits
+read_below bits text fault n h = go (is_decimal text && nat_lt (digits_value 10 text) (2 ^ bits)) refl h
+  where
+    go : (b : Bool) → (is_decimal text && nat_lt (digits_value 10 text) (2 ^ bits)) ≡ b
+        → ok_or (if b then Some (digits_value 10 text) else None) fault ≡ Ok n → n < 2 ^ bits
+    go true is same =
+        let small = ltb-true (digits_value 10 text) (2 ^ bits)
+            (and_parts (is_decimal text) (nat_lt (digits_value 10 text) (2 ^ bits)) is).1 in
+        subst (λ (m : ℕ). m < 2 ^ bits) (ok_inside _ n same) small
+    go false is same = cc same
+
+read_word : (text : List ℕ) (fault : LineFault) (n : ℕ) → ok_or (hex_in w32 text) fault ≡ Ok n → n < 2 ^ 32
+read_word text fault n h = go (decode_sized text 4) refl h
+  where
+    go : (r : Result (List ℕ) FromHexError) → decode_sized text 4 ≡ r
+        → ok_or (option_map (from_be_bytes w32) (result_ok r)) fault ≡ Ok n → n < 2 ^ 32
+    go (Ok bytes) is same =
+        let long = decode_sized-ok text 4 bytes is in
+        let b = (decode_of-ok text bytes (sym (decode_sized-twice text 4 long) ∙ is)).3 in
+        omega (arith, ok_inside (from_be_bytes w32 bytes) n same, b 0, b 1, b 2, b 3)
+    go (Err e) is same = cc same
+
+read_octets : (text : List ℕ) (fault : LineFault) (octets : List ℕ) → ok_or (datagram_in text) fault ≡ Ok octets
+    → IsBytes octets
+read_octets text fault octets h = hyphen (bytes_eq text (codes "-")) h
+  where
+    decoded : (r : Result (List ℕ) FromHexError) → decode_of text ≡ r → ok_or (result_ok r) fault ≡ Ok octets
+        → IsBytes octets
+    decoded (Ok bytes) is same = subst IsBytes (ok_inside bytes octets same) (decode_of-ok text bytes is).3
+    decoded (Err e) is same = cc same
+
+    empty : (b : Bool) → ok_or (if b then None else result_ok (decode_of text)) fault ≡ Ok octets → IsBytes octets
+    empty true same = cc same
+    empty false same = decoded (decode_of text) refl same
+
+    hyphen : (b : Bool) → ok_or
+        (if b then Some [] else (if length text == 0 then None else result_ok (decode_of text))) fault ≡ Ok octets
+        → IsBytes octets
+    hyphen true same = subst IsBytes (ok_inside [] octets same) (λ i. lit< tt)
+    hyphen false same = empty (length text == 0) same
+
+abbrev Arrives : ((moment peer word : ℕ) → List ℕ → EventValue) → Type 0
+Arrives arrived = (moment peer word : ℕ) (octets : List ℕ) → moment < 2 ^ 64 → peer < 2 ^ 64 → word < 2 ^ 32
+    → IsBytes octets
+    → IsCallable (arrived moment peer word octets)
+
+arrival_callable : (arrived : (moment peer word : ℕ) → List ℕ → EventValue) → Arrives arrived
+    → (fields : List (List ℕ)) (event : EventValue) → arrival arrived fields ≡ Ok event → IsCallable event
+arrival_callable arrived each [] event h = cc h
+arrival_callable arrived each (a ∷ []) event h = cc h
+arrival_callable arrived each (a ∷ b ∷ []) event h = cc h
+arrival_callable arrived each (a ∷ b ∷ c ∷ []) event h = cc h
+arrival_callable arrived each (a ∷ b ∷ c ∷ d ∷ []) event h =
+    let moment = bind_ok (moment_in a) _ event h in
+    let peer = bind_ok (peer_in b) _ event moment.2 in
+    let word = bind_ok (word_in c) _ event peer.2 in
+    let octets = bind_ok (octets_in d) _ event word.2 in
+    subst IsCallable (ok_inside (arrived moment.0 peer.0 word.0 octets.0) event octets.2)
+    (each moment.0 peer.0 word.0 octets.0 (read_below 64 a Number moment.0 moment.1)
+        (read_below 64 b Number peer.0 peer.1)
+    (read_word c Hex word.0 word.1) (read_octets d Hex octets.0 octets.1))
+arrival_callable arrived each (a ∷ b ∷ c ∷ d ∷ e ∷ others) event h = cc h
+
+sending_callable : (fields : List (List ℕ)) (event : EventValue) → sending fields ≡ Ok event → IsCallable event
+sending_callable [] event h = cc h
+sending_callable (a ∷ []) event h = cc h
+sending_callable (a ∷ b ∷ []) event h = cc h
+sending_callable (a ∷ b ∷ c ∷ []) event h =
+    let moment = bind_ok (moment_in a) _ event h in
+    let timestamp = bind_ok (short_in b) _ event moment.2 in
+    let octets = bind_ok (short_in c) _ event timestamp.2 in
+    subst IsCallable (ok_inside (packet_sent moment.0 timestamp.0 octets.0) event octets.2)
+    (read_below 64 a Number moment.0 moment.1, read_below 32 b Number timestamp.0 timestamp.1,
+        read_below 32 c Number octets.0 octets.1)
+sending_callable (a ∷ b ∷ c ∷ d ∷ others) event h = cc h
+
+tick_callable : (fields : List (List ℕ)) (event : EventValue) → tick fields ≡ Ok event → IsCallable event
+tick_callable [] event h = cc h
+tick_callable (a ∷ []) event h = cc h
+tick_callable (a ∷ b ∷ []) event h = cc h
+tick_callable (a ∷ b ∷ c ∷ []) event h =
+    let moment = bind_ok (moment_in a) _ event h in
+    let first = bind_ok (word_in b) _ event moment.2 in
+    let second = bind_ok (word_in c) _ event first.2 in
+    subst IsCallable (ok_inside (time_passed moment.0 first.0 second.0) event second.2)
+    (read_below 64 a Number moment.0 moment.1, read_word b Hex first.0 first.1, read_word c Hex second.0 second.1)
+tick_callable (a ∷ b ∷ c ∷ d ∷ others) event h = cc h
+
+leave_callable : (fields : List (List ℕ)) (event : EventValue) → leave fields ≡ Ok event → IsCallable event
+leave_callable [] event h = cc h
+leave_callable (a ∷ []) event h = cc h
+leave_callable (a ∷ b ∷ []) event h =
+    let moment = bind_ok (moment_in a) _ event h in
+    let word = bind_ok (word_in b) _ event moment.2 in
+    subst IsCallable (ok_inside (leave_asked moment.0 word.0) event word.2)
+    (read_below 64 a Number moment.0 moment.1, read_word b Hex word.0 word.1)
+leave_callable (a ∷ b ∷ c ∷ others) event h = cc h
+
+kind_callable : (kind : Option LineKind) (fields : List (List ℕ)) (event : EventValue) → event_with kind fields
+    ≡ Ok event → IsCallable event
+kind_callable None fields event h = cc h
+kind_callable (Some Rtcp) fields event h =
+    arrival_callable rtcp_arrived (λ moment peer word octets a b c d. (a, b, c, d)) fields event h
+kind_callable (Some Rtp) fields event h =
+    arrival_callable rtp_arrived (λ moment peer word octets a b c d. (a, b, c, d)) fields event h
+kind_callable (Some Sent) fields event h = sending_callable fields event h
+kind_callable (Some Ticked) fields event h = tick_callable fields event h
+kind_callable (Some Left) fields event h = leave_callable fields event h
+
+fields_callable : (fields : List (List ℕ)) (event : EventValue) → event_of fields ≡ Ok event → IsCallable event
+fields_callable [] event h = cc h
+fields_callable (name ∷ fields) event h = kind_callable (kind_named name) fields event h
+
+pub callable : (line : List ℕ) (event : EventValue) → event_in line ≡ Ok event → IsCallable event
+callable line event h = fields_callable (fields_of line) event h
