@@ -8,3 +8,4 @@ pub mod Check
 pub mod Counted
 pub mod Progress
 pub mod Replay
+pub mod Records

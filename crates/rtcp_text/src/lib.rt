@@ -29,6 +29,7 @@ mod fault;
 pub mod laws;
 mod lines;
 pub mod numerals;
+pub mod record;
 mod player;
 pub mod replay;
 pub mod text;

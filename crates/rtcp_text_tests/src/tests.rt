@@ -9,6 +9,7 @@ mod ends;
 mod event_lines;
 mod flushes;
 mod leaves;
+mod records;
 mod replay_ends;
 mod rows;
 mod sessions;
