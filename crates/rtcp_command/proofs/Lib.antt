@@ -1,3 +1,4 @@
 mod EndpointLemmas
 mod OptionLemmas
+mod ReplayCommandLemmas
 mod StatusLemmas

@@ -2,5 +2,7 @@ pub mod EndText
 pub mod Options
 pub mod Endpoints
 pub mod Listening
+pub mod Recordings
+pub mod ReplayCommand
 pub mod Orders
 pub mod Status

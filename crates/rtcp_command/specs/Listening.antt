@@ -1,16 +1,17 @@
 -- What the options of `rtcp listen` say, and the first of them that is refused.
-use Rattle.std.specs.Prelude.{◌≡◌, ℕ, ◌≤◌, nat_le, ◌&&◌, List, if◌then◌else◌, Option, Some, None, option_and_then, Result, Ok, Err, codes}
+use Rattle.std.specs.Prelude.{◌≡◌, ℕ, ◌≤◌, nat_le, ◌&&◌, List, if◌then◌else◌, Option, Some, None, option_and_then, option_map, string_bytes, Result, Ok, Err, codes}
 use Rattle.std.specs.Option.{ok_or}
 use Rattle.rtcp_engine.specs.Setups.{Setup}
 use Rattle.rtcp_engine.specs.Views.{setup_of}
 use Rattle.rtcp_command.specs.declared.options.LinkOptions.{LinkOptions}
+use Rattle.rtcp_command.specs.declared.options.Session.{Session}
 use Rattle.rtcp_command.specs.declared.orders.Order.{Order}
 use Rattle.rtcp_command.specs.declared.orders.Order.TheVariants.{Text, Listen}
 use Rattle.rtcp_command.specs.declared.orders.OrderFault.{OrderFault}
 use Rattle.rtcp_command.specs.declared.orders.OrderFault.TheVariants.{Clap, Option as BadOption, Memory}
 use Rattle.rtcp_command.specs.Endpoints.{Endpoint, endpoint_in, endpoint_of}
 use Rattle.rtcp_text.specs.Numerals.{decimal_in}
-use Rattle.rtcp_command.specs.Options.{OptionTexts, setup_in, text_found}
+use Rattle.rtcp_command.specs.Options.{OptionTexts, setup_in, text_found, text_given}
 use Rattle.rtcp_text.specs.Results.{◌>>=◌}
 
 -- the texts of the options after those of the participant, in the order in which they are looked at
@@ -20,6 +21,7 @@ pub record LinkTexts : Type 0 where
   pub peer : List ℕ
   pub seed : List ℕ
   pub turns : List ℕ
+  pub recording : Option (List ℕ)
 
 abbrev pub link_texts_of : LinkOptions → LinkTexts
 link_texts_of options = record {
@@ -28,6 +30,7 @@ link_texts_of options = record {
   peer = options.peer.now;
   seed = options.seed.now;
   turns = options.turns.now;
+  recording = text_given options.recording;
 }
 
 -- the texts that a command line gives
@@ -38,6 +41,7 @@ link_texts_found found = record {
   peer = text_found found (codes "peer");
   seed = text_found found (codes "seed");
   turns = text_found found (codes "turns");
+  recording = found (codes "record");
 }
 
 -- 1 to 1,000,000 turns
@@ -54,6 +58,8 @@ pub record Listening : Type 0 where
   pub peer : Endpoint
   pub seed : ℕ
   pub turns : ℕ
+  -- the name of the file that it is recorded in
+  pub recording : Option (List ℕ)
 
 -- The session, or the name of the first option that is refused.
 abbrev pub listen_in : OptionTexts → LinkTexts → Result Listening (List ℕ)
@@ -64,30 +70,52 @@ listen_in texts link = do
   peer ← ok_or (endpoint_in link.peer) (codes "peer")
   seed ← ok_or (decimal_in 64 link.seed) (codes "seed")
   turns ← ok_or (turns_in link.turns) (codes "turns")
-  Ok (record { setup = setup; rtp = rtp; rtcp = rtcp; peer = peer; seed = seed; turns = turns })
+  Ok (record {
+    setup = setup;
+    rtp = rtp;
+    rtcp = rtcp;
+    peer = peer;
+    seed = seed;
+    turns = turns;
+    recording = link.recording;
+  })
 
 -- ---- Orders
 
+-- the session that was read, with the file that it is recorded in
+abbrev pub listening_of : Session → Option (List ℕ) → Listening
+listening_of session recording = record {
+  setup = setup_of session.config;
+  rtp = endpoint_of session.rtp;
+  rtcp = endpoint_of session.rtcp;
+  peer = endpoint_of session.peer;
+  seed = session.seed;
+  turns = session.turns;
+  recording = recording;
+}
+
 -- The options come to this order.
 abbrev pub IsListening : Order → Result Listening (List ℕ) → Type 0
-IsListening (Listen config rtp rtcp peer seed turns) expected = expected ≡ Ok (record {
+IsListening (Listen config rtp rtcp peer seed turns recording) expected = expected ≡ Ok (record {
   setup = setup_of config;
   rtp = endpoint_of rtp;
   rtcp = endpoint_of rtcp;
   peer = endpoint_of peer;
   seed = seed;
   turns = turns;
+  recording = option_map string_bytes recording;
 })
 IsListening (Text order) expected = ⊥
 
--- What the options come to is this order, or this fault.
+-- What the options come to is this order, or this fault. Memory is asked for only where there is to be a record.
 abbrev pub IsListenOrder : Result Order OrderFault → Result Listening (List ℕ) → Type 0
 IsListenOrder (Ok order) expected = IsListening order expected
 IsListenOrder (Err (BadOption name)) expected = expected ≡ Err name.now
 IsListenOrder (Err (Clap text)) expected = ⊥
-IsListenOrder (Err Memory) expected = ⊥
+IsListenOrder (Err Memory) expected =
+    (listening : Listening) × (path : List ℕ) × (expected ≡ Ok listening) × (listening.recording ≡ Some path)
 
 -- A session that is asked for has 1 to 1,000,000 turns.
 abbrev pub HasTurns : Order → Type 0
-HasTurns (Listen config rtp rtcp peer seed turns) = (1 ≤ turns) × (turns ≤ 1000000)
+HasTurns (Listen config rtp rtcp peer seed turns recording) = (1 ≤ turns) × (turns ≤ 1000000)
 HasTurns (Text order) = Unit {0}

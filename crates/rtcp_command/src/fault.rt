@@ -22,6 +22,8 @@ pub enum RunFault {
     },
     /// A port could not be bound or waited for, or the clock not be read.
     Link,
+    /// The file of a record could not be created.
+    Record,
     /// A call of the reader failed.
     Read,
     /// A call of the writer failed, or took nothing.
@@ -38,7 +40,8 @@ pub(crate) fn fail<F: Write>(fault: RunFault, faults: &mut F) -> u8
     let _ = writeln!(faults, "{fault}");
     match fault {
         RunFault::Config(_) | RunFault::Text { .. } => 2,
-        RunFault::Link | RunFault::Read | RunFault::Write | RunFault::Memory => 1,
+        RunFault::Link | RunFault::Record | RunFault::Read | RunFault::Write | RunFault::Memory =>
+            1,
     }
 }
 
@@ -48,6 +51,7 @@ impl fmt::Display for RunFault {
             RunFault::Config(error) => write!(f, "config {}", config_name(*error)),
             RunFault::Text { line, fault } => write!(f, "line {line}: {fault}"),
             RunFault::Link => f.write_str("link"),
+            RunFault::Record => f.write_str("record"),
             RunFault::Read => f.write_str("read"),
             RunFault::Write => f.write_str("write"),
             RunFault::Memory => f.write_str("memory"),

@@ -1,16 +1,18 @@
 //! The options of `rtcp replay` and of `rtcp listen`.
 
-ghost use Rattle.std.specs.Prelude.{◌≡◌, ◌≤◌, ◌<◌, ◌+◌, ◌++◌, List, Ok, Err, OnOk, IfOk, IfErr, IfSome, [], length, option_map, codes};
+ghost use Rattle.std.specs.Prelude.{◌≡◌, ◌≤◌, ◌<◌, ◌+◌, ◌++◌, ℕ, List, Ok, Err, Some, OnOk, IfOk, IfErr, IfSome, [], length, option_map, string_bytes, codes};
 ghost use Rattle.rtcp_wire.specs.Values.{ItemValue};
 ghost use Rattle.rtcp_engine.specs.Views.{setup_of};
-ghost use Rattle.rtcp_command.specs.Listening.{HasTurns, IsListening, link_texts_of, listen_in, turns_in};
+ghost use Rattle.rtcp_command.specs.Listening.{HasTurns, IsListenOrder, link_texts_of, listen_in, listening_of, turns_in};
 ghost use Rattle.rtcp_command.specs.Options.{bandwidth_in, extras_in, hex_text_in, item_in, replay_in, setup_in, text_given, text_in, texts_of, with_extras};
 
 use crate::endpoint::read_endpoint;
-use crate::orders::Order;
+use crate::orders::{Order, OrderFault};
 use arrayvec::ArrayVec;
 use rtcp_engine::{Config, Item, rtcp_bw_of, shares_of};
 use rtcp_text::numerals::{read_decimal, read_long, read_short_decimal, read_word};
+use std::alloc::{AllocError, Global};
+use std::net::SocketAddrV4;
 
 /// The most turns of a session.
 const MAX_TURNS: u32 = 1_000_000;
@@ -44,6 +46,7 @@ pub(crate) struct LinkOptions<'a> {
     pub(crate) peer: &'a str,
     pub(crate) seed: &'a str,
     pub(crate) turns: &'a str,
+    pub(crate) recording: Option<&'a str>,
 }
 
 /// The configuration and the word of the start that the options of `replay` say. Whether a participant takes
@@ -68,15 +71,50 @@ pub(crate) fn read_replay(options: Options<'_>, word: &str) -> Result<(Config, u
 ///
 /// # Errors
 ///
-/// The name of the first option that is refused, in the order of the fields of both structs above, without its
-/// dashes.
+/// - [`OrderFault::Option`] with the name of the first option that is refused, in the order of the fields of both
+///   structs above, without its dashes.
+/// - [`OrderFault::Memory`] where memory for the name of the record's file is refused.
 pub(crate) fn read_listen(
+    alloc: Global,
     options: Options<'_>,
     link: LinkOptions<'_>,
-) -> Result<Order, &'static str>
-    ensures read { IfOk result (λ order.
-        IsListening order (listen_in (texts_of options.entry) (link_texts_of link.entry))) }
+) -> Result<Order, OrderFault>
+    ensures read { IsListenOrder result (listen_in (texts_of options.entry) (link_texts_of link.entry)) }
     ensures turns { IfOk result HasTurns }
+{
+    let session = read_session(options, link).map_err(OrderFault::Option)?;
+    let recording = read_path(alloc, link.recording).map_err(|_| OrderFault::Memory)?;
+    Ok(Order::Listen {
+        config: session.config,
+        rtp: session.rtp,
+        rtcp: session.rtcp,
+        peer: session.peer,
+        seed: session.seed,
+        turns: session.turns,
+        recording,
+    })
+}
+
+/// A session over UDP, as its options say it.
+#[derive(Drop)]
+struct Session {
+    config: Config,
+    rtp: SocketAddrV4,
+    rtcp: SocketAddrV4,
+    peer: SocketAddrV4,
+    seed: u64,
+    turns: u32,
+}
+
+/// The session over UDP that the options of `listen` say.
+///
+/// # Errors
+///
+/// The name of the first option that is refused, without its dashes.
+fn read_session(options: Options<'_>, link: LinkOptions<'_>) -> Result<Session, &'static str>
+    ensures read { IfOk result (λ session. listen_in (texts_of options.entry) (link_texts_of link.entry)
+        ≡ Ok (listening_of session (text_given link.entry.recording))) }
+    ensures turns { IfOk result (λ session. (1 ≤ session.turns) × (session.turns ≤ 1000000)) }
     ensures refused { IfErr result (λ name.
         listen_in (texts_of options.entry) (link_texts_of link.entry) ≡ Err name.now) }
 {
@@ -86,7 +124,7 @@ pub(crate) fn read_listen(
     let peer = read_endpoint(link.peer).ok_or("peer")?;
     let seed = read_decimal(link.seed.as_bytes()).ok_or("seed")?;
     let turns = read_turns(link.turns).ok_or("turns")?;
-    Ok(Order::Listen {
+    Ok(Session {
         config,
         rtp,
         rtcp,
@@ -94,6 +132,20 @@ pub(crate) fn read_listen(
         seed,
         turns,
     })
+}
+
+/// The name of a file, if one is given.
+fn read_path(alloc: Global, given: Option<&str>) -> Result<Option<String>, AllocError>
+    ensures path { IfOk result (λ path. option_map string_bytes path ≡ text_given given.entry) }
+    ensures given { IfErr result (λ _. (path : List ℕ) × (text_given given.entry ≡ Some path)) }
+{
+    match given {
+        Some(path) => match String::from_str(alloc, path) {
+            Ok(path) => Ok(Some(path)),
+            Err(AllocError) => Err(AllocError),
+        },
+        None => Ok(None),
+    }
 }
 
 /// How many turns a session has: 1 to 1,000,000.

@@ -67,7 +67,7 @@ pub fn order<'a>(alloc: Global, words: &'a [&'a str]) -> Result<Order, OrderFaul
         Ok(matches) => match matches.subcommand() {
             Some(("check", _)) => Ok(Order::Text(TextOrder::Check)),
             Some(("replay", matches)) => Ok(Order::Text(replay::order(matches)?)),
-            Some(("listen", matches)) => listen::order(matches),
+            Some(("listen", matches)) => listen::order(alloc, matches),
             _ => Err(shown(program.render_help())),
         },
         Err(error) if error.kind() == ClapErrorKind::OutOfMemory => Err(OrderFault::Memory),

@@ -22,6 +22,8 @@ pub enum Order {
         seed: u64,
         /// How many turns are made before the participant leaves, 1 to 1,000,000.
         turns: u32,
+        /// The file that the session is recorded in, if it is to be.
+        recording: Option<String>,
     },
 }
 

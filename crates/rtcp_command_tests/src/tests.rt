@@ -11,6 +11,7 @@ mod ends;
 mod example;
 mod failing;
 mod options;
+mod records;
 mod replays;
 
 /// Asserts that octets are as they should be. A function that compares slices more than once takes several times

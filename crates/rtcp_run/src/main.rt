@@ -15,12 +15,16 @@ use rand_core::{Rng, SeedableRng};
 use rand_pcg::Pcg32;
 use rtcp_command::ends::end_line;
 use rtcp_command::order::refuse;
+use rtcp_command::recorded::Recorded;
+use rtcp_command::replay_command::replay_line;
 pub use rtcp_command::{Order, OrderFault, RunFault, TextOrder, command, laws, listen, order};
 use rtcp_engine::{Config, Participant};
 use rtcp_members::HeapTable;
 pub use rtcp_serve::{Cause, End, Link, LinkFault, Port, Received, serve, serve_laws};
+use rtcp_text::record::Recorder;
 pub use rtcp_text::{Counted, LineFault, ReplayFault, TextFault, check, replay};
 use std::env;
+use std::fs::{self, File};
 use std::io::{BufWriter, Write};
 use std::net::SocketAddrV4;
 use std::process::ExitCode;
@@ -37,9 +41,19 @@ fn main(rt: HostRuntime) -> ExitCode {
                 peer,
                 seed,
                 turns,
+                recording,
             },
         ) => {
-            let outcome = run_listen(&rt, config, rtp, rtcp, peer, seed, turns);
+            let session = Session {
+                config,
+                rtp,
+                rtcp,
+                peer,
+                seed,
+                turns,
+                recording,
+            };
+            let outcome = run_listen(&rt, session);
             listen::conclude(&outcome, &mut rt.stderr())
         }
         Err(fault) => refuse(&fault, &mut rt.stderr()),
@@ -85,36 +99,69 @@ fn run_text(rt: &HostRuntime, order: TextOrder) -> u8 {
     command::command(alloc, order, rt.stdin(), writer, &mut faults)
 }
 
-/// Runs a session over UDP, between the ports of RTP and of RTCP and a peer, and writes its end to standard
-/// output.
-///
-/// # Errors
-///
-/// Each of [`RunFault`]. A refused configuration is found before a port is bound.
-fn run_listen(
-    rt: &HostRuntime,
+/// A session over UDP, as the command line asks for it.
+#[derive(Drop)]
+struct Session {
     config: Config,
     rtp: SocketAddrV4,
     rtcp: SocketAddrV4,
     peer: SocketAddrV4,
     seed: u64,
     turns: u32,
-) -> Result<End, RunFault>
-    requires { (1 ≤ turns) × (turns ≤ 1000000) }
+    recording: Option<String>,
+}
+
+/// Runs a session over UDP, between the ports of RTP and of RTCP and a peer, and writes its end to standard
+/// output. It is recorded, if a file is named for that.
+///
+/// # Errors
+///
+/// Each of [`RunFault`]. A refused configuration is found before the file is created, and that before a port is bound.
+fn run_listen(rt: &HostRuntime, session: Session) -> Result<End, RunFault>
+    requires { (1 ≤ session.turns) × (session.turns ≤ 1000000) }
 {
-    let mut rng = Pcg32::seed_from_u64(seed);
+    let mut rng = Pcg32::seed_from_u64(session.seed);
     let word = rng.next_u32();
-    if let Some(error) = config.error() {
+    if let Some(error) = session.config.error() {
         return Err(RunFault::Config(error));
     }
-    let table = HeapTable::with_room(rt.alloc(), config.capacity, config.rate).map_err(
-        |_| RunFault::Memory,
-    )?;
-    let mut participant = Participant::with_table(config, table, word);
-    let mut link = UdpLink::bind(rt, rt.alloc(), rtp, rtcp, peer)?;
+    let (capacity, rate) = (session.config.capacity, session.config.rate);
+    let table = HeapTable::with_room(rt.alloc(), capacity, rate).map_err(|_| RunFault::Memory)?;
+    let recorder = match &session.recording {
+        Some(file) => Some(begin_record(rt, &session.config, word, file)?),
+        None => None,
+    };
+    let mut participant = Participant::with_table(session.config, table, word);
+    let link = UdpLink::bind(rt, rt.alloc(), session.rtp, session.rtcp, session.peer)?;
+    let mut link = Recorded::new(link, recorder, rt.stderr());
     let mut buf = [0; 65_535];
-    let end = serve(&mut link, &mut participant, &mut rng, turns, &mut buf);
+    let end = serve(
+        &mut link,
+        &mut participant,
+        &mut rng,
+        session.turns,
+        &mut buf,
+    );
     let line = end_line(rt.alloc(), &end).map_err(|_| RunFault::Memory)?;
     rt.stdout().write_all(&line).map_err(|_| RunFault::Write)?;
     Ok(end)
+}
+
+/// Creates the file of a record, and writes to standard error the command that plays it again. A failed write there is
+/// ignored.
+///
+/// # Errors
+///
+/// - [`RunFault::Record`] where the file cannot be created.
+/// - [`RunFault::Memory`] where memory is refused.
+fn begin_record(
+    rt: &HostRuntime,
+    config: &Config,
+    word: u32,
+    file: &str,
+) -> Result<Recorder<File>, RunFault> {
+    let writer = fs::create(rt, file).map_err(|_| RunFault::Record)?;
+    let line = replay_line(rt.alloc(), config, word, file).map_err(|_| RunFault::Memory)?;
+    let _ = rt.stderr().write_all(&line);
+    Ok(Recorder::new(rt.alloc(), writer))
 }

@@ -59,11 +59,15 @@ whether the BYE of leaving was sent.
 
 Ctrl-C ends the process as it ends any: no BYE is sent, and no line comes out.
 
+With --record FILE each event that the participant is told is written to the file as it happens,
+as a line that rtcp replay reads. The command that plays it again is written to standard error
+at the start.
+
 The status is 0 at Done and Limit, 2 if the command line, an option or the configuration was
 refused, and 1 at LinkDown and if a port could not be bound, or writing or memory failed.";
 
 /// The options after those of the participant, in the order in which they are looked at.
-const OWN: [Row; 5] = [
+const OWN: [Row; 6] = [
     (
         "rtp",
         "ADDRESS:PORT",
@@ -94,6 +98,12 @@ const OWN: [Row; 5] = [
         Absent::Is("1000"),
         "Turns before the participant leaves, 1 to 1000000",
     ),
+    (
+        "record",
+        "FILE",
+        Absent::Nothing,
+        "File in which the session is recorded, for rtcp replay",
+    ),
 ];
 
 /// The subcommand, as `clap` reads it.
@@ -107,16 +117,14 @@ pub(super) fn subcommand<'a>(alloc: Global) -> Result<Command<'a>, AllocError> {
 ///
 /// # Errors
 ///
-/// [`OrderFault::Option`] with the first option whose value is refused.
-pub(super) fn order(matches: &ArgMatches<'_>) -> Result<Order, OrderFault>
+/// - [`OrderFault::Option`] with the first option whose value is refused.
+/// - [`OrderFault::Memory`] where memory is refused.
+pub(super) fn order(alloc: Global, matches: &ArgMatches<'_>) -> Result<Order, OrderFault>
     ensures read { IsListenOrder result (listen_in (texts_found (first_value (found_of matches.now)))
         (link_texts_found (first_value (found_of matches.now)))) }
     ensures turns { IfOk result HasTurns }
 {
-    match read_listen(participant(matches), link(matches)) {
-        Ok(order) => Ok(order),
-        Err(name) => Err(OrderFault::Option(name)),
-    }
+    read_listen(alloc, participant(matches), link(matches))
 }
 
 /// The texts of the options after those of the participant.
@@ -129,5 +137,6 @@ fn link<'a>(matches: &ArgMatches<'a>) -> LinkOptions<'a>
         peer: given(matches, "peer"),
         seed: given(matches, "seed"),
         turns: given(matches, "turns"),
+        recording: matches.get_str("record"),
     }
 }

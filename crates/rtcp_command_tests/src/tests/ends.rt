@@ -55,6 +55,7 @@ fn statuses(rt: HostRuntime) {
     let rows = [
         (RunFault::Config(ConfigError::Cname), 2, "config C1 Cname\n"),
         (RunFault::Link, 1, "link\n"),
+        (RunFault::Record, 1, "record\n"),
         (RunFault::Write, 1, "write\n"),
         (RunFault::Memory, 1, "memory\n"),
     ];

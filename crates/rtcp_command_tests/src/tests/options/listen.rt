@@ -56,6 +56,7 @@ fn defaults(rt: HostRuntime) -> Result<(), Fail> {
             peer,
             seed,
             turns,
+            recording,
         },
     ) = order(rt.alloc(), &REQUIRED)
     else {
@@ -68,6 +69,26 @@ fn defaults(rt: HostRuntime) -> Result<(), Fail> {
         [local(1, 5004), local(2, 5005), local(3, 5007)]
     );
     assert_eq!(rt; (seed, turns), (1, 1000));
+    assert!(rt; recording.is_none());
+    Ok(())
+}
+
+/// The file of `--record`, which may be anything.
+#[test]
+fn recordings(rt: HostRuntime) -> Result<(), Fail> {
+    for file in ["record.txt", "", "a b'c"] {
+        let words = with_required(rt.alloc(), &["--record", file])?;
+        let Ok(
+            Order::Listen {
+                recording: Some(found),
+                ..
+            },
+        ) = order(rt.alloc(), &words)
+        else {
+            return Err("it was refused")?;
+        };
+        assert_eq!(rt; found.as_str(), file);
+    }
     Ok(())
 }
 

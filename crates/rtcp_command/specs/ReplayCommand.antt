@@ -1,0 +1,54 @@
+-- The command that plays a record again, as `rtcp listen` shows it.
+use Rattle.std.specs.Prelude.{ℕ, ◌==◌, nat_lt, List, [], ◌∷◌, ◌++◌, if◌then◌else◌, codes}
+use Rattle.std.specs.Fmt.{decimal}
+use Rattle.std.specs.List.{flat_map}
+use Rattle.hex.specs.Hex.{encode_lower}
+use Rattle.rtcp_wire.specs.Values.{ItemValue}
+use Rattle.rtcp_engine.specs.Setups.{Setup}
+use Rattle.rtcp_text.specs.Text.{hex_word, hex_long}
+
+-- A text between single quotes (39), in which a shell takes each octet as it is. A single quote ends them, stands after a
+-- backslash, and begins them again.
+abbrev pub quoted_octet : ℕ → List ℕ
+quoted_octet octet = if octet == 39 then codes "'\\''" else octet ∷ []
+
+abbrev pub quoted : List ℕ → List ℕ
+quoted text = codes "'" ++ flat_map quoted_octet text ++ codes "'"
+
+-- the option of an extra item, by its type
+abbrev pub item_name : ℕ → List ℕ
+item_name kind =
+    if kind == 2 then codes "name" else (if kind == 3 then codes "email" else (if kind == 4 then codes "phone"
+    else (if kind == 5 then codes "loc" else (if kind == 6 then codes "tool" else (if kind == 7 then codes "note"
+    else codes "priv")))))
+
+-- A PRIV item, of type 8, is in hex.
+abbrev pub item_text : ItemValue → List ℕ
+item_text item =
+    codes " --" ++ item_name item.kind ++ codes " "
+    ++ (if nat_lt item.kind 8 then quoted item.text else encode_lower item.text)
+
+abbrev pub name_text : Setup → List ℕ
+name_text setup = codes " --ssrc " ++ hex_word setup.ssrc ++ codes " --cname " ++ quoted setup.cname
+
+abbrev pub sizes_text : Setup → List ℕ
+sizes_text setup = codes " --capacity " ++ decimal setup.capacity ++ codes " --limit " ++ decimal setup.limit
+
+abbrev pub bandwidths_text : Setup → List ℕ
+bandwidths_text setup =
+    codes " --sender-bw " ++ decimal setup.sender_bw ++ codes " --receiver-bw " ++ decimal setup.receiver_bw
+
+abbrev pub clocks_text : Setup → List ℕ
+clocks_text setup = codes " --rate " ++ decimal setup.rate ++ codes " --ntp " ++ hex_long setup.ntp_base
+
+-- the options of a configuration
+abbrev pub setup_text : Setup → List ℕ
+setup_text setup =
+    name_text setup ++ sizes_text setup ++ bandwidths_text setup ++ clocks_text setup
+    ++ flat_map item_text setup.extras
+
+-- With each option, the random word of the start, and the file of the record.
+abbrev pub replay_command : Setup → (word : ℕ) → (file : List ℕ) → List ℕ
+replay_command setup word file =
+    codes "rtcp replay" ++ setup_text setup ++ codes " --word " ++ hex_word word ++ codes " < " ++ quoted file
+    ++ codes "\n"
