@@ -53,7 +53,7 @@ class ReportRelay(threading.Thread):
     def __init__(self, port, to):
         super().__init__(daemon=True)
         self.socket, self.to = socket_at(port), to
-        self.texts, self.blocks = [], []
+        self.texts, self.blocks, self.compounds = [], [], []
 
     def run(self):
         while True:
@@ -63,6 +63,7 @@ class ReportRelay(threading.Thread):
             self.blocks += blocks_in(text, moment)
             self.socket.sendto(octets, (HOST, self.to))
             self.texts.append(text)
+            self.compounds.append(octets.hex())
 
 
 class LossyRelay(threading.Thread):
