@@ -2,9 +2,12 @@
  * the library. It expects well-formed options and lines, and does not look for faults of text; if the configuration is
  * refused it writes the status. For a refused RTP datagram the library does not give the fault.
  * With `sources` each answer, refused or not, also says whether others changed and how many entries there are, and is
- * followed by a line for each source that the library lists.
- * usage: host replay|sources OPTION.. < EVENTS        (compare/embedding) */
-#include "jalwedd.h"
+ * followed by a line for each source that the library lists. With `record` it records its calls in the file CALLS, and
+ * the command that plays them again in COMMAND.
+ * usage: host replay|sources OPTION.. < EVENTS                    (compare/embedding)
+ *        host record CALLS COMMAND OPTION.. < EVENTS              (compare/record) */
+#define JALWEDD_RECORD_STDIO
+#include "jalwedd_record.h"
 
 #include <inttypes.h>
 #include <stdio.h>
@@ -14,6 +17,9 @@
 enum { MOST_OCTETS = 65600, MOST_ITEMS = 7, MOST_SOURCES = 1025 }; /* one source more than there may be */
 
 static int tells_sources;
+
+/* Nothing is recorded unless main says where to. */
+static jalwedd_record calls, command;
 
 struct options {
     jalwedd_config config;
@@ -178,6 +184,10 @@ static void end_answer(jalwedd_handle *session, const jalwedd_step *step)
 
 static void write_answer(uint32_t status, const jalwedd_step *step, const uint8_t *octets, const jalwedd_fault *fault)
 {
+    if (status == JALWEDD_TOO_LONG) {
+        printf("refused TooLong");
+        return;
+    }
     if (status != JALWEDD_TAKEN) {
         printf("refused E%" PRIu32 " %s", status, REFUSALS[status]);
         if (status == JALWEDD_NO_COMPOUND)
@@ -209,24 +219,53 @@ static void tell(jalwedd_handle *session, char **fields)
         const uint64_t peer = strtoull(fields[2], NULL, 10);
         const uint32_t word = (uint32_t)strtoul(fields[3], NULL, 16);
         if (fields[0][2] == 'c') {
+            jalwedd_record_arrive_rtcp(&calls, now, peer, word, datagram, size);
             status = jalwedd_arrive_rtcp(session, now, peer, word, datagram, size, &step, octets);
             jalwedd_check(datagram, size, &fault);
         } else {
+            jalwedd_record_arrive_rtp(&calls, now, peer, word, datagram, size);
             status = jalwedd_arrive_rtp(session, now, peer, word, datagram, size, &step, octets);
         }
         free(datagram);
         free(room);
     } else if (strcmp(fields[0], "sent") == 0) {
         const uint32_t timestamp = (uint32_t)strtoul(fields[2], NULL, 10);
-        status = jalwedd_sent_rtp(session, now, timestamp, (uint32_t)strtoul(fields[3], NULL, 10), &step, octets);
+        const uint32_t payload = (uint32_t)strtoul(fields[3], NULL, 10);
+        jalwedd_record_sent_rtp(&calls, now, timestamp, payload);
+        status = jalwedd_sent_rtp(session, now, timestamp, payload, &step, octets);
     } else if (strcmp(fields[0], "tick") == 0) {
-        const uint32_t first = (uint32_t)strtoul(fields[2], NULL, 16);
-        status = jalwedd_tick(session, now, first, (uint32_t)strtoul(fields[3], NULL, 16), &step, octets);
+        const uint32_t first = (uint32_t)strtoul(fields[2], NULL, 16), second = (uint32_t)strtoul(fields[3], NULL, 16);
+        jalwedd_record_tick(&calls, now, first, second);
+        status = jalwedd_tick(session, now, first, second, &step, octets);
     } else {
-        status = jalwedd_leave(session, now, (uint32_t)strtoul(fields[2], NULL, 16), &step, octets);
+        const uint32_t word = (uint32_t)strtoul(fields[2], NULL, 16);
+        jalwedd_record_leave(&calls, now, word);
+        status = jalwedd_leave(session, now, word, &step, octets);
     }
     write_answer(status, &step, octets, &fault);
     end_answer(session, &step);
+}
+
+/* Has calls and command recorded in these files. */
+static void record_in(const char *of_calls, const char *of_command)
+{
+    calls = (jalwedd_record){.write = jalwedd_record_to_file, .to = fopen(of_calls, "w")};
+    command = (jalwedd_record){.write = jalwedd_record_to_file, .to = fopen(of_command, "w")};
+    if (calls.to == NULL || command.to == NULL) {
+        perror("host");
+        exit(1);
+    }
+}
+
+/* Ends the records, and tells whether all of both was written. */
+static int recorded(void)
+{
+    int all = !calls.failed && !command.failed;
+    if (calls.write != NULL) {
+        all &= fclose(calls.to) == 0;
+        all &= fclose(command.to) == 0;
+    }
+    return all;
 }
 
 int main(int count, char **words)
@@ -235,13 +274,23 @@ int main(int count, char **words)
     static char line[2 * MOST_OCTETS + 200];
     jalwedd_handle session = JALWEDD_EMPTY;
     jalwedd_step step;
+    int given = 2;
     tells_sources = count > 1 && strcmp(words[1], "sources") == 0;
-    read_options(&options, count - 2, words + 2);
+    if (count > 3 && strcmp(words[1], "record") == 0) {
+        record_in(words[2], words[3]);
+        given = 4;
+    }
+    read_options(&options, count - given, words + given);
     const uint32_t status = jalwedd_new(&session, &options.config, (const uint8_t *)options.cname,
                                         strlen(options.cname), options.items, options.item_count, options.word, &step);
     if (status != JALWEDD_TAKEN) {
         fprintf(stderr, "config C%" PRIu32 "\n", status - 10);
         return 2;
+    }
+    if (jalwedd_record_command(&command, &options.config, (const uint8_t *)options.cname, strlen(options.cname),
+                               options.items, options.item_count, options.word) != JALWEDD_TAKEN) {
+        fprintf(stderr, "no command has this configuration\n");
+        return 1;
     }
     write_counts("start", &step);
     end_answer(&session, &step);
@@ -252,5 +301,5 @@ int main(int count, char **words)
             fields[field++] = word;
         tell(&session, fields);
     }
-    return jalwedd_free(&session) == JALWEDD_TAKEN ? 0 : 1;
+    return jalwedd_free(&session) == JALWEDD_TAKEN && recorded() ? 0 : 1;
 }
