@@ -71,12 +71,23 @@ impl Item {
         item.text[..text.len()].copy_from_slice(text);
         Ok(Item(item))
     }
+
+    /// Its type, as [`ItemKind`] numbers it.
+    pub(crate) fn kind(&self) -> u8 {
+        self.0.kind
+    }
+
+    pub(crate) fn text(&self) -> &[u8] {
+        &self.0.text[..usize::from(self.0.size)]
+    }
 }
 
 impl fmt::Debug for Item {
     fn fmt(&self, to: &mut fmt::Formatter<'_>) -> fmt::Result {
-        let sys::jalwedd_item { kind, size, text } = &self.0;
-        let text = text[..usize::from(*size)].escape_ascii();
-        to.debug_struct("Item").field("kind", kind).field("text", &format_args!("\"{text}\"")).finish()
+        let text = self.text().escape_ascii();
+        to.debug_struct("Item")
+            .field("kind", &self.kind())
+            .field("text", &format_args!("\"{text}\""))
+            .finish()
     }
 }

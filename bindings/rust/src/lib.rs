@@ -58,7 +58,8 @@
 //! and [`sent_rtp`](Participant::sent_rtp) for each RTP packet that it sends.
 //! [`sources`](Participant::sources) lists the sources, and [`changes`] says who joined or left between two
 //! listings. [`about`] reads from a datagram how others receive the host's stream, [`items`] their names, and
-//! [`senders`] what lip sync needs. The example `player` shows all of this.
+//! [`senders`] what lip sync needs. [`record`] writes the calls of a session as `rtcp replay` reads them. The
+//! example `player` shows all of this.
 //!
 //! # Arguments
 //!
@@ -106,6 +107,7 @@ mod participant;
 mod parts;
 #[allow(unsafe_code)]
 mod raw;
+pub mod record;
 mod sources;
 #[allow(unsafe_code)]
 pub mod sys;
