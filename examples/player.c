@@ -2,9 +2,14 @@
  * Each second it prints the sources, how their packets are received, and what they report about its own. At ctrl-C it
  * leaves with a BYE.
  *
- *     player SEED RTP-PORT PEER-RTP-PORT      on 127.0.0.1, with RTCP at the ports one above
+ *     player SEED RTP-PORT PEER-RTP-PORT [RECORD]      on 127.0.0.1, with RTCP at the ports one above
+ *
+ * With RECORD it records its calls in the file of that name, and in RECORD.sh the command that plays them again:
+ *
+ *     sh RECORD.sh < RECORD                            with rtcp in PATH
  */
-#include "jalwedd.h"
+#define JALWEDD_RECORD_STDIO
+#include "jalwedd_record.h"
 
 #include <arpa/inet.h>
 #include <ctype.h>
@@ -41,6 +46,7 @@ struct player {
     uint32_t timestamp;
     struct note notes[NOTES];
     uint32_t noted;                     /* how many were begun */
+    jalwedd_record calls;               /* records nothing where none is asked for */
 };
 
 static volatile sig_atomic_t is_over;
@@ -105,6 +111,7 @@ static void send_packet(struct player *player, uint64_t now, uint8_t *octets)
     memcpy(packet + 4, words, sizeof words);
     memset(packet + 12, 0xff, PACKET);
     sendto(player->rtp, packet, sizeof packet, 0, (const struct sockaddr *)&player->to_rtp, sizeof player->to_rtp);
+    jalwedd_record_sent_rtp(&player->calls, now, player->timestamp, PACKET);
     jalwedd_sent_rtp(&player->session, now, player->timestamp, PACKET, &player->step, octets);
     player->sequence++;
     player->timestamp += PACKET;
@@ -208,15 +215,33 @@ static void receive(struct player *player, int from, uint64_t now, uint8_t *octe
     if (size < 0)
         return;
     const uint64_t number = (uint64_t)ntohl(peer.sin_addr.s_addr) << 16 | ntohs(peer.sin_port);
+    const uint32_t word = random_word();
     if (from == player->rtp) {
-        jalwedd_arrive_rtp(&player->session, now, number, random_word(), datagram, (size_t)size, &player->step, octets);
+        jalwedd_record_arrive_rtp(&player->calls, now, number, word, datagram, (size_t)size);
+        jalwedd_arrive_rtp(&player->session, now, number, word, datagram, (size_t)size, &player->step, octets);
     } else {
         /* first: the reports name the present SSRC, which the call may change */
         take_reports(player, now, datagram, (size_t)size);
         take_cnames(player, datagram, (size_t)size);
-        jalwedd_arrive_rtcp(&player->session, now, number, random_word(), datagram, (size_t)size, &player->step,
-                            octets);
+        jalwedd_record_arrive_rtcp(&player->calls, now, number, word, datagram, (size_t)size);
+        jalwedd_arrive_rtcp(&player->session, now, number, word, datagram, (size_t)size, &player->step, octets);
     }
+    send_out(player, octets);
+}
+
+static void tick(struct player *player, uint64_t now, uint8_t *octets)
+{
+    const uint32_t first_word = random_word(), second_word = random_word();
+    jalwedd_record_tick(&player->calls, now, first_word, second_word);
+    jalwedd_tick(&player->session, now, first_word, second_word, &player->step, octets);
+    send_out(player, octets);
+}
+
+static void leave(struct player *player, uint64_t now, uint8_t *octets)
+{
+    const uint32_t word = random_word();
+    jalwedd_record_leave(&player->calls, now, word);
+    jalwedd_leave(&player->session, now, word, &player->step, octets);
     send_out(player, octets);
 }
 
@@ -232,10 +257,8 @@ static void turn(struct player *player, uint64_t next_packet)
     for (int at = 0; came > 0 && at < 2; at++)
         if (sockets[at].revents & POLLIN)
             receive(player, sockets[at].fd, now, octets);
-    if (player->step.next <= now) {
-        jalwedd_tick(&player->session, now, random_word(), random_word(), &player->step, octets);
-        send_out(player, octets);
-    }
+    if (player->step.next <= now)
+        tick(player, now, octets);
     if (next_packet > now)
         return;
     send_packet(player, now, octets);
@@ -252,17 +275,53 @@ static void play(struct player *player)
         if (player->sequence != sent)
             next_packet += PACKET_TIME;
     }
-    jalwedd_leave(&player->session, microseconds() - player->begin, random_word(), &player->step, octets);
-    send_out(player, octets);
+    leave(player, microseconds() - player->begin, octets);
     while (player->step.next != JALWEDD_NEVER)
         turn(player, UINT64_MAX);
+}
+
+/* ---- Begin and end */
+
+static jalwedd_record record_in(const char *name)
+{
+    const jalwedd_record record = {.write = jalwedd_record_to_file, .to = fopen(name, "w")};
+    if (record.to == NULL) {
+        perror(name);
+        exit(1);
+    }
+    return record;
+}
+
+/* Closes the file of a record, and returns whether all was written. */
+static bool end_record(jalwedd_record *record)
+{
+    return fclose(record->to) == 0 && !record->failed;
+}
+
+/* Begins the session. With a name of a record, that is begun too, and its command is written. */
+static bool begin(struct player *player, const char *record)
+{
+    const jalwedd_item tool = {.kind = 6, .size = 7, .text = "jalwedd"};
+    const uint8_t cname[] = "player@example.com";
+    const uint32_t word = random_word();
+    if (jalwedd_new(&player->session, &player->config, cname, sizeof cname - 1, &tool, 1, word, &player->step)
+        != JALWEDD_TAKEN)
+        return false;
+    if (record == NULL)
+        return true;
+    char name[4096];
+    snprintf(name, sizeof name, "%s.sh", record);
+    jalwedd_record command = record_in(name);
+    player->calls = record_in(record);
+    jalwedd_record_command(&command, &player->config, cname, sizeof cname - 1, &tool, 1, word);
+    return end_record(&command);
 }
 
 int main(int count, char **words)
 {
     static struct player player;
-    if (count != 4) {
-        fprintf(stderr, "usage: player SEED RTP-PORT PEER-RTP-PORT\n");
+    if (count != 4 && count != 5) {
+        fprintf(stderr, "usage: player SEED RTP-PORT PEER-RTP-PORT [RECORD]\n");
         return 2;
     }
     srandom((unsigned)atoi(words[1]));
@@ -274,13 +333,14 @@ int main(int count, char **words)
     /* of a session of 64,000 bits a second 5 per cent are for RTCP, and a quarter of that for senders */
     player.config = (jalwedd_config){.ntp_base = ntp_now(), .ssrc = random_word(), .capacity = 1024, .limit = 1472,
                                      .sender_bw = 100, .receiver_bw = 300, .rate = 8000};
-    const jalwedd_item tool = {.kind = 6, .size = 7, .text = "jalwedd"};
-    const uint8_t cname[] = "player@example.com";
-    if (jalwedd_new(&player.session, &player.config, cname, sizeof cname - 1, &tool, 1, random_word(), &player.step)
-        != JALWEDD_TAKEN)
+    if (!begin(&player, count == 5 ? words[4] : NULL))
         return 1;
     signal(SIGINT, stop);
     play(&player);
     jalwedd_free(&player.session);
+    if (count == 5 && !end_record(&player.calls)) {
+        fprintf(stderr, "the record is not whole\n");
+        return 1;
+    }
     return 0;
 }

@@ -3,20 +3,25 @@
 //! what they report about its own. At ctrl-C it leaves with a BYE. On 127.0.0.1, with RTCP at the ports one
 //! above:
 //!
-//!     cargo run --example player SEED RTP-PORT PEER-RTP-PORT
+//!     cargo run --example player SEED RTP-PORT PEER-RTP-PORT [RECORD]
 //!
-//! for example with `1 6004 6014` here and `2 6014 6004` in another terminal.
+//! for example with `1 6004 6014` here and `2 6014 6004` in another terminal. With RECORD it records its calls
+//! in the file of that name, and in RECORD.sh the command that plays them again: `sh RECORD.sh < RECORD`, with
+//! rtcp in PATH.
 #![deny(unsafe_code)]
 
 #[allow(unsafe_code)]
 mod interrupt;
 mod link;
 mod notes;
+mod recorder;
 mod words;
 
+use jalwedd::record::{command, Call};
 use jalwedd::{ntp_of, Clock, Config, Item, ItemKind, Moment, Participant, SourceState, Step};
 use link::{Arrival, Link, Port};
 use notes::{Note, Notes};
+use recorder::Recorder;
 use std::env;
 use std::error::Error;
 use std::time::Duration;
@@ -30,6 +35,10 @@ const PACKET_TIME: Duration = Duration::from_millis(20);
 
 const PACKETS_A_SECOND: u16 = 50;
 
+const USAGE: &str = "usage: player SEED RTP-PORT PEER-RTP-PORT [RECORD]";
+
+const CNAME: &[u8] = b"player@example.com";
+
 struct Player {
     session: Participant,
     config: Config,
@@ -41,20 +50,25 @@ struct Player {
     sequence: u16,
     timestamp: u32,
     notes: Notes,
+    recorder: Recorder,
 }
 
 fn main() -> Result<(), Box<dyn Error>> {
     let given: Vec<String> = env::args().skip(1).collect();
-    let [seed, port, peer_port] = &given[..] else {
-        return Err("usage: player SEED RTP-PORT PEER-RTP-PORT".into());
+    let (seed, port, peer_port, record) = match &given[..] {
+        [seed, port, peer_port] => (seed, port, peer_port, None),
+        [seed, port, peer_port, record] => (seed, port, peer_port, Some(record)),
+        _ => return Err(USAGE.into()),
     };
-    let mut player = begin(Words(seed.parse()?), Link::open(port.parse()?, peer_port.parse()?)?)?;
+    let link = Link::open(port.parse()?, peer_port.parse()?)?;
+    let mut player = begin(Words(seed.parse()?), link, record)?;
     interrupt::catch();
     player.play();
+    player.recorder.end()?;
     Ok(())
 }
 
-fn begin(mut words: Words, link: Link) -> Result<Player, Box<dyn Error>> {
+fn begin(mut words: Words, link: Link, record: Option<&String>) -> Result<Player, Box<dyn Error>> {
     let clock = Clock::start();
     // of a session of 64,000 bits a second 5 per cent are for RTCP, and a quarter of that for senders
     let config = Config {
@@ -66,10 +80,25 @@ fn begin(mut words: Words, link: Link) -> Result<Player, Box<dyn Error>> {
         receiver_bw: 300,
         rate: 8000,
     };
-    let tool = Item::new(ItemKind::Tool, b"jalwedd")?;
-    let session = Participant::new(&config, b"player@example.com", &[tool], words.draw())?;
+    let (items, word) = ([Item::new(ItemKind::Tool, b"jalwedd")?], words.draw());
+    let session = Participant::new(&config, CNAME, &items, word)?;
+    let recorder = match record {
+        Some(name) => Recorder::begin(name, &command(&config, CNAME, &items, word)?)?,
+        None => Recorder::default(),
+    };
     let (next_packet, notes) = (Some(Moment::ZERO), Notes::default());
-    Ok(Player { session, config, link, clock, words, next_packet, sequence: 0, timestamp: 0, notes })
+    Ok(Player {
+        session,
+        config,
+        link,
+        clock,
+        words,
+        next_packet,
+        sequence: 0,
+        timestamp: 0,
+        notes,
+        recorder,
+    })
 }
 
 impl Player {
@@ -79,7 +108,8 @@ impl Player {
             self.turn();
         }
         self.next_packet = None;
-        self.link.send_out(self.session.leave(self.clock.now(), self.words.draw()));
+        let call = Call::Leave { now: self.clock.now(), word: self.words.draw() };
+        self.make(call);
         while self.session.next_tick().is_some() {
             self.turn();
         }
@@ -94,7 +124,8 @@ impl Player {
             self.receive(now, &arrival);
         }
         if self.session.next_tick().is_some_and(|next| next <= now) {
-            self.link.send_out(self.session.tick(now, self.words.draw(), self.words.draw()));
+            let (first_word, second_word) = (self.words.draw(), self.words.draw());
+            self.make(Call::Tick { now, first_word, second_word });
         }
         if self.next_packet.is_some_and(|next| next <= now) {
             self.send_packet(now);
@@ -105,16 +136,22 @@ impl Player {
     }
 
     fn receive(&mut self, now: Moment, arrival: &Arrival) {
-        let (peer, word, datagram) = (arrival.peer, self.words.draw(), &arrival.datagram);
+        let (peer, word, datagram) = (arrival.peer, self.words.draw(), &arrival.datagram[..]);
         match arrival.at {
-            Port::Rtp => self.link.send_out(self.session.arrive_rtp(now, peer, word, datagram)),
+            Port::Rtp => self.make(Call::ArriveRtp { now, peer, word, datagram }),
             Port::Rtcp => {
                 // first, as the call may change the SSRC that the reports name; a faulty datagram has none
                 let arrival = ntp_of(self.config.ntp_base, now);
                 let _ = self.notes.take(self.session.ssrc(), arrival, datagram);
-                self.link.send_out(self.session.arrive_rtcp(now, peer, word, datagram));
+                self.make(Call::ArriveRtcp { now, peer, word, datagram });
             }
         }
+    }
+
+    /// Records a call and makes it, and sends what it hands out.
+    fn make(&mut self, call: Call<'_>) {
+        self.recorder.write(call);
+        self.link.send_out(call.make(&mut self.session));
     }
 
     /// Prints who is there.
@@ -134,7 +171,7 @@ impl Player {
         packet[4..8].copy_from_slice(&self.timestamp.to_be_bytes());
         packet[8..12].copy_from_slice(&self.session.ssrc().to_be_bytes());
         self.link.send_packet(&packet);
-        self.link.send_out(self.session.sent_rtp(now, self.timestamp, PACKET as u32));
+        self.make(Call::SentRtp { now, timestamp: self.timestamp, payload: PACKET as u32 });
         self.sequence = self.sequence.wrapping_add(1);
         self.timestamp = self.timestamp.wrapping_add(PACKET as u32);
         self.next_packet = self.next_packet.map(|moment| moment.saturating_add(PACKET_TIME));
