@@ -5,15 +5,15 @@ use Rattle.std.proofs.lemmas.List.Elements.{filter-append}
 use Rattle.rtcp_serve.specs.declared.link.Port.{Port}
 use Rattle.rtcp_serve.specs.declared.link.Port.TheVariants.{Rtcp as RtcpPort}
 use Rattle.rtcp_serve.specs.declared.serving.Cause.TheVariants.{Done}
-use Rattle.rtcp_serve.specs.Links.{Call, LinkValue, GrowsBy, WereCalled, clock_read, port_heard, compound_sent, Heard, datagram, how_many, is_failed_receive, is_failed_send, Telling, telling}
+use Rattle.rtcp_serve.specs.Links.{Call, LinkValue, GrowsBy, WereCalled, clock_read, port_heard, Heard, datagram, how_many, is_failed_receive, is_failed_send, Telling, telling}
 use Rattle.rand_core.specs.Stream.{Stream, next_u32}
 use Rattle.rtcp_engine.specs.Acts.{Act, ticked, left as asked_to_leave, EventValue, time_passed, leave_asked}
 use Rattle.rtcp_engine.specs.Answers.{answer_of, followed_by}
 use Rattle.rtcp_engine.specs.States.{ParticipantValue, StandsAt}
-use Rattle.rtcp_engine.specs.Steps.{AnswerValue, OutValue}
+use Rattle.rtcp_engine.specs.Steps.{AnswerValue}
 use Rattle.rtcp_serve.specs.declared.serving.tally.Tally.{Tally}
-use Rattle.rtcp_serve.specs.Tallies.{HasRoom, is_limit, with_arrival, with_datagram, with_moment, with_refused, with_send}
-use Rattle.rtcp_serve.specs.Serving.{Reader, Stage, resting, beginning, hearing, deciding, sending, ended, Standing, rested, going, ReadsClock, Hears, Sends, Fits, at_stage, with_turns, turn_by, turn_or, after_turns, gone_on, left_with, event_at, arrival_at, after_port, came_with, heard_at, after_clock, after_sending, after_call, after_calls, AllFit, stage_to_send, ticked_with, ticked_now, with_tally}
+use Rattle.rtcp_serve.specs.Tallies.{HasRoom, is_limit, with_arrival, with_datagram, with_moment, with_refused}
+use Rattle.rtcp_serve.specs.Serving.{Reader, Stage, resting, beginning, hearing, deciding, sending, ended, Standing, rested, going, ReadsClock, Hears, Fits, at_stage, with_turns, turn_by, turn_or, after_turns, gone_on, left_with, event_at, arrival_at, after_port, came_with, heard_at, after_clock, after_call, after_calls, AllFit, stage_to_send, ticked_with, ticked_now, with_tally}
 use Rattle.rtcp_serve.specs.Sessions.{Moves, Tells, Leads, Comes, Holds, IsLeaveDue, HasTurn, ReachesBy, next_at}
 
 -- ---- Logs
@@ -97,7 +97,7 @@ joined_fit reader total s (call ∷ more) calls fit (rest, fits) = (
   subst (λ t. Fits call (going total t).stage) (sym (joined_calls reader total s more calls)) fits,
 )
 
-moves_nowhere : (reader : Reader) (total : ℕ) (s : Standing) (v : LinkValue) → Moves reader total [] s s v v
+pub moves_nowhere : (reader : Reader) (total : ℕ) (s : Standing) (v : LinkValue) → Moves reader total [] s s v v
 moves_nowhere reader total s v = record { fit = tt {0}; reached = refl; called = no_calls_made v }
 
 pub moves_on : (reader : Reader) (total : ℕ) (calls more : List Call) (s t u : Standing) (x y z : LinkValue)
@@ -149,6 +149,11 @@ tells_on s t u x y z first second = record { grows = λ start grown. second.grow
 
 pub leads_nowhere : (reader : Reader) (total : ℕ) (s : Standing) (v : LinkValue) → Leads reader total [] s s v v
 leads_nowhere reader total s v = record { moves = moves_nowhere reader total s v; tells = tells_none s s v v refl refl }
+
+-- calls that tell the participant nothing
+pub leads_untold : (reader : Reader) (total : ℕ) (calls : List Call) (s t : Standing) (x y : LinkValue)
+    → Moves reader total calls s t x y → t.tellings ≡ s.tellings → y.told ≡ x.told → Leads reader total calls s t x y
+leads_untold reader total calls s t x y moves none kept = record { moves = moves; tells = tells_none s t x y none kept }
 
 pub leads_on : (reader : Reader) (total : ℕ) (calls more : List Call) (s t u : Standing) (x y z : LinkValue)
     → Leads reader total calls s t x y → Leads reader total more t u y z → Leads reader total (more ++ calls) s u x z
@@ -324,34 +329,6 @@ none_left (Some moment) is = absurd cc
 pub turns_left : (s : Standing) → IsTrue (is_some (next_at s)) → (next_at s ≡ None) ⊎ (s.turns ≡ 0) → s.turns ≡ 0
 turns_left s there (inl none) = absurd cc
 turns_left s there (inr zero) = zero
-
--- ---- Compounds
-
--- The compound that comes next is sent.
-pub compound_goes : (reader : Reader) (total : ℕ) (next : Stage) (out : OutValue) (changed : Option ℕ) (octets : List ℕ) (failed counts : Bool) (s : Standing)
-    (kept : ParticipantValue) (words : Stream) (counted told : Tally) (x y : LinkValue) → Holds s kept words counted → s.stage ≡ sending out changed next
-    → octets ≡ out.octets → counts ≡ failed → WereCalled (compound_sent octets failed ∷ []) x y → y.told ≡ x.told → told ≡ with_send out.kind changed counts counted
-    → (calls : List Call) × (t : Standing) × Leads reader total calls s t x y × Holds t kept words told × (t.stage ≡ next) × (t.turns ≡ s.turns)
-    × (t.leaving ≡ s.leaving) × (t.history ≡ s.history)
-compound_goes reader total next out changed octets failed counts s kept words counted told x y holds is same known called still counting =
-    let call = compound_sent octets failed in
-    let t = at_stage next (with_tally (with_send out.kind changed failed s.tally) s) in
-    let reached : after_call reader call s ≡ t = ap (λ stage. after_sending failed stage s) is in
-    let fits : Fits call s.stage = subst (Sends octets) (sym is) same in
-    let moves = moves_by reader total call s s x y (going_under_way total s (sending out changed next) is (tt {0})) fits called in (
-      call ∷ [],
-      t,
-      record { moves = subst (λ t. Moves reader total (call ∷ []) s t x y) reached moves; tells = tells_none s t x y refl still },
-      record {
-        participant = holds.participant;
-        words = holds.words;
-        tally = counting ∙ ap (λ counts. with_send out.kind changed counts counted) known ∙ ap (with_send out.kind changed failed) holds.tally;
-      },
-      refl,
-      refl,
-      refl,
-      refl,
-    )
 
 -- ---- What comes next
 

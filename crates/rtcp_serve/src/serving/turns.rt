@@ -122,9 +122,10 @@ fn hand_over<L: Link>(link: &mut L, tally: &mut Tally, answer: Answer) -> Result
     ensures leads { (reader : Reader) (total : ℕ) (next refused : Stage) (kept : ParticipantValue) (words : Stream)
         (s : Standing) → Holds s kept words tally.old →
         s.stage ≡ stage_to_send next refused (answer_value answer) →
-        (calls : List Call) × (t : Standing) × Leads reader total calls s t (L.value link.old) (L.value link.new)
+        (calls : List Call) × (t : Standing) × Moves reader total calls s t (L.value link.old) (L.value link.new)
         × Holds t kept words tally.new × ReachesBy next refused result t × (t.turns ≡ s.turns)
-        × (t.leaving ≡ s.leaving) × (t.history ≡ s.history) }
+        × (t.leaving ≡ s.leaving) × (t.history ≡ s.history) × (t.tellings ≡ s.tellings) }
+    ensures told { (L.value link.new).told ≡ (L.value link.old).told }
     ensures row { tally.new.failures ≡ tally.old.failures }
     ensures room { (more : ℕ) → HasRoom (more + 1) tally.old (L.value link.old) →
         HasRoom more tally.new (L.value link.new) }
