@@ -316,10 +316,9 @@ uint32_t jalwedd_senders(jalwedd_handle *handle);
 uint64_t jalwedd_next(jalwedd_handle *handle);
 uint32_t jalwedd_ssrc(jalwedd_handle *handle);
 
-/* How many places of the participant's table are taken: by members, by sources that are not yet valid, and by those
- * that left and are held for a while. As many as config.capacity say that it is full, as under a flood of invented
- * SSRCs: then no other source is taken up until one is dropped. 0 once the participant leaves, and for an empty
- * handle. */
+/* How many entries the participant's table holds: members, sources that are not yet valid, and those that left and are
+ * held for a while. If this equals config.capacity the table is full, as under a flood of invented SSRCs, and admits no
+ * other source until one is dropped. 0 once the participant leaves, and for an empty handle. */
 uint32_t jalwedd_entries(jalwedd_handle *handle);
 
 /* Gives what is known about the source with the lowest SSRC >= `from`: among members, sources that are not yet valid,

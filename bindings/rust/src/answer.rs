@@ -19,7 +19,7 @@ pub struct Step {
     pub ssrc: u32,
     /// Whether the call changed the SSRC (RFC 3550, 8.2): media goes on under the new one.
     pub changed: bool,
-    /// How many places of the table are taken, as [`Participant::entries`](crate::Participant::entries) says.
+    /// How many entries the table holds, as [`Participant::entries`](crate::Participant::entries) says.
     pub entries: u32,
     /// Whether the call changed which other sources are members or which of them send, if only for a moment:
     /// list them again with [`Participant::sources`](crate::Participant::sources). If not, each has the role

@@ -202,11 +202,11 @@ impl Participant {
         self.room.step.ssrc
     }
 
-    /// How many places of the participant's table are taken: by members, by sources that are not yet valid,
-    /// and by those that left and are held for a while. 0 once the participant leaves.
+    /// How many entries the participant's table holds: members, sources that are not yet valid, and those
+    /// that left and are held for a while. 0 once the participant leaves.
     ///
-    /// As many as [`Config::capacity`] say that the table is full, as under a flood of invented SSRCs: then
-    /// no other source is taken up until one is dropped.
+    /// If this equals [`Config::capacity`] the table is full, as under a flood of invented SSRCs, and admits
+    /// no other source until one is dropped.
     pub fn entries(&self) -> u32 {
         self.room.step.entries
     }

@@ -98,7 +98,7 @@ impl Handle {
         status
     }
 
-    /// How many places of the table are taken: none where the handle is empty.
+    /// How many entries the table holds: none where the handle is empty.
     pub(crate) fn entries(&mut self, alloc: Global) -> u32
         ensures entries { (history : History) → LeadsTo self.old.owned.held history →
             result ≡ entries_in_life (setup_at history) (life_at history) }

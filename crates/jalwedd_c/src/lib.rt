@@ -1,19 +1,19 @@
 //! The participant of `rtcp_engine` for hosts in C, C++ and Rust: a static library, whose header is
-//! include/jalwedd.h. A host has a [`Handle`], zeros at first, and gives it to each call; a call answers a status,
+//! include/jalwedd.h. A host has a [`Handle`], zeros at first, and passes it to each call; a call returns a status,
 //! and writes a [`Step`] whatever that is. docs/EMBEDDING.md shows a host.
 //!
 //! Statuses: 0 taken; 1 to 7 a call that the participant refused, by E1 to E7, of which 5 is also a datagram
-//! that is no compound; 8 no such block, or no such other part of a datagram; 9 no such source, or no other one
+//! that is not a compound; 8 no such block, or no such other part of a datagram; 9 no such source, or no other one
 //! that changed; 10 a listing whose SSRCs do not rise; 11 to 16 a configuration that is refused, by C1 to C6;
-//! 20 a handle that holds no participant; 21 one that holds one already; 22 no memory; 23 an RTP datagram of more
+//! 20 a handle that holds no participant; 21 one that already holds one; 22 no memory; 23 an RTP datagram of more
 //! octets than UDP carries.
 //!
-//! Nobody proves a C caller, so no call asks for anything of values: moments out of order, too many calls and bad
-//! configurations are statuses. What a caller has to keep, and nothing tests: that pointers are valid for the sizes
-//! given, that what is written lies apart from all else that the call is given, that a handle is used by one call at a
-//! time, and that it is not changed, nor used again where it was once it is moved.
+//! C callers are not proved, so no call has preconditions on values: moments out of order, too many calls and bad
+//! configurations are statuses. What a caller must ensure, and nothing tests: pointers are valid for the sizes given;
+//! what is written overlaps nothing else that the call is given; one call at a time uses a handle; and a handle is not
+//! changed, nor used at its old address once it is moved.
 //!
-//! Memory comes from three functions that the host may replace (package/memory.c). No call but `jalwedd_new` takes any.
+//! Memory comes from three functions that the host may replace (package/memory.c). Only `jalwedd_new` allocates.
 #![tactic(auto)]
 
 mod begin;

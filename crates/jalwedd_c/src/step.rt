@@ -12,7 +12,8 @@ pub struct Step {
     /// When to call `jalwedd_tick` next, in microseconds since the session began, or 2^64 - 1 once the participant has
     /// left. It may lie before the moment of the call: then a report or the BYE is overdue.
     pub next: u64,
-    /// The members of the session, the participant included (RFC 3550, 6.2.1): 0 once it has left.
+    /// The members of the session, the participant included (RFC 3550, 6.2.1); in the backoff after a leave, the
+    /// participant and one for each BYE packet that came since (6.3.7); 0 once it has left.
     pub members: u32,
     /// Those of them that send RTP packets.
     pub senders: u32,
@@ -24,7 +25,7 @@ pub struct Step {
     pub kind: u32,
     /// The octets of it.
     pub size: u32,
-    /// How many places of the table are taken, as `jalwedd_entries` says.
+    /// How many entries the table holds, as `jalwedd_entries` says.
     pub entries: u32,
     /// 1 if the call changed the role of another source (away, member or sender), if only for a moment, else 0: then
     /// each source that `jalwedd_source` tells of has the role that it had.
