@@ -16,7 +16,7 @@ pub five : {E : Type 0} (r : Result (Unit {0}) E) (out a b c d e n1 n2 n3 n4 n5 
     → n3 ≡ n2 ++ c → n4 ≡ n3 ++ d → OnOk r (n5 ≡ n4 ++ e) → OnOk r (n5 ≡ out ++ (a ++ b ++ c ++ d ++ e))
 five (Ok x) out a b c d e n1 n2 n3 n4 n5 h1 h2 h3 h4 h5 =
     h5 ∙ ap (λ xs. xs ++ e)
-        (h4 ∙ ap (λ xs. xs ++ d) (h3 ∙ ap (λ xs. xs ++ c) (h2 ∙ ap (λ xs. xs ++ b) h1 ∙ append_assoc out a b)
+    (h4 ∙ ap (λ xs. xs ++ d) (h3 ∙ ap (λ xs. xs ++ c) (h2 ∙ ap (λ xs. xs ++ b) h1 ∙ append_assoc out a b)
     ∙ append_assoc out (a ++ b) c) ∙ append_assoc out (a ++ b ++ c) d) ∙ append_assoc out (a ++ b ++ c ++ d) e
 five (Err x) out a b c d e n1 n2 n3 n4 n5 h1 h2 h3 h4 h5 = h5
 

@@ -82,9 +82,9 @@ decimal_read_back bits n small fits =
     let few : length text ≤ 20 = length-decimal-le 20 n (lit< tt) (omega (arith, small)) small in
     let all = test-from_AllDigits text numeral.0.1 in
     let short = and_from (nat_le 1 (length text)) (nat_le (length text) 20)
-        (le-leb 1 (length text) (omega (arith, numeral.0.0))) (le-leb (length text) 20 few) in
+    (le-leb 1 (length text) (omega (arith, numeral.0.0))) (le-leb (length text) 20 few) in
     let digits = and_from (nat_le 1 (length text) && nat_le (length text) 20)
-        (list_all (λ d. is_digit d 10) text) short all in
+    (list_all (λ d. is_digit d 10) text) short all in
     let below = lt-ltb (digits_value 10 text) (2 ^ bits) (subst (λ (m : ℕ). m < 2 ^ bits) (sym numeral.1) fits) in
     cond-true (is_decimal text && nat_lt (digits_value 10 text) (2 ^ bits)) (Some (digits_value 10 text)) None
     (and_from (is_decimal text) (nat_lt (digits_value 10 text) (2 ^ bits)) digits below)
@@ -100,7 +100,7 @@ word_bytes n (suc (suc (suc (suc i)))) = omega arith
 pub word_read_back : (n : ℕ) → n < 2 ^ 32 → hex_in w32 (hex_word n) ≡ Some n
 word_read_back n small =
     ap (λ r. option_map (from_be_bytes w32) (result_ok r))
-        (decode_sized-encode_lower (to_be_bytes w32 n) 4 refl (word_bytes n))
+    (decode_sized-encode_lower (to_be_bytes w32 n) 4 refl (word_bytes n))
     ∙ ap Some (from_be_bytes-to_be_bytes_4 n small)
 
 pub word_field : (n : ℕ) → IsField (hex_word n)
@@ -112,8 +112,8 @@ datagram_read_back (octet ∷ octets) bytes =
     let text : List ℕ = encode_lower (octet ∷ octets) in
     let long : length text ≡ 2 * suc (length octets) = length-encode_with lower_digits (octet ∷ octets) in
     let no_hyphen : bytes_eq text (codes "-") ≡ false =
-        false_from_ne_true (bytes_eq text (codes "-"))
-        (λ yes. omega (arith, long, ap length ((bytes_eq-Decides text (codes "-")).0 yes))) in
+    false_from_ne_true (bytes_eq text (codes "-"))
+    (λ yes. omega (arith, long, ap length ((bytes_eq-Decides text (codes "-")).0 yes))) in
     let some : (length text == 0) ≡ false = grind (arith, nat_tests, long) in
     ap (λ b. if b then Some [] else (if length text == 0 then None else result_ok (decode_of text))) no_hyphen
     ∙ ap (λ b. if b then None else result_ok (decode_of text)) some
@@ -203,7 +203,7 @@ spaced_line [] h = All-nil (λ octet. octet ≢ 10)
 spaced_line (field ∷ []) h = All-weaker (λ octet. 32 < octet) (λ octet. octet ≢ 10) no_feed field h.0
 spaced_line (field ∷ next ∷ others) h =
     All-append (λ octet. octet ≢ 10) field (32 ∷ spaced (next ∷ others))
-        (All-weaker (λ octet. 32 < octet) (λ octet. octet ≢ 10) no_feed field h.0)
+    (All-weaker (λ octet. 32 < octet) (λ octet. octet ≢ 10) no_feed field h.0)
     (All-cons (λ octet. octet ≢ 10) 32 (spaced (next ∷ others)) (λ same. omega arith) (spaced_line (next ∷ others) h.1))
 
 pub one_line : (event : EventValue) → IsCallable event → HasNoLineFeed (event_text event)
@@ -239,16 +239,22 @@ arrival_short moment peer word octets now from few =
     longer 131100 20 (decimal moment) (decimal peer) _ (decimal_short moment now)
     (longer 131079 20 (decimal peer) (hex_word word) _ (decimal_short peer from)
     (longer 131070 8 (hex_word word) (datagram_text octets) _ (word_short word)
-        (last_short 131070 (datagram_text octets) (datagram_short octets few))))
+    (last_short 131070 (datagram_text octets) (datagram_short octets few))))
 
 pub short_line : (event : EventValue) → IsCallable event → length (datagram_in_event event) ≤ 65535
     → length (event_text event) ≤ 131200
 short_line (rtcp_arrived moment peer word octets) h few =
-    omega (arith, (longer 131121 4 (codes "rtcp") _ _ (lit< tt)
-        (arrival_short moment peer word octets h.0 h.1 few)).short)
+    omega (
+      arith,
+      (longer 131121 4 (codes "rtcp") _ _ (lit< tt)
+          (arrival_short moment peer word octets h.0 h.1 few)).short,
+    )
 short_line (rtp_arrived moment peer word octets) h few =
-    omega (arith, (longer 131121 3 (codes "rtp") _ _ (lit< tt)
-        (arrival_short moment peer word octets h.0 h.1 few)).short)
+    omega (
+      arith,
+      (longer 131121 3 (codes "rtp") _ _ (lit< tt)
+          (arrival_short moment peer word octets h.0 h.1 few)).short,
+    )
 short_line (packet_sent moment timestamp octets) h few =
     omega (
       arith,
@@ -263,7 +269,7 @@ short_line (time_passed moment first second) h few =
       (longer 38 4 (codes "tick") _ _ (lit< tt)
           (longer 17 20 (decimal moment) (hex_word first) _ (decimal_short moment h.0)
           (longer 8 8 (hex_word first) (hex_word second) _ (word_short first)
-              (last_short 8 (hex_word second) (word_short second))))).short,
+          (last_short 8 (hex_word second) (word_short second))))).short,
     )
 short_line (leave_asked moment word) h few =
     omega (
@@ -304,7 +310,7 @@ read_below bits text fault n h = go (is_decimal text && nat_lt (digits_value 10 
         → ok_or (if b then Some (digits_value 10 text) else None) fault ≡ Ok n → n < 2 ^ bits
     go true is same =
         let small = ltb-true (digits_value 10 text) (2 ^ bits)
-            (and_parts (is_decimal text) (nat_lt (digits_value 10 text) (2 ^ bits)) is).1 in
+        (and_parts (is_decimal text) (nat_lt (digits_value 10 text) (2 ^ bits)) is).1 in
         subst (λ (m : ℕ). m < 2 ^ bits) (ok_inside _ n same) small
     go false is same = cc same
 
@@ -356,7 +362,7 @@ arrival_callable arrived each (a ∷ b ∷ c ∷ d ∷ []) event h =
     let octets = bind_ok (octets_in d) _ event word.2 in
     subst IsCallable (ok_inside (arrived moment.0 peer.0 word.0 octets.0) event octets.2)
     (each moment.0 peer.0 word.0 octets.0 (read_below 64 a Number moment.0 moment.1)
-        (read_below 64 b Number peer.0 peer.1)
+    (read_below 64 b Number peer.0 peer.1)
     (read_word c Hex word.0 word.1) (read_octets d Hex octets.0 octets.1))
 arrival_callable arrived each (a ∷ b ∷ c ∷ d ∷ e ∷ others) event h = cc h
 
@@ -368,9 +374,11 @@ sending_callable (a ∷ b ∷ c ∷ []) event h =
     let moment = bind_ok (moment_in a) _ event h in
     let timestamp = bind_ok (short_in b) _ event moment.2 in
     let octets = bind_ok (short_in c) _ event timestamp.2 in
-    subst IsCallable (ok_inside (packet_sent moment.0 timestamp.0 octets.0) event octets.2)
-    (read_below 64 a Number moment.0 moment.1, read_below 32 b Number timestamp.0 timestamp.1,
-        read_below 32 c Number octets.0 octets.1)
+    subst IsCallable (ok_inside (packet_sent moment.0 timestamp.0 octets.0) event octets.2) (
+      read_below 64 a Number moment.0 moment.1,
+      read_below 32 b Number timestamp.0 timestamp.1,
+      read_below 32 c Number octets.0 octets.1,
+    )
 sending_callable (a ∷ b ∷ c ∷ d ∷ others) event h = cc h
 
 tick_callable : (fields : List (List ℕ)) (event : EventValue) → tick fields ≡ Ok event → IsCallable event

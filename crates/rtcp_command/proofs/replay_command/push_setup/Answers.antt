@@ -13,8 +13,8 @@ returns c =
     subst (λ (items : List ℕ). OnOk c.push_items.result (c.push_items.new.out.items
     ≡ c.args.out.now.items ++ (name_text s ++ sizes_text s ++ bandwidths_text s ++ clocks_text s ++ items)))
     (ap (flat_map (λ item. item_text (item_value item))) c.deref.ensures.0
-        ∙ sym (flat_map-map item_value item_text c.args.config.now.extras.items))
+    ∙ sym (flat_map-map item_value item_text c.args.config.now.extras.items))
     (five _ _ (name_text s) (sizes_text s) (bandwidths_text s) (clocks_text s)
-        (flat_map (λ item. item_text (item_value item)) c.deref.result.now) _ _ _ _ _
+    (flat_map (λ item. item_text (item_value item)) c.deref.result.now) _ _ _ _ _
     c.in_ok-push_name.ensures c.in_ok-push_sizes.ensures c.in_ok-push_bandwidths.ensures c.in_ok-push_clocks.ensures
-        c.push_items.ensures)
+    c.push_items.ensures)
