@@ -21,8 +21,12 @@ struct Package {
 }
 
 fn main() {
-    for variable in ["JALWEDD_PREFIX", "PKG_CONFIG", "PKG_CONFIG_PATH", "PKG_CONFIG_LIBDIR"] {
+    for variable in ["DOCS_RS", "JALWEDD_PREFIX", "PKG_CONFIG", "PKG_CONFIG_PATH", "PKG_CONFIG_LIBDIR"] {
         println!("cargo::rerun-if-env-changed={variable}");
+    }
+    // Documentation links nothing.
+    if env::var_os("DOCS_RS").is_some() {
+        return;
     }
     let package = match env::var_os("JALWEDD_PREFIX") {
         Some(prefix) => in_folder(Path::new(&prefix)),
