@@ -22,6 +22,17 @@ pub fn check(datagram: &[u8]) -> Result<(), Fault> {
 /// With [`Participant::ssrc`](crate::Participant::ssrc) this is how others receive the host's stream, which a
 /// participant does not keep.
 ///
+/// ```
+/// // A receiver report of source 7, with one block about source 0xaa: 3 packets lost.
+/// let datagram = [
+///     0x81, 0xc9, 0, 7, 0, 0, 0, 7, 0, 0, 0, 0xaa, 25, 0, 0, 3, 0, 0, 0, 11, 0, 0, 0, 0, 0, 0, 0, 0, 0, 0, 0, 0,
+/// ];
+/// for report in jalwedd::about(&datagram, 0xaa)? {
+///     assert_eq!((report.reporter, report.lost), (7, 3));
+/// }
+/// # Ok::<(), jalwedd::Fault>(())
+/// ```
+///
 /// # Errors
 ///
 /// The first [`Fault`] of a datagram that is not a compound.
