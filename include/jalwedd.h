@@ -20,7 +20,8 @@
  *   octets, a CNAME of more than 255 and a list of more than 7 items are not read: such a call is refused. So is a size
  *   of -1, as returned by recv. But jalwedd_change reads a listing as far as its SSRCs rise, whatever its count says.
  * - Output arguments (all that are not const) do not overlap each other or any input.
- * - One call at a time uses a handle. Several handles may be used side by side, by several threads too.
+ * - One call at a time uses a handle, also of those that only read: they write to it for a while. Several handles may
+ *   be used side by side, by several threads too.
  * - The host does not change a handle's contents, and frees it before it goes out of scope. It may be moved, if the old
  *   copy is not used again. A child of fork does not use it: two processes would act as one participant.
  *
