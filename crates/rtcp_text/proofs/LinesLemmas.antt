@@ -58,16 +58,16 @@ pub lines_of-begins : (input : List ℕ) (lines : List (List ℕ)) (rest : List 
 lines_of-begins input lines rest begins = ap lines_of begins.parts ∙ lines_of-whole lines rest begins.each
 
 -- The texts of two runs of lines, one after the other.
-pub IsTextBy-append : {S : Type 0} (answers : Answering S) (refuses : Refusing)
+pub IsTextBy-append : {S : Type 0} (most : ℕ) (answers : Answering S) (refuses : Refusing)
     (n : ℕ) (state next last : S) (lines others : List (List ℕ)) (text more : List ℕ) (end : Option (ℕ × LineFault))
-    → IsTextBy answers refuses n state lines text None next → IsTextBy answers refuses (n + length lines) next others more end last
-    → IsTextBy answers refuses n state (lines ++ others) (text ++ more) end last
-IsTextBy-append answers refuses n state next last [] others text more end (none, ends, same) second =
-    subst (λ t. IsTextBy answers refuses n state others (t ++ more) end last) (sym none)
-    (subst (λ s. IsTextBy answers refuses n s others more end last) same
-    (subst (λ m. IsTextBy answers refuses m next others more end last) (add-zero n) second))
-IsTextBy-append answers refuses n state next last (line ∷ lines) others text more end (inl fault) second = absurd (let e = fault.3 in cc)
-IsTextBy-append answers refuses n state next last (line ∷ lines) others text more end (inr (answer, between, later, few, short, is_answer, parts, first)) second =
+    → IsTextBy most answers refuses n state lines text None next → IsTextBy most answers refuses (n + length lines) next others more end last
+    → IsTextBy most answers refuses n state (lines ++ others) (text ++ more) end last
+IsTextBy-append most answers refuses n state next last [] others text more end (none, ends, same) second =
+    subst (λ t. IsTextBy most answers refuses n state others (t ++ more) end last) (sym none)
+    (subst (λ s. IsTextBy most answers refuses n s others more end last) same
+    (subst (λ m. IsTextBy most answers refuses m next others more end last) (add-zero n) second))
+IsTextBy-append most answers refuses n state next last (line ∷ lines) others text more end (inl fault) second = absurd (let e = fault.3 in cc)
+IsTextBy-append most answers refuses n state next last (line ∷ lines) others text more end (inr (answer, between, later, few, short, is_answer, parts, first)) second =
     let number : n + length (line ∷ lines) ≡ (n + 1) + length lines = omega arith in
     inr (
       answer,
@@ -77,8 +77,8 @@ IsTextBy-append answers refuses n state next last (line ∷ lines) others text m
       short,
       is_answer,
       ap (λ t. t ++ more) parts ∙ append_assoc answer later more,
-      IsTextBy-append answers refuses (n + 1) between next last lines others later more end first
-          (subst (λ m. IsTextBy answers refuses m next others more end last) number second),
+      IsTextBy-append most answers refuses (n + 1) between next last lines others later more end first
+          (subst (λ m. IsTextBy most answers refuses m next others more end last) number second),
     )
 
 -- What has no line feed is one line.

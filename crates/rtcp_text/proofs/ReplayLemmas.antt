@@ -75,81 +75,81 @@ answer_shown before text shown answer parts none same = parts ∙ ap (λ b. b ++
 
 -- ---- The text of a session
 
-pub session_text_exists : (history : History) (lines : List (List ℕ)) → (text : List ℕ) × (end : Option (ℕ × LineFault)) × IsSessionText history lines text end
-session_text_exists history lines = text_exists AnswersEvent IsNoEvent total 1 history lines
+pub session_text_exists : (most : ℕ) (history : History) (lines : List (List ℕ)) → (text : List ℕ) × (end : Option (ℕ × LineFault)) × IsSessionText most history lines text end
+session_text_exists most history lines = text_exists most AnswersEvent IsNoEvent total 1 history lines
 
-pub one_session_text : (history : History) (lines : List (List ℕ)) (text text' : List ℕ) (end end' : Option (ℕ × LineFault))
-    → IsSessionText history lines text end → IsSessionText history lines text' end' → (text ≡ text') × (end ≡ end')
-one_session_text history lines text text' end end' h k = one_text AnswersEvent IsNoEvent unique 1 history h.0 k.0 lines text text' end end' h.1 k.1
+pub one_session_text : (most : ℕ) (history : History) (lines : List (List ℕ)) (text text' : List ℕ) (end end' : Option (ℕ × LineFault))
+    → IsSessionText most history lines text end → IsSessionText most history lines text' end' → (text ≡ text') × (end ≡ end')
+one_session_text most history lines text text' end end' h k = one_text most AnswersEvent IsNoEvent unique 1 history h.0 k.0 lines text text' end end' h.1 k.1
 
-session_text_continues : (history : History) → Continues (IsSessionText history)
-session_text_continues history lines others text texts = text_continues AnswersEvent IsNoEvent total 1 history lines others text texts
+session_text_continues : (most : ℕ) (history : History) → Continues (IsSessionText most history)
+session_text_continues most history lines others text texts = text_continues most AnswersEvent IsNoEvent total 1 history lines others text texts
 
 -- ---- What holds a participant writes the text of its history
 
-module _ {S : Type 0} (participant_of : S → ParticipantValue) where
+module _ {S : Type 0} (most : ℕ) (participant_of : S → ParticipantValue) where
   shown_by_history : (state next : S) (history : History) (line text : List ℕ) → StandsAt (participant_of state) history → AnswersStanding participant_of state line text next
       → (history' : History) × StandsAt (participant_of next) history' × AnswersEvent history line text history'
   shown_by_history state next history line text stands (event, act, is, is_act, at) =
       let answered = at history stands in (followed_by history act, answered.1, (event, act, is, is_act, answered.0, refl))
 
   IsSessionText-from : (state : S) (history : History) → StandsAt (participant_of state) history → (lines : List (List ℕ)) (text : List ℕ) (end : Option (ℕ × LineFault))
-      → IsTextFrom (AnswersStanding participant_of) IsNoEvent 1 state lines text end → IsSessionText history lines text end
+      → IsTextFrom most (AnswersStanding participant_of) IsNoEvent 1 state lines text end → IsSessionText most history lines text end
   IsSessionText-from state history stands lines text end (last, texts) =
-      let shown = IsTextBy-shown (AnswersStanding participant_of) AnswersEvent IsNoEvent (λ h s. StandsAt (participant_of s) h)
+      let shown = IsTextBy-shown most (AnswersStanding participant_of) AnswersEvent IsNoEvent (λ h s. StandsAt (participant_of s) h)
       (λ s next h line answer at is_answer. shown_by_history s next h line answer at is_answer) 1 state last history lines text end stands texts in
       (shown.0, shown.2)
 
   pub RunLeaves-standing : {A : Type 0} (state : S) (history : History) → StandsAt (participant_of state) history → (r : Result A TextFault) (left : Option (List ℕ)) (input text : List ℕ)
-      → RunLeaves (IsTextFrom (AnswersStanding participant_of) IsNoEvent 1 state) r left input text → RunLeaves (IsSessionText history) r left input text
+      → RunLeaves (IsTextFrom most (AnswersStanding participant_of) IsNoEvent 1 state) r left input text → RunLeaves (IsSessionText most history) r left input text
   RunLeaves-standing state history stands r left input text leaves =
-      RunLeaves-weaker (IsTextFrom (AnswersStanding participant_of) IsNoEvent 1 state) (IsSessionText history)
+      RunLeaves-weaker (IsTextFrom most (AnswersStanding participant_of) IsNoEvent 1 state) (IsSessionText most history)
       (IsSessionText-from state history stands) r left input text leaves
 
 -- ---- After the line for the start
 
-pub SessionLeaves-opened : {A : Type 0} (history : History) (r : Result A TextFault) (left : Option (List ℕ)) (input answers : List ℕ)
-    → RunLeaves (IsSessionText history) r left input answers → SessionLeaves history r left input (opening history ++ answers)
-SessionLeaves-opened history (Ok x) left input answers leaves = (answers, refl, leaves)
-SessionLeaves-opened history (Err (Text line fault)) left input answers leaves = (answers, refl, leaves)
-SessionLeaves-opened history (Err Memory) left input answers leaves = inr (answers, refl, leaves)
-SessionLeaves-opened history (Err Read) left input answers leaves = (answers, refl, leaves)
-SessionLeaves-opened {A} history (Err Write) left input answers leaves =
-    let found = IsPrefixBy-leaves (IsSessionText history) (session_text_continues history) {A = A} (Err Write) left input answers leaves in
+pub SessionLeaves-opened : {A : Type 0} (most : ℕ) (history : History) (r : Result A TextFault) (left : Option (List ℕ)) (input answers : List ℕ)
+    → RunLeaves (IsSessionText most history) r left input answers → SessionLeaves most history r left input (opening history ++ answers)
+SessionLeaves-opened most history (Ok x) left input answers leaves = (answers, refl, leaves)
+SessionLeaves-opened most history (Err (Text line fault)) left input answers leaves = (answers, refl, leaves)
+SessionLeaves-opened most history (Err Memory) left input answers leaves = inr (answers, refl, leaves)
+SessionLeaves-opened most history (Err Read) left input answers leaves = (answers, refl, leaves)
+SessionLeaves-opened {A} most history (Err Write) left input answers leaves =
+    let found = IsPrefixBy-leaves (IsSessionText most history) (session_text_continues most history) {A = A} (Err Write) left input answers leaves in
     (found.0, answers ++ found.1, found.1, found.2, sym (append_assoc (opening history) answers found.1))
 
 -- A prefix of the line for the start is one of the whole text.
-pub IsPrefixOfSession-start : (history : History) (input text more : List ℕ) → opening history ≡ text ++ more → IsPrefixOfSession history input text
-IsPrefixOfSession-start history input text more parts =
-    let found = session_text_exists history (lines_of input) in
+pub IsPrefixOfSession-start : (most : ℕ) (history : History) (input text more : List ℕ) → opening history ≡ text ++ more → IsPrefixOfSession most history input text
+IsPrefixOfSession-start most history input text more parts =
+    let found = session_text_exists most history (lines_of input) in
     (found.1, found.0, more ++ found.0, found.2, ap (λ t. t ++ found.0) parts ∙ append_assoc text more found.0)
 
 -- ---- The clauses
 
-pub SessionBefore-block : (history : History) (left : Option (List ℕ)) (input text : List ℕ) → SessionUpToBlock history left input text → SessionBefore history input text
-SessionBefore-block history left input text (inl none) = inl none
-SessionBefore-block history left input text (inr (answers, parts, block)) =
-    inr (answers, parts, AnswersLinesBeforeBy-block (IsSessionText history) left input answers block)
+pub SessionBefore-block : (most : ℕ) (history : History) (left : Option (List ℕ)) (input text : List ℕ) → SessionUpToBlock most history left input text → SessionBefore most history input text
+SessionBefore-block most history left input text (inl none) = inl none
+SessionBefore-block most history left input text (inr (answers, parts, block)) =
+    inr (answers, parts, AnswersLinesBeforeBy-block (IsSessionText most history) left input answers block)
 
-opened_prefix : (history : History) (input text answers : List ℕ) → text ≡ opening history ++ answers
-    → ((end : Option (ℕ × LineFault)) × (more : List ℕ) × IsSessionText history (lines_of input) (answers ++ more) end) → IsPrefixOfSession history input text
-opened_prefix history input text answers parts (end, more, texts) =
+opened_prefix : (most : ℕ) (history : History) (input text answers : List ℕ) → text ≡ opening history ++ answers
+    → ((end : Option (ℕ × LineFault)) × (more : List ℕ) × IsSessionText most history (lines_of input) (answers ++ more) end) → IsPrefixOfSession most history input text
+opened_prefix most history input text answers parts (end, more, texts) =
     (end, answers ++ more, more, texts, sym (append_assoc (opening history) answers more) ∙ ap (λ t. t ++ more) (sym parts))
 
-pub IsPrefixOfSession-leaves : {A : Type 0} (history : History) (r : Result A TextFault) (left : Option (List ℕ)) (input text : List ℕ)
-    → SessionLeaves history r left input text → IsPrefixOfSession history input text
-IsPrefixOfSession-leaves {A} history (Ok x) left input text (answers, parts, texts) =
-    opened_prefix history input text answers parts (IsPrefixBy-leaves (IsSessionText history) (session_text_continues history) (Ok x) left input answers texts)
-IsPrefixOfSession-leaves {A} history (Err (Text line fault)) left input text (answers, parts, texts) =
-    opened_prefix history input text answers parts
-    (IsPrefixBy-leaves (IsSessionText history) (session_text_continues history) {A = A} (Err (Text line fault)) left input answers texts)
-IsPrefixOfSession-leaves {A} history (Err Memory) left input text (inl none) =
-    let found = session_text_exists history (lines_of input) in
+pub IsPrefixOfSession-leaves : {A : Type 0} (most : ℕ) (history : History) (r : Result A TextFault) (left : Option (List ℕ)) (input text : List ℕ)
+    → SessionLeaves most history r left input text → IsPrefixOfSession most history input text
+IsPrefixOfSession-leaves {A} most history (Ok x) left input text (answers, parts, texts) =
+    opened_prefix most history input text answers parts (IsPrefixBy-leaves (IsSessionText most history) (session_text_continues most history) (Ok x) left input answers texts)
+IsPrefixOfSession-leaves {A} most history (Err (Text line fault)) left input text (answers, parts, texts) =
+    opened_prefix most history input text answers parts
+    (IsPrefixBy-leaves (IsSessionText most history) (session_text_continues most history) {A = A} (Err (Text line fault)) left input answers texts)
+IsPrefixOfSession-leaves {A} most history (Err Memory) left input text (inl none) =
+    let found = session_text_exists most history (lines_of input) in
     (found.1, found.0, opening history ++ found.0, found.2, ap (λ t. t ++ (opening history ++ found.0)) (sym none))
-IsPrefixOfSession-leaves {A} history (Err Memory) left input text (inr (answers, parts, texts)) =
-    opened_prefix history input text answers parts
-    (IsPrefixBy-leaves (IsSessionText history) (session_text_continues history) {A = A} (Err Memory) left input answers texts)
-IsPrefixOfSession-leaves {A} history (Err Read) left input text (answers, parts, texts) =
-    opened_prefix history input text answers parts
-    (IsPrefixBy-leaves (IsSessionText history) (session_text_continues history) {A = A} (Err Read) left input answers texts)
-IsPrefixOfSession-leaves history (Err Write) left input text leaves = leaves
+IsPrefixOfSession-leaves {A} most history (Err Memory) left input text (inr (answers, parts, texts)) =
+    opened_prefix most history input text answers parts
+    (IsPrefixBy-leaves (IsSessionText most history) (session_text_continues most history) {A = A} (Err Memory) left input answers texts)
+IsPrefixOfSession-leaves {A} most history (Err Read) left input text (answers, parts, texts) =
+    opened_prefix most history input text answers parts
+    (IsPrefixBy-leaves (IsSessionText most history) (session_text_continues most history) {A = A} (Err Read) left input answers texts)
+IsPrefixOfSession-leaves most history (Err Write) left input text leaves = leaves

@@ -54,28 +54,28 @@ left_of_block pending block (line ∷ lines) rest each begins =
 
 -- ---- From the beginning to the end
 
-module _ {S : Type 0} (answers : Answering S) (refuses : Refusing) (state between : S) where
+module _ {S : Type 0} (most : ℕ) (answers : Answering S) (refuses : Refusing) (state between : S) where
   -- what a text is for lines from the first one on
   abbrev IsText : List (List ℕ) → List ℕ → Option (ℕ × LineFault) → Type 0
-  IsText = IsTextFrom answers refuses 1 state
+  IsText = IsTextFrom most answers refuses 1 state
 
   -- The last line's outcome, after the answers to the lines before it.
   ends : {A : Type 0} (r : Result A TextFault) (left : Option (List ℕ)) (taken pending text text' : List ℕ) (answered : ℕ) → left ≡ Some [] → HasNoLineFeed pending
-      → AnswersLines answers refuses 0 state taken answered between pending text → EndLeaves answers refuses r answered between pending text'
+      → AnswersLines most answers refuses 0 state taken answered between pending text → EndLeaves most answers refuses r answered between pending text'
       → RunLeaves IsText r left taken (text ++ text')
   ends r left taken pending text text' answered nothing each first last =
       let all = lines_of-begins taken first.lines pending first.begins in
-      let joined : (end : Option (ℕ × LineFault)) (more : List ℕ) → IsTextFrom answers refuses (answered + 1) between (lines_of pending) more end → IsText (lines_of taken) (text ++ more) end =
+      let joined : (end : Option (ℕ × LineFault)) (more : List ℕ) → IsTextFrom most answers refuses (answered + 1) between (lines_of pending) more end → IsText (lines_of taken) (text ++ more) end =
       λ end more h. subst (λ lines. IsText lines (text ++ more) end) (sym all) (
         h.0,
-        IsTextBy-append answers refuses 1 state between h.0 first.lines (lines_of pending) text more end first.texts
-            (subst (λ m. IsTextBy answers refuses m between (lines_of pending) more end h.0) (let number = first.number in omega arith) h.1),
+        IsTextBy-append most answers refuses 1 state between h.0 first.lines (lines_of pending) text more end first.texts
+            (subst (λ m. IsTextBy most answers refuses m between (lines_of pending) more end h.0) (let number = first.number in omega arith) h.1),
       ) in
       by_cases r joined last
     where
       by_cases : {A : Type 0} (r : Result A TextFault)
-          → ((end : Option (ℕ × LineFault)) (more : List ℕ) → IsTextFrom answers refuses (answered + 1) between (lines_of pending) more end → IsText (lines_of taken) (text ++ more) end)
-          → EndLeaves answers refuses r answered between pending text' → RunLeaves IsText r left taken (text ++ text')
+          → ((end : Option (ℕ × LineFault)) (more : List ℕ) → IsTextFrom most answers refuses (answered + 1) between (lines_of pending) more end → IsText (lines_of taken) (text ++ more) end)
+          → EndLeaves most answers refuses r answered between pending text' → RunLeaves IsText r left taken (text ++ text')
       by_cases (Ok x) joined last = joined None text' last
       by_cases (Err (Text number fault)) joined last = joined (Some (number, fault)) text' last
       by_cases (Err Memory) joined last = (
@@ -101,9 +101,9 @@ module _ {S : Type 0} (answers : Answering S) (refuses : Refusing) (state betwee
 
   -- The reader is at its end, and the last line is answered.
   pub Writes-at_end : {A : Type 0} (r : Result A TextFault) (start now left held holds last : Option (List ℕ)) (taken pending text gone text' : List ℕ) (answered : ℕ)
-      → Consumes start now taken → Appends held holds text → AnswersLines answers refuses 0 state taken answered between pending text
+      → Consumes start now taken → Appends held holds text → AnswersLines most answers refuses 0 state taken answered between pending text
       → Consumes now left gone → gone ≡ [] → IsAtEnd left → HasNoLineFeed pending → Appends holds last text'
-      → EndLeaves answers refuses r answered between pending text' → Writes start held last (RunLeaves IsText r left)
+      → EndLeaves most answers refuses r answered between pending text' → Writes start held last (RunLeaves IsText r left)
   Writes-at_end r start now left held holds last taken pending text gone text' answered consumed appended first none is_none end each appended' leaves =
       λ input before known written.
       let found = taken_of start left (taken ++ gone) input (Consumes-trans _ _ _ taken gone consumed none) known in
@@ -117,16 +117,16 @@ module _ {S : Type 0} (answers : Answering S) (refuses : Refusing) (state betwee
 
   module _ (next : S) where
     fails : (left : Option (List ℕ)) (taken pending block after text text' rest : List ℕ) (answered answered' : ℕ) (fault : TextFault) → left ≡ Some after → HasNoLineFeed pending
-        → length block ≤ 8192 → AnswersLines answers refuses 0 state taken answered between pending text
-        → PartLeaves answers refuses {A = Unit {0}} (Err fault) answered between (pending ++ block) answered' next rest text'
+        → length block ≤ 8192 → AnswersLines most answers refuses 0 state taken answered between pending text
+        → PartLeaves most answers refuses {A = Unit {0}} (Err fault) answered between (pending ++ block) answered' next rest text'
         → RunLeaves IsText {A = Unit {0}} (Err fault) left ((taken ++ block) ++ after) (text ++ text')
     fails left taken pending block after text text' rest answered answered' (Text number fault) is_left each short first leaves =
-        PartLeaves-after answers refuses 0 answered state between taken pending text block first {A = Unit {0}} (Err (Text number fault)) answered' next rest text' leaves after
+        PartLeaves-after most answers refuses 0 answered state between taken pending text block first {A = Unit {0}} (Err (Text number fault)) answered' next rest text' leaves after
     fails left taken pending block after text text' rest answered answered' Memory is_left each short first leaves =
         let lines = first.lines ++ leaves.lines in
         let last = leaves.texts.0 in
-        let texts = IsTextBy-append answers refuses 1 state between last first.lines leaves.lines text text' None first.texts
-        (subst (λ m. IsTextBy answers refuses m between leaves.lines text' None last) (let number = first.number in omega arith) leaves.texts.1) in
+        let texts = IsTextBy-append most answers refuses 1 state between last first.lines leaves.lines text text' None first.texts
+        (subst (λ m. IsTextBy most answers refuses m between leaves.lines text' None last) (let number = first.number in omega arith) leaves.texts.1) in
         let all = BeginsWithLines-append taken block first.lines leaves.lines pending leaves.rest first.begins leaves.begins in
         let cut = left_of_block pending block leaves.lines leaves.rest each leaves.begins in
         let begins : BeginsWithLines (taken ++ block) lines (cut.0 ++ cut.1) = subst (λ l. BeginsWithLines (taken ++ block) lines l) cut.2 all in (
@@ -142,7 +142,7 @@ module _ {S : Type 0} (answers : Answering S) (refuses : Refusing) (state betwee
           (last, texts),
         )
     fails left taken pending block after text text' rest answered answered' Write is_left each short first leaves =
-        let all = PartLeaves-after answers refuses 0 answered state between taken pending text block first {A = Unit {0}} (Err Write) answered' next rest text' leaves in (
+        let all = PartLeaves-after most answers refuses 0 answered state between taken pending text block first {A = Unit {0}} (Err Write) answered' next rest text' leaves in (
           all.lines,
           lines_of (all.rest ++ after),
           all.more,
@@ -153,9 +153,9 @@ module _ {S : Type 0} (answers : Answering S) (refuses : Refusing) (state betwee
 
     -- A fault in a block.
     pub Writes-at_fault : (fault : TextFault) (start now left held holds last : Option (List ℕ)) (taken pending text block text' rest : List ℕ) (answered answered' : ℕ)
-        → Consumes start now taken → Appends held holds text → AnswersLines answers refuses 0 state taken answered between pending text → Consumes now left block
+        → Consumes start now taken → Appends held holds text → AnswersLines most answers refuses 0 state taken answered between pending text → Consumes now left block
         → HasNoLineFeed pending → length block ≤ 8192
-        → Appends holds last text' → PartLeaves answers refuses {A = Unit {0}} (Err fault) answered between (pending ++ block) answered' next rest text'
+        → Appends holds last text' → PartLeaves most answers refuses {A = Unit {0}} (Err fault) answered between (pending ++ block) answered' next rest text'
         → Writes start held last (RunLeaves IsText {A = Unit {0}} (Err fault) left)
     Writes-at_fault fault start now left held holds last taken pending text block text' rest answered answered' consumed appended first consumed' each short appended' leaves =
         λ input before known written.
@@ -168,7 +168,7 @@ module _ {S : Type 0} (answers : Answering S) (refuses : Refusing) (state betwee
 
   -- All answers so far are written, and the flush failed.
   pub Writes-unflushed : (start left held holds last : Option (List ℕ)) (taken pending text : List ℕ) (answered : ℕ)
-      → Consumes start left taken → Appends held holds text → AnswersLines answers refuses 0 state taken answered between pending text
+      → Consumes start left taken → Appends held holds text → AnswersLines most answers refuses 0 state taken answered between pending text
       → HasNoLineFeed pending → Keeps holds last → Writes start held last (RunLeaves IsText {A = Unit {0}} (Err Write) left)
   Writes-unflushed start left held holds last taken pending text answered consumed appended first each keeps =
       λ input before known written.
@@ -181,6 +181,6 @@ module _ {S : Type 0} (answers : Answering S) (refuses : Refusing) (state betwee
           [],
           lines_of-begins input first.lines (pending ++ found.0)
               (subst (λ i. BeginsWithLines i first.lines (pending ++ found.0)) (sym found.2) (BeginsWithLines-longer taken found.0 first.lines pending first.begins)),
-          (between, subst (λ t. IsTextBy answers refuses 1 state first.lines t None between) (sym (append-nil text)) first.texts),
+          (between, subst (λ t. IsTextBy most answers refuses 1 state first.lines t None between) (sym (append-nil text)) first.texts),
         ),
       )

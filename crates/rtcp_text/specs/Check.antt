@@ -28,29 +28,29 @@ IsNotHex line fault = (fault ≡ Hex) × IsErr (decode_of line)
 
 -- The text of a check of the lines from number n on, with its end. Each line is answered by itself, so there
 -- is one state.
-abbrev pub IsCheckText : ℕ → List (List ℕ) → List ℕ → Option (ℕ × LineFault) → Type 0
-IsCheckText n lines text end =
-    IsTextBy {S = Unit {0}} (λ state line answer next. AnswersHex line answer) IsNotHex n tt lines text end tt
+abbrev pub IsCheckText : (most : ℕ) → ℕ → List (List ℕ) → List ℕ → Option (ℕ × LineFault) → Type 0
+IsCheckText most n lines text end =
+    IsTextBy {S = Unit {0}} most (λ state line answer next. AnswersHex line answer) IsNotHex n tt lines text end tt
 
 -- ---- What a check leaves
 
 -- the text of the whole input, with its end
-abbrev pub IsTextOf : Option (ℕ × LineFault) → List ℕ → List ℕ → Type 0
-IsTextOf end input text = IsCheckText 1 (lines_of input) text end
+abbrev pub IsTextOf : (most : ℕ) → Option (ℕ × LineFault) → List ℕ → List ℕ → Type 0
+IsTextOf most end input text = IsCheckText most 1 (lines_of input) text end
 
 -- a prefix of the text of the whole input, however it ends
-abbrev pub IsPrefixOfText : List ℕ → List ℕ → Type 0
-IsPrefixOfText input text = IsPrefixBy (IsCheckText 1) input text
+abbrev pub IsPrefixOfText : (most : ℕ) → List ℕ → List ℕ → Type 0
+IsPrefixOfText most input text = IsPrefixBy (IsCheckText most 1) input text
 
 -- The reader gave lines and then a part of a line, and has this left: the text is the answers to those lines.
-abbrev pub AnswersWhatCame : Option (List ℕ) → List ℕ → List ℕ → Type 0
-AnswersWhatCame left input text = AnswersWhatCameBy (IsCheckText 1) left input text
+abbrev pub AnswersWhatCame : (most : ℕ) → Option (List ℕ) → List ℕ → List ℕ → Type 0
+AnswersWhatCame most left input text = AnswersWhatCameBy (IsCheckText most 1) left input text
 
 -- The reader gave lines, then a part of a line, then at most 8,192 octets, and has this left: the text is the
 -- answers to those lines. So each line that ended before the last 8,192 octets that were read has its answer.
-abbrev pub AnswersUpToBlock : Option (List ℕ) → List ℕ → List ℕ → Type 0
-AnswersUpToBlock left input text = AnswersUpToBlockBy (IsCheckText 1) left input text
+abbrev pub AnswersUpToBlock : (most : ℕ) → Option (List ℕ) → List ℕ → List ℕ → Type 0
+AnswersUpToBlock most left input text = AnswersUpToBlockBy (IsCheckText most 1) left input text
 
 -- The text is the answers to the lines before some line of the input.
-abbrev pub AnswersLinesBefore : List ℕ → List ℕ → Type 0
-AnswersLinesBefore input text = AnswersLinesBeforeBy (IsCheckText 1) input text
+abbrev pub AnswersLinesBefore : (most : ℕ) → List ℕ → List ℕ → Type 0
+AnswersLinesBefore most input text = AnswersLinesBeforeBy (IsCheckText most 1) input text

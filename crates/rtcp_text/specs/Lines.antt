@@ -38,31 +38,32 @@ Answering S = S → (line : List ℕ) → (text : List ℕ) → S → Type 0
 abbrev pub Refusing : Type 1
 Refusing = (line : List ℕ) → LineFault → Type 0
 
--- What is wrong with line n of the input, counted from 1. The faults are tested in this order.
-abbrev pub IsLineFault : Refusing → ℕ → List ℕ → LineFault → Type 0
-IsLineFault refuses n line fault =
-    ((fault ≡ TooManyLines) × (65536 < n))
-    ⊎ ((fault ≡ LineTooLong) × (n ≤ 65536) × (131200 < length line))
-    ⊎ ((n ≤ 65536) × (length line ≤ 131200) × refuses line fault)
+-- What is wrong with line n of the input, counted from 1, where so many lines at most are answered. The faults are tested
+-- in this order.
+abbrev pub IsLineFault : (most : ℕ) → Refusing → ℕ → List ℕ → LineFault → Type 0
+IsLineFault most refuses n line fault =
+    ((fault ≡ TooManyLines) × (most < n))
+    ⊎ ((fault ≡ LineTooLong) × (n ≤ most) × (131200 < length line))
+    ⊎ ((n ≤ most) × (length line ≤ 131200) × refuses line fault)
 
 -- The text of the lines from number n on, from a state to the last one. The end is None where each line has
 -- its answer, and otherwise the number of the first faulty line with its fault: the text is then the answers
 -- to the lines before it.
-abbrev pub IsTextBy : {S : Type 0} → Answering S → Refusing
+abbrev pub IsTextBy : {S : Type 0} → (most : ℕ) → Answering S → Refusing
     → ℕ → S → List (List ℕ) → List ℕ → Option (ℕ × LineFault) → S → Type 0
-IsTextBy answers refuses n state [] text end last = (text ≡ []) × (end ≡ None) × (last ≡ state)
-IsTextBy {S} answers refuses n state (line ∷ lines) text end last =
-    ((fault : LineFault) × IsLineFault refuses n line fault
+IsTextBy most answers refuses n state [] text end last = (text ≡ []) × (end ≡ None) × (last ≡ state)
+IsTextBy {S} most answers refuses n state (line ∷ lines) text end last =
+    ((fault : LineFault) × IsLineFault most refuses n line fault
     × (text ≡ []) × (end ≡ Some (n, fault)) × (last ≡ state))
-    ⊎ ((answer : List ℕ) × (next : S) × (others : List ℕ) × (n ≤ 65536) × (length line ≤ 131200)
+    ⊎ ((answer : List ℕ) × (next : S) × (others : List ℕ) × (n ≤ most) × (length line ≤ 131200)
     × answers state line answer next × (text ≡ answer ++ others)
-    × IsTextBy answers refuses (n + 1) next lines others end last)
+    × IsTextBy most answers refuses (n + 1) next lines others end last)
 
 -- The same, whichever state comes last.
-abbrev pub IsTextFrom : {S : Type 0} → Answering S → Refusing
+abbrev pub IsTextFrom : {S : Type 0} → (most : ℕ) → Answering S → Refusing
     → ℕ → S → List (List ℕ) → List ℕ → Option (ℕ × LineFault) → Type 0
-IsTextFrom {S} answers refuses n state lines text end =
-    (last : S) × IsTextBy answers refuses n state lines text end last
+IsTextFrom {S} most answers refuses n state lines text end =
+    (last : S) × IsTextBy most answers refuses n state lines text end last
 
 -- ---- What a run leaves
 

@@ -11,11 +11,11 @@ abbrev pub Grows : Option (List ℕ) → Option (List ℕ) → (List ℕ → Typ
 Grows held holds P = (text : List ℕ) × Appends held holds text × P text
 
 -- So many lines are answered, and this part of a line comes after the last of them.
-pub record IsBetween (answered : ℕ) (pending : List ℕ) : Type 0 where
-  pub few : answered ≤ 65536
+pub record IsBetween (most answered : ℕ) (pending : List ℕ) : Type 0 where
+  pub few : answered ≤ most
   pub short : length pending ≤ 131200
   pub part : HasNoLineFeed pending
-  pub room : 0 < length pending → answered < 65536
+  pub room : 0 < length pending → answered < most
 
 -- nothing, or a line feed and more
 abbrev pub IsAfterLine : List ℕ → Type 0
@@ -23,17 +23,17 @@ IsAfterLine [] = Unit {0}
 IsAfterLine (octet ∷ octets) = octet ≡ 10
 
 -- What becomes of the pending part after n lines when a piece is appended to it, with the outcome.
-abbrev pub Lengthens : {A : Type 0} → Result A TextFault → ℕ → List ℕ → List ℕ → List ℕ → Type 0
-Lengthens (Ok x) n pending piece longer = (longer ≡ pending ++ piece) × (n < 65536) × (length longer ≤ 131200)
-Lengthens (Err (Text number TooManyLines)) n pending piece longer = (number ≡ n + 1) × (65536 ≤ n)
-Lengthens (Err (Text number LineTooLong)) n pending piece longer =
-    (number ≡ n + 1) × (n < 65536) × (131200 < length (pending ++ piece))
-Lengthens (Err (Text number Words)) n pending piece longer = ⊥
-Lengthens (Err (Text number Hex)) n pending piece longer = ⊥
-Lengthens (Err (Text number Number)) n pending piece longer = ⊥
-Lengthens (Err Memory) n pending piece longer = Unit {0}
-Lengthens (Err Write) n pending piece longer = ⊥
-Lengthens (Err Read) n pending piece longer = ⊥
+abbrev pub Lengthens : (most : ℕ) → {A : Type 0} → Result A TextFault → ℕ → List ℕ → List ℕ → List ℕ → Type 0
+Lengthens most (Ok x) n pending piece longer = (longer ≡ pending ++ piece) × (n < most) × (length longer ≤ 131200)
+Lengthens most (Err (Text number TooManyLines)) n pending piece longer = (number ≡ n + 1) × (most ≤ n)
+Lengthens most (Err (Text number LineTooLong)) n pending piece longer =
+    (number ≡ n + 1) × (n < most) × (131200 < length (pending ++ piece))
+Lengthens most (Err (Text number Words)) n pending piece longer = ⊥
+Lengthens most (Err (Text number Hex)) n pending piece longer = ⊥
+Lengthens most (Err (Text number Number)) n pending piece longer = ⊥
+Lengthens most (Err Memory) n pending piece longer = Unit {0}
+Lengthens most (Err Write) n pending piece longer = ⊥
+Lengthens most (Err Read) n pending piece longer = ⊥
 
 module _ {S : Type 0} (answers : Answering S) (refuses : Refusing) where
   -- What a text is for line n before it is written, with the outcome, the state before and the state after.
@@ -44,15 +44,16 @@ module _ {S : Type 0} (answers : Answering S) (refuses : Refusing) where
   AnswersLine (Err Write) n state line text next = ⊥
   AnswersLine (Err Read) n state line text next = ⊥
 
+module _ {S : Type 0} (most : ℕ) (answers : Answering S) (refuses : Refusing) where
   -- What a text is for one line, number n, with the answer's outcome.
   abbrev pub LineLeaves : {A : Type 0} → Result A TextFault → ℕ → S → List ℕ → List ℕ → S → Type 0
-  LineLeaves (Ok x) n state line text next = IsTextBy answers refuses n state (line ∷ []) text None next
+  LineLeaves (Ok x) n state line text next = IsTextBy most answers refuses n state (line ∷ []) text None next
   LineLeaves (Err (Text number fault)) n state line text next =
       (others : List (List ℕ))
-      → IsTextFrom answers refuses n state (line ∷ others) text (Some (number, fault))
+      → IsTextFrom most answers refuses n state (line ∷ others) text (Some (number, fault))
   LineLeaves (Err Memory) n state line text next = text ≡ []
   LineLeaves (Err Write) n state line text next =
-      (more : List ℕ) × IsTextFrom answers refuses n state (line ∷ []) (text ++ more) None
+      (more : List ℕ) × IsTextFrom most answers refuses n state (line ∷ []) (text ++ more) None
   LineLeaves (Err Read) n state line text next = ⊥
 
   -- After n lines come these octets: whole lines, of which the text is the answers, and a rest.
@@ -61,7 +62,7 @@ module _ {S : Type 0} (answers : Answering S) (refuses : Refusing) where
     pub lines : List (List ℕ)
     pub begins : BeginsWithLines octets lines rest
     pub number : answered ≡ n + length lines
-    pub texts : IsTextBy answers refuses (n + 1) state lines text None next
+    pub texts : IsTextBy most answers refuses (n + 1) state lines text None next
 
   -- After n lines come these octets: whole lines, of which the text is the answers, and a rest, which is not
   -- empty.
@@ -70,7 +71,7 @@ module _ {S : Type 0} (answers : Answering S) (refuses : Refusing) where
     pub rest : List ℕ
     pub some : rest ≢ []
     pub begins : BeginsWithLines octets lines rest
-    pub texts : IsTextFrom answers refuses (n + 1) state lines text None
+    pub texts : IsTextFrom most answers refuses (n + 1) state lines text None
 
   -- After n lines come these octets: whole lines, of which the text is a prefix of the answers, and a rest.
   pub record StopsInsideAnswers (n : ℕ) (state : S) (octets text : List ℕ) : Type 0 where
@@ -78,7 +79,7 @@ module _ {S : Type 0} (answers : Answering S) (refuses : Refusing) where
     pub rest : List ℕ
     pub more : List ℕ
     pub begins : BeginsWithLines octets lines rest
-    pub texts : IsTextFrom answers refuses (n + 1) state lines (text ++ more) None
+    pub texts : IsTextFrom most answers refuses (n + 1) state lines (text ++ more) None
 
   -- What a text is for the octets after n lines, with the outcome. Where all went well, so many lines are
   -- answered, and this state and this rest are left.
@@ -88,19 +89,19 @@ module _ {S : Type 0} (answers : Answering S) (refuses : Refusing) where
       AnswersLines n state octets answered next rest text
   PartLeaves (Err (Text number fault)) n state octets answered next rest text =
       (more : List ℕ)
-      → IsTextFrom answers refuses (n + 1) state (lines_of (octets ++ more)) text (Some (number, fault))
+      → IsTextFrom most answers refuses (n + 1) state (lines_of (octets ++ more)) text (Some (number, fault))
   PartLeaves (Err Memory) n state octets answered next rest text = StopsAfterLines n state octets text
   PartLeaves (Err Write) n state octets answered next rest text = StopsInsideAnswers n state octets text
   PartLeaves (Err Read) n state octets answered next rest text = ⊥
 
   -- What a text is for the last octets after n lines, with the outcome.
   abbrev pub EndLeaves : {A : Type 0} → Result A TextFault → ℕ → S → List ℕ → List ℕ → Type 0
-  EndLeaves (Ok x) n state octets text = IsTextFrom answers refuses (n + 1) state (lines_of octets) text None
+  EndLeaves (Ok x) n state octets text = IsTextFrom most answers refuses (n + 1) state (lines_of octets) text None
   EndLeaves (Err (Text number fault)) n state octets text =
-      IsTextFrom answers refuses (n + 1) state (lines_of octets) text (Some (number, fault))
+      IsTextFrom most answers refuses (n + 1) state (lines_of octets) text (Some (number, fault))
   EndLeaves (Err Memory) n state octets text = (octets ≢ []) × (text ≡ [])
   EndLeaves (Err Write) n state octets text =
-      (more : List ℕ) × IsTextFrom answers refuses (n + 1) state (lines_of octets) (text ++ more) None
+      (more : List ℕ) × IsTextFrom most answers refuses (n + 1) state (lines_of octets) (text ++ more) None
   EndLeaves (Err Read) n state octets text = ⊥
 
 -- The text is a prefix of the answers to the first lines of the input.

@@ -34,8 +34,8 @@ IsNoEvent line fault = event_in line ≡ Err fault
 -- ---- Sessions
 
 -- The answers to lines after a history, with the end.
-abbrev pub IsSessionText : History → TextOfLines
-IsSessionText history lines text end = IsTextFrom AnswersEvent IsNoEvent 1 history lines text end
+abbrev pub IsSessionText : (most : ℕ) → History → TextOfLines
+IsSessionText most history lines text end = IsTextFrom most AnswersEvent IsNoEvent 1 history lines text end
 
 -- the line for the start, with the moment of the first tick, if there is one
 abbrev pub opening : History → List ℕ
@@ -46,38 +46,38 @@ abbrev pub Opens : History → (List ℕ → List ℕ → Type 0) → List ℕ �
 Opens history P input text = (answers : List ℕ) × (text ≡ opening history ++ answers) × P input answers
 
 -- the text of the whole session, with its end
-abbrev pub IsSessionOf : History → Option (ℕ × LineFault) → List ℕ → List ℕ → Type 0
-IsSessionOf history end = Opens history (λ input answers. IsSessionText history (lines_of input) answers end)
+abbrev pub IsSessionOf : (most : ℕ) → History → Option (ℕ × LineFault) → List ℕ → List ℕ → Type 0
+IsSessionOf most history end = Opens history (λ input answers. IsSessionText most history (lines_of input) answers end)
 
 -- ---- What a replay leaves
 
 -- a prefix of the text of the whole session, however it ends
-abbrev pub IsPrefixOfSession : History → List ℕ → List ℕ → Type 0
-IsPrefixOfSession history input text =
+abbrev pub IsPrefixOfSession : (most : ℕ) → History → List ℕ → List ℕ → Type 0
+IsPrefixOfSession most history input text =
     (end : Option (ℕ × LineFault)) × (answers : List ℕ) × (more : List ℕ)
-    × IsSessionText history (lines_of input) answers end × (opening history ++ answers ≡ text ++ more)
+    × IsSessionText most history (lines_of input) answers end × (opening history ++ answers ≡ text ++ more)
 
 -- The reader gave lines and then a part of a line, and has this left: after the start come the answers to
 -- those lines.
-abbrev pub SessionOfWhatCame : History → Option (List ℕ) → List ℕ → List ℕ → Type 0
-SessionOfWhatCame history left = Opens history (AnswersWhatCameBy (IsSessionText history) left)
+abbrev pub SessionOfWhatCame : (most : ℕ) → History → Option (List ℕ) → List ℕ → List ℕ → Type 0
+SessionOfWhatCame most history left = Opens history (AnswersWhatCameBy (IsSessionText most history) left)
 
 -- Nothing, or after the start the answers to the lines before some line of the input.
-abbrev pub SessionBefore : History → List ℕ → List ℕ → Type 0
-SessionBefore history input text =
-    (text ≡ []) ⊎ Opens history (AnswersLinesBeforeBy (IsSessionText history)) input text
+abbrev pub SessionBefore : (most : ℕ) → History → List ℕ → List ℕ → Type 0
+SessionBefore most history input text =
+    (text ≡ []) ⊎ Opens history (AnswersLinesBeforeBy (IsSessionText most history)) input text
 
 -- Nothing, or after the start the answers to some lines: the reader gave these, then a part of a line, then at
 -- most 8,192 octets, and has this left.
-abbrev pub SessionUpToBlock : History → Option (List ℕ) → List ℕ → List ℕ → Type 0
-SessionUpToBlock history left input text =
-    (text ≡ []) ⊎ Opens history (AnswersUpToBlockBy (IsSessionText history) left) input text
+abbrev pub SessionUpToBlock : (most : ℕ) → History → Option (List ℕ) → List ℕ → List ℕ → Type 0
+SessionUpToBlock most history left input text =
+    (text ≡ []) ⊎ Opens history (AnswersUpToBlockBy (IsSessionText most history) left) input text
 
 -- What a text is for the whole input, with the outcome and what the reader has left.
-abbrev pub SessionLeaves : History → {A : Type 0} → Result A TextFault
+abbrev pub SessionLeaves : (most : ℕ) → History → {A : Type 0} → Result A TextFault
     → Option (List ℕ) → List ℕ → List ℕ → Type 0
-SessionLeaves history (Ok x) left input text = IsSessionOf history None input text
-SessionLeaves history (Err (Text line fault)) left input text = IsSessionOf history (Some (line, fault)) input text
-SessionLeaves history (Err Memory) left input text = SessionUpToBlock history left input text
-SessionLeaves history (Err Read) left input text = SessionOfWhatCame history left input text
-SessionLeaves history (Err Write) left input text = IsPrefixOfSession history input text
+SessionLeaves most history (Ok x) left input text = IsSessionOf most history None input text
+SessionLeaves most history (Err (Text line fault)) left input text = IsSessionOf most history (Some (line, fault)) input text
+SessionLeaves most history (Err Memory) left input text = SessionUpToBlock most history left input text
+SessionLeaves most history (Err Read) left input text = SessionOfWhatCame most history left input text
+SessionLeaves most history (Err Write) left input text = IsPrefixOfSession most history input text

@@ -1,6 +1,6 @@
 //! What the lines of a text are answered by.
 
-ghost use Rattle.std.specs.Prelude.{◌≡◌, ◌≤◌, [], length};
+ghost use Rattle.std.specs.Prelude.{◌≡◌, ◌<◌, ◌≤◌, ◌^◌, [], length};
 ghost use Rattle.rtcp_text.specs.Lines.{Answering, Refusing};
 ghost use Rattle.rtcp_text.specs.Progress.{AnswersLine};
 
@@ -14,8 +14,8 @@ pub trait Answerer: Drop {
     /// What is wrong with a line that has no answer, whatever came before it.
     ghost refuses: { Refusing };
 
-    /// Puts the answer to a line into `text`, which is empty. The line has at most 131,200 octets and is no
-    /// later than line 65,536; `number` is its number.
+    /// Puts the answer to a line into `text`, which is empty. The line has at most 131,200 octets; `number` is its
+    /// number, below 2^32.
     ///
     /// # Errors
     ///
@@ -24,7 +24,7 @@ pub trait Answerer: Drop {
     ///
     /// After an error it is left open what `text` holds, and the answerer is not to be used.
     fn compose(&mut self, number: u64, line: &[u8], text: &mut Vec<u8>) -> Result<(), TextFault>
-        requires few { number ≤ 65536 }
+        requires few { number < 2 ^ 32 }
         requires short { length line.now ≤ 131200 }
         requires empty { text.old.items ≡ [] }
         ensures { AnswersLine answers refuses result number self.old line.now text.new.items self.new };

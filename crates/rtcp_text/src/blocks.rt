@@ -16,7 +16,7 @@ use std::io::{Read, Write};
 /// The most octets that one read asks for.
 const BLOCK: usize = 8_192;
 
-/// Answers the lines of the reader's input, block by block, up to its end or the first fault. What was
+/// Answers at most `lines` lines of the reader's input, block by block, up to its end or the first fault. What was
 /// written is flushed before each read; what is answered after the last one is left for the caller to flush.
 ///
 /// # Errors
@@ -31,6 +31,7 @@ const BLOCK: usize = 8_192;
 ///   those that ended before the last block that was read.
 pub fn answer_blocks<A: Answerer, R: Read, W: Write>(
     alloc: Global,
+    lines: u32,
     answerer: A,
     reader: &mut Counted<R>,
     writer: &mut Counted<W>,
@@ -38,13 +39,13 @@ pub fn answer_blocks<A: Answerer, R: Read, W: Write>(
     requires reader_unfailed { failures_of reader.old ≡ 0 }
     requires writer_unfailed { failures_of writer.old ≡ 0 }
     ensures leaves { Wrote R.remaining W.contents reader.old writer.old writer.new
-        (RunLeaves (IsTextFrom A.answers A.refuses 1 answerer) result (R.remaining (inner_of reader.new))) }
+        (RunLeaves (IsTextFrom lines A.answers A.refuses 1 answerer) result (R.remaining (inner_of reader.new))) }
     ensures read_failed { (result ≡ Err TextFault.Read) ↔ (failures_of reader.new ≢ 0) }
     ensures write_failed { (result ≡ Err TextFault.Write) ↔ (failures_of writer.new ≢ 0) }
     ensures read_once { failures_of reader.new ≤ 1 }
     ensures write_once { failures_of writer.new ≤ 1 }
 {
-    let mut cutter = LineCutter::new(alloc, answerer);
+    let mut cutter = LineCutter::new(alloc, lines, answerer);
     let mut block = [0; BLOCK];
     'turns: loop {
         flush(writer)?;

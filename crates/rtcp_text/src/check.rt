@@ -15,6 +15,9 @@ use rtcp_wire::laws::accepted_or_faulty;
 use std::alloc::Global;
 use std::io::{Read, Write};
 
+/// The most lines of a text, where nothing else is said.
+pub const MOST_LINES: u32 = 65_536;
+
 /// Reads a text, a datagram in hex on each line, and writes a line for each: the datagram's packets, or its
 /// first fault.
 ///
@@ -43,19 +46,57 @@ pub fn check<R: Read, W: Write>(
     requires writer_unfailed { failures_of writer.old ≡ 0 }
 
     // What is written is always a prefix of the text of the whole input.
-    ensures prefix { Wrote R.remaining W.contents reader.old writer.old writer.new IsPrefixOfText }
+    ensures prefix { Wrote R.remaining W.contents reader.old writer.old writer.new (IsPrefixOfText 65536) }
     ensures whole { OnOk result
-        (Wrote R.remaining W.contents reader.old writer.old writer.new (IsTextOf None)) }
+        (Wrote R.remaining W.contents reader.old writer.old writer.new (IsTextOf 65536 None)) }
     ensures refused { (line : ℕ) (fault : Fault) → result ≡ Err (TextFault.Text line fault)
-        → Wrote R.remaining W.contents reader.old writer.old writer.new (IsTextOf (Some (line, fault))) }
+        → Wrote R.remaining W.contents reader.old writer.old writer.new (IsTextOf 65536 (Some (line, fault))) }
     ensures read { result ≡ Err TextFault.Read
         → Wrote R.remaining W.contents reader.old writer.old writer.new
-        (AnswersWhatCame (R.remaining (inner_of reader.new))) }
+        (AnswersWhatCame 65536 (R.remaining (inner_of reader.new))) }
     ensures memory { result ≡ Err TextFault.Memory
-        → Wrote R.remaining W.contents reader.old writer.old writer.new AnswersLinesBefore }
+        → Wrote R.remaining W.contents reader.old writer.old writer.new (AnswersLinesBefore 65536) }
     ensures memory_block { result ≡ Err TextFault.Memory
         → Wrote R.remaining W.contents reader.old writer.old writer.new
-        (AnswersUpToBlock (R.remaining (inner_of reader.new))) }
+        (AnswersUpToBlock 65536 (R.remaining (inner_of reader.new))) }
+
+    // A call failed exactly where the fault says so, and only one.
+    ensures read_failed { (result ≡ Err TextFault.Read) ↔ (failures_of reader.new ≢ 0) }
+    ensures write_failed { (result ≡ Err TextFault.Write) ↔ (failures_of writer.new ≢ 0) }
+    ensures read_once { failures_of reader.new ≤ 1 }
+    ensures write_once { failures_of writer.new ≤ 1 }
+{
+    check_up_to(alloc, MOST_LINES, reader, writer)
+}
+
+/// [`check`] of a text of at most `lines` lines.
+///
+/// # Errors
+///
+/// Those of [`check`].
+pub fn check_up_to<R: Read, W: Write>(
+    alloc: Global,
+    lines: u32,
+    reader: &mut Counted<R>,
+    writer: &mut Counted<W>,
+) -> Result<(), TextFault>
+    requires reader_unfailed { failures_of reader.old ≡ 0 }
+    requires writer_unfailed { failures_of writer.old ≡ 0 }
+
+    // What is written is always a prefix of the text of the whole input.
+    ensures prefix { Wrote R.remaining W.contents reader.old writer.old writer.new (IsPrefixOfText lines) }
+    ensures whole { OnOk result
+        (Wrote R.remaining W.contents reader.old writer.old writer.new (IsTextOf lines None)) }
+    ensures refused { (line : ℕ) (fault : Fault) → result ≡ Err (TextFault.Text line fault)
+        → Wrote R.remaining W.contents reader.old writer.old writer.new (IsTextOf lines (Some (line, fault))) }
+    ensures read { result ≡ Err TextFault.Read
+        → Wrote R.remaining W.contents reader.old writer.old writer.new
+        (AnswersWhatCame lines (R.remaining (inner_of reader.new))) }
+    ensures memory { result ≡ Err TextFault.Memory
+        → Wrote R.remaining W.contents reader.old writer.old writer.new (AnswersLinesBefore lines) }
+    ensures memory_block { result ≡ Err TextFault.Memory
+        → Wrote R.remaining W.contents reader.old writer.old writer.new
+        (AnswersUpToBlock lines (R.remaining (inner_of reader.new))) }
 
     // A call failed exactly where the fault says so, and only one.
     ensures read_failed { (result ≡ Err TextFault.Read) ↔ (failures_of reader.new ≢ 0) }
@@ -66,5 +107,5 @@ pub fn check<R: Read, W: Write>(
     // So every input has a text, of which what is written is a prefix, and only one.
     accepted_or_faulty();
     one_text();
-    answer_blocks(alloc, Checker::new(alloc), reader, writer)
+    answer_blocks(alloc, lines, Checker::new(alloc), reader, writer)
 }

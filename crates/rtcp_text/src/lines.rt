@@ -13,9 +13,6 @@ use memchr::memchr;
 use std::alloc::Global;
 use std::io::Write;
 
-/// The most lines that are looked at.
-const MAX_LINES: u64 = 65_536;
-
 /// The most octets of a line, its line feed not counted.
 const MAX_LINE: usize = 131_200;
 
@@ -23,20 +20,24 @@ const MAX_LINE: usize = 131_200;
 #[derive(Drop)]
 pub(crate) struct LineCutter<A> {
     answerer: A,
+    /// The most lines that are answered.
+    most: u32,
     answered: u64,
     pending: Vec<u8>,
     text: Vec<u8>,
 }
 
 impl<A: Answerer> LineCutter<A> {
-    /// A cutter that has had no line answered.
-    pub(crate) fn new(alloc: Global, answerer: A) -> Self
+    /// A cutter that has had no line answered, and answers so many at most.
+    pub(crate) fn new(alloc: Global, most: u32, answerer: A) -> Self
         ensures answerer { result.answerer ≡ answerer }
+        ensures most { result.most ≡ most }
         ensures answered { result.answered ≡ 0 }
         ensures pending { result.pending.items ≡ [] }
     {
         LineCutter {
             answerer,
+            most,
             answered: 0,
             pending: Vec::new(alloc),
             text: Vec::new(alloc),
@@ -55,13 +56,14 @@ impl<A: Answerer> LineCutter<A> {
         block: &[u8],
         writer: &mut Counted<W>,
     ) -> Result<(), TextFault>
-        requires between { IsBetween self.old.answered self.old.pending.items }
+        requires between { IsBetween self.old.most self.old.answered self.old.pending.items }
         requires unfailed { failures_of writer.old ≡ 0 }
         ensures written { Grows (W.contents (inner_of writer.old)) (W.contents (inner_of writer.new))
-            (PartLeaves A.answers A.refuses result
+            (PartLeaves self.old.most A.answers A.refuses result
             self.old.answered self.old.answerer (self.old.pending.items ++ block.now)
             self.new.answered self.new.answerer self.new.pending.items) }
-        ensures between { OnOk result (IsBetween self.new.answered self.new.pending.items) }
+        ensures between { OnOk result (IsBetween self.new.most self.new.answered self.new.pending.items) }
+        ensures most { self.new.most ≡ self.old.most }
         ensures failed { (result ≡ Err TextFault.Write) ↔ (failures_of writer.new ≢ 0) }
         ensures once { failures_of writer.new ≤ 1 }
     {
@@ -85,10 +87,10 @@ impl<A: Answerer> LineCutter<A> {
     /// Those of [`answer_blocks`](crate::blocks::answer_blocks) but for `Read`. The cutter is not to be used
     /// after one.
     pub(crate) fn finish<W: Write>(&mut self, writer: &mut Counted<W>) -> Result<(), TextFault>
-        requires between { IsBetween self.old.answered self.old.pending.items }
+        requires between { IsBetween self.old.most self.old.answered self.old.pending.items }
         requires unfailed { failures_of writer.old ≡ 0 }
         ensures written { Grows (W.contents (inner_of writer.old)) (W.contents (inner_of writer.new))
-            (EndLeaves A.answers A.refuses result
+            (EndLeaves self.old.most A.answers A.refuses result
             self.old.answered self.old.answerer self.old.pending.items) }
         ensures failed { (result ≡ Err TextFault.Write) ↔ (failures_of writer.new ≢ 0) }
         ensures once { failures_of writer.new ≤ 1 }
@@ -109,13 +111,14 @@ impl<A: Answerer> LineCutter<A> {
         piece: &[u8],
         writer: &mut Counted<W>,
     ) -> Result<(), TextFault>
-        requires between { IsBetween self.old.answered self.old.pending.items }
+        requires between { IsBetween self.old.most self.old.answered self.old.pending.items }
         requires unfailed { failures_of writer.old ≡ 0 }
         ensures written { Grows (W.contents (inner_of writer.old)) (W.contents (inner_of writer.new))
-            (λ text. LineLeaves A.answers A.refuses result (self.old.answered + 1) self.old.answerer
+            (λ text. LineLeaves self.old.most A.answers A.refuses result (self.old.answered + 1) self.old.answerer
             (self.old.pending.items ++ piece.now) text self.new.answerer) }
         ensures answered { OnOk result (self.new.answered ≡ self.old.answered + 1) }
-        ensures few { OnOk result (self.old.answered < 65536) }
+        ensures few { OnOk result (self.old.answered < self.old.most) }
+        ensures most { self.new.most ≡ self.old.most }
         ensures pending { OnOk result (self.new.pending.items ≡ []) }
         ensures failed { (result ≡ Err TextFault.Write) ↔ (failures_of writer.new ≢ 0) }
         ensures once { failures_of writer.new ≤ 1 }
@@ -126,7 +129,14 @@ impl<A: Answerer> LineCutter<A> {
         }
         self.admit(piece)?;
         let number = self.answered + 1;
-        answer_line(&mut self.answerer, number, piece, &mut self.text, writer)?;
+        answer_line(
+            &mut self.answerer,
+            self.most,
+            number,
+            piece,
+            &mut self.text,
+            writer,
+        )?;
         self.answered = number;
         Ok(())
     }
@@ -138,11 +148,12 @@ impl<A: Answerer> LineCutter<A> {
     /// - [`TextFault::Text`] where that is a line too many, or too long.
     /// - [`TextFault::Memory`] where memory is refused.
     fn append(&mut self, piece: &[u8]) -> Result<(), TextFault>
-        requires { IsBetween self.old.answered self.old.pending.items }
-        ensures longer { Lengthens result self.old.answered self.old.pending.items piece.now
+        requires { IsBetween self.old.most self.old.answered self.old.pending.items }
+        ensures longer { Lengthens self.old.most result self.old.answered self.old.pending.items piece.now
             self.new.pending.items }
         ensures answered { self.new.answered ≡ self.old.answered }
         ensures answerer { self.new.answerer ≡ self.old.answerer }
+        ensures most { self.new.most ≡ self.old.most }
     {
         self.admit(piece)?;
         match self.pending.extend_from_slice(piece) {
@@ -157,12 +168,12 @@ impl<A: Answerer> LineCutter<A> {
     ///
     /// [`TextFault::Text`] where that is a line too many, or too long.
     fn admit(&self, piece: &[u8]) -> Result<(), TextFault>
-        requires { IsBetween self.now.answered self.now.pending.items }
-        ensures longer { Lengthens result self.now.answered self.now.pending.items piece.now
+        requires { IsBetween self.now.most self.now.answered self.now.pending.items }
+        ensures longer { Lengthens self.now.most result self.now.answered self.now.pending.items piece.now
             (self.now.pending.items ++ piece.now) }
         ensures memory { result ≢ Err TextFault.Memory }
     {
-        if self.answered >= MAX_LINES {
+        if self.answered >= u64::from(self.most) {
             return Err(self.refused(LineFault::TooManyLines));
         }
         if piece.len() > MAX_LINE - self.pending.len() {
@@ -173,7 +184,7 @@ impl<A: Answerer> LineCutter<A> {
 
     /// A fault at the first line that is not answered.
     fn refused(&self, fault: LineFault) -> TextFault
-        requires { self.now.answered ≤ 65536 }
+        requires { self.now.answered ≤ self.now.most }
         ensures { result ≡ TextFault.Text (self.now.answered + 1) fault }
     {
         TextFault::Text {
@@ -191,20 +202,22 @@ impl<A: Answerer> LineCutter<A> {
     /// - [`TextFault::Write`] where a call of the writer fails or takes nothing: a prefix of the answer is
     ///   written.
     fn answer<W: Write>(&mut self, writer: &mut Counted<W>) -> Result<(), TextFault>
-        requires few { self.old.answered < 65536 }
+        requires few { self.old.answered < self.old.most }
         requires short { vec_len self.old.pending ≤ 131200 }
         requires unfailed { failures_of writer.old ≡ 0 }
         ensures written { Grows (W.contents (inner_of writer.old)) (W.contents (inner_of writer.new))
-            (λ text. LineLeaves A.answers A.refuses result (self.old.answered + 1) self.old.answerer
+            (λ text. LineLeaves self.old.most A.answers A.refuses result (self.old.answered + 1) self.old.answerer
             self.old.pending.items text self.new.answerer) }
         ensures answered { OnOk result (self.new.answered ≡ self.old.answered + 1) }
         ensures pending { OnOk result (self.new.pending.items ≡ []) }
+        ensures most { self.new.most ≡ self.old.most }
         ensures failed { (result ≡ Err TextFault.Write) ↔ (failures_of writer.new ≢ 0) }
         ensures once { failures_of writer.new ≤ 1 }
     {
         let number = self.answered + 1;
         answer_line(
             &mut self.answerer,
+            self.most,
             number,
             &self.pending,
             &mut self.text,
@@ -225,16 +238,17 @@ impl<A: Answerer> LineCutter<A> {
 /// - [`TextFault::Write`] where a call of the writer fails or takes nothing: a prefix of the answer is written.
 fn answer_line<A: Answerer, W: Write>(
     answerer: &mut A,
+    most: u32,
     number: u64,
     line: &[u8],
     text: &mut Vec<u8>,
     writer: &mut Counted<W>,
 ) -> Result<(), TextFault>
-    requires few { number ≤ 65536 }
+    requires few { number ≤ most }
     requires short { length line.now ≤ 131200 }
     requires unfailed { failures_of writer.old ≡ 0 }
     ensures written { Grows (W.contents (inner_of writer.old)) (W.contents (inner_of writer.new))
-        (λ text. LineLeaves A.answers A.refuses result number answerer.old line.now text answerer.new) }
+        (λ text. LineLeaves most A.answers A.refuses result number answerer.old line.now text answerer.new) }
     ensures failed { (result ≡ Err TextFault.Write) ↔ (failures_of writer.new ≢ 0) }
     ensures once { failures_of writer.new ≤ 1 }
 {

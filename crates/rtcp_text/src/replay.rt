@@ -13,6 +13,7 @@ ghost use Rattle.rtcp_text.specs.Replay.{IsSessionOf, IsPrefixOfSession, Session
 ghost use Rattle.rtcp_text.specs.declared.fault.LineFault.{LineFault as Fault};
 
 use crate::blocks::answer_blocks;
+use crate::check::MOST_LINES;
 use crate::counted::Counted;
 use crate::fault::{ReplayFault, TextFault};
 use crate::player::Player;
@@ -63,21 +64,71 @@ pub fn replay<R: Read, W: Write>(
     // What is written is always a prefix of the text of the whole session.
     ensures prefix { error_in (setup_of config) ≡ None
         → Wrote R.remaining W.contents reader.old writer.old writer.new
-        (IsPrefixOfSession (begun (setup_of config) word)) }
+        (IsPrefixOfSession 65536 (begun (setup_of config) word)) }
     ensures whole { OnOk result (Wrote R.remaining W.contents reader.old writer.old writer.new
-        (IsSessionOf (begun (setup_of config) word) None)) }
+        (IsSessionOf 65536 (begun (setup_of config) word) None)) }
     ensures refused { (line : ℕ) (fault : Fault) → result ≡ Err (ReplayFault.Run (TextFault.Text line fault))
         → Wrote R.remaining W.contents reader.old writer.old writer.new
-        (IsSessionOf (begun (setup_of config) word) (Some (line, fault))) }
+        (IsSessionOf 65536 (begun (setup_of config) word) (Some (line, fault))) }
     ensures read { result ≡ Err (ReplayFault.Run TextFault.Read)
         → Wrote R.remaining W.contents reader.old writer.old writer.new
-        (SessionOfWhatCame (begun (setup_of config) word) (R.remaining (inner_of reader.new))) }
+        (SessionOfWhatCame 65536 (begun (setup_of config) word) (R.remaining (inner_of reader.new))) }
     ensures memory { result ≡ Err (ReplayFault.Run TextFault.Memory)
         → Wrote R.remaining W.contents reader.old writer.old writer.new
-        (SessionBefore (begun (setup_of config) word)) }
+        (SessionBefore 65536 (begun (setup_of config) word)) }
     ensures memory_block { result ≡ Err (ReplayFault.Run TextFault.Memory)
         → Wrote R.remaining W.contents reader.old writer.old writer.new
-        (SessionUpToBlock (begun (setup_of config) word) (R.remaining (inner_of reader.new))) }
+        (SessionUpToBlock 65536 (begun (setup_of config) word) (R.remaining (inner_of reader.new))) }
+
+    // A call failed exactly where the fault says so, and only one.
+    ensures read_failed { (result ≡ Err (ReplayFault.Run TextFault.Read)) ↔ (failures_of reader.new ≢ 0) }
+    ensures write_failed { (result ≡ Err (ReplayFault.Run TextFault.Write)) ↔ (failures_of writer.new ≢ 0) }
+    ensures read_once { failures_of reader.new ≤ 1 }
+    ensures write_once { failures_of writer.new ≤ 1 }
+{
+    replay_up_to(alloc, MOST_LINES, reader, writer, config, word)
+}
+
+/// [`replay`] of a text of at most `lines` lines.
+///
+/// # Errors
+///
+/// Those of [`replay`].
+pub fn replay_up_to<R: Read, W: Write>(
+    alloc: Global,
+    lines: u32,
+    reader: &mut Counted<R>,
+    writer: &mut Counted<W>,
+    config: Config,
+    word: u32,
+) -> Result<(), ReplayFault>
+    requires reader_unfailed { failures_of reader.old ≡ 0 }
+    requires writer_unfailed { failures_of writer.old ≡ 0 }
+
+    // A configuration that is refused leaves the reader and the writer as they were.
+    ensures config { (error : Refused) →
+        (result ≡ Err (ReplayFault.Config error)) ↔ (error_in (setup_of config) ≡ Some error) }
+    ensures unread { (error : Refused) → result ≡ Err (ReplayFault.Config error) → reader.new ≡ reader.old }
+    ensures unwritten { (error : Refused) → result ≡ Err (ReplayFault.Config error) → writer.new ≡ writer.old }
+
+    // What is written is always a prefix of the text of the whole session.
+    ensures prefix { error_in (setup_of config) ≡ None
+        → Wrote R.remaining W.contents reader.old writer.old writer.new
+        (IsPrefixOfSession lines (begun (setup_of config) word)) }
+    ensures whole { OnOk result (Wrote R.remaining W.contents reader.old writer.old writer.new
+        (IsSessionOf lines (begun (setup_of config) word) None)) }
+    ensures refused { (line : ℕ) (fault : Fault) → result ≡ Err (ReplayFault.Run (TextFault.Text line fault))
+        → Wrote R.remaining W.contents reader.old writer.old writer.new
+        (IsSessionOf lines (begun (setup_of config) word) (Some (line, fault))) }
+    ensures read { result ≡ Err (ReplayFault.Run TextFault.Read)
+        → Wrote R.remaining W.contents reader.old writer.old writer.new
+        (SessionOfWhatCame lines (begun (setup_of config) word) (R.remaining (inner_of reader.new))) }
+    ensures memory { result ≡ Err (ReplayFault.Run TextFault.Memory)
+        → Wrote R.remaining W.contents reader.old writer.old writer.new
+        (SessionBefore lines (begun (setup_of config) word)) }
+    ensures memory_block { result ≡ Err (ReplayFault.Run TextFault.Memory)
+        → Wrote R.remaining W.contents reader.old writer.old writer.new
+        (SessionUpToBlock lines (begun (setup_of config) word) (R.remaining (inner_of reader.new))) }
 
     // A call failed exactly where the fault says so, and only one.
     ensures read_failed { (result ≡ Err (ReplayFault.Run TextFault.Read)) ↔ (failures_of reader.new ≢ 0) }
@@ -92,19 +143,20 @@ pub fn replay<R: Read, W: Write>(
         return Err(ReplayFault::Run(TextFault::Memory));
     };
     let participant = Participant::with_table(config, table, word);
-    match session(alloc, participant, reader, writer) {
+    match session(alloc, lines, participant, reader, writer) {
         Ok(()) => Ok(()),
         Err(fault) => Err(ReplayFault::Run(fault)),
     }
 }
 
-/// Writes the line for the start, and answers the lines of the reader's input by a participant.
+/// Writes the line for the start, and answers at most `lines` lines of the reader's input by a participant.
 ///
 /// # Errors
 ///
 /// Those of [`replay`] but for `Config`.
 fn session<T: MemberTable + Drop, R: Read, W: Write>(
     alloc: Global,
+    lines: u32,
     participant: Participant<T>,
     reader: &mut Counted<R>,
     writer: &mut Counted<W>,
@@ -113,7 +165,7 @@ fn session<T: MemberTable + Drop, R: Read, W: Write>(
     requires writer_unfailed { failures_of writer.old ≡ 0 }
     ensures leaves { (history : History) → StandsAt participant history
         → Wrote R.remaining W.contents reader.old writer.old writer.new
-        (SessionLeaves history result (R.remaining (inner_of reader.new))) }
+        (SessionLeaves lines history result (R.remaining (inner_of reader.new))) }
     ensures read_failed { (result ≡ Err TextFault.Read) ↔ (failures_of reader.new ≢ 0) }
     ensures write_failed { (result ≡ Err TextFault.Write) ↔ (failures_of writer.new ≢ 0) }
     ensures read_once { failures_of reader.new ≤ 1 }
@@ -124,5 +176,6 @@ fn session<T: MemberTable + Drop, R: Read, W: Write>(
         return Err(TextFault::Memory);
     }
     write_whole(writer, &start)?;
-    answer_blocks(alloc, Player::new(alloc, participant), reader, writer)
+    let player = Player::new(alloc, participant);
+    answer_blocks(alloc, lines, player, reader, writer)
 }

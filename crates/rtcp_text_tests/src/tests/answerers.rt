@@ -48,14 +48,14 @@ impl Previous {
     }
 }
 
-/// What a run answers, and what it writes.
-fn answered(alloc: Global, input: &[u8]) -> (Result<(), TextFault>, Vec<u8>) {
+/// What a run of at most so many lines answers, and what it writes.
+fn answered(alloc: Global, lines: u32, input: &[u8]) -> (Result<(), TextFault>, Vec<u8>) {
     let mut reader = Counted::new(input);
     let mut writer = Counted::new(Vec::new(alloc));
     let previous = Previous {
         line: Vec::new(alloc),
     };
-    let outcome = answer_blocks(alloc, previous, &mut reader, &mut writer);
+    let outcome = answer_blocks(alloc, lines, previous, &mut reader, &mut writer);
     (outcome, writer.into_inner())
 }
 
@@ -65,12 +65,18 @@ fn answers_by_the_line_before(rt: HostRuntime) {
         line: 3,
         fault: LineFault::Words,
     });
+    let many = Err(TextFault::Text {
+        line: 3,
+        fault: LineFault::TooManyLines,
+    });
     let rows = [
-        ("one\ntwo\nthree", Ok(()), "\none\ntwo\n"),
-        ("one\ntwo\n\nthree\n", words, "\none\n"),
+        (3, "one\ntwo\nthree", Ok(()), "\none\ntwo\n"),
+        (3, "one\ntwo\nthree\n", Ok(()), "\none\ntwo\n"),
+        (u32::MAX, "one\ntwo\n\nthree\n", words, "\none\n"),
+        (2, "one\ntwo\n\nthree\n", many, "\none\n"),
     ];
-    for (lines, outcome, text) in rows {
-        let (ended, written) = answered(rt.alloc(), lines.as_bytes());
+    for (most, lines, outcome, text) in rows {
+        let (ended, written) = answered(rt.alloc(), most, lines.as_bytes());
         assert_eq!(rt; ended, outcome, "{lines}");
         assert_eq!(rt; written.as_slice(), text.as_bytes(), "{lines}");
     }

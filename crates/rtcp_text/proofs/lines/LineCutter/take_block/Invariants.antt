@@ -7,11 +7,12 @@ use Rattle.rtcp_text.proofs.lines.LineCutter.take_block.Given as goal
 -- a prefix of the block is taken, and its lines are answered
 abbrev pub invariant-loop-rest : goal.invariant-loop-rest
 invariant-loop-rest g l = record {
-  between : IsBetween l.self.answered l.self.pending.items;
+  between : IsBetween l.initial.self.most l.self.answered l.self.pending.items;
+  most : l.self.most ≡ l.initial.self.most;
   unfailed : failures_of l.writer ≡ 0;
   written : (prefix : List ℕ) × (text : List ℕ) × (l.block ≡ prefix ++ l.rest)
       × Appends (g.W.Write.contents (inner_of l.initial.writer)) (g.W.Write.contents (inner_of l.writer)) text
-      × AnswersLines g.A.Answerer.answers g.A.Answerer.refuses l.initial.self.answered l.initial.self.answerer
+      × AnswersLines l.initial.self.most g.A.Answerer.answers g.A.Answerer.refuses l.initial.self.answered l.initial.self.answerer
       (l.initial.self.pending.items ++ prefix) l.self.answered l.self.answerer l.self.pending.items text;
 }
 
