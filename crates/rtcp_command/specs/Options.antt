@@ -1,5 +1,5 @@
 -- What the options that configure a participant and those of `rtcp replay` say, and the first that is refused.
-use Rattle.std.specs.Prelude.{◌≡◌, ℕ, ◌/◌, ◌^◌, ◌-◌, nat_le, min, List, [], ◌∷◌, ◌++◌, length, if◌then◌else◌, Option, Some, None, option_map, unwrap_or, Result, Ok, Err, codes}
+use Rattle.std.specs.Prelude.{◌≡◌, ℕ, ◌/◌, ◌^◌, ◌-◌, nat_le, min, List, [], ◌∷◌, ◌++◌, length, if◌then◌else◌, Option, Some, None, option_map, option_and_then, unwrap_or, Result, Ok, Err, codes}
 use Rattle.std.specs.Borrow.{Bor}
 use Rattle.std.specs.Int.{w32, w64}
 use Rattle.std.specs.Option.{ok_or}
@@ -166,19 +166,32 @@ setup_in texts = do
     ntp_base = ntp;
   })
 
--- The word of the start is looked at last.
-abbrev pub replay_in : OptionTexts → (word : List ℕ) → Result (Setup × ℕ) (List ℕ)
-replay_in texts word = do
+-- 1 to 2^32 - 1 lines
+abbrev pub lines_in : List ℕ → Option ℕ
+lines_in text = option_and_then (λ lines. if nat_le 1 lines then Some lines else None) (decimal_in 32 text)
+
+-- The word of the start and the number of lines are looked at last.
+abbrev pub replay_in : OptionTexts → (word : List ℕ) → (lines : List ℕ) → Result (Setup × ℕ × ℕ) (List ℕ)
+replay_in texts word lines = do
   setup ← setup_in texts
   word ← ok_or (hex_in w32 word) (codes "word")
-  Ok (setup, word)
+  lines ← ok_or (lines_in lines) (codes "lines")
+  Ok (setup, word, lines)
 
 -- ---- Orders
 
 -- What the options come to is this order, or this fault.
-abbrev pub IsReplayOrder : Result TextOrder OrderFault → Result (Setup × ℕ) (List ℕ) → Type 0
-IsReplayOrder (Ok (Replay config word)) expected = expected ≡ Ok (setup_of config, word)
-IsReplayOrder (Ok Check) expected = ⊥
+abbrev pub IsReplayOrder : Result TextOrder OrderFault → Result (Setup × ℕ × ℕ) (List ℕ) → Type 0
+IsReplayOrder (Ok (Replay config word lines)) expected = expected ≡ Ok (setup_of config, word, lines)
+IsReplayOrder (Ok (Check lines)) expected = ⊥
 IsReplayOrder (Err (BadOption name)) expected = expected ≡ Err name.now
 IsReplayOrder (Err (Clap text)) expected = ⊥
 IsReplayOrder (Err Memory) expected = ⊥
+
+-- The number of lines is this order's, or refused.
+abbrev pub IsCheckOrder : Result TextOrder OrderFault → Option ℕ → Type 0
+IsCheckOrder (Ok (Check lines)) expected = expected ≡ Some lines
+IsCheckOrder (Ok (Replay config word lines)) expected = ⊥
+IsCheckOrder (Err (BadOption name)) expected = (expected ≡ None) × (name.now ≡ codes "lines")
+IsCheckOrder (Err (Clap text)) expected = ⊥
+IsCheckOrder (Err Memory) expected = ⊥

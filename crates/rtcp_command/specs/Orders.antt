@@ -12,10 +12,10 @@ use Rattle.rtcp_text.specs.Replay.{IsSessionOf}
 
 -- the whole text that an order gives for an input, with its end
 abbrev pub IsTextOfOrder : TextOrder → Option (ℕ × LineFault) → List ℕ → List ℕ → Type 0
-IsTextOfOrder Check end = IsTextOf end
-IsTextOfOrder (Replay config word) end = IsSessionOf (begun (setup_of config) word) end
+IsTextOfOrder (Check lines) end = IsTextOf lines end
+IsTextOfOrder (Replay config word lines) end = IsSessionOf lines (begun (setup_of config) word) end
 
 -- The order has a configuration that is refused so.
 abbrev pub RefusesConfig : TextOrder → ConfigError → Type 0
-RefusesConfig Check error = ⊥
-RefusesConfig (Replay config word) error = error_in (setup_of config) ≡ Some error
+RefusesConfig (Check lines) error = ⊥
+RefusesConfig (Replay config word lines) error = error_in (setup_of config) ≡ Some error

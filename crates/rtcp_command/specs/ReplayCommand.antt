@@ -47,8 +47,8 @@ setup_text setup =
     name_text setup ++ sizes_text setup ++ bandwidths_text setup ++ clocks_text setup
     ++ flat_map item_text setup.extras
 
--- With each option, the random word of the start, and the file of the record.
+-- With each option, the random word of the start, as many lines as may be, and the file of the record.
 abbrev pub replay_command : Setup → (word : ℕ) → (file : List ℕ) → List ℕ
 replay_command setup word file =
-    codes "rtcp replay" ++ setup_text setup ++ codes " --word " ++ hex_word word ++ codes " < " ++ quoted file
-    ++ codes "\n"
+    codes "rtcp replay" ++ setup_text setup ++ codes " --word " ++ hex_word word
+    ++ codes " --lines 4294967295 < " ++ quoted file ++ codes "\n"

@@ -11,8 +11,8 @@ ghost use Rattle.rtcp_text.specs.declared.fault.LineFault.{LineFault as Fault};
 use crate::fault::{RunFault, fail};
 use crate::orders::TextOrder;
 use rtcp_text::Counted;
-use rtcp_text::check::check;
-use rtcp_text::replay::replay;
+use rtcp_text::check::check_up_to;
+use rtcp_text::replay::replay_up_to;
 use std::alloc::Global;
 use std::io::{Read, Write};
 
@@ -50,7 +50,7 @@ pub fn command<R: Read + Drop, W: Write + Drop, F: Write>(
 ///
 /// # Errors
 ///
-/// Those of [`check`] or [`replay`], and [`RunFault::Write`] where the flush fails, whatever failed before.
+/// Those of [`check_up_to`] or [`replay_up_to`], and [`RunFault::Write`] where the flush fails, whatever failed before.
 fn run<R: Read, W: Write>(
     alloc: Global,
     order: TextOrder,
@@ -73,13 +73,17 @@ fn run<R: Read, W: Write>(
     ensures whole_read { OnOk result (failures_of reader.new ≡ 0) }
 {
     match order {
-        TextOrder::Check => {
-            let outcome = check(alloc, reader, writer);
+        TextOrder::Check { lines } => {
+            let outcome = check_up_to(alloc, lines, reader, writer);
             flush(writer)?;
             outcome?;
         }
-        TextOrder::Replay { config, word } => {
-            let outcome = replay(alloc, reader, writer, config, word);
+        TextOrder::Replay {
+            config,
+            word,
+            lines,
+        } => {
+            let outcome = replay_up_to(alloc, lines, reader, writer, config, word);
             flush(writer)?;
             outcome?;
         }

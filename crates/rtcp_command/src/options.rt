@@ -4,7 +4,7 @@ ghost use Rattle.std.specs.Prelude.{◌≡◌, ◌≤◌, ◌<◌, ◌+◌, ◌+
 ghost use Rattle.rtcp_wire.specs.Values.{ItemValue};
 ghost use Rattle.rtcp_engine.specs.Views.{setup_of};
 ghost use Rattle.rtcp_command.specs.Listening.{HasTurns, IsListenOrder, link_texts_of, listen_in, listening_of, turns_in};
-ghost use Rattle.rtcp_command.specs.Options.{bandwidth_in, extras_in, hex_text_in, item_in, replay_in, setup_in, text_given, text_in, texts_of, with_extras};
+ghost use Rattle.rtcp_command.specs.Options.{bandwidth_in, extras_in, hex_text_in, item_in, lines_in, replay_in, setup_in, text_given, text_in, texts_of, with_extras};
 
 use crate::endpoint::read_endpoint;
 use crate::orders::{Order, OrderFault};
@@ -49,21 +49,35 @@ pub(crate) struct LinkOptions<'a> {
     pub(crate) recording: Option<&'a str>,
 }
 
-/// The configuration and the word of the start that the options of `replay` say. Whether a participant takes
-/// the configuration is not tested here.
+/// The configuration, the word of the start and the number of lines that the options of `replay` say. Whether a
+/// participant takes the configuration is not tested here.
 ///
 /// # Errors
 ///
-/// The name of the first option that is refused, in the order of the fields above and then `word`, without its
-/// dashes.
-pub(crate) fn read_replay(options: Options<'_>, word: &str) -> Result<(Config, u32), &'static str>
+/// The name of the first option that is refused, in the order of the fields above and then `word` and `lines`,
+/// without its dashes.
+pub(crate) fn read_replay(
+    options: Options<'_>,
+    word: &str,
+    lines: &str,
+) -> Result<(Config, u32, u32), &'static str>
     ensures read { IfOk result (λ read.
-        replay_in (texts_of options.entry) word.now ≡ Ok (setup_of read.0, read.1)) }
-    ensures refused { IfErr result (λ name. replay_in (texts_of options.entry) word.now ≡ Err name.now) }
+        replay_in (texts_of options.entry) word.now lines.now ≡ Ok (setup_of read.0, read.1, read.2)) }
+    ensures refused { IfErr result (λ name.
+        replay_in (texts_of options.entry) word.now lines.now ≡ Err name.now) }
 {
     let config = read_config(options)?;
     let word = read_word(word.as_bytes()).ok_or("word")?;
-    Ok((config, word))
+    let lines = read_lines(lines).ok_or("lines")?;
+    Ok((config, word, lines))
+}
+
+/// How many lines of a text are answered at most: 1 to 2^32 - 1.
+pub(crate) fn read_lines(text: &str) -> Option<u32>
+    ensures { result ≡ lines_in text.now }
+{
+    let lines = read_short_decimal(text.as_bytes())?;
+    if lines >= 1 { Some(lines) } else { None }
 }
 
 /// The session over UDP that the options of `listen` say. Whether a participant takes the configuration is not

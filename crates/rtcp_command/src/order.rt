@@ -4,11 +4,12 @@ ghost use Rattle.std.specs.Prelude.{◌≡◌, IfOk};
 ghost use Rattle.rtcp_command.specs.Listening.{HasTurns};
 ghost use Rattle.rtcp_command.specs.Status.{order_status};
 
+mod check;
 mod listen;
 mod options;
 mod replay;
 
-use crate::orders::{Order, OrderFault, TextOrder};
+use crate::orders::{Order, OrderFault};
 use clap::Command;
 use clap::error::ErrorKind as ClapErrorKind;
 use std::alloc::{AllocError, Global};
@@ -19,28 +20,6 @@ const ABOUT: &str = "The control half of an RTP participant (RFC 3550)";
 const AFTER_HELP: &str = "\
 Run `rtcp check --help` or `rtcp replay --help` for what to pipe in and what comes out, and
 `rtcp listen --help` for a session over UDP.";
-
-const CHECK_ABOUT: &str = "Show what RTCP datagrams are, or why they are refused";
-
-const CHECK_LONG: &str = "\
-Show what RTCP datagrams are, or why they are refused.
-
-Pipe in one datagram a line, its octets in hex of either case: for instance the UDP payloads
-that tshark prints of a capture.
-
-    tshark -r call.pcap -Y rtcp -T fields -e udp.payload | rtcp check
-
-One line comes out for each line that goes in: ok and the packets, or the first fault and the
-offset of the packet that has it.
-
-    ok RR(11223344,[],0) SDES([11223344{1=616263}])
-    F2 Version at 8
-
-A line of more than 131200 characters, a line after the first 65536 and a line that is not hex
-end the run: the number of the line and its fault are written to standard error.
-
-The status is 0 if every line was answered, 2 if the command line or a line of the text was
-refused, and 1 if reading, writing or memory failed.";
 
 const NON_UTF8: &str = "\
 error: invalid UTF-8 was detected in one or more arguments
@@ -65,7 +44,7 @@ pub fn order<'a>(alloc: Global, words: &'a [&'a str]) -> Result<Order, OrderFaul
     };
     match program.try_get_matches_from_mut(words) {
         Ok(matches) => match matches.subcommand() {
-            Some(("check", _)) => Ok(Order::Text(TextOrder::Check)),
+            Some(("check", matches)) => Ok(Order::Text(check::order(matches)?)),
             Some(("replay", matches)) => Ok(Order::Text(replay::order(matches)?)),
             Some(("listen", matches)) => listen::order(alloc, matches),
             _ => Err(shown(program.render_help())),
@@ -107,16 +86,13 @@ pub fn refuse<W: Write>(fault: &OrderFault, faults: &mut W) -> u8
 
 /// The command line, as `clap` reads it.
 fn program<'a>(alloc: Global) -> Result<Command<'a>, AllocError> {
-    let check = Command::new(alloc, "check")
-        .about(CHECK_ABOUT)
-        .long_about(CHECK_LONG);
     Command::new(alloc, "rtcp")
         .bin_name("rtcp")?
         .about(ABOUT)
         .after_help(AFTER_HELP)
         .disable_help_subcommand(true)
         .subcommand_required(true)
-        .subcommand(check)?
+        .subcommand(check::subcommand(alloc)?)?
         .subcommand(replay::subcommand(alloc)?)?
         .subcommand(listen::subcommand(alloc)?)
 }

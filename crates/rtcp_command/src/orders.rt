@@ -31,13 +31,18 @@ pub enum Order {
 #[derive(Debug, Drop)]
 pub enum TextOrder {
     /// Shows what each datagram is.
-    Check,
+    Check {
+        /// The most lines that are answered, at least 1.
+        lines: u32,
+    },
     /// Shows what a participant answers to each event.
     Replay {
         /// How the participant is configured. Nothing of it was tested against the ranges of a configuration.
         config: Config,
         /// The random word of the start.
         word: u32,
+        /// The most lines that are answered, at least 1.
+        lines: u32,
     },
 }
 

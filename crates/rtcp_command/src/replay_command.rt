@@ -13,7 +13,7 @@ use rtcp_text::text::digits::{push_decimal, push_long, push_octets, push_word};
 use std::alloc::{AllocError, Global};
 
 /// The line of a shell that plays a record again: `rtcp replay` with the options of the configuration, the random word
-/// of the start, and the file of the record, each text in quotes.
+/// of the start, as many lines as `replay` may answer, and the file of the record, each text in quotes.
 ///
 /// # Errors
 ///
@@ -30,7 +30,7 @@ pub fn replay_line(
     line.extend_from_slice(b"rtcp replay")?;
     push_setup(&mut line, config)?;
     push_hex(&mut line, b" --word ", word)?;
-    push_text(&mut line, b" < ", file.as_bytes())?;
+    push_text(&mut line, b" --lines 4294967295 < ", file.as_bytes())?;
     line.push(b'\n')?;
     Ok(line)
 }

@@ -1,6 +1,7 @@
 //! Command lines, and runs over text from the order to the status.
 
 use rtcp_command::order::{order, refuse};
+use rtcp_command::{Order, TextOrder};
 use std::alloc::Global;
 use std::process::Abort;
 use std::test::Fail;
@@ -18,6 +19,17 @@ mod replays;
 /// as long to prove as one that calls this.
 pub(crate) fn same(rt: &impl Abort, found: &[u8], want: &[u8], case: &str) {
     assert_eq!(rt; found, want, "{case}");
+}
+
+/// The run over text that a command line asks for.
+pub(crate) fn text_order<'a>(alloc: Global, words: &'a [&'a str]) -> Result<TextOrder, Fail> {
+    let Ok(asked) = order(alloc, words) else {
+        return Err("it was refused")?;
+    };
+    match asked {
+        Order::Text(asked) => Ok(asked),
+        _listening => Err("it asks for a session over UDP")?,
+    }
 }
 
 /// The status of a command line that is refused, and what is written.

@@ -82,6 +82,14 @@ pub(super) const PARTICIPANT: [Row; 16] = [
     ("priv", "HEX", Absent::Nothing, "PRIV, its octets in hex"),
 ];
 
+/// The option of a run over text.
+pub(super) const LINES: Row = (
+    "lines",
+    "N",
+    Absent::Is("65536"),
+    "Most lines that are answered, 1 to 4294967295",
+);
+
 /// A subcommand with these options too.
 pub(super) fn with_options<'a>(
     alloc: Global,

@@ -4,7 +4,7 @@ ghost use Rattle.std.specs.Prelude.{codes};
 ghost use Rattle.clap.specs.Matches.{found_of, first_value};
 ghost use Rattle.rtcp_command.specs.Options.{IsReplayOrder, replay_in, text_found, texts_found};
 
-use super::options::{Absent, PARTICIPANT, Row, given, participant, with_options};
+use super::options::{Absent, LINES, PARTICIPANT, Row, given, participant, with_options};
 use crate::options::read_replay;
 use crate::orders::{OrderFault, TextOrder};
 use clap::{ArgMatches, Command};
@@ -45,19 +45,22 @@ changed it, the line ends in ssrc= and the new one.
 
 These are the answers of --ssrc 000000aa --cname a.
 
-A line of more than 131200 characters, a line after the first 65536 and a line that is not as
-above end the run: the number of the line and its fault are written to standard error.
+A line of more than 131200 characters, a line after the first N of --lines and a line that is
+not as above end the run: the number of the line and its fault are written to standard error.
 
 The status is 0 if every line was answered, 2 if the command line, an option, the configuration
 or a line of the text was refused, and 1 if reading, writing or memory failed.";
 
-/// The option after those of the participant.
-const OWN: [Row; 1] = [(
-    "word",
-    "HEX",
-    Absent::Is("00000000"),
-    "Random word of the start, 8 hex digits",
-)];
+/// The options after those of the participant, in the order in which they are looked at.
+const OWN: [Row; 2] = [
+    (
+        "word",
+        "HEX",
+        Absent::Is("00000000"),
+        "Random word of the start, 8 hex digits",
+    ),
+    LINES,
+];
 
 /// The subcommand, as `clap` reads it.
 pub(super) fn subcommand<'a>(alloc: Global) -> Result<Command<'a>, AllocError> {
@@ -73,10 +76,16 @@ pub(super) fn subcommand<'a>(alloc: Global) -> Result<Command<'a>, AllocError> {
 /// [`OrderFault::Option`] with the first option whose value is refused.
 pub(super) fn order(matches: &ArgMatches<'_>) -> Result<TextOrder, OrderFault>
     ensures { IsReplayOrder result (replay_in (texts_found (first_value (found_of matches.now)))
-        (text_found (first_value (found_of matches.now)) (codes "word"))) }
+        (text_found (first_value (found_of matches.now)) (codes "word"))
+        (text_found (first_value (found_of matches.now)) (codes "lines"))) }
 {
-    match read_replay(participant(matches), given(matches, "word")) {
-        Ok((config, word)) => Ok(TextOrder::Replay { config, word }),
+    let (word, lines) = (given(matches, "word"), given(matches, "lines"));
+    match read_replay(participant(matches), word, lines) {
+        Ok((config, word, lines)) => Ok(TextOrder::Replay {
+            config,
+            word,
+            lines,
+        }),
         Err(name) => Err(OrderFault::Option(name)),
     }
 }

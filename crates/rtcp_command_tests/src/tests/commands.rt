@@ -35,7 +35,8 @@ fn ends_with<R: Read + Drop, W: Write + Drop>(
     fault: &str,
 ) {
     let mut faults = Vec::new(alloc);
-    let ended = command(alloc, TextOrder::Check, reader, writer, &mut faults);
+    let check = TextOrder::Check { lines: 65_536 };
+    let ended = command(alloc, check, reader, writer, &mut faults);
     assert_eq!(rt; ended, status, "{fault}");
     same(rt, &faults, fault.as_bytes(), fault);
 }
@@ -93,6 +94,29 @@ fn limits(rt: HostRuntime) -> Result<(), Fail> {
     Ok(())
 }
 
+/// The last line that may be answered, and one more.
+#[test]
+fn as_many_lines(rt: HostRuntime) -> Result<(), Fail> {
+    let alloc = rt.alloc();
+    for (lines, text, status, fault) in [
+        (2, "\n\n", 0, ""),
+        (2, "\n\n\n", 2, "line 3: X2 TooManyLines\n"),
+        (1, "\n0", 2, "line 2: X2 TooManyLines\n"),
+    ] {
+        let (mut written, mut faults) = (Vec::new(alloc), Vec::new(alloc));
+        let check = TextOrder::Check { lines };
+        let ended = command(alloc, check, text.as_bytes(), &mut written, &mut faults);
+        assert_eq!(rt; ended, status, "{text:?}");
+        same(&rt, &faults, fault.as_bytes(), text);
+    }
+    let feeds = vec![in alloc; b'\n'; 65_537]?;
+    let mut faults = Vec::new(alloc);
+    let check = TextOrder::Check { lines: 65_537 };
+    let ended = command(alloc, check, feeds.as_slice(), Vec::new(alloc), &mut faults);
+    assert_eq!(rt; ended, 0);
+    Ok(())
+}
+
 /// A fault line that cannot be written does not change the status.
 #[test]
 fn unwritten_fault(rt: HostRuntime) {
@@ -101,7 +125,7 @@ fn unwritten_fault(rt: HostRuntime) {
     let reader = b"0".as_slice();
     let status = command(
         alloc,
-        TextOrder::Check,
+        TextOrder::Check { lines: 65_536 },
         reader,
         Vec::new(alloc),
         &mut faults,
@@ -140,7 +164,12 @@ static COMMAND_LINES: [(&[&str], &str); 7] = [
 fn orders(rt: HostRuntime) -> Result<(), Fail> {
     let alloc = rt.alloc();
     let asked = order(alloc, &["rtcp", "check"]);
-    assert!(rt; matches!(asked, Ok(Order::Text(TextOrder::Check))));
+    assert!(rt; matches!(asked, Ok(Order::Text(TextOrder::Check { lines: 65_536 }))));
+    let asked = order(alloc, &["rtcp", "check", "--lines", "1"]);
+    assert!(rt; matches!(asked, Ok(Order::Text(TextOrder::Check { lines: 1 }))));
+    let (status, line) = refused(alloc, &["rtcp", "check", "--lines", "0"])?;
+    assert_eq!(rt; status, 2);
+    same(&rt, &line, b"option lines\n", "no line");
     for (words, beginning) in &COMMAND_LINES {
         let (status, text) = refused(alloc, words)?;
         assert_eq!(rt; status, 2, "{beginning}");

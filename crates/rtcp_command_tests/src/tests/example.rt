@@ -9,8 +9,12 @@ use std::test::Fail;
 fn example(rt: HostRuntime) -> Result<(), Fail> {
     let alloc = rt.alloc();
     let mut faults = Vec::new(alloc);
-    let Ok(Order::Text(asked)) = order(alloc, &["rtcp", "check"]) else {
+    let Ok(asked) = order(alloc, &["rtcp", "check"]) else {
         return Err("the words are refused")?;
+    };
+    let asked = match asked {
+        Order::Text(asked) => asked,
+        _listening => return Err("the words are refused")?,
     };
     let status = command(alloc, asked, b"0".as_slice(), Vec::new(alloc), &mut faults);
     assert_eq!(rt; status, 2);

@@ -2,9 +2,8 @@
 
 mod listen;
 
-use super::{refused, same};
-use rtcp_command::order::order;
-use rtcp_command::{Order, TextOrder};
+use super::{refused, same, text_order};
+use rtcp_command::TextOrder;
 use rtcp_engine::{Config, Item};
 use std::alloc::{AllocError, Global};
 use std::process::Abort;
@@ -21,13 +20,24 @@ fn with_required<'a>(alloc: Global, options: &[&'a str]) -> Result<Vec<&'a str>,
     Ok(words)
 }
 
-/// What an order says, with its options after the required ones.
-fn replayed(alloc: Global, options: &[&str]) -> Result<(Config, u32), Fail> {
+/// What an order says, with its options after the required ones: the configuration, and the numbers.
+fn replayed(alloc: Global, options: &[&str]) -> Result<(Config, WordAndLines), Fail> {
     let words = with_required(alloc, options)?;
-    match order(alloc, &words) {
-        Ok(Order::Text(TextOrder::Replay { config, word })) => Ok((config, word)),
-        _ => Err("it was refused")?,
+    match text_order(alloc, &words)? {
+        TextOrder::Replay {
+            config,
+            word,
+            lines,
+        } => Ok((config, WordAndLines { word, lines })),
+        TextOrder::Check { lines: _ } => Err("it is a check")?,
     }
+}
+
+/// The random word of the start and the most lines.
+#[derive(Drop)]
+struct WordAndLines {
+    word: u32,
+    lines: u32,
 }
 
 /// A command line is refused at the option of this name.
@@ -51,13 +61,13 @@ fn ranges(config: &Config) -> [u32; 4] {
 
 #[test]
 fn defaults(rt: HostRuntime) -> Result<(), Fail> {
-    let (config, word) = replayed(rt.alloc(), &[])?;
+    let (config, WordAndLines { word, lines }) = replayed(rt.alloc(), &[])?;
     assert_eq!(rt; config.ssrc, 0xaa);
     same(&rt, &config.cname, b"a", "cname");
     assert!(rt; config.extras.is_empty());
     assert_eq!(rt; ranges(&config), [1024, 1472, 300, 8000]);
     assert_eq!(rt; config.ntp_base, 0);
-    assert_eq!(rt; word, 0);
+    assert_eq!(rt; (word, lines), (0, 65_536));
     Ok(())
 }
 
@@ -75,11 +85,13 @@ fn numbers(rt: HostRuntime) -> Result<(), Fail> {
         "4294967295",
         "--capacity",
         "0",
+        "--lines",
+        "4294967295",
     ];
-    let (config, word) = replayed(rt.alloc(), &options)?;
+    let (config, WordAndLines { word, lines }) = replayed(rt.alloc(), &options)?;
     assert_eq!(rt; ranges(&config), [0, u32::MAX, 48, 90_000]);
     assert_eq!(rt; config.ntp_base, 0x0123_4567_89ab_cdef);
-    assert_eq!(rt; word, u32::MAX);
+    assert_eq!(rt; (word, lines), (u32::MAX, u32::MAX));
     Ok(())
 }
 
@@ -179,7 +191,7 @@ fn longest_texts(rt: HostRuntime) -> Result<(), Fail> {
 }
 
 /// Options after the required ones, and the one that is refused.
-static REFUSED: [(&[&str], &str); 21] = [
+static REFUSED: [(&[&str], &str); 25] = [
     (&["--capacity", "4294967296"], "capacity"),
     (&["--capacity", ""], "capacity"),
     (&["--capacity", "+1"], "capacity"),
@@ -198,7 +210,11 @@ static REFUSED: [(&[&str], &str); 21] = [
     (&["--word", "0"], "word"),
     (&["--word", "000000000"], "word"),
     (&["--word", "0000000-"], "word"),
+    (&["--lines", "0"], "lines"),
+    (&["--lines", "4294967296"], "lines"),
+    (&["--lines", ""], "lines"),
     // Of several, the first in the order of the options.
+    (&["--lines", "0", "--word", "0"], "word"),
     (&["--word", "0", "--priv", "0"], "priv"),
     (&["--priv", "0", "--rate", ""], "rate"),
     (

@@ -42,7 +42,7 @@ fn quoted(rt: HostRuntime) -> Result<(), Fail> {
     let line = replay_line(rt.alloc(), &config(), 0xbb, "my record")?;
     let want = "rtcp replay --ssrc 000000aa --cname '$a b'\\''' --capacity 1024 --limit 1472 \
         --sender-bw 100 --receiver-bw 300 --rate 8000 --ntp 0102030405060708 \
-        --tool 'it'\\''s 1' --priv 00ff --word 000000bb < 'my record'\n";
+        --tool 'it'\\''s 1' --priv 00ff --word 000000bb --lines 4294967295 < 'my record'\n";
     assert_eq!(rt; line.as_slice(), want.as_bytes());
     Ok(())
 }

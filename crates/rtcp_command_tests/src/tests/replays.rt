@@ -1,10 +1,8 @@
 //! Sessions, from the order to the status.
 
 use super::failing::FailingReader;
-use super::same;
-use rtcp_command::Order;
+use super::{same, text_order};
 use rtcp_command::command::command;
-use rtcp_command::order::order;
 use std::alloc::Global;
 use std::process::Abort;
 use std::test::Fail;
@@ -20,9 +18,7 @@ fn ended<'a>(
     rest: &'a [u8],
     calls: u32,
 ) -> Result<Ended, Fail> {
-    let Ok(Order::Text(asked)) = order(alloc, words) else {
-        return Err("the options are refused")?;
-    };
+    let asked = text_order(alloc, words)?;
     let reader = FailingReader { rest, calls };
     let mut written = Vec::new(alloc);
     let mut faults = Vec::new(alloc);

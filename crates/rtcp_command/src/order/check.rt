@@ -1,0 +1,53 @@
+//! The subcommand `check` of the command line.
+
+ghost use Rattle.std.specs.Prelude.{codes};
+ghost use Rattle.clap.specs.Matches.{found_of, first_value};
+ghost use Rattle.rtcp_command.specs.Options.{IsCheckOrder, lines_in, text_found};
+
+use super::options::{LINES, given, with_options};
+use crate::options::read_lines;
+use crate::orders::{OrderFault, TextOrder};
+use clap::{ArgMatches, Command};
+use std::alloc::{AllocError, Global};
+
+const ABOUT: &str = "Show what RTCP datagrams are, or why they are refused";
+
+const LONG: &str = "\
+Show what RTCP datagrams are, or why they are refused.
+
+Pipe in one datagram a line, its octets in hex of either case: for instance the UDP payloads
+that tshark prints of a capture.
+
+    tshark -r call.pcap -Y rtcp -T fields -e udp.payload | rtcp check
+
+One line comes out for each line that goes in: ok and the packets, or the first fault and the
+offset of the packet that has it.
+
+    ok RR(11223344,[],0) SDES([11223344{1=616263}])
+    F2 Version at 8
+
+A line of more than 131200 characters, a line after the first N of --lines and a line that is
+not hex end the run: the number of the line and its fault are written to standard error.
+
+The status is 0 if every line was answered, 2 if the command line, an option or a line of the
+text was refused, and 1 if reading, writing or memory failed.";
+
+/// The subcommand, as `clap` reads it.
+pub(super) fn subcommand<'a>(alloc: Global) -> Result<Command<'a>, AllocError> {
+    let command = Command::new(alloc, "check").about(ABOUT).long_about(LONG);
+    with_options(alloc, command, &[LINES])
+}
+
+/// What the words after `check` ask for.
+///
+/// # Errors
+///
+/// [`OrderFault::Option`] where the number of lines is refused.
+pub(super) fn order(matches: &ArgMatches<'_>) -> Result<TextOrder, OrderFault>
+    ensures { IsCheckOrder result (lines_in (text_found (first_value (found_of matches.now)) (codes "lines"))) }
+{
+    match read_lines(given(matches, "lines")) {
+        Some(lines) => Ok(TextOrder::Check { lines }),
+        None => Err(OrderFault::Option("lines")),
+    }
+}
