@@ -15,7 +15,7 @@ import decoder
 SECOND = 10**6
 FURTHEST = 2**50
 MOST_CALLS = 2**40 - 1
-MOST_LINES, LONGEST_LINE = 65_536, 131_200
+LONGEST_LINE = 131_200
 SHORT_MINIMUM, MINIMUM = 2_500_000, 5_000_000
 HEADERS = 28  # of UDP and IPv4
 BLOCKS_IN_A_PACKET = 31
@@ -533,6 +533,7 @@ OPTIONS = {
     "ntp": (hex_digits(16), b"0" * 16),
     **{name: (text_value, None) for name in ("name", "email", "phone", "loc", "tool", "note")},
     "priv": (private_value, None), "word": (hex_digits(8), b"0" * 8),
+    "lines": (lambda text: decimal(2**32)(text) or None, b"65536"),
 }
 ITEM_TYPES = {"name": 2, "email": 3, "phone": 4, "loc": 5, "tool": 6, "note": 7, "priv": 8}
 
@@ -618,18 +619,19 @@ def answer(participant, line):
 def replay(arguments, octets, others=lambda participant: "\n"):
     """What goes to standard output and to standard error, and the status. `others` gives the end of each answer."""
     try:
-        participant = Participant(configuration(arguments))
+        options = configuration(arguments)
     except Usage:
         return "", __doc__ + "\n", 2
     except Fault as fault:
         return "", f"{fault}\n", 2
+    participant = Participant(options)
     answers = [f"start members=1 senders=0 next={participant.next}{others(participant)}"]
     lines = octets.split(b"\n")
     if not lines[-1]:
         lines.pop()
     for number, line in enumerate(lines, 1):
         try:
-            if number > MOST_LINES:
+            if number > options["lines"]:
                 raise Fault("X2 TooManyLines")
             answers.append(answer(participant, line) + others(participant))
         except Fault as fault:

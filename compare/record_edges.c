@@ -204,12 +204,13 @@ static int commands(void)
     memset(longest, 'a', sizeof longest);
     wrong |= HOLDS(commanded("a", 1, NULL, 0) == JALWEDD_TAKEN);
     wrong |= HOLDS(is_text("rtcp replay --ssrc 000000aa --cname 'a' --capacity 1024 --limit 1472 --sender-bw 100 "
-                           "--receiver-bw 300 --rate 8000 --ntp 0123456789abcdef --word fedcba98\n"));
+                           "--receiver-bw 300 --rate 8000 --ntp 0123456789abcdef --word fedcba98 "
+                           "--lines 4294967295\n"));
     wrong |= HOLDS(commanded("-", 1, all, 7) == JALWEDD_TAKEN);
     wrong |= HOLDS(is_text("rtcp replay --ssrc 000000aa --cname '-' --capacity 1024 --limit 1472 --sender-bw 100 "
                            "--receiver-bw 300 --rate 8000 --ntp 0123456789abcdef --name 'it'\\''s' --email '' "
                            "--phone '-' --loc '$HOME `\\\n' --tool '\"*' --note '\xc3\xa9' --priv '0027ff' "
-                           "--word fedcba98\n"));
+                           "--word fedcba98 --lines 4294967295\n"));
     wrong |= HOLDS(commanded(longest, 255, NULL, 0) == JALWEDD_TAKEN) | HOLDS(memory.longest <= 256);
     wrong |= HOLDS(commanded("", 0, NULL, 0) == JALWEDD_TAKEN); /* rtcp replay refuses it as C1 */
     wrong |= HOLDS(commanded(longest, 256, NULL, 0) == JALWEDD_CNAME);

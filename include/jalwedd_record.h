@@ -25,7 +25,7 @@
  *
  * A datagram of more than 65,535 octets, or with a size of -1, is neither read nor recorded: no line can hold it, and
  * the participant refuses it. All others are recorded whole, including the media: a line takes two bytes for each
- * octet, and at most 57 more. rtcp replay plays at most 65,536 lines: of a longer record, the first 65,536.
+ * octet, and at most 57 more. rtcp replay plays as many lines as --lines says, in the command that is written all.
  *
  * All functions are inline, for C99 and C++11 and later. They need no library and do not allocate: they write from a
  * buffer of 256 bytes on the stack.
@@ -347,6 +347,7 @@ static inline uint32_t jalwedd_record_command(jalwedd_record *record, const jalw
         jalwedd_record_item(&line, &items[at]);
     jalwedd_record_text(&line, " --word");
     jalwedd_record_word(&line, word);
+    jalwedd_record_text(&line, " --lines 4294967295");
     jalwedd_record_end(&line);
     return JALWEDD_TAKEN;
 }

@@ -27,8 +27,8 @@
 //! ```
 //!
 //! Record all calls of one participant, in their order, including those that it refuses: a refused call
-//! changes nothing, and the program refuses it again. The program plays at most 65,536 lines: of a longer
-//! record, the first 65,536.
+//! changes nothing, and the program refuses it again. The program plays as many lines as `--lines` says, in
+//! the command that is written all.
 
 use crate::answer::Answer;
 use crate::config::{Config, Item};
@@ -190,7 +190,7 @@ pub fn command(config: &Config, cname: &[u8], items: &[Item], word: u32) -> Resu
         let value = value_of(item).ok_or(NoOption::Item)?;
         line += &format!(" --{} {value}", OPTIONS[usize::from(item.kind() - 2)]);
     }
-    line += &format!(" --word {word:08x}\n");
+    line += &format!(" --word {word:08x} --lines 4294967295\n");
     Ok(line)
 }
 
@@ -301,7 +301,8 @@ mod tests {
         ];
         let line = "rtcp replay --ssrc 000000aa --cname '-' --capacity 1024 --limit 1472 --sender-bw 100 \
                     --receiver-bw 300 --rate 8000 --ntp 0123456789abcdef --name 'it'\\''s' --email '' \
-                    --phone '-' --loc '$HOME `\\\n' --note '\u{e9}' --priv '0027ff' --word fedcba98\n";
+                    --phone '-' --loc '$HOME `\\\n' --note '\u{e9}' --priv '0027ff' --word fedcba98 \
+                    --lines 4294967295\n";
         assert_eq!(command(&CONFIG, b"-", &items, 0xfedc_ba98).as_deref(), Ok(line));
     }
 

@@ -137,7 +137,7 @@ fn the_command_of_what_a_participant_begins_with() -> Result<(), Box<dyn Error>>
     Participant::new(&CONFIG, b"player@example.com", &items, 0xabcd)?;
     let line = "rtcp replay --ssrc 000000aa --cname 'player@example.com' --capacity 1024 --limit 1472 \
                 --sender-bw 100 --receiver-bw 300 --rate 8000 --ntp 0000000000000000 --tool 'jalwedd' \
-                --word 0000abcd\n";
+                --word 0000abcd --lines 4294967295\n";
     assert_eq!(command(&CONFIG, b"player@example.com", &items, 0xabcd)?, line);
     Ok(())
 }
