@@ -1,0 +1,10 @@
+use Rattle.std.proofs.Common.{◌≡◌}
+use Rattle.rtcp_show.proofs.watcher.Watcher.note_items.Given as goal
+
+-- notes alone are written
+abbrev pub invariant-loop-item : goal.invariant-loop-item
+invariant-loop-item g l = record {
+  can : (goal.iterator-loop-item g).can_next l.item-iterator;
+  finite : (goal.iterator-loop-item g).is_finite l.item-iterator;
+  kept : l.self.participant ≡ l.fn.self.participant;
+}

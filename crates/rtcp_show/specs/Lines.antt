@@ -1,0 +1,78 @@
+-- The lines of an event and its answer, as `rtcp listen --show` writes them.
+use Rattle.std.specs.Prelude.{◌≡◌, ℕ, List, [], ◌∷◌, ◌++◌, Option, Some, None, Ok, Err, codes}
+use Rattle.rtcp_engine.specs.Acts.{EventValue, rtcp_arrived, rtp_arrived, packet_sent, time_passed, leave_asked}
+use Rattle.rtcp_engine.specs.Steps.{OutValue, AnswerValue}
+use Rattle.rtcp_engine.specs.declared.refusal.Refusal.{Refusal}
+use Rattle.rtcp_text.specs.AnswerText.{refusal_text}
+use Rattle.rtcp_text.specs.Check.{IsAnswer}
+use Rattle.rtcp_text.specs.Text.{hex_word}
+use Rattle.rtcp_show.specs.Numbers.{moment_text, peer_text}
+
+-- ---- Parts
+
+-- a moment, a word and a peer, before what is said of a datagram
+abbrev pub passing_text : (moment : ℕ) → (word : List ℕ) → (peer : ℕ) → List ℕ
+passing_text moment word peer = moment_text moment ++ word ++ peer_text peer ++ codes " "
+
+-- why a call was refused
+abbrev pub refused_text : Refusal → List ℕ
+refused_text refusal = codes "refused " ++ refusal_text refusal ++ 10 ∷ []
+
+-- ---- What came
+
+-- An RTCP datagram has the text of `check` where it was taken.
+abbrev pub ShowsRtcp : (moment peer : ℕ) → (octets : List ℕ) → AnswerValue → List ℕ → Type 0
+ShowsRtcp moment peer octets (Ok step) text =
+    (checked : List ℕ) × IsAnswer octets checked × (text ≡ passing_text moment (codes " in ") peer ++ checked)
+ShowsRtcp moment peer octets (Err refusal) text =
+    text ≡ passing_text moment (codes " in ") peer ++ refused_text refusal
+
+-- An RTP datagram is shown only where it was refused.
+abbrev pub rtp_text : (moment peer : ℕ) → AnswerValue → List ℕ
+rtp_text moment peer (Ok step) = []
+rtp_text moment peer (Err refusal) = passing_text moment (codes " rtp ") peer ++ refused_text refusal
+
+-- So is what else the participant is told.
+abbrev pub told_text : (moment : ℕ) → AnswerValue → List ℕ
+told_text moment (Ok step) = []
+told_text moment (Err refusal) = moment_text moment ++ codes " " ++ refused_text refusal
+
+abbrev pub ShowsEvent : EventValue → AnswerValue → List ℕ → Type 0
+ShowsEvent (rtcp_arrived moment peer word octets) answer text = ShowsRtcp moment peer octets answer text
+ShowsEvent (rtp_arrived moment peer word octets) answer text = text ≡ rtp_text moment peer answer
+ShowsEvent (packet_sent moment timestamp octets) answer text = text ≡ told_text moment answer
+ShowsEvent (time_passed moment first_word second_word) answer text = text ≡ told_text moment answer
+ShowsEvent (leave_asked moment word) answer text = text ≡ told_text moment answer
+
+-- ---- What was answered
+
+-- the new identifier, where there is one
+abbrev pub changed_text : (moment : ℕ) → Option ℕ → List ℕ
+changed_text moment None = []
+changed_text moment (Some ssrc) = moment_text moment ++ codes " ssrc=" ++ hex_word ssrc ++ 10 ∷ []
+
+-- The compound that goes out, if there is one, has the text of `check`. `to` is where it goes.
+abbrev pub ShowsOut : (moment to : ℕ) → Option OutValue → List ℕ → Type 0
+ShowsOut moment to None text = text ≡ []
+ShowsOut moment to (Some out) text =
+    (checked : List ℕ) × IsAnswer out.octets checked × (text ≡ passing_text moment (codes " out ") to ++ checked)
+
+abbrev pub ShowsAnswer : (moment to : ℕ) → AnswerValue → List ℕ → Type 0
+ShowsAnswer moment to (Ok step) text =
+    (sent : List ℕ) × ShowsOut moment to step.out sent × (text ≡ changed_text moment step.changed ++ sent)
+ShowsAnswer moment to (Err refusal) text = text ≡ []
+
+-- ---- Both
+
+abbrev pub moment_of_event : EventValue → ℕ
+moment_of_event (rtcp_arrived moment peer word octets) = moment
+moment_of_event (rtp_arrived moment peer word octets) = moment
+moment_of_event (packet_sent moment timestamp octets) = moment
+moment_of_event (time_passed moment first_word second_word) = moment
+moment_of_event (leave_asked moment word) = moment
+
+-- what came, and then what was answered
+abbrev pub ShowsBoth : (to : ℕ) → EventValue → AnswerValue → List ℕ → Type 0
+ShowsBoth to event answer text =
+    (came : List ℕ) × ShowsEvent event answer came
+    × ((answered : List ℕ) × ShowsAnswer (moment_of_event event) to answer answered × (text ≡ came ++ answered))

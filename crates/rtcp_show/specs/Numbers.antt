@@ -1,0 +1,19 @@
+-- Numbers and addresses, as `rtcp listen --show` writes them.
+use Rattle.std.specs.Prelude.{ℕ, ◌+◌, ◌/◌, ◌%◌, ◌^◌, List, ◌++◌, drop, codes}
+use Rattle.std.specs.Fmt.{decimal}
+use Rattle.std.specs.Net.Text.{dotted_text}
+
+-- Units, a point, and the rest with as many digits as the unit has zeros: the digits of the unit and the rest, without
+-- the first.
+abbrev pub fixed_text : (unit number : ℕ) → List ℕ
+fixed_text unit number = decimal (number / unit) ++ codes "." ++ drop 1 (decimal (unit + number % unit))
+
+-- a moment of so many microseconds, in seconds
+abbrev pub moment_text : ℕ → List ℕ
+moment_text moment = fixed_text 1000000 moment
+
+-- The number of a peer is its IPv4 address times 65,536, plus its port.
+abbrev pub peer_text : ℕ → List ℕ
+peer_text peer =
+    dotted_text (peer / 2 ^ 40 % 256) (peer / 2 ^ 32 % 256) (peer / 2 ^ 24 % 256) (peer / 2 ^ 16 % 256)
+    ++ codes ":" ++ decimal (peer % 2 ^ 16)

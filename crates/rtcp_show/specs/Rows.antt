@@ -1,0 +1,59 @@
+-- The row of a source, as `rtcp listen --show` writes it.
+use Rattle.std.specs.Prelude.{ℕ, ◌*◌, ◌/◌, Bool, true, false, List, [], ◌∷◌, ◌++◌, if◌then◌else◌, Option, Some, None, codes}
+use Rattle.std.specs.Fmt.{decimal, signed_decimal}
+use Rattle.std.specs.List.{flat_map}
+use Rattle.core.specs.Char.Escape.{escape_ascii}
+use Rattle.rtcp_source.specs.Receptions.{ReceptionValue}
+use Rattle.rtcp_members.specs.Told.{StateValue}
+use Rattle.rtcp_text.specs.Text.{hex_word}
+use Rattle.rtcp_show.specs.Notes.{NoteValue}
+use Rattle.rtcp_show.specs.Numbers.{fixed_text, moment_text}
+
+-- ---- Parts
+
+-- so many microseconds, in milliseconds
+abbrev pub time_text : ℕ → List ℕ
+time_text time = fixed_text 1000 time ++ codes "ms"
+
+abbrev pub sends_text : Bool → List ℕ
+sends_text true = codes " sends=yes"
+sends_text false = codes " sends=no"
+
+-- A source that is no member has left, or is not yet valid.
+abbrev pub left_text : Option ℕ → List ℕ
+left_text None = codes " valid=no"
+left_text (Some moment) = codes " left=" ++ moment_text moment
+
+abbrev pub standing_text : StateValue → List ℕ
+standing_text state = sends_text state.sender ++ (if state.member then [] else left_text state.left)
+
+-- Jitter is in units of the media's clock, which has `rate` a second.
+abbrev pub reception_text : (rate : ℕ) → Option ReceptionValue → List ℕ
+reception_text rate None = []
+reception_text rate (Some reception) =
+    codes " packets=" ++ decimal reception.received ++ codes " lost=" ++ signed_decimal reception.lost
+    ++ codes " jitter=" ++ time_text (reception.jitter * 1000000 / rate)
+
+abbrev pub trip_text : Option ℕ → List ℕ
+trip_text None = []
+trip_text (Some trip) = codes " round-trip=" ++ time_text (trip * 1000000 / 65536)
+
+-- The text is between double quotes (34), and escaped: what a peer sends may control a terminal.
+abbrev pub cname_text : Option (List ℕ) → List ℕ
+cname_text None = []
+cname_text (Some cname) = codes " cname=" ++ 34 ∷ flat_map escape_ascii cname ++ 34 ∷ []
+
+-- ---- Rows
+
+abbrev pub row_text : (rate : ℕ) → StateValue → NoteValue → List ℕ
+row_text rate state note =
+    codes "source=" ++ hex_word state.ssrc ++ standing_text state ++ reception_text rate state.reception
+    ++ trip_text note.trip ++ cname_text note.cname ++ 10 ∷ []
+
+abbrev pub counts_text : (members senders : ℕ) → List ℕ
+counts_text members senders = codes "members=" ++ decimal members ++ codes " senders=" ++ decimal senders ++ 10 ∷ []
+
+-- the counts, and a row for each source, with what is noted of it
+abbrev pub sources_text : (rate members senders : ℕ) → (note : ℕ → NoteValue) → List StateValue → List ℕ
+sources_text rate members senders note states =
+    counts_text members senders ++ flat_map (λ state. row_text rate state (note state.ssrc)) states

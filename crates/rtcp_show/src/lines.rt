@@ -1,0 +1,185 @@
+//! The lines of an event and its answer.
+
+ghost use Rattle.std.specs.Prelude.{◌≡◌, ◌++◌, List, ℕ, OnOk, option_map};
+ghost use Rattle.rtcp_engine.specs.Views.{answer_value, event_value, out_value, step_value};
+ghost use Rattle.rtcp_text.specs.Check.{IsAnswer};
+ghost use Rattle.rtcp_show.specs.Lines.{ShowsAnswer, ShowsBoth, ShowsEvent, ShowsOut, ShowsRtcp, changed_text, moment_of_event as moment_in, passing_text, refused_text, rtp_text, told_text};
+
+use crate::numbers::{push_moment, push_peer};
+use rtcp_engine::{Answer, Event, Out, Refusal};
+use rtcp_text::text::digits::push_word;
+use rtcp_text::text::{push_accepted, push_answer, push_fault};
+use rtcp_wire::Compound;
+use std::alloc::AllocError;
+
+/// Appends the lines of an event and its answer. `to` is the number of the peer to which compounds go.
+///
+/// - `0.250000 in 127.0.0.1:5007 ok RR(00000007,[],0)`: an RTCP datagram came, at this moment in seconds, from this
+///   peer. The rest is what `rtcp check` says of it, or `refused` and why, as `rtcp replay` says it.
+/// - `0.250000 rtp 127.0.0.1:5006 refused E6 Rtp: G1 Short`: an RTP datagram was refused. Those that are taken are not
+///   shown.
+/// - `0.250000 refused E3 TooFar`: something else was refused, as a tick.
+/// - `0.250000 ssrc=00000007`: the participant changed its SSRC to this one.
+/// - `0.250000 out 127.0.0.1:5007 ok RR(000000aa,[],0)`: a compound went out.
+///
+/// # Errors
+///
+/// `AllocError` where memory is refused. It is then left open how much of the text was appended.
+pub fn push_lines(
+    out: &mut Vec<u8>,
+    to: u64,
+    event: &Event<'_>,
+    answer: &Answer,
+) -> Result<(), AllocError>
+    ensures { OnOk result ((text : List ℕ) × ShowsBoth to (event_value event.now) (answer_value answer.now) text
+        × (out.new.items ≡ out.old.items ++ text)) }
+{
+    push_event(out, event, answer)?;
+    push_answered(out, moment_of(event), to, answer)
+}
+
+/// The moment of an event.
+pub(crate) fn moment_of(event: &Event<'_>) -> u64
+    ensures { result ≡ moment_in (event_value event.now) }
+{
+    match event {
+        Event::ArriveRtcp { now, .. }
+        | Event::ArriveRtp { now, .. }
+        | Event::SentRtp { now, .. }
+        | Event::Tick { now, .. }
+        | Event::Leave { now, .. } => *now,
+    }
+}
+
+/// Appends what is shown of an event.
+fn push_event(out: &mut Vec<u8>, event: &Event<'_>, answer: &Answer) -> Result<(), AllocError>
+    ensures { OnOk result ((text : List ℕ) × ShowsEvent (event_value event.now) (answer_value answer.now) text
+        × (out.new.items ≡ out.old.items ++ text)) }
+{
+    match event {
+        Event::ArriveRtcp {
+            now,
+            peer,
+            bytes,
+            ..
+        } => push_rtcp(out, *now, *peer, bytes, answer),
+        Event::ArriveRtp { now, peer, .. } => push_rtp(out, *now, *peer, answer),
+        Event::SentRtp { now, .. } | Event::Tick { now, .. } | Event::Leave { now, .. } =>
+            push_told(out, *now, answer),
+    }
+}
+
+/// Appends the line of an RTCP datagram.
+fn push_rtcp(
+    out: &mut Vec<u8>,
+    now: u64,
+    peer: u64,
+    bytes: &[u8],
+    answer: &Answer,
+) -> Result<(), AllocError>
+    ensures { OnOk result ((text : List ℕ) × ShowsRtcp now peer bytes.now (answer_value answer.now) text
+        × (out.new.items ≡ out.old.items ++ text)) }
+{
+    push_passing(out, now, b" in ", peer)?;
+    match answer {
+        Ok(_) => push_checked(out, bytes),
+        Err(refusal) => push_refused(out, refusal),
+    }
+}
+
+/// Appends the line of an RTP datagram, where it was refused.
+fn push_rtp(out: &mut Vec<u8>, now: u64, peer: u64, answer: &Answer) -> Result<(), AllocError>
+    ensures { OnOk result (out.new.items ≡ out.old.items ++ rtp_text now peer (answer_value answer.now)) }
+{
+    match answer {
+        Ok(_) => Ok(()),
+        Err(refusal) => {
+            push_passing(out, now, b" rtp ", peer)?;
+            push_refused(out, refusal)
+        }
+    }
+}
+
+/// Appends the line of another call, where it was refused.
+fn push_told(out: &mut Vec<u8>, now: u64, answer: &Answer) -> Result<(), AllocError>
+    ensures { OnOk result (out.new.items ≡ out.old.items ++ told_text now (answer_value answer.now)) }
+{
+    match answer {
+        Ok(_) => Ok(()),
+        Err(refusal) => {
+            push_moment(out, now)?;
+            out.push(b' ')?;
+            push_refused(out, refusal)
+        }
+    }
+}
+
+/// Appends what is shown of an answer.
+fn push_answered(out: &mut Vec<u8>, now: u64, to: u64, answer: &Answer) -> Result<(), AllocError>
+    ensures { OnOk result ((text : List ℕ) × ShowsAnswer now to (answer_value answer.now) text
+        × (out.new.items ≡ out.old.items ++ text)) }
+{
+    match answer {
+        Ok(step) => {
+            push_changed(out, now, step.changed)?;
+            push_out(out, now, to, &step.out)
+        }
+        Err(_) => Ok(()),
+    }
+}
+
+/// Appends the line of a change of the SSRC, where there is one.
+fn push_changed(out: &mut Vec<u8>, now: u64, changed: Option<u32>) -> Result<(), AllocError>
+    ensures { OnOk result (out.new.items ≡ out.old.items ++ changed_text now changed) }
+{
+    let Some(ssrc) = changed else {
+        return Ok(());
+    };
+    push_moment(out, now)?;
+    out.extend_from_slice(b" ssrc=")?;
+    push_word(out, ssrc)?;
+    out.push(b'\n')?;
+    Ok(())
+}
+
+/// Appends the line of a compound that goes out, where there is one.
+fn push_out(out: &mut Vec<u8>, now: u64, to: u64, sent: &Option<Out>) -> Result<(), AllocError>
+    ensures { OnOk result ((text : List ℕ) × ShowsOut now to (option_map out_value sent.now) text
+        × (out.new.items ≡ out.old.items ++ text)) }
+{
+    match sent {
+        Some(sent) => {
+            push_passing(out, now, b" out ", to)?;
+            push_checked(out, &sent.bytes)
+        }
+        None => Ok(()),
+    }
+}
+
+/// Appends a moment, a word and a peer.
+fn push_passing(out: &mut Vec<u8>, now: u64, word: &[u8], peer: u64) -> Result<(), AllocError>
+    ensures { OnOk result (out.new.items ≡ out.old.items ++ passing_text now word.now peer) }
+{
+    push_moment(out, now)?;
+    out.extend_from_slice(word)?;
+    push_peer(out, peer)?;
+    out.push(b' ')?;
+    Ok(())
+}
+
+/// Appends the line that `rtcp check` writes for a datagram.
+fn push_checked(out: &mut Vec<u8>, datagram: &[u8]) -> Result<(), AllocError>
+    ensures { OnOk result ((text : List ℕ) × IsAnswer datagram.now text × (out.new.items ≡ out.old.items ++ text)) }
+{
+    match Compound::read(datagram) {
+        Ok(compound) => push_accepted(out, &compound),
+        Err(fault) => push_fault(out, &fault),
+    }
+}
+
+/// Appends why a call was refused.
+fn push_refused(out: &mut Vec<u8>, refusal: &Refusal) -> Result<(), AllocError>
+    ensures { OnOk result (out.new.items ≡ out.old.items ++ refused_text refusal.now) }
+{
+    push_answer(out, &Err(*refusal))
+}

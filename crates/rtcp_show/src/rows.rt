@@ -1,0 +1,209 @@
+//! The row of a source.
+
+ghost use Rattle.std.specs.Prelude.{◌≡◌, ◌≤◌, ◌++◌, ◌∷◌, [], List, OnOk, option_map};
+ghost use Rattle.std.specs.Fmt.{decimal};
+ghost use Rattle.std.specs.List.{flat_map};
+ghost use Rattle.core.specs.Char.Escape.{escape_ascii};
+ghost use Rattle.rtcp_source.specs.Views.{reception_value};
+ghost use Rattle.rtcp_members.specs.ListViews.{state_value};
+ghost use Rattle.rtcp_members.specs.Told.{StateValue};
+ghost use Rattle.rtcp_engine.specs.Histories.{History, life_at, setup_at};
+ghost use Rattle.rtcp_engine.specs.Lives.{WalksInLife, members_in_life, senders_in_life};
+ghost use Rattle.rtcp_engine.specs.States.{StandsAt};
+ghost use Rattle.rtcp_show.specs.Notes.{note_value, noted_in};
+ghost use Rattle.rtcp_show.specs.Rows.{cname_text, counts_text, sources_text, left_text, reception_text, row_text, standing_text, time_text, trip_text};
+
+use crate::notes::{Note, Notes};
+use crate::numbers::{push_fixed, push_moment};
+use arrayvec::ArrayVec;
+use rtcp_engine::Participant;
+use rtcp_members::{MemberTable, SourceState};
+use rtcp_source::Reception;
+use rtcp_text::text::digits::{push_decimal, push_signed, push_word};
+use std::alloc::AllocError;
+
+/// Appends the members, the senders and the rows of all sources.
+pub(crate) fn push_sources<T: MemberTable>(
+    out: &mut Vec<u8>,
+    rate: u32,
+    participant: &Participant<T>,
+    notes: &Notes,
+) -> Result<(), AllocError>
+    requires { 1 ≤ rate }
+    ensures { (history : History) → StandsAt participant.now history →
+        OnOk result ((states : List StateValue) × WalksInLife (setup_at history) (life_at history) states
+        × (out.new.items ≡ out.old.items ++ sources_text rate
+        (members_in_life (setup_at history) (life_at history)) (senders_in_life (setup_at history) (life_at history))
+        (noted_in notes.now) states)) }
+{
+    push_counts(out, participant.members(), participant.senders())?;
+    for state in participant.sources() {
+        push_noted_row(out, rate, &state, notes)?;
+    }
+    Ok(())
+}
+
+/// Appends the members and the senders.
+fn push_counts(out: &mut Vec<u8>, members: u32, senders: u32) -> Result<(), AllocError>
+    ensures { OnOk result (out.new.items ≡ out.old.items ++ counts_text members senders) }
+{
+    out.extend_from_slice(b"members=")?;
+    push_decimal(out, u64::from(members))?;
+    out.extend_from_slice(b" senders=")?;
+    push_decimal(out, u64::from(senders))?;
+    out.push(b'\n')?;
+    Ok(())
+}
+
+/// Appends the row of a source, with what is noted of it.
+fn push_noted_row(
+    out: &mut Vec<u8>,
+    rate: u32,
+    state: &SourceState,
+    notes: &Notes,
+) -> Result<(), AllocError>
+    requires { 1 ≤ rate }
+    ensures { OnOk result (out.new.items
+        ≡ out.old.items ++ row_text rate (state_value state.now) (noted_in notes.now state.now.ssrc)) }
+{
+    match notes.get(state.ssrc) {
+        Some(note) => push_row(out, rate, state, note),
+        None => push_row(out, rate, state, &Note::new()),
+    }
+}
+
+/// Appends the row of a source, of a session whose media's clock has `rate` units a second:
+///
+/// ```text
+/// source=00000007 sends=yes packets=150 lost=2 jitter=0.413ms round-trip=12.110ms cname="a@b"
+/// ```
+///
+/// A source that is no member has ` valid=no` or, where it left, ` left=` and when, in seconds, after `sends=no`. The
+/// three facts of its packets stand there if one was counted, and the last two if they are known. The CNAME is escaped
+/// as Rust's `escape_ascii` does it.
+///
+/// # Errors
+///
+/// `AllocError` where memory is refused. It is then left open how much of the text was appended.
+pub fn push_row(
+    out: &mut Vec<u8>,
+    rate: u32,
+    state: &SourceState,
+    note: &Note,
+) -> Result<(), AllocError>
+    requires { 1 ≤ rate }
+    ensures { OnOk result (out.new.items
+        ≡ out.old.items ++ row_text rate (state_value state.now) (note_value note.now)) }
+{
+    out.extend_from_slice(b"source=")?;
+    push_word(out, state.ssrc)?;
+    push_standing(out, state)?;
+    push_reception(out, rate, state.reception)?;
+    push_trip(out, note.trip)?;
+    push_cname(out, &note.cname)?;
+    out.push(b'\n')?;
+    Ok(())
+}
+
+/// Appends what a source is.
+fn push_standing(out: &mut Vec<u8>, state: &SourceState) -> Result<(), AllocError>
+    ensures { OnOk result (out.new.items ≡ out.old.items ++ standing_text (state_value state.now)) }
+{
+    let sends: &[u8] = if state.is_sender {
+        b" sends=yes"
+    } else {
+        b" sends=no"
+    };
+    out.extend_from_slice(sends)?;
+    if state.is_member {
+        return Ok(());
+    }
+    push_left(out, state.left)
+}
+
+/// Appends when a source left, or that it is not yet valid.
+fn push_left(out: &mut Vec<u8>, left: Option<u64>) -> Result<(), AllocError>
+    ensures { OnOk result (out.new.items ≡ out.old.items ++ left_text left) }
+{
+    match left {
+        Some(moment) => {
+            out.extend_from_slice(b" left=")?;
+            push_moment(out, moment)
+        }
+        None => out.extend_from_slice(b" valid=no"),
+    }
+}
+
+/// Appends how the packets of a source are received, if one was counted.
+fn push_reception(
+    out: &mut Vec<u8>,
+    rate: u32,
+    reception: Option<Reception>,
+) -> Result<(), AllocError>
+    requires { 1 ≤ rate }
+    ensures { OnOk result (out.new.items
+        ≡ out.old.items ++ reception_text rate (option_map reception_value reception)) }
+{
+    let Some(reception) = reception else {
+        return Ok(());
+    };
+    out.extend_from_slice(b" packets=")?;
+    push_decimal(out, reception.received)?;
+    out.extend_from_slice(b" lost=")?;
+    push_signed(out, reception.lost)?;
+    let jitter = u64::from(reception.jitter) * 1_000_000 / u64::from(rate);
+    push_time(out, b" jitter=", jitter)
+}
+
+/// Appends the round trip of a source, if it reported one.
+fn push_trip(out: &mut Vec<u8>, trip: Option<u32>) -> Result<(), AllocError>
+    ensures { OnOk result (out.new.items ≡ out.old.items ++ trip_text trip) }
+{
+    match trip {
+        Some(trip) => push_time(out, b" round-trip=", u64::from(trip) * 1_000_000 / 65_536),
+        None => Ok(()),
+    }
+}
+
+/// Appends a word and a time of so many microseconds.
+fn push_time(out: &mut Vec<u8>, word: &[u8], time: u64) -> Result<(), AllocError>
+    ensures { OnOk result (out.new.items ≡ out.old.items ++ word.now ++ time_text time) }
+{
+    out.extend_from_slice(word)?;
+    push_fixed(out, time, 1_000)?;
+    out.extend_from_slice(b"ms")
+}
+
+/// Appends the CNAME of a source, if one was read.
+fn push_cname(out: &mut Vec<u8>, cname: &Option<ArrayVec<u8, 255>>) -> Result<(), AllocError>
+    ensures { OnOk result (out.new.items
+        ≡ out.old.items ++ cname_text (option_map (λ cname. cname.items) cname.now)) }
+{
+    let Some(cname) = cname else {
+        return Ok(());
+    };
+    out.extend_from_slice(b" cname=\"")?;
+    push_escaped(out, cname)?;
+    out.push(b'"')?;
+    Ok(())
+}
+
+/// Appends a text, with escapes for what is not printed.
+fn push_escaped(out: &mut Vec<u8>, text: &[u8]) -> Result<(), AllocError>
+    ensures { OnOk result (out.new.items ≡ out.old.items ++ flat_map escape_ascii text.now) }
+{
+    for octet in text {
+        push_octet(out, *octet)?;
+    }
+    Ok(())
+}
+
+/// Appends an octet of a text, with an escape if it is not printed.
+fn push_octet(out: &mut Vec<u8>, octet: u8) -> Result<(), AllocError>
+    ensures { OnOk result (out.new.items ≡ out.old.items ++ escape_ascii octet) }
+{
+    for part in octet.escape_ascii() {
+        out.push(part)?;
+    }
+    Ok(())
+}

@@ -1,0 +1,254 @@
+//! What follows a session and writes what it sees.
+
+ghost use Rattle.std.specs.Prelude.{◌≡◌, ◌≤◌, IfOk, None};
+ghost use Rattle.rtcp_engine.specs.Acts.{Act};
+ghost use Rattle.rtcp_engine.specs.Promises.{Takes};
+ghost use Rattle.rtcp_engine.specs.Refused.{error_in};
+ghost use Rattle.rtcp_engine.specs.States.{StandsAt};
+ghost use Rattle.rtcp_engine.specs.Steps.{AnswerValue};
+ghost use Rattle.rtcp_engine.specs.Taken.{begun};
+ghost use Rattle.rtcp_engine.specs.Views.{IsActOf, answer_value, setup_of};
+
+use crate::copies::copy_of;
+use crate::lines::{moment_of, push_lines};
+use crate::notes::Notes;
+use crate::numbers::push_moment;
+use crate::rows::push_sources;
+use rtcp_clock::{ntp_of, round_trip};
+use rtcp_engine::{Answer, Config, Event, Participant};
+use rtcp_members::{HeapTable, MemberTable};
+use rtcp_wire::{Chunk, Compound, PacketView, SourceDescription};
+use std::alloc::{AllocError, Global};
+use std::io::Write;
+use std::mem;
+use std::net::SocketAddrV4;
+
+/// Microseconds in a second.
+const SECOND: u64 = 1_000_000;
+
+/// The type of a CNAME item (RFC 3550, 6.5.1).
+const CNAME: u8 = 1;
+
+/// Follows a session, and writes its lines to `writer`: those of each event and its answer ([`push_lines`]), and once a
+/// second the members, the senders and a row for each source ([`push_row`](crate::push_row)), unless they are the last
+/// ones again. Each part is flushed. A failed write is ignored, and what there is no memory for is not written.
+///
+/// The rows are those of a participant of its own, which is told the same events, and so answers the same.
+#[derive(Drop)]
+pub struct Watcher<W> {
+    participant: Participant<HeapTable>,
+    rate: u32,
+    ntp_base: u64,
+    /// The number of the peer to which compounds go.
+    to: u64,
+    notes: Notes,
+    writer: W,
+    /// What is to be written next, kept from part to part.
+    text: Vec<u8>,
+    /// The counts and the rows that were written last.
+    rows: Vec<u8>,
+    /// Room for the next ones.
+    next_rows: Vec<u8>,
+    /// The last second in which the sources were looked at.
+    second: u64,
+}
+
+impl<W: Drop> Watcher<W> {
+    ghost use Rattle.rtcp_show.specs.Watchers.{watched_by};
+
+    /// A watcher of a session that begins now: of a participant with this configuration, which is one that
+    /// `Config::error` does not refuse, and this random word. Compounds go to `to`.
+    ///
+    /// # Errors
+    ///
+    /// `AllocError` where memory is refused.
+    pub fn new(
+        alloc: Global,
+        config: &Config,
+        word: u32,
+        to: SocketAddrV4,
+        writer: W,
+    ) -> Result<Watcher<W>, AllocError>
+        requires usable { error_in (setup_of config.now) ≡ None }
+        requires some { 1 ≤ config.now.capacity }
+        requires few { config.now.capacity ≤ 1024 }
+        ensures { IfOk result (λ watcher. StandsAt (watched_by watcher) (begun (setup_of config.now) word)) }
+    {
+        let table = HeapTable::with_room(alloc, config.capacity, config.rate)?;
+        Ok(Watcher {
+            participant: Participant::with_table(copy_of(config), table, word),
+            rate: config.rate,
+            ntp_base: config.ntp_base,
+            to: u64::from(to.ip().to_bits()) * 65_536 + u64::from(to.port()),
+            notes: Notes::new(alloc),
+            writer,
+            text: Vec::new(alloc),
+            rows: Vec::new(alloc),
+            next_rows: Vec::new(alloc),
+            second: 0,
+        })
+    }
+}
+
+impl<W: Write> Watcher<W> {
+    ghost use Rattle.rtcp_show.specs.Watchers.{watched_by, writer_of};
+
+    /// The writer.
+    pub fn into_inner(self) -> W
+        ensures { result ≡ writer_of self }
+    {
+        self.writer
+    }
+
+    /// Writes the lines of an event of the session and its answer, and who is there where another second has begun.
+    pub fn watch(&mut self, event: &Event<'_>, answer: &Answer)
+        ensures follows { (act : Act) → IsActOf event.now act →
+            (given : AnswerValue) × Takes (watched_by self.old) act given (watched_by self.new) }
+    {
+        self.text.clear();
+        if push_lines(&mut self.text, self.to, event, answer).is_ok() {
+            self.write();
+        }
+        let _ = tell(&mut self.participant, event);
+        if answer.is_ok() {
+            self.note(event);
+        }
+        self.show_sources(moment_of(event));
+    }
+
+    /// Keeps what a datagram says that the table does not keep.
+    fn note(&mut self, event: &Event<'_>)
+        ensures { watched_by self.new ≡ watched_by self.old }
+    {
+        let Event::ArriveRtcp { now, bytes, .. } = event else {
+            return;
+        };
+        if let Ok(compound) = Compound::read(bytes) {
+            self.note_trips(*now, &compound);
+            self.note_cnames(&compound);
+        }
+    }
+
+    /// Keeps the round trips by the blocks about the participant that name one of its sender reports.
+    fn note_trips(&mut self, now: u64, compound: &Compound<'_>)
+        ensures { watched_by self.new ≡ watched_by self.old }
+    {
+        let arrived = (ntp_of(self.ntp_base, now) / 65_536 % (1 << 32)) as u32;
+        for (reporter, block) in compound.about(self.participant.ssrc()) {
+            if block.lsr != 0 && self.is_listed(reporter) {
+                let trip = round_trip(arrived, block.lsr, block.dlsr);
+                self.notes.set_trip(reporter, trip);
+            }
+        }
+    }
+
+    /// Keeps the CNAMEs of a datagram.
+    fn note_cnames(&mut self, compound: &Compound<'_>)
+        ensures { watched_by self.new ≡ watched_by self.old }
+    {
+        for packet in compound.packets() {
+            if let PacketView::Sdes(description) = packet {
+                self.note_chunks(&description);
+            }
+        }
+    }
+
+    fn note_chunks(&mut self, description: &SourceDescription<'_>)
+        ensures { watched_by self.new ≡ watched_by self.old }
+    {
+        for chunk in description.chunks() {
+            if self.is_listed(chunk.id()) {
+                self.note_items(&chunk);
+            }
+        }
+    }
+
+    fn note_items(&mut self, chunk: &Chunk<'_>)
+        ensures { watched_by self.new ≡ watched_by self.old }
+    {
+        for item in chunk.items() {
+            if item.kind == CNAME {
+                self.notes.set_cname(chunk.id(), item.text);
+            }
+        }
+    }
+
+    /// Whether the participant tells of a source: so what is kept of sources is bounded as its table is.
+    fn is_listed(&self, ssrc: u32) -> bool {
+        match self.participant.source_above(ssrc.checked_sub(1)) {
+            Some(state) => state.ssrc == ssrc,
+            None => false,
+        }
+    }
+
+    /// Writes who is there, if another second has begun and it is not as it was written last.
+    fn show_sources(&mut self, now: u64)
+        ensures { watched_by self.new ≡ watched_by self.old }
+    {
+        if now / SECOND <= self.second {
+            return;
+        }
+        self.second = now / SECOND;
+        let _ = self.notes.keep_listed(&self.participant);
+        if let Ok(shown) = self.compose(now) {
+            if shown {
+                self.write();
+            }
+        }
+    }
+
+    /// Composes who is there, and says whether that is not as it was written last.
+    fn compose(&mut self, now: u64) -> Result<bool, AllocError>
+        ensures { watched_by self.new ≡ watched_by self.old }
+    {
+        let rate = self.rate.max(1);
+        self.next_rows.clear();
+        push_sources(&mut self.next_rows, rate, &self.participant, &self.notes)?;
+        if self.next_rows == self.rows {
+            return Ok(false);
+        }
+        self.text.clear();
+        push_moment(&mut self.text, now)?;
+        self.text.push(b' ')?;
+        self.text.extend_from_slice(&self.next_rows)?;
+        mem::swap(&mut self.rows, &mut self.next_rows);
+        Ok(true)
+    }
+
+    /// Writes what was composed.
+    fn write(&mut self)
+        ensures { watched_by self.new ≡ watched_by self.old }
+    {
+        if self.writer.write_all(&self.text).is_ok() {
+            let _ = self.writer.flush();
+        }
+    }
+}
+
+/// Tells a participant an event.
+fn tell<T: MemberTable>(participant: &mut Participant<T>, event: &Event<'_>) -> Answer
+    ensures { (act : Act) → IsActOf event.now act →
+        Takes participant.old act (answer_value result) participant.new }
+{
+    match *event {
+        Event::ArriveRtcp {
+            now,
+            peer,
+            w,
+            bytes,
+        } => participant.arrive_rtcp(now, peer, w, bytes),
+        Event::ArriveRtp {
+            now,
+            peer,
+            w,
+            bytes,
+        } => participant.arrive_rtp(now, peer, w, bytes),
+        Event::SentRtp {
+            now,
+            rtp_ts,
+            octets,
+        } => participant.sent_rtp(now, rtp_ts, octets),
+        Event::Tick { now, w1, w2 } => participant.tick(now, w1, w2),
+        Event::Leave { now, w } => participant.leave(now, w),
+    }
+}

@@ -1,0 +1,97 @@
+//! The rows of sources.
+
+use super::same;
+use arrayvec::ArrayVec;
+use rtcp_members::SourceState;
+use rtcp_show::{Note, push_row};
+use rtcp_source::Reception;
+use std::alloc::Global;
+use std::test::Fail;
+
+/// A source of which nothing is known but that it is there.
+fn state() -> SourceState {
+    SourceState {
+        ssrc: 0x7,
+        is_member: true,
+        is_sender: false,
+        left: None,
+        heard: 0,
+        reception: None,
+        told: None,
+    }
+}
+
+/// The row of a source.
+fn row(alloc: Global, state: &SourceState, note: &Note) -> Result<Vec<u8>, Fail> {
+    let mut text = Vec::new(alloc);
+    push_row(&mut text, 90_000, state, note)?;
+    Ok(text)
+}
+
+/// What a source is.
+#[test]
+fn standings(rt: HostRuntime) -> Result<(), Fail> {
+    let note = Note::new();
+    let mut state = state();
+    let text = row(rt.alloc(), &state, &note)?;
+    same(&rt, &text, b"source=00000007 sends=no\n", "a member");
+    state.is_sender = true;
+    let text = row(rt.alloc(), &state, &note)?;
+    same(&rt, &text, b"source=00000007 sends=yes\n", "a sender");
+    state.is_sender = false;
+    state.is_member = false;
+    let text = row(rt.alloc(), &state, &note)?;
+    same(
+        &rt,
+        &text,
+        b"source=00000007 sends=no valid=no\n",
+        "not yet valid",
+    );
+    state.left = Some(12_000_345);
+    let text = row(rt.alloc(), &state, &note)?;
+    same(
+        &rt,
+        &text,
+        b"source=00000007 sends=no left=12.000345\n",
+        "it left",
+    );
+    Ok(())
+}
+
+/// Jitter and round trip in milliseconds, rounded down. Repeated packets make a negative loss.
+#[test]
+fn receptions(rt: HostRuntime) -> Result<(), Fail> {
+    let mut state = state();
+    state.reception = Some(Reception {
+        received: 12,
+        lost: -3,
+        highest: 9,
+        jitter: 91,
+    });
+    let note = Note {
+        cname: None,
+        trip: Some(0x0001_0100),
+    };
+    // 91 of 90,000 a second, and 65,792 of 65,536 a second
+    let want =
+        b"source=00000007 sends=no packets=12 lost=-3 jitter=1.011ms round-trip=1003.906ms\n";
+    let text = row(rt.alloc(), &state, &note)?;
+    same(&rt, &text, want, "a reception");
+    Ok(())
+}
+
+/// A CNAME that clears a terminal, ends its quotes and goes on in the next line.
+#[test]
+fn escaped(rt: HostRuntime) -> Result<(), Fail> {
+    let mut cname = ArrayVec::new();
+    let _ = cname.try_extend_from_slice(b"a@b\x1b[2J\"\\\r\n\t'\x00\x7f\xc3\xa9");
+    let note = Note {
+        cname: Some(cname),
+        trip: None,
+    };
+    let want =
+        "source=00000007 sends=no cname=\"a@b\\x1b[2J\\\"\\\\\\r\\n\\t\\'\\x00\\x7f\\xc3\\xa9\"\n";
+    let text = row(rt.alloc(), &state(), &note)?;
+    same(&rt, &text, want.as_bytes(), "escaped");
+    Ok(())
+}

@@ -1,0 +1,152 @@
+//! What a watcher writes of a session.
+
+use super::{PEER, config, named};
+use rtcp_engine::{Event, Participant};
+use rtcp_members::SortedTable;
+use rtcp_show::Watcher;
+use std::alloc::Global;
+use std::io;
+use std::io::{ErrorKind, Write};
+use std::net::{Ipv4Addr, SocketAddrV4};
+use std::test::Fail;
+
+/// A participant, and what watches it.
+#[derive(Drop)]
+struct Watched<W> {
+    participant: Participant<SortedTable>,
+    watcher: Watcher<W>,
+}
+
+impl<W: Write + Drop> Watched<W> {
+    /// A session that begins, with the start word 0. Its first report is due at 1,026,037.
+    fn new(alloc: Global, writer: W) -> Result<Watched<W>, Fail> {
+        let to = SocketAddrV4::new(Ipv4Addr::LOCALHOST, 5_007);
+        let config = config();
+        if let Some(_) = config.error() {
+            return Err("the configuration is refused")?;
+        }
+        let watcher = Watcher::new(alloc, &config, 0, to, writer)?;
+        let Ok(participant) = Participant::new(config, 0) else {
+            return Err("the configuration is refused")?;
+        };
+        Ok(Watched {
+            participant,
+            watcher,
+        })
+    }
+
+    fn rtcp(&mut self, now: u64, bytes: &[u8]) {
+        let answer = self.participant.arrive_rtcp(now, PEER, 0, bytes);
+        let event = Event::ArriveRtcp {
+            now,
+            peer: PEER,
+            w: 0,
+            bytes,
+        };
+        self.watcher.watch(&event, &answer);
+    }
+
+    fn tick(&mut self, now: u64) {
+        let answer = self.participant.tick(now, 0, 0);
+        self.watcher
+            .watch(&Event::Tick { now, w1: 0, w2: 0 }, &answer);
+    }
+
+    /// A packet of source 7, of 20 milliseconds.
+    fn rtp(&mut self, now: u64, number: u8) {
+        let timestamp = u32::from(number) * 160;
+        let [_, _, high, low] = timestamp.to_be_bytes();
+        let bytes = [0x80, 0, 0, number, 0, 0, high, low, 0, 0, 0, 7];
+        let answer = self.participant.arrive_rtp(now, PEER, 0, &bytes);
+        let event = Event::ArriveRtp {
+            now,
+            peer: PEER,
+            w: 0,
+            bytes: &bytes,
+        };
+        self.watcher.watch(&event, &answer);
+    }
+
+    fn leave(&mut self, now: u64) {
+        let answer = self.participant.leave(now, 0);
+        self.watcher.watch(&Event::Leave { now, w: 0 }, &answer);
+    }
+}
+
+/// A report of source 7 with a block about the participant: it names a sender report of the moment 2 seconds, and half
+/// a second since.
+const BLOCK: [u8; 32] = [
+    0x81, 0xc9, 0, 7, 0, 0, 0, 7, 0, 0, 0, 0xaa, 0, 0, 0, 0, 0, 0, 0, 0, 0, 0, 0, 0, 0, 2, 0, 0, 0,
+    0, 0x80, 0,
+];
+
+/// An empty report of source 7, and its goodbye.
+const GOODBYE: [u8; 16] = [0x80, 0xc9, 0, 1, 0, 0, 0, 7, 0x81, 0xcb, 0, 1, 0, 0, 0, 7];
+
+const SESSION: &str = "\
+0.100000 in 127.0.0.1:5007 ok RR(00000007,[],0) SDES([00000007{1=61}])
+1.000000 members=2 senders=0
+source=00000007 sends=no cname=\"a\"
+2.000000 out 127.0.0.1:5007 ok RR(000000aa,[],0) SDES([000000aa{1=61}])
+3.000000 in 127.0.0.1:5007 ok RR(00000007,[000000aa/0/0/0/0/00020000/00008000],0)
+3.000000 members=2 senders=0
+source=00000007 sends=no round-trip=500.000ms cname=\"a\"
+4.000000 members=2 senders=1
+source=00000007 sends=yes packets=2 lost=1 jitter=0.125ms round-trip=500.000ms cname=\"a\"
+4.400000 out 127.0.0.1:5007 ok \
+RR(000000aa,[00000007/85/1/4/1/00000000/00000000],0) SDES([000000aa{1=61}])
+4.500000 in 127.0.0.1:5007 ok RR(00000007,[],0) BYE([00000007],-)
+5.000000 members=1 senders=0
+source=00000007 sends=no left=4.500000 packets=2 lost=1 jitter=0.125ms round-trip=500.000ms cname=\"a\"
+5.500000 in 127.0.0.1:5007 refused E5 Wire: F1 Short at 0
+6.000000 out 127.0.0.1:5007 ok RR(000000aa,[],0) SDES([000000aa{1=61}]) BYE([000000aa],-)
+6.000000 members=0 senders=0
+";
+
+/// Each event has its lines, and each second its rows, unless they are as they were.
+#[test]
+fn session(rt: HostRuntime) -> Result<(), Fail> {
+    let mut watched = Watched::new(rt.alloc(), Vec::new(rt.alloc()))?;
+    watched.rtcp(100_000, &named(7));
+    watched.tick(999_999);
+    watched.tick(1_000_000);
+    watched.tick(2_000_000);
+    watched.tick(2_999_999);
+    watched.rtcp(3_000_000, &BLOCK);
+    watched.rtp(3_100_000, 1);
+    watched.rtp(3_120_000, 2);
+    watched.rtp(3_162_000, 4);
+    watched.tick(4_000_000);
+    watched.tick(4_400_000);
+    watched.rtcp(4_500_000, &GOODBYE);
+    watched.tick(5_000_000);
+    watched.rtcp(5_500_000, &[]);
+    watched.leave(6_000_000);
+    let text = watched.watcher.into_inner();
+    assert_eq!(rt; text.as_slice(), SESSION.as_bytes());
+    Ok(())
+}
+
+/// Takes nothing: each write fails.
+#[derive(Drop)]
+struct Full;
+
+impl Write for Full {
+    fn write(&mut self, _buf: &[u8]) -> io::Result<usize> {
+        Err(io::Error::from(ErrorKind::Other))
+    }
+
+    fn flush(&mut self) -> io::Result<()> {
+        Ok(())
+    }
+}
+
+/// Where nothing can be written, the session goes on.
+#[test]
+fn unwritten(rt: HostRuntime) -> Result<(), Fail> {
+    let mut watched = Watched::new(rt.alloc(), Full)?;
+    watched.rtcp(100_000, &named(7));
+    watched.tick(2_000_000);
+    assert_eq!(rt; watched.participant.members(), 2);
+    Ok(())
+}
