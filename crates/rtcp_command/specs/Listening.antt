@@ -1,6 +1,7 @@
 -- What the options of `rtcp listen` say, and the first of them that is refused.
-use Rattle.std.specs.Prelude.{◌≡◌, ℕ, ◌≤◌, nat_le, ◌&&◌, List, if◌then◌else◌, Option, Some, None, option_and_then, option_map, string_bytes, Result, Ok, Err, codes}
+use Rattle.std.specs.Prelude.{◌≡◌, ℕ, ◌≤◌, nat_le, ◌&&◌, Bool, List, if◌then◌else◌, Option, Some, None, option_and_then, option_map, string_bytes, Result, Ok, Err, codes}
 use Rattle.std.specs.Option.{ok_or}
+use Rattle.std.specs.Str.{bytes_eq}
 use Rattle.rtcp_engine.specs.Setups.{Setup}
 use Rattle.rtcp_engine.specs.Views.{setup_of}
 use Rattle.rtcp_command.specs.declared.options.LinkOptions.{LinkOptions}
@@ -22,6 +23,7 @@ pub record LinkTexts : Type 0 where
   pub seed : List ℕ
   pub turns : List ℕ
   pub recording : Option (List ℕ)
+  pub show : List ℕ
 
 abbrev pub link_texts_of : LinkOptions → LinkTexts
 link_texts_of options = record {
@@ -31,6 +33,7 @@ link_texts_of options = record {
   seed = options.seed.now;
   turns = options.turns.now;
   recording = text_given options.recording;
+  show = options.show.now;
 }
 
 -- the texts that a command line gives
@@ -42,6 +45,7 @@ link_texts_found found = record {
   seed = text_found found (codes "seed");
   turns = text_found found (codes "turns");
   recording = found (codes "record");
+  show = text_found found (codes "show");
 }
 
 -- 1 to 1,000,000 turns
@@ -60,6 +64,8 @@ pub record Listening : Type 0 where
   pub turns : ℕ
   -- the name of the file that it is recorded in
   pub recording : Option (List ℕ)
+  -- whether it is shown while it runs
+  pub show : Bool
 
 -- The session, or the name of the first option that is refused.
 abbrev pub listen_in : OptionTexts → LinkTexts → Result Listening (List ℕ)
@@ -78,6 +84,7 @@ listen_in texts link = do
     seed = seed;
     turns = turns;
     recording = link.recording;
+    show = bytes_eq link.show (codes "true");
   })
 
 -- ---- Orders
@@ -92,11 +99,12 @@ listening_of session recording = record {
   seed = session.seed;
   turns = session.turns;
   recording = recording;
+  show = session.show;
 }
 
 -- The options come to this order.
 abbrev pub IsListening : Order → Result Listening (List ℕ) → Type 0
-IsListening (Listen config rtp rtcp peer seed turns recording) expected = expected ≡ Ok (record {
+IsListening (Listen config rtp rtcp peer seed turns recording show) expected = expected ≡ Ok (record {
   setup = setup_of config;
   rtp = endpoint_of rtp;
   rtcp = endpoint_of rtcp;
@@ -104,6 +112,7 @@ IsListening (Listen config rtp rtcp peer seed turns recording) expected = expect
   seed = seed;
   turns = turns;
   recording = option_map string_bytes recording;
+  show = show;
 })
 IsListening (Text order) expected = ⊥
 
@@ -117,5 +126,5 @@ IsListenOrder (Err Memory) expected =
 
 -- A session that is asked for has 1 to 1,000,000 turns.
 abbrev pub HasTurns : Order → Type 0
-HasTurns (Listen config rtp rtcp peer seed turns recording) = (1 ≤ turns) × (turns ≤ 1000000)
+HasTurns (Listen config rtp rtcp peer seed turns recording show) = (1 ≤ turns) × (turns ≤ 1000000)
 HasTurns (Text order) = Unit {0}

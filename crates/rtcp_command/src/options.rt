@@ -47,6 +47,7 @@ pub(crate) struct LinkOptions<'a> {
     pub(crate) seed: &'a str,
     pub(crate) turns: &'a str,
     pub(crate) recording: Option<&'a str>,
+    pub(crate) show: &'a str,
 }
 
 /// The configuration, the word of the start and the number of lines that the options of `replay` say. Whether a
@@ -106,6 +107,7 @@ pub(crate) fn read_listen(
         seed: session.seed,
         turns: session.turns,
         recording,
+        show: session.show,
     })
 }
 
@@ -118,6 +120,7 @@ struct Session {
     peer: SocketAddrV4,
     seed: u64,
     turns: u32,
+    show: bool,
 }
 
 /// The session over UDP that the options of `listen` say.
@@ -145,6 +148,7 @@ fn read_session(options: Options<'_>, link: LinkOptions<'_>) -> Result<Session, 
         peer,
         seed,
         turns,
+        show: link.show == "true",
     })
 }
 

@@ -24,6 +24,8 @@ pub enum Order {
         turns: u32,
         /// The file that the session is recorded in, if it is to be.
         recording: Option<String>,
+        /// Whether the session is shown while it runs.
+        show: bool,
     },
 }
 

@@ -21,6 +21,7 @@ pub use rtcp_command::{Order, OrderFault, RunFault, TextOrder, command, laws, li
 use rtcp_engine::{Config, Participant};
 use rtcp_members::HeapTable;
 pub use rtcp_serve::{Cause, End, Link, LinkFault, Port, Received, serve, serve_laws};
+use rtcp_show::{Shown, Watcher};
 use rtcp_text::record::Recorder;
 pub use rtcp_text::{Counted, LineFault, ReplayFault, TextFault, check, replay};
 use std::env;
@@ -42,6 +43,7 @@ fn main(rt: HostRuntime) -> ExitCode {
                 seed,
                 turns,
                 recording,
+                show,
             },
         ) => {
             let session = Session {
@@ -52,6 +54,7 @@ fn main(rt: HostRuntime) -> ExitCode {
                 seed,
                 turns,
                 recording,
+                show,
             };
             let outcome = run_listen(&rt, session);
             listen::conclude(&outcome, &mut rt.stderr())
@@ -109,10 +112,11 @@ struct Session {
     seed: u64,
     turns: u32,
     recording: Option<String>,
+    show: bool,
 }
 
 /// Runs a session over UDP, between the ports of RTP and of RTCP and a peer, and writes its end to standard
-/// output. It is recorded, if a file is named for that.
+/// output. It is recorded if a file is named for that, and shown on standard error if that is asked for.
 ///
 /// # Errors
 ///
@@ -120,20 +124,27 @@ struct Session {
 fn run_listen(rt: &HostRuntime, session: Session) -> Result<End, RunFault>
     requires { (1 ≤ session.turns) × (session.turns ≤ 1000000) }
 {
+    let alloc = rt.alloc();
     let mut rng = Pcg32::seed_from_u64(session.seed);
     let word = rng.next_u32();
     if let Some(error) = session.config.error() {
         return Err(RunFault::Config(error));
     }
     let (capacity, rate) = (session.config.capacity, session.config.rate);
-    let table = HeapTable::with_room(rt.alloc(), capacity, rate).map_err(|_| RunFault::Memory)?;
+    let table = HeapTable::with_room(alloc, capacity, rate).map_err(|_| RunFault::Memory)?;
     let recorder = match &session.recording {
         Some(file) => Some(begin_record(rt, &session.config, word, file)?),
         None => None,
     };
+    let watcher = if session.show {
+        let watcher = Watcher::new(alloc, &session.config, word, session.peer, rt.stderr());
+        Some(watcher.map_err(|_| RunFault::Memory)?)
+    } else {
+        None
+    };
     let mut participant = Participant::with_table(session.config, table, word);
-    let link = UdpLink::bind(rt, rt.alloc(), session.rtp, session.rtcp, session.peer)?;
-    let mut link = Recorded::new(link, recorder, rt.stderr());
+    let link = UdpLink::bind(rt, alloc, session.rtp, session.rtcp, session.peer)?;
+    let mut link = Recorded::new(Shown::new(link, watcher), recorder, rt.stderr());
     let mut buf = [0; 65_535];
     let end = serve(
         &mut link,
@@ -142,7 +153,7 @@ fn run_listen(rt: &HostRuntime, session: Session) -> Result<End, RunFault>
         session.turns,
         &mut buf,
     );
-    let line = end_line(rt.alloc(), &end).map_err(|_| RunFault::Memory)?;
+    let line = end_line(alloc, &end).map_err(|_| RunFault::Memory)?;
     rt.stdout().write_all(&line).map_err(|_| RunFault::Write)?;
     Ok(end)
 }

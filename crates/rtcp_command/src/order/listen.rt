@@ -20,8 +20,7 @@ RTP and RTCP come in at a port each, and reports go from the port of RTCP to the
 the participant takes at most one datagram from each port, and sends what is due; where neither
 has one it waits until one comes, for at most 20 milliseconds. After the last turn it leaves:
 without a word if it has sent no report, else with a BYE. Where more than 50 are known that BYE
-waits for its turn, in at most as many turns again, and may not go out. It sends no RTP, and
-nothing is written before the end.
+waits for its turn, in at most as many turns again, and may not go out. It sends no RTP.
 
 In a collision, where a datagram names the participant's own SSRC, it takes another one at random
 and sends a BYE for the old one if it has reported under it: once for each sender of such
@@ -47,7 +46,7 @@ Or one of FFmpeg, which binds that port too:
 
 For either:
 
-    rtcp listen --ssrc 000000aa --cname a \\
+    rtcp listen --ssrc 000000aa --cname a --show --record call \\
         --rtp 127.0.0.1:5004 --rtcp 127.0.0.1:5005 --peer 127.0.0.1:5007
 
 One line comes out at the end: Done after the last turn, LinkDown where 64 receives in a row
@@ -59,6 +58,19 @@ whether the BYE of leaving was sent.
 
 Ctrl-C ends the process as it ends any: no BYE is sent, and no line comes out.
 
+With --show the session is written to standard error as it happens, a line for each RTCP datagram
+that comes in, each compound that goes out, and each call that is refused: the moment in seconds,
+the peer, and what rtcp check says of the datagram, or why it was refused. Once a second the
+members, the senders and a row for each source follow, unless they are as they were last:
+
+    2.417003 out 127.0.0.1:5007 ok RR(000000aa,[],0) SDES([000000aa{1=61}])
+    3.000411 members=2 senders=1
+    source=5efa318e sends=yes packets=150 lost=0 jitter=0.413ms cname=\"user@host\"
+
+A source that is no member has valid=no, or left= and when. What came of its packets stands in a
+row if one was counted, the CNAME if one was read, its quotes, backslashes and what is not printed
+as in a string of C; and round-trip= if the source reported on a sender report of this SSRC.
+
 With --record FILE each event that the participant is told is written to the file as it happens,
 as a line that rtcp replay reads. The command that plays it again is written to standard error
 at the start.
@@ -67,7 +79,7 @@ The status is 0 at Done and Limit, 2 if the command line, an option or the confi
 refused, and 1 at LinkDown and if a port could not be bound, or writing or memory failed.";
 
 /// The options after those of the participant, in the order in which they are looked at.
-const OWN: [Row; 6] = [
+const OWN: [Row; 7] = [
     (
         "rtp",
         "ADDRESS:PORT",
@@ -104,6 +116,12 @@ const OWN: [Row; 6] = [
         Absent::Nothing,
         "File in which the session is recorded, for rtcp replay",
     ),
+    (
+        "show",
+        "",
+        Absent::IsFlag,
+        "Show the session on standard error while it runs",
+    ),
 ];
 
 /// The subcommand, as `clap` reads it.
@@ -138,5 +156,6 @@ fn link<'a>(matches: &ArgMatches<'a>) -> LinkOptions<'a>
         seed: given(matches, "seed"),
         turns: given(matches, "turns"),
         recording: matches.get_str("record"),
+        show: given(matches, "show"),
     }
 }

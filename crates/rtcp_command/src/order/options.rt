@@ -17,6 +17,8 @@ pub(super) enum Absent {
     Is(&'static str),
     /// Nothing.
     Nothing,
+    /// The option takes no value: it is a flag, whose text is `true` where it is given, and else `false`.
+    IsFlag,
 }
 
 /// An option: the name, the value, what stands for it, and the help.
@@ -97,18 +99,20 @@ pub(super) fn with_options<'a>(
     options: &[Row],
 ) -> Result<Command<'a>, AllocError> {
     for (name, value, absent, help) in options {
-        let option = Arg::new(alloc, name)
-            .long(name)
-            .value_name(value)
-            .help(help)
-            .action(ArgAction::Set);
+        let option = Arg::new(alloc, name).long(name).help(help);
         command = command.arg(match absent {
-            Absent::Refused => option.required(true),
-            Absent::Is(text) => option.default_value(text),
-            Absent::Nothing => option,
+            Absent::Refused => valued(option, value).required(true),
+            Absent::Is(text) => valued(option, value).default_value(text),
+            Absent::Nothing => valued(option, value),
+            Absent::IsFlag => option.action(ArgAction::SetTrue),
         })?;
     }
     Ok(command)
+}
+
+/// An option that takes a value.
+fn valued<'a>(option: Arg<'a>, value: &'a str) -> Arg<'a> {
+    option.value_name(value).action(ArgAction::Set)
 }
 
 /// The texts of the options that configure a participant.

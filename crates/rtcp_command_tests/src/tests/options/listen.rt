@@ -57,6 +57,7 @@ fn defaults(rt: HostRuntime) -> Result<(), Fail> {
             seed,
             turns,
             recording,
+            show,
         },
     ) = order(rt.alloc(), &REQUIRED)
     else {
@@ -70,6 +71,20 @@ fn defaults(rt: HostRuntime) -> Result<(), Fail> {
     );
     assert_eq!(rt; (seed, turns), (1, 1000));
     assert!(rt; recording.is_none());
+    assert!(rt; !show);
+    Ok(())
+}
+
+/// `--show` stands alone, before or after others.
+#[test]
+fn shown(rt: HostRuntime) -> Result<(), Fail> {
+    for options in [["--show", "--seed", "7"], ["--seed", "7", "--show"]] {
+        let words = with_required(rt.alloc(), &options)?;
+        let Ok(Order::Listen { seed, show, .. }) = order(rt.alloc(), &words) else {
+            return Err("it was refused")?;
+        };
+        assert_eq!(rt; (seed, show), (7, true));
+    }
     Ok(())
 }
 
