@@ -1,0 +1,476 @@
+/* jalwedd.h for hosts in C++17 and later: a participant that is freed when it goes out of scope, and ranges that give
+ * the sources of a session, what changed between two listings, and the parts of a datagram.
+ *
+ *     jalwedd::participant session;
+ *     if (session.join(config, "player@example.com", random_word(), step) != JALWEDD_TAKEN)
+ *         return refused();
+ *     session.arrive_rtcp(now, peer, random_word(), datagram, size, step, octets);    as the calls of jalwedd.h
+ *     for (const jalwedd_source_state& source : session.sources())
+ *         show(source.ssrc, source.received, source.lost);
+ *     for (const jalwedd::sdes_item& item : jalwedd::sdes_items(datagram, size))
+ *         name(item.ssrc, item.kind, item.text);
+ *
+ * A member function of a participant makes the call of its name in jalwedd.h, which says more about it, such as what
+ * each word is for; only jalwedd_new is `join` here. A range has the plural of its call's name, except for `about`.
+ * Structures, constants and statuses are those of jalwedd.h, and so are the calls that are not here: jalwedd_text,
+ * jalwedd_version, jalwedd_memory, jalwedd_round_trip and jalwedd_ntp_of.
+ *
+ * WHAT THE HOST MUST ENSURE, as nothing tests it, is what jalwedd.h says, except for this:
+ * - A pointer may be null if its size or count is 0, such as that of an empty std::vector.
+ * - A participant is freed by its destructor, and moving it leaves the old one empty.
+ * - A range borrows what it was made from: a participant, listings or a datagram. The range, its iterators and the
+ *   texts that they gave are not used once that has changed, was moved or is gone.
+ *
+ * No function that makes a call on a participant is const, as also those that only read write to the handle for a
+ * while. Nothing here allocates, throws, or needs exceptions or type information. This header is tested; only the
+ * library is proved.
+ */
+#ifndef JALWEDD_HPP
+#define JALWEDD_HPP
+
+#if __cplusplus < 201703L
+#error "jalwedd.hpp needs C++17 or later"
+#endif
+
+#include "jalwedd.h"
+
+#include <cstddef>
+#include <cstdint>
+#include <iterator>
+#include <optional>
+#include <string_view>
+#include <utility>
+
+namespace jalwedd {
+
+/* ---- Inside: hosts do not use this namespace */
+
+namespace inside {
+
+/* An address for the library, which takes no null pointer, not even of nothing. */
+template <typename Element>
+const Element* address(const Element* at, std::size_t count) noexcept
+{
+    static constexpr Element nothing{};
+    return count == 0 ? &nothing : at;
+}
+
+} // namespace inside
+
+/* ---- Ranges */
+
+/// What a call gives one after the other, for `for (const auto& element : range)`.
+///
+/// Its iterators are input iterators, each with a copy of its element. `Call` is a type that hosts do not name.
+template <typename Call>
+class range {
+public:
+    /// The type of an element.
+    using value_type = typename Call::value_type;
+
+    /// An iterator over the elements.
+    class iterator {
+    public:
+        /// What the standard library asks of an iterator.
+        using iterator_category = std::input_iterator_tag;
+        using value_type = typename Call::value_type;
+        using difference_type = std::ptrdiff_t;
+        using pointer = const value_type*;
+        using reference = const value_type&;
+
+        /// An iterator at the end.
+        iterator() noexcept = default;
+
+        /// The element, which lasts until the iterator goes on. Not at the end.
+        reference operator*() const noexcept { return element_; }
+
+        /// The same as a pointer.
+        pointer operator->() const noexcept { return &element_; }
+
+        /// Goes on to the next element, or to the end. Not at the end.
+        iterator& operator++() noexcept
+        {
+            from_ = call_.give(from_, element_) == JALWEDD_TAKEN ? call_.after(from_, element_) : 0;
+            return *this;
+        }
+
+        /// Goes on, and returns the iterator as it was.
+        iterator operator++(int) noexcept
+        {
+            iterator before = *this;
+            ++*this;
+            return before;
+        }
+
+        /// Whether both are at the same element of a range, or at the end.
+        friend bool operator==(const iterator& one, const iterator& other) noexcept
+        {
+            return one.from_ == other.from_;
+        }
+
+        /// Whether they are not.
+        friend bool operator!=(const iterator& one, const iterator& other) noexcept { return !(one == other); }
+
+    private:
+        friend class range;
+        explicit iterator(const Call& call) noexcept : call_(call) { ++*this; }
+
+        Call call_{};
+        value_type element_{};
+        std::uint64_t from_ = 0; /* where the next call goes on: 0 at the end, and never after an element */
+    };
+
+    /// Made by participant::sources and by the functions below.
+    explicit range(const Call& call) noexcept : call_(call) {}
+
+    /// At the first element, or at the end if there is none.
+    [[nodiscard]] iterator begin() const noexcept { return iterator(call_); }
+
+    /// After the last element.
+    [[nodiscard]] iterator end() const noexcept { return iterator(); }
+
+    /// The status of the call for the first element: JALWEDD_TAKEN, or why there is none.
+    [[nodiscard]] std::uint32_t status() const noexcept
+    {
+        value_type element{};
+        return call_.give(0, element);
+    }
+
+private:
+    Call call_;
+};
+
+/* ---- A participant */
+
+namespace inside {
+
+/* By rising SSRC. */
+struct sources {
+    using value_type = jalwedd_source_state;
+    jalwedd_handle* handle = nullptr;
+
+    std::uint32_t give(std::uint64_t from, value_type& source) const noexcept
+    {
+        return jalwedd_source(handle, from, &source);
+    }
+
+    static std::uint64_t after(std::uint64_t, const value_type& source) noexcept
+    {
+        return std::uint64_t{source.ssrc} + 1;
+    }
+};
+
+} // namespace inside
+
+/// A participant of a session (RFC 3550), or none: it is empty at first, once it is freed, and once it is moved.
+///
+/// It may be moved, into a container or to another thread too, but not copied. Its size is that of a pointer. A call
+/// writes `step` whatever its status is, and into `octets` the compound that it hands out: step.kind says what that is,
+/// and step.size how many octets it has.
+class participant {
+public:
+    /// An empty one: each call but join returns JALWEDD_IS_EMPTY, or gives nothing.
+    participant() noexcept = default;
+
+    /// Takes the participant of `other`, and leaves that empty.
+    participant(participant&& other) noexcept : handle_(std::exchange(other.handle_, jalwedd_handle JALWEDD_EMPTY)) {}
+
+    /// Frees its own participant, takes that of `other`, and leaves that empty. To itself, it does nothing.
+    participant& operator=(participant&& other) noexcept
+    {
+        if (this != &other) {
+            jalwedd_free(&handle_);
+            handle_ = std::exchange(other.handle_, jalwedd_handle JALWEDD_EMPTY);
+        }
+        return *this;
+    }
+
+    /// Not copied: two would speak as one.
+    participant(const participant&) = delete;
+    participant& operator=(const participant&) = delete;
+
+    /// Frees the participant. It sends no BYE: call leave before it.
+    ~participant() { jalwedd_free(&handle_); }
+
+    /// Begins to take part in a session: its moment 0 is now. `cname` has 1 to 255 octets, and there are at most 7
+    /// items. Allocates JALWEDD_MEMORY(config.capacity) octets, and no other call allocates.
+    /// Statuses: TAKEN; IS_LIVE, and the participant that is there goes on; CNAME to ITEM; NO_MEMORY.
+    [[nodiscard]] std::uint32_t join(const jalwedd_config& config, std::string_view cname, const jalwedd_item* items,
+                                     std::size_t item_count, std::uint32_t word, jalwedd_step& step) noexcept
+    {
+        const auto* const text = reinterpret_cast<const std::uint8_t*>(cname.data());
+        return jalwedd_new(&handle_, &config, inside::address(text, cname.size()), cname.size(),
+                           inside::address(items, item_count), item_count, word, &step);
+    }
+
+    /// The same without items.
+    [[nodiscard]] std::uint32_t join(const jalwedd_config& config, std::string_view cname, std::uint32_t word,
+                                     jalwedd_step& step) noexcept
+    {
+        return join(config, cname, nullptr, 0, word, step);
+    }
+
+    /// Frees the participant, and leaves this empty. It sends no BYE: call leave before it.
+    /// Statuses: TAKEN; IS_EMPTY.
+    std::uint32_t free() noexcept { return jalwedd_free(&handle_); }
+
+    /// An RTCP datagram came from `peer` at the moment `now`, in microseconds since join. Hands out nothing, or, if it
+    /// changes the SSRC, the BYE of the old one. Read its reports about the host's own stream before (about).
+    /// Statuses: TAKEN; LEFT to NO_COMPOUND; OWN_SSRC; IS_EMPTY.
+    std::uint32_t arrive_rtcp(std::uint64_t now, std::uint64_t peer, std::uint32_t word, const std::uint8_t* datagram,
+                              std::size_t size, jalwedd_step& step, std::uint8_t (&octets)[JALWEDD_OCTETS]) noexcept
+    {
+        return jalwedd_arrive_rtcp(&handle_, now, peer, word, inside::address(datagram, size), size, &step, octets);
+    }
+
+    /// An RTP datagram came: as arrive_rtcp.
+    /// Statuses: TAKEN; IS_EMPTY; TOO_LONG; LEFT to TOO_MANY; NO_RTP; OWN_SSRC.
+    std::uint32_t arrive_rtp(std::uint64_t now, std::uint64_t peer, std::uint32_t word, const std::uint8_t* datagram,
+                             std::size_t size, jalwedd_step& step, std::uint8_t (&octets)[JALWEDD_OCTETS]) noexcept
+    {
+        return jalwedd_arrive_rtp(&handle_, now, peer, word, inside::address(datagram, size), size, &step, octets);
+    }
+
+    /// The host sent an RTP packet at the moment `now`, with this RTP timestamp and `payload` octets of payload. Hands
+    /// out nothing.
+    /// Statuses: TAKEN; LEFT to TOO_MANY; IS_EMPTY.
+    std::uint32_t sent_rtp(std::uint64_t now, std::uint32_t timestamp, std::uint32_t payload, jalwedd_step& step,
+                           std::uint8_t (&octets)[JALWEDD_OCTETS]) noexcept
+    {
+        return jalwedd_sent_rtp(&handle_, now, timestamp, payload, &step, octets);
+    }
+
+    /// Hands out what is due at the moment `now`: nothing, a report, or, after a leave, the BYE. Call it at step.next.
+    /// Statuses: TAKEN; LEFT to TOO_MANY; IS_EMPTY.
+    std::uint32_t tick(std::uint64_t now, std::uint32_t first_word, std::uint32_t second_word, jalwedd_step& step,
+                       std::uint8_t (&octets)[JALWEDD_OCTETS]) noexcept
+    {
+        return jalwedd_tick(&handle_, now, first_word, second_word, &step, octets);
+    }
+
+    /// Leaves the session at the moment `now`. Hands out nothing, or the BYE: go on until step.next is JALWEDD_NEVER.
+    /// Statuses: TAKEN; LEFT to TOO_MANY; IS_EMPTY.
+    std::uint32_t leave(std::uint64_t now, std::uint32_t word, jalwedd_step& step,
+                        std::uint8_t (&octets)[JALWEDD_OCTETS]) noexcept
+    {
+        return jalwedd_leave(&handle_, now, word, &step, octets);
+    }
+
+    /// The members of the session, the participant included: 0 once it has left, and if it is empty.
+    [[nodiscard]] std::uint32_t members() noexcept { return jalwedd_members(&handle_); }
+
+    /// How many of the members send RTP packets: 0 from a leave on, and if it is empty.
+    [[nodiscard]] std::uint32_t senders() noexcept { return jalwedd_senders(&handle_); }
+
+    /// When to call tick, in microseconds since join: JALWEDD_NEVER once it has left, and if it is empty.
+    [[nodiscard]] std::uint64_t next() noexcept { return jalwedd_next(&handle_); }
+
+    /// Its SSRC: 0 if it is empty.
+    [[nodiscard]] std::uint32_t ssrc() noexcept { return jalwedd_ssrc(&handle_); }
+
+    /// How many sources it tells of, members or not: 0 once it leaves, and if it is empty.
+    [[nodiscard]] std::uint32_t entries() noexcept { return jalwedd_entries(&handle_); }
+
+    /// Gives what is known about the source with the lowest SSRC >= `from`, or leaves `source` as it is.
+    /// Statuses: TAKEN; NO_SOURCE.
+    [[nodiscard]] std::uint32_t source(std::uint64_t from, jalwedd_source_state& source) noexcept
+    {
+        return jalwedd_source(&handle_, from, &source);
+    }
+
+    /// What is known about each source (jalwedd_source_state), by rising SSRC: among members, sources that are not yet
+    /// valid, and those that left and are held for a while. None once the participant leaves, and if it is empty.
+    /// Not of a temporary, which would be gone before the range is used.
+    /// Its status: TAKEN; NO_SOURCE.
+    [[nodiscard]] range<inside::sources> sources() & noexcept
+    {
+        return range<inside::sources>(inside::sources{&handle_});
+    }
+
+    /// Whether this holds no participant.
+    [[nodiscard]] bool is_empty() const noexcept { return handle_.at == nullptr; }
+
+    /// The handle, to make calls of jalwedd.h. It remains this participant's: do not copy it.
+    [[nodiscard]] jalwedd_handle* handle() & noexcept { return &handle_; }
+
+private:
+    jalwedd_handle handle_ = JALWEDD_EMPTY;
+};
+
+/// An item for join, of a kind from 2 to 8 (jalwedd_item), or none if the text has more than 255 octets.
+[[nodiscard]] inline std::optional<jalwedd_item> item(std::uint8_t kind, std::string_view text) noexcept
+{
+    jalwedd_item made{};
+    if (text.size() > sizeof made.text)
+        return std::nullopt;
+    made.kind = kind;
+    for (const char octet : text)
+        made.text[made.size++] = static_cast<std::uint8_t>(octet);
+    return made;
+}
+
+/* ---- Listings */
+
+namespace inside {
+
+/* By rising SSRC. */
+struct changes {
+    using value_type = jalwedd_role_change;
+    const jalwedd_source_state* earlier = nullptr;
+    std::size_t earlier_count = 0;
+    const jalwedd_source_state* later = nullptr;
+    std::size_t later_count = 0;
+
+    std::uint32_t give(std::uint64_t from, value_type& change) const noexcept
+    {
+        return jalwedd_change(address(earlier, earlier_count), earlier_count, address(later, later_count), later_count,
+                              from, &change);
+    }
+
+    static std::uint64_t after(std::uint64_t, const value_type& change) noexcept
+    {
+        return std::uint64_t{change.ssrc} + 1;
+    }
+};
+
+} // namespace inside
+
+/// The sources whose roles differ between two listings (jalwedd_role_change), by rising SSRC. A listing is what
+/// participant::sources gave, one after the other.
+/// Its status: TAKEN; NO_CHANGE; NOT_RISING.
+[[nodiscard]] inline range<inside::changes> changes(const jalwedd_source_state* before, std::size_t before_count,
+                                                    const jalwedd_source_state* after,
+                                                    std::size_t after_count) noexcept
+{
+    return range<inside::changes>(inside::changes{before, before_count, after, after_count});
+}
+
+/* ---- Datagrams */
+
+/// An SDES item (RFC 3550, 6.5).
+struct sdes_item {
+    std::uint32_t ssrc = 0;  ///< the SSRC of the source that it describes
+    std::uint32_t kind = 0;  ///< CNAME 1, NAME 2, EMAIL 3, PHONE 4, LOC 5, TOOL 6, NOTE 7, PRIV 8, or another
+    std::string_view text{}; ///< 0 to 255 octets of the datagram: they need not be UTF-8, and no zero octet follows
+};
+
+/// A source that leaves (RFC 3550, 6.6).
+struct goodbye {
+    std::uint32_t ssrc = 0;                   ///< the SSRC of the source
+    std::optional<std::string_view> reason{}; ///< 0 to 255 octets of the datagram, if the BYE gives a reason
+};
+
+namespace inside {
+
+/* Parts of one kind, each by its index. */
+template <typename Part, auto function>
+struct parts {
+    using value_type = Part;
+    const std::uint8_t* datagram = nullptr;
+    std::size_t size = 0;
+
+    std::uint32_t give(std::uint64_t index, value_type& part) const noexcept
+    {
+        return function(address(datagram, size), size, static_cast<std::uint32_t>(index), &part);
+    }
+
+    static std::uint64_t after(std::uint64_t index, const value_type&) noexcept { return index + 1; }
+};
+
+/* Octets of a datagram as text. */
+inline std::string_view text_at(const std::uint8_t* datagram, std::uint64_t offset, std::uint64_t size) noexcept
+{
+    return {reinterpret_cast<const char*>(datagram) + offset, static_cast<std::size_t>(size)};
+}
+
+inline std::uint32_t sdes_item_at(const std::uint8_t* datagram, std::size_t size, std::uint32_t index,
+                                  sdes_item* item) noexcept
+{
+    jalwedd_item_place place{};
+    const std::uint32_t status = jalwedd_sdes_item(datagram, size, index, &place);
+    if (status == JALWEDD_TAKEN)
+        *item = {place.ssrc, place.kind, text_at(datagram, place.offset, place.size)};
+    return status;
+}
+
+inline std::uint32_t goodbye_at(const std::uint8_t* datagram, std::size_t size, std::uint32_t index,
+                                goodbye* source) noexcept
+{
+    jalwedd_goodbye_place place{};
+    const std::uint32_t status = jalwedd_goodbye(datagram, size, index, &place);
+    if (status != JALWEDD_TAKEN)
+        return status;
+    *source = {place.ssrc, std::nullopt};
+    if (place.has_reason != 0)
+        source->reason = text_at(datagram, place.offset, place.size);
+    return status;
+}
+
+/* The blocks about a source, each by its index. */
+struct about {
+    using value_type = jalwedd_report;
+    const std::uint8_t* datagram = nullptr;
+    std::size_t size = 0;
+    std::uint32_t ssrc = 0;
+
+    std::uint32_t give(std::uint64_t index, value_type& report) const noexcept
+    {
+        return jalwedd_about(address(datagram, size), size, ssrc, static_cast<std::uint32_t>(index), &report);
+    }
+
+    static std::uint64_t after(std::uint64_t index, const value_type&) noexcept { return index + 1; }
+};
+
+using senders = parts<jalwedd_sender_info, jalwedd_sender>;
+using blocks = parts<jalwedd_report, jalwedd_block>;
+using sdes_items = parts<sdes_item, sdes_item_at>;
+using goodbyes = parts<goodbye, goodbye_at>;
+
+} // namespace inside
+
+/// Accepts a datagram that is a compound (RFC 3550, 6.1), leaving `fault` as it is, or gives its first fault.
+/// Statuses: TAKEN; NO_COMPOUND.
+[[nodiscard]] inline std::uint32_t check(const std::uint8_t* datagram, std::size_t size, jalwedd_fault& fault) noexcept
+{
+    return jalwedd_check(inside::address(datagram, size), size, &fault);
+}
+
+/// What the reports of a datagram say about the source `ssrc` (jalwedd_report): the blocks about it, in their order.
+/// Its status: TAKEN; NO_COMPOUND; NO_BLOCK.
+[[nodiscard]] inline range<inside::about> about(const std::uint8_t* datagram, std::size_t size,
+                                                std::uint32_t ssrc) noexcept
+{
+    return range<inside::about>(inside::about{datagram, size, ssrc});
+}
+
+/// The sender reports of a datagram (jalwedd_sender_info), in their order.
+/// Its status: TAKEN; NO_COMPOUND; NO_PART.
+[[nodiscard]] inline range<inside::senders> senders(const std::uint8_t* datagram, std::size_t size) noexcept
+{
+    return range<inside::senders>(inside::senders{datagram, size});
+}
+
+/// The blocks of all reports of a datagram (jalwedd_report), in their order.
+/// Its status: TAKEN; NO_COMPOUND; NO_PART.
+[[nodiscard]] inline range<inside::blocks> blocks(const std::uint8_t* datagram, std::size_t size) noexcept
+{
+    return range<inside::blocks>(inside::blocks{datagram, size});
+}
+
+/// The items of all source descriptions of a datagram (sdes_item), in their order.
+/// Its status: TAKEN; NO_COMPOUND; NO_PART.
+[[nodiscard]] inline range<inside::sdes_items> sdes_items(const std::uint8_t* datagram, std::size_t size) noexcept
+{
+    return range<inside::sdes_items>(inside::sdes_items{datagram, size});
+}
+
+/// The sources that the BYEs of a datagram name (goodbye), in their order.
+/// Its status: TAKEN; NO_COMPOUND; NO_PART.
+[[nodiscard]] inline range<inside::goodbyes> goodbyes(const std::uint8_t* datagram, std::size_t size) noexcept
+{
+    return range<inside::goodbyes>(inside::goodbyes{datagram, size});
+}
+
+} // namespace jalwedd
+
+#endif
