@@ -55,9 +55,9 @@ extern "C" {
 
 #define JALWEDD_VERSION_MAJOR 0
 #define JALWEDD_VERSION_MINOR 2
-#define JALWEDD_VERSION_PATCH 2
+#define JALWEDD_VERSION_PATCH 3
 
-/* The version of the linked library: 0x000202 for 0.2.2. */
+/* The version of the linked library: 0x000203 for 0.2.3. */
 uint32_t jalwedd_version(void);
 
 /* ---- Statuses. Two of them have two names, of which a switch can use only one: NO_BLOCK or NO_PART, and NO_SOURCE or
