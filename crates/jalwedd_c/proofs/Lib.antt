@@ -5,3 +5,4 @@ mod Options
 mod Listing
 mod Turns
 mod Held
+mod HeadPlaces

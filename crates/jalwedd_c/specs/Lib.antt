@@ -5,5 +5,6 @@ pub mod Answers
 pub mod Configs
 pub mod Readings
 pub mod Parts
+pub mod Heads
 pub mod Sources
 pub mod Changes

@@ -22,7 +22,7 @@ use arrayvec::ArrayVec;
 use std::alloc::Global;
 
 /// The most octets of a UDP datagram.
-const LONGEST: usize = 65_535;
+pub(crate) const LONGEST: usize = 65_535;
 
 /// An RTCP datagram came at the moment `now`, in microseconds since the session began, with the octets that UDP
 /// carried, at most 65,535. `peer` is a number for where it came from, which two peers do not share, and `word` a random

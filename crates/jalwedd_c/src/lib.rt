@@ -3,10 +3,10 @@
 //! and writes a [`Step`] whatever that is. docs/EMBEDDING.md shows a host.
 //!
 //! Statuses: 0 taken; 1 to 7 a call that the participant refused, by E1 to E7, of which 5 is also a datagram
-//! that is not a compound; 8 no such block, or no such other part of a datagram; 9 no such source, or no other one
-//! that changed; 10 a listing whose SSRCs do not rise; 11 to 16 a configuration that is refused, by C1 to C6;
-//! 20 a handle that holds no participant; 21 one that already holds one; 22 no memory; 23 an RTP datagram of more
-//! octets than UDP carries.
+//! that is not a compound, and 6 one without a valid RTP head; 8 no such block, or no such other part of a
+//! datagram; 9 no such source, or no other one that changed; 10 a listing whose SSRCs do not rise; 11 to 16 a
+//! configuration that is refused, by C1 to C6; 20 a handle that holds no participant; 21 one that already holds one;
+//! 22 no memory; 23 an RTP datagram of more octets than UDP carries.
 //!
 //! C callers are not proved, so no call has preconditions on values: moments out of order, too many calls and bad
 //! configurations are statuses. What a caller must ensure, and nothing tests: pointers are valid for the sizes given;
@@ -21,6 +21,7 @@ mod calls;
 mod change;
 mod config;
 mod handle;
+mod head;
 pub mod laws;
 mod owned;
 mod parts;
@@ -37,6 +38,7 @@ mod views;
 pub use change::RoleChange;
 pub use config::{Config, Item};
 pub use handle::Handle;
+pub use head::HeadPlace;
 pub use owned::Owned;
 pub use parts::{GoodbyePlace, ItemPlace, SenderInfo};
 pub use reading::{Fault, Report};

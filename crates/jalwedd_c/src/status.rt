@@ -12,6 +12,9 @@ pub(crate) const TAKEN: u32 = 0;
 /// The datagram is not a compound.
 pub(crate) const NO_COMPOUND: u32 = 5;
 
+/// The datagram has no RTP head.
+pub(crate) const NO_RTP: u32 = 6;
+
 /// There is no such block.
 pub(crate) const NO_BLOCK: u32 = 8;
 
@@ -55,7 +58,7 @@ pub(crate) fn of_refusal(refusal: &Refusal) -> u32
         Refusal::TooFar => 3,
         Refusal::TooMany => 4,
         Refusal::Wire(_) => NO_COMPOUND,
-        Refusal::Rtp(_) => 6,
+        Refusal::Rtp(_) => NO_RTP,
         Refusal::OwnSsrc => 7,
     }
 }

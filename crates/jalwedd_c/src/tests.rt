@@ -15,6 +15,7 @@ use std::alloc::Global;
 use std::test::*;
 
 mod changes;
+mod heads;
 
 const CONFIG: Config = Config {
     ntp_base: 0,

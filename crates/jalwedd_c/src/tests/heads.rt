@@ -1,0 +1,86 @@
+//! The heads of RTP datagrams, made by hand by RFC 3550, 5.1 and 5.3.1.
+
+use super::*;
+use crate::head::jalwedd_rtp_head;
+use std::process::Abort;
+
+/// What no call wrote.
+const UNTOLD: HeadPlace = HeadPlace {
+    csrcs_offset: 99,
+    payload_offset: 99,
+    payload_size: 99,
+    ssrc: 99,
+    timestamp: 99,
+    sequence: 99,
+    payload_type: 99,
+    marker: 99,
+    csrcs: 99,
+};
+
+/// Packet 0x102 of source 9, of payload type 96 with the marker: two CSRCs, an extension of one word, a payload of
+/// three octets, and two octets of padding.
+const WHOLE: [u8; 33] = [
+    0xb2, 0xe0, 0x01, 0x02, 0x00, 0x00, 0x10, 0x00, 0x00, 0x00, 0x00, 0x09, 0x00, 0x00, 0x00, 0x05,
+    0xff, 0x00, 0x00, 0x06, 0xbe, 0xde, 0x00, 0x01, 0x10, 0xaa, 0x00, 0x00, 0xa1, 0xa2, 0xa3, 0x00,
+    0x02,
+];
+
+/// A head with nothing after it: packet 1 of source 10, of payload type 0.
+const BARE: [u8; 12] = [
+    0x80, 0x00, 0x00, 0x01, 0xff, 0xff, 0xff, 0xff, 0x00, 0x00, 0x00, 0x0a,
+];
+
+fn told(rt: &impl Abort, datagram: &[u8]) -> HeadPlace {
+    let mut head = UNTOLD;
+    assert_eq!(rt; jalwedd_rtp_head(datagram, &mut head), 0);
+    head
+}
+
+#[test]
+fn whole(rt: HostRuntime) {
+    let wanted = HeadPlace {
+        csrcs_offset: 12,
+        payload_offset: 28,
+        payload_size: 3,
+        ssrc: 9,
+        timestamp: 0x1000,
+        sequence: 0x102,
+        payload_type: 96,
+        marker: 1,
+        csrcs: 2,
+    };
+    assert!(rt; told(&rt, &WHOLE) == wanted);
+}
+
+#[test]
+fn bare(rt: HostRuntime) {
+    let wanted = HeadPlace {
+        csrcs_offset: 12,
+        payload_offset: 12,
+        payload_size: 0,
+        ssrc: 10,
+        timestamp: 0xffff_ffff,
+        sequence: 1,
+        payload_type: 0,
+        marker: 0,
+        csrcs: 0,
+    };
+    assert!(rt; told(&rt, &BARE) == wanted);
+}
+
+/// Cut short, of version 1, of a reserved type, and one octet too long for UDP.
+#[test]
+fn refused(rt: HostRuntime) {
+    let (short, version, reserved) = (
+        &WHOLE[..11],
+        [0x40; 12],
+        [0x80, 0xc8, 0, 0, 0, 0, 0, 0, 0, 0, 0, 0],
+    );
+    let mut head = UNTOLD;
+    assert_eq!(rt; jalwedd_rtp_head(short, &mut head), 6);
+    assert_eq!(rt; jalwedd_rtp_head(&version, &mut head), 6);
+    assert_eq!(rt; jalwedd_rtp_head(&reserved, &mut head), 6);
+    assert_eq!(rt; jalwedd_rtp_head(&[], &mut head), 6);
+    assert_eq!(rt; jalwedd_rtp_head(&[0x80; 65_536], &mut head), 23);
+    assert!(rt; head == UNTOLD);
+}
