@@ -6,3 +6,4 @@ mod Listing
 mod Turns
 mod Held
 mod HeadPlaces
+mod AppSteps

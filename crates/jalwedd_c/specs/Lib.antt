@@ -6,5 +6,6 @@ pub mod Configs
 pub mod Readings
 pub mod Parts
 pub mod Heads
+pub mod Apps
 pub mod Sources
 pub mod Changes

@@ -16,6 +16,7 @@
 //! Memory comes from three functions that the host may replace (package/memory.c). Only `jalwedd_new` allocates.
 #![tactic(auto)]
 
+mod app;
 mod begin;
 mod calls;
 mod change;
@@ -35,6 +36,7 @@ mod step;
 mod tests;
 mod views;
 
+pub use app::AppPlace;
 pub use change::RoleChange;
 pub use config::{Config, Item};
 pub use handle::Handle;

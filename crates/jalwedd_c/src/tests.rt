@@ -14,6 +14,7 @@ use crate::views::{
 use std::alloc::Global;
 use std::test::*;
 
+mod apps;
 mod changes;
 mod heads;
 
