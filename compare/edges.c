@@ -167,6 +167,8 @@ static int sizes(void)
     jalwedd_sender_info sender;
     jalwedd_item_place item;
     jalwedd_goodbye_place goodbye;
+    jalwedd_app_place app;
+    jalwedd_head_place head;
     uint8_t octets[JALWEDD_OCTETS] = {0};
     uint8_t *end = before_guard(), *padded = end - sizeof PADDED;
     const jalwedd_item *items = (const jalwedd_item *)(end - sizeof(jalwedd_item));
@@ -190,12 +192,17 @@ static int sizes(void)
         HOLDS(jalwedd_block(padded, most[at], 0, &report) == JALWEDD_NO_COMPOUND);
         HOLDS(jalwedd_sdes_item(padded, most[at], 0, &item) == JALWEDD_NO_COMPOUND);
         HOLDS(jalwedd_goodbye(padded, most[at], 0, &goodbye) == JALWEDD_NO_COMPOUND);
+        HOLDS(jalwedd_app(padded, most[at], 0, &app) == JALWEDD_NO_COMPOUND);
+        HOLDS(jalwedd_rtp_head(padded, most[at], &head) == JALWEDD_TOO_LONG);
     }
+    HOLDS(jalwedd_rtp_head(padded, sizeof PADDED, &head) == JALWEDD_TAKEN);
+    HOLDS(head.ssrc == 7 && head.payload_offset == 12 && head.payload_size == 0);
     /* moment 9 was that of no call that was taken; and 65,535 octets are still read, up to the last: with the first one
      * the packet is of version 2 and says that it is padded, and the last one says by 4 */
     end[-65535] = 0xa0;
     HOLDS(jalwedd_arrive_rtp(&handle, 0, 1, 0, end - 65535, 65535, &step, octets) == JALWEDD_TAKEN);
     HOLDS(step.entries == 2);
+    HOLDS(jalwedd_rtp_head(end - 65535, 65535, &head) == JALWEDD_TAKEN && head.payload_size == 65519);
     HOLDS(jalwedd_arrive_rtcp(&handle, 0, 1, 0, end - 65535, 65535, &step, octets) == JALWEDD_NO_COMPOUND);
     HOLDS(jalwedd_free(&handle) == JALWEDD_TAKEN);
     return 0;
@@ -257,7 +264,46 @@ static int parts(void)
     return 0;
 }
 
-/* Of a datagram that is refused, and of one of 0 octets, no part is told. */
+/* The APP packets of a datagram: after an RR of 7, one of 7 with the name "qtsi", a word of data and a word of padding,
+ * and, after an SDES, one of 9 with the name "none" and no data. */
+static int apps(void)
+{
+    static const uint8_t datagram[] = {
+        0x80, 0xc9, 0, 1, 0, 0, 0, 7,
+        0xa5, 0xcc, 0, 4, 0, 0, 0, 7, 'q', 't', 's', 'i', 1, 2, 3, 4, 0, 0, 0, 4,
+        0x81, 0xca, 0, 2, 0, 0, 0, 7, 1, 1, 'a', 0,
+        0x80, 0xcc, 0, 2, 0, 0, 0, 9, 'n', 'o', 'n', 'e'};
+    jalwedd_app_place app;
+    HOLDS(jalwedd_app(datagram, sizeof datagram, 0, &app) == JALWEDD_TAKEN && app.ssrc == 7 && app.subtype == 5);
+    HOLDS(memcmp(app.name, "qtsi", 4) == 0 && app.offset == 20 && app.size == 4 && datagram[app.offset] == 1);
+    HOLDS(jalwedd_app(datagram, sizeof datagram, 1, &app) == JALWEDD_TAKEN && app.ssrc == 9 && app.subtype == 0);
+    HOLDS(memcmp(app.name, "none", 4) == 0 && app.offset == sizeof datagram && app.size == 0);
+    HOLDS(jalwedd_app(datagram, sizeof datagram, 2, &app) == JALWEDD_NO_PART && app.ssrc == 9);
+    HOLDS(jalwedd_app(datagram, sizeof datagram, UINT32_MAX, &app) == JALWEDD_NO_PART && app.ssrc == 9);
+    HOLDS(jalwedd_app(OF_SEVEN, sizeof OF_SEVEN, 0, &app) == JALWEDD_NO_PART && app.ssrc == 9);
+    return 0;
+}
+
+/* The head of an RTP datagram of 9: with the marker, two CSRCs, an extension of one word, a payload of three octets,
+ * and padding of two. */
+static int heads(void)
+{
+    static const uint8_t datagram[] = {
+        0xb2, 0xe0, 1, 2, 0, 0, 0x10, 0, 0, 0, 0, 9, 0, 0, 0, 5, 0xff, 0, 0, 6,
+        0xbe, 0xde, 0, 1, 0x10, 0xaa, 0, 0, 0xa1, 0xa2, 0xa3, 0, 2};
+    static const uint8_t version[12] = {0x40};
+    jalwedd_head_place head;
+    HOLDS(jalwedd_rtp_head(datagram, sizeof datagram, &head) == JALWEDD_TAKEN);
+    HOLDS(head.payload_type == 96 && head.marker == 1 && head.sequence == 0x102 && head.timestamp == 0x1000);
+    HOLDS(head.ssrc == 9 && head.csrcs == 2 && head.csrcs_offset == 12 && datagram[head.csrcs_offset + 4] == 0xff);
+    HOLDS(head.payload_offset == 28 && head.payload_size == 3 && datagram[head.payload_offset] == 0xa1);
+    head.ssrc = 99;
+    HOLDS(jalwedd_rtp_head(datagram, 11, &head) == JALWEDD_NO_RTP && head.ssrc == 99);
+    HOLDS(jalwedd_rtp_head(version, sizeof version, &head) == JALWEDD_NO_RTP && head.ssrc == 99);
+    return 0;
+}
+
+/* Of a datagram that is refused, and of one of 0 octets, no part is told, and no head. */
 static int no_parts(void)
 {
     uint8_t *cut = malloc(18), *none = calloc(1, 1);
@@ -265,6 +311,8 @@ static int no_parts(void)
     jalwedd_report report = {.ssrc = 99};
     jalwedd_item_place item = {.ssrc = 99};
     jalwedd_goodbye_place goodbye = {.ssrc = 99};
+    jalwedd_app_place app = {.ssrc = 99};
+    jalwedd_head_place head = {.ssrc = 99};
     memcpy(cut, OF_SEVEN, 18);
     for (size_t size = 0; size <= 18; size += 18) {
         const uint8_t *datagram = size == 0 ? none : cut;
@@ -272,6 +320,8 @@ static int no_parts(void)
         HOLDS(jalwedd_block(datagram, size, 0, &report) == JALWEDD_NO_COMPOUND && report.ssrc == 99);
         HOLDS(jalwedd_sdes_item(datagram, size, 0, &item) == JALWEDD_NO_COMPOUND && item.ssrc == 99);
         HOLDS(jalwedd_goodbye(datagram, size, 0, &goodbye) == JALWEDD_NO_COMPOUND && goodbye.ssrc == 99);
+        HOLDS(jalwedd_app(datagram, size, 0, &app) == JALWEDD_NO_COMPOUND && app.ssrc == 99);
+        HOLDS(jalwedd_rtp_head(datagram, size, &head) == JALWEDD_NO_RTP && head.ssrc == 99);
     }
     free(cut);
     free(none);
@@ -396,6 +446,6 @@ static int memory(void)
 
 int main(void)
 {
-    return empty() || begun() || lengths() || sizes() || reports() || parts() || no_parts() || sources() || changes()
-           || listings() || memory();
+    return empty() || begun() || lengths() || sizes() || reports() || parts() || apps() || heads() || no_parts()
+           || sources() || changes() || listings() || memory();
 }

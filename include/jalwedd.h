@@ -76,7 +76,7 @@ enum {
     JALWEDD_OWN_SSRC = 7,       /* E7: the datagram uses our SSRC, and its peer may not change it (again) (8.2) */
 
     JALWEDD_NO_BLOCK = 8,       /* jalwedd_about: there is no such block */
-    JALWEDD_NO_PART = 8,        /* jalwedd_sender, _block, _sdes_item, _goodbye: no such part */
+    JALWEDD_NO_PART = 8,        /* jalwedd_sender, _block, _sdes_item, _goodbye, _app: no such part */
     JALWEDD_NO_SOURCE = 9,      /* jalwedd_source: there is no such source */
     JALWEDD_NO_CHANGE = 9,      /* jalwedd_change: no further source changed its role */
     JALWEDD_NOT_RISING = 10,    /* jalwedd_change: the SSRCs of a listing do not rise */
@@ -93,7 +93,7 @@ enum {
     JALWEDD_IS_EMPTY = 20,      /* the handle holds no participant */
     JALWEDD_IS_LIVE = 21,       /* jalwedd_new: the handle holds a participant already */
     JALWEDD_NO_MEMORY = 22,     /* jalwedd_new: there is no memory */
-    JALWEDD_TOO_LONG = 23       /* jalwedd_arrive_rtp: no UDP datagram has more than 65,535 octets */
+    JALWEDD_TOO_LONG = 23       /* jalwedd_arrive_rtp, _rtp_head: no UDP datagram has more than 65,535 octets */
 };
 
 /* A short text for each status, and for any other number. Two statuses with the same number share a text. */
@@ -225,6 +225,28 @@ typedef struct jalwedd_goodbye_place {
     uint32_t ssrc;          /* the SSRC of the source */
     uint32_t has_reason;    /* 1 if the BYE gives a reason, even one of 0 octets, otherwise 0 */
 } jalwedd_goodbye_place;
+
+/* A packet that an application defines (6.7), and where its data are in the datagram. */
+typedef struct jalwedd_app_place {
+    uint64_t offset;        /* the offset of the data, in octets */
+    uint64_t size;          /* the octets of the data, a multiple of 4, without the padding after them */
+    uint32_t ssrc;          /* the SSRC of the source that sent it */
+    uint32_t subtype;       /* its subtype, 0 to 31 */
+    uint8_t name[4];        /* its name, usually ASCII: no zero octet follows it */
+} jalwedd_app_place;
+
+/* The head of an RTP datagram (5.1), and where its CSRCs and its payload are in the datagram. */
+typedef struct jalwedd_head_place {
+    uint64_t csrcs_offset;  /* the offset of the CSRCs, in octets: 12, even if there are none */
+    uint64_t payload_offset; /* the offset of the payload, after the CSRCs and the header extension */
+    uint64_t payload_size;  /* the octets of the payload, without the padding after it; may be 0 */
+    uint32_t ssrc;          /* the SSRC of the source that sent it */
+    uint32_t timestamp;     /* its timestamp, in units of the clock of its payload type */
+    uint32_t sequence;      /* its sequence number, 0 to 65,535 */
+    uint32_t payload_type;  /* its payload type, 0 to 127, but none of 72 to 76 (RFC 3551, 6) */
+    uint32_t marker;        /* 1 if the marker bit is set, otherwise 0 */
+    uint32_t csrcs;         /* how many CSRCs it has, of four octets each, in network order: 0 to 15 */
+} jalwedd_head_place;
 
 /* What is known about a source. */
 typedef struct jalwedd_source_state {
@@ -361,13 +383,21 @@ uint32_t jalwedd_check(const uint8_t *datagram, size_t size, jalwedd_fault *faul
 uint32_t jalwedd_about(const uint8_t *datagram, size_t size, uint32_t ssrc, uint32_t index, jalwedd_report *report);
 
 /* Each gives the part of one kind at `index`, from 0 on, in the order of the datagram: of its sender reports, of the
- * blocks of all its reports, of the items of all its source descriptions, and of the sources that its BYEs name. Go on
- * with 0, 1, .. until the status is not TAKEN: then each was given once. The output is left as it is then.
+ * blocks of all its reports, of the items of all its source descriptions, of the sources that its BYEs name, and of its
+ * APP packets. Go on with 0, 1, .. until the status is not TAKEN: then each was given once. The output is left as it is
+ * then.
  * Statuses: TAKEN; NO_COMPOUND; NO_PART. */
 uint32_t jalwedd_sender(const uint8_t *datagram, size_t size, uint32_t index, jalwedd_sender_info *sender);
 uint32_t jalwedd_block(const uint8_t *datagram, size_t size, uint32_t index, jalwedd_report *report);
 uint32_t jalwedd_sdes_item(const uint8_t *datagram, size_t size, uint32_t index, jalwedd_item_place *item);
 uint32_t jalwedd_goodbye(const uint8_t *datagram, size_t size, uint32_t index, jalwedd_goodbye_place *goodbye);
+uint32_t jalwedd_app(const uint8_t *datagram, size_t size, uint32_t index, jalwedd_app_place *app);
+
+/* Gives what the head of an RTP datagram says, and where its CSRCs and its payload are (5.1, 5.3.1): what
+ * jalwedd_arrive_rtp reads, which need not be called for it. `head` is left as it is if the status is not TAKEN. Of a
+ * datagram of more than 65,535 octets nothing is read.
+ * Statuses: TAKEN; TOO_LONG; NO_RTP. */
+uint32_t jalwedd_rtp_head(const uint8_t *datagram, size_t size, jalwedd_head_place *head);
 
 /* The round-trip time by a report, in 1/65,536 of a second and modulo 2^32: `arrival` is the middle 32 bits of the NTP
  * timestamp of the moment at which it came, (uint32_t)(jalwedd_ntp_of(ntp_base, now) >> 16). A report whose lsr is 0
