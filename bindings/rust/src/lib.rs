@@ -57,8 +57,8 @@
 //! With media, the host also calls [`arrive_rtp`](Participant::arrive_rtp) for each RTP datagram that comes,
 //! and [`sent_rtp`](Participant::sent_rtp) for each RTP packet that it sends.
 //! [`sources`](Participant::sources) lists the sources, and [`changes`] says who joined or left between two
-//! listings. [`about`] reads from a datagram how others receive the host's stream, [`items`] their names, and
-//! [`senders`] what lip sync needs. [`record`] writes the calls of a session as `rtcp replay` reads them. The
+//! listings. [`about`] reads from a datagram how others receive the host's stream, [`items`] their names,
+//! [`senders`] what lip sync needs, and [`rtp_head`] the head of a packet with media. [`record`] writes the calls of a session as `rtcp replay` reads them. The
 //! example `player` shows all of this.
 //!
 //! # Arguments
@@ -102,6 +102,7 @@ mod clock;
 mod config;
 mod datagram;
 mod errors;
+mod head;
 mod moment;
 mod participant;
 mod parts;
@@ -119,7 +120,8 @@ pub use clock::Clock;
 pub use config::{Config, Item, ItemKind};
 pub use datagram::{about, check, ntp_of, round_trip, Report, Reports};
 pub use errors::{Fault, FaultReason, NewError, NotRising, Refusal, TextTooLong};
+pub use head::{rtp_head, RtpHead};
 pub use moment::Moment;
 pub use participant::Participant;
-pub use parts::{blocks, goodbyes, items, senders, Goodbye, Parts, SdesItem, SenderReport};
+pub use parts::{apps, blocks, goodbyes, items, senders, App, Goodbye, Parts, SdesItem, SenderReport};
 pub use sources::{Reception, SourceState, Sources, Told};

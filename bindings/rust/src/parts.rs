@@ -41,7 +41,7 @@ pub fn blocks(datagram: &[u8]) -> Result<Parts<'_, Report>, Fault> {
 pub fn items(datagram: &[u8]) -> Result<Parts<'_, SdesItem<'_>>, Fault> {
     Parts::of(datagram, |datagram, index| {
         let told = raw::sdes_item(datagram, index)?;
-        let text = text_at(datagram, told.offset, told.size);
+        let text = octets_at(datagram, told.offset, told.size);
         Some(SdesItem { ssrc: told.ssrc, kind: told.kind, text })
     })
 }
@@ -54,13 +54,25 @@ pub fn items(datagram: &[u8]) -> Result<Parts<'_, SdesItem<'_>>, Fault> {
 pub fn goodbyes(datagram: &[u8]) -> Result<Parts<'_, Goodbye<'_>>, Fault> {
     Parts::of(datagram, |datagram, index| {
         let told = raw::goodbye(datagram, index)?;
-        let reason = (told.has_reason == 1).then(|| text_at(datagram, told.offset, told.size));
+        let reason = (told.has_reason == 1).then(|| octets_at(datagram, told.offset, told.size));
         Some(Goodbye { ssrc: told.ssrc, reason })
     })
 }
 
-/// The parts of one kind of a datagram, in their order, each once: see [`senders`], [`blocks`], [`items`] and
-/// [`goodbyes`].
+/// The APP packets of an RTCP datagram, which applications define, in their order (RFC 3550, 6.7).
+///
+/// # Errors
+///
+/// The first [`Fault`] of a datagram that is not a compound.
+pub fn apps(datagram: &[u8]) -> Result<Parts<'_, App<'_>>, Fault> {
+    Parts::of(datagram, |datagram, index| {
+        let sys::jalwedd_app_place { offset, size, ssrc, subtype, name } = raw::app(datagram, index)?;
+        Some(App { ssrc, subtype, name, data: octets_at(datagram, offset, size) })
+    })
+}
+
+/// The parts of one kind of a datagram, in their order, each once: see [`senders`], [`blocks`], [`items`],
+/// [`goodbyes`] and [`apps`].
 #[derive(Clone)]
 pub struct Parts<'a, T> {
     datagram: &'a [u8],
@@ -129,6 +141,19 @@ pub struct Goodbye<'a> {
     pub reason: Option<&'a [u8]>,
 }
 
-fn text_at(datagram: &[u8], offset: u64, size: u64) -> &[u8] {
+/// A packet that an application defines (RFC 3550, 6.7).
+#[derive(Clone, Copy, Debug, PartialEq, Eq, Hash)]
+pub struct App<'a> {
+    /// The SSRC of the source that sent it.
+    pub ssrc: u32,
+    /// Its subtype, 0 to 31.
+    pub subtype: u32,
+    /// Its name, usually ASCII.
+    pub name: [u8; 4],
+    /// Its data, a multiple of 4 octets, without the padding after them.
+    pub data: &'a [u8],
+}
+
+pub(crate) fn octets_at(datagram: &[u8], offset: u64, size: u64) -> &[u8] {
     &datagram[offset as usize..][..size as usize]
 }

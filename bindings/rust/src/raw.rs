@@ -171,7 +171,11 @@ pub(crate) fn goodbye(datagram: &[u8], index: u32) -> Option<sys::jalwedd_goodby
     part(sys::jalwedd_goodbye, datagram, index)
 }
 
-/// The part at `index` of those that the call tells, if there is one. The call is one of the four above.
+pub(crate) fn app(datagram: &[u8], index: u32) -> Option<sys::jalwedd_app_place> {
+    part(sys::jalwedd_app, datagram, index)
+}
+
+/// The part at `index` of those that the call tells, if there is one. The call is one of the five above.
 fn part<T: Default>(
     call: unsafe extern "C" fn(*const u8, usize, u32, *mut T) -> u32,
     datagram: &[u8],
@@ -182,6 +186,14 @@ fn part<T: Default>(
         unsafe { call(datagram.as_ptr(), datagram.len(), index, part) }
     })
     .ok()
+}
+
+/// The head of an RTP datagram, or the status that refuses it.
+pub(crate) fn rtp_head(datagram: &[u8]) -> Result<sys::jalwedd_head_place, u32> {
+    taken(|head| {
+        // SAFETY: VALID, APART
+        unsafe { sys::jalwedd_rtp_head(datagram.as_ptr(), datagram.len(), head) }
+    })
 }
 
 /// What a call writes that is taken, or its status.

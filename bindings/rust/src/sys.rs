@@ -139,6 +139,30 @@ pub struct jalwedd_goodbye_place {
 
 #[repr(C)]
 #[derive(Clone, Copy, Debug, Default)]
+pub struct jalwedd_app_place {
+    pub offset: u64,
+    pub size: u64,
+    pub ssrc: u32,
+    pub subtype: u32,
+    pub name: [u8; 4],
+}
+
+#[repr(C)]
+#[derive(Clone, Copy, Debug, Default)]
+pub struct jalwedd_head_place {
+    pub csrcs_offset: u64,
+    pub payload_offset: u64,
+    pub payload_size: u64,
+    pub ssrc: u32,
+    pub timestamp: u32,
+    pub sequence: u32,
+    pub payload_type: u32,
+    pub marker: u32,
+    pub csrcs: u32,
+}
+
+#[repr(C)]
+#[derive(Clone, Copy, Debug, Default)]
 pub struct jalwedd_source_state {
     pub heard: u64,
     pub left: u64,
@@ -293,6 +317,10 @@ unsafe extern "C" {
         index: u32,
         goodbye: *mut jalwedd_goodbye_place,
     ) -> u32;
+
+    pub fn jalwedd_app(datagram: *const u8, size: usize, index: u32, app: *mut jalwedd_app_place) -> u32;
+
+    pub fn jalwedd_rtp_head(datagram: *const u8, size: usize, head: *mut jalwedd_head_place) -> u32;
 
     // these two take numbers alone, so that any call of them is safe
     pub safe fn jalwedd_round_trip(arrival: u32, lsr: u32, dlsr: u32) -> u32;

@@ -1,8 +1,8 @@
 //! What datagrams say, and the formulas of times.
 
 use jalwedd::{
-    about, blocks, check, goodbyes, items, ntp_of, round_trip, senders, Fault, FaultReason, Goodbye, Moment,
-    Report, SdesItem, SenderReport,
+    about, apps, blocks, check, goodbyes, items, ntp_of, round_trip, rtp_head, senders, App, Fault,
+    FaultReason, Goodbye, Moment, Refusal, Report, SdesItem, SenderReport,
 };
 use std::time::Duration;
 
@@ -118,10 +118,54 @@ fn goodbyes_tell_no_reason_from_an_empty_one() {
     assert_eq!(told, [(9, Some(&b"c"[..])), (7, Some(b"c")), (5, Some(b"")), (4, None)]);
 }
 
+/// An RR of 7, an APP packet of it named "qtsi", with one word of data and a word of padding, its CNAME, and an
+/// APP packet of 9 named "none", without data.
+const APPS: [u8; 52] = [
+    0x80, 0xc9, 0, 1, 0, 0, 0, 7, // the RR
+    0xa5, 0xcc, 0, 4, 0, 0, 0, 7, b'q', b't', b's', b'i', 1, 2, 3, 4, 0, 0, 0, 4, // the first
+    0x81, 0xca, 0, 2, 0, 0, 0, 7, 1, 1, 0x61, 0, // its CNAME
+    0x80, 0xcc, 0, 2, 0, 0, 0, 9, b'n', b'o', b'n', b'e', // the second
+];
+
+#[test]
+fn packets_of_applications_borrow_their_data() {
+    let first = App { ssrc: 7, subtype: 5, name: *b"qtsi", data: &[1, 2, 3, 4] };
+    let second = App { ssrc: 9, subtype: 0, name: *b"none", data: &[] };
+    assert_eq!(apps(&APPS).unwrap().collect::<Vec<_>>(), [first, second]);
+    assert_eq!(apps(&TWO_BLOCKS).unwrap().next(), None);
+}
+
+/// Packet 0x102 of source 9, of payload type 96 with the marker: two CSRCs, an extension of one word, a payload
+/// of three octets, and two octets of padding.
+const RTP: [u8; 33] = [
+    0xb2, 0xe0, 1, 2, 0, 0, 0x10, 0, 0, 0, 0, 9, // the fixed part
+    0, 0, 0, 5, 0xff, 0, 0, 6, // the CSRCs
+    0xbe, 0xde, 0, 1, 0x10, 0xaa, 0, 0, // the extension
+    0xa1, 0xa2, 0xa3, 0, 2, // payload and padding
+];
+
+#[test]
+fn a_head_tells_its_fields_and_borrows_its_payload() {
+    let head = rtp_head(&RTP).unwrap();
+    assert_eq!((head.payload_type, head.marker, head.sequence), (96, true, 0x102));
+    assert_eq!((head.timestamp, head.ssrc, head.payload), (0x1000, 9, &[0xa1, 0xa2, 0xa3][..]));
+    assert_eq!(head.csrcs().collect::<Vec<_>>(), [5, 0xff00_0006]);
+    let bare = rtp_head(&[0x80, 0x60, 0, 0, 0, 0, 0, 0, 0, 0, 0, 1]).unwrap();
+    assert_eq!((bare.marker, bare.payload, bare.csrcs().len()), (false, &[][..], 0));
+}
+
+#[test]
+fn a_head_that_is_refused_tells_nothing() {
+    assert_eq!(rtp_head(&RTP[..11]), Err(Refusal::NoRtp));
+    assert_eq!(rtp_head(&[]), Err(Refusal::NoRtp));
+    assert_eq!(rtp_head(&[0x80; 65_536]), Err(Refusal::TooLong));
+}
+
 #[test]
 fn a_datagram_that_is_refused_tells_no_parts() {
     assert_eq!(senders(&PARTS).unwrap_err(), Fault { reason: FaultReason::Length, offset: 104 });
     assert_eq!(blocks(&[]).unwrap_err().reason, FaultReason::Short);
     assert_eq!(items(&[]).unwrap_err().reason, FaultReason::Short);
     assert_eq!(goodbyes(&PARTS).unwrap_err().offset, 104);
+    assert_eq!(apps(&APPS[..51]).unwrap_err(), Fault { reason: FaultReason::Length, offset: 40 });
 }
