@@ -1,6 +1,6 @@
 //! What a handle tells at any time.
 
-ghost use Rattle.std.specs.Prelude.{◌≡◌, ◌^◌, ◌-◌, Option, None};
+ghost use Rattle.std.specs.Prelude.{◌≡◌, ◌^◌, ◌-◌, ◌↔◌, Option, None};
 ghost use Rattle.rtcp_engine.specs.Histories.{History, life_at, setup_at};
 ghost use Rattle.rtcp_engine.specs.Lives.{members_in_life, senders_in_life, entries_in_life, next_in_life, TellsInLife};
 ghost use Rattle.jalwedd_c.specs.Answers.{moment_shown};
@@ -42,6 +42,8 @@ pub extern "C" fn jalwedd_senders(alloc: Global, handle: &mut Handle) -> u32
 pub extern "C" fn jalwedd_next(alloc: Global, handle: &mut Handle) -> u64
     ensures next { (history : History) → LeadsTo handle.old.owned.held history →
         result ≡ moment_shown (next_in_life (life_at history)) }
+    ensures never { (history : History) → LeadsTo handle.old.owned.held history →
+        (result ≡ 2 ^ 64 - 1) ↔ (next_in_life (life_at history) ≡ None) }
     ensures empty { handle.old.owned.held ≡ None → result ≡ 2 ^ 64 - 1 }
     ensures kept { handle.new.owned.held ≡ handle.old.owned.held }
 {
