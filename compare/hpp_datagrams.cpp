@@ -32,7 +32,7 @@ static std::vector<Part> looped(Call call)
 }
 
 /* How many of each there were in all. */
-static std::size_t senders, blocks, sdes_items, goodbyes, abouts, reasons, damaged;
+static std::size_t senders, blocks, sdes_items, goodbyes, apps, abouts, reasons, damaged;
 
 static bool same_text(std::string_view text, const octets& datagram, std::uint64_t offset, std::uint64_t size)
 {
@@ -67,6 +67,13 @@ static int texts_alike(const octets& datagram)
     return 0;
 }
 
+/* It has padding after its name. */
+static bool same_app(const jalwedd_app_place& one, const jalwedd_app_place& other)
+{
+    return one.offset == other.offset && one.size == other.size && one.ssrc == other.ssrc &&
+           one.subtype == other.subtype && std::memcmp(one.name, other.name, sizeof one.name) == 0;
+}
+
 static int about_alike(const octets& datagram, std::uint32_t ssrc)
 {
     const auto reports = looped<jalwedd_report>([&](std::uint32_t index, jalwedd_report* report) {
@@ -91,10 +98,15 @@ static int parts_alike(const octets& datagram)
     const auto infos = looped<jalwedd_sender_info>([&](std::uint32_t index, jalwedd_sender_info* sender) {
         return jalwedd_sender(at, size, index, sender);
     });
+    const auto places = looped<jalwedd_app_place>([&](std::uint32_t index, jalwedd_app_place* app) {
+        return jalwedd_app(at, size, index, app);
+    });
     jalwedd_fault fault{}, wanted{};
     const std::uint32_t status = jalwedd_check(at, size, &wanted);
     HOLDS(jalwedd::check(at, size, fault) == status && fault.offset == wanted.offset && fault.reason == wanted.reason);
     HOLDS(same(listed(jalwedd::blocks(at, size)), reports) && same(listed(jalwedd::senders(at, size)), infos));
+    const auto apps_given = listed(jalwedd::apps(at, size));
+    HOLDS(std::equal(apps_given.begin(), apps_given.end(), places.begin(), places.end(), same_app));
     HOLDS(jalwedd::blocks(at, size).status() == (!reports.empty() ? JALWEDD_TAKEN
                                                  : status == JALWEDD_TAKEN ? JALWEDD_NO_PART : JALWEDD_NO_COMPOUND));
     PASSES(about_alike(datagram, 0xaa));
@@ -102,11 +114,12 @@ static int parts_alike(const octets& datagram)
         PASSES(about_alike(datagram, report.ssrc));
     senders += infos.size();
     blocks += reports.size();
+    apps += places.size();
     damaged += status != JALWEDD_TAKEN;
     return texts_alike(datagram);
 }
 
-/* An SR of 9 with a block about aa, chunks of 5 and 9, and three BYEs. */
+/* An SR of 9 with a block about aa, chunks of 5 and 9, three BYEs, and an APP. */
 static const octets PARTS = {
     0x81, 0xc8, 0, 12, 0, 0, 0, 9, 0xb7, 0x10, 0x80, 0, 0, 0, 0, 5,           /* one block; an NTP timestamp */
     0, 0, 0x23, 0xf8, 0, 0, 0, 2, 0, 0, 1, 0x40,                              /* RTP timestamp, packets, octets */
@@ -115,7 +128,8 @@ static const octets PARTS = {
     0, 0, 0, 9, 1, 2, 'a', 'b', 7, 0, 0, 0,                                   /* CNAME "ab", a NOTE of 0 octets */
     0x82, 0xcb, 0, 3, 0, 0, 0, 9, 0, 0, 0, 7, 1, 'c', 0, 0,                   /* 9 and 7 leave, and say "c" */
     0x81, 0xcb, 0, 2, 0, 0, 0, 5, 0, 0, 0, 0,                                 /* 5, with a reason of 0 octets */
-    0x81, 0xcb, 0, 1, 0, 0, 0, 4};                                            /* and 4, without one */
+    0x81, 0xcb, 0, 1, 0, 0, 0, 4,                                             /* and 4, without one */
+    0x85, 0xcc, 0, 3, 0, 0, 0, 9, 'q', 't', 's', 'i', 1, 2, 3, 4};            /* subtype 5, and a word of data */
 
 static int written_out()
 {
@@ -124,6 +138,7 @@ static int written_out()
     const auto block = listed(jalwedd::blocks(at, PARTS.size()));
     const auto item = listed(jalwedd::sdes_items(at, PARTS.size()));
     const auto gone = listed(jalwedd::goodbyes(at, PARTS.size()));
+    const auto app = listed(jalwedd::apps(at, PARTS.size()));
     HOLDS(sender.size() == 1 && same(sender[0], jalwedd_sender_info{0xb710'8000'0000'0005, 9, 9208, 2, 320}));
     HOLDS(block.size() == 1 && same(block[0], jalwedd_report{9, 0xaa, 25, 3, 11, 4, 1, 2}));
     HOLDS(same(listed(jalwedd::about(at, PARTS.size(), 0xaa)), block));
@@ -132,7 +147,9 @@ static int written_out()
     HOLDS(item[1].ssrc == 9 && item[1].kind == 7 && item[1].text.empty());
     HOLDS(gone.size() == 4 && gone[0].ssrc == 9 && gone[1].ssrc == 7 && gone[2].ssrc == 5 && gone[3].ssrc == 4);
     HOLDS(gone[0].reason == "c" && gone[1].reason == "c" && gone[2].reason == "" && !gone[3].reason);
+    HOLDS(app.size() == 1 && same_app(app[0], {PARTS.size() - 4, 4, 9, 5, {'q', 't', 's', 'i'}}));
     HOLDS(jalwedd::about(at, PARTS.size(), 9).status() == JALWEDD_NO_BLOCK);
+    HOLDS(jalwedd::apps(at, 4 * 13).status() == JALWEDD_NO_PART);
     return parts_alike(PARTS);
 }
 
@@ -146,6 +163,7 @@ static int nowhere()
     HOLDS(jalwedd::check(nullptr, 0, fault) == JALWEDD_NO_COMPOUND && fault.reason == 1 && fault.offset == 0);
     HOLDS(listed(jalwedd::blocks(nullptr, 0)).empty() && listed(jalwedd::senders(nullptr, 0)).empty());
     HOLDS(listed(jalwedd::sdes_items(nullptr, 0)).empty() && listed(jalwedd::goodbyes(nullptr, 0)).empty());
+    HOLDS(listed(jalwedd::apps(nullptr, 0)).empty());
     HOLDS(jalwedd::about(nullptr, 0, 3).begin() == jalwedd::about(nullptr, 0, 3).end());
     HOLDS(jalwedd::goodbyes(nullptr, 0).status() == JALWEDD_NO_COMPOUND);
     HOLDS(jalwedd::about(nullptr, 0, 3).status() == JALWEDD_NO_COMPOUND);
@@ -186,7 +204,7 @@ struct written {
     octets datagram;
     std::vector<std::string> texts;      /* of the items */
     std::vector<std::string> goodbyes;   /* the reason for each source, or "none" */
-    std::size_t blocks = 0, senders = 0;
+    std::size_t blocks = 0, senders = 0, apps = 0;
 };
 
 static void push_octets(octets& to, std::size_t count)
@@ -266,18 +284,28 @@ static void push_goodbye(written& to)
     to.goodbyes.insert(to.goodbyes.end(), count, reason);
 }
 
+static void push_app(written& to)
+{
+    octets body;
+    push_octets(body, 4 * (2 + random_below(3)));
+    push_packet(to.datagram, random_below(32), 204, body);
+    to.apps++;
+}
+
 static written random_datagram()
 {
     written all;
     push_report(all, random_below(2) == 0);
     for (std::uint32_t packets = random_below(6); packets > 0; packets--) {
-        const std::uint32_t kind = random_below(3);
+        const std::uint32_t kind = random_below(4);
         if (kind == 0)
             push_report(all, random_below(2) == 0);
         else if (kind == 1)
             push_description(all);
-        else
+        else if (kind == 2)
             push_goodbye(all);
+        else
+            push_app(all);
     }
     return all;
 }
@@ -294,6 +322,7 @@ static int as_written(const written& given)
     HOLDS(texts == given.texts && reasons_given == given.goodbyes);
     HOLDS(listed(jalwedd::blocks(at, size)).size() == given.blocks);
     HOLDS(listed(jalwedd::senders(at, size)).size() == given.senders);
+    HOLDS(listed(jalwedd::apps(at, size)).size() == given.apps);
     return 0;
 }
 
@@ -338,7 +367,7 @@ int main(int count, char** words)
     const std::string samples = words[1];
     PASSES(written_out() || nowhere() || iterated() || random_ones(2000));
     PASSES(of_lines(lines_of(samples + "/conference.hex")) || of_lines(lines_of(samples + "/departures.hex")));
-    HOLDS(senders > 1000 && blocks > 1000 && sdes_items > 1000 && goodbyes > 1000);
+    HOLDS(senders > 1000 && blocks > 1000 && sdes_items > 1000 && goodbyes > 1000 && apps > 1000);
     HOLDS(abouts > 1000 && reasons > 1000 && damaged > 1000);
     return 0;
 }

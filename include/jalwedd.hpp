@@ -13,7 +13,7 @@
  * A member function of a participant makes the call of its name in jalwedd.h, which says more about it, such as what
  * each word is for; only jalwedd_new is `join` here. A range has the plural of its call's name, except for `about`.
  * Structures, constants and statuses are those of jalwedd.h, and so are the calls that are not here: jalwedd_text,
- * jalwedd_version, jalwedd_memory, jalwedd_round_trip and jalwedd_ntp_of.
+ * jalwedd_version, jalwedd_memory, jalwedd_round_trip, jalwedd_ntp_of and jalwedd_rtp_head.
  *
  * WHAT THE HOST MUST ENSURE, as nothing tests it, is what jalwedd.h says, except for this:
  * - A pointer may be null if its size or count is 0, such as that of an empty std::vector.
@@ -425,6 +425,7 @@ using senders = parts<jalwedd_sender_info, jalwedd_sender>;
 using blocks = parts<jalwedd_report, jalwedd_block>;
 using sdes_items = parts<sdes_item, sdes_item_at>;
 using goodbyes = parts<goodbye, goodbye_at>;
+using apps = parts<jalwedd_app_place, jalwedd_app>;
 
 } // namespace inside
 
@@ -469,6 +470,13 @@ using goodbyes = parts<goodbye, goodbye_at>;
 [[nodiscard]] inline range<inside::goodbyes> goodbyes(const std::uint8_t* datagram, std::size_t size) noexcept
 {
     return range<inside::goodbyes>(inside::goodbyes{datagram, size});
+}
+
+/// The APP packets of a datagram (jalwedd_app_place), in their order.
+/// Its status: TAKEN; NO_COMPOUND; NO_PART.
+[[nodiscard]] inline range<inside::apps> apps(const std::uint8_t* datagram, std::size_t size) noexcept
+{
+    return range<inside::apps>(inside::apps{datagram, size});
 }
 
 } // namespace jalwedd
