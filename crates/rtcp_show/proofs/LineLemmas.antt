@@ -1,5 +1,5 @@
 -- Parts of lines, one after the other.
-use Rattle.std.proofs.Common.{◌≡◌, ◌++◌, ◌∙◌, ap, ℕ, List, append_assoc, refl}
+use Rattle.std.proofs.Common.{◌≡◌, ◌++◌, ◌∷◌, [], ◌∙◌, ap, ℕ, List, append_assoc, refl}
 
 -- What is said of a datagram follows what was written before it.
 pub passed :
@@ -9,3 +9,13 @@ pub passed :
     → (whole : List ℕ) × ((text : List ℕ) × P text × (whole ≡ head ++ text)) × (after ≡ before ++ whole)
 passed before middle after head P first given =
     (head ++ given.0, (given.0, given.1, refl), given.2 ∙ ap (λ xs. xs ++ given.0) first ∙ append_assoc before head given.0)
+
+-- A moment, a space and the rows are written one after the other, into a buffer that is empty.
+pub said :
+    (whole pushed timed cleared moment given rows emptied those : List ℕ)
+    → cleared ≡ [] → timed ≡ cleared ++ moment → pushed ≡ timed ++ 32 ∷ [] → whole ≡ pushed ++ given
+    → given ≡ rows → emptied ≡ [] → rows ≡ emptied ++ those → whole ≡ moment ++ 32 ∷ those
+said whole pushed timed cleared moment given rows emptied those empty time space end same none listed =
+    end ∙ ap (λ xs. pushed ++ xs) (same ∙ listed ∙ ap (λ xs. xs ++ those) none)
+    ∙ ap (λ xs. xs ++ those) (space ∙ ap (λ xs. xs ++ 32 ∷ []) (time ∙ ap (λ xs. xs ++ moment) empty))
+    ∙ append_assoc moment (32 ∷ []) those

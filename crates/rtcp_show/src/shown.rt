@@ -44,7 +44,7 @@ impl<L: Link, W: Write> Link for Shown<L, W> {
 
     fn told(&mut self, event: &Event<'_>, answer: &Answer) {
         if let Some(watcher) = &mut self.watcher {
-            watcher.watch(event, answer);
+            let _ = watcher.watch(event, answer);
         }
         self.link.told(event, answer);
     }

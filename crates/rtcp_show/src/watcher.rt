@@ -1,13 +1,18 @@
 //! What follows a session and writes what it sees.
 
-ghost use Rattle.std.specs.Prelude.{◌≡◌, ◌≤◌, IfOk, None};
+ghost use Rattle.std.specs.Prelude.{◌≡◌, ◌≤◌, ◌+◌, ◌*◌, ◌++◌, ℕ, List, IfOk, OnOk, Ok, None, true};
+ghost use Rattle.std.specs.Io.KnownBytes.{Appends};
+ghost use Rattle.std.specs.Net.Addr.{ipv4_bits};
+ghost use Rattle.std.specs.Net.Socket.{v4_ip, v4_port};
+ghost use Rattle.rtcp_engine.specs.Histories.{History};
+ghost use Rattle.rtcp_show.specs.Lines.{ShowsBoth, moment_of_event as moment_in};
 ghost use Rattle.rtcp_engine.specs.Acts.{Act};
 ghost use Rattle.rtcp_engine.specs.Promises.{Takes};
 ghost use Rattle.rtcp_engine.specs.Refused.{error_in};
 ghost use Rattle.rtcp_engine.specs.States.{StandsAt};
 ghost use Rattle.rtcp_engine.specs.Steps.{AnswerValue};
 ghost use Rattle.rtcp_engine.specs.Taken.{begun};
-ghost use Rattle.rtcp_engine.specs.Views.{IsActOf, answer_value, setup_of};
+ghost use Rattle.rtcp_engine.specs.Views.{IsActOf, answer_value, event_value, setup_of};
 
 use crate::copies::copy_of;
 use crate::lines::{moment_of, push_lines};
@@ -17,6 +22,7 @@ use crate::rows::push_sources;
 use rtcp_clock::{ntp_of, round_trip};
 use rtcp_engine::{Answer, Config, Event, Participant};
 use rtcp_members::{HeapTable, MemberTable};
+use rtcp_text::TextFault;
 use rtcp_wire::{Chunk, Compound, PacketView, SourceDescription};
 use std::alloc::{AllocError, Global};
 use std::io::Write;
@@ -29,18 +35,26 @@ const SECOND: u64 = 1_000_000;
 /// The type of a CNAME item (RFC 3550, 6.5.1).
 const CNAME: u8 = 1;
 
+/// What a watcher knows of a session from its start.
+#[derive(Clone, Copy, Debug)]
+pub(crate) struct Terms {
+    /// The units a second of the media's clock.
+    rate: u32,
+    /// The NTP timestamp of moment 0.
+    ntp_base: u64,
+    /// The number of the peer to which compounds go.
+    to: u64,
+}
+
 /// Follows a session, and writes its lines to `writer`: those of each event and its answer ([`push_lines`]), and once a
 /// second the members, the senders and a row for each source ([`push_row`](crate::push_row)), unless they are the last
-/// ones again. Each part is flushed. A failed write is ignored, and what there is no memory for is not written.
+/// ones again. Each part is flushed.
 ///
 /// The rows are those of a participant of its own, which is told the same events, and so answers the same.
 #[derive(Drop)]
 pub struct Watcher<W> {
     participant: Participant<HeapTable>,
-    rate: u32,
-    ntp_base: u64,
-    /// The number of the peer to which compounds go.
-    to: u64,
+    terms: Terms,
     notes: Notes,
     writer: W,
     /// What is to be written next, kept from part to part.
@@ -54,7 +68,7 @@ pub struct Watcher<W> {
 }
 
 impl<W: Drop> Watcher<W> {
-    ghost use Rattle.rtcp_show.specs.Watchers.{watched_by};
+    ghost use Rattle.rtcp_show.specs.Watchers.{terms_of, watched_by, writer_of};
 
     /// A watcher of a session that begins now: of a participant with this configuration, which is one that
     /// `Config::error` does not refuse, and this random word. Compounds go to `to`.
@@ -72,14 +86,22 @@ impl<W: Drop> Watcher<W> {
         requires usable { error_in (setup_of config.now) ≡ None }
         requires some { 1 ≤ config.now.capacity }
         requires few { config.now.capacity ≤ 1024 }
-        ensures { IfOk result (λ watcher. StandsAt (watched_by watcher) (begun (setup_of config.now) word)) }
+        ensures begins { IfOk result (λ watcher. StandsAt (watched_by watcher) (begun (setup_of config.now) word)) }
+        ensures terms { IfOk result (λ watcher. terms_of watcher ≡ record {
+          rate = config.now.rate;
+          ntp_base = config.now.ntp_base;
+          to = ipv4_bits (v4_ip to) * 65536 + v4_port to;
+        }) }
+        ensures writer { IfOk result (λ watcher. writer_of watcher ≡ writer) }
     {
         let table = HeapTable::with_room(alloc, config.capacity, config.rate)?;
         Ok(Watcher {
             participant: Participant::with_table(copy_of(config), table, word),
-            rate: config.rate,
-            ntp_base: config.ntp_base,
-            to: u64::from(to.ip().to_bits()) * 65_536 + u64::from(to.port()),
+            terms: Terms {
+                rate: config.rate,
+                ntp_base: config.ntp_base,
+                to: u64::from(to.ip().to_bits()) * 65_536 + u64::from(to.port()),
+            },
             notes: Notes::new(alloc),
             writer,
             text: Vec::new(alloc),
@@ -91,7 +113,7 @@ impl<W: Drop> Watcher<W> {
 }
 
 impl<W: Write> Watcher<W> {
-    ghost use Rattle.rtcp_show.specs.Watchers.{watched_by, writer_of};
+    ghost use Rattle.rtcp_show.specs.Watchers.{KeepsSession, ShowsSources, ShowsThose, held_by, terms_of, watched_by, writer_of};
 
     /// The writer.
     pub fn into_inner(self) -> W
@@ -100,27 +122,55 @@ impl<W: Write> Watcher<W> {
         self.writer
     }
 
-    /// Writes the lines of an event of the session and its answer, and who is there where another second has begun.
-    pub fn watch(&mut self, event: &Event<'_>, answer: &Answer)
+    /// Writes the lines of an event of the session and its answer, and who is there where another second has begun. The
+    /// session is followed in any case.
+    ///
+    /// # Errors
+    ///
+    /// The first of these. What comes after it is written all the same, if it can be.
+    ///
+    /// - [`TextFault::Write`] where a call of the writer fails.
+    /// - [`TextFault::Memory`] where memory is refused.
+    pub fn watch(&mut self, event: &Event<'_>, answer: &Answer) -> Result<(), TextFault>
         ensures follows { (act : Act) → IsActOf event.now act →
             (given : AnswerValue) × Takes (watched_by self.old) act given (watched_by self.new) }
+        ensures terms { terms_of self.new ≡ terms_of self.old }
+        ensures written { (history : History) → StandsAt (watched_by self.new) history →
+            OnOk result ((lines those : List ℕ)
+            × ShowsBoth (terms_of self.old).to (event_value event.now) (answer_value answer.now) lines
+            × ShowsThose (terms_of self.old).rate (moment_in (event_value event.now)) history those
+            × Appends (held_by W.contents self.old) (held_by W.contents self.new) (lines ++ those)) }
     {
-        self.text.clear();
-        if push_lines(&mut self.text, self.to, event, answer).is_ok() {
-            self.write();
-        }
+        let shown = self.show_event(event, answer);
         let _ = tell(&mut self.participant, event);
-        if answer.is_ok() {
-            self.note(event);
+        self.note(event, answer);
+        let listed = self.show_sources(moment_of(event));
+        match shown {
+            Ok(()) => listed,
+            Err(fault) => Err(fault),
         }
-        self.show_sources(moment_of(event));
     }
 
-    /// Keeps what a datagram says that the table does not keep.
-    fn note(&mut self, event: &Event<'_>)
-        ensures { watched_by self.new ≡ watched_by self.old }
+    /// Writes the lines of an event and its answer.
+    fn show_event(&mut self, event: &Event<'_>, answer: &Answer) -> Result<(), TextFault>
+        ensures keeps { KeepsSession self.old self.new }
+        ensures written { OnOk result ((lines : List ℕ)
+            × ShowsBoth (terms_of self.old).to (event_value event.now) (answer_value answer.now) lines
+            × Appends (held_by W.contents self.old) (held_by W.contents self.new) lines) }
     {
-        let Event::ArriveRtcp { now, bytes, .. } = event else {
+        self.text.clear();
+        match push_lines(&mut self.text, self.terms.to, event, answer) {
+            Ok(()) => self.write(),
+            Err(AllocError) => Err(TextFault::Memory),
+        }
+    }
+
+    /// Keeps what a datagram that was taken says and the table does not keep.
+    fn note(&mut self, event: &Event<'_>, answer: &Answer)
+        ensures keeps { KeepsSession self.old self.new }
+        ensures writer { writer_of self.new ≡ writer_of self.old }
+    {
+        let (Event::ArriveRtcp { now, bytes, .. }, Ok(_)) = (event, answer) else {
             return;
         };
         if let Ok(compound) = Compound::read(bytes) {
@@ -131,9 +181,10 @@ impl<W: Write> Watcher<W> {
 
     /// Keeps the round trips by the blocks about the participant that name one of its sender reports.
     fn note_trips(&mut self, now: u64, compound: &Compound<'_>)
-        ensures { watched_by self.new ≡ watched_by self.old }
+        ensures keeps { KeepsSession self.old self.new }
+        ensures writer { writer_of self.new ≡ writer_of self.old }
     {
-        let arrived = (ntp_of(self.ntp_base, now) / 65_536 % (1 << 32)) as u32;
+        let arrived = (ntp_of(self.terms.ntp_base, now) / 65_536 % (1 << 32)) as u32;
         for (reporter, block) in compound.about(self.participant.ssrc()) {
             if block.lsr != 0 && self.is_listed(reporter) {
                 let trip = round_trip(arrived, block.lsr, block.dlsr);
@@ -144,7 +195,8 @@ impl<W: Write> Watcher<W> {
 
     /// Keeps the CNAMEs of a datagram.
     fn note_cnames(&mut self, compound: &Compound<'_>)
-        ensures { watched_by self.new ≡ watched_by self.old }
+        ensures keeps { KeepsSession self.old self.new }
+        ensures writer { writer_of self.new ≡ writer_of self.old }
     {
         for packet in compound.packets() {
             if let PacketView::Sdes(description) = packet {
@@ -154,7 +206,8 @@ impl<W: Write> Watcher<W> {
     }
 
     fn note_chunks(&mut self, description: &SourceDescription<'_>)
-        ensures { watched_by self.new ≡ watched_by self.old }
+        ensures keeps { KeepsSession self.old self.new }
+        ensures writer { writer_of self.new ≡ writer_of self.old }
     {
         for chunk in description.chunks() {
             if self.is_listed(chunk.id()) {
@@ -164,7 +217,8 @@ impl<W: Write> Watcher<W> {
     }
 
     fn note_items(&mut self, chunk: &Chunk<'_>)
-        ensures { watched_by self.new ≡ watched_by self.old }
+        ensures keeps { KeepsSession self.old self.new }
+        ensures writer { writer_of self.new ≡ writer_of self.old }
     {
         for item in chunk.items() {
             if item.kind == CNAME {
@@ -182,27 +236,33 @@ impl<W: Write> Watcher<W> {
     }
 
     /// Writes who is there, if another second has begun and it is not as it was written last.
-    fn show_sources(&mut self, now: u64)
-        ensures { watched_by self.new ≡ watched_by self.old }
+    fn show_sources(&mut self, now: u64) -> Result<(), TextFault>
+        ensures keeps { KeepsSession self.old self.new }
+        ensures written { (history : History) → StandsAt (watched_by self.old) history →
+            OnOk result ((those : List ℕ) × ShowsThose (terms_of self.old).rate now history those
+            × Appends (held_by W.contents self.old) (held_by W.contents self.new) those) }
     {
         if now / SECOND <= self.second {
-            return;
+            return Ok(());
         }
         self.second = now / SECOND;
         let _ = self.notes.keep_listed(&self.participant);
-        if let Ok(shown) = self.compose(now) {
-            if shown {
-                self.write();
-            }
+        match self.compose(now) {
+            Ok(true) => self.write(),
+            Ok(false) => Ok(()),
+            Err(AllocError) => Err(TextFault::Memory),
         }
     }
 
     /// Composes who is there, and says whether that is not as it was written last.
     fn compose(&mut self, now: u64) -> Result<bool, AllocError>
-        ensures { watched_by self.new ≡ watched_by self.old }
+        ensures keeps { KeepsSession self.old self.new }
+        ensures writer { writer_of self.new ≡ writer_of self.old }
+        ensures composed { (history : History) → StandsAt (watched_by self.old) history →
+            result ≡ Ok true → ShowsSources (terms_of self.old).rate now history self.new.text.items }
     {
-        let rate = self.rate.max(1);
         self.next_rows.clear();
+        let rate = self.terms.rate.max(1);
         push_sources(&mut self.next_rows, rate, &self.participant, &self.notes)?;
         if self.next_rows == self.rows {
             return Ok(false);
@@ -216,11 +276,17 @@ impl<W: Write> Watcher<W> {
     }
 
     /// Writes what was composed.
-    fn write(&mut self)
-        ensures { watched_by self.new ≡ watched_by self.old }
+    fn write(&mut self) -> Result<(), TextFault>
+        ensures keeps { KeepsSession self.old self.new }
+        ensures written { OnOk result
+            (Appends (held_by W.contents self.old) (held_by W.contents self.new) self.old.text.items) }
     {
-        if self.writer.write_all(&self.text).is_ok() {
-            let _ = self.writer.flush();
+        if self.writer.write_all(&self.text).is_err() {
+            return Err(TextFault::Write);
+        }
+        match self.writer.flush() {
+            Ok(()) => Ok(()),
+            Err(_) => Err(TextFault::Write),
         }
     }
 }

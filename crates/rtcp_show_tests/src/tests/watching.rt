@@ -1,7 +1,7 @@
 //! What a watcher writes of a session.
 
 use super::{PEER, config, named};
-use rtcp_engine::{Event, Participant};
+use rtcp_engine::{Answer, Event, Participant};
 use rtcp_members::SortedTable;
 use rtcp_show::Watcher;
 use std::alloc::Global;
@@ -15,6 +15,8 @@ use std::test::Fail;
 struct Watched<W> {
     participant: Participant<SortedTable>,
     watcher: Watcher<W>,
+    /// How many events were not written.
+    unwritten: u32,
 }
 
 impl<W: Write + Drop> Watched<W> {
@@ -32,7 +34,14 @@ impl<W: Write + Drop> Watched<W> {
         Ok(Watched {
             participant,
             watcher,
+            unwritten: 0,
         })
+    }
+
+    fn watch(&mut self, event: &Event<'_>, answer: &Answer) {
+        if self.watcher.watch(event, answer).is_err() {
+            self.unwritten = self.unwritten.saturating_add(1);
+        }
     }
 
     fn rtcp(&mut self, now: u64, bytes: &[u8]) {
@@ -43,13 +52,12 @@ impl<W: Write + Drop> Watched<W> {
             w: 0,
             bytes,
         };
-        self.watcher.watch(&event, &answer);
+        self.watch(&event, &answer);
     }
 
     fn tick(&mut self, now: u64) {
         let answer = self.participant.tick(now, 0, 0);
-        self.watcher
-            .watch(&Event::Tick { now, w1: 0, w2: 0 }, &answer);
+        self.watch(&Event::Tick { now, w1: 0, w2: 0 }, &answer);
     }
 
     /// A packet of source 7, of 20 milliseconds.
@@ -64,12 +72,12 @@ impl<W: Write + Drop> Watched<W> {
             w: 0,
             bytes: &bytes,
         };
-        self.watcher.watch(&event, &answer);
+        self.watch(&event, &answer);
     }
 
     fn leave(&mut self, now: u64) {
         let answer = self.participant.leave(now, 0);
-        self.watcher.watch(&Event::Leave { now, w: 0 }, &answer);
+        self.watch(&Event::Leave { now, w: 0 }, &answer);
     }
 }
 
@@ -122,6 +130,7 @@ fn session(rt: HostRuntime) -> Result<(), Fail> {
     watched.tick(5_000_000);
     watched.rtcp(5_500_000, &[]);
     watched.leave(6_000_000);
+    assert_eq!(rt; watched.unwritten, 0);
     let text = watched.watcher.into_inner();
     assert_eq!(rt; text.as_slice(), SESSION.as_bytes());
     Ok(())
@@ -148,5 +157,6 @@ fn unwritten(rt: HostRuntime) -> Result<(), Fail> {
     watched.rtcp(100_000, &named(7));
     watched.tick(2_000_000);
     assert_eq!(rt; watched.participant.members(), 2);
+    assert_eq!(rt; watched.unwritten, 2);
     Ok(())
 }

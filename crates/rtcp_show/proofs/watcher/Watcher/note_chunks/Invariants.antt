@@ -6,5 +6,7 @@ abbrev pub invariant-loop-chunk : goal.invariant-loop-chunk
 invariant-loop-chunk g l = record {
   can : (goal.iterator-loop-chunk g).can_next l.chunk-iterator;
   finite : (goal.iterator-loop-chunk g).is_finite l.chunk-iterator;
-  kept : l.self.participant ≡ l.fn.self.participant;
+  participant : l.self.participant ≡ l.fn.self.participant;
+  terms : l.self.terms ≡ l.fn.self.terms;
+  writer : l.self.writer ≡ l.fn.self.writer;
 }

@@ -6,5 +6,7 @@ abbrev pub invariant-loop-item : goal.invariant-loop-item
 invariant-loop-item g l = record {
   can : (goal.iterator-loop-item g).can_next l.item-iterator;
   finite : (goal.iterator-loop-item g).is_finite l.item-iterator;
-  kept : l.self.participant ≡ l.fn.self.participant;
+  participant : l.self.participant ≡ l.fn.self.participant;
+  terms : l.self.terms ≡ l.fn.self.terms;
+  writer : l.self.writer ≡ l.fn.self.writer;
 }

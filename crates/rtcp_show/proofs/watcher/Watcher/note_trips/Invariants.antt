@@ -6,5 +6,7 @@ abbrev pub invariant-loop-reporter : goal.invariant-loop-reporter
 invariant-loop-reporter g l = record {
   can : (goal.iterator-loop-reporter g).can_next l.reporter-iterator;
   finite : (goal.iterator-loop-reporter g).is_finite l.reporter-iterator;
-  kept : l.self.participant ≡ l.fn.self.participant;
+  participant : l.self.participant ≡ l.fn.self.participant;
+  terms : l.self.terms ≡ l.fn.self.terms;
+  writer : l.self.writer ≡ l.fn.self.writer;
 }

@@ -1,0 +1,16 @@
+use Rattle.rtcp_show.specs.Notes.{noted_in}
+use Rattle.rtcp_show.proofs.LineLemmas.{said}
+use Rattle.rtcp_show.proofs.watcher.Watcher.compose.Goals as goal
+
+pub returns-clause-composed : goal.returns-clause-composed
+returns-clause-composed g c =
+    λ history stands _.
+    let listed = c.in_ok-push_sources.ensures history stands in
+    record {
+      states = listed.0;
+      walk = listed.1;
+      noted = noted_in c.args.self.now.notes;
+      says = said _ _ _ _ _ _ _ _ _ c.clear-2.ensures.items c.in_ok-push_moment.ensures c.in_ok-push.ensures.items
+          c.in_ok-extend_from_slice.ensures.items c.deref.ensures.value c.clear.ensures.items
+          (rw c.max-rate.ensures at listed.2);
+    }
