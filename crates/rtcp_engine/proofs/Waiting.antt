@@ -3,7 +3,7 @@ use Rattle.std.proofs.Common.{◌≡◌, ℕ, ◌+◌, ◌^◌, ◌<◌, ◌≤�
 use Rattle.std.proofs.lemmas.Bool.{cases_lt, lt-ltb, le-ltb, le-leb}
 use Rattle.rtcp_clock.specs.Intervals.{drawn_interval, longest_draw}
 use Rattle.rtcp_clock.proofs.LawLemmas.{draw_within_bounds, longest_never_falls}
-use Rattle.rtcp_wire.specs.declared.fact.Fact.TheVariants.{Heard, Media}
+use Rattle.rtcp_wire.specs.declared.fact.Fact.TheVariants.{Heard}
 use Rattle.rtcp_wire.specs.RtpHeads.{RtpValue}
 use Rattle.rtcp_members.specs.Traces.{TraceStep, fact_came, with_facts}
 use Rattle.rtcp_members.specs.Entries.{counted_at, members_at}
@@ -18,7 +18,7 @@ use Rattle.rtcp_engine.specs.Identities.{with_ssrc}
 use Rattle.rtcp_engine.specs.OwnStreams.{has_sent}
 use Rattle.rtcp_engine.specs.Outcomes.{Outcome, interval_at, member_count, nothing_yet}
 use Rattle.rtcp_engine.specs.Ticks.{checked, has_come, has_passed, is_report_due, put_off, reported, with_recount, with_report}
-use Rattle.rtcp_engine.specs.Arrivals.{with_media}
+use Rattle.rtcp_engine.specs.Arrivals.{media_fact, with_media}
 use Rattle.rtcp_engine.specs.Changes.{NewIdentifier, Session, change_by, changed_by}
 use Rattle.rtcp_engine.specs.Histories.{History, last_moment, life_at, session_of, setup_at}
 use Rattle.rtcp_engine.specs.Refusals.{refusal_after}
@@ -61,7 +61,7 @@ csrcs_keep_if capacity rate moment false ssrcs trace = omega arith
 -- An RTP packet that came never lowers the members.
 media_keeps : (setup : Setup) (moment : ℕ) (head : RtpValue) (outcome : Outcome) → member_count setup outcome ≤ member_count setup (with_media setup moment head outcome)
 media_keeps setup moment head outcome =
-    let media = Media head.ssrc head.sequence head.timestamp in
+    let media = media_fact head in
     let kept = facts_keep_members setup.capacity setup.rate outcome.trace media moment refl in
     let others = csrcs_keep_if setup.capacity setup.rate moment (counted_at setup.capacity setup.rate outcome.trace media) (filter (λ ssrc. not (ssrc == setup.ssrc)) head.csrcs) (fact_came media moment ∷ outcome.trace) in
     omega (arith, kept, others)

@@ -28,7 +28,7 @@ abbrev pub with_compound : Setup → (t size : ℕ) → List RtcpPacket → Outc
 with_compound setup t size packets outcome = with_recount setup t (with_facts_of t size packets outcome)
 
 abbrev pub media_fact : RtpValue → Fact
-media_fact head = Media head.ssrc head.sequence head.timestamp
+media_fact head = Media head.ssrc head.sequence head.timestamp (length head.payload)
 
 -- what the contributing sources give, but for the participant itself
 abbrev pub facts_of_csrcs : (own : ℕ) → (csrcs : List ℕ) → List Fact

@@ -36,7 +36,8 @@ pub(crate) fn apply_media<T: MemberTable>(
     ensures moved { result ≡ facts_move
         (facts_of_media own head.now (counted (T.content table.old) (media_fact head.now))) t (T.content table.old) }
 {
-    let packet = Fact::Media(head.ssrc(), head.sequence(), head.timestamp());
+    let octets = head.payload().len() as u64;
+    let packet = Fact::Media(head.ssrc(), head.sequence(), head.timestamp(), octets);
     let effect = apply_fact(table, packet, t);
     if !effect.counted {
         return effect.moved;

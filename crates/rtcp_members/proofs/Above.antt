@@ -115,6 +115,7 @@ by_stay after capacity rate trace row (Some stay) above least present is =
         heard = (own i).sighting;
         reception = received i;
         told = (own i).source.told;
+        last_block = (own i).source.last_block;
       };
     }
 

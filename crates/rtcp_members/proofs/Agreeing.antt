@@ -16,10 +16,10 @@ use Rattle.rtcp_members.proofs.Staying.{entry_with, entry_unmarked}
 -- To the summary of what a source gave, a fact of it is a counted packet as to its run.
 counts_in_run : (fact : Fact) (given : List Given) → counts fact (summary_of given) ≡ is_counted_fact (subject fact) fact given
 counts_in_run (Heard ssrc) given = refl
-counts_in_run (Told ssrc ntp) given = refl
+counts_in_run (Told ssrc ntp rtp) given = refl
 counts_in_run (Named ssrc) given = refl
 counts_in_run (Gone ssrc) given = refl
-counts_in_run (Media ssrc seq timestamp) given =
+counts_in_run (Media ssrc seq timestamp octets) given =
     ap is_counted (summary_suffices-taken given seq) ∙ ap (λ b. b && is_counted (taken_in (run_of given) seq)) (sym (eq-eqb ssrc ssrc refl))
 
 module _ (rate : ℕ) (fact : Fact) where

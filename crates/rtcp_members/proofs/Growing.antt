@@ -39,10 +39,10 @@ not_gone fact ssrc stays gone = true≢false (sym gone ∙ stays)
 
 still_member : (rate moment : ℕ) (fact : Fact) (entry : EntryValue) → is_gone fact ≡ false → is_member entry ≡ true → is_member (entry_after rate fact moment entry) ≡ true
 still_member rate moment (Heard ssrc) entry stays member = member
-still_member rate moment (Told ssrc ntp) entry stays member = member
+still_member rate moment (Told ssrc ntp rtp) entry stays member = member
 still_member rate moment (Named ssrc) entry stays member = (and_parts entry.valid _ member).1
 still_member rate moment (Gone ssrc) entry stays member = absurd (true≢false stays)
-still_member rate moment (Media ssrc seq timestamp) entry stays member =
+still_member rate moment (Media ssrc seq timestamp octets) entry stays member =
     let parts = and_parts entry.valid _ member in
     λ i. or_right (is_counted (taken_by entry.source seq)) entry.valid parts.0 i && parts.1 i
 

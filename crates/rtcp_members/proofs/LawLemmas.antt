@@ -288,8 +288,8 @@ heard_by_what_it_says-named ssrc t table = once_said (Named ssrc) ssrc t table r
 pub heard_by_what_it_says-named_moves : (ssrc t : ℕ) (table : TableValue) → facts_move (Heard ssrc ∷ Named ssrc ∷ []) t table ≡ facts_move (Named ssrc ∷ []) t table
 heard_by_what_it_says-named_moves ssrc t table = once_moved (Named ssrc) ssrc t table refl refl (λ e. refl)
 
-pub heard_by_what_it_says-told : (ssrc ntp t : ℕ) (table : TableValue) → after_facts (Heard ssrc ∷ Told ssrc ntp ∷ []) t table ≡ after_facts (Told ssrc ntp ∷ []) t table
-heard_by_what_it_says-told ssrc ntp t table = once_said (Told ssrc ntp) ssrc t table refl refl (λ e. refl)
+pub heard_by_what_it_says-told : (ssrc ntp rtp t : ℕ) (table : TableValue) → after_facts (Heard ssrc ∷ Told ssrc ntp rtp ∷ []) t table ≡ after_facts (Told ssrc ntp rtp ∷ []) t table
+heard_by_what_it_says-told ssrc ntp rtp t table = once_said (Told ssrc ntp rtp) ssrc t table refl refl (λ e. refl)
 
-pub heard_by_what_it_says-told_moves : (ssrc ntp t : ℕ) (table : TableValue) → facts_move (Heard ssrc ∷ Told ssrc ntp ∷ []) t table ≡ facts_move (Told ssrc ntp ∷ []) t table
-heard_by_what_it_says-told_moves ssrc ntp t table = once_moved (Told ssrc ntp) ssrc t table refl refl (λ e. refl)
+pub heard_by_what_it_says-told_moves : (ssrc ntp rtp t : ℕ) (table : TableValue) → facts_move (Heard ssrc ∷ Told ssrc ntp rtp ∷ []) t table ≡ facts_move (Told ssrc ntp rtp ∷ []) t table
+heard_by_what_it_says-told_moves ssrc ntp rtp t table = once_moved (Told ssrc ntp rtp) ssrc t table refl refl (λ e. refl)

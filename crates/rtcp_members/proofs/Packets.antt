@@ -22,12 +22,12 @@ use Rattle.rtcp_members.proofs.Updated.{get_updated}
 abbrev pub Few : ℕ → Option EntryValue → Type 0
 Few packets entry = IfSome entry (λ e. e.source.packets ≤ packets)
 
-one_packet : (taken : Taken) (seq transit : ℕ) (source : SourceValue) → (source_with taken seq transit source).packets ≡ source.packets + 1
-one_packet Counted seq transit source = refl
-one_packet Became seq transit source = refl
-one_packet Restarted seq transit source = refl
-one_packet Probation seq transit source = refl
-one_packet Bad seq transit source = refl
+one_packet : (taken : Taken) (seq transit octets : ℕ) (source : SourceValue) → (source_with taken seq transit octets source).packets ≡ source.packets + 1
+one_packet Counted seq transit octets source = refl
+one_packet Became seq transit octets source = refl
+one_packet Restarted seq transit octets source = refl
+one_packet Probation seq transit octets source = refl
+one_packet Bad seq transit octets source = refl
 
 -- how many packets there are with a fact more
 abbrev with_fact : (packets : ℕ) → Fact → ℕ
@@ -35,11 +35,11 @@ with_fact packets fact = if is_media fact then packets + 1 else packets
 
 few_after : (packets rate : ℕ) (fact : Fact) (moment : ℕ) (entry : EntryValue) → entry.source.packets ≤ packets → (entry_after rate fact moment entry).source.packets ≤ with_fact packets fact
 few_after packets rate (Heard ssrc) moment entry few = few
-few_after packets rate (Told ssrc ntp) moment entry few = few
+few_after packets rate (Told ssrc ntp rtp) moment entry few = few
 few_after packets rate (Named ssrc) moment entry few = few
 few_after packets rate (Gone ssrc) moment entry few = few
-few_after packets rate (Media ssrc seq timestamp) moment entry few =
-    omega (arith, few, one_packet (taken_by entry.source seq) seq (transit_of timestamp (media_units moment rate)) entry.source)
+few_after packets rate (Media ssrc seq timestamp octets) moment entry few =
+    omega (arith, few, one_packet (taken_by entry.source seq) seq (transit_of timestamp (media_units moment rate)) octets entry.source)
 
 few_or_new : (packets : ℕ) (entry : Option EntryValue) → Few packets entry → (unwrap_or entry new_entry).source.packets ≤ packets
 few_or_new packets None few = omega arith

@@ -46,9 +46,9 @@ third_is_added = refl
 -- ---- A sender
 
 abbrev sending : List TraceStep
-sending = fact_came (Media 4 11 0) 100 ∷ fact_came (Media 4 10 0) 0 ∷ []
+sending = fact_came (Media 4 11 0 0) 100 ∷ fact_came (Media 4 10 0 0) 0 ∷ []
 
-one_packet_is_none : members_at 2 8000 (fact_came (Media 4 10 0) 0 ∷ []) ≡ 0
+one_packet_is_none : members_at 2 8000 (fact_came (Media 4 10 0 0) 0 ∷ []) ≡ 0
 one_packet_is_none = refl
 
 sends : senders_at 2 8000 sending ≡ 1
@@ -66,7 +66,7 @@ no_longer_sends = refl
 is_still_member : members_at 2 8000 idle ≡ 1
 is_still_member = refl
 
-sends_again : senders_at 2 8000 (fact_came (Media 4 12 0) 200 ∷ idle) ≡ 1
+sends_again : senders_at 2 8000 (fact_came (Media 4 12 0 0) 200 ∷ idle) ≡ 1
 sends_again = refl
 
 -- ---- Silence

@@ -50,10 +50,10 @@ after_by : (b : Bounds) (rate : ℕ) (fact : Fact) (t : ℕ) (valid : Bool) (mar
     StandsBy b (entry_with_fact rate fact t (record { valid = valid; mark = mark; sighting = sighting; sending = sending; source = source }))
 after_by b rate fact t valid (Some mark) sighting sending source up h = h
 after_by b rate (Heard ssrc) t valid None sighting sending source up h = (up, h.1)
-after_by b rate (Told ssrc ntp) t valid None sighting sending source up h = (up, h.1)
+after_by b rate (Told ssrc ntp rtp) t valid None sighting sending source up h = (up, h.1)
 after_by b rate (Named ssrc) t valid None sighting sending source up h = (up, h.1)
 after_by b rate (Gone ssrc) t valid None sighting sending source up h = (h.0, up)
-after_by b rate (Media ssrc seq timestamp) t valid None sighting sending source up h = (up.0, by_counted b _ t sending up.1 h.1)
+after_by b rate (Media ssrc seq timestamp octets) t valid None sighting sending source up h = (up.0, by_counted b _ t sending up.1 h.1)
 
 pub stands_after : (b : Bounds) (rate : ℕ) (fact : Fact) (t : ℕ) (e : EntryValue) → IsUpTo b fact t → StandsBy b e → StandsBy b (entry_with_fact rate fact t e)
 stands_after b rate fact t e up h = after_by b rate fact t e.valid e.mark e.sighting e.sending e.source up h
@@ -115,17 +115,17 @@ by_packet false t true (Some sent) sends = (refl, refl)
 one_more_news : (before received : ℕ) → nat_lt before received ≡ true → nat_lt before (received + 1) ≡ true
 one_more_news before received news = lt-ltb before (received + 1) (omega (arith, ltb-true before received news))
 
-counted_news : (seq transit : ℕ) (run : Option RunValue) → news_of run ≡ true → news_of (counted_in seq transit run) ≡ true
-counted_news seq transit None news = absurd cc
-counted_news seq transit (Some run) news = one_more_news run.received_before run.received news
+counted_news : (seq transit octets : ℕ) (run : Option RunValue) → news_of run ≡ true → news_of (counted_in seq transit octets run) ≡ true
+counted_news seq transit octets None news = absurd cc
+counted_news seq transit octets (Some run) news = one_more_news run.received_before run.received news
 
 -- A packet leaves a source with news where it had some.
-news_kept : (taken : Taken) (seq transit : ℕ) (source : SourceValue) → news_of source.run ≡ true → news_of (source_with taken seq transit source).run ≡ true
-news_kept Counted seq transit source news = counted_news seq transit source.run news
-news_kept Became seq transit source news = refl
-news_kept Restarted seq transit source news = refl
-news_kept Probation seq transit source news = news
-news_kept Bad seq transit source news = news
+news_kept : (taken : Taken) (seq transit octets : ℕ) (source : SourceValue) → news_of source.run ≡ true → news_of (source_with taken seq transit octets source).run ≡ true
+news_kept Counted seq transit octets source news = counted_news seq transit octets source.run news
+news_kept Became seq transit octets source news = refl
+news_kept Restarted seq transit octets source news = refl
+news_kept Probation seq transit octets source news = news
+news_kept Bad seq transit octets source news = news
 
 abbrev IsCountedAs : (next e : EntryValue) → Type 0
 IsCountedAs next e = (is_member next ≡ is_member e) × (is_sender next ≡ is_sender e) × (is_due next ≡ is_due e)
@@ -136,14 +136,14 @@ kept_by : (rate : ℕ) (fact : Fact) (t : ℕ) (valid : Bool) (mark : Option ℕ
     KeepsCounts fact e → IsCountedAs (entry_with_fact rate fact t e) e
 kept_by rate fact t valid (Some mark) sighting sending source keeps = (refl, refl, refl)
 kept_by rate (Heard ssrc) t valid None sighting sending source keeps = (refl, refl, refl)
-kept_by rate (Told ssrc ntp) t valid None sighting sending source keeps = (refl, refl, refl)
+kept_by rate (Told ssrc ntp rtp) t valid None sighting sending source keeps = (refl, refl, refl)
 kept_by rate (Named ssrc) t valid None sighting sending source keeps =
     (λ i. sym keeps i && true, λ i. (sym keeps i && true) && is_some sending, refl)
 kept_by rate (Gone ssrc) t valid None sighting sending source keeps = absurd keeps
-kept_by rate (Media ssrc seq timestamp) t valid None sighting sending source keeps =
+kept_by rate (Media ssrc seq timestamp octets) t valid None sighting sending source keeps =
     let taken = taken_by source seq in
     let sends = by_packet (is_counted taken) t valid sending keeps.0 in
-    (sends.0, sends.1, news_kept taken seq (transit_of timestamp (media_units t rate)) source keeps.1 ∙ sym keeps.1)
+    (sends.0, sends.1, news_kept taken seq (transit_of timestamp (media_units t rate)) octets source keeps.1 ∙ sym keeps.1)
 
 pub counts_kept : (rate : ℕ) (fact : Fact) (t : ℕ) (e : EntryValue) → KeepsCounts fact e → IsCountedAs (entry_with_fact rate fact t e) e
 counts_kept rate fact t e keeps = kept_by rate fact t e.valid e.mark e.sighting e.sending e.source keeps

@@ -53,14 +53,15 @@ module _ (rate ssrc : ℕ) (step : TraceStep) (stay : List TraceStep) where
 pub own_fact : (rate ssrc moment : ℕ) (fact : Fact) (stay : List TraceStep) → (subject fact == ssrc) ≡ true
     → moved_entry rate ssrc (fact_came fact moment) stay ≡ entry_after rate fact moment (entry_with rate ssrc stay None)
 own_fact rate ssrc moment (Heard other) stay own = rw own refl
-own_fact rate ssrc moment (Told other ntp) stay own = rw own refl
+own_fact rate ssrc moment (Told other ntp rtp) stay own = rw own refl
 own_fact rate ssrc moment (Named other) stay own = rw own refl
 own_fact rate ssrc moment (Gone other) stay own = rw own refl
-own_fact rate ssrc moment (Media other seq timestamp) stay own =
+own_fact rate ssrc moment (Media other seq timestamp octets) stay own =
     let given = given_of rate ssrc stay in
     let taken : taken_in (run_of given) seq ≡ taken_by (summary_of given) seq = sym (summary_suffices-taken given seq) in
     let arrival = media_units moment rate in
-    let moved : summary_of (packet_came seq timestamp arrival ∷ given) ≡ after_packet seq timestamp arrival (summary_of given) = summary_moves-packet seq timestamp arrival given in
+    let moved : summary_of (packet_came seq timestamp arrival octets ∷ given)
+      ≡ after_packet seq timestamp arrival octets (summary_of given) = summary_moves-packet seq timestamp arrival octets given in
     rw own (λ i. record {
       valid = is_counted (taken i) || is_valid rate ssrc stay;
       mark = None;
@@ -73,10 +74,10 @@ own_fact rate ssrc moment (Media other seq timestamp) stay own =
 pub other_fact : (rate ssrc moment : ℕ) (fact : Fact) (stay : List TraceStep) → (subject fact == ssrc) ≡ false
     → moved_entry rate ssrc (fact_came fact moment) stay ≡ entry_with rate ssrc stay None
 other_fact rate ssrc moment (Heard other) stay apart = rw apart refl
-other_fact rate ssrc moment (Told other ntp) stay apart = rw apart refl
+other_fact rate ssrc moment (Told other ntp rtp) stay apart = rw apart refl
 other_fact rate ssrc moment (Named other) stay apart = rw apart refl
 other_fact rate ssrc moment (Gone other) stay apart = rw apart refl
-other_fact rate ssrc moment (Media other seq timestamp) stay apart = rw apart refl
+other_fact rate ssrc moment (Media other seq timestamp octets) stay apart = rw apart refl
 
 -- ---- Checks
 

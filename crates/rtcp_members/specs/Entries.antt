@@ -25,12 +25,12 @@ pub record EntryValue : Type 0 where
 
 abbrev pub given_by : (rate ssrc : ℕ) → Fact → (moment : ℕ) → List Given → List Given
 given_by rate ssrc (Heard other) moment given = given
-given_by rate ssrc (Told other ntp) moment given =
-    if other == ssrc then report_came ntp moment ∷ given else given
+given_by rate ssrc (Told other ntp rtp) moment given =
+    if other == ssrc then report_came ntp rtp moment ∷ given else given
 given_by rate ssrc (Named other) moment given = given
 given_by rate ssrc (Gone other) moment given = given
-given_by rate ssrc (Media other seq timestamp) moment given =
-    if other == ssrc then packet_came seq timestamp (media_units moment rate) ∷ given else given
+given_by rate ssrc (Media other seq timestamp octets) moment given =
+    if other == ssrc then packet_came seq timestamp (media_units moment rate) octets ∷ given else given
 
 abbrev pub given_with : (rate ssrc : ℕ) → TraceStep → List Given → List Given
 given_with rate ssrc (fact_came fact moment) given = given_by rate ssrc fact moment given
@@ -44,10 +44,10 @@ given_of rate ssrc (step ∷ earlier) = given_with rate ssrc step (given_of rate
 
 abbrev pub is_counted_fact : (ssrc : ℕ) → Fact → List Given → Bool
 is_counted_fact ssrc (Heard other) given = false
-is_counted_fact ssrc (Told other ntp) given = false
+is_counted_fact ssrc (Told other ntp rtp) given = false
 is_counted_fact ssrc (Named other) given = false
 is_counted_fact ssrc (Gone other) given = false
-is_counted_fact ssrc (Media other seq timestamp) given =
+is_counted_fact ssrc (Media other seq timestamp octets) given =
     other == ssrc && is_counted (taken_in (run_of given) seq)
 
 -- Whether a step is a counted packet of the source, to which this was given before (A.1).
@@ -58,10 +58,10 @@ is_counted_by ssrc (block_taken other) given = false
 
 abbrev pub gives_name : (ssrc : ℕ) → TraceStep → Bool
 gives_name ssrc (fact_came (Heard other) moment) = false
-gives_name ssrc (fact_came (Told other ntp) moment) = false
+gives_name ssrc (fact_came (Told other ntp rtp) moment) = false
 gives_name ssrc (fact_came (Named other) moment) = other == ssrc
 gives_name ssrc (fact_came (Gone other) moment) = false
-gives_name ssrc (fact_came (Media other seq timestamp) moment) = false
+gives_name ssrc (fact_came (Media other seq timestamp octets) moment) = false
 gives_name ssrc (check_made horizons) = false
 gives_name ssrc (block_taken other) = false
 

@@ -1,7 +1,7 @@
 -- What the entries of a list say, in the values of the definitions.
 use Rattle.std.specs.Prelude.{ℕ, ◌≡◌, Bool, false, List, map, length, filter, not, ◌&&◌, ◌≤◌, if◌then◌else◌, Option, Some, None, is_none, slice_get, option_map}
 use Rattle.std.specs.FinMap as finite
-use Rattle.rtcp_source.specs.Views.{reception_value, told_value}
+use Rattle.rtcp_source.specs.Views.{reception_value, told_value, last_block_value}
 use Rattle.rtcp_members.specs.declared.entry.Entry.{Entry}
 use Rattle.rtcp_members.specs.declared.state.SourceState.{SourceState}
 use Rattle.rtcp_members.specs.Entries.{EntryValue}
@@ -32,6 +32,7 @@ state_value s =
       heard = s.heard;
       reception = option_map reception_value s.reception;
       told = option_map told_value s.told;
+      last_block = option_map last_block_value s.last_block;
     }
 
 abbrev pub row_of : Entry → ℕ × EntryValue

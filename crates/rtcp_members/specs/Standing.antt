@@ -26,10 +26,10 @@ AllStandBy bounds entries = All (λ (e : Entry). StandsBy bounds (entry_value e)
 -- The bounds lie no later than the moment of a fact, as far as it can change an entry's.
 abbrev pub IsUpTo : Bounds → Fact → (moment : ℕ) → Type 0
 IsUpTo bounds (Heard ssrc) moment = bounds.silent ≤ moment
-IsUpTo bounds (Told ssrc ntp) moment = bounds.silent ≤ moment
+IsUpTo bounds (Told ssrc ntp rtp) moment = bounds.silent ≤ moment
 IsUpTo bounds (Named ssrc) moment = bounds.silent ≤ moment
 IsUpTo bounds (Gone ssrc) moment = bounds.gone ≤ moment
-IsUpTo bounds (Media ssrc seq timestamp) moment = (bounds.silent ≤ moment) × (bounds.idle ≤ moment)
+IsUpTo bounds (Media ssrc seq timestamp octets) moment = (bounds.silent ≤ moment) × (bounds.idle ≤ moment)
 
 -- No bound of the one is later than the other's.
 pub record IsNoLater (one other : Bounds) : Type 0 where
@@ -68,7 +68,7 @@ pub record IsEdited (count room : ℕ) (entries : List Entry) (new_room : ℕ) (
 -- is due.
 abbrev pub KeepsCounts : Fact → EntryValue → Type 0
 KeepsCounts (Heard ssrc) entry = Unit {0}
-KeepsCounts (Told ssrc ntp) entry = Unit {0}
+KeepsCounts (Told ssrc ntp rtp) entry = Unit {0}
 KeepsCounts (Named ssrc) entry = entry.valid ≡ true
 KeepsCounts (Gone ssrc) entry = ⊥
-KeepsCounts (Media ssrc seq timestamp) entry = (is_sender entry ≡ true) × (is_due entry ≡ true)
+KeepsCounts (Media ssrc seq timestamp octets) entry = (is_sender entry ≡ true) × (is_due entry ≡ true)

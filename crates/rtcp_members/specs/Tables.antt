@@ -39,25 +39,25 @@ new_entry = record { valid = false; mark = None; sighting = 0; sending = None; s
 -- whether the fact is a packet that the source counts
 abbrev pub counts : Fact → SourceValue → Bool
 counts (Heard ssrc) source = false
-counts (Told ssrc ntp) source = false
+counts (Told ssrc ntp rtp) source = false
 counts (Named ssrc) source = false
 counts (Gone ssrc) source = false
-counts (Media ssrc seq timestamp) source = is_counted (taken_by source seq)
+counts (Media ssrc seq timestamp octets) source = is_counted (taken_by source seq)
 
 -- an entry without a mark, after a fact of its source
 abbrev pub entry_after : (rate : ℕ) → Fact → (moment : ℕ) → EntryValue → EntryValue
 entry_after rate (Heard ssrc) moment entry = record entry { sighting = moment }
-entry_after rate (Told ssrc ntp) moment entry =
-    record entry { sighting = moment; source = after_told ntp moment entry.source }
+entry_after rate (Told ssrc ntp rtp) moment entry =
+    record entry { sighting = moment; source = after_told ntp rtp moment entry.source }
 entry_after rate (Named ssrc) moment entry = record entry { valid = true; sighting = moment }
 entry_after rate (Gone ssrc) moment entry = record entry { mark = Some moment }
-entry_after rate (Media ssrc seq timestamp) moment entry =
+entry_after rate (Media ssrc seq timestamp octets) moment entry =
     let counted = is_counted (taken_by entry.source seq) in
     record entry {
       valid = counted || entry.valid;
       sighting = moment;
       sending = (if counted then Some moment else entry.sending);
-      source = after_packet seq timestamp (media_units moment rate) entry.source;
+      source = after_packet seq timestamp (media_units moment rate) octets entry.source;
     }
 
 -- an entry after a fact of its source: one with a mark stays as it is

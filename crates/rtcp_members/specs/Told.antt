@@ -1,6 +1,7 @@
 -- What is told of the sources of a session, one after the other by rising SSRC, by its table and by its trace.
 use Rattle.std.specs.Prelude.{ℕ, ◌≡◌, ◌<◌, Bool, true, List, [], ◌∷◌, filter, map, Option, Some, None}
 use Rattle.std.specs.FinMap as finite
+use Rattle.rtcp_source.specs.LastBlocks.{LastBlockValue, last_block}
 use Rattle.rtcp_source.specs.Summary.{ToldValue, last_told}
 use Rattle.rtcp_source.specs.Receptions.{ReceptionValue, reception_in, reception_over}
 use Rattle.rtcp_members.specs.Traces.{TraceStep}
@@ -23,6 +24,8 @@ pub record StateValue : Type 0 where
   pub reception : Option ReceptionValue
   -- its last sender report
   pub told : Option ToldValue
+  -- what the last report block said that was made of it
+  pub last_block : Option LastBlockValue
 
 abbrev pub state_of : EntryRow → StateValue
 state_of row =
@@ -34,6 +37,7 @@ state_of row =
       heard = row.1.sighting;
       reception = reception_in row.1.source;
       told = row.1.source.told;
+      last_block = row.1.source.last_block;
     }
 
 -- ---- By the table
@@ -77,6 +81,7 @@ told_in_stay rate ssrc stay =
       heard = last_sighting ssrc stay;
       reception = reception_over (given_of rate ssrc (before_mark ssrc stay));
       told = last_told (given_of rate ssrc (before_mark ssrc stay));
+      last_block = last_block (given_of rate ssrc (before_mark ssrc stay));
     }
 
 -- It is told of the source of least SSRC above `after` that is present.

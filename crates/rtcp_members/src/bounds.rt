@@ -38,11 +38,11 @@ impl Bounds {
     {
         match fact {
             Fact::Gone(_) => self.gone = self.gone.min(t),
-            Fact::Media(_, _, _) => {
+            Fact::Media(_, _, _, _) => {
                 self.silent = self.silent.min(t);
                 self.idle = self.idle.min(t);
             }
-            Fact::Heard(_) | Fact::Named(_) | Fact::Told(_, _) => self.silent = self.silent.min(t),
+            Fact::Heard(_) | Fact::Named(_) | Fact::Told(_, _, _) => self.silent = self.silent.min(t),
         }
     }
 

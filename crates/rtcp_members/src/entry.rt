@@ -112,8 +112,10 @@ impl Entry {
             }
             Fact::Heard(_) => {}
             Fact::Named(_) => self.valid = true,
-            Fact::Told(_, ntp) => self.source.saw_sr(ntp, t),
-            Fact::Media(_, seq, timestamp) => return self.take_packet(seq, timestamp, t, rate),
+            Fact::Told(_, ntp, rtp) => self.source.saw_sr(ntp, rtp, t),
+            Fact::Media(_, seq, timestamp, octets) => {
+                return self.take_packet(seq, timestamp, octets, t, rate);
+            }
         }
         self.sighting = t;
         false
@@ -122,14 +124,14 @@ impl Entry {
     /// Takes an RTP packet of the source at the moment `t`, where the entry has no mark. Returns whether it was
     /// counted.
     #[inline(never)]
-    fn take_packet(&mut self, seq: u16, timestamp: u32, t: u64, rate: u32) -> bool
+    fn take_packet(&mut self, seq: u16, timestamp: u32, octets: u64, t: u64, rate: u32) -> bool
         requires { self.old.source.packets < 2 ^ 40 }
-        ensures counted { (ssrc : ℕ) → result ≡ counts (Media ssrc seq timestamp) self.old.source }
+        ensures counted { (ssrc : ℕ) → result ≡ counts (Media ssrc seq timestamp octets) self.old.source }
         ensures ssrc { self.new.ssrc ≡ self.old.ssrc }
         ensures value { (ssrc : ℕ) → entry_value self.new
-            ≡ entry_after rate (Media ssrc seq timestamp) t (entry_value self.old) }
+            ≡ entry_after rate (Media ssrc seq timestamp octets) t (entry_value self.old) }
     {
-        let taken = self.source.take(seq, timestamp, rtp_units(t, rate));
+        let taken = self.source.take(seq, timestamp, rtp_units(t, rate), octets);
         let counted = taken.is_counted();
         if counted {
             self.valid = true;
@@ -169,9 +171,9 @@ impl Entry {
         ensures { IsTrue result → KeepsCounts fact (entry_value self.now) }
     {
         match fact {
-            Fact::Heard(_) | Fact::Told(_, _) => true,
+            Fact::Heard(_) | Fact::Told(_, _, _) => true,
             Fact::Named(_) => self.valid,
-            Fact::Media(_, _, _) => self.is_sender() && self.is_due(),
+            Fact::Media(_, _, _, _) => self.is_sender() && self.is_due(),
             Fact::Gone(_) => false,
         }
     }
@@ -206,6 +208,7 @@ impl Entry {
             heard: self.sighting,
             reception: self.source.reception(),
             told: self.source.last_report(),
+            last_block: self.source.last_block(),
         }
     }
 

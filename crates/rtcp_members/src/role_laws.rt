@@ -44,8 +44,10 @@ pub fn heard_by_what_it_says()
         after_facts (Heard ssrc ∷ Named ssrc ∷ []) moment table ≡ after_facts (Named ssrc ∷ []) moment table }
     ensures named_moves { (ssrc moment : ℕ) (table : TableValue) →
         facts_move (Heard ssrc ∷ Named ssrc ∷ []) moment table ≡ facts_move (Named ssrc ∷ []) moment table }
-    ensures told { (ssrc ntp moment : ℕ) (table : TableValue) →
-        after_facts (Heard ssrc ∷ Told ssrc ntp ∷ []) moment table ≡ after_facts (Told ssrc ntp ∷ []) moment table }
-    ensures told_moves { (ssrc ntp moment : ℕ) (table : TableValue) →
-        facts_move (Heard ssrc ∷ Told ssrc ntp ∷ []) moment table ≡ facts_move (Told ssrc ntp ∷ []) moment table }
+    ensures told { (ssrc ntp rtp moment : ℕ) (table : TableValue) →
+        after_facts (Heard ssrc ∷ Told ssrc ntp rtp ∷ []) moment table
+        ≡ after_facts (Told ssrc ntp rtp ∷ []) moment table }
+    ensures told_moves { (ssrc ntp rtp moment : ℕ) (table : TableValue) →
+        facts_move (Heard ssrc ∷ Told ssrc ntp rtp ∷ []) moment table
+        ≡ facts_move (Told ssrc ntp rtp ∷ []) moment table }
 {}

@@ -1,6 +1,6 @@
 //! What is told of a source on request.
 
-use rtcp_source::{Reception, Told};
+use rtcp_source::{LastBlock, Reception, Told};
 
 /// What is known of a source that is present: a member, one that is not yet valid, or one that left and is
 /// held for a while.
@@ -20,4 +20,6 @@ pub struct SourceState {
     pub reception: Option<Reception>,
     /// Its last sender report.
     pub told: Option<Told>,
+    /// What the last report block said that was made of it.
+    pub last_block: Option<LastBlock>,
 }

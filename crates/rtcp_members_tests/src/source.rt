@@ -7,13 +7,14 @@ use std::test::*;
 
 mod blocks;
 mod sequence;
+mod telling;
 
 /// The example at the head of `rtcp_source`.
 #[test]
 fn example(rt: HostRuntime) {
     let mut source = Source::new();
-    assert_eq!(rt; source.take(10, 0, 0), Taken::Probation);
-    assert_eq!(rt; source.take(11, 160, 160), Taken::Became);
+    assert_eq!(rt; source.take(10, 0, 0, 160), Taken::Probation);
+    assert_eq!(rt; source.take(11, 160, 160, 160), Taken::Became);
     assert_eq!(rt; source.block(9, 0).highest, 11);
 }
 

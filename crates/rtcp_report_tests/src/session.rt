@@ -37,7 +37,7 @@ impl<T: MemberTable> Session<T> {
     /// An RTP packet of the source with this number.
     pub(crate) fn packet(&mut self, rt: &impl Abort, ssrc: u32, seq: u16) {
         assert!(rt; self.facts < 10_000);
-        let _ = self.table.apply(Fact::Media(ssrc, seq, 0), 0);
+        let _ = self.table.apply(Fact::Media(ssrc, seq, 0, 0), 0);
         self.facts += 1;
     }
 

@@ -42,27 +42,27 @@ IsHigh run = HasCounted run → 65536 ≤ greatest_ordinal run.counted
 abbrev run_in : (counted before : List CountedPacket) (strays : List ℕ) → PacketRun
 run_in counted before strays = record { counted = counted; strays = strays; reported = before }
 
-high_next : (seq transit : ℕ) (counted before : List CountedPacket) (strays : List ℕ)
+high_next : (seq transit octets : ℕ) (counted before : List CountedPacket) (strays : List ℕ)
     → let run : PacketRun = run_in counted before strays in
-    IsHigh run → IsHigh (run_with (taken_in run seq) seq transit run)
-high_next seq transit [] before strays high =
-    elim (follows (newest strays) seq) as (λ b. IsHigh (run_with (if b then Became else Probation) seq transit (run_in [] before strays))) [
+    IsHigh run → IsHigh (run_with (taken_in run seq) seq transit octets run)
+high_next seq transit octets [] before strays high =
+    elim (follows (newest strays) seq) as (λ b. IsHigh (run_with (if b then Became else Probation) seq transit octets (run_in [] before strays))) [
       | true ↦ λ some. omega arith
       | false ↦ high
     ]
-high_next seq transit (p ∷ earlier) before strays high =
+high_next seq transit octets (p ∷ earlier) before strays high =
     let run : PacketRun = run_in (p ∷ earlier) before strays in
     let low : 65536 ≤ greatest_ordinal (p ∷ earlier) = high (omega arith) in
-    elim (is_near (greatest_ordinal (p ∷ earlier)) seq) as (λ near. IsHigh (run_with (if near then Counted else (if follows (newest strays) seq then Restarted else Bad)) seq transit run)) [
+    elim (is_near (greatest_ordinal (p ∷ earlier)) seq) as (λ near. IsHigh (run_with (if near then Counted else (if follows (newest strays) seq then Restarted else Bad)) seq transit octets run)) [
       | true ↦ λ some. omega (arith, low)
-      | false ↦ elim (follows (newest strays) seq) as (λ b. IsHigh (run_with (if b then Restarted else Bad) seq transit run)) [ true ↦ λ some. omega arith | false ↦ high ]
+      | false ↦ elim (follows (newest strays) seq) as (λ b. IsHigh (run_with (if b then Restarted else Bad) seq transit octets run)) [ true ↦ λ some. omega arith | false ↦ high ]
     ]
 
 pub greatest_high : (given : List Given) → HasCounted (run_of given) → 65536 ≤ greatest_ordinal (run_of given).counted
 greatest_high [] = λ some. omega (arith, some)
-greatest_high (packet_came seq timestamp arrival ∷ given) =
-    let run : PacketRun = run_of given in high_next seq (transit_of timestamp arrival) run.counted run.reported run.strays (greatest_high given)
-greatest_high (report_came ntp moment ∷ given) = greatest_high given
+greatest_high (packet_came seq timestamp arrival octets ∷ given) =
+    let run : PacketRun = run_of given in high_next seq (transit_of timestamp arrival) octets run.counted run.reported run.strays (greatest_high given)
+greatest_high (report_came ntp rtp moment ∷ given) = greatest_high given
 greatest_high (block_made ∷ given) = greatest_high given
 
 -- ---- Packets that are counted
@@ -107,12 +107,12 @@ counted_exactly given seq small some =
 ordinal_at : (seq : ℕ) (integer : ℤ) → seq < 65536 → (greatest : ℕ) → IsIntegerNear (pos greatest) seq integer → ordinal_near (greatest + 65536) seq ≡ ordinal_of integer
 ordinal_at seq integer small greatest near = (has_ordinal greatest seq integer small near).1
 
-pub enters_run : (given : List Given) (seq timestamp arrival : ℕ) (integer : ℤ) → seq < 65536 → HasCounted (run_of given) → IsIntegerNear (greatest_integer (run_of given)) seq integer
-    → run_of (packet_came seq timestamp arrival ∷ given) ≡ with_counted (packet_at (ordinal_of integer) (transit_of timestamp arrival)) (run_of given)
-enters_run given seq timestamp arrival integer small some near =
+pub enters_run : (given : List Given) (seq timestamp arrival octets : ℕ) (integer : ℤ) → seq < 65536 → HasCounted (run_of given) → IsIntegerNear (greatest_integer (run_of given)) seq integer
+    → run_of (packet_came seq timestamp arrival octets ∷ given) ≡ with_counted (packet_at (ordinal_of integer) (transit_of timestamp arrival) octets) (run_of given)
+enters_run given seq timestamp arrival octets integer small some near =
     let run : PacketRun = run_of given in
     let counted : taken_in run seq ≡ Counted = (counted_exactly given seq small some).1 (integer, near) in
     let ordinal : ordinal_near (greatest_ordinal run.counted) seq ≡ ordinal_of integer =
     by_integer (λ ordinal greatest. IsIntegerNear greatest seq integer → ordinal_near ordinal seq ≡ ordinal_of integer) (ordinal_at seq integer small) (greatest_ordinal run.counted) (greatest_high given some) near in
-    ap (λ taken. run_with taken seq (transit_of timestamp arrival) run) counted
-    ∙ ap (λ (ordinal : ℕ). with_counted (packet_at ordinal (transit_of timestamp arrival)) run) ordinal
+    ap (λ taken. run_with taken seq (transit_of timestamp arrival) octets run) counted
+    ∙ ap (λ (ordinal : ℕ). with_counted (packet_at ordinal (transit_of timestamp arrival) octets) run) ordinal

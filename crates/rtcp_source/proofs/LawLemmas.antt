@@ -1,14 +1,16 @@
 -- The laws, as lemmas that the proofs of other crates can cite.
-use Rattle.std.proofs.Common.{◌≡◌, ℕ, ◌+◌, ◌-◌, ◌%◌, ◌^◌, ◌<◌, ◌≤◌, ◌↔◌, ℤ, pos, unsigned_abs, option_map, Option, true, List, [], ◌∷◌, refl, rules}
+use Rattle.std.proofs.Common.{◌≡◌, ℕ, ◌+◌, ◌-◌, ◌%◌, ◌^◌, ◌<◌, ◌≤◌, ◌↔◌, ℤ, pos, unsigned_abs, option_map, Option, Some, true, List, [], ◌∷◌, refl, ap, rules}
+use Rattle.rtcp_wire.specs.Values.{ReportBlock}
 use Rattle.std.specs.Int.{cast_signed, w32}
 use Rattle.rtcp_source.specs.declared.taken.Taken.TheVariants.{Counted}
 use Rattle.rtcp_source.specs.Packets.{Given, packet_at, with_counted, packet_came, report_came, block_made, HasCounted, greatest_ordinal, is_near, ordinal_near, taken_in, transit_of, run_of, has_news_since, newest, PacketRun}
 use Rattle.rtcp_source.specs.Integers.{IsIntegerNear, HasIntegerNear, HasOrdinalNear, IsOrdinalOfInteger, ordinal_of, greatest_integer}
+use Rattle.rtcp_source.specs.LastBlocks.{last_block}
 use Rattle.rtcp_source.specs.Summary.{ToldValue, summary_of, last_told, transit_distance}
 use Rattle.rtcp_source.specs.Blocks.{block_for, block_over, lsr_of, dlsr_of, news_of}
-use Rattle.rtcp_source.specs.Receptions.{reception_in, reception_over, figures_of, figures_in}
+use Rattle.rtcp_source.specs.Receptions.{reception_in, reception_over, figures_of, figures_in, said_by}
 use Rattle.rtcp_source.specs.Steps.{no_source, taken_by, after_packet, after_told, after_block_made}
-use Rattle.rtcp_source.proofs.Summing.{same_taken, same_block, same_reception, same_figures}
+use Rattle.rtcp_source.proofs.Summing.{same_taken, same_block, same_reception, same_figures, same_said, same_clock}
 use Rattle.rtcp_source.proofs.Stepping.{packet_moves, block_moves}
 use Rattle.rtcp_source.proofs.News.{news_of_summary}
 use Rattle.rtcp_source.proofs.Integers.{has_integer, has_ordinal, same_integer, greatest_high, counted_exactly, enters_run}
@@ -36,14 +38,42 @@ reception_is_that_of_blocks-figures ssrc t given =
 pub reception_is_that_of_blocks-kept : (given : List Given) → reception_over (block_made ∷ given) ≡ reception_over given
 reception_is_that_of_blocks-kept given = refl
 
+pub last_report_is_that_of_blocks-clock : (ssrc t : ℕ) (given : List Given) (block : ReportBlock)
+    → block_over ssrc t given ≡ Some block
+    → (block.lsr ≡ lsr_of (last_told given)) × (block.dlsr ≡ dlsr_of (last_told given) t)
+last_report_is_that_of_blocks-clock ssrc t given block made =
+    let run : PacketRun = run_of given in
+    let told : Option ToldValue = last_told given in
+    let same = same_clock run.counted run.reported ssrc (lsr_of told) (dlsr_of told t) block made in
+    (ap (λ p. p.0) same, ap (λ p. p.1) same)
+
+pub last_report_is_that_of_blocks-kept : (given : List Given) → last_told (block_made ∷ given) ≡ last_told given
+last_report_is_that_of_blocks-kept given = refl
+
+pub last_block_is_that_block-said : (ssrc t : ℕ) (given : List Given)
+    → last_block (block_made ∷ given) ≡ option_map said_by (block_over ssrc t given)
+last_block_is_that_block-said ssrc t given =
+    let run : PacketRun = run_of given in
+    let told : Option ToldValue = last_told given in
+    same_said run.counted run.reported ssrc (lsr_of told) (dlsr_of told t)
+
+pub last_block_is_that_block-packet : (seq timestamp arrival octets : ℕ) (given : List Given)
+    → last_block (packet_came seq timestamp arrival octets ∷ given) ≡ last_block given
+last_block_is_that_block-packet seq timestamp arrival octets given = refl
+
+pub last_block_is_that_block-report : (ntp rtp moment : ℕ) (given : List Given)
+    → last_block (report_came ntp rtp moment ∷ given) ≡ last_block given
+last_block_is_that_block-report ntp rtp moment given = refl
+
 pub summary_moves-none : summary_of [] ≡ no_source
 summary_moves-none = refl
 
-pub summary_moves-packet : (seq timestamp arrival : ℕ) (given : List Given) → summary_of (packet_came seq timestamp arrival ∷ given) ≡ after_packet seq timestamp arrival (summary_of given)
+pub summary_moves-packet : (seq timestamp arrival octets : ℕ) (given : List Given) → summary_of (packet_came seq timestamp arrival octets ∷ given) ≡ after_packet seq timestamp arrival octets (summary_of given)
 summary_moves-packet = packet_moves
 
-pub summary_moves-report : (ntp moment : ℕ) (given : List Given) → summary_of (report_came ntp moment ∷ given) ≡ after_told ntp moment (summary_of given)
-summary_moves-report ntp moment given = refl
+pub summary_moves-report : (ntp rtp moment : ℕ) (given : List Given)
+    → summary_of (report_came ntp rtp moment ∷ given) ≡ after_told ntp rtp moment (summary_of given)
+summary_moves-report ntp rtp moment given = refl
 
 pub summary_moves-block : (given : List Given) → summary_of (block_made ∷ given) ≡ after_block_made (summary_of given)
 summary_moves-block = block_moves
@@ -56,8 +86,8 @@ counted_by_integer-greatest = greatest_high
 pub counted_by_integer-counted : (given : List Given) (seq : ℕ) → seq < 65536 → HasCounted (run_of given) → (taken_in (run_of given) seq ≡ Counted) ↔ HasIntegerNear (greatest_integer (run_of given)) seq
 counted_by_integer-counted = counted_exactly
 
-pub counted_by_integer-enters : (given : List Given) (seq timestamp arrival : ℕ) (integer : ℤ) → seq < 65536 → HasCounted (run_of given) → IsIntegerNear (greatest_integer (run_of given)) seq integer
-    → run_of (packet_came seq timestamp arrival ∷ given) ≡ with_counted (packet_at (ordinal_of integer) (transit_of timestamp arrival)) (run_of given)
+pub counted_by_integer-enters : (given : List Given) (seq timestamp arrival octets : ℕ) (integer : ℤ) → seq < 65536 → HasCounted (run_of given) → IsIntegerNear (greatest_integer (run_of given)) seq integer
+    → run_of (packet_came seq timestamp arrival octets ∷ given) ≡ with_counted (packet_at (ordinal_of integer) (transit_of timestamp arrival) octets) (run_of given)
 counted_by_integer-enters = enters_run
 
 pub counted_by_integer-one : (greatest : ℤ) (seq : ℕ) (a b : ℤ) → IsIntegerNear greatest seq a → IsIntegerNear greatest seq b → a ≡ b

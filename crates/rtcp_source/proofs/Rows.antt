@@ -8,7 +8,7 @@ use Rattle.rtcp_source.specs.Blocks.{block_for, block_over}
 -- packets of one transit, the newest number first
 abbrev with_numbers : List ℕ → List Given → List Given
 with_numbers [] given = given
-with_numbers (seq ∷ seqs) given = packet_came seq 0 0 ∷ with_numbers seqs given
+with_numbers (seq ∷ seqs) given = packet_came seq 0 0 0 ∷ with_numbers seqs given
 
 abbrev numbers : List ℕ → List Given
 numbers seqs = with_numbers seqs []
@@ -26,7 +26,7 @@ none_counted : Gives 0 (numbers (10 ∷ [])) None
 none_counted = (refl, refl)
 
 -- 5.25 seconds after a sender report
-told : Gives 6250000 (report_came 201232639590400 1000000 ∷ numbers (2 ∷ 1 ∷ []))
+told : Gives 6250000 (report_came 201232639590400 0 1000000 ∷ numbers (2 ∷ 1 ∷ []))
     (Some (record { ssrc = 9; fraction = 0; lost = pos 0; highest = 2; jitter = 0; lsr = 3070566400; dlsr = 344064 }))
 told = (refl, refl)
 
@@ -35,5 +35,5 @@ half_lost : Gives 0 (with_numbers (9 ∷ 7 ∷ 5 ∷ []) (block_made ∷ numbers
 half_lost = (refl, refl)
 
 -- The jitter returns to 0 at a restart.
-still : Gives 0 (packet_came 5001 0 999 ∷ packet_came 5000 0 0 ∷ packet_came 3 0 999 ∷ packet_came 2 0 0 ∷ packet_came 1 0 0 ∷ []) (plain_block 0 0 5001)
+still : Gives 0 (packet_came 5001 0 999 0 ∷ packet_came 5000 0 0 0 ∷ packet_came 3 0 999 0 ∷ packet_came 2 0 0 0 ∷ packet_came 1 0 0 0 ∷ []) (plain_block 0 0 5001)
 still = (refl, refl)

@@ -1,53 +1,101 @@
 -- The numbers that are kept of a source follow what it is given.
-use Rattle.std.proofs.Common.{◌≡◌, ℕ, suc, ◌+◌, true, false, if◌then◌else◌, List, [], ◌∷◌, length, Option, arith, refl, ap}
+use Rattle.std.proofs.Common.{◌≡◌, ℕ, suc, ◌+◌, true, false, if◌then◌else◌, List, [], ◌∷◌, length, Option, option_map, arith, refl, ap₂}
 use Rattle.rtcp_source.specs.declared.taken.Taken.{Taken}
 use Rattle.rtcp_source.specs.declared.taken.Taken.TheVariants.{Probation, Counted, Became, Restarted, Bad}
 use Rattle.rtcp_source.specs.Packets.{Given, packet_came, block_made, CountedPacket, PacketRun, is_near, follows, newest, taken_in, run_with, transit_of, run_of, greatest_ordinal}
+use Rattle.rtcp_source.specs.LastBlocks.{LastBlockValue, last_block, said_of}
 use Rattle.rtcp_source.specs.Summary.{ToldValue, SourceValue, numbers_of, packet_count, last_told, summary_of, StandsAt}
-use Rattle.rtcp_source.specs.Steps.{taken_by, source_with, after_packet, run_reported, after_block_made}
+use Rattle.rtcp_source.specs.Steps.{taken_by, source_with, after_packet, run_reported, said_in, after_block_made}
 
--- what is kept of a run, beside the count of packets and the last sender report
-abbrev summarised : (packets : ℕ) (last : Option ToldValue) → PacketRun → SourceValue
-summarised packets last run =
-    record { packets = packets; run = numbers_of run.counted run.reported; stray = newest run.strays; told = last }
+-- what is kept that no packet changes: the last sender report, and what the last block said
+abbrev Kept : Type 0
+Kept = Option ToldValue × Option LastBlockValue
 
-abbrev Moves : (seq transit packets : ℕ) (last : Option ToldValue) → PacketRun → Taken → Type 0
-Moves seq transit packets last run taken =
-    summarised (packets + 1) last (run_with taken seq transit run) ≡ source_with taken seq transit (summarised packets last run)
+-- what is kept of a run, beside the count of packets
+abbrev summarised : (packets : ℕ) → Kept → PacketRun → SourceValue
+summarised packets kept run =
+    record {
+      packets = packets;
+      run = numbers_of run.counted run.reported;
+      stray = newest run.strays;
+      told = kept.0;
+      last_block = kept.1;
+    }
+
+abbrev Moves : (seq transit octets packets : ℕ) → Kept → PacketRun → Taken → Type 0
+Moves seq transit octets packets kept run taken =
+    summarised (packets + 1) kept (run_with taken seq transit octets run)
+    ≡ source_with taken seq transit octets (summarised packets kept run)
 
 one_more : (n : ℕ) → suc n ≡ n + 1
 one_more n = omega arith
 
-counted_moves : (seq transit packets : ℕ) (last : Option ToldValue) (p : CountedPacket) (earlier before : List CountedPacket) (strays : List ℕ)
-    → Moves seq transit packets last (record { counted = p ∷ earlier; strays = strays; reported = before }) Counted
-counted_moves seq transit packets last p earlier before strays = rw (one_more (length (p ∷ earlier))) refl
+abbrev run_over : (counted before : List CountedPacket) (strays : List ℕ) → PacketRun
+run_over counted before strays = record { counted = counted; strays = strays; reported = before }
 
-moves : (seq transit packets : ℕ) (last : Option ToldValue) (counted before : List CountedPacket) (strays : List ℕ)
-    → let run : PacketRun = record { counted = counted; strays = strays; reported = before } in
-    let source = summarised packets last run in
-    summarised (packets + 1) last (run_with (taken_in run seq) seq transit run) ≡ source_with (taken_by source seq) seq transit source
-moves seq transit packets last [] before strays =
-    elim (follows (newest strays) seq) as (λ b. Moves seq transit packets last (record { counted = []; strays = strays; reported = before }) (if b then Became else Probation)) [ true ↦ refl | false ↦ refl ]
-moves seq transit packets last (p ∷ earlier) before strays =
-    elim (is_near (greatest_ordinal (p ∷ earlier)) seq) as (λ near. Moves seq transit packets last (record { counted = p ∷ earlier; strays = strays; reported = before }) (if near then Counted else (if follows (newest strays) seq then Restarted else Bad))) [
-      | true ↦ counted_moves seq transit packets last p earlier before strays
-      | false ↦ elim (follows (newest strays) seq) as (λ b. Moves seq transit packets last (record { counted = p ∷ earlier; strays = strays; reported = before }) (if b then Restarted else Bad)) [ true ↦ refl | false ↦ refl ]
+counted_moves : (seq transit octets packets : ℕ) (kept : Kept) (p : CountedPacket) (earlier before : List CountedPacket)
+    (strays : List ℕ) → Moves seq transit octets packets kept (run_over (p ∷ earlier) before strays) Counted
+counted_moves seq transit octets packets kept p earlier before strays =
+    rw (one_more (length (p ∷ earlier))) refl
+
+moves : (seq transit octets packets : ℕ) (kept : Kept) (counted before : List CountedPacket) (strays : List ℕ)
+    → let run : PacketRun = run_over counted before strays in
+    Moves seq transit octets packets kept run (taken_in run seq)
+moves seq transit octets packets kept [] before strays =
+    elim (follows (newest strays) seq)
+    as (λ b. Moves seq transit octets packets kept (run_over [] before strays) (if b then Became else Probation)) [
+      | true ↦ refl
+      | false ↦ refl
+    ]
+moves seq transit octets packets kept (p ∷ earlier) before strays =
+    let run : PacketRun = run_over (p ∷ earlier) before strays in
+    elim (is_near (greatest_ordinal (p ∷ earlier)) seq)
+    as (λ near. Moves seq transit octets packets kept run
+      (if near then Counted else (if follows (newest strays) seq then Restarted else Bad))) [
+      | true ↦ counted_moves seq transit octets packets kept p earlier before strays
+      | false ↦ elim (follows (newest strays) seq)
+      as (λ b. Moves seq transit octets packets kept run (if b then Restarted else Bad)) [ true ↦ refl | false ↦ refl ]
     ]
 
+-- what is taken by the numbers is what is taken in the run
+same_taking : (seq packets : ℕ) (kept : Kept) (counted before : List CountedPacket) (strays : List ℕ)
+    → let run : PacketRun = run_over counted before strays in
+    taken_by (summarised packets kept run) seq ≡ taken_in run seq
+same_taking seq packets kept [] before strays = refl
+same_taking seq packets kept (p ∷ earlier) before strays = refl
+
 -- One packet more moves the summary as it moves the numbers.
-pub packet_moves : (seq timestamp arrival : ℕ) (given : List Given) → summary_of (packet_came seq timestamp arrival ∷ given) ≡ after_packet seq timestamp arrival (summary_of given)
-packet_moves seq timestamp arrival given =
-    let run : PacketRun = run_of given in moves seq (transit_of timestamp arrival) (packet_count given) (last_told given) run.counted run.reported run.strays
+pub packet_moves : (seq timestamp arrival octets : ℕ) (given : List Given)
+    → summary_of (packet_came seq timestamp arrival octets ∷ given)
+    ≡ after_packet seq timestamp arrival octets (summary_of given)
+packet_moves seq timestamp arrival octets given =
+    let run : PacketRun = run_of given in
+    let kept : Kept = (last_told given, last_block given) in
+    rw (same_taking seq (packet_count given) kept run.counted run.reported run.strays)
+    (moves seq (transit_of timestamp arrival) octets (packet_count given) kept run.counted run.reported run.strays)
 
 same_numbers : (counted before : List CountedPacket) → numbers_of counted counted ≡ run_reported (numbers_of counted before)
 same_numbers [] before = refl
 same_numbers (p ∷ earlier) before = refl
 
+same_said : (counted before : List CountedPacket) → said_of counted before ≡ option_map said_in (numbers_of counted before)
+same_said [] before = refl
+same_said (p ∷ earlier) before = refl
+
 -- A block moves the summary as it moves the numbers.
 pub block_moves : (given : List Given) → summary_of (block_made ∷ given) ≡ after_block_made (summary_of given)
 block_moves given =
     let run : PacketRun = run_of given in
-    ap (λ numbers. record { packets = packet_count given; run = numbers; stray = newest run.strays; told = last_told given }) (same_numbers run.counted run.reported)
+    ap₂ (λ numbers said. record {
+      packets = packet_count given;
+      run = numbers;
+      stray = newest run.strays;
+      told = last_told given;
+      last_block = said;
+    }) (same_numbers run.counted run.reported) (same_said run.counted run.reported)
 
-pub stands_after : (seq timestamp arrival : ℕ) (source next : SourceValue) → next ≡ after_packet seq timestamp arrival source → (given : List Given) → StandsAt source given → StandsAt next (packet_came seq timestamp arrival ∷ given)
-stands_after seq timestamp arrival source next step given stands = rw (step, stands, packet_moves seq timestamp arrival given) refl
+pub stands_after : (seq timestamp arrival octets : ℕ) (source next : SourceValue)
+    → next ≡ after_packet seq timestamp arrival octets source
+    → (given : List Given) → StandsAt source given → StandsAt next (packet_came seq timestamp arrival octets ∷ given)
+stands_after seq timestamp arrival octets source next step given stands =
+    rw (step, stands, packet_moves seq timestamp arrival octets given) refl

@@ -1,9 +1,11 @@
 -- What is kept of a source gives what the list of all that it was given says.
-use Rattle.std.proofs.Common.{◌≡◌, ℕ, List, [], ◌∷◌, Option, option_map, refl}
-use Rattle.rtcp_source.specs.Packets.{CountedPacket, greatest_of, taken_as}
-use Rattle.rtcp_source.specs.Summary.{ToldValue, numbers_of}
-use Rattle.rtcp_source.specs.Blocks.{lsr_of, dlsr_of, block_of_packets, where_counted, block_of_run}
-use Rattle.rtcp_source.specs.Receptions.{reception_where, reception_of_run, figures_of, figures_in}
+use Rattle.std.proofs.Common.{◌≡◌, ℕ, List, [], ◌∷◌, Option, Some, None, option_map, refl, sym, ap}
+use Rattle.rtcp_wire.specs.Values.{ReportBlock}
+use Rattle.rtcp_source.specs.Packets.{Given, CountedPacket, PacketRun, greatest_of, taken_as, run_of}
+use Rattle.rtcp_source.specs.LastBlocks.{said_of}
+use Rattle.rtcp_source.specs.Summary.{ToldValue, SourceValue, numbers_of, last_told, StandsAt}
+use Rattle.rtcp_source.specs.Blocks.{block_for, block_over, lsr_of, dlsr_of, block_of_packets, where_counted, block_of_run}
+use Rattle.rtcp_source.specs.Receptions.{reception_where, reception_of_run, figures_of, figures_in, said_by}
 use Rattle.rtcp_source.specs.Steps.{greatest_in}
 
 pub same_taken : (counted before : List CountedPacket) (stray : Option ℕ) (seq : ℕ) → taken_as (greatest_in (numbers_of counted before)) stray seq ≡ taken_as (greatest_of counted) stray seq
@@ -15,6 +17,22 @@ pub same_block : (counted before : List CountedPacket) (ssrc t : ℕ) (told : Op
 same_block [] before ssrc t told = refl
 same_block (p ∷ earlier) before ssrc t told = refl
 
+-- a block made now says what is told of it later
+pub same_said : (counted before : List CountedPacket) (ssrc lsr dlsr : ℕ)
+    → said_of counted before ≡ option_map said_by (where_counted counted (block_of_packets ssrc lsr dlsr counted before))
+same_said [] before ssrc lsr dlsr = refl
+same_said (p ∷ earlier) before ssrc lsr dlsr = refl
+
+-- what a block says of the last sender report
+abbrev clock_in : Option ReportBlock → ℕ × ℕ
+clock_in None = (0, 0)
+clock_in (Some block) = (block.lsr, block.dlsr)
+
+pub same_clock : (counted before : List CountedPacket) (ssrc lsr dlsr : ℕ) (block : ReportBlock)
+    → where_counted counted (block_of_packets ssrc lsr dlsr counted before) ≡ Some block → clock_in (Some block) ≡ (lsr, dlsr)
+same_clock [] before ssrc lsr dlsr block made = absurd cc
+same_clock (p ∷ earlier) before ssrc lsr dlsr block made = sym (ap clock_in made)
+
 pub same_reception : (counted before : List CountedPacket) → option_map reception_of_run (numbers_of counted before) ≡ reception_where counted
 same_reception [] before = refl
 same_reception (p ∷ earlier) before = refl
@@ -24,3 +42,10 @@ pub same_figures : (counted before : List CountedPacket) (ssrc lsr dlsr : ℕ)
     → option_map figures_of (reception_where counted) ≡ option_map figures_in (where_counted counted (block_of_packets ssrc lsr dlsr counted before))
 same_figures [] before ssrc lsr dlsr = refl
 same_figures (p ∷ earlier) before ssrc lsr dlsr = refl
+
+-- A block that is made by what is kept is that of the list.
+pub block_of_list : (source : SourceValue) (ssrc t : ℕ) (made : Option ReportBlock) → made ≡ block_for ssrc t source
+    → (given : List Given) → StandsAt source given → made ≡ block_over ssrc t given
+block_of_list source ssrc t made by_numbers given stands =
+    let run : PacketRun = run_of given in
+    rw (by_numbers, stands) (same_block run.counted run.reported ssrc t (last_told given))

@@ -4,7 +4,8 @@ use Rattle.std.specs.Int.{int_min, int_max}
 use Rattle.rtcp_wire.specs.Values.{ReportBlock}
 use Rattle.rtcp_clock.specs.Moments.{short_seconds}
 use Rattle.rtcp_source.specs.Packets.{Given, CountedPacket, PacketRun, greatest_ordinal, run_of}
-use Rattle.rtcp_source.specs.Summary.{RunValue, ToldValue, SourceValue, expected_of, jitter_of, last_told}
+use Rattle.rtcp_source.specs.LastBlocks.{expected_of, fraction_of, fraction_since, highest_of}
+use Rattle.rtcp_source.specs.Summary.{RunValue, ToldValue, SourceValue, jitter_of, last_told}
 
 -- ---- The fields
 
@@ -12,11 +13,6 @@ use Rattle.rtcp_source.specs.Summary.{RunValue, ToldValue, SourceValue, expected
 -- repeated packets, and late ones from before the first.
 abbrev pub lost_of : (expected received : ℕ) → ℤ
 lost_of expected received = int_max (negsuc 8388607) (int_min (pos 8388607) (pos expected -ℤ pos received))
-
--- The fraction lost, in 1/256. It is 0 where no packet was expected, and where as many came as were expected,
--- or more.
-abbrev pub fraction_of : (expected received : ℕ) → ℕ
-fraction_of expected received = 256 * (expected - received) / expected
 
 abbrev pub middle_bits : ℕ → ℕ
 middle_bits ntp = ntp / 65536 % 2 ^ 32
@@ -33,21 +29,14 @@ dlsr_of (Some told) t = short_seconds (t - told.moment)
 
 -- ---- The block, by the packets of the last run
 
--- The fraction of the packets lost since the last block (A.3): of those expected since then, and those
--- counted.
-abbrev pub fraction_since : (counted reported : List CountedPacket) → ℕ
-fraction_since counted reported =
-    fraction_of (expected_of counted - expected_of reported) (length counted - length reported)
-
--- The block of a source over these packets, with what is known of its last sender report. The extended
--- highest sequence number is the greatest integer, 65536 below the greatest ordinal, modulo 2^32.
+-- The block of a source over these packets, with what is known of its last sender report.
 abbrev pub block_of_packets : (ssrc lsr dlsr : ℕ) (counted reported : List CountedPacket) → ReportBlock
 block_of_packets ssrc lsr dlsr counted reported =
     record {
       ssrc = ssrc;
       fraction = fraction_since counted reported;
       lost = lost_of (expected_of counted) (length counted);
-      highest = (greatest_ordinal counted - 65536) % 2 ^ 32;
+      highest = highest_of (greatest_ordinal counted);
       jitter = jitter_of counted / 16;
       lsr = lsr;
       dlsr = dlsr;
@@ -77,7 +66,7 @@ block_of_run ssrc lsr dlsr run =
       ssrc = ssrc;
       fraction = fraction_of (expected_in run - run.expected_before) (run.received - run.received_before);
       lost = lost_of (expected_in run) run.received;
-      highest = (run.greatest - 65536) % 2 ^ 32;
+      highest = highest_of run.greatest;
       jitter = run.jitter / 16;
       lsr = lsr;
       dlsr = dlsr;

@@ -3,12 +3,15 @@
 use Rattle.std.specs.Prelude.{ℕ, ℤ, ◌-◌, ◌/◌, ◌%◌, ◌^◌, List, [], ◌∷◌, length, Option, Some, None, option_map}
 use Rattle.rtcp_wire.specs.Values.{ReportBlock}
 use Rattle.rtcp_source.specs.Packets.{Given, CountedPacket, greatest_ordinal, run_of}
-use Rattle.rtcp_source.specs.Summary.{RunValue, SourceValue, expected_of, jitter_of}
+use Rattle.rtcp_source.specs.LastBlocks.{LastBlockValue, expected_of, highest_of}
+use Rattle.rtcp_source.specs.Summary.{RunValue, SourceValue, jitter_of, octets_of}
 use Rattle.rtcp_source.specs.Blocks.{lost_of, expected_in}
 
 pub record ReceptionValue : Type 0 where
   -- how many packets were counted in the last run
   pub received : ℕ
+  -- the octets of their payload, modulo 2^64
+  pub octets : ℕ
   -- the packets lost in it, clamped to a signed number of 24 bits
   pub lost : ℤ
   -- the extended highest sequence number
@@ -22,8 +25,9 @@ abbrev pub reception_of_packets : List CountedPacket → ReceptionValue
 reception_of_packets counted =
     record {
       received = length counted;
+      octets = octets_of counted;
       lost = lost_of (expected_of counted) (length counted);
-      highest = (greatest_ordinal counted - 65536) % 2 ^ 32;
+      highest = highest_of (greatest_ordinal counted);
       jitter = jitter_of counted / 16;
     }
 
@@ -42,8 +46,9 @@ abbrev pub reception_of_run : RunValue → ReceptionValue
 reception_of_run run =
     record {
       received = run.received;
+      octets = run.octets;
       lost = lost_of (expected_in run) run.received;
-      highest = (run.greatest - 65536) % 2 ^ 32;
+      highest = highest_of run.greatest;
       jitter = run.jitter / 16;
     }
 
@@ -63,3 +68,7 @@ figures_of reception =
 
 abbrev pub figures_in : ReportBlock → Figures
 figures_in block = record { lost = block.lost; highest = block.highest; jitter = block.jitter }
+
+-- what a block says that is told of it later
+abbrev pub said_by : ReportBlock → LastBlockValue
+said_by block = record { fraction = block.fraction; highest = block.highest }

@@ -1,6 +1,7 @@
 -- What is kept of what a source was given: counts, extremes and folds of the lists of its last run.
 use Rattle.std.specs.Prelude.{◌≡◌, ℕ, ◌+◌, ◌-◌, ◌/◌, ◌%◌, ◌^◌, min, List, [], ◌∷◌, length, Option, Some, None}
 use Rattle.rtcp_source.specs.Packets.{Given, packet_came, report_came, block_made, CountedPacket, greatest_ordinal, first_ordinal, newest, run_of}
+use Rattle.rtcp_source.specs.LastBlocks.{LastBlockValue, expected_of, last_block}
 
 -- A run in numbers.
 pub record RunValue : Type 0 where
@@ -16,10 +17,13 @@ pub record RunValue : Type 0 where
   pub transit : ℕ
   -- its jitter, in 1/16 of a unit of the media's clock
   pub jitter : ℕ
+  -- how many octets of payload were counted in it, modulo 2^64
+  pub octets : ℕ
 
--- The last sender report: its NTP timestamp, and the moment at which it came.
+-- The last sender report: its NTP timestamp, its RTP timestamp, and the moment at which it came.
 pub record ToldValue : Type 0 where
   pub ntp : ℕ
+  pub rtp : ℕ
   pub moment : ℕ
 
 pub record SourceValue : Type 0 where
@@ -30,13 +34,10 @@ pub record SourceValue : Type 0 where
   -- the number of the last stray since it started, if there is one
   pub stray : Option ℕ
   pub told : Option ToldValue
+  -- what the last block said
+  pub last_block : Option LastBlockValue
 
--- ---- Expected packets and jitter of a run
-
--- How many packets are expected (A.3): as many as there are integers from the first packet's to the greatest.
-abbrev pub expected_of : List CountedPacket → ℕ
-expected_of [] = 0
-expected_of (p ∷ earlier) = greatest_ordinal (p ∷ earlier) + 1 - first_ordinal (p ∷ earlier)
+-- ---- Jitter and octets of a run
 
 -- The distance of two transits, whose difference is a signed number of 32 bits.
 abbrev pub transit_distance : (transit before : ℕ) → ℕ
@@ -54,6 +55,15 @@ jitter_of [] = 0
 jitter_of (p ∷ []) = 0
 jitter_of (p ∷ q ∷ earlier) = jitter_with (jitter_of (q ∷ earlier)) (transit_distance p.transit q.transit)
 
+-- so many octets more, modulo 2^64
+abbrev pub with_octets : (total more : ℕ) → ℕ
+with_octets total more = (total + more) % 2 ^ 64
+
+-- The octets of payload of these packets (5.1).
+abbrev pub octets_of : List CountedPacket → ℕ
+octets_of [] = 0
+octets_of (p ∷ earlier) = with_octets (octets_of earlier) p.octets
+
 -- ---- What is kept
 
 abbrev pub numbers_of : (counted before : List CountedPacket) → Option RunValue
@@ -67,18 +77,19 @@ numbers_of (p ∷ earlier) before =
       received_before = length before;
       transit = p.transit;
       jitter = jitter_of (p ∷ earlier);
+      octets = octets_of (p ∷ earlier);
     })
 
 abbrev pub packet_count : List Given → ℕ
 packet_count [] = 0
-packet_count (packet_came seq timestamp arrival ∷ given) = packet_count given + 1
-packet_count (report_came ntp moment ∷ given) = packet_count given
+packet_count (packet_came seq timestamp arrival octets ∷ given) = packet_count given + 1
+packet_count (report_came ntp rtp moment ∷ given) = packet_count given
 packet_count (block_made ∷ given) = packet_count given
 
 abbrev pub last_told : List Given → Option ToldValue
 last_told [] = None
-last_told (packet_came seq timestamp arrival ∷ given) = last_told given
-last_told (report_came ntp moment ∷ given) = Some (record { ntp = ntp; moment = moment })
+last_told (packet_came seq timestamp arrival octets ∷ given) = last_told given
+last_told (report_came ntp rtp moment ∷ given) = Some (record { ntp = ntp; rtp = rtp; moment = moment })
 last_told (block_made ∷ given) = last_told given
 
 abbrev pub summary_of : List Given → SourceValue
@@ -89,6 +100,7 @@ summary_of given =
       run = numbers_of run.counted run.reported;
       stray = newest run.strays;
       told = last_told given;
+      last_block = last_block given;
     }
 
 -- A source stands at what it was given: it is the state computed from its whole history.

@@ -1,14 +1,16 @@
 //! Laws of the definitions of a source: each is an empty function whose postcondition is the law.
 
-ghost use Rattle.std.specs.Prelude.{◌≡◌, [], ◌∷◌, ◌+◌, ◌≤◌, ◌<◌, ◌↔◌, ℕ, ℤ, pos, true, List, ◌-◌, ◌%◌, ◌^◌, unsigned_abs, option_map};
+ghost use Rattle.std.specs.Prelude.{◌≡◌, [], ◌∷◌, ◌+◌, ◌≤◌, ◌<◌, ◌↔◌, ℕ, ℤ, pos, true, List, ◌-◌, ◌%◌, ◌^◌, unsigned_abs, option_map, Some};
+ghost use Rattle.rtcp_wire.specs.Values.{ReportBlock};
 ghost use Rattle.std.specs.Int.{cast_signed, w32};
 ghost use Rattle.rtcp_source.specs.declared.taken.Taken.TheVariants.{Counted};
 ghost use Rattle.rtcp_source.specs.Packets.{Given, packet_came, report_came, block_made, HasCounted, packet_at, with_counted, greatest_ordinal, is_near, ordinal_near, taken_in, transit_of, run_of, has_news_since};
 ghost use Rattle.rtcp_source.specs.Integers.{IsIntegerNear, HasIntegerNear, HasOrdinalNear, IsOrdinalOfInteger, ordinal_of, greatest_integer};
-ghost use Rattle.rtcp_source.specs.Blocks.{block_for, block_over, news_of};
-ghost use Rattle.rtcp_source.specs.Receptions.{reception_in, reception_over, figures_of, figures_in};
+ghost use Rattle.rtcp_source.specs.LastBlocks.{last_block};
+ghost use Rattle.rtcp_source.specs.Blocks.{block_for, block_over, lsr_of, dlsr_of, news_of};
+ghost use Rattle.rtcp_source.specs.Receptions.{reception_in, reception_over, figures_of, figures_in, said_by};
 ghost use Rattle.rtcp_source.specs.Steps.{no_source, taken_by, after_packet, after_told, after_block_made};
-ghost use Rattle.rtcp_source.specs.Summary.{summary_of, transit_distance};
+ghost use Rattle.rtcp_source.specs.Summary.{summary_of, last_told, transit_distance};
 
 /// What is kept of a source gives the same results as the list of all that it was given: what a packet is,
 /// whether there is news, how its packets are received, and the report block.
@@ -29,14 +31,32 @@ pub fn reception_is_that_of_blocks()
     ensures kept { (given : List Given) → reception_over (block_made ∷ given) ≡ reception_over given }
 {}
 
+/// The LSR and the DLSR of a source's report block, at any moment, are those of the last sender report that is told of
+/// it; and no block changes that (RFC 3550, 6.4.1).
+pub fn last_report_is_that_of_blocks()
+    ensures clock { (ssrc t : ℕ) (given : List Given) (block : ReportBlock) → block_over ssrc t given ≡ Some block →
+        (block.lsr ≡ lsr_of (last_told given)) × (block.dlsr ≡ dlsr_of (last_told given) t) }
+    ensures kept { (given : List Given) → last_told (block_made ∷ given) ≡ last_told given }
+{}
+
+/// What is told of a source's last report block is what that block said, until the next one is made.
+pub fn last_block_is_that_block()
+    ensures said { (ssrc t : ℕ) (given : List Given) →
+        last_block (block_made ∷ given) ≡ option_map said_by (block_over ssrc t given) }
+    ensures packet { (seq timestamp arrival octets : ℕ) (given : List Given) →
+        last_block (packet_came seq timestamp arrival octets ∷ given) ≡ last_block given }
+    ensures report { (ntp rtp moment : ℕ) (given : List Given) →
+        last_block (report_came ntp rtp moment ∷ given) ≡ last_block given }
+{}
+
 /// What is kept of a source after one thing more is computed from what was kept before it.
 pub fn summary_moves()
     ensures none { summary_of [] ≡ no_source }
-    ensures packet { (seq timestamp arrival : ℕ) (given : List Given) →
-        summary_of (packet_came seq timestamp arrival ∷ given)
-        ≡ after_packet seq timestamp arrival (summary_of given) }
-    ensures report { (ntp moment : ℕ) (given : List Given) →
-        summary_of (report_came ntp moment ∷ given) ≡ after_told ntp moment (summary_of given) }
+    ensures packet { (seq timestamp arrival octets : ℕ) (given : List Given) →
+        summary_of (packet_came seq timestamp arrival octets ∷ given)
+        ≡ after_packet seq timestamp arrival octets (summary_of given) }
+    ensures report { (ntp rtp moment : ℕ) (given : List Given) →
+        summary_of (report_came ntp rtp moment ∷ given) ≡ after_told ntp rtp moment (summary_of given) }
     ensures block { (given : List Given) →
         summary_of (block_made ∷ given) ≡ after_block_made (summary_of given) }
 {}
@@ -49,10 +69,10 @@ pub fn counted_by_integer()
         65536 ≤ greatest_ordinal (run_of given).counted }
     ensures counted { (given : List Given) (seq : ℕ) → seq < 65536 → HasCounted (run_of given) →
         (taken_in (run_of given) seq ≡ Counted) ↔ HasIntegerNear (greatest_integer (run_of given)) seq }
-    ensures enters { (given : List Given) (seq timestamp arrival : ℕ) (integer : ℤ) → seq < 65536 →
+    ensures enters { (given : List Given) (seq timestamp arrival octets : ℕ) (integer : ℤ) → seq < 65536 →
         HasCounted (run_of given) → IsIntegerNear (greatest_integer (run_of given)) seq integer →
-        run_of (packet_came seq timestamp arrival ∷ given)
-        ≡ with_counted (packet_at (ordinal_of integer) (transit_of timestamp arrival)) (run_of given) }
+        run_of (packet_came seq timestamp arrival octets ∷ given)
+        ≡ with_counted (packet_at (ordinal_of integer) (transit_of timestamp arrival) octets) (run_of given) }
     ensures one { (greatest : ℤ) (seq : ℕ) (a b : ℤ) →
         IsIntegerNear greatest seq a → IsIntegerNear greatest seq b → a ≡ b }
 {}

@@ -5,8 +5,8 @@
 //!
 //! ```
 //! let mut source = Source::new();
-//! assert_eq!(rt; source.take(10, 0, 0), Taken::Probation);
-//! assert_eq!(rt; source.take(11, 160, 160), Taken::Became);
+//! assert_eq!(rt; source.take(10, 0, 0, 160), Taken::Probation);
+//! assert_eq!(rt; source.take(11, 160, 160, 160), Taken::Became);
 //! assert_eq!(rt; source.block(9, 0).highest, 11);
 //! ```
 //!
@@ -21,6 +21,6 @@ mod sequence;
 mod source;
 mod taken;
 
-pub use reception::{Reception, Told};
+pub use reception::{LastBlock, Reception, Told};
 pub use source::Source;
 pub use taken::Taken;

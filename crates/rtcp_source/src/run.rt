@@ -3,7 +3,8 @@
 ghost use Rattle.std.specs.Prelude.{◌≡◌, ◌+◌, ◌≤◌, ◌<◌, ◌^◌, ◌≤ℤ◌, pos, negsuc, Some};
 ghost use Rattle.rtcp_wire.specs.Views.{block_value};
 ghost use Rattle.rtcp_wire.specs.Writing.{IsWritableBlock};
-ghost use Rattle.rtcp_source.specs.Blocks.{expected_in, fraction_of, lost_of, block_of_run, news_of};
+ghost use Rattle.rtcp_source.specs.LastBlocks.{fraction_of};
+ghost use Rattle.rtcp_source.specs.Blocks.{expected_in, lost_of, block_of_run, news_of};
 ghost use Rattle.rtcp_source.specs.Bounds.{IsRunBounded};
 ghost use Rattle.rtcp_source.specs.Steps.{run_from, run_after, run_reported};
 ghost use Rattle.rtcp_source.specs.Summary.{transit_distance, jitter_with};
@@ -31,13 +32,15 @@ pub(crate) struct Run {
     pub(crate) received_before: u64,
     /// The jitter, in 1/16 of a unit of the media's clock.
     pub(crate) jitter: u64,
+    /// How many octets of payload were counted, modulo 2^64.
+    pub(crate) octets: u64,
 }
 
 impl Run {
     /// The run that starts with this packet. Its jitter is 0, after a restart too: this is the project's
     /// choice, since A.1 leaves it open.
-    pub(crate) fn started(seq: u16, transit: u32) -> Run
-        ensures run { run_value result ≡ run_from seq transit }
+    pub(crate) fn started(seq: u16, transit: u32, octets: u64) -> Run
+        ensures run { run_value result ≡ run_from seq transit octets }
         ensures bounded { IsRunBounded 1 (run_value result) }
     {
         Run {
@@ -48,14 +51,15 @@ impl Run {
             received_before: 0,
             transit,
             jitter: 0,
+            octets,
         }
     }
 
     /// The run with one more packet, whose number is near the greatest ordinal.
-    pub(crate) fn with(self, seq: u16, transit: u32) -> Run
+    pub(crate) fn with(self, seq: u16, transit: u32, octets: u64) -> Run
         requires few { self.received < 2 ^ 40 }
         requires bounded { IsRunBounded self.received (run_value self) }
-        ensures run { run_value result ≡ run_after seq transit (run_value self) }
+        ensures run { run_value result ≡ run_after seq transit octets (run_value self) }
         ensures bounded { IsRunBounded (self.received + 1) (run_value result) }
     {
         let distance = distance(transit, self.transit) as u64;
@@ -64,6 +68,7 @@ impl Run {
             received: self.received + 1,
             transit,
             jitter: self.jitter + distance - (self.jitter + 8) / 16,
+            octets: self.octets.wrapping_add(octets),
             ..self
         }
     }
@@ -115,6 +120,7 @@ impl Run {
     {
         Reception {
             received: self.received,
+            octets: self.octets,
             lost: lost(self.expected(), self.received),
             highest: ((self.greatest - FIRST) % (1 << 32)) as u32,
             jitter: (self.jitter / 16) as u32,

@@ -33,7 +33,7 @@ goodbyes_give_none (id ∷ ids) = All-cons IsNoMedia (Gone id) (map Gone ids) re
 
 packet_gives_none : (packet : RtcpPacket) → All IsNoMedia (facts_of_packet packet)
 packet_gives_none (sr sender blocks extension) =
-    All-cons IsNoMedia (Heard sender.ssrc) (Told sender.ssrc sender.ntp ∷ []) refl (one_fact (Told sender.ssrc sender.ntp) refl)
+    All-cons IsNoMedia (Heard sender.ssrc) (Told sender.ssrc sender.ntp sender.rtp ∷ []) refl (one_fact (Told sender.ssrc sender.ntp sender.rtp) refl)
 packet_gives_none (rr ssrc blocks extension) = one_fact (Heard ssrc) refl
 packet_gives_none (sdes chunks) = all_in_parts IsNoMedia facts_of_chunk chunk_gives_none chunks
 packet_gives_none (bye ids reason) = goodbyes_give_none ids

@@ -10,26 +10,26 @@ use Rattle.rtcp_wire.specs.Values.{ItemValue, ChunkValue, RtcpPacket, sr, rr, sd
 -- the source that a fact speaks of
 abbrev pub subject : Fact → ℕ
 subject (Heard ssrc) = ssrc
-subject (Told ssrc ntp) = ssrc
+subject (Told ssrc ntp rtp) = ssrc
 subject (Named ssrc) = ssrc
 subject (Gone ssrc) = ssrc
-subject (Media ssrc seq timestamp) = ssrc
+subject (Media ssrc seq timestamp octets) = ssrc
 
 -- whether it says that the source left
 abbrev pub is_gone : Fact → Bool
 is_gone (Heard ssrc) = false
-is_gone (Told ssrc ntp) = false
+is_gone (Told ssrc ntp rtp) = false
 is_gone (Named ssrc) = false
 is_gone (Gone ssrc) = true
-is_gone (Media ssrc seq timestamp) = false
+is_gone (Media ssrc seq timestamp octets) = false
 
 -- whether it is an RTP packet
 abbrev pub is_media : Fact → Bool
 is_media (Heard ssrc) = false
-is_media (Told ssrc ntp) = false
+is_media (Told ssrc ntp rtp) = false
 is_media (Named ssrc) = false
 is_media (Gone ssrc) = false
-is_media (Media ssrc seq timestamp) = true
+is_media (Media ssrc seq timestamp octets) = true
 
 -- ---- The facts of packets
 
@@ -44,7 +44,8 @@ facts_of_chunk chunk = Heard chunk.id ∷ (if list_any is_cname chunk.items then
 
 -- what one packet says
 abbrev pub facts_of_packet : RtcpPacket → List Fact
-facts_of_packet (sr sender blocks extension) = Heard sender.ssrc ∷ Told sender.ssrc sender.ntp ∷ []
+facts_of_packet (sr sender blocks extension) =
+    Heard sender.ssrc ∷ Told sender.ssrc sender.ntp sender.rtp ∷ []
 facts_of_packet (rr ssrc blocks extension) = Heard ssrc ∷ []
 facts_of_packet (sdes chunks) = flat_map facts_of_chunk chunks
 facts_of_packet (bye ids reason) = map Gone ids

@@ -10,7 +10,7 @@ pub use remaining::Facts;
 
 /// What the packets of a compound say of sources, packet by packet.
 ///
-/// - A sender report: its sender was heard, and sent this NTP timestamp.
+/// - A sender report: its sender was heard, and sent these NTP and RTP timestamps.
 /// - A receiver report, and a packet that an application defines: their source was heard.
 /// - A source description, for each chunk: its source was heard, and gave its CNAME if the chunk has one or
 ///   more.
@@ -28,15 +28,15 @@ pub fn facts<'a>(compound: &Compound<'a>) -> Facts<'a>
 pub enum Fact {
     /// The source was heard.
     Heard(u32),
-    /// The source sent a sender report with this NTP timestamp (RFC 3550, 6.4.1).
-    Told(u32, u64),
+    /// The source sent a sender report with this NTP timestamp and this RTP timestamp (RFC 3550, 6.4.1).
+    Told(u32, u64, u32),
     /// The source gave its CNAME (RFC 3550, 6.5.1).
     Named(u32),
     /// The source left (RFC 3550, 6.6).
     Gone(u32),
-    /// An RTP packet of the source came, with this sequence number and this timestamp (RFC 3550, 5.1). No
-    /// RTCP packet says so: the law `compounds_give_no_media`.
-    Media(u32, u16, u32),
+    /// An RTP packet of the source came, with this sequence number, this timestamp, and so many octets of payload
+    /// (RFC 3550, 5.1). No RTCP packet says so: the law `compounds_give_no_media`.
+    Media(u32, u16, u32, u64),
 }
 
 impl Fact {
@@ -48,10 +48,10 @@ impl Fact {
     {
         match self {
             Fact::Heard(ssrc)
-            | Fact::Told(ssrc, _)
+            | Fact::Told(ssrc, _, _)
             | Fact::Named(ssrc)
             | Fact::Gone(ssrc)
-            | Fact::Media(ssrc, _, _) => ssrc,
+            | Fact::Media(ssrc, _, _, _) => ssrc,
         }
     }
 

@@ -13,6 +13,7 @@ fn unknown(ssrc: u32) -> SourceState {
         heard: 0,
         reception: None,
         told: None,
+        last_block: None,
     }
 }
 

@@ -13,6 +13,7 @@ fn named_at(ssrc: u32, heard: u64) -> SourceState {
         heard,
         reception: None,
         told: None,
+        last_block: None,
     }
 }
 

@@ -58,8 +58,8 @@ fn call<T: MemberTable>(session: &mut Session<T>, draw: u32, step: u16) -> Answe
         3 => Fact::Gone(ssrc),
         4 => Fact::Heard(ssrc),
         5 => Fact::Named(ssrc),
-        6 => Fact::Told(ssrc, u64::from(draw)),
-        _ => Fact::Media(ssrc, step / 16, draw),
+        6 => Fact::Told(ssrc, u64::from(draw), draw),
+        _ => Fact::Media(ssrc, step / 16, draw, u64::from(step)),
     };
     Answer::Fact(session.apply(fact, t))
 }

@@ -20,9 +20,9 @@ fn counts<T: MemberTable>(session: &Session<T>) -> (u32, u32) {
 /// with another.
 pub(crate) fn one_sender<T: InlineTable + Drop>(rt: &impl Abort) {
     let mut session: Session<T> = Session::new(2);
-    let first = session.place(Fact::Media(4, 10, 0), 0);
+    let first = session.place(Fact::Media(4, 10, 0, 0), 0);
     assert_eq!(rt; (first, counts(&session)), (Some(Place::Added), (0, 0)));
-    let second = session.apply(Fact::Media(4, 11, 0), 100);
+    let second = session.apply(Fact::Media(4, 11, 0, 0), 100);
     assert_eq!(rt; (second, counts(&session)), (counted(Place::Kept), (1, 1)));
     let checked = [
         (session.check(200, 0, 100, 0).senders, counts(&session)),
@@ -30,7 +30,7 @@ pub(crate) fn one_sender<T: InlineTable + Drop>(rt: &impl Abort) {
         (session.check(200, 0, 50, 0).senders, counts(&session)),
     ];
     assert_eq!(rt; checked, [(0, (1, 1)), (1, (1, 0)), (0, (1, 0))]);
-    let third = session.apply(Fact::Media(4, 12, 0), 200);
+    let third = session.apply(Fact::Media(4, 12, 0, 0), 200);
     assert_eq!(rt; (third, session.senders()), (counted(Place::Kept), 1));
 }
 
@@ -38,10 +38,10 @@ pub(crate) fn one_sender<T: InlineTable + Drop>(rt: &impl Abort) {
 /// its silence is.
 pub(crate) fn senders_leave<T: InlineTable + Drop>(rt: &impl Abort) {
     let mut session: Session<T> = Session::new(2);
-    let _ = session.apply(Fact::Media(4, 10, 0), 0);
-    let _ = session.apply(Fact::Media(4, 11, 0), 0);
-    let _ = session.apply(Fact::Media(5, 10, 0), 0);
-    let _ = session.apply(Fact::Media(5, 11, 0), 0);
+    let _ = session.apply(Fact::Media(4, 10, 0, 0), 0);
+    let _ = session.apply(Fact::Media(4, 11, 0, 0), 0);
+    let _ = session.apply(Fact::Media(5, 10, 0, 0), 0);
+    let _ = session.apply(Fact::Media(5, 11, 0, 0), 0);
     assert_eq!(rt; session.senders(), 2);
     let place = session.place(Fact::Gone(4), 10);
     assert_eq!(rt; (place, session.senders()), (Some(Place::Left), 1));
@@ -55,12 +55,12 @@ pub(crate) fn senders_leave<T: InlineTable + Drop>(rt: &impl Abort) {
 /// A source that was dropped and comes back is on probation again.
 pub(crate) fn dropped_begins_anew<T: InlineTable + Drop>(rt: &impl Abort) {
     let mut session: Session<T> = Session::new(2);
-    let _ = session.apply(Fact::Media(4, 10, 0), 0);
-    let second = session.apply(Fact::Media(4, 11, 0), 0);
+    let _ = session.apply(Fact::Media(4, 10, 0, 0), 0);
+    let second = session.apply(Fact::Media(4, 11, 0, 0), 0);
     let dropped = session.check(20, 1, 0, 0).entries;
     assert_eq!(rt; (second, dropped), (counted(Place::Kept), 1));
-    let third = session.place(Fact::Media(4, 12, 0), 20);
+    let third = session.place(Fact::Media(4, 12, 0, 0), 20);
     assert_eq!(rt; (third, counts(&session)), (Some(Place::Added), (0, 0)));
-    let fourth = session.apply(Fact::Media(4, 13, 0), 20);
+    let fourth = session.apply(Fact::Media(4, 13, 0, 0), 20);
     assert_eq!(rt; (fourth, counts(&session)), (counted(Place::Kept), (1, 1)));
 }

@@ -68,4 +68,5 @@ fn held(rt: HostRuntime) {
 #[test]
 fn told_in_turn(rt: HostRuntime) {
     told::each_in_turn::<SortedTable>(&rt);
+    told::blocks_are_told::<SortedTable>(&rt);
 }

@@ -11,12 +11,12 @@ fn three_senders<T: InlineTable>() -> Session<T>
     ensures { result.facts ≡ 6 }
 {
     let mut session: Session<T> = Session::new(3);
-    let _ = session.apply(Fact::Media(3, 10, 0), 0);
-    let _ = session.apply(Fact::Media(1, 10, 0), 0);
-    let _ = session.apply(Fact::Media(2, 10, 0), 0);
-    let _ = session.apply(Fact::Media(2, 11, 0), 0);
-    let _ = session.apply(Fact::Media(3, 11, 0), 0);
-    let _ = session.apply(Fact::Media(1, 11, 0), 0);
+    let _ = session.apply(Fact::Media(3, 10, 0, 0), 0);
+    let _ = session.apply(Fact::Media(1, 10, 0, 0), 0);
+    let _ = session.apply(Fact::Media(2, 10, 0, 0), 0);
+    let _ = session.apply(Fact::Media(2, 11, 0, 0), 0);
+    let _ = session.apply(Fact::Media(3, 11, 0, 0), 0);
+    let _ = session.apply(Fact::Media(1, 11, 0, 0), 0);
     session
 }
 
@@ -34,7 +34,7 @@ pub(crate) fn in_turn<T: InlineTable + Drop>(rt: &impl Abort) {
         whose(session.block(Some(1), 0)),
     ];
     assert_eq!(rt; found, [Some(2), Some(3), Some(1), None]);
-    let _ = session.apply(Fact::Media(2, 12, 0), 0);
+    let _ = session.apply(Fact::Media(2, 12, 0, 0), 0);
     let again = whose(session.block(Some(2), 0));
     let no_more = whose(session.block(Some(2), 0));
     assert_eq!(rt; (again, no_more), (Some(2), None));
@@ -52,8 +52,8 @@ pub(crate) fn fractions<T: InlineTable + Drop>(rt: &impl Abort) {
     let mut session: Session<T> = three_senders();
     let first = session.block(None, 0);
     assert_eq!(rt; first.map(|block| block.fraction), Some(0));
-    let _ = session.apply(Fact::Media(1, 12, 0), 0);
-    let _ = session.apply(Fact::Media(1, 14, 0), 0);
+    let _ = session.apply(Fact::Media(1, 12, 0, 0), 0);
+    let _ = session.apply(Fact::Media(1, 14, 0, 0), 0);
     let second = session.block(Some(3), 0);
     assert_eq!(rt;
         second.map(|block| (block.fraction, block.lost, block.highest)),

@@ -18,6 +18,7 @@ fn state() -> SourceState {
         heard: 0,
         reception: None,
         told: None,
+        last_block: None,
     }
 }
 
@@ -64,6 +65,7 @@ fn receptions(rt: HostRuntime) -> Result<(), Fail> {
     let mut state = state();
     state.reception = Some(Reception {
         received: 12,
+        octets: 1_920,
         lost: -3,
         highest: 9,
         jitter: 91,

@@ -70,7 +70,7 @@ impl<'a> Iterator for Facts<'a> {
             }
             match self.packets.next()? {
                 PacketView::Sr(report) => {
-                    self.first = Some(Fact::Told(report.ssrc, report.ntp));
+                    self.first = Some(Fact::Told(report.ssrc, report.ntp, report.rtp));
                     return Some(Fact::Heard(report.ssrc));
                 }
                 PacketView::Rr(report) => return Some(Fact::Heard(report.ssrc)),

@@ -70,7 +70,7 @@ fn each_type(rt: HostRuntime) -> Result<(), Fail> {
         found.as_slice(),
         [
             Fact::Heard(9),
-            Fact::Told(9, 0x1_0000_0005),
+            Fact::Told(9, 0x1_0000_0005, 2),
             Fact::Heard(9),
             Fact::Named(9),
             Fact::Heard(7),
