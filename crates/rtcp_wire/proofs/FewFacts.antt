@@ -1,23 +1,15 @@
 -- A compound gives no more facts than it has octets.
 use Rattle.std.proofs.Common.{◌≡◌, ℕ, suc, ◌-◌, ◌≤◌, Bool, true, false, List, [], ◌∷◌, ◌++◌, length, map, drop, if◌then◌else◌, refl, ap, arith}
 use Rattle.std.proofs.lemmas.List.{length-append, length-drop, length-take}
-use Rattle.std.proofs.lemmas.List.Concat.{flat_map-cons}
-use Rattle.std.specs.List.{flat_map, list_any}
+use Rattle.std.specs.List.{list_any}
 use Rattle.byteorder.specs.Endian.{big_number}
 use Rattle.rtcp_wire.specs.declared.fact.Fact.{Fact}
 use Rattle.rtcp_wire.specs.declared.fact.Fact.TheVariants.{Named, Gone}
 use Rattle.rtcp_wire.specs.Values.{ChunkValue, RtcpPacket, sr, rr, sdes, bye, app, other}
 use Rattle.rtcp_wire.specs.Facts.{facts_of, facts_of_chunk, facts_of_packet, is_cname}
-use Rattle.rtcp_wire.specs.Grammar.{Joins, IsAccepted, IsBody, IsChunk, IsSpelling, body_of, padding_of, size_of}
+use Rattle.rtcp_wire.specs.Grammar.{IsAccepted, IsBody, IsChunk, IsSpelling, body_of, padding_of, size_of}
 use Rattle.rtcp_wire.proofs.Fixed.{fixed_length}
-use Rattle.rtcp_wire.proofs.Prefixes.{length_parts}
-
--- What is joined gives few facts where each part does.
-joined_few : {A : Type 0} (Spells : A → List ℕ → Type 0) (facts : A → List Fact) → ((x : A) (octets : List ℕ) → Spells x octets → length (facts x) ≤ length octets) → (xs : List A) (octets : List ℕ)
-    → Joins Spells xs octets → length (flat_map facts xs) ≤ length octets
-joined_few {A} Spells facts each [] octets h = omega arith
-joined_few {A} Spells facts each (x ∷ xs) octets h =
-    omega (arith, length_parts octets h.0 h.1 h.2, each x h.0 h.3, joined_few Spells facts each xs h.1 h.4, ap length (flat_map-cons facts x xs), length-append (facts x) (flat_map facts xs))
+use Rattle.rtcp_wire.proofs.Prefixes.{length_parts, joined_lengths}
 
 one_or_none : (b : Bool) (fact : Fact) → length (if b then fact ∷ [] else []) ≤ 1
 one_or_none true fact = omega arith
@@ -35,7 +27,7 @@ gone_length (id ∷ ids) = ap suc (gone_length ids)
 body_few : (p : RtcpPacket) (kind count : ℕ) (body : List ℕ) → IsBody p kind count body → length (facts_of_packet p) ≤ length body
 body_few (sr v bs x) kind count body h = omega (arith, length_parts body h.1.prefix h.1.rest h.1.parts, h.1.prefix_size)
 body_few (rr i bs x) kind count body h = omega (arith, length_parts body h.1.id h.1.rest h.1.parts, h.1.sender.0)
-body_few (sdes chunks) kind count body h = joined_few IsChunk facts_of_chunk chunk_few chunks body h.2
+body_few (sdes chunks) kind count body h = joined_lengths IsChunk facts_of_chunk chunk_few chunks body h.2
 body_few (bye ids reason) kind count body h =
     omega (arith, length_parts body h.1.prefix h.1.rest h.1.parts, fixed_length 4 (big_number 4) ids h.1.prefix h.1.each, gone_length ids)
 body_few (app l i n x) kind count body h = omega (arith, length_parts body h.2.id (n ++ x) h.2.parts, h.2.source.0)
@@ -47,4 +39,4 @@ packet_few p octets h =
     omega (arith, body_few p _ _ (body_of octets) h.body, length-take (size_of octets - 4 - padding_of octets) kept, length-drop 4 octets)
 
 pub few_facts : (octets : List ℕ) (packets : List RtcpPacket) → IsAccepted octets packets → length (facts_of packets) ≤ length octets
-few_facts octets packets accepted = joined_few IsSpelling facts_of_packet packet_few packets octets accepted.joined
+few_facts octets packets accepted = joined_lengths IsSpelling facts_of_packet packet_few packets octets accepted.joined

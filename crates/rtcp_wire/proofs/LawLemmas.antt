@@ -1,28 +1,31 @@
 -- The laws of this crate as lemmas, for the proofs of the crates above: each has the name of its law, and of the clause
 -- where the law has several.
-use Rattle.std.proofs.Common.{◌≡◌, ◌==◌, ◌+◌, ◌*◌, ◌≤◌, ◌⊎◌, ℕ, false, List, [], ◌++◌, All, length, sum_by}
+use Rattle.std.proofs.Common.{◌≡◌, ◌==◌, ◌+◌, ◌*◌, ◌^◌, ◌<◌, ◌≤◌, ◌⊎◌, ℕ, false, List, [], ◌++◌, All, length, sum_by}
 use Rattle.std.specs.Prelude.{filter}
 use Rattle.std.proofs.lemmas.List.Concat.{length-flat_map}
 use Rattle.rtcp_wire.specs.declared.fault.WireFault.{WireFault}
 use Rattle.rtcp_wire.specs.declared.rtp.fault.RtpFault.{RtpFault}
 use Rattle.rtcp_wire.specs.Values.{RtcpPacket, ReportBlock, SenderValue, rr, sr}
 use Rattle.rtcp_wire.specs.About.{blocks_about}
-use Rattle.rtcp_wire.specs.Contents.{all_blocks}
-use Rattle.rtcp_wire.specs.Grammar.{is_padded, IsSpelling, IsAccepted}
+use Rattle.rtcp_wire.specs.Contents.{all_items, all_goodbyes, all_blocks}
+use Rattle.rtcp_wire.specs.Grammar.{AreOctets, is_padded, IsSpelling, IsAccepted}
 use Rattle.rtcp_wire.specs.Faults.{IsFirstFault}
 use Rattle.rtcp_wire.specs.Facts.{is_media, facts_of}
-use Rattle.rtcp_wire.specs.RtpHeads.{RtpValue, IsRtpHead, IsRtpFault}
+use Rattle.rtcp_wire.specs.RtpHeads.{RtpValue, IsReserved, IsRtpHead, IsRtpFault}
 use Rattle.rtcp_wire.specs.Walks.{packets_in}
-use Rattle.rtcp_wire.specs.Writing.{written, written_all, IsWritable, IsInRange, BeginsWithReport, IsWritableBlock}
+use Rattle.rtcp_wire.specs.Writing.{written, written_all, IsWritable, IsInRange, BeginsWithReport, IsWritableBlock, IsWritableItem, IsWritableReason}
 use Rattle.rtcp_wire.proofs.BlockLists as blocks
 use Rattle.rtcp_wire.proofs.FewFacts.{few_facts}
 use Rattle.rtcp_wire.proofs.NoMedia.{packets_give_none}
+use Rattle.rtcp_wire.proofs.PartRanges as parts
 use Rattle.rtcp_wire.proofs.Refusals as refusals
 use Rattle.rtcp_wire.proofs.Reports.{receiver_length, sender_length, receiver_writable, sender_writable}
 use Rattle.rtcp_wire.proofs.RtpFaults as rtp
+use Rattle.rtcp_wire.proofs.RtpRanges as ranges
 use Rattle.rtcp_wire.proofs.Spellings as spellings
 use Rattle.rtcp_wire.proofs.Walking.{always_one}
 use Rattle.rtcp_wire.proofs.ReadingWalks.{walk_reads}
+use Rattle.rtcp_wire.proofs.WritableAgain as again
 use Rattle.rtcp_wire.proofs.WrittenPackets as writing
 
 -- ---- RTCP (src/laws.rt)
@@ -74,6 +77,21 @@ pub packet_or_fault-always_one : (octets : List ℕ) →
     ((head : RtpValue) × IsRtpHead octets head) ⊎ ((fault : RtpFault) × IsRtpFault octets fault)
 packet_or_fault-always_one = rtp.always_one
 
+pub heads_are_in_range-payload_type : (octets : List ℕ) (head : RtpValue) → IsRtpHead octets head →
+    (head.payload_type < 128) × (IsReserved head.payload_type → ⊥)
+heads_are_in_range-payload_type = ranges.payload_type
+
+pub heads_are_in_range-sequence : (octets : List ℕ) (head : RtpValue) → AreOctets octets → IsRtpHead octets head →
+    head.sequence < 65536
+heads_are_in_range-sequence = ranges.sequence
+
+pub heads_are_in_range-csrcs : (octets : List ℕ) (head : RtpValue) → IsRtpHead octets head → length head.csrcs ≤ 15
+heads_are_in_range-csrcs = ranges.few_csrcs
+
+pub heads_are_in_range-words : (octets : List ℕ) (head : RtpValue) → AreOctets octets → IsRtpHead octets head →
+    (head.timestamp < 2 ^ 32) × (head.ssrc < 2 ^ 32) × All (λ csrc. csrc < 2 ^ 32) head.csrcs
+heads_are_in_range-words = ranges.words
+
 -- ---- What is written (src/write_laws.rt)
 
 pub written_is_spelling : (packet : RtcpPacket) → IsWritable packet → IsInRange packet →
@@ -83,6 +101,47 @@ written_is_spelling = writing.written_is_spelling
 pub reads_back : (packets : List RtcpPacket) → All IsWritable packets → All IsInRange packets → BeginsWithReport packets →
     length (written_all packets) ≤ 65535 → IsAccepted (written_all packets) packets
 reads_back = λ packets can fits begins short. writing.reads_back packets can fits short begins
+
+pub read_back_together : (first others : List RtcpPacket) → All IsWritable first → All IsWritable others →
+    All IsInRange first → All IsInRange others → BeginsWithReport (first ++ others) →
+    length (written_all first ++ written_all others) ≤ 65535 →
+    IsAccepted (written_all first ++ written_all others) (first ++ others)
+read_back_together = writing.read_back_together
+
+pub accepted_packets_are_writable-writable : (octets : List ℕ) (packets : List RtcpPacket) → AreOctets octets →
+    IsAccepted octets packets → All IsWritable packets
+accepted_packets_are_writable-writable = again.all_writable
+
+pub accepted_packets_are_writable-in_range : (octets : List ℕ) (packets : List RtcpPacket) → AreOctets octets →
+    IsAccepted octets packets → All IsInRange packets
+accepted_packets_are_writable-in_range = again.all_in_range
+
+pub accepted_packets_are_writable-begins : (octets : List ℕ) (packets : List RtcpPacket) →
+    IsAccepted octets packets → BeginsWithReport packets
+accepted_packets_are_writable-begins = again.begins
+
+pub accepted_packets_are_writable-no_longer : (octets : List ℕ) (packets : List RtcpPacket) →
+    IsAccepted octets packets → length (written_all packets) ≤ length octets
+accepted_packets_are_writable-no_longer = again.no_longer
+
+pub accepted_packets_are_writable-read_back : (octets : List ℕ) (packets : List RtcpPacket) → AreOctets octets →
+    IsAccepted octets packets → IsAccepted (written_all packets) packets
+accepted_packets_are_writable-read_back = again.read_back
+
+pub accepted_parts_are_writable-items : (octets : List ℕ) (packets : List RtcpPacket) → AreOctets octets →
+    IsAccepted octets packets → All (λ item. IsWritableItem item.1) (all_items packets)
+accepted_parts_are_writable-items = λ octets packets all accepted.
+    parts.items_fit packets (again.all_writable octets packets all accepted)
+
+pub accepted_parts_are_writable-goodbyes : (octets : List ℕ) (packets : List RtcpPacket) → AreOctets octets →
+    IsAccepted octets packets → All (λ goodbye. IsWritableReason goodbye.1) (all_goodbyes packets)
+accepted_parts_are_writable-goodbyes = λ octets packets all accepted.
+    parts.goodbyes_fit packets (again.all_writable octets packets all accepted)
+
+pub accepted_parts_are_writable-blocks : (octets : List ℕ) (packets : List RtcpPacket) → AreOctets octets →
+    IsAccepted octets packets → All (λ block. IsWritableBlock block.1) (all_blocks packets)
+accepted_parts_are_writable-blocks = λ octets packets all accepted.
+    parts.blocks_fit packets (again.all_writable octets packets all accepted)
 
 pub reports_are_writable-receiver : (ssrc : ℕ) (blocks : List ReportBlock) → length blocks ≤ 31 →
     All IsWritableBlock blocks → IsWritable (rr ssrc blocks [])

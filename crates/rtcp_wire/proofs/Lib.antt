@@ -41,4 +41,9 @@ mod PacketPlaces
 mod GoodbyePlaces
 mod ContentRows
 mod BlockLists
+mod Octets
+mod PartsAgain
+mod WritableAgain
+mod PartRanges
+mod RtpRanges
 pub mod LawLemmas

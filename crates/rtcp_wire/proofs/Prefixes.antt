@@ -1,6 +1,8 @@
 -- Prefixes of octets: equal lengths make equal prefixes, and a rest that begins no spelling ends every joined prefix.
 use Rattle.std.proofs.Common.{◌≡◌, ℕ, ◌+◌, ◌≤◌, List, [], ◌∷◌, ◌++◌, length, refl, sym, ap, ◌∙◌, append_assoc, arith, inl, inr}
+use Rattle.std.specs.List.{flat_map}
 use Rattle.std.proofs.lemmas.List.{append_cancel_left, length-append}
+use Rattle.std.proofs.lemmas.List.Concat.{flat_map-cons}
 use Rattle.rtcp_wire.specs.Grammar.{Joins}
 use Rattle.rtcp_wire.proofs.Joining.{IsPrefixFree, Extends, Extends-none, Extends-length, comparing}
 
@@ -44,6 +46,17 @@ cut_prefix a c r s same e = append_cancel_left a r s (e ∙ ap (λ (t : List ℕ
 -- the length of a whole, by its parts
 pub length_parts : (b a c : List ℕ) → b ≡ a ++ c → length b ≡ length a + length c
 length_parts b a c e = ap length e ∙ length-append a c
+
+-- What is made of values is no longer than their spellings, where this holds of each.
+pub joined_lengths : {A B : Type 0} (Spells : A → List ℕ → Type 0) (f : A → List B)
+    → ((x : A) (octets : List ℕ) → Spells x octets → length (f x) ≤ length octets)
+    → (xs : List A) (octets : List ℕ) → Joins Spells xs octets → length (flat_map f xs) ≤ length octets
+joined_lengths Spells f each [] octets h = omega arith
+joined_lengths Spells f each (x ∷ xs) octets h =
+    let one = each x h.0 h.3 in
+    let others = joined_lengths Spells f each xs h.1 h.4 in
+    let back = ap length (flat_map-cons f x xs) in
+    omega (arith, length_parts octets h.0 h.1 h.2, one, others, back, length-append (f x) (flat_map f xs))
 
 -- ---- Ends
 

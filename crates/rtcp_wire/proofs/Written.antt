@@ -43,11 +43,11 @@ low_fits : (z : ℤ) → low_bytes w64 3 z < 256 ^ 3
 low_fits z = omega arith
 
 -- a number of 24 bits without the sign bit
-below_sign : (x : ℕ) → x < 8388608 → twos_complement 3 x ≡ pos x
+pub below_sign : (x : ℕ) → x < 8388608 → twos_complement 3 x ≡ pos x
 below_sign x lt = grind (arith, nat_tests)
 
 -- a number of 24 bits with the sign bit
-from_sign : (x : ℕ) → 8388608 ≤ x → x < 16777216 → twos_complement 3 x ≡ negsuc (16777215 - x)
+pub from_sign : (x : ℕ) → 8388608 ≤ x → x < 16777216 → twos_complement 3 x ≡ negsuc (16777215 - x)
 from_sign x le lt = grind (arith, nat_tests)
 
 lost_back : (z : ℤ) → negsuc 8388607 ≤ℤ z → z ≤ℤ pos 8388607 → twos_complement 3 (low_bytes w64 3 z) ≡ z

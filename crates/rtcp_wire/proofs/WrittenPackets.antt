@@ -1,11 +1,12 @@
 -- What is written of a packet is one of its spellings, and what is written of packets is read back.
-use Rattle.std.proofs.Common.{◌≡◌, ℕ, ◌+◌, ◌-◌, ◌/◌, ◌%◌, ◌^◌, ◌<◌, ◌≤◌, Bool, true, false, nat_eq, List, [], ◌∷◌, ◌++◌, All, length, refl, ap, inl, inr, arith}
+use Rattle.std.proofs.Common.{◌≡◌, ℕ, ◌+◌, ◌-◌, ◌/◌, ◌%◌, ◌^◌, ◌<◌, ◌≤◌, Bool, true, false, nat_eq, List, [], ◌∷◌, ◌++◌, All, length, refl, ap, subst, inl, inr, arith}
 use Rattle.std.specs.List.{flat_map}
 use Rattle.std.proofs.lemmas.List.{length-append, take_all}
-use Rattle.std.proofs.lemmas.List.Elements.{All-head}
+use Rattle.std.proofs.lemmas.List.Elements.{All-head, All-append}
+use Rattle.std.proofs.lemmas.List.Concat.{flat_map-append}
 use Rattle.byteorder.specs.Numbers.{big_number-reads_back}
 use Rattle.rtcp_wire.specs.Values.{ReportBlock, RtcpPacket, sr, rr, sdes, bye, app, other}
-use Rattle.rtcp_wire.specs.Grammar.{version_of, is_padded, count_of, type_of, size_of, padding_of, body_of, IsBlock, IsId, IsChunk, IsReportEnd, IsBody, IsSpelling, MayBegin}
+use Rattle.rtcp_wire.specs.Grammar.{version_of, is_padded, count_of, type_of, size_of, padding_of, body_of, IsBlock, IsId, IsChunk, IsReportEnd, IsBody, IsSpelling, MayBegin, IsAccepted}
 use Rattle.rtcp_wire.specs.Writing.{written_word, written_block, written_sender, written_chunk, written_reason, written_header, written_body, written_count, written_type, written, written_all, IsWritableBlock, IsWritableChunk, IsWords, HasWritableParts, IsWritable, IsBlockInRange, IsChunkInRange, IsInRange, BeginsWithReport, ReadsBack}
 use Rattle.rtcp_wire.proofs.Written.{joins_written, both_all, words_joined, id_written, sender_written, block_written, chunk_words, chunk_written, reason_words, reason_written}
 
@@ -122,3 +123,17 @@ reads_back ps can fits short begins = record {
   begins = begins_written ps can fits begins;
   joined = joins_written IsSpelling written (λ p. IsWritable p × IsInRange p) (λ p both. (written_is_spelling p both.0 both.1).0) ps (both_all IsWritable IsInRange ps can fits);
 }
+
+-- Packets that are written after others, the first of all a report, are read back together.
+pub read_back_together : (first others : List RtcpPacket) → All IsWritable first → All IsWritable others →
+    All IsInRange first → All IsInRange others → BeginsWithReport (first ++ others) →
+    length (written_all first ++ written_all others) ≤ 65535 →
+    IsAccepted (written_all first ++ written_all others) (first ++ others)
+read_back_together first others can also fits fit begins short =
+    let whole : written_all (first ++ others) ≡ written_all first ++ written_all others =
+    flat_map-append written first others in
+    let room : length (written_all (first ++ others)) ≤ 65535 = omega (arith, ap length whole, short) in
+    let all_can = All-append IsWritable first others can also in
+    let all_fit = All-append IsInRange first others fits fit in
+    let accepted = reads_back (first ++ others) all_can all_fit room begins in
+    subst (λ (t : List ℕ). IsAccepted t (first ++ others)) whole accepted

@@ -2,9 +2,13 @@
 -- Octets are a list of numbers, the first octet first. An encoding is called a spelling here: a packet has
 -- several, since some octets are free. Fields of fixed size are computed; what has parts is said by how they
 -- are joined.
-use Rattle.std.specs.Prelude.{◌≡◌, ◌≢◌, ℕ, ◌+◌, ◌-◌, ◌*◌, ◌/◌, ◌%◌, ◌<◌, ◌≤◌, ◌⊎◌, ◌==◌, Bool, true, false, if◌then◌else◌, List, [], ◌∷◌, ◌++◌, Option, Some, None, length, take, drop, slice_index}
+use Rattle.std.specs.Prelude.{◌≡◌, ◌≢◌, ℕ, ◌+◌, ◌-◌, ◌*◌, ◌/◌, ◌%◌, ◌<◌, ◌≤◌, ◌⊎◌, ◌==◌, Bool, true, false, if◌then◌else◌, List, [], ◌∷◌, ◌++◌, Option, Some, None, All, length, take, drop, slice_index}
 use Rattle.byteorder.specs.Endian.{big_number, twos_complement}
 use Rattle.rtcp_wire.specs.Values.{SenderValue, ReportBlock, ItemValue, ChunkValue, RtcpPacket, sr, rr, sdes, bye, app, other}
+
+-- The numbers are octets, as those of a datagram in memory always are.
+abbrev pub AreOctets : List ℕ → Type 0
+AreOctets octets = All (λ octet. octet < 256) octets
 
 -- The octets are encodings of these values, one after the other.
 abbrev pub Joins : {A : Type 0} → (A → List ℕ → Type 0) → List A → List ℕ → Type 0

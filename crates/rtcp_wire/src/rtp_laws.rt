@@ -1,8 +1,9 @@
 //! Laws of RTP packets (`specs/RtpHeads`), whatever reads the octets. Each is an empty function whose
 //! postcondition is the law; `proofs/LawLemmas` has a lemma of its name, or one for each clause.
 
-ghost use Rattle.std.specs.Prelude.{◌≡◌, ℕ, ◌⊎◌, List};
-ghost use Rattle.rtcp_wire.specs.RtpHeads.{RtpValue, IsRtpHead, IsRtpFault};
+ghost use Rattle.std.specs.Prelude.{◌≡◌, ℕ, ◌^◌, ◌<◌, ◌≤◌, ◌⊎◌, List, All, length};
+ghost use Rattle.rtcp_wire.specs.Grammar.{AreOctets};
+ghost use Rattle.rtcp_wire.specs.RtpHeads.{RtpValue, IsReserved, IsRtpHead, IsRtpFault};
 ghost use Rattle.rtcp_wire.specs.declared.rtp.fault.RtpFault.{RtpFault};
 
 /// Octets are at most one RTP packet.
@@ -21,4 +22,17 @@ pub fn packet_or_fault()
         IsRtpHead octets head → IsRtpFault octets fault → ⊥ }
     ensures always_one { (octets : List ℕ) →
         ((head : RtpValue) × IsRtpHead octets head) ⊎ ((fault : RtpFault) × IsRtpFault octets fault) }
+{}
+
+/// The numbers of an RTP packet are in the ranges of their fields: the payload type is below 128 and none of
+/// 72 to 76, the sequence number is below 65,536, there are at most 15 CSRCs, and the timestamp, the SSRC and
+/// each CSRC are numbers of 32 bits.
+pub fn heads_are_in_range()
+    ensures payload_type { (octets : List ℕ) (head : RtpValue) → IsRtpHead octets head →
+        (head.payload_type < 128) × (IsReserved head.payload_type → ⊥) }
+    ensures sequence { (octets : List ℕ) (head : RtpValue) → AreOctets octets → IsRtpHead octets head →
+        head.sequence < 65536 }
+    ensures csrcs { (octets : List ℕ) (head : RtpValue) → IsRtpHead octets head → length head.csrcs ≤ 15 }
+    ensures words { (octets : List ℕ) (head : RtpValue) → AreOctets octets → IsRtpHead octets head →
+        (head.timestamp < 2 ^ 32) × (head.ssrc < 2 ^ 32) × All (λ csrc. csrc < 2 ^ 32) head.csrcs }
 {}
