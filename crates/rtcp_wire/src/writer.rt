@@ -3,7 +3,7 @@
 ghost use Rattle.std.specs.Prelude.{◌≡◌, ◌+◌, ◌<◌, ◌↔◌, ◌++◌, All, length, OnOk, OnErr, IsErr};
 ghost use Rattle.arrayvec.specs.ArrayVec.{array_vec_len};
 ghost use Rattle.rtcp_wire.specs.WriterViews.{packet_refs_of};
-ghost use Rattle.rtcp_wire.specs.Writing.{written_all, IsWritable, ReadsBack};
+ghost use Rattle.rtcp_wire.specs.Writing.{written_all, IsWritable, IsInRange, ReadsBack};
 
 use crate::writer::packets::append_packets;
 use crate::writer::size::compound_size;
@@ -49,6 +49,9 @@ pub fn write_compound(
     // The octets that are appended are a datagram of these packets, if the first is a report.
     ensures reads_back { OnOk result
         (ReadsBack (written_all (packet_refs_of packets.now)) (packet_refs_of packets.now)) }
+    // Their numbers are in the ranges of their fields: so what several calls append, one after the other, is
+    // one datagram if the first packet of all is a report (law `read_back_together`).
+    ensures in_range { OnOk result (All IsInRange (packet_refs_of packets.now)) }
 {
     if buffer.remaining_capacity() < compound_size(packets) {
         return Err(Full);
