@@ -39,7 +39,10 @@ fn apply_packet<T: MemberTable>(table: &mut T, packet: &PacketView<'_>, t: u64) 
 {
     match packet {
         // What it tells of its clock says that it is heard, too.
-        PacketView::Sr(report) => apply_one(table, Fact::Told(report.ssrc, report.ntp, report.rtp), t),
+        PacketView::Sr(report) => {
+            let told = Fact::Told(report.ssrc, report.ntp, report.rtp);
+            apply_one(table, told, t)
+        }
         PacketView::Rr(report) => apply_one(table, Fact::Heard(report.ssrc), t),
         PacketView::Sdes(description) => apply_chunks(table, description.chunks(), t),
         PacketView::Bye(goodbye) => apply_goodbyes(table, goodbye.ids(), t),

@@ -61,7 +61,7 @@ own_fact rate ssrc moment (Media other seq timestamp octets) stay own =
     let taken : taken_in (run_of given) seq ≡ taken_by (summary_of given) seq = sym (summary_suffices-taken given seq) in
     let arrival = media_units moment rate in
     let moved : summary_of (packet_came seq timestamp arrival octets ∷ given)
-      ≡ after_packet seq timestamp arrival octets (summary_of given) = summary_moves-packet seq timestamp arrival octets given in
+    ≡ after_packet seq timestamp arrival octets (summary_of given) = summary_moves-packet seq timestamp arrival octets given in
     rw own (λ i. record {
       valid = is_counted (taken i) || is_valid rate ssrc stay;
       mark = None;

@@ -11,7 +11,7 @@ abbrev pub run_code : Coded RunValue
 run_code =
     code_by (ℕ × (ℕ × (ℕ × (ℕ × (ℕ × (ℕ × (ℕ × ℕ)))))))
     (coded× coded_ℕ (coded× coded_ℕ (coded× coded_ℕ (coded× coded_ℕ
-      (coded× coded_ℕ (coded× coded_ℕ (coded× coded_ℕ coded_ℕ)))))))
+    (coded× coded_ℕ (coded× coded_ℕ (coded× coded_ℕ coded_ℕ)))))))
     (λ r. (r.first, (r.greatest, (r.received, (r.expected_before, (r.received_before, (r.transit, (r.jitter, r.octets))))))))
     (λ p. record {
       first = p.0;
@@ -40,7 +40,7 @@ abbrev pub source_code : Coded SourceValue
 source_code =
     code_by (ℕ × (Option RunValue × (Option ℕ × (Option ToldValue × Option LastBlockValue))))
     (coded× coded_ℕ (coded× (coded_option run_code) (coded× (coded_option coded_ℕ)
-      (coded× (coded_option told_code) (coded_option last_block_code)))))
+    (coded× (coded_option told_code) (coded_option last_block_code)))))
     (λ s. (s.packets, (s.run, (s.stray, (s.told, s.last_block)))))
     (λ p. record { packets = p.0; run = p.1.0; stray = p.1.1.0; told = p.1.1.1.0; last_block = p.1.1.1.1 })
     (λ _. refl)

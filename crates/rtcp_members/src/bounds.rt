@@ -42,7 +42,9 @@ impl Bounds {
                 self.silent = self.silent.min(t);
                 self.idle = self.idle.min(t);
             }
-            Fact::Heard(_) | Fact::Named(_) | Fact::Told(_, _, _) => self.silent = self.silent.min(t),
+            Fact::Heard(_) | Fact::Named(_) | Fact::Told(_, _, _) => {
+                self.silent = self.silent.min(t);
+            }
         }
     }
 

@@ -51,10 +51,10 @@ moves seq transit octets packets kept (p ∷ earlier) before strays =
     let run : PacketRun = run_over (p ∷ earlier) before strays in
     elim (is_near (greatest_ordinal (p ∷ earlier)) seq)
     as (λ near. Moves seq transit octets packets kept run
-      (if near then Counted else (if follows (newest strays) seq then Restarted else Bad))) [
+    (if near then Counted else (if follows (newest strays) seq then Restarted else Bad))) [
       | true ↦ counted_moves seq transit octets packets kept p earlier before strays
       | false ↦ elim (follows (newest strays) seq)
-      as (λ b. Moves seq transit octets packets kept run (if b then Restarted else Bad)) [ true ↦ refl | false ↦ refl ]
+          as (λ b. Moves seq transit octets packets kept run (if b then Restarted else Bad)) [ true ↦ refl | false ↦ refl ]
     ]
 
 -- what is taken by the numbers is what is taken in the run

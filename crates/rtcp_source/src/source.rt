@@ -225,7 +225,11 @@ impl Source {
     fn stray(&self) -> Option<u16>
         ensures { result ≡ self.now.stray }
     {
-        if self.has_stray { Some(self.stray) } else { None }
+        if self.has_stray {
+            Some(self.stray)
+        } else {
+            None
+        }
     }
 }
 
