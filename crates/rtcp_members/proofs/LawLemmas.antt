@@ -29,6 +29,8 @@ use Rattle.rtcp_members.proofs.Holding.{held_as_stayed, block_of_stay}
 use Rattle.rtcp_members.proofs.Growing.{members_stay, senders_are_members, members_are_entries, check_adds_no_sender}
 use Rattle.rtcp_members.proofs.NewsOfTraces.{due_at_trace, pending_is_traced, pending_have_rows}
 use Rattle.rtcp_members.proofs.NextDue.{next_is_due}
+use Rattle.rtcp_members.specs.Past.{CameBy, IsToldBy}
+use Rattle.rtcp_members.proofs.Past.{came_later, facts_came, told_of_past, walk_of_past}
 use Rattle.rtcp_members.proofs.Packets.{few_none, few_fact, few_facts, few_check, few_of_more, may_apply}
 use Rattle.rtcp_members.proofs.SenderLaws.{kept_is_newest, newest_is_kept, sender_sends, who_sends_is_sender}
 use Rattle.rtcp_members.proofs.StayLaws.{stay_is_prefix, prefix_is_stay}
@@ -248,6 +250,22 @@ tables_tell_walks-more = told_more
 
 pub tables_tell_walks-none : (after : Option ℕ) (table : TableValue) → state_above after table ≡ None → states_above after table ≡ []
 tables_tell_walks-none = told_none
+
+pub told_lies_in_the_past-told : (latest capacity rate : ℕ) (trace : List TraceStep) → CameBy latest trace →
+    (after : Option ℕ) (state : StateValue) → TellsAbove after capacity rate trace (Some state) → IsToldBy latest state
+told_lies_in_the_past-told = told_of_past
+
+pub told_lies_in_the_past-walk : (latest capacity rate : ℕ) (trace : List TraceStep) → CameBy latest trace →
+    (after : Option ℕ) (states : List StateValue) → IsWalk after capacity rate trace states → All (IsToldBy latest) states
+told_lies_in_the_past-walk = walk_of_past
+
+pub told_lies_in_the_past-later : (earlier latest : ℕ) (trace : List TraceStep) → earlier ≤ latest →
+    CameBy earlier trace → CameBy latest trace
+told_lies_in_the_past-later = came_later
+
+pub told_lies_in_the_past-facts : (latest moment : ℕ) (facts : List Fact) (trace : List TraceStep) → moment ≤ latest →
+    CameBy latest trace → CameBy latest (with_facts facts moment trace)
+told_lies_in_the_past-facts = facts_came
 
 -- ---- Who is a member, and who sends
 

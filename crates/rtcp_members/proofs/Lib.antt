@@ -33,6 +33,7 @@ mod Checking
 mod Crowding
 mod InCyclicTurn
 mod Above
+mod Past
 mod TurnsSamples
 mod TraceTables
 mod Rows

@@ -5,6 +5,7 @@ pub mod Tables
 pub mod Pending
 pub mod News
 pub mod Told
+pub mod Past
 pub mod Roles
 pub mod Least
 pub mod Codes

@@ -1,11 +1,13 @@
 //! Laws of what is told of the sources of a session. Each is an empty function whose postcondition is the law.
 
-ghost use Rattle.std.specs.Prelude.{◌≡◌, ◌==◌, ◌&&◌, ℕ, List, [], ◌∷◌, Option, Some, None, is_some, count_by, if◌then◌else◌};
-ghost use Rattle.rtcp_members.specs.Traces.{TraceStep};
+ghost use Rattle.std.specs.Prelude.{◌≡◌, ◌≤◌, ◌==◌, ◌&&◌, ℕ, List, [], ◌∷◌, Option, Some, None, is_some, All, count_by, if◌then◌else◌};
+ghost use Rattle.rtcp_wire.specs.declared.fact.Fact.{Fact};
+ghost use Rattle.rtcp_members.specs.Traces.{TraceStep, with_facts};
 ghost use Rattle.rtcp_members.specs.Stays.{stay_of};
 ghost use Rattle.rtcp_members.specs.Pending.{is_after};
 ghost use Rattle.rtcp_members.specs.Tables.{TableValue, StandsAt};
 ghost use Rattle.rtcp_members.specs.Told.{StateValue, state_above, states_above, RiseAbove, TellsAbove, IsWalk};
+ghost use Rattle.rtcp_members.specs.Past.{CameBy, IsToldBy};
 
 /// What a table that stands at a trace tells of the sources above an SSRC is what the trace says: of the one of
 /// least SSRC that is present, what its stay tells. There is only one answer that the trace allows.
@@ -37,4 +39,20 @@ pub fn tables_tell_walks()
         states_above after table ≡ state ∷ states_above (Some state.ssrc) table }
     ensures none { (after : Option ℕ) (table : TableValue) → state_above after table ≡ None →
         states_above after table ≡ [] }
+{}
+
+/// Where each fact of a trace came by a moment, what is told of a source by that trace lies at or before it: its last
+/// sighting, its goodbye and its last sender report. Facts that came by a moment came by any later one too, and further
+/// facts that come by it change nothing of that.
+pub fn told_lies_in_the_past()
+    ensures told { (latest capacity rate : ℕ) (trace : List TraceStep) → CameBy latest trace →
+        (after : Option ℕ) (state : StateValue) → TellsAbove after capacity rate trace (Some state) →
+        IsToldBy latest state }
+    ensures walk { (latest capacity rate : ℕ) (trace : List TraceStep) → CameBy latest trace →
+        (after : Option ℕ) (states : List StateValue) → IsWalk after capacity rate trace states →
+        All (IsToldBy latest) states }
+    ensures later { (earlier latest : ℕ) (trace : List TraceStep) → earlier ≤ latest → CameBy earlier trace →
+        CameBy latest trace }
+    ensures facts { (latest moment : ℕ) (facts : List Fact) (trace : List TraceStep) → moment ≤ latest →
+        CameBy latest trace → CameBy latest (with_facts facts moment trace) }
 {}
