@@ -1,19 +1,21 @@
 -- The laws of this crate as lemmas, for the proofs of the crates above: each has the name of its law, and of the
 -- clause where the law has several.
-use Rattle.std.proofs.Common.{◌≡◌, ◌↔◌, map, ℕ, ◌+◌, ◌-◌, ◌*◌, ◌/◌, ◌%◌, ◌≤◌, ◌^◌, ◌<◌, Bool, false, is_some, option_map, List, [], ◌∷◌, ◌++◌, length, slice_get, Option, Some, None, Ok, Err, if◌then◌else◌, refl, sym, ap, ◌∙◌, arith, inl, inr}
+use Rattle.std.proofs.Common.{◌≡◌, ◌↔◌, map, ℕ, ◌+◌, ◌-◌, ◌*◌, ◌/◌, ◌%◌, ◌≤◌, ◌^◌, ◌<◌, Bool, false, is_some, option_map, List, [], ◌∷◌, ◌++◌, length, slice_get, All, IfSome, Option, Some, None, Ok, Err, if◌then◌else◌, refl, sym, ap, ◌∙◌, arith, inl, inr}
 use Rattle.std.specs.Option.{option_or}
 use Rattle.std.proofs.lemmas.Bool.{ne_eqb, eq-eqb, lt-ltb, le-ltb, cases_lt}
 use Rattle.rtcp_wire.specs.Values.{ItemValue}
 use Rattle.rtcp_wire.proofs.LawLemmas as wire
 use Rattle.rtcp_members.specs.Traces.{TraceStep, block_taken}
 use Rattle.rtcp_members.specs.Stays.{is_before}
+use Rattle.rtcp_members.specs.Past.{IsToldBy}
 use Rattle.rtcp_members.specs.Pending.{EntryRow, last_reported}
+use Rattle.rtcp_members.specs.Told.{StateValue}
 use Rattle.rtcp_report.specs.Traced.{with_blocks}
 use Rattle.rtcp_engine.specs.declared.refusal.Refusal.{Refusal}
 use Rattle.rtcp_engine.specs.Setups.{Setup, IsUsable}
 use Rattle.rtcp_engine.specs.Refused.{error_in}
 use Rattle.rtcp_engine.specs.Acts.{Datagram, Act, moment_of, IsReading, IsRtpReading, IsTotal, IsUnique}
-use Rattle.rtcp_engine.specs.Lives.{out_by, own_bye}
+use Rattle.rtcp_engine.specs.Lives.{TellsInLife, WalksInLife, out_by, own_bye}
 use Rattle.rtcp_engine.specs.Changes.{NewIdentifier, Session, bye_of_change, change_by, changed_by, changing_peers, is_taken, most_taken, new_identifier}
 use Rattle.rtcp_engine.specs.Identities.{AreApart, IsFirstFree, with_ssrc}
 use Rattle.rtcp_engine.specs.OwnStreams.{OwnStep, packet_sent, check_passed, report_sent, counts_anew, sending_since}
@@ -21,7 +23,7 @@ use Rattle.rtcp_engine.specs.OwnSending.{OutlastsChecks, IsSendingSince}
 use Rattle.rtcp_engine.specs.Reporting.{extra_item, last_reported_in}
 use Rattle.rtcp_engine.specs.Outcomes.{Outcome, timing_of}
 use Rattle.rtcp_engine.specs.Leaving.{Backoff, present, backing_off, leaving_timing}
-use Rattle.rtcp_engine.specs.Histories.{History, brought_by, life_at, session_at, session_of, with_act}
+use Rattle.rtcp_engine.specs.Histories.{History, brought_by, last_moment, life_at, session_at, session_of, setup_at, with_act}
 use Rattle.rtcp_engine.specs.Refusals.{refusal_after}
 use Rattle.rtcp_engine.specs.Steps.{answer_unless}
 use Rattle.rtcp_engine.specs.Answers.{step_by, answer_of, followed_by}
@@ -31,6 +33,7 @@ use Rattle.rtcp_engine.specs.Spacing.{newest_moment, LiesAfter, KeepsBounds}
 use Rattle.rtcp_engine.proofs.Changing.{bye_alone, same_but_ssrc, usable_in}
 use Rattle.rtcp_engine.proofs.Choosing.{apart_listed, few_listed, new_is_free}
 use Rattle.rtcp_engine.proofs.Trying.{chosen_is_first}
+use Rattle.rtcp_engine.proofs.Past.{latest_in_range, told_after, walk_after}
 use Rattle.rtcp_engine.proofs.Usable.{usable_of_unrefused, unrefused_of_usable}
 use Rattle.rtcp_engine.proofs.Counting.{reports_counted}
 use Rattle.rtcp_engine.specs.InTime.{AllInTime}
@@ -184,6 +187,29 @@ changes_are_few-few history is = few_listed history.setup history.word history.a
 
 pub changes_are_few-apart : (history : History) → IsHistory history → AreApart (changing_peers (session_at history))
 changes_are_few-apart history is = apart_listed history.setup history.word history.acts is.taken
+
+-- ---- What is told of sources
+
+pub told_moments_have_passed-heard : (history : History) → IsHistory history → (after : Option ℕ) (state : StateValue) →
+    TellsInLife (setup_at history) after (life_at history) (Some state) → state.heard ≤ last_moment history.acts
+told_moments_have_passed-heard history is after state tells = (told_after history is after state tells).heard
+
+pub told_moments_have_passed-left : (history : History) → IsHistory history → (after : Option ℕ) (state : StateValue) →
+    TellsInLife (setup_at history) after (life_at history) (Some state) →
+    IfSome state.left (λ left. left ≤ last_moment history.acts)
+told_moments_have_passed-left history is after state tells = (told_after history is after state tells).left
+
+pub told_moments_have_passed-told : (history : History) → IsHistory history → (after : Option ℕ) (state : StateValue) →
+    TellsInLife (setup_at history) after (life_at history) (Some state) →
+    IfSome state.told (λ told. told.moment ≤ last_moment history.acts)
+told_moments_have_passed-told history is after state tells = (told_after history is after state tells).told
+
+pub told_moments_have_passed-all : (history : History) → IsHistory history → (states : List StateValue) →
+    WalksInLife (setup_at history) (life_at history) states → All (IsToldBy (last_moment history.acts)) states
+told_moments_have_passed-all = walk_after
+
+pub told_moments_have_passed-range : (history : History) → IsHistory history → last_moment history.acts ≤ 2 ^ 50
+told_moments_have_passed-range history is = latest_in_range history.setup history.word history.acts is.taken
 
 -- ---- Extra items
 

@@ -19,6 +19,7 @@ mod LeavingRows
 mod LifeLemmas
 mod Moving
 mod OneMore
+mod Past
 mod ChangeLemmas
 mod Rows
 mod Saying

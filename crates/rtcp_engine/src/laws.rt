@@ -1,10 +1,12 @@
 //! Laws of the definitions of a participant's answers. Each is an empty function whose postcondition is the
 //! law; `proofs/LawLemmas` has a lemma of its name, or one for each clause.
 
-ghost use Rattle.std.specs.Prelude.{◌≡◌, ◌↔◌, ◌≤◌, ◌^◌, ◌<◌, ℕ, ◌+◌, ◌*◌, ◌%◌, map, List, [], ◌++◌, length, slice_get, Some, None, false};
+ghost use Rattle.std.specs.Prelude.{◌≡◌, ◌↔◌, ◌≤◌, ◌^◌, ◌<◌, ℕ, ◌+◌, ◌*◌, ◌%◌, map, List, [], ◌++◌, length, slice_get, All, IfSome, Option, Some, None, false};
 ghost use Rattle.rtcp_wire.specs.Values.{ItemValue};
 ghost use Rattle.rtcp_members.specs.Traces.{TraceStep};
+ghost use Rattle.rtcp_members.specs.Past.{IsToldBy};
 ghost use Rattle.rtcp_members.specs.Pending.{EntryRow, last_reported};
+ghost use Rattle.rtcp_members.specs.Told.{StateValue};
 ghost use Rattle.rtcp_report.specs.Traced.{with_blocks};
 ghost use Rattle.rtcp_engine.specs.Setups.{Setup, IsUsable};
 ghost use Rattle.rtcp_engine.specs.Refused.{error_in};
@@ -13,11 +15,11 @@ ghost use Rattle.rtcp_engine.specs.OwnStreams.{OwnStep, sending_since};
 ghost use Rattle.rtcp_engine.specs.OwnSending.{IsSendingSince};
 ghost use Rattle.rtcp_engine.specs.Reporting.{extra_item, last_reported_in};
 ghost use Rattle.rtcp_engine.specs.Outcomes.{Outcome, timing_of};
-ghost use Rattle.rtcp_engine.specs.Histories.{History, brought_by, life_at, session_at, session_of, with_act};
+ghost use Rattle.rtcp_engine.specs.Histories.{History, brought_by, last_moment, life_at, session_at, session_of, setup_at, with_act};
 ghost use Rattle.rtcp_engine.specs.Leaving.{Backoff, present, backing_off, leaving_timing};
 ghost use Rattle.rtcp_engine.specs.Refusals.{refusal_after};
 ghost use Rattle.rtcp_engine.specs.Answers.{answer_of, followed_by};
-ghost use Rattle.rtcp_engine.specs.Lives.{own_bye};
+ghost use Rattle.rtcp_engine.specs.Lives.{TellsInLife, WalksInLife, own_bye};
 ghost use Rattle.rtcp_engine.specs.Changes.{NewIdentifier, Session, change_by, changing_peers, is_taken, new_identifier};
 ghost use Rattle.rtcp_engine.specs.Identities.{AreApart, IsFirstFree, with_ssrc};
 ghost use Rattle.rtcp_engine.specs.Taken.{IsHistory, NamesFew};
@@ -129,6 +131,24 @@ pub fn sent_compounds_keep_apart()
 pub fn sends_in_time()
     ensures { (history : History) → IsHistory history →
         AllInTime history.setup history.word history.acts }
+{}
+
+/// Whatever is told of a source lies at or before the latest call that was taken, and so at or before 2^50: when it
+/// was last heard, when it said goodbye and when its last sender report came, of one source and of all.
+pub fn told_moments_have_passed()
+    ensures heard { (history : History) → IsHistory history → (after : Option ℕ) (state : StateValue) →
+        TellsInLife (setup_at history) after (life_at history) (Some state) →
+        state.heard ≤ last_moment history.acts }
+    ensures left { (history : History) → IsHistory history → (after : Option ℕ) (state : StateValue) →
+        TellsInLife (setup_at history) after (life_at history) (Some state) →
+        IfSome state.left (λ left. left ≤ last_moment history.acts) }
+    ensures told { (history : History) → IsHistory history → (after : Option ℕ) (state : StateValue) →
+        TellsInLife (setup_at history) after (life_at history) (Some state) →
+        IfSome state.told (λ told. told.moment ≤ last_moment history.acts) }
+    ensures all { (history : History) → IsHistory history → (states : List StateValue) →
+        WalksInLife (setup_at history) (life_at history) states →
+        All (IsToldBy (last_moment history.acts)) states }
+    ensures range { (history : History) → IsHistory history → last_moment history.acts ≤ 2 ^ 50 }
 {}
 
 /// The source that was reported last is that of the newest block, over any number of blocks.

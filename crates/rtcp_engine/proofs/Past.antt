@@ -1,0 +1,190 @@
+-- What a participant tells of a source came by the latest act that was taken.
+use Rattle.std.proofs.Common.{◌≡◌, ◌≤◌, ◌^◌, ℕ, nat_lt, nat_le, Bool, true, false, if◌then◌else◌, List, [], ◌∷◌, All}
+use Rattle.std.proofs.Common.{Option, Some, None, Ok, Err, refl, sym, subst, arith}
+use Rattle.std.proofs.lemmas.Bool.{ltb-false}
+use Rattle.std.proofs.lemmas.List.Elements.{All-nil}
+use Rattle.rtcp_wire.specs.Facts.{facts_of}
+use Rattle.rtcp_members.specs.Entries.{counted_at}
+use Rattle.rtcp_members.specs.Past.{CameBy, IsToldBy}
+use Rattle.rtcp_members.specs.Pending.{EntryRow}
+use Rattle.rtcp_members.specs.Told.{StateValue}
+use Rattle.rtcp_members.specs.Traces.{TraceStep, block_taken}
+use Rattle.rtcp_members.proofs.LawLemmas as tables
+use Rattle.rtcp_report.specs.Traced.{with_blocks}
+use Rattle.rtcp_engine.specs.declared.refusal.Refusal.{Refusal}
+use Rattle.rtcp_engine.specs.declared.refusal.Refusal.TheVariants.{Backwards, TooFar}
+use Rattle.rtcp_engine.specs.Acts.{Act, arrived, left, moment_of, rtcp, rtp, rtp_sent, ticked}
+use Rattle.rtcp_engine.specs.Arrivals.{after, facts_of_media, media_fact}
+use Rattle.rtcp_engine.specs.Changes.{NewIdentifier, Session, change_by, changed_by}
+use Rattle.rtcp_engine.specs.Histories.{History, last_moment, life_at, session_of, setup_at}
+use Rattle.rtcp_engine.specs.Leaving.{Backoff, Life, after_wait, after_waiting_tick, backing_off, backoff_from}
+use Rattle.rtcp_engine.specs.Leaving.{few_members, gone, is_bye_due, is_unheard, left_at, present}
+use Rattle.rtcp_engine.specs.Lives.{TellsInLife, WalksInLife, lived, with_new_ssrc}
+use Rattle.rtcp_engine.specs.Outcomes.{Outcome, member_count}
+use Rattle.rtcp_engine.specs.Refusals.{refusal_after}
+use Rattle.rtcp_engine.specs.Reporting.{reported_at}
+use Rattle.rtcp_engine.specs.Setups.{Setup}
+use Rattle.rtcp_engine.specs.Taken.{AllTaken, IsHistory}
+use Rattle.rtcp_engine.specs.Ticks.{after_check, checked, has_come, has_passed, put_off, reported}
+use Rattle.rtcp_engine.proofs.Choosing.{unrefused}
+use Rattle.rtcp_engine.proofs.Sending.{in_time}
+
+-- ---- One that takes part
+
+blocks_came : (latest : ℕ) (rows : List EntryRow) (trace : List TraceStep) → CameBy latest trace →
+    CameBy latest (with_blocks rows trace)
+blocks_came latest [] trace came = came
+blocks_came latest (row ∷ rows) trace came =
+    blocks_came latest rows (block_taken row.0 ∷ trace) (omega arith, came)
+
+report_came : (setup : Setup) (t first_word second_word : ℕ) (outcome : Outcome) → CameBy t outcome.trace →
+    CameBy t (after_check setup t first_word second_word outcome).trace
+report_came setup t first_word second_word outcome came =
+    by_tests (has_come t outcome) (has_passed setup t first_word outcome)
+  where
+    by_tests : (come passed : Bool) →
+        CameBy t (if come
+        then (if passed then reported setup t second_word outcome else put_off setup t first_word outcome)
+        else outcome).trace
+    by_tests true true = blocks_came t (reported_at setup t outcome) outcome.trace came
+    by_tests true false = came
+    by_tests false passed = came
+
+came_after : (setup : Setup) (act : Act) (outcome : Outcome) → CameBy (moment_of act) outcome.trace →
+    CameBy (moment_of act) (after setup act outcome).trace
+came_after setup (arrived t peer word (rtcp size (Ok packets))) outcome came =
+    tables.told_lies_in_the_past-facts t t (facts_of packets) outcome.trace (omega arith) came
+came_after setup (arrived t peer word (rtcp size (Err fault))) outcome came = came
+came_after setup (arrived t peer word (rtp (Ok head))) outcome came =
+    let counted = counted_at setup.capacity setup.rate outcome.trace (media_fact head) in
+    tables.told_lies_in_the_past-facts t t (facts_of_media setup.ssrc head counted) outcome.trace (omega arith) came
+came_after setup (arrived t peer word (rtp (Err fault))) outcome came = came
+came_after setup (rtp_sent t timestamp octets) outcome came = came
+came_after setup (ticked t first_word second_word) outcome came =
+    report_came setup t first_word second_word (checked setup t outcome) (omega arith, came)
+came_after setup (left t word) outcome came = came
+
+-- ---- Lives
+
+-- Where it takes part, what happened to its members came by this moment: from a leave on nothing is told of them.
+abbrev LivesBy : (latest : ℕ) → Life → Type 0
+LivesBy latest (present outcome) = CameBy latest outcome.trace
+LivesBy latest (backing_off outcome backoff) = Unit {0}
+LivesBy latest (gone outcome) = Unit {0}
+
+left_by : (latest : ℕ) (setup : Setup) (t word : ℕ) (outcome : Outcome) →
+    LivesBy latest (left_at setup t word outcome)
+left_by latest setup t word outcome = by_tests (is_unheard outcome) (nat_le (member_count setup outcome) few_members)
+  where
+    by_tests : (unheard few : Bool) →
+        LivesBy latest (if unheard then gone outcome
+        else (if few then gone outcome else backing_off outcome (backoff_from setup t word outcome)))
+    by_tests true few = tt
+    by_tests false true = tt
+    by_tests false false = tt
+
+waited_by : (latest : ℕ) (setup : Setup) (t word : ℕ) (outcome : Outcome) (backoff : Backoff) →
+    LivesBy latest (after_waiting_tick setup t word outcome backoff)
+waited_by latest setup t word outcome backoff = by_test (is_bye_due setup t word backoff)
+  where
+    by_test : (due : Bool) →
+        LivesBy latest (if due then gone outcome else backing_off outcome (after_wait setup t word backoff))
+    by_test true = tt
+    by_test false = tt
+
+-- by an act no earlier than this moment, whose own moment it is then
+lives_by : (setup : Setup) (latest : ℕ) (act : Act) (life : Life) → latest ≤ moment_of act → LivesBy latest life →
+    LivesBy (moment_of act) (lived setup act life)
+lives_by setup latest (arrived t peer word datagram) (present outcome) order came =
+    let now = tables.told_lies_in_the_past-later latest t outcome.trace order came in
+    came_after setup (arrived t peer word datagram) outcome now
+lives_by setup latest (rtp_sent t timestamp octets) (present outcome) order came =
+    tables.told_lies_in_the_past-later latest t outcome.trace order came
+lives_by setup latest (ticked t first_word second_word) (present outcome) order came =
+    let now = tables.told_lies_in_the_past-later latest t outcome.trace order came in
+    came_after setup (ticked t first_word second_word) outcome now
+lives_by setup latest (left t word) (present outcome) order came = left_by t setup t word outcome
+lives_by setup latest (arrived t peer word (rtcp size reading)) (backing_off outcome backoff) order came = tt
+lives_by setup latest (arrived t peer word (rtp reading)) (backing_off outcome backoff) order came = tt
+lives_by setup latest (rtp_sent t timestamp octets) (backing_off outcome backoff) order came = tt
+lives_by setup latest (ticked t first_word second_word) (backing_off outcome backoff) order came =
+    waited_by t setup t first_word outcome backoff
+lives_by setup latest (left t word) (backing_off outcome backoff) order came = tt
+lives_by setup latest act (gone outcome) order came = tt
+
+-- A change of identifier changes nothing of the others.
+renamed_by : (latest : ℕ) (setup : Setup) (life : Life) → LivesBy latest life →
+    LivesBy latest (with_new_ssrc setup life)
+renamed_by latest setup (present outcome) came = came
+renamed_by latest setup (backing_off outcome backoff) came = tt
+renamed_by latest setup (gone outcome) came = tt
+
+changed_came : (latest : ℕ) (session : Session) (change : Option NewIdentifier) → LivesBy latest session.life →
+    LivesBy latest (changed_by change session).life
+changed_came latest session None came = came
+changed_came latest session (Some new) came = renamed_by latest session.setup session.life came
+
+-- ---- Sessions
+
+session_lives_by : (setup : Setup) (word : ℕ) (acts : List Act) → AllTaken setup word acts →
+    LivesBy (last_moment acts) (session_of setup word acts).life
+session_lives_by setup word [] taken = tt
+session_lives_by setup word (act ∷ earlier) taken =
+    let before = session_of setup word earlier in
+    let change = change_by before act in
+    let now = changed_by change before in
+    let order = in_time (record { setup = setup; word = word; acts = earlier }) act taken.0 in
+    lives_by now.setup (last_moment earlier) act now.life order
+    (changed_came (last_moment earlier) before change (session_lives_by setup word earlier taken.2))
+
+-- ---- The range of moments
+
+not_too_far : (back far : Bool) (others : Option Refusal) →
+    (if back then Some Backwards else (if far then Some TooFar else others)) ≡ None → far ≡ false
+not_too_far true far others none = absurd cc
+not_too_far false true others none = absurd cc
+not_too_far false false others none = refl
+
+within_range : (history : History) (act : Act) → refusal_after history act ≡ None → moment_of act ≤ 2 ^ 50
+within_range history act none =
+    let back = nat_lt (moment_of act) (last_moment history.acts) in
+    let far = nat_lt (2 ^ 50) (moment_of act) in
+    ltb-false (2 ^ 50) (moment_of act) (not_too_far back far _ (unrefused history act none).0)
+
+pub latest_in_range : (setup : Setup) (word : ℕ) (acts : List Act) → AllTaken setup word acts →
+    last_moment acts ≤ 2 ^ 50
+latest_in_range setup word [] taken = omega arith
+latest_in_range setup word (act ∷ earlier) taken =
+    within_range (record { setup = setup; word = word; acts = earlier }) act taken.0
+
+-- ---- What is told
+
+told_in : (latest : ℕ) (setup : Setup) (low : Option ℕ) (life : Life) (state : StateValue) → LivesBy latest life →
+    TellsInLife setup low life (Some state) → IsToldBy latest state
+told_in latest setup low (present outcome) state came =
+    tables.told_lies_in_the_past-told latest setup.capacity setup.rate outcome.trace came low state
+told_in latest setup low (backing_off outcome backoff) state came = λ none. absurd cc
+told_in latest setup low (gone outcome) state came = λ none. absurd cc
+
+none_by : (latest : ℕ) (states : List StateValue) → states ≡ [] → All (IsToldBy latest) states
+none_by latest states none = subst (All (IsToldBy latest)) (sym none) (All-nil (IsToldBy latest))
+
+walk_in : (latest : ℕ) (setup : Setup) (life : Life) (states : List StateValue) → LivesBy latest life →
+    WalksInLife setup life states → All (IsToldBy latest) states
+walk_in latest setup (present outcome) states came =
+    tables.told_lies_in_the_past-walk latest setup.capacity setup.rate outcome.trace came None states
+walk_in latest setup (backing_off outcome backoff) states came = none_by latest states
+walk_in latest setup (gone outcome) states came = none_by latest states
+
+module _ (history : History) (is : IsHistory history) where
+  lives : LivesBy (last_moment history.acts) (life_at history)
+  lives = session_lives_by history.setup history.word history.acts is.taken
+
+  pub told_after : (low : Option ℕ) (state : StateValue) →
+      TellsInLife (setup_at history) low (life_at history) (Some state) →
+      IsToldBy (last_moment history.acts) state
+  told_after low state = told_in (last_moment history.acts) (setup_at history) low (life_at history) state lives
+
+  pub walk_after : (states : List StateValue) → WalksInLife (setup_at history) (life_at history) states →
+      All (IsToldBy (last_moment history.acts)) states
+  walk_after states = walk_in (last_moment history.acts) (setup_at history) (life_at history) states lives
