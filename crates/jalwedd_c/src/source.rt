@@ -2,13 +2,13 @@
 
 ghost use Rattle.std.specs.Prelude.{◌≡◌, option_map};
 ghost use Rattle.rtcp_members.specs.ListViews.{state_value};
-ghost use Rattle.rtcp_source.specs.Views.{reception_value, told_value};
+ghost use Rattle.rtcp_source.specs.Views.{last_block_value, reception_value, told_value};
 ghost use Rattle.jalwedd_c.specs.Answers.{moment_shown, one_if};
-ghost use Rattle.jalwedd_c.specs.Sources.{IsReceived, IsLastTold, IsShown, after_of};
+ghost use Rattle.jalwedd_c.specs.Sources.{IsBlockShown, IsReceived, IsLastTold, IsShown, after_of};
 
 use crate::step::NEVER;
 use rtcp_members::SourceState;
-use rtcp_source::{Reception, Told};
+use rtcp_source::{LastBlock, Reception, Told};
 
 /// What is known of a source.
 #[repr(C)]
@@ -23,20 +23,37 @@ pub struct Source {
     /// The NTP timestamp of that report, or 0.
     pub ntp: u64,
     /// How many of its packets were counted, since it came or its sequence numbers jumped: 0 where none was, and then
-    /// the next three are 0 too.
+    /// the next four are 0 too.
     pub received: u64,
+    /// The octets of payload in those packets, without headers and padding, modulo 2^64.
+    pub octets: u64,
     /// How many were lost.
     pub lost: i32,
     /// The highest sequence number received, extended by how often they wrapped.
     pub highest: u32,
     /// The jitter of their arrival, in units of their RTP timestamps.
     pub jitter: u32,
+    /// The RTP timestamp of its last sender report, or 0: the moment of `ntp` in units of its RTP timestamps.
+    pub rtp: u32,
+    /// 1 if a report block about it was made, else 0, and then the next two are 0 too.
+    pub has_block: u32,
+    /// The fraction lost that the last such block said, in 1/256.
+    pub fraction: u32,
+    /// The extended highest sequence number that it said.
+    pub block_highest: u32,
     /// Its SSRC.
     pub ssrc: u32,
     /// 1 if it is a member, else 0: it is not yet valid, or it left.
     pub member: u32,
     /// 1 if it sends RTP packets, else 0.
     pub sender: u32,
+}
+
+/// What is told of the last report block about a source.
+struct BlockShown {
+    has_block: u32,
+    fraction: u32,
+    highest: u32,
 }
 
 impl Source {
@@ -46,15 +63,21 @@ impl Source {
     {
         let reception = received(state.reception);
         let told = last_told(state.told);
+        let block = last_block(state.last_block);
         Source {
             heard: state.heard,
             left: state.left.unwrap_or(NEVER),
             told: told.moment,
             ntp: told.ntp,
             received: reception.received,
+            octets: reception.octets,
             lost: reception.lost,
             highest: reception.highest,
             jitter: reception.jitter,
+            rtp: told.rtp,
+            has_block: block.has_block,
+            fraction: block.fraction,
+            block_highest: block.highest,
             ssrc: state.ssrc,
             member: u32::from(state.is_member),
             sender: u32::from(state.is_sender),
@@ -80,6 +103,7 @@ fn received(reception: Option<Reception>) -> Reception
         Some(reception) => reception,
         None => Reception {
             received: 0,
+            octets: 0,
             lost: 0,
             highest: 0,
             jitter: 0,
@@ -87,7 +111,7 @@ fn received(reception: Option<Reception>) -> Reception
     }
 }
 
-/// 2^64 - 1 and 0 where no sender report came.
+/// 2^64 - 1 and zeros where no sender report came.
 fn last_told(told: Option<Told>) -> Told
     ensures { IsLastTold result (option_map told_value told) }
 {
@@ -96,6 +120,25 @@ fn last_told(told: Option<Told>) -> Told
         None => Told {
             ntp: 0,
             moment: NEVER,
+            rtp: 0,
+        },
+    }
+}
+
+/// 1 and what the last report block said, and zeros where none was made.
+fn last_block(block: Option<LastBlock>) -> BlockShown
+    ensures { IsBlockShown result (option_map last_block_value block) }
+{
+    match block {
+        Some(block) => BlockShown {
+            has_block: 1,
+            fraction: u32::from(block.fraction),
+            highest: block.highest,
+        },
+        None => BlockShown {
+            has_block: 0,
+            fraction: 0,
+            highest: 0,
         },
     }
 }
