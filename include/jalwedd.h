@@ -54,10 +54,10 @@ extern "C" {
  * earlier one, under the same SONAME. */
 
 #define JALWEDD_VERSION_MAJOR 0
-#define JALWEDD_VERSION_MINOR 2
-#define JALWEDD_VERSION_PATCH 3
+#define JALWEDD_VERSION_MINOR 3
+#define JALWEDD_VERSION_PATCH 0
 
-/* The version of the linked library: 0x000203 for 0.2.3. */
+/* The version of the linked library: 0x000300 for 0.3.0. */
 uint32_t jalwedd_version(void);
 
 /* ---- Statuses. Two of them have two names, of which a switch can use only one: NO_BLOCK or NO_PART, and NO_SOURCE or
@@ -255,10 +255,18 @@ typedef struct jalwedd_source_state {
     uint64_t told;          /* when its latest sender report came, or JALWEDD_NEVER */
     uint64_t ntp;           /* the NTP timestamp of that report, or 0 */
     uint64_t received;      /* how many of its packets were counted, late and repeated ones included, since it came or
-                               its sequence numbers jumped (A.1). If none was, this is 0, and so are the next three */
+                               its sequence numbers jumped (A.1). If none was, this is 0, and so are the next four */
+    uint64_t octets;        /* how many payload octets these packets had, without headers and padding, modulo 2^64 */
     int32_t lost;           /* how many were lost since then: negative if packets were repeated */
     uint32_t highest;       /* the highest sequence number in the low 16 bits, and above them how often it wrapped */
     uint32_t jitter;        /* the interarrival jitter, in units of its RTP timestamps */
+    uint32_t rtp;           /* the RTP timestamp of its latest sender report, or 0: the same moment as ntp, in units of
+                               its RTP timestamps */
+    uint32_t has_block;     /* 1 if a report was handed out that has a block about it (6.4.1), otherwise 0, and so are
+                               the next two */
+    uint32_t fraction;      /* by the latest such block, the fraction of its packets lost since the block before it, in
+                               1/256: 0 to 255 */
+    uint32_t block_highest; /* by that block, the highest sequence number, as in highest */
     uint32_t ssrc;
     uint32_t member;        /* 1 if it is a member (6.2.1), otherwise 0: it is not yet valid, or it left */
     uint32_t sender;        /* 1 if it sends RTP packets, otherwise 0 */

@@ -56,10 +56,10 @@
 //!
 //! With media, the host also calls [`arrive_rtp`](Participant::arrive_rtp) for each RTP datagram that comes,
 //! and [`sent_rtp`](Participant::sent_rtp) for each RTP packet that it sends.
-//! [`sources`](Participant::sources) lists the sources, and [`changes`] says who joined or left between two
-//! listings. [`about`] reads from a datagram how others receive the host's stream, [`items`] their names,
-//! [`senders`] what lip sync needs, and [`rtp_head`] the head of a packet with media. [`record`] writes the calls of a session as `rtcp replay` reads them. The
-//! example `player` shows all of this.
+//! [`sources`](Participant::sources) lists the sources, each with what lip sync needs, and [`changes`] says
+//! who joined or left between two listings. [`about`] reads from a datagram how others receive the host's
+//! stream, [`items`] their names, and [`rtp_head`] the head of a packet with media. [`record`] writes the
+//! calls of a session as `rtcp replay` reads them. The example `player` shows all of this.
 //!
 //! # Arguments
 //!
@@ -124,4 +124,4 @@ pub use head::{rtp_head, RtpHead};
 pub use moment::Moment;
 pub use participant::Participant;
 pub use parts::{apps, blocks, goodbyes, items, senders, App, Goodbye, Parts, SdesItem, SenderReport};
-pub use sources::{Reception, SourceState, Sources, Told};
+pub use sources::{LastBlock, Reception, SourceState, Sources, Told};

@@ -24,6 +24,8 @@ pub struct SourceState {
     pub reception: Option<Reception>,
     /// Its latest sender report, if one came.
     pub told: Option<Told>,
+    /// What the latest report block about it said, if a report with one was handed out.
+    pub last_block: Option<LastBlock>,
 }
 
 /// How the packets of a source are received, since it came or since its sequence numbers jumped (RFC 3550,
@@ -32,6 +34,8 @@ pub struct SourceState {
 pub struct Reception {
     /// How many packets were counted, late and repeated ones included.
     pub received: u64,
+    /// How many payload octets these had, without headers and padding, modulo 2^64.
+    pub octets: u64,
     /// How many were lost: negative if packets were repeated.
     pub lost: i32,
     /// The highest sequence number in the low 16 bits, and above them how often it wrapped.
@@ -45,8 +49,20 @@ pub struct Reception {
 pub struct Told {
     /// Its NTP timestamp: seconds since 1900 in the upper 32 bits, their fraction in the lower.
     pub ntp: u64,
+    /// The same moment in units of its RTP timestamps: with `ntp`, the pair that lip sync needs.
+    pub rtp: u32,
     /// When it came.
     pub moment: Moment,
+}
+
+/// What the latest report block about a source said (RFC 3550, 6.4.1). A restart of its sequence numbers
+/// leaves it as it is.
+#[derive(Clone, Copy, Debug, PartialEq, Eq, Hash)]
+pub struct LastBlock {
+    /// The fraction of its packets lost since the block before it, in 1/256.
+    pub fraction: u8,
+    /// The highest sequence number in the low 16 bits, and above them how often it wrapped.
+    pub highest: u32,
 }
 
 /// The sources of a session by rising SSRC, each once: see
@@ -83,16 +99,17 @@ impl fmt::Debug for Sources<'_> {
 
 impl SourceState {
     fn of(source: &sys::jalwedd_source_state) -> SourceState {
-        let sys::jalwedd_source_state { heard, left, told, ntp, received, lost, highest, jitter, .. } =
-            *source;
+        let sys::jalwedd_source_state { heard, left, told, ntp, rtp, .. } = *source;
+        let sys::jalwedd_source_state { received, octets, lost, highest, jitter, .. } = *source;
         SourceState {
             ssrc: source.ssrc,
             is_member: source.member != 0,
             is_sender: source.sender != 0,
             left: Moment::told(left),
             heard: Moment::from_micros(heard),
-            reception: (received != 0).then_some(Reception { received, lost, highest, jitter }),
-            told: Moment::told(told).map(|moment| Told { ntp, moment }),
+            reception: (received != 0).then_some(Reception { received, octets, lost, highest, jitter }),
+            told: Moment::told(told).map(|moment| Told { ntp, rtp, moment }),
+            last_block: LastBlock::of(source),
         }
     }
 
@@ -105,5 +122,12 @@ impl SourceState {
             sender: u32::from(self.is_sender),
             ..sys::jalwedd_source_state::default()
         }
+    }
+}
+
+impl LastBlock {
+    fn of(source: &sys::jalwedd_source_state) -> Option<LastBlock> {
+        let fraction = source.fraction as u8; // 0 to 255
+        (source.has_block != 0).then_some(LastBlock { fraction, highest: source.block_highest })
     }
 }

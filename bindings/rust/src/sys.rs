@@ -8,8 +8,8 @@ use core::ptr::null_mut;
 // ---- The version
 
 pub const JALWEDD_VERSION_MAJOR: u32 = 0;
-pub const JALWEDD_VERSION_MINOR: u32 = 2;
-pub const JALWEDD_VERSION_PATCH: u32 = 3;
+pub const JALWEDD_VERSION_MINOR: u32 = 3;
+pub const JALWEDD_VERSION_PATCH: u32 = 0;
 
 // ---- Statuses
 
@@ -169,9 +169,14 @@ pub struct jalwedd_source_state {
     pub told: u64,
     pub ntp: u64,
     pub received: u64,
+    pub octets: u64,
     pub lost: i32,
     pub highest: u32,
     pub jitter: u32,
+    pub rtp: u32,
+    pub has_block: u32,
+    pub fraction: u32,
+    pub block_highest: u32,
     pub ssrc: u32,
     pub member: u32,
     pub sender: u32,

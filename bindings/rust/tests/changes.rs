@@ -12,6 +12,7 @@ fn unknown(ssrc: u32) -> SourceState {
         heard: Moment::ZERO,
         reception: None,
         told: None,
+        last_block: None,
     }
 }
 

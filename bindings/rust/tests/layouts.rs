@@ -29,8 +29,9 @@ fn structures() {
     assert_layout!(jalwedd_app_place, 32, 8, offset: 0, size: 8, ssrc: 16, subtype: 20, name: 24);
     assert_layout!(jalwedd_head_place, 48, 8, csrcs_offset: 0, payload_offset: 8, payload_size: 16, ssrc: 24,
         timestamp: 28, sequence: 32, payload_type: 36, marker: 40, csrcs: 44);
-    assert_layout!(jalwedd_source_state, 64, 8, heard: 0, left: 8, told: 16, ntp: 24, received: 32, lost: 40,
-        highest: 44, jitter: 48, ssrc: 52, member: 56, sender: 60);
+    assert_layout!(jalwedd_source_state, 88, 8, heard: 0, left: 8, told: 16, ntp: 24, received: 32,
+        octets: 40, lost: 48, highest: 52, jitter: 56, rtp: 60, has_block: 64, fraction: 68,
+        block_highest: 72, ssrc: 76, member: 80, sender: 84);
     assert_layout!(jalwedd_role_change, 16, 4, ssrc: 0, was: 4, is: 8, left: 12);
 }
 

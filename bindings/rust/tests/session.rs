@@ -2,7 +2,7 @@
 //! hand in compare/rows.py.
 
 use jalwedd::{
-    sys, Answer, Config, Item, ItemKind, Kind, Moment, NewError, Participant, Reception, Refusal,
+    sys, Answer, Config, Item, ItemKind, Kind, LastBlock, Moment, NewError, Participant, Reception, Refusal,
     SourceState, Step, TextTooLong, Told,
 };
 use std::thread;
@@ -197,15 +197,18 @@ fn a_participant_may_go_to_another_thread() {
     assert_eq!(out(second.leave(FIRST, 0)), bye(BYE));
 }
 
-/// Source 9 gives its name, and a packet of it is counted; source 3 sends a sender report, and leaves.
+/// Source 9 gives its name, and two packets of it are counted, one of 3 octets of payload and a padded one of
+/// 2; source 3 sends a sender report, and leaves. Then a report says of 9 that of 3 packets 1 was lost.
 #[test]
 fn who_is_there() {
     let mut session = begun(&[]);
     assert_eq!((session.sources().next(), session.entries()), (None, 0));
     session.arrive_rtcp(at(1), 1, 0, &named(9).last().unwrap()).unwrap();
-    session.arrive_rtp(at(2), 1, 0, &rtp(10, 9)).unwrap();
-    session.arrive_rtp(at(3), 1, 0, &rtp(11, 9)).unwrap();
-    session.arrive_rtp(at(4), 1, 0, &rtp(13, 9)).unwrap();
+    let mut padded = [&rtp(13, 9)[..], b"de\0\0\x03"].concat();
+    padded[0] = 0xa0;
+    session.arrive_rtp(at(2), 1, 0, &[&rtp(10, 9)[..], b"not counted"].concat()).unwrap();
+    session.arrive_rtp(at(3), 1, 0, &[&rtp(11, 9)[..], b"abc"].concat()).unwrap();
+    session.arrive_rtp(at(4), 1, 0, &padded).unwrap();
     let sr = [0x80, 0xc8, 0, 6, 0, 0, 0, 3, 0, 0, 0, 1, 0x80, 0, 0, 0, 0, 0, 0, 7, 0, 0, 0, 1, 0, 0, 0, 160];
     session.arrive_rtcp(at(5), 1, 0, &sr).unwrap();
     let bye = [0x80, 0xc9, 0, 1, 0, 0, 0, 3, 0x81, 0xcb, 0, 1, 0, 0, 0, 3];
@@ -217,7 +220,8 @@ fn who_is_there() {
         left: Some(at(6)),
         heard: at(6),
         reception: None,
-        told: Some(Told { ntp: 0x0000_0001_8000_0000, moment: at(5) }),
+        told: Some(Told { ntp: 0x0000_0001_8000_0000, rtp: 7, moment: at(5) }),
+        last_block: None,
     };
     let nine = SourceState {
         ssrc: 9,
@@ -226,12 +230,15 @@ fn who_is_there() {
         left: None,
         heard: at(4),
         // 11 and 13 of 11 to 13 were counted
-        reception: Some(Reception { received: 2, lost: 1, highest: 13, jitter: 0 }),
+        reception: Some(Reception { received: 2, octets: 5, lost: 1, highest: 13, jitter: 0 }),
         told: None,
+        last_block: None,
     };
     assert_eq!(session.sources().collect::<Vec<_>>(), [three, nine]);
     assert_eq!(session.entries(), 2);
     session.tick(FIRST, 0, 0).unwrap();
+    let reported = SourceState { last_block: Some(LastBlock { fraction: 85, highest: 13 }), ..nine };
+    assert_eq!(session.sources().collect::<Vec<_>>(), [three, reported]);
     session.leave(at(2_000_000), 0).unwrap();
     assert_eq!((session.sources().next(), session.entries()), (None, 0));
 }
