@@ -30,7 +30,7 @@ pub struct SourceState {
 
 /// How the packets of a source are received, since it came or since its sequence numbers jumped (RFC 3550,
 /// 6.4.1, A.1, A.3, A.8).
-#[derive(Clone, Copy, Debug, PartialEq, Eq, Hash)]
+#[derive(Clone, Copy, Debug, Default, PartialEq, Eq, Hash)]
 pub struct Reception {
     /// How many packets were counted, late and repeated ones included.
     pub received: u64,

@@ -180,15 +180,19 @@ impl Player {
 
 fn print_source(source: &SourceState, note: Option<&Note>, rate: u32) {
     let cname = note.map_or("?", |note| &note.cname);
-    let (received, lost, jitter) = source
-        .reception
-        .map_or((0, 0, 0), |reception| (reception.received, reception.lost, reception.jitter));
+    let reception = source.reception.unwrap_or_default();
     print!(
-        "  {:08x} {cname} {}: {received} packets received, {lost} lost, jitter {:.1} ms",
+        "  {:08x} {cname} {}: {} packets with {} octets received, {} lost, jitter {:.1} ms",
         source.ssrc,
         doing(source),
-        f64::from(jitter) * 1e3 / f64::from(rate)
+        reception.received,
+        reception.octets,
+        reception.lost,
+        f64::from(reception.jitter) * 1e3 / f64::from(rate)
     );
+    if let Some(block) = source.last_block {
+        print!("; we report loss {:.1} %", f64::from(block.fraction) / 2.56);
+    }
     if let Some((report, trip)) = note.and_then(|note| note.report) {
         print!("; reports loss {:.1} %", f64::from(report.fraction) / 2.56);
         if let Some(trip) = trip {
