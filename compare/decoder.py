@@ -124,10 +124,10 @@ def answer(octets):
 
 
 def packet_facts(kind, count, body):
-    """The facts of one packet: what is said, the SSRC, and the NTP timestamp that is told."""
+    """The facts of one packet: what is said, the SSRC, and the NTP and RTP timestamps that are told."""
     number = lambda start, size: int.from_bytes(body[start:start + size], "big")
     if kind == 200:
-        return [("heard", number(0, 4), None), ("told", number(0, 4), number(4, 8))]
+        return [("heard", number(0, 4), None), ("told", number(0, 4), (number(4, 8), number(12, 4)))]
     if kind in (201, 204):
         return [("heard", number(0, 4), None)]
     if kind == 203:

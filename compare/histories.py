@@ -288,7 +288,7 @@ class History:
         mixed = choose(rng, (5, 0), (2, rng.randrange(4)), (0.1, 15))
         csrcs = [rng.choice(self.others + [self.identifier()]) for _ in range(mixed)]
         extension = choose(rng, (8, b""), (1, number(rng, 2) + b"\0\1" + number(rng, 4)), (1, number(rng, 2) + b"\0\0"))
-        payload = number(rng, rng.randrange(6))
+        payload = number(rng, rng.randrange(6)) + choose(rng, (6, b""), (1, b"\1"), (1, b"\0\0\0\4"))
         is_padded = payload and 1 <= payload[-1] <= len(payload) or rng.randrange(40) == 0
         first = 0x80 | len(csrcs) | (0x10 if extension else 0) | (0x20 if is_padded else 0)
         kind = choose(rng, (20, rng.choice([0, 8, 96, 0x80, 71, 77])), (1, rng.randrange(256)))

@@ -75,8 +75,8 @@ def drawn_interval(deterministic, word):
 # One source
 
 
-def read_head(octets):
-    """Sequence number, timestamp, SSRC and CSRCs of an RTP packet."""
+def payload_size(octets):
+    """How many octets of payload an RTP packet has: without its header, its extension and its padding."""
     csrcs_end = 12 + 4 * (octets[0] & 0x0f) if octets else 12
     if len(octets) < csrcs_end:
         raise decoder.Fault("G1 Short")
@@ -89,8 +89,17 @@ def read_head(octets):
         if len(payload) < 4 or len(payload) < 4 + 4 * int.from_bytes(payload[2:4], "big"):
             raise decoder.Fault("G4 Extension")
         payload = payload[4 + 4 * int.from_bytes(payload[2:4], "big"):]
-    if octets[0] & 0x20 and (not payload or not 1 <= payload[-1] <= len(payload)):
+    if not octets[0] & 0x20:
+        return len(payload)
+    if not payload or not 1 <= payload[-1] <= len(payload):
         raise decoder.Fault("G5 Padding")
+    return len(payload) - payload[-1]
+
+
+def read_head(octets):
+    """Sequence number, timestamp, SSRC and CSRCs of an RTP packet."""
+    payload_size(octets)  # its fault, if it has one
+    csrcs_end = 12 + 4 * (octets[0] & 0x0f)
     number = lambda start, size: int.from_bytes(octets[start:start + size], "big")
     return number(2, 2), number(4, 4), number(8, 4), [number(at, 4) for at in range(12, csrcs_end, 4)]
 
@@ -109,17 +118,18 @@ class Source:
 
     def __init__(self):
         self.sightings = []  # moments
-        self.sender_reports = []  # moments with NTP timestamps
+        self.sender_reports = []  # moments with NTP and RTP timestamps
         self.is_named = False
         self.is_sender = False
         self.left = None  # the moment of its goodbye, which marks it
         self.counted = []  # moments of all counted packets
         self.integers = []  # of the counted packets of the last run
         self.greatest = []  # the run's greatest integer after each of them
-        self.transits = []  # theirs
+        self.transits, self.sizes = [], []  # theirs, and the octets of their payloads
         self.strays = []  # sequence numbers since the run began
         self.has_news = False
         self.reported = 0  # how many packets of the run came before the last block
+        self.last_block = None  # the fraction lost and the highest sequence number that it said
 
     def is_member(self):
         return (self.is_named or self.counted != []) and self.left is None
@@ -138,7 +148,7 @@ class Source:
             return self.greatest[-1] + ahead - 65536
         return None
 
-    def take(self, sequence, transit, moment):
+    def take(self, sequence, transit, size, moment):
         """Takes an RTP packet. Says whether it is counted."""
         integer = self.integer_near(sequence)
         if integer is None:
@@ -146,10 +156,12 @@ class Source:
                 self.strays.append(sequence)
                 return False
             integer = sequence
-            self.integers, self.greatest, self.transits, self.strays, self.reported = [], [], [], [], 0
+            self.integers, self.greatest, self.transits, self.sizes = [], [], [], []
+            self.strays, self.reported = [], 0
         self.integers.append(integer)
         self.greatest.append(max(self.greatest[-1:] + [integer]))
         self.transits.append(transit)
+        self.sizes.append(size)
         self.counted.append(moment)
         self.has_news = self.is_sender = True
         return True
@@ -169,9 +181,10 @@ class Source:
         fraction = 256 * lost_since // expected_since if expected_since > 0 and lost_since > 0 else 0
         last_report, delay = 0, 0
         if self.sender_reports:
-            came, timestamp = self.sender_reports[-1]
+            came, timestamp, _ = self.sender_reports[-1]
             last_report, delay = timestamp >> 16, short_delay(moment - came)
         self.reported, self.has_news = received, False
+        self.last_block = fraction, self.greatest[-1] % 2**32
         losses = fraction << 24 | self.lost() % 2**24
         return words(ssrc, losses, self.greatest[-1], jitter_of(self.transits), last_report, delay)
 
@@ -185,10 +198,12 @@ class Source:
         """The line that tells of it."""
         member, sender, left = int(self.is_member()), int(self.counts_as_sender()), self.left
         received, lost, highest, jitter = self.reception()
-        came, ntp = self.sender_reports[-1] if self.sender_reports else ("-", 0)
+        came, ntp, rtp = self.sender_reports[-1] if self.sender_reports else ("-", 0, 0)
+        block = "{}/{}".format(*self.last_block) if self.last_block else "-"
         return (f"  {ssrc:08x} member={member} sender={sender} heard={self.sightings[-1]}"
                 f" left={'-' if left is None else left} received={received} lost={lost} highest={highest}"
-                f" jitter={jitter} told={came} ntp={ntp:016x}\n")
+                f" jitter={jitter} told={came} ntp={ntp:016x} rtp={rtp:08x} octets={sum(self.sizes) % 2**64}"
+                f" block={block}\n")
 
 
 # The participant
@@ -319,22 +334,22 @@ class Participant:
         source.sightings.append(moment)
         return source
 
-    def take_fact(self, kind, ssrc, timestamp, moment):
+    def take_fact(self, kind, ssrc, timestamps, moment):
         if kind == "gone":
             if ssrc in self.sources and self.sources[ssrc].left is None:
                 self.sources[ssrc].left = moment
             return
         source = self.seen(ssrc, moment)
         if source and kind == "told":
-            source.sender_reports.append((moment, timestamp))
+            source.sender_reports.append((moment, *timestamps))
         if source and kind == "named":
             source.is_named = True
 
-    def take_packet(self, ssrc, sequence, timestamp, moment):
+    def take_packet(self, ssrc, sequence, timestamp, size, moment):
         """Takes an RTP packet of a source. Says whether it is counted."""
         source = self.seen(ssrc, moment)
         transit = (media_units(moment, self.rate) - timestamp) % 2**32
-        return source is not None and source.take(sequence, transit, moment)
+        return source is not None and source.take(sequence, transit, size, moment)
 
     def move_average(self, size):
         self.average = (256 * (size + HEADERS) + 15 * self.average) // 16
@@ -357,8 +372,8 @@ class Participant:
         change = self.give_way(peer, word, [ssrc for _, ssrc, _ in facts], [])
         if not self.is_present():
             return self.hear_leaving(moment, octets, change)
-        for kind, ssrc, timestamp in facts:
-            self.step(self.take_fact, kind, ssrc, timestamp, moment)
+        for kind, ssrc, timestamps in facts:
+            self.step(self.take_fact, kind, ssrc, timestamps, moment)
         self.move_average(len(octets))
         self.reconsider_departures(moment)
         return self.end_call(moment, *change)
@@ -372,7 +387,7 @@ class Participant:
         change = self.give_way(peer, word, [ssrc], csrcs)
         if not self.is_present():
             return self.end_call(moment, *change)
-        if self.step(self.take_packet, ssrc, sequence, timestamp, moment):
+        if self.step(self.take_packet, ssrc, sequence, timestamp, payload_size(octets), moment):
             for csrc in csrcs:
                 if csrc != self.ssrc:
                     self.step(self.seen, csrc, moment)

@@ -162,7 +162,7 @@ class Table:
         if (source := self.hear(ssrc, moment)) is None:
             return False, False
         was_member = source.is_member()
-        is_counted = source.take(sequence, 0, moment)
+        is_counted = source.take(sequence, 0, 0, moment)
         joins = is_counted and not was_member
         self.members += joins
         return is_counted, joins
