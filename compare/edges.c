@@ -342,6 +342,8 @@ static int sources(void)
     HOLDS(jalwedd_source(&handle, 0, &source) == JALWEDD_TAKEN && jalwedd_entries(&handle) == 1);
     HOLDS(source.ssrc == 7 && source.member == 1 && source.sender == 0 && source.heard == 5);
     HOLDS(source.left == JALWEDD_NEVER && source.told == JALWEDD_NEVER && source.received == 0 && source.ntp == 0);
+    HOLDS(source.octets == 0 && source.rtp == 0 && source.has_block == 0);
+    HOLDS(source.fraction == 0 && source.block_highest == 0);
     source.ssrc = 99;
     HOLDS(jalwedd_source(&handle, 7, &source) == JALWEDD_TAKEN && source.ssrc == 7);
     source.ssrc = 99;
@@ -350,6 +352,50 @@ static int sources(void)
     HOLDS(jalwedd_tick(&handle, 1026037, 0, 0, &step, octets) == JALWEDD_TAKEN && step.kind == JALWEDD_REPORT);
     HOLDS(jalwedd_leave(&handle, 1026037, 0, &step, octets) == JALWEDD_TAKEN && step.kind == JALWEDD_BYE);
     HOLDS(jalwedd_source(&handle, 0, &source) == JALWEDD_NO_SOURCE && jalwedd_entries(&handle) == 0);
+    HOLDS(jalwedd_free(&handle) == JALWEDD_TAKEN);
+    return 0;
+}
+
+/* An RTP packet of 9 with this sequence number and two octets of payload, and `padding` octets that end in their number,
+ * of at most three. */
+static size_t packet(uint8_t *datagram, uint8_t sequence, uint8_t padding)
+{
+    static const uint8_t head[] = {0x80, 0, 0, 0, 0, 0, 0, 0, 0, 0, 0, 9, 0xa1, 0xa2, 0, 0, 0};
+    memcpy(datagram, head, sizeof head);
+    datagram[3] = sequence;
+    if (padding > 0) {
+        datagram[0] = 0xa0;
+        datagram[13 + padding] = padding;
+    }
+    return 14 + (size_t)padding;
+}
+
+/* What a packet, a sender report and a report change in what is known about a source: of the packets 10 to 13 the first
+ * is not counted and 12 is lost, so a block says that of 3 packets 1 was lost, 85/256. */
+static int source_states(void)
+{
+    static const uint8_t report[28] = {0x80, 0xc8, 0, 6, 0, 0, 0, 9, 1, 2, 3, 4, 5, 6, 7, 8, 0x87, 0x65, 0x43, 0x21};
+    static const uint8_t sequences[] = {10, 11, 13}, paddings[] = {0, 0, 3};
+    jalwedd_handle handle = JALWEDD_EMPTY;
+    jalwedd_step step;
+    uint8_t octets[JALWEDD_OCTETS] = {0}, datagram[17];
+    const jalwedd_item no_item = {0, 0, ""};
+    jalwedd_source_state source;
+    jalwedd_report block;
+    HOLDS(jalwedd_new(&handle, &CONFIG, OF_SEVEN + 18, 1, &no_item, 0, 0, &step) == JALWEDD_TAKEN);
+    for (size_t at = 0; at < 3; at++) {
+        const size_t size = packet(datagram, sequences[at], paddings[at]);
+        HOLDS(jalwedd_arrive_rtp(&handle, 0, 1, 0, datagram, size, &step, octets) == JALWEDD_TAKEN);
+    }
+    HOLDS(jalwedd_source(&handle, 9, &source) == JALWEDD_TAKEN && source.received == 2 && source.octets == 4);
+    HOLDS(source.highest == 13 && source.rtp == 0 && source.has_block == 0 && source.block_highest == 0);
+    HOLDS(jalwedd_arrive_rtcp(&handle, 1, 1, 0, report, sizeof report, &step, octets) == JALWEDD_TAKEN);
+    HOLDS(jalwedd_source(&handle, 9, &source) == JALWEDD_TAKEN && source.told == 1);
+    HOLDS(source.ntp == 0x0102030405060708 && source.rtp == 0x87654321 && source.octets == 4 && source.has_block == 0);
+    HOLDS(jalwedd_tick(&handle, 1026037, 0, 0, &step, octets) == JALWEDD_TAKEN && step.kind == JALWEDD_REPORT);
+    HOLDS(jalwedd_block(octets, step.size, 0, &block) == JALWEDD_TAKEN && block.ssrc == 9 && block.fraction == 85);
+    HOLDS(jalwedd_source(&handle, 9, &source) == JALWEDD_TAKEN && source.has_block == 1);
+    HOLDS(source.fraction == 85 && source.block_highest == 13 && source.rtp == 0x87654321 && source.octets == 4);
     HOLDS(jalwedd_free(&handle) == JALWEDD_TAKEN);
     return 0;
 }
@@ -447,5 +493,5 @@ static int memory(void)
 int main(void)
 {
     return empty() || begun() || lengths() || sizes() || reports() || parts() || apps() || heads() || no_parts()
-           || sources() || changes() || listings() || memory();
+           || sources() || source_states() || changes() || listings() || memory();
 }

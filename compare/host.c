@@ -142,7 +142,13 @@ static void write_source(const jalwedd_source_state *source)
     printf(" received=%" PRIu64 " lost=%" PRId32 " highest=%" PRIu32 " jitter=%" PRIu32, source->received, source->lost,
            source->highest, source->jitter);
     write_moment("told", source->told);
-    printf(" ntp=%016" PRIx64 "\n", source->ntp);
+    printf(" ntp=%016" PRIx64 " rtp=%08" PRIx32 " octets=%" PRIu64, source->ntp, source->rtp, source->octets);
+    /* without a block both numbers have to be 0 */
+    if (source->has_block == 0 && source->fraction == 0 && source->block_highest == 0)
+        printf(" block=-\n");
+    else
+        printf(" block=%" PRIu32 "/%" PRIu32 "%s\n", source->fraction, source->block_highest,
+               source->has_block == 1 ? "" : " (none)");
 }
 
 /* Reads the sources from an SSRC on, and returns how many there are. */
