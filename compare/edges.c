@@ -356,8 +356,8 @@ static int sources(void)
     return 0;
 }
 
-/* An RTP packet of 9 with this sequence number and two octets of payload, and `padding` octets that end in their number,
- * of at most three. */
+/* An RTP packet of 9 with this sequence number, two octets of payload, and up to three octets of padding. Returns its
+ * size. */
 static size_t packet(uint8_t *datagram, uint8_t sequence, uint8_t padding)
 {
     static const uint8_t head[] = {0x80, 0, 0, 0, 0, 0, 0, 0, 0, 0, 0, 9, 0xa1, 0xa2, 0, 0, 0};
@@ -370,8 +370,8 @@ static size_t packet(uint8_t *datagram, uint8_t sequence, uint8_t padding)
     return 14 + (size_t)padding;
 }
 
-/* What a packet, a sender report and a report change in what is known about a source: of the packets 10 to 13 the first
- * is not counted and 12 is lost, so a block says that of 3 packets 1 was lost, 85/256. */
+/* What is known about a source after packets, after a sender report and after a report: of the packets 10 to 13 the
+ * first is not counted and 12 is lost, so the block says that of 3 packets 1 was lost, 85/256. */
 static int source_states(void)
 {
     static const uint8_t report[28] = {0x80, 0xc8, 0, 6, 0, 0, 0, 9, 1, 2, 3, 4, 5, 6, 7, 8, 0x87, 0x65, 0x43, 0x21};
@@ -391,7 +391,7 @@ static int source_states(void)
     HOLDS(source.highest == 13 && source.rtp == 0 && source.has_block == 0 && source.block_highest == 0);
     HOLDS(jalwedd_arrive_rtcp(&handle, 1, 1, 0, report, sizeof report, &step, octets) == JALWEDD_TAKEN);
     HOLDS(jalwedd_source(&handle, 9, &source) == JALWEDD_TAKEN && source.told == 1);
-    HOLDS(source.ntp == 0x0102030405060708 && source.rtp == 0x87654321 && source.octets == 4 && source.has_block == 0);
+    HOLDS(source.ntp == 0x0102030405060708 && source.rtp == 0x87654321 && source.has_block == 0);
     HOLDS(jalwedd_tick(&handle, 1026037, 0, 0, &step, octets) == JALWEDD_TAKEN && step.kind == JALWEDD_REPORT);
     HOLDS(jalwedd_block(octets, step.size, 0, &block) == JALWEDD_TAKEN && block.ssrc == 9 && block.fraction == 85);
     HOLDS(jalwedd_source(&handle, 9, &source) == JALWEDD_TAKEN && source.has_block == 1);

@@ -171,6 +171,22 @@ static void begin(struct session *session, uint32_t number, uint64_t seed)
     begin_members(&session->members, number, seed + SESSIONS);
 }
 
+/* What the blocks of a report say is what is known of the latest block about a source. */
+static void compare_report(struct session *session, const uint8_t *octets, uint32_t blocks)
+{
+    jalwedd_report block;
+    jalwedd_source_state source;
+    uint32_t count = 0;
+    for (; jalwedd_block(octets, session->step.size, count, &block) == JALWEDD_TAKEN; count++) {
+        const uint32_t status = jalwedd_source(&session->participant, block.ssrc, &source);
+        compare(session, "status of the source of a block", status, JALWEDD_TAKEN);
+        compare(session, "SSRC of a block", block.ssrc, source.ssrc);
+        compare(session, "fraction lost of a block", block.fraction, source.fraction);
+        compare(session, "highest sequence number of a block", block.highest, source.block_highest);
+    }
+    compare(session, "blocks", count, blocks);
+}
+
 static void tick(struct session *session)
 {
     static uint8_t octets[JALWEDD_OCTETS];
@@ -180,6 +196,8 @@ static void tick(struct session *session)
     take_step(session);
     know_tick(&session->known, session->now);
     compare(session, "others changed", session->step.others_changed, session->known.others_changed);
+    if (session->step.kind == JALWEDD_REPORT)
+        compare_report(session, octets, know_report(&session->known));
 }
 
 /* Passes what came to the participant, if anything did. */
@@ -222,10 +240,15 @@ static void compare_source(const struct session *session, const jalwedd_source_s
     compare(session, "sender", is->sender, has_to_be->sender);
     compare(session, "packets received", is->received, has_to_be->received);
     compare(session, "packets lost, modulo 2^32", (uint32_t)is->lost, (uint32_t)has_to_be->lost);
+    compare(session, "octets received", is->octets, has_to_be->octets);
     compare(session, "highest sequence number", is->highest, has_to_be->highest);
     compare(session, "jitter", is->jitter, has_to_be->jitter);
     compare(session, "moment of the last sender report", is->told, has_to_be->told);
     compare(session, "its NTP timestamp", is->ntp, has_to_be->ntp);
+    compare(session, "its RTP timestamp", is->rtp, has_to_be->rtp);
+    compare(session, "whether there was a block", is->has_block, has_to_be->has_block);
+    compare(session, "fraction lost by the latest block", is->fraction, has_to_be->fraction);
+    compare(session, "highest sequence number by it", is->block_highest, has_to_be->block_highest);
 }
 
 static void compare_listing(const struct session *session, const struct listing *listing)

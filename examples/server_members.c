@@ -3,7 +3,7 @@
 #include <string.h>
 
 /* Members act at whole hundredths of a second, so sometimes a datagram comes exactly at a horizon of a check. */
-enum { HUNDREDTH = SECOND / 100, UNITS = RATE / 25, FLOOD_PEER = 0 };
+enum { HUNDREDTH = SECOND / 100, UNITS = RATE / 25, FLOOD_PEER = 0, HEAD = 12 };
 
 uint32_t random_word(uint64_t *state)
 {
@@ -33,12 +33,23 @@ static void put(struct datagram *datagram, uint32_t word)
     datagram->size += 4;
 }
 
-/* A head alone: nothing here reads a payload. */
+/* Whether there are a header extension and padding, and how long payload and padding are, follows from the sequence
+ * number. */
 static void write_packet(struct datagram *datagram)
 {
-    put(datagram, 0x80000000u | datagram->sequence);
+    const uint32_t sequence = datagram->sequence, padding = sequence % 5 == 0 ? 1 + sequence % 3 : 0;
+    const bool is_extended = sequence % 7 == 0;
+    put(datagram, 0x80000000u | (uint32_t)(padding != 0) << 29 | (uint32_t)is_extended << 28 | sequence);
     put(datagram, datagram->timestamp);
     put(datagram, datagram->ssrc);
+    if (is_extended) {
+        put(datagram, 0xbede0001);      /* one word */
+        put(datagram, 0x10aa0000);
+    }
+    datagram->payload = (uint16_t)(sequence % 8);
+    datagram->size += datagram->payload + padding;
+    if (padding != 0)
+        datagram->octets[datagram->size - 1] = (uint8_t)padding;
 }
 
 /* A report without blocks, and what else it is to say. */
@@ -212,7 +223,8 @@ bool next_datagram(struct members *members, uint32_t server, struct datagram *da
     const bool comes = is_flood ? invent(members, datagram)
         : act_of(members, server, next_of(&members->all[members->next]), datagram);
     datagram->is_damaged = happens(members, 10);
-    datagram->size -= datagram->is_damaged && comes;
+    if (datagram->is_damaged && comes)
+        datagram->size = datagram->is_rtp ? HEAD - 1 : datagram->size - 1;
     find_next(members);
     return comes;
 }

@@ -14,10 +14,11 @@ static const uint64_t NEVER = UINT64_MAX;
 struct datagram {
     uint64_t peer;
     uint64_t ntp;                       /* in a sender report */
-    uint32_t ssrc, timestamp;
+    uint32_t ssrc, timestamp;           /* the RTP timestamp of a packet, or in a sender report */
     uint16_t sequence;
+    uint16_t payload;                   /* RTP: the octets of its payload */
     bool is_rtp;
-    bool is_damaged;                    /* its last octet is missing */
+    bool is_damaged;                    /* its last octet is missing; RTP: and all but 11 octets of its head */
     bool is_told, is_named, is_bye;     /* RTCP: it begins with a sender report, gives the CNAME, says goodbye */
     uint8_t octets[64];
     size_t size;

@@ -34,7 +34,8 @@ static bool begins_run(struct known_source *source, uint16_t sequence)
     if (!follows)
         return false;
     source->first = source->greatest = sequence;
-    source->received = source->jitter = 0;
+    source->received = source->jitter = source->octets = source->received_before = 0;
+    source->expected_before = 0;
     return true;
 }
 
@@ -55,7 +56,8 @@ static void take_packet(struct known_source *source, uint64_t now, const struct 
     source->transit = transit;
     source->counted = now;
     source->received++;
-    source->sends = true;
+    source->octets += datagram->payload;
+    source->sends = source->has_news = true;
 }
 
 /* ---- The table */
@@ -97,6 +99,7 @@ static void take_facts(struct known_source *source, uint64_t now, const struct d
     if (datagram->is_told) {
         source->told = now;
         source->ntp = datagram->ntp;
+        source->rtp = datagram->timestamp;
     }
     source->is_named |= datagram->is_named;
 }
@@ -173,6 +176,31 @@ void know_tick(struct known *known, uint64_t now)
     known->sends &= known->sent >= idle;
 }
 
+/* ---- Reports (6.4.1, A.3) */
+
+static void make_block(struct known_source *source)
+{
+    const int64_t expected = source->greatest - source->first + 1, since = expected - source->expected_before;
+    const int64_t lost = since - (int64_t)(source->received - source->received_before);
+    source->fraction = lost <= 0 ? 0 : (uint32_t)(256 * lost / since);
+    source->block_highest = (uint32_t)source->greatest;
+    source->expected_before = expected;
+    source->received_before = source->received;
+    source->has_news = false;
+    source->has_block = true;
+}
+
+uint32_t know_report(struct known *known)
+{
+    uint32_t blocks = 0;
+    for (uint32_t at = 0; at < known->count; at++)
+        if (known->sources[at].has_news && known->sources[at].left == NEVER) {
+            make_block(&known->sources[at]);
+            blocks++;
+        }
+    return blocks;
+}
+
 /* ---- What there is to know */
 
 static int32_t lost_of(const struct known_source *source)
@@ -186,9 +214,10 @@ jalwedd_source_state known_state(const struct known *known, uint32_t at)
     const uint32_t role = role_of(source);
     return (jalwedd_source_state){
         .heard = source->sighted, .left = source->left, .told = source->told, .ntp = source->ntp,
-        .received = source->received, .lost = lost_of(source), .highest = (uint32_t)source->greatest,
-        .jitter = (uint32_t)(source->jitter / 16), .ssrc = source->ssrc, .member = role != JALWEDD_AWAY,
-        .sender = role == JALWEDD_SENDER};
+        .received = source->received, .octets = source->octets, .lost = lost_of(source),
+        .highest = (uint32_t)source->greatest, .jitter = (uint32_t)(source->jitter / 16), .rtp = source->rtp,
+        .has_block = source->has_block, .fraction = source->fraction, .block_highest = source->block_highest,
+        .ssrc = source->ssrc, .member = role != JALWEDD_AWAY, .sender = role == JALWEDD_SENDER};
 }
 
 static uint32_t at_least(const struct known *known, uint32_t role)

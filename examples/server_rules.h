@@ -18,9 +18,14 @@ struct known_source {
     uint64_t counted;                   /* when its last packet was counted */
     int64_t first, greatest;            /* integers of its run */
     uint64_t received, jitter;          /* packets of the run: 0 where there is none; in 1/16 unit */
-    uint32_t ssrc, transit;
+    uint64_t octets;                    /* of their payloads */
+    int64_t expected_before;            /* packets of the run that were expected by the latest block, */
+    uint64_t received_before;           /* and those received by then */
+    uint32_t ssrc, transit, rtp;        /* the RTP timestamp of its last sender report, or 0 */
+    uint32_t fraction, block_highest;   /* what the latest block about it said, or 0 */
     uint16_t stray;
     bool is_named, sends, has_stray;
+    bool has_news, has_block;           /* whether a packet was counted since that block, and whether there was one */
 };
 
 struct known {
@@ -42,6 +47,9 @@ void know_sent(struct known *known, uint64_t now);
 
 /* The participant was ticked. */
 void know_tick(struct known *known, uint64_t now);
+
+/* That tick handed out a report: it has room for a block about each source with news. Returns how many those are. */
+uint32_t know_report(struct known *known);
 
 /* What there is to know of the source at a place in the order of SSRCs. */
 jalwedd_source_state known_state(const struct known *known, uint32_t at);
