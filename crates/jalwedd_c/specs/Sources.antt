@@ -2,7 +2,8 @@
 use Rattle.std.specs.Prelude.{ℕ, ◌≡◌, ◌-◌, ◌^◌, min, pos, Option, Some, None, is_some, if◌then◌else◌, ◌==◌}
 use Rattle.rtcp_source.specs.declared.reception.Reception.{Reception}
 use Rattle.rtcp_source.specs.declared.reception.Told.{Told}
-use Rattle.rtcp_source.specs.Summary.{ToldValue, LastBlockValue}
+use Rattle.rtcp_source.specs.Summary.{ToldValue}
+use Rattle.rtcp_source.specs.LastBlocks.{LastBlockValue}
 use Rattle.rtcp_source.specs.Receptions.{ReceptionValue}
 use Rattle.rtcp_members.specs.Told.{StateValue}
 use Rattle.jalwedd_c.specs.declared.source.Source.{Source}
@@ -21,7 +22,7 @@ reception_shown None = none_received
 reception_shown (Some reception) = reception
 
 abbrev pub told_shown : Option ToldValue → ToldValue
-told_shown None = record { ntp = 0; moment = 2 ^ 64 - 1; rtp = 0 }
+told_shown None = record { ntp = 0; rtp = 0; moment = 2 ^ 64 - 1 }
 told_shown (Some told) = told
 
 abbrev pub block_shown : Option LastBlockValue → LastBlockValue
@@ -39,8 +40,8 @@ IsReceived shown reception =
 abbrev pub IsLastTold : Told → Option ToldValue → Type 0
 IsLastTold shown told =
     (shown.ntp ≡ (told_shown told).ntp)
-    × (shown.moment ≡ (told_shown told).moment)
     × (shown.rtp ≡ (told_shown told).rtp)
+    × (shown.moment ≡ (told_shown told).moment)
 
 abbrev pub IsBlockShown : BlockShown → Option LastBlockValue → Type 0
 IsBlockShown shown block =

@@ -50,6 +50,7 @@ pub struct Source {
 }
 
 /// What is told of the last report block about a source.
+#[derive(Clone, Copy)]
 struct BlockShown {
     has_block: u32,
     fraction: u32,
@@ -119,8 +120,8 @@ fn last_told(told: Option<Told>) -> Told
         Some(told) => told,
         None => Told {
             ntp: 0,
-            moment: NEVER,
             rtp: 0,
+            moment: NEVER,
         },
     }
 }
