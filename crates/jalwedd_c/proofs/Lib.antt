@@ -3,6 +3,7 @@ pub mod Refusals
 pub mod Values
 mod Options
 mod Listing
+mod Never
 mod Turns
 mod Held
 mod HeadPlaces

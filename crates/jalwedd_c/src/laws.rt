@@ -1,21 +1,27 @@
 //! Laws of what a host is told. Each is a function that does nothing, whose postcondition is the law.
 
-ghost use Rattle.std.specs.Prelude.{◌≡◌, ◌<◌, ◌+◌, ◌-◌, ◌^◌, ℕ, List, Some, IfSome, slice_get};
+ghost use Rattle.std.specs.Prelude.{◌≡◌, ◌+◌, ℕ, List, Option, Some, slice_get};
 ghost use Rattle.rtcp_members.specs.Told.{StateValue};
 ghost use Rattle.rtcp_engine.specs.Differences.{listed_of};
+ghost use Rattle.rtcp_engine.specs.Histories.{History, life_at, setup_at};
+ghost use Rattle.rtcp_engine.specs.Lives.{TellsInLife};
+ghost use Rattle.rtcp_engine.specs.Taken.{IsHistory};
 ghost use Rattle.rtcp_engine.specs.declared.differences.change.Change.{Change};
 ghost use Rattle.jalwedd_c.specs.declared.source.Source.{Source};
 ghost use Rattle.jalwedd_c.specs.Changes.{listed_by, change_from, changes_between};
 ghost use Rattle.jalwedd_c.specs.Sources.{IsShown};
 
 use rtcp_engine::difference_laws::changes_tell_each_once;
+use rtcp_engine::laws::told_moments_have_passed;
 
-/// What a host is told of a source says what the participant lists of it.
+/// After any history, what a host is given of a source says what the participant lists of it.
 pub fn told_sources_are_listed()
-    // Whoever left did so before the moment that stands for none.
-    ensures { (shown : Source) (state : StateValue) → IsShown shown state →
-        IfSome state.left (λ left. left < 2 ^ 64 - 1) → listed_by shown ≡ listed_of state }
-{}
+    ensures { (history : History) → IsHistory history → (after : Option ℕ) (state : StateValue) →
+        TellsInLife (setup_at history) after (life_at history) (Some state) →
+        (shown : Source) → IsShown shown state → listed_by shown ≡ listed_of state }
+{
+    told_moments_have_passed();
+}
 
 /// Begun with 0, and gone on with the SSRC told and 1, the changes between two listings are told in order,
 /// each once.

@@ -1,6 +1,6 @@
 //! What a handle tells at any time.
 
-ghost use Rattle.std.specs.Prelude.{◌≡◌, ◌^◌, ◌-◌, ◌↔◌, Option, None};
+ghost use Rattle.std.specs.Prelude.{◌≡◌, ◌^◌, ◌-◌, ◌↔◌, Option, Some, None};
 ghost use Rattle.rtcp_engine.specs.Histories.{History, life_at, setup_at};
 ghost use Rattle.rtcp_engine.specs.Lives.{members_in_life, senders_in_life, entries_in_life, next_in_life, TellsInLife};
 ghost use Rattle.jalwedd_c.specs.Answers.{moment_shown};
@@ -90,6 +90,12 @@ pub extern "C" fn jalwedd_source(
         (told : Option StateValue)
         × TellsInLife (setup_at history) (after_of from) (life_at history) told
         × ShowsSource result source.old source.new told }
+    ensures never_left { (history : History) (state : StateValue) → LeadsTo handle.old.owned.held history →
+        TellsInLife (setup_at history) (after_of from) (life_at history) (Some state) →
+        (source.new.left ≡ 2 ^ 64 - 1) ↔ (state.left ≡ None) }
+    ensures never_told { (history : History) (state : StateValue) → LeadsTo handle.old.owned.held history →
+        TellsInLife (setup_at history) (after_of from) (life_at history) (Some state) →
+        (source.new.told ≡ 2 ^ 64 - 1) ↔ (state.told ≡ None) }
     ensures empty { handle.old.owned.held ≡ None → (result ≡ 9) × (source.new ≡ source.old) }
     ensures kept { handle.new.owned.held ≡ handle.old.owned.held }
 {
