@@ -4,6 +4,7 @@ pub mod Values
 mod Options
 mod Listing
 mod Never
+mod Ranges
 mod Turns
 mod Held
 mod HeadPlaces
