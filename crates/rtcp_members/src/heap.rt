@@ -247,6 +247,8 @@ impl Storage for Heap {
 
     ghost kept = { λ _ _ _. refl };
 
+    ghost kept_in_place = { λ _ _ _. refl };
+
     #[inline(always)]
     fn len(&self) -> usize {
         self.used

@@ -65,7 +65,8 @@ pub trait Storage {
         ensures found { IfOk result (IsRankOf ssrc (items self.now)) }
         ensures absent { IfErr result (IsGapFor ssrc (items self.now)) };
 
-    /// What `find` returns, where a walk from the rank `from` soon comes to it.
+    /// What `find` returns, where a walk from the rank `from` soon comes to it. No clause says where: a walk that gives
+    /// up costs time alone, as `find` is asked then.
     fn walk_to(&self, ssrc: u32, from: usize) -> Option<Result<usize, usize>>
         requires sound { is_sound self.now }
         requires rising { IsRising (items self.now) }
@@ -113,6 +114,7 @@ pub trait Storage {
         ensures items { items self.new
             ≡ retain_mut (outlasts (horizons_at silent idle gone)) (lapsed idle) (items self.old) }
         ensures room { room self.new ≡ room self.old }
+        ensures in_place { block self.new ≡ block self.old }
         ensures measured { IsMeasured result.0 result.1 (items self.new) };
 
     /// What is written over the entry of a rank is the entry of that rank.
@@ -125,6 +127,9 @@ pub trait Storage {
 
     /// Writing leaves the room.
     ghost kept: { (s : Self) (at : ℕ) (e : Entry) → room (with_entry s at e) ≡ room s };
+
+    /// Writing leaves the entries where they lie.
+    ghost kept_in_place: { (s : Self) (at : ℕ) (e : Entry) → block (with_entry s at e) ≡ block s };
 }
 
 /// Whether a walk that is at a rank, in this direction, will not come to the source.
@@ -154,6 +159,8 @@ impl Storage for ArrayVec<Entry, MAX_CAPACITY> {
     ghost still_sound = { λ s sound at e d stands same. tt };
 
     ghost kept = { λ _ _ _. refl };
+
+    ghost kept_in_place = { λ _ _ _. refl };
 
     #[inline(always)]
     fn len(&self) -> usize {

@@ -191,6 +191,7 @@ ranks-preserved-then-not-stays c =
       stand = subst (AllStandBy c.ranks.bounds) (sym front) c.ranks.invariant.stand;
       used = c.ranks.invariant.used;
       room = c.ranks.invariant.room;
+      in_place = c.ranks.invariant.in_place;
     }
 
 pub ranks-preserved : goal.ranks-preserved
@@ -231,6 +232,7 @@ ranks-preserved c =
           (all_more c.ranks.bounds c.cover.new.self (picked (entries_in cells) (take c.ranks.kept (slots_in cells))) next c.ranks.invariant.stand c.cover.ensures.no_later c.cover.ensures.stands));
       used = c.ranks.invariant.used;
       room = c.ranks.invariant.room;
+      in_place = c.ranks.invariant.in_place;
     }
 
 pub returns-clause-measured : goal.returns-clause-measured

@@ -1,4 +1,4 @@
--- The entries of the ranks so far are dropped or changed, and the room stays.
+-- The entries of the ranks so far are dropped or changed, and the room and the block stay.
 use Rattle.std.proofs.Common.{◌≡◌, take, drop}
 use Rattle.std.specs.Vec as vectors
 use Rattle.rtcp_members.specs.Traces.{horizons_at}
@@ -17,4 +17,5 @@ invariant-ranks l =
       stand : AllStandBy l.bounds (picked (entries_in l.self.cells.items) (take l.kept (slots_in l.self.cells.items)));
       used : l.self.used ≡ l.fn.self.used;
       room : vectors.vec_capacity l.self.cells ≡ vectors.vec_capacity l.fn.self.cells;
+      in_place : vectors.vec_ptr l.self.cells ≡ vectors.vec_ptr l.fn.self.cells;
     }
