@@ -10,6 +10,7 @@
  */
 #define JALWEDD_RECORD_STDIO
 #include "jalwedd_record.h"
+#include "report_before.h"
 
 #include <arpa/inet.h>
 #include <ctype.h>
@@ -210,23 +211,24 @@ static void print_sources(struct player *player, uint64_t now)
 
 static void receive(struct player *player, int from, uint64_t now, uint8_t *octets)
 {
-    static uint8_t datagram[MOST_OCTETS];
+    static uint8_t datagram[MOST_OCTETS + REPORT_BEFORE];
     struct sockaddr_in peer;
     socklen_t length = sizeof peer;
-    const ssize_t size = recvfrom(from, datagram, sizeof datagram, 0, (struct sockaddr *)&peer, &length);
-    if (size < 0)
+    const ssize_t came = recvfrom(from, datagram, MOST_OCTETS, 0, (struct sockaddr *)&peer, &length);
+    if (came < 0)
         return;
+    const size_t size = from == player->rtp ? (size_t)came : put_report_before(datagram, (size_t)came);
     const uint64_t number = (uint64_t)ntohl(peer.sin_addr.s_addr) << 16 | ntohs(peer.sin_port);
     const uint32_t word = random_word();
     if (from == player->rtp) {
-        jalwedd_record_arrive_rtp(&player->calls, now, number, word, datagram, (size_t)size);
-        jalwedd_arrive_rtp(&player->session, now, number, word, datagram, (size_t)size, &player->step, octets);
+        jalwedd_record_arrive_rtp(&player->calls, now, number, word, datagram, size);
+        jalwedd_arrive_rtp(&player->session, now, number, word, datagram, size, &player->step, octets);
     } else {
         /* first: the reports name the present SSRC, which the call may change */
-        take_reports(player, now, datagram, (size_t)size);
-        take_cnames(player, datagram, (size_t)size);
-        jalwedd_record_arrive_rtcp(&player->calls, now, number, word, datagram, (size_t)size);
-        jalwedd_arrive_rtcp(&player->session, now, number, word, datagram, (size_t)size, &player->step, octets);
+        take_reports(player, now, datagram, size);
+        take_cnames(player, datagram, size);
+        jalwedd_record_arrive_rtcp(&player->calls, now, number, word, datagram, size);
+        jalwedd_arrive_rtcp(&player->session, now, number, word, datagram, size, &player->step, octets);
     }
     send_out(player, octets);
 }

@@ -314,7 +314,8 @@ uint32_t jalwedd_free(jalwedd_handle *handle);
 uint32_t jalwedd_arrive_rtcp(jalwedd_handle *handle, uint64_t now, uint64_t peer, uint32_t word,
                              const uint8_t *datagram, size_t size, jalwedd_step *step, uint8_t octets[JALWEDD_OCTETS]);
 
-/* An RTP datagram came: as jalwedd_arrive_rtcp.
+/* An RTP datagram came: as jalwedd_arrive_rtcp. If both come to one port (RFC 5761, 4), a datagram whose second octet
+ * is 192 to 223 is RTCP, and any other is RTP.
  * Statuses: TAKEN; IS_EMPTY; TOO_LONG; LEFT to TOO_MANY; NO_RTP; OWN_SSRC. */
 uint32_t jalwedd_arrive_rtp(jalwedd_handle *handle, uint64_t now, uint64_t peer, uint32_t word,
                             const uint8_t *datagram, size_t size, jalwedd_step *step, uint8_t octets[JALWEDD_OCTETS]);

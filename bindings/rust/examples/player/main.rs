@@ -15,6 +15,7 @@ mod interrupt;
 mod link;
 mod notes;
 mod recorder;
+mod report_before;
 mod words;
 
 use jalwedd::record::{command, Call};
@@ -22,6 +23,7 @@ use jalwedd::{ntp_of, Clock, Config, Item, ItemKind, Moment, Participant, Source
 use link::{Arrival, Link, Port};
 use notes::{Note, Notes};
 use recorder::Recorder;
+use report_before::with_report_before;
 use std::env;
 use std::error::Error;
 use std::time::Duration;
@@ -140,6 +142,8 @@ impl Player {
         match arrival.at {
             Port::Rtp => self.make(Call::ArriveRtp { now, peer, word, datagram }),
             Port::Rtcp => {
+                let reported = with_report_before(datagram);
+                let datagram = reported.as_deref().unwrap_or(datagram);
                 // first, as the call may change the SSRC that the reports name; a faulty datagram has none
                 let arrival = ntp_of(self.config.ntp_base, now);
                 let _ = self.notes.take(self.session.ssrc(), arrival, datagram);
