@@ -27,6 +27,7 @@ pub fn none_is_reported_twice()
 {}
 
 /// A report has as many octets as its size says.
+#[tactic(auto, using(crate::proofs::ReportSizes::packets_length))]
 pub fn size_is_that_of_the_octets()
     ensures { (reporter : Reporter) (blocks : List ReportBlock) →
         length (written_all (packets_with reporter blocks)) ≡ report_size reporter (length blocks) }
@@ -34,6 +35,7 @@ pub fn size_is_that_of_the_octets()
 
 /// A report keeps to its limit, where one without blocks does. One without blocks has at most 552 octets, where
 /// no text has more than 255, and the compound with a BYE at most 284.
+#[tactic(auto, using(crate::proofs::Fitting::report_fits, crate::proofs::Fitting::empty_is_small, crate::proofs::Fitting::bye_is_small))]
 pub fn compounds_are_small()
     ensures report { (reporter : Reporter) (limit t : ℕ) (rows : List EntryRow) →
         report_size reporter 0 ≤ limit →

@@ -1,27 +1,27 @@
 -- The laws, as lemmas that the proofs of other crates can cite.
-use Rattle.std.proofs.Common.{◌≡◌, ℕ, ◌+◌, ◌-◌, ◌%◌, ◌^◌, ◌<◌, ◌≤◌, ◌↔◌, ℤ, pos, unsigned_abs, option_map, Option, Some, true, List, [], ◌∷◌, refl, ap, rules}
+use Rattle.std.proofs.Common.{◌≡◌, ℕ, ◌+◌, ◌-◌, ◌%◌, ◌^◌, ◌<◌, unsigned_abs, option_map, Option, Some, List, ◌∷◌, refl, ap, rules}
 use Rattle.rtcp_wire.specs.Values.{ReportBlock}
 use Rattle.std.specs.Int.{cast_signed, w32}
-use Rattle.rtcp_source.specs.declared.taken.Taken.TheVariants.{Counted}
-use Rattle.rtcp_source.specs.Packets.{Given, packet_at, with_counted, packet_came, report_came, block_made, HasCounted, greatest_ordinal, is_near, ordinal_near, taken_in, transit_of, run_of, has_news_since, newest, PacketRun}
-use Rattle.rtcp_source.specs.Integers.{IsIntegerNear, HasIntegerNear, HasOrdinalNear, IsOrdinalOfInteger, ordinal_of, greatest_integer}
+use Rattle.rtcp_source.specs.Packets.{Given, packet_came, report_came, block_made, taken_in, run_of, newest, PacketRun}
 use Rattle.rtcp_source.specs.LastBlocks.{last_block}
 use Rattle.rtcp_source.specs.Summary.{ToldValue, summary_of, last_told, transit_distance}
-use Rattle.rtcp_source.specs.Blocks.{block_for, block_over, lsr_of, dlsr_of, news_of}
+use Rattle.rtcp_source.specs.Blocks.{block_for, block_over, lsr_of, dlsr_of}
 use Rattle.rtcp_source.specs.Receptions.{reception_in, reception_over, figures_of, figures_in, said_by}
-use Rattle.rtcp_source.specs.Steps.{no_source, taken_by, after_packet, after_told, after_block_made}
+use Rattle.rtcp_source.specs.Steps.{taken_by, after_told}
 use Rattle.rtcp_source.proofs.Summing.{same_taken, same_block, same_reception, same_figures, same_said, same_clock}
-use Rattle.rtcp_source.proofs.Stepping.{packet_moves, block_moves}
-use Rattle.rtcp_source.proofs.News.{news_of_summary}
-use Rattle.rtcp_source.proofs.Integers.{has_integer, has_ordinal, same_integer, greatest_high, counted_exactly, enters_run}
+pub use Rattle.rtcp_source.proofs.News.{news_of_summary as summary_suffices-news}
+pub use Rattle.std.proofs.Common.{refl as summary_moves-none}
+pub use Rattle.rtcp_source.proofs.Stepping.{packet_moves as summary_moves-packet, block_moves as summary_moves-block}
+pub use Rattle.rtcp_source.proofs.Integers.{greatest_high as counted_by_integer-greatest}
+pub use Rattle.rtcp_source.proofs.Integers.{counted_exactly as counted_by_integer-counted}
+pub use Rattle.rtcp_source.proofs.Integers.{enters_run as counted_by_integer-enters}
+pub use Rattle.rtcp_source.proofs.Integers.{same_integer as counted_by_integer-one, has_ordinal as integer_is_found}
+pub use Rattle.rtcp_source.proofs.Integers.{has_integer as ordinal_has_integer}
 
 -- ---- What is kept of a source
 
 pub summary_suffices-taken : (given : List Given) (seq : ℕ) → taken_by (summary_of given) seq ≡ taken_in (run_of given) seq
 summary_suffices-taken given seq = let run : PacketRun = run_of given in same_taken run.counted run.reported (newest run.strays) seq
-
-pub summary_suffices-news : (given : List Given) → news_of (summary_of given).run ≡ has_news_since given
-summary_suffices-news = news_of_summary
 
 pub summary_suffices-block : (given : List Given) (ssrc t : ℕ) → block_for ssrc t (summary_of given) ≡ block_over ssrc t given
 summary_suffices-block given ssrc t = let run : PacketRun = run_of given in same_block run.counted run.reported ssrc t (last_told given)
@@ -65,39 +65,9 @@ pub last_block_is_that_block-report : (ntp rtp moment : ℕ) (given : List Given
     → last_block (report_came ntp rtp moment ∷ given) ≡ last_block given
 last_block_is_that_block-report ntp rtp moment given = refl
 
-pub summary_moves-none : summary_of [] ≡ no_source
-summary_moves-none = refl
-
-pub summary_moves-packet : (seq timestamp arrival octets : ℕ) (given : List Given) → summary_of (packet_came seq timestamp arrival octets ∷ given) ≡ after_packet seq timestamp arrival octets (summary_of given)
-summary_moves-packet = packet_moves
-
 pub summary_moves-report : (ntp rtp moment : ℕ) (given : List Given)
     → summary_of (report_came ntp rtp moment ∷ given) ≡ after_told ntp rtp moment (summary_of given)
 summary_moves-report ntp rtp moment given = refl
-
-pub summary_moves-block : (given : List Given) → summary_of (block_made ∷ given) ≡ after_block_made (summary_of given)
-summary_moves-block = block_moves
-
--- ---- Integers
-
-pub counted_by_integer-greatest : (given : List Given) → HasCounted (run_of given) → 65536 ≤ greatest_ordinal (run_of given).counted
-counted_by_integer-greatest = greatest_high
-
-pub counted_by_integer-counted : (given : List Given) (seq : ℕ) → seq < 65536 → HasCounted (run_of given) → (taken_in (run_of given) seq ≡ Counted) ↔ HasIntegerNear (greatest_integer (run_of given)) seq
-counted_by_integer-counted = counted_exactly
-
-pub counted_by_integer-enters : (given : List Given) (seq timestamp arrival octets : ℕ) (integer : ℤ) → seq < 65536 → HasCounted (run_of given) → IsIntegerNear (greatest_integer (run_of given)) seq integer
-    → run_of (packet_came seq timestamp arrival octets ∷ given) ≡ with_counted (packet_at (ordinal_of integer) (transit_of timestamp arrival) octets) (run_of given)
-counted_by_integer-enters = enters_run
-
-pub counted_by_integer-one : (greatest : ℤ) (seq : ℕ) (a b : ℤ) → IsIntegerNear greatest seq a → IsIntegerNear greatest seq b → a ≡ b
-counted_by_integer-one = same_integer
-
-pub integer_is_found : (greatest seq : ℕ) (integer : ℤ) → seq < 65536 → IsIntegerNear (pos greatest) seq integer → HasOrdinalNear (greatest + 65536) seq (ordinal_of integer)
-integer_is_found = has_ordinal
-
-pub ordinal_has_integer : (greatest seq : ℕ) → seq < 65536 → is_near (greatest + 65536) seq ≡ true → IsOrdinalOfInteger (pos greatest) seq (ordinal_near (greatest + 65536) seq)
-ordinal_has_integer = has_integer
 
 -- ---- Transits
 

@@ -1,5 +1,5 @@
 -- The reception report block of a source (RFC 3550, 6.4.1, A.3), and whether it has news.
-use Rattle.std.specs.Prelude.{ℕ, ℤ, pos, negsuc, ◌-ℤ◌, ◌+◌, ◌-◌, ◌*◌, ◌/◌, ◌%◌, ◌^◌, Bool, false, nat_lt, List, [], ◌∷◌, length, Option, Some, None, option_map}
+use Rattle.std.specs.Prelude.{ℕ, ℤ, pos, negsuc, ◌-ℤ◌, ◌+◌, ◌-◌, ◌/◌, ◌%◌, ◌^◌, Bool, false, nat_lt, List, [], ◌∷◌, length, Option, Some, None, option_map}
 use Rattle.std.specs.Int.{int_min, int_max}
 use Rattle.rtcp_wire.specs.Values.{ReportBlock}
 use Rattle.rtcp_clock.specs.Moments.{short_seconds}

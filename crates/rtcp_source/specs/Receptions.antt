@@ -1,6 +1,6 @@
 -- How the packets of a source are received, as its report block says it, whenever one is made (RFC 3550, 6.4.1,
 -- A.3, A.8).
-use Rattle.std.specs.Prelude.{ℕ, ℤ, ◌-◌, ◌/◌, ◌%◌, ◌^◌, List, [], ◌∷◌, length, Option, Some, None, option_map}
+use Rattle.std.specs.Prelude.{ℕ, ℤ, ◌/◌, List, [], ◌∷◌, length, Option, Some, None, option_map}
 use Rattle.rtcp_wire.specs.Values.{ReportBlock}
 use Rattle.rtcp_source.specs.Packets.{Given, CountedPacket, greatest_ordinal, run_of}
 use Rattle.rtcp_source.specs.LastBlocks.{LastBlockValue, expected_of, highest_of}

@@ -86,6 +86,7 @@ pub fn integer_is_found()
 
 /// A number that is near the greatest ordinal has an integer near the greatest one, and its ordinal there is the
 /// ordinal of that integer.
+#[tactic(auto, using(crate::proofs::Integers::has_integer))]
 pub fn ordinal_has_integer()
     ensures { (greatest seq : ℕ) → seq < 65536 → is_near (greatest + 65536) seq ≡ true →
         IsOrdinalOfInteger (pos greatest) seq (ordinal_near (greatest + 65536) seq) }
@@ -93,6 +94,7 @@ pub fn ordinal_has_integer()
 
 /// The distance of two transits is the absolute value of their difference, as a signed number of 32 bits
 /// (RFC 3550, A.8).
+#[tactic(auto, using(crate::proofs::LawLemmas::distance_is_signed))]
 pub fn distance_is_signed()
     ensures { (transit before : ℕ) → transit < 2 ^ 32 → before < 2 ^ 32 →
         transit_distance transit before

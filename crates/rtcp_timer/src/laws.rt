@@ -20,12 +20,14 @@ pub fn average_lies_between()
 
 /// If each of those who share a part of the bandwidth with the participant sends one compound of average size
 /// in each deterministic interval, they use at most that part (RFC 3550, 6.3.1).
+#[tactic(auto, using(crate::proofs::Sharing::keeps_to_share))]
 pub fn interval_keeps_to_share()
     ensures { (load : Load) → 1 ≤ load.sender_bw → 1 ≤ load.receiver_bw → KeepsToShare load (interval_of load) }
 {}
 
 /// Where the others have three times the bandwidth of the senders, senders share a quarter of it as long as they are
 /// at most a quarter of the members, and the others the rest (RFC 3550, 6.3.1).
+#[tactic(auto, using(crate::proofs::Quarters::by_quarters))]
 pub fn quarters_are_shared()
     ensures { (load : Load) → load.receiver_bw ≡ 3 * load.sender_bw → 1 ≤ load.sender_bw →
         interval_of load ≡ quarterly_interval (4 * load.sender_bw) load }
@@ -34,6 +36,7 @@ pub fn quarters_are_shared()
 /// Without a word of who shares with whom: a sender has the shorter of two intervals, that in which the senders'
 /// bandwidth carries a compound of each sender and that in which both carry one of each member; another has the longer
 /// of the latter and that in which the others' bandwidth carries one of each of them (RFC 3550, 6.2; RFC 3556).
+#[tactic(auto, using(crate::proofs::Sides::of_a_sender, crate::proofs::Sides::of_another))]
 pub fn senders_have_the_shorter_interval()
     ensures senders { (load : Load) → 1 ≤ load.sender_bw → 1 ≤ load.receiver_bw → load.senders ≤ load.members →
         load.we_sent ≡ true → interval_of load ≡ max (minimum_of load.initial)
@@ -46,12 +49,14 @@ pub fn senders_have_the_shorter_interval()
 {}
 
 /// The deterministic interval is never below the minimum, by its definition (RFC 3550, 6.2).
+#[tactic(auto, using(crate::proofs::Sharing::has_minimum))]
 pub fn interval_has_minimum()
     ensures { (load : Load) → minimum_of load.initial ≤ interval_of load }
 {}
 
 /// The deterministic interval is the shortest in whole microseconds that keeps to the share and the minimum
 /// (RFC 3550, 6.3.1).
+#[tactic(auto, using(crate::proofs::Sharing::is_least))]
 pub fn interval_is_least()
     ensures { (load : Load) (interval : ℕ) → 1 ≤ load.sender_bw → 1 ≤ load.receiver_bw → minimum_of load.initial ≤ interval →
         KeepsToShare load interval → interval_of load ≤ interval }
@@ -61,6 +66,7 @@ pub fn interval_is_least()
 /// is the newest transmission, and `next` what the newest draw to set it chose; each departure since brings
 /// them nearer to itself, except an overdue `next`. `known` is the least of the members at the newest draw
 /// and of the counts since.
+#[tactic(auto, using(crate::proofs::Following::last_follows, crate::proofs::Following::next_follows, crate::proofs::Following::known_follows))]
 pub fn schedule_follows_departures()
     ensures last { (events : List Happening) → (schedule_at events).last ≡ last_moment events }
     ensures next { (events : List Happening) → (schedule_at events).next ≡ next_moment events }
@@ -82,6 +88,7 @@ pub fn last_lies_between()
 /// Where moments do not fall, `next` is at most `last` plus the greatest interval drawn by the newest
 /// transmission and the tries since; an overdue `next` may even lie before `last`. A departure scales both
 /// distances by the same fraction, or leaves an overdue `next` (RFC 3550, 6.3.4).
+#[tactic(auto, using(crate::proofs::Bounding::next_near))]
 pub fn next_within_greatest_draw()
     ensures { (events : List Happening) → IsInOrder events →
         (schedule_at events).next ≤ (schedule_at events).last + greatest_draw events }
@@ -89,6 +96,7 @@ pub fn next_within_greatest_draw()
 
 /// Where moments do not fall, no report is due until the interval drawn for it has passed since the newest
 /// transmission (RFC 3550, 6.3.6).
+#[tactic(auto, using(crate::proofs::Bounding::due_not_too_soon))]
 pub fn never_due_too_soon()
     ensures { (events : List Happening) (moment interval : ℕ) → IsInOrder events →
         IsDue (schedule_at events) moment interval → newest_transmission events + interval ≤ moment }
@@ -122,6 +130,7 @@ pub fn calls_keep_within_draws()
 {}
 
 /// A departure never puts the next transmission later (RFC 3550, 6.3.4).
+#[tactic(auto, using(crate::proofs::Bounding::next_after))]
 pub fn departure_never_puts_later()
     ensures { (timing : Timing) (moment members : ℕ) →
         (after (recounted moment members) timing).next ≤ timing.next }

@@ -39,11 +39,13 @@ pub fn accepted_or_faulty()
 {}
 
 /// RTCP packets say nothing of RTP packets that came: no fact of a compound is `Media`.
+#[tactic(auto, using(crate::proofs::NoMedia::packets_give_none))]
 pub fn compounds_give_no_media()
     ensures { (packets : List RtcpPacket) → All (λ fact. is_media fact ≡ false) (facts_of packets) }
 {}
 
 /// An accepted datagram gives no more facts than it has octets.
+#[tactic(auto, using(crate::proofs::FewFacts::few_facts))]
 pub fn facts_are_few()
     ensures { (octets : List ℕ) (packets : List RtcpPacket) → IsAccepted octets packets →
         length (facts_of packets) ≤ length octets }
@@ -51,12 +53,14 @@ pub fn facts_are_few()
 
 /// Where a datagram is accepted as packets, a walk over its octets reads these (`packets_in`): what it holds
 /// is computed from the octets alone, packet by packet.
+#[tactic(auto, using(crate::proofs::LawLemmas::walks_read_encodings))]
 pub fn walks_read_encodings()
     ensures { (octets : List ℕ) (packets : List RtcpPacket) → IsAccepted octets packets →
         packets_in octets ≡ packets }
 {}
 
 /// The blocks of a compound that name a source are those of all its blocks that do, in the same order.
+#[tactic(auto, using(crate::proofs::BlockLists::about_of_all))]
 pub fn about_of_all()
     ensures { (ssrc : ℕ) (packets : List RtcpPacket) → blocks_about ssrc packets
         ≡ filter (λ block. block.1.ssrc == ssrc) (all_blocks packets) }

@@ -16,6 +16,7 @@ pub fn written_is_spelling()
 
 /// What is written of such packets, of which the first is a report, is a datagram of these packets, unless it
 /// is too long.
+#[tactic(auto, using(crate::proofs::LawLemmas::reads_back))]
 pub fn reads_back()
     ensures { (packets : List RtcpPacket) → All IsWritable packets → All IsInRange packets →
         BeginsWithReport packets → length (written_all packets) ≤ 65535 → IsAccepted (written_all packets) packets }
@@ -37,6 +38,7 @@ pub fn read_back_together()
 /// identifiers, at most 31 as a subtype or count, at most 255 octets of a text or a reason, no item of type 0,
 /// packets lost in 24 bits with a sign, whole words of an extension, of an application's data and of the body
 /// of another packet, and the type of that: below 200 or above 204.
+#[tactic(auto, using(crate::proofs::WritableAgain::all_writable, crate::proofs::WritableAgain::all_in_range, crate::proofs::WritableAgain::begins, crate::proofs::WritableAgain::no_longer, crate::proofs::WritableAgain::read_back))]
 pub fn accepted_packets_are_writable()
     ensures writable { (octets : List ℕ) (packets : List RtcpPacket) → AreOctets octets →
         IsAccepted octets packets → All IsWritable packets }
