@@ -7,10 +7,7 @@ ghost use Rattle.rtcp_report.specs.Sizes.{description_size};
 ghost use Rattle.rtcp_report.specs.Views.{items_of, extra_of};
 
 use crate::sender::Item;
-use rtcp_wire::{ChunkRef, ItemRef, PacketRef};
-
-/// The type of the item that names a source (RFC 3550, 6.5.1).
-const CNAME: u8 = 1;
+use rtcp_wire::{CNAME, ChunkRef, ItemRef, PacketRef};
 
 /// One item or two, the CNAME first.
 #[derive(Drop)]

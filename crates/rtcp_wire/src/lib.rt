@@ -62,6 +62,6 @@ pub use packet::PacketView;
 pub use placed::{PlacedGoodbye, PlacedItem, Span, goodbye_at, item_at};
 pub use rr::ReceiverReport;
 pub use rtp::{RtpFault, RtpHead};
-pub use sdes::{Chunk, Chunks, Items, SourceDescription};
+pub use sdes::{CNAME, Chunk, Chunks, Items, SourceDescription};
 pub use sr::SenderReport;
 pub use writer::{ChunkRef, Full, ItemRef, MAX_COMPOUND, PacketRef, write_compound};

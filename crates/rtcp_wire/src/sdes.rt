@@ -8,5 +8,5 @@ pub use chunks::{Chunk, Chunks, SourceDescription};
 pub use items::Items;
 pub(crate) use items::split_item;
 
-/// The type of a CNAME (RFC 3550, 6.5.1).
-pub(crate) const CNAME: u8 = 1;
+/// The type of an item that is a CNAME (RFC 3550, 6.5.1).
+pub const CNAME: u8 = 1;

@@ -2,15 +2,14 @@
 
 ghost use Rattle.std.specs.Prelude.{◌≡◌};
 ghost use Rattle.std.specs.Iterator.{YieldsFirst, item_count};
-ghost use Rattle.std.specs.List.{list_any};
-ghost use Rattle.rtcp_wire.specs.Facts.{is_cname, facts_of};
+ghost use Rattle.rtcp_wire.specs.Facts.{facts_of};
 ghost use Rattle.rtcp_wire.specs.FactsLeft.{fact_if_any, name_in};
 
 use super::Fact;
 use crate::compound::Packets;
 use crate::ids::Ids;
 use crate::packet::PacketView;
-use crate::sdes::{CNAME, Chunk, Chunks};
+use crate::sdes::{Chunk, Chunks};
 use std::marker::Model;
 
 /// The facts of a compound, in order: an iterator that reads them from the datagram. `facts` makes it.
@@ -87,16 +86,9 @@ impl<'a> Iterator for Facts<'a> {
 fn name_of(chunk: &Chunk<'_>) -> Option<Fact>
     ensures { fact_if_any result ≡ name_in chunk.now }
 {
-    if has_cname(chunk) {
+    if chunk.has_cname() {
         Some(Fact::Named(chunk.id()))
     } else {
         None
     }
-}
-
-/// Whether an item of the chunk is a CNAME.
-fn has_cname(chunk: &Chunk<'_>) -> bool
-    ensures { result ≡ list_any is_cname chunk.now.items }
-{
-    chunk.items().any(|item| item.kind == CNAME)
 }

@@ -2,9 +2,12 @@
 
 ghost use Rattle.std.specs.Prelude.{◌≡◌, []};
 ghost use Rattle.std.specs.Iterator.{YieldsFirst, item_count};
+ghost use Rattle.std.specs.List.{list_any};
+ghost use Rattle.rtcp_wire.specs.Facts.{is_cname};
 ghost use Rattle.rtcp_wire.specs.Validity.{HasItems, HasChunks};
 ghost use Rattle.rtcp_wire.specs.Walks.{items_after, chunk_size, chunks_in};
 
+use super::CNAME;
 use super::items::{Items, octets_of_items};
 use crate::layout::{ID_SIZE, WORD_SIZE};
 use byteorder::{BigEndian, ByteOrder};
@@ -80,6 +83,13 @@ impl<'a> Chunk<'a> {
         ensures { result ≡ self.now.items }
     {
         Items::new(self.item_octets)
+    }
+
+    /// Whether an item of the chunk is a CNAME.
+    pub fn has_cname(&self) -> bool
+        ensures { result ≡ list_any is_cname self.now.items }
+    {
+        self.items().any(|item| item.kind == CNAME)
     }
 }
 
