@@ -9,8 +9,8 @@ mod Spellings
 mod Stops
 mod Refusals
 mod Passing
-mod Deciding
-mod Standing
+mod BodyOrFault
+mod PacketOrFault
 mod Walking
 mod Rows
 mod RowsOfTypes

@@ -8,7 +8,7 @@ use Rattle.rtcp_wire.specs.Faults.{EndsInsideChunk, FindsInBody, IsFirstFound, I
 use Rattle.rtcp_wire.specs.Parts.{IsWhole}
 use Rattle.rtcp_wire.proofs.Prefixes.{cons_not_nil}
 use Rattle.rtcp_wire.proofs.Spellings.{own, is_own}
-use Rattle.rtcp_wire.proofs.Standing.{none_at_first, not_both_bits, before_first_padding, before_length, HasBody, body_found}
+use Rattle.rtcp_wire.proofs.PacketOrFault.{none_at_first, not_both_bits, before_first_padding, before_length, HasBody, body_found}
 use Rattle.rtcp_wire.proofs.Walking.{HasPassed, none_passed, stops_next}
 
 -- A bit that is clear isn't set.

@@ -15,7 +15,7 @@ use Rattle.rtcp_wire.proofs.Prefixes.{cons_not_nil, length_parts}
 use Rattle.rtcp_wire.proofs.Spellings.{same_header, spelling_length}
 use Rattle.rtcp_wire.proofs.Stops.{finds_no_spelling, begins_on}
 use Rattle.rtcp_wire.proofs.Refusals.{IsBefore, packets_before}
-use Rattle.rtcp_wire.proofs.Standing.{TakesPacket, packet_from}
+use Rattle.rtcp_wire.proofs.PacketOrFault.{TakesPacket, packet_from}
 
 -- Packets were passed up to what is left, and something is left to read.
 pub record HasPassed (datagram left : List ℕ) : Type 0 where

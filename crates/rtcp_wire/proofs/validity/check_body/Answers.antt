@@ -1,5 +1,5 @@
 use Rattle.std.proofs.Common.{◌≤◌, length, subst, arith}
-use Rattle.rtcp_wire.proofs.Deciding.{plain_body, goodbye_checked}
+use Rattle.rtcp_wire.proofs.BodyOrFault.{plain_body, goodbye_checked}
 use Rattle.rtcp_wire.proofs.validity.check_body.Goals as goal
 
 pub returns-in-203 : goal.returns-in-203

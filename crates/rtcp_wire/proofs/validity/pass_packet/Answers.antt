@@ -1,7 +1,7 @@
 use Rattle.std.proofs.Common.{◌∙◌, ap, take, drop, subst}
 use Rattle.rtcp_wire.specs.Grammar.{size_of, type_of, count_of}
 use Rattle.rtcp_wire.specs.Parts.{IsWhole, IsUnpadded}
-use Rattle.rtcp_wire.proofs.Standing.{HasBody, packet_passed}
+use Rattle.rtcp_wire.proofs.PacketOrFault.{HasBody, packet_passed}
 use Rattle.rtcp_wire.proofs.validity.pass_packet.Goals as goal
 
 pub returns : goal.returns

@@ -12,7 +12,7 @@ use Rattle.rtcp_wire.specs.Validity.{IsSomeBody, IsSomePacket}
 use Rattle.rtcp_wire.proofs.Spellings.{own, is_own}
 use Rattle.rtcp_wire.proofs.Stops.{body_at, padding_at, begins_at, reason_in, reason_has_number}
 use Rattle.rtcp_wire.proofs.BodyFaults.{body_or_item, body_or_reason, item_or_reason}
-use Rattle.rtcp_wire.proofs.Deciding.{body_from}
+use Rattle.rtcp_wire.proofs.BodyOrFault.{body_from}
 use Rattle.rtcp_wire.proofs.FirstFound.{first_of_all, one_further}
 
 -- ---- Tests
