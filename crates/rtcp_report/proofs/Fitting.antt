@@ -15,7 +15,8 @@ use Rattle.rtcp_report.proofs.ReportSizes.{packets_length}
 
 -- ---- Reports
 
-one_more : (found : Option ReportBlock) (blocks : List ReportBlock) (n : ℕ) → length blocks ≤ n → length (cons_option found blocks) ≤ suc n
+one_more : (found : Option ReportBlock) (blocks : List ReportBlock) (n : ℕ) → length blocks ≤ n →
+    length (cons_option found blocks) ≤ suc n
 one_more None blocks n few = omega (arith, few)
 one_more (Some block) blocks n few = omega (arith, few)
 
@@ -36,12 +37,14 @@ first_is_small : (sent : Option SentValue) → first_report_size sent ≤ 28
 first_is_small None = omega arith
 first_is_small (Some sent) = omega arith
 
-description_is_small : (cname : List ℕ) (extra : Option ItemValue) → length cname ≤ 255 → IsShort extra → description_size (items_of cname extra) ≤ 524
+description_is_small : (cname : List ℕ) (extra : Option ItemValue) → length cname ≤ 255 → IsShort extra →
+    description_size (items_of cname extra) ≤ 524
 description_is_small cname None short none = omega (arith, short, sum_by-cons item_size (cname_item cname) [])
 description_is_small cname (Some item) short also =
     omega (arith, short, also, sum_by-cons item_size (cname_item cname) (item ∷ []), sum_by-cons item_size item [])
 
-pub empty_is_small : (ssrc : ℕ) (sent : Option SentValue) (cname : List ℕ) (extra : Option ItemValue) → length cname ≤ 255 → IsShort extra →
+pub empty_is_small : (ssrc : ℕ) (sent : Option SentValue) (cname : List ℕ) (extra : Option ItemValue) →
+    length cname ≤ 255 → IsShort extra →
     report_size (record { ssrc = ssrc; sent = sent; items = items_of cname extra }) 0 ≤ 552
 empty_is_small ssrc sent cname extra short also =
     omega (arith, first_is_small sent, description_is_small cname extra short also)

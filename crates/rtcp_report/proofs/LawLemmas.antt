@@ -1,4 +1,5 @@
--- The laws of this crate as lemmas, for the proofs of the crates above: each has the name of its law, and of the clause where the law has
+-- The laws of this crate as lemmas, for the proofs of the crates above: each has the name of its law, and of the clause
+-- where the law has
 -- several.
 pub use Rattle.rtcp_report.proofs.Prefixes.{longest_fitting as longest_prefix_is_reported-longest}
 pub use Rattle.rtcp_report.proofs.Prefixes.{only_longest as longest_prefix_is_reported-only}

@@ -16,14 +16,19 @@ further_rises : (fewer more : ℕ) → fewer ≤ more → further_count fewer �
 further_rises fewer more le = omega (arith, le)
 
 -- A report with more blocks is no smaller.
-pub size_rises : (reporter : Reporter) (fewer more : ℕ) → fewer ≤ more → report_size reporter fewer ≤ report_size reporter more
+pub size_rises : (reporter : Reporter) (fewer more : ℕ) → fewer ≤ more →
+    report_size reporter fewer ≤ report_size reporter more
 size_rises reporter fewer more le = omega (arith, le, further_rises fewer more le)
 
 -- ---- The greatest number that passes
 
 at_most : (test : ℕ → Bool) (most : ℕ) → greatest_passing test most ≤ most
 at_most test zero = omega arith
-at_most test (suc n) = let rest = at_most test n in elim (test (suc n)) as (λ b. cond b (suc n) (greatest_passing test n) ≤ suc n) [ true ↦ omega arith | false ↦ omega (arith, rest) ]
+at_most test (suc n) = let rest = at_most test n in
+    elim (test (suc n)) as (λ b. cond b (suc n) (greatest_passing test n) ≤ suc n) [
+      | true ↦ omega arith
+      | false ↦ omega (arith, rest)
+    ]
 
 -- It passes, where 0 does.
 passes : (test : ℕ → Bool) (most : ℕ) → test 0 ≡ true → test (greatest_passing test most) ≡ true
@@ -60,17 +65,20 @@ module _ (reporter : Reporter) (limit : ℕ) where
 
   chosen_fits : (pending : ℕ) → report_size reporter 0 ≤ limit → report_size reporter (chosen pending) ≤ limit
   unfolding chosen
-  chosen_fits pending first = leb-true _ _ (passes (λ blocks. nat_le (report_size reporter blocks) limit) pending (le-leb _ _ first))
+  chosen_fits pending first = leb-true _ _
+      (passes (λ blocks. nat_le (report_size reporter blocks) limit) pending (le-leb _ _ first))
 
   none_longer : (pending blocks : ℕ) → chosen pending < blocks → blocks ≤ pending → limit < report_size reporter blocks
   unfolding chosen
-  none_longer pending blocks above within = leb-false _ _ (none_passes (λ blocks. nat_le (report_size reporter blocks) limit) pending blocks above within)
+  none_longer pending blocks above within =
+      leb-false _ _ (none_passes (λ blocks. nat_le (report_size reporter blocks) limit) pending blocks above within)
 
   chosen_of_rows : (rows : List EntryRow) → length (fitting reporter limit rows) ≡ chosen (length rows)
   unfolding chosen
   chosen_of_rows rows = length-take-le (chosen (length rows)) rows (chosen_within (length rows))
 
-  pub longest_fitting : (rows : List EntryRow) → report_size reporter 0 ≤ limit → IsLongestFitting reporter limit rows (fitting reporter limit rows)
+  pub longest_fitting : (rows : List EntryRow) → report_size reporter 0 ≤ limit →
+      IsLongestFitting reporter limit rows (fitting reporter limit rows)
   unfolding chosen
   longest_fitting rows first =
       let count = chosen_of_rows rows in
@@ -88,17 +96,29 @@ module _ (reporter : Reporter) (limit : ℕ) where
 
     not_longer : length prefix ≤ chosen (length rows)
     not_longer =
-        elim (nat_le (length prefix) (chosen (length rows))) as (λ b. nat_le (length prefix) (chosen (length rows)) ≡ b → length prefix ≤ chosen (length rows)) [
+        elim (nat_le (length prefix) (chosen (length rows))) as (λ b. nat_le (length prefix) (chosen (length rows))
+        ≡ b → length prefix ≤ chosen (length rows)) [
           | true ↦ λ yes. leb-true _ _ yes
-          | false ↦ λ fewer. absurd (omega (arith, is.fits, none_longer (length rows) (length prefix) (leb-false _ _ fewer) (omega (arith, whole_length))))
+          | false ↦ λ fewer. absurd (omega (
+            arith,
+            is.fits,
+            none_longer (length rows) (length prefix) (leb-false _ _ fewer)
+                (omega (arith, whole_length)),
+          ))
         ] refl
 
     not_shorter : chosen (length rows) ≤ length prefix
     not_shorter =
-        let first : report_size reporter 0 ≤ limit = omega (arith, is.fits, size_rises reporter 0 (length prefix) (omega arith)) in
-        elim (nat_le (chosen (length rows)) (length prefix)) as (λ b. nat_le (chosen (length rows)) (length prefix) ≡ b → chosen (length rows) ≤ length prefix) [
+        let first : report_size reporter 0 ≤ limit =
+        omega (arith, is.fits, size_rises reporter 0 (length prefix) (omega arith)) in
+        elim (nat_le (chosen (length rows)) (length prefix)) as (λ b. nat_le (chosen (length rows)) (length prefix)
+        ≡ b → chosen (length rows) ≤ length prefix) [
           | true ↦ λ yes. leb-true _ _ yes
-          | false ↦ λ more. absurd (omega (arith, chosen_fits (length rows) first, is.longest (chosen (length rows)) (leb-false _ _ more) (chosen_within (length rows))))
+          | false ↦ λ more. absurd (omega (
+            arith,
+            chosen_fits (length rows) first,
+            is.longest (chosen (length rows)) (leb-false _ _ more) (chosen_within (length rows)),
+          ))
         ] refl
 
     pub only_longest : prefix ≡ fitting reporter limit rows
@@ -108,7 +128,8 @@ module _ (reporter : Reporter) (limit : ℕ) where
         sym (take-append_seam prefix is.rest) ∙ (λ i. take (count i) (sym is.parts i))
 
   -- Where so many blocks fit, and no more, the prefix has as many rows, or all.
-  module _ (most : ℕ) (fits : report_size reporter most ≤ limit) (greatest : limit < report_size reporter (most + 1)) where
+  module _ (most : ℕ) (fits : report_size reporter most ≤ limit)
+      (greatest : limit < report_size reporter (most + 1)) where
     first_fits : report_size reporter 0 ≤ limit
     first_fits = omega (arith, fits, size_rises reporter 0 most (omega arith))
 
@@ -118,15 +139,22 @@ module _ (reporter : Reporter) (limit : ℕ) where
           | true ↦ λ is. leb-true _ _ is
           | false ↦ λ is.
               let above : most + 1 ≤ chosen pending = omega (arith, leb-false (chosen pending) most is) in
-              absurd (omega (arith, greatest, chosen_fits pending first_fits, size_rises reporter (most + 1) (chosen pending) above))
+              absurd (omega (
+                arith,
+                greatest,
+                chosen_fits pending first_fits,
+                size_rises reporter (most + 1) (chosen pending) above,
+              ))
         ] refl
 
     no_fewer : (pending : ℕ) → min most pending ≤ chosen pending
     no_fewer pending =
-        elim (nat_le (min most pending) (chosen pending)) as (λ b. nat_le (min most pending) (chosen pending) ≡ b → min most pending ≤ chosen pending) [
+        elim (nat_le (min most pending) (chosen pending)) as (λ b. nat_le (min most pending) (chosen pending) ≡ b →
+        min most pending ≤ chosen pending) [
           | true ↦ λ is. leb-true _ _ is
           | false ↦ λ is.
-              let larger : limit < report_size reporter (min most pending) = none_longer pending (min most pending) (leb-false (min most pending) (chosen pending) is) (omega arith) in
+              let larger : limit < report_size reporter (min most pending) = none_longer pending (min most pending)
+              (leb-false (min most pending) (chosen pending) is) (omega arith) in
               absurd (omega (arith, fits, larger, size_rises reporter (min most pending) most (omega arith)))
         ] refl
 
@@ -150,9 +178,19 @@ count_prefix ssrc most rows =
     ap (count_of ssrc) (sym (take-append-drop most rows)) ∙ sum_by-append one (take most rows) (drop most rows) in
     omega (arith, parts)
 
-pub none_twice : (reporter : Reporter) (limit : ℕ) (last : Option ℕ) (table : TableValue) (ssrc : ℕ) → count_by (λ (row : EntryRow). row.0 == ssrc) (reported_rows reporter limit last table) ≤ 1
+pub none_twice : (reporter : Reporter) (limit : ℕ) (last : Option ℕ) (table : TableValue) (ssrc : ℕ) →
+    count_by (λ (row : EntryRow). row.0 == ssrc) (reported_rows reporter limit last table) ≤ 1
 unfolding count_of
 none_twice reporter limit last table ssrc =
-    let one : (b : Bool) → cond b 1 0 ≤ 1 = λ b. elim b as (λ b. cond b 1 0 ≤ 1) [ true ↦ omega arith | false ↦ omega arith ] in
-    let waits : count_of ssrc (pending last table) ≡ cond (is_due_at ssrc table) 1 0 = each_is_pending_once last table ssrc in
-    omega (arith, count_prefix ssrc (block_count reporter limit (length (pending last table))) (pending last table), waits, one (is_due_at ssrc table))
+    let one : (b : Bool) → cond b 1 0 ≤ 1 = λ b. elim b as (λ b. cond b 1 0 ≤ 1) [
+      | true ↦ omega arith
+      | false ↦ omega arith
+    ] in
+    let waits : count_of ssrc (pending last table) ≡ cond (is_due_at ssrc table) 1 0 =
+    each_is_pending_once last table ssrc in
+    omega (
+      arith,
+      count_prefix ssrc (block_count reporter limit (length (pending last table))) (pending last table),
+      waits,
+      one (is_due_at ssrc table),
+    )

@@ -14,24 +14,47 @@ pub record IsOrdinalNear (greatest seq ordinal : ℕ) : Type 0 where
   pub above : greatest < ordinal + 100
   pub below : ordinal < greatest + 3000
 
-near_is_ordinal : (greatest seq : ℕ) → seq < 65536 → 65536 ≤ greatest → is_near greatest seq ≡ true → IsOrdinalNear greatest seq (ordinal_near greatest seq)
-near_is_ordinal greatest seq small low near = record { congruent = grind (arith, nat_tests); above = grind (arith, nat_tests); below = grind (arith, nat_tests) }
+near_is_ordinal : (greatest seq : ℕ) → seq < 65536 → 65536 ≤ greatest → is_near greatest seq ≡ true →
+    IsOrdinalNear greatest seq (ordinal_near greatest seq)
+near_is_ordinal greatest seq small low near =
+    record { congruent = grind (arith, nat_tests); above = grind (arith, nat_tests); below = grind (arith, nat_tests) }
 
-found_integer : (greatest seq ordinal : ℕ) → IsOrdinalNear (greatest + 65536) seq ordinal → IsOrdinalOfInteger (pos greatest) seq ordinal
+found_integer : (greatest seq ordinal : ℕ) → IsOrdinalNear (greatest + 65536) seq ordinal →
+    IsOrdinalOfInteger (pos greatest) seq ordinal
 found_integer greatest seq ordinal near =
     elim (cases_lt ordinal 65536) as (λ _. IsOrdinalOfInteger (pos greatest) seq ordinal) [
-      | inl low ↦ (negsuc (65535 - ordinal), record { congruent = search (rules, near.congruent); above = search (rules, near.above); below = search rules }, omega (arith, low))
-      | inr high ↦ (pos (ordinal - 65536), record { congruent = search (rules, near.congruent); above = search (rules, near.above); below = search (rules, near.below) }, omega (arith, high))
+      | inl low ↦ (
+        negsuc (65535 - ordinal),
+        record {
+          congruent = search (rules, near.congruent);
+          above = search (rules, near.above);
+          below = search rules;
+        },
+        omega (arith, low),
+      )
+      | inr high ↦ (
+        pos (ordinal - 65536),
+        record {
+          congruent = search (rules, near.congruent);
+          above = search (rules, near.above);
+          below = search (rules, near.below);
+        },
+        omega (arith, high),
+      )
     ]
 
-pub has_integer : (greatest seq : ℕ) → seq < 65536 → is_near (greatest + 65536) seq ≡ true → IsOrdinalOfInteger (pos greatest) seq (ordinal_near (greatest + 65536) seq)
+pub has_integer : (greatest seq : ℕ) → seq < 65536 → is_near (greatest + 65536) seq ≡ true →
+    IsOrdinalOfInteger (pos greatest) seq (ordinal_near (greatest + 65536) seq)
 has_integer greatest seq small near =
-    found_integer greatest seq (ordinal_near (greatest + 65536) seq) (near_is_ordinal (greatest + 65536) seq small (omega arith) near)
+    found_integer greatest seq (ordinal_near (greatest + 65536) seq)
+    (near_is_ordinal (greatest + 65536) seq small (omega arith) near)
 
-pub has_ordinal : (greatest seq : ℕ) (integer : ℤ) → seq < 65536 → IsIntegerNear (pos greatest) seq integer → HasOrdinalNear (greatest + 65536) seq (ordinal_of integer)
+pub has_ordinal : (greatest seq : ℕ) (integer : ℤ) → seq < 65536 → IsIntegerNear (pos greatest) seq integer →
+    HasOrdinalNear (greatest + 65536) seq (ordinal_of integer)
 has_ordinal greatest seq integer small near = search rules
 
-pub same_integer : (greatest : ℤ) (seq : ℕ) (a b : ℤ) → IsIntegerNear greatest seq a → IsIntegerNear greatest seq b → a ≡ b
+pub same_integer : (greatest : ℤ) (seq : ℕ) (a b : ℤ) → IsIntegerNear greatest seq a → IsIntegerNear greatest seq b →
+    a ≡ b
 same_integer greatest seq a b first second = search rules
 
 -- ---- The greatest ordinal of a run
@@ -46,30 +69,40 @@ high_next : (seq transit octets : ℕ) (counted before : List CountedPacket) (st
     → let run : PacketRun = run_in counted before strays in
     IsHigh run → IsHigh (run_with (taken_in run seq) seq transit octets run)
 high_next seq transit octets [] before strays high =
-    elim (follows (newest strays) seq) as (λ b. IsHigh (run_with (if b then Became else Probation) seq transit octets (run_in [] before strays))) [
+    elim (follows (newest strays) seq) as (λ b. IsHigh
+    (run_with (if b then Became else Probation) seq transit octets (run_in [] before strays))) [
       | true ↦ λ some. omega arith
       | false ↦ high
     ]
 high_next seq transit octets (p ∷ earlier) before strays high =
     let run : PacketRun = run_in (p ∷ earlier) before strays in
     let low : 65536 ≤ greatest_ordinal (p ∷ earlier) = high (omega arith) in
-    elim (is_near (greatest_ordinal (p ∷ earlier)) seq) as (λ near. IsHigh (run_with (if near then Counted else (if follows (newest strays) seq then Restarted else Bad)) seq transit octets run)) [
+    elim (is_near (greatest_ordinal (p ∷ earlier)) seq) as (λ near. IsHigh
+    (run_with (if near then Counted else (if follows (newest strays) seq then Restarted else Bad)) seq transit
+    octets run)) [
       | true ↦ λ some. omega (arith, low)
-      | false ↦ elim (follows (newest strays) seq) as (λ b. IsHigh (run_with (if b then Restarted else Bad) seq transit octets run)) [ true ↦ λ some. omega arith | false ↦ high ]
+      | false ↦ elim (follows (newest strays) seq) as (λ b. IsHigh
+          (run_with (if b then Restarted else Bad) seq transit octets run)) [
+            | true ↦ λ some. omega arith
+            | false ↦ high
+          ]
     ]
 
 pub greatest_high : (given : List Given) → HasCounted (run_of given) → 65536 ≤ greatest_ordinal (run_of given).counted
 greatest_high [] = λ some. omega (arith, some)
 greatest_high (packet_came seq timestamp arrival octets ∷ given) =
-    let run : PacketRun = run_of given in high_next seq (transit_of timestamp arrival) octets run.counted run.reported run.strays (greatest_high given)
+    let run : PacketRun = run_of given in high_next seq (transit_of timestamp arrival) octets run.counted run.reported
+    run.strays (greatest_high given)
 greatest_high (report_came ntp rtp moment ∷ given) = greatest_high given
 greatest_high (block_made ∷ given) = greatest_high given
 
 -- ---- Packets that are counted
 
-counted_near : (greatest seq : ℕ) (stray : Option ℕ) → (taken_as (Some greatest) stray seq ≡ Counted) ↔ (is_near greatest seq ≡ true)
+counted_near : (greatest seq : ℕ) (stray : Option ℕ) → (taken_as (Some greatest) stray seq ≡ Counted)
+    ↔ (is_near greatest seq ≡ true)
 counted_near greatest seq stray =
-    elim (is_near greatest seq) as (λ near. ((if near then Counted else (if follows stray seq then Restarted else Bad)) ≡ Counted) ↔ (near ≡ true)) [
+    elim (is_near greatest seq) as (λ near. ((if near then Counted else (if follows stray seq then Restarted else Bad))
+    ≡ Counted) ↔ (near ≡ true)) [
       | true ↦ ((λ t. refl), (λ t. refl))
       | false ↦ elim (follows stray seq) as (λ b. ((if b then Restarted else Bad) ≡ Counted) ↔ (false ≡ true)) [
         | true ↦ ((λ no. absurd cc), (λ no. absurd cc))
@@ -82,37 +115,49 @@ integer_at : (greatest : ℕ) → pos (greatest + 65536) -ℤ pos 65536 ≡ pos 
 integer_at greatest = search rules
 
 -- Where a greatest ordinal is at least 65536, it is 65536 above its integer.
-by_integer : (P : ℕ → ℤ → Type 0) → ((greatest : ℕ) → P (greatest + 65536) (pos greatest)) → (ordinal : ℕ) → 65536 ≤ ordinal → P ordinal (pos ordinal -ℤ pos 65536)
+by_integer : (P : ℕ → ℤ → Type 0) → ((greatest : ℕ) → P (greatest + 65536) (pos greatest)) → (ordinal : ℕ) →
+    65536 ≤ ordinal → P ordinal (pos ordinal -ℤ pos 65536)
 by_integer P each ordinal low =
     let same : ordinal - 65536 + 65536 ≡ ordinal = omega (arith, low) in
-    subst (λ p. P p (pos p -ℤ pos 65536)) same (subst (P (ordinal - 65536 + 65536)) (sym (integer_at (ordinal - 65536))) (each (ordinal - 65536)))
+    subst (λ p. P p (pos p -ℤ pos 65536)) same (subst (P (ordinal - 65536 + 65536)) (sym (integer_at (ordinal - 65536)))
+    (each (ordinal - 65536)))
 
-counted_at : (seq : ℕ) (stray : Option ℕ) → seq < 65536 → (greatest : ℕ) → (taken_as (Some (greatest + 65536)) stray seq ≡ Counted) ↔ HasIntegerNear (pos greatest) seq
+counted_at : (seq : ℕ) (stray : Option ℕ) → seq < 65536 → (greatest : ℕ) →
+    (taken_as (Some (greatest + 65536)) stray seq ≡ Counted) ↔ HasIntegerNear (pos greatest) seq
 counted_at seq stray small greatest =
     let near = counted_near (greatest + 65536) seq stray in (
       (λ counted. let found = has_integer greatest seq small (near.0 counted) in (found.0, found.1)),
       (λ integer. near.1 (has_ordinal greatest seq integer.0 small integer.1).0),
     )
 
-counted_in_run : (seq : ℕ) (counted before : List CountedPacket) (strays : List ℕ) → seq < 65536 → HasCounted (run_in counted before strays) → 65536 ≤ greatest_ordinal counted
-    → (taken_in (run_in counted before strays) seq ≡ Counted) ↔ HasIntegerNear (greatest_integer (run_in counted before strays)) seq
+counted_in_run : (seq : ℕ) (counted before : List CountedPacket) (strays : List ℕ) → seq < 65536 →
+    HasCounted (run_in counted before strays) → 65536 ≤ greatest_ordinal counted
+    → (taken_in (run_in counted before strays) seq ≡ Counted) ↔ HasIntegerNear
+    (greatest_integer (run_in counted before strays)) seq
 counted_in_run seq [] before strays small some high = absurd (omega (arith, high))
 counted_in_run seq (p ∷ earlier) before strays small some high =
-    by_integer (λ ordinal integer. (taken_as (Some ordinal) (newest strays) seq ≡ Counted) ↔ HasIntegerNear integer seq) (counted_at seq (newest strays) small) (greatest_ordinal (p ∷ earlier)) high
+    by_integer (λ ordinal integer. (taken_as (Some ordinal) (newest strays) seq ≡ Counted) ↔ HasIntegerNear integer seq)
+    (counted_at seq (newest strays) small) (greatest_ordinal (p ∷ earlier)) high
 
-pub counted_exactly : (given : List Given) (seq : ℕ) → seq < 65536 → HasCounted (run_of given) → (taken_in (run_of given) seq ≡ Counted) ↔ HasIntegerNear (greatest_integer (run_of given)) seq
+pub counted_exactly : (given : List Given) (seq : ℕ) → seq < 65536 → HasCounted (run_of given) →
+    (taken_in (run_of given) seq ≡ Counted) ↔ HasIntegerNear (greatest_integer (run_of given)) seq
 counted_exactly given seq small some =
-    let run : PacketRun = run_of given in counted_in_run seq run.counted run.reported run.strays small some (greatest_high given some)
+    let run : PacketRun = run_of given in counted_in_run seq run.counted run.reported run.strays small some
+    (greatest_high given some)
 
-ordinal_at : (seq : ℕ) (integer : ℤ) → seq < 65536 → (greatest : ℕ) → IsIntegerNear (pos greatest) seq integer → ordinal_near (greatest + 65536) seq ≡ ordinal_of integer
+ordinal_at : (seq : ℕ) (integer : ℤ) → seq < 65536 → (greatest : ℕ) → IsIntegerNear (pos greatest) seq integer →
+    ordinal_near (greatest + 65536) seq ≡ ordinal_of integer
 ordinal_at seq integer small greatest near = (has_ordinal greatest seq integer small near).1
 
-pub enters_run : (given : List Given) (seq timestamp arrival octets : ℕ) (integer : ℤ) → seq < 65536 → HasCounted (run_of given) → IsIntegerNear (greatest_integer (run_of given)) seq integer
-    → run_of (packet_came seq timestamp arrival octets ∷ given) ≡ with_counted (packet_at (ordinal_of integer) (transit_of timestamp arrival) octets) (run_of given)
+pub enters_run : (given : List Given) (seq timestamp arrival octets : ℕ) (integer : ℤ) → seq < 65536 →
+    HasCounted (run_of given) → IsIntegerNear (greatest_integer (run_of given)) seq integer
+    → run_of (packet_came seq timestamp arrival octets ∷ given) ≡ with_counted
+    (packet_at (ordinal_of integer) (transit_of timestamp arrival) octets) (run_of given)
 enters_run given seq timestamp arrival octets integer small some near =
     let run : PacketRun = run_of given in
     let counted : taken_in run seq ≡ Counted = (counted_exactly given seq small some).1 (integer, near) in
     let ordinal : ordinal_near (greatest_ordinal run.counted) seq ≡ ordinal_of integer =
-    by_integer (λ ordinal greatest. IsIntegerNear greatest seq integer → ordinal_near ordinal seq ≡ ordinal_of integer) (ordinal_at seq integer small) (greatest_ordinal run.counted) (greatest_high given some) near in
+    by_integer (λ ordinal greatest. IsIntegerNear greatest seq integer → ordinal_near ordinal seq ≡ ordinal_of integer)
+    (ordinal_at seq integer small) (greatest_ordinal run.counted) (greatest_high given some) near in
     ap (λ taken. run_with taken seq (transit_of timestamp arrival) octets run) counted
     ∙ ap (λ (ordinal : ℕ). with_counted (packet_at ordinal (transit_of timestamp arrival) octets) run) ordinal

@@ -20,16 +20,21 @@ pub use Rattle.rtcp_source.proofs.Integers.{has_integer as ordinal_has_integer}
 
 -- ---- What is kept of a source
 
-pub summary_suffices-taken : (given : List Given) (seq : ℕ) → taken_by (summary_of given) seq ≡ taken_in (run_of given) seq
-summary_suffices-taken given seq = let run : PacketRun = run_of given in same_taken run.counted run.reported (newest run.strays) seq
+pub summary_suffices-taken : (given : List Given) (seq : ℕ) →
+    taken_by (summary_of given) seq ≡ taken_in (run_of given) seq
+summary_suffices-taken given seq = let run : PacketRun = run_of given in
+    same_taken run.counted run.reported (newest run.strays) seq
 
-pub summary_suffices-block : (given : List Given) (ssrc t : ℕ) → block_for ssrc t (summary_of given) ≡ block_over ssrc t given
-summary_suffices-block given ssrc t = let run : PacketRun = run_of given in same_block run.counted run.reported ssrc t (last_told given)
+pub summary_suffices-block : (given : List Given) (ssrc t : ℕ) →
+    block_for ssrc t (summary_of given) ≡ block_over ssrc t given
+summary_suffices-block given ssrc t = let run : PacketRun = run_of given in
+    same_block run.counted run.reported ssrc t (last_told given)
 
 pub summary_suffices-reception : (given : List Given) → reception_in (summary_of given) ≡ reception_over given
 summary_suffices-reception given = let run : PacketRun = run_of given in same_reception run.counted run.reported
 
-pub reception_is_that_of_blocks-figures : (ssrc t : ℕ) (given : List Given) → option_map figures_of (reception_over given) ≡ option_map figures_in (block_over ssrc t given)
+pub reception_is_that_of_blocks-figures : (ssrc t : ℕ) (given : List Given) →
+    option_map figures_of (reception_over given) ≡ option_map figures_in (block_over ssrc t given)
 reception_is_that_of_blocks-figures ssrc t given =
     let run : PacketRun = run_of given in
     let told : Option ToldValue = last_told given in
@@ -71,5 +76,6 @@ summary_moves-report ntp rtp moment given = refl
 
 -- ---- Transits
 
-pub distance_is_signed : (transit before : ℕ) → transit < 2 ^ 32 → before < 2 ^ 32 → transit_distance transit before ≡ unsigned_abs (cast_signed w32 ((transit + 2 ^ 32 - before) % 2 ^ 32))
+pub distance_is_signed : (transit before : ℕ) → transit < 2 ^ 32 → before < 2 ^ 32 →
+    transit_distance transit before ≡ unsigned_abs (cast_signed w32 ((transit + 2 ^ 32 - before) % 2 ^ 32))
 distance_is_signed transit before high low = search rules

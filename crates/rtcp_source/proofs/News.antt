@@ -13,7 +13,8 @@ IsOrdered run = length run.reported ≤ length run.counted
 abbrev news_in : PacketRun → Bool
 news_in run = nat_lt (length run.reported) (length run.counted)
 
-ordered_with : (taken : Taken) (seq transit octets : ℕ) (run : PacketRun) → IsOrdered run → IsOrdered (run_with taken seq transit octets run)
+ordered_with : (taken : Taken) (seq transit octets : ℕ) (run : PacketRun) → IsOrdered run →
+    IsOrdered (run_with taken seq transit octets run)
 ordered_with Counted seq transit octets run before = omega (arith, before)
 ordered_with Became seq transit octets run before = omega arith
 ordered_with Restarted seq transit octets run before = omega arith
@@ -22,11 +23,13 @@ ordered_with Bad seq transit octets run before = before
 
 ordered : (given : List Given) → IsOrdered (run_of given)
 ordered [] = omega arith
-ordered (packet_came seq timestamp arrival octets ∷ given) = ordered_with (taken_in (run_of given) seq) seq (transit_of timestamp arrival) octets (run_of given) (ordered given)
+ordered (packet_came seq timestamp arrival octets ∷ given) = ordered_with (taken_in (run_of given) seq) seq
+    (transit_of timestamp arrival) octets (run_of given) (ordered given)
 ordered (report_came ntp rtp moment ∷ given) = ordered given
 ordered (block_made ∷ given) = omega arith
 
-news_with : (taken : Taken) (seq transit octets : ℕ) (run : PacketRun) → IsOrdered run → news_in (run_with taken seq transit octets run) ≡ is_counted taken || news_in run
+news_with : (taken : Taken) (seq transit octets : ℕ) (run : PacketRun) → IsOrdered run →
+    news_in (run_with taken seq transit octets run) ≡ is_counted taken || news_in run
 news_with Counted seq transit octets run before = grind (arith, nat_tests, before)
 news_with Became seq transit octets run before = refl
 news_with Restarted seq transit octets run before = refl
@@ -36,16 +39,22 @@ news_with Bad seq transit octets run before = refl
 news_in_run : (given : List Given) → news_in (run_of given) ≡ has_news_since given
 news_in_run [] = refl
 news_in_run (packet_came seq timestamp arrival octets ∷ given) =
-    rw (news_with (taken_in (run_of given) seq) seq (transit_of timestamp arrival) octets (run_of given) (ordered given), news_in_run given) refl
+    rw (
+      news_with (taken_in (run_of given) seq) seq (transit_of timestamp arrival) octets (run_of given)
+          (ordered given),
+      news_in_run given,
+    ) refl
 news_in_run (report_came ntp rtp moment ∷ given) = news_in_run given
 news_in_run (block_made ∷ given) = grind (arith, nat_tests)
 
-news_of_numbers : (counted before : List CountedPacket) → news_of (numbers_of counted before) ≡ nat_lt (length before) (length counted)
+news_of_numbers : (counted before : List CountedPacket) → news_of (numbers_of counted before) ≡ nat_lt (length before)
+    (length counted)
 news_of_numbers [] before = grind (arith, nat_tests)
 news_of_numbers (p ∷ earlier) before = refl
 
 pub news_of_summary : (given : List Given) → news_of (summary_of given).run ≡ has_news_since given
 news_of_summary given = rw (news_of_numbers (run_of given).counted (run_of given).reported) (news_in_run given)
 
-pub since_block : (source : SourceValue) (news : Bool) → news ≡ news_of source.run → (given : List Given) → StandsAt source given → news ≡ has_news_since given
+pub since_block : (source : SourceValue) (news : Bool) → news ≡ news_of source.run → (given : List Given) →
+    StandsAt source given → news ≡ has_news_since given
 since_block source news told given stands = rw (told, stands) (news_of_summary given)

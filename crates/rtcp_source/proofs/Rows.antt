@@ -35,5 +35,6 @@ half_lost : Gives 0 (with_numbers (9 ∷ 7 ∷ 5 ∷ []) (block_made ∷ numbers
 half_lost = (refl, refl)
 
 -- The jitter returns to 0 at a restart.
-still : Gives 0 (packet_came 5001 0 999 0 ∷ packet_came 5000 0 0 0 ∷ packet_came 3 0 999 0 ∷ packet_came 2 0 0 0 ∷ packet_came 1 0 0 0 ∷ []) (plain_block 0 0 5001)
+still : Gives 0 (packet_came 5001 0 999 0 ∷ packet_came 5000 0 0 0 ∷ packet_came 3 0 999 0 ∷ packet_came 2 0 0
+    0 ∷ packet_came 1 0 0 0 ∷ []) (plain_block 0 0 5001)
 still = (refl, refl)

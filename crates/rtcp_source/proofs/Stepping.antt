@@ -54,7 +54,10 @@ moves seq transit octets packets kept (p ∷ earlier) before strays =
     (if near then Counted else (if follows (newest strays) seq then Restarted else Bad))) [
       | true ↦ counted_moves seq transit octets packets kept p earlier before strays
       | false ↦ elim (follows (newest strays) seq)
-          as (λ b. Moves seq transit octets packets kept run (if b then Restarted else Bad)) [ true ↦ refl | false ↦ refl ]
+          as (λ b. Moves seq transit octets packets kept run (if b then Restarted else Bad)) [
+            | true ↦ refl
+            | false ↦ refl
+          ]
     ]
 
 -- what is taken by the numbers is what is taken in the run
@@ -74,11 +77,13 @@ packet_moves seq timestamp arrival octets given =
     rw (same_taking seq (packet_count given) kept run.counted run.reported run.strays)
     (moves seq (transit_of timestamp arrival) octets (packet_count given) kept run.counted run.reported run.strays)
 
-same_numbers : (counted before : List CountedPacket) → numbers_of counted counted ≡ run_reported (numbers_of counted before)
+same_numbers : (counted before : List CountedPacket) →
+    numbers_of counted counted ≡ run_reported (numbers_of counted before)
 same_numbers [] before = refl
 same_numbers (p ∷ earlier) before = refl
 
-same_said : (counted before : List CountedPacket) → said_of counted before ≡ option_map said_in (numbers_of counted before)
+same_said : (counted before : List CountedPacket) →
+    said_of counted before ≡ option_map said_in (numbers_of counted before)
 same_said [] before = refl
 same_said (p ∷ earlier) before = refl
 

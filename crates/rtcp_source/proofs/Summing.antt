@@ -8,18 +8,21 @@ use Rattle.rtcp_source.specs.Blocks.{block_for, block_over, lsr_of, dlsr_of, blo
 use Rattle.rtcp_source.specs.Receptions.{reception_where, reception_of_run, figures_of, figures_in, said_by}
 use Rattle.rtcp_source.specs.Steps.{greatest_in}
 
-pub same_taken : (counted before : List CountedPacket) (stray : Option ℕ) (seq : ℕ) → taken_as (greatest_in (numbers_of counted before)) stray seq ≡ taken_as (greatest_of counted) stray seq
+pub same_taken : (counted before : List CountedPacket) (stray : Option ℕ) (seq : ℕ) →
+    taken_as (greatest_in (numbers_of counted before)) stray seq ≡ taken_as (greatest_of counted) stray seq
 same_taken [] before stray seq = refl
 same_taken (p ∷ earlier) before stray seq = refl
 
 pub same_block : (counted before : List CountedPacket) (ssrc t : ℕ) (told : Option ToldValue)
-    → option_map (block_of_run ssrc (lsr_of told) (dlsr_of told t)) (numbers_of counted before) ≡ where_counted counted (block_of_packets ssrc (lsr_of told) (dlsr_of told t) counted before)
+    → option_map (block_of_run ssrc (lsr_of told) (dlsr_of told t)) (numbers_of counted before) ≡ where_counted counted
+    (block_of_packets ssrc (lsr_of told) (dlsr_of told t) counted before)
 same_block [] before ssrc t told = refl
 same_block (p ∷ earlier) before ssrc t told = refl
 
 -- a block made now says what is told of it later
 pub same_said : (counted before : List CountedPacket) (ssrc lsr dlsr : ℕ)
-    → said_of counted before ≡ option_map said_by (where_counted counted (block_of_packets ssrc lsr dlsr counted before))
+    → said_of counted before ≡ option_map said_by
+    (where_counted counted (block_of_packets ssrc lsr dlsr counted before))
 same_said [] before ssrc lsr dlsr = refl
 same_said (p ∷ earlier) before ssrc lsr dlsr = refl
 
@@ -29,17 +32,20 @@ clock_in None = (0, 0)
 clock_in (Some block) = (block.lsr, block.dlsr)
 
 pub same_clock : (counted before : List CountedPacket) (ssrc lsr dlsr : ℕ) (block : ReportBlock)
-    → where_counted counted (block_of_packets ssrc lsr dlsr counted before) ≡ Some block → clock_in (Some block) ≡ (lsr, dlsr)
+    → where_counted counted (block_of_packets ssrc lsr dlsr counted before) ≡ Some block →
+    clock_in (Some block) ≡ (lsr, dlsr)
 same_clock [] before ssrc lsr dlsr block made = absurd cc
 same_clock (p ∷ earlier) before ssrc lsr dlsr block made = sym (ap clock_in made)
 
-pub same_reception : (counted before : List CountedPacket) → option_map reception_of_run (numbers_of counted before) ≡ reception_where counted
+pub same_reception : (counted before : List CountedPacket) → option_map reception_of_run (numbers_of counted before)
+    ≡ reception_where counted
 same_reception [] before = refl
 same_reception (p ∷ earlier) before = refl
 
 -- but for the fraction lost, a block says the same
 pub same_figures : (counted before : List CountedPacket) (ssrc lsr dlsr : ℕ)
-    → option_map figures_of (reception_where counted) ≡ option_map figures_in (where_counted counted (block_of_packets ssrc lsr dlsr counted before))
+    → option_map figures_of (reception_where counted) ≡ option_map figures_in
+    (where_counted counted (block_of_packets ssrc lsr dlsr counted before))
 same_figures [] before ssrc lsr dlsr = refl
 same_figures (p ∷ earlier) before ssrc lsr dlsr = refl
 

@@ -11,16 +11,19 @@ use Rattle.rtcp_timer.proofs.Cases.{by_test}
 use Rattle.rtcp_timer.proofs.Following.{known_follows}
 
 -- A departure brings the next transmission nearer if it is still to come.
-next_nearer : (moment members : ℕ) (timing : Timing) → members ≤ timing.known → (after_departure moment members timing).next ≤ timing.next
+next_nearer : (moment members : ℕ) (timing : Timing) → members ≤ timing.known →
+    (after_departure moment members timing).next ≤ timing.next
 next_nearer moment members timing fewer =
     let shorter = scaled_down_shorter (timing.next - moment) members timing.known fewer in
     grind (arith, nat_tests, shorter)
 
 -- A departure brings the last transmission nearer, and no further than to its own moment.
-last_after : (moment members : ℕ) (timing : Timing) → timing.last ≤ moment → IsBetween timing.last moment (after (recounted moment members) timing).last
+last_after : (moment members : ℕ) (timing : Timing) → timing.last ≤ moment →
+    IsBetween timing.last moment (after (recounted moment members) timing).last
 last_after moment members timing in_order =
     by_test {X = Timing} (λ new. IsBetween timing.last moment new.last) members timing.known _ _
-    (λ fewer. let shorter = scaled_down_shorter (moment - timing.last) members timing.known (omega arith) in (omega arith, omega arith))
+    (λ fewer. let shorter = scaled_down_shorter (moment - timing.last) members timing.known (omega arith) in
+    (omega arith, omega arith))
     (λ _. (omega arith, in_order))
 
 pub next_after : (timing : Timing) (moment members : ℕ) → (after (recounted moment members) timing).next ≤ timing.next
@@ -29,7 +32,8 @@ next_after timing moment members =
     (λ fewer. next_nearer moment members timing (omega arith))
     (λ _. omega arith)
 
-pub last_between : (events : List Happening) → IsInOrder events → IsBetween (newest_transmission events) (newest_moment events) (schedule_at events).last
+pub last_between : (events : List Happening) → IsInOrder events →
+    IsBetween (newest_transmission events) (newest_moment events) (schedule_at events).last
 last_between [] in_order = (omega arith, omega arith)
 last_between (transmitted moment interval members ∷ before) in_order = (omega arith, omega arith)
 last_between (tried moment interval members ∷ before) in_order =
@@ -39,14 +43,16 @@ last_between (recounted moment members ∷ before) in_order =
     let nearer = last_after moment members (schedule_at before) (omega (arith, so_far)) in
     (omega (arith, so_far, nearer), nearer.1)
 
-pub due_not_too_soon : (events : List Happening) (moment interval : ℕ) → IsInOrder events → IsDue (schedule_at events) moment interval → newest_transmission events + interval ≤ moment
+pub due_not_too_soon : (events : List Happening) (moment interval : ℕ) → IsInOrder events →
+    IsDue (schedule_at events) moment interval → newest_transmission events + interval ≤ moment
 due_not_too_soon events moment interval in_order due =
     let between = last_between events in_order in omega (arith, between.0, due.passed)
 
 -- ---- When a report is due at the latest
 
 -- A departure keeps the next transmission within a draw of the last one.
-next_near_after : (moment members draw : ℕ) (timing : Timing) → timing.last ≤ moment → timing.next ≤ timing.last + draw →
+next_near_after : (moment members draw : ℕ) (timing : Timing) → timing.last ≤ moment →
+    timing.next ≤ timing.last + draw →
     (after (recounted moment members) timing).next ≤ (after (recounted moment members) timing).last + draw
 next_near_after moment members draw timing in_order near =
     by_test {X = Timing} (λ new. new.next ≤ new.last + draw) members timing.known _ _
@@ -68,13 +74,16 @@ next_near (recounted moment members ∷ before) in_order =
 
 -- a draw is at most the longest one from any interval that is as great
 draw_fits : (td greatest word : ℕ) → word < 2 ^ 32 → td ≤ greatest → drawn_interval td word ≤ longest_draw greatest
-draw_fits td greatest word fits most = omega (arith, (draw_within_bounds td word fits).1, longest_never_falls td greatest most)
+draw_fits td greatest word fits most =
+    omega (arith, (draw_within_bounds td word fits).1, longest_never_falls td greatest most)
 
-pub within_after_transmission : (timing : Timing) (moment td word members : ℕ) → word < 2 ^ 32 → IsWithin moment td (after (transmitted moment (drawn_interval td word) members) timing)
+pub within_after_transmission : (timing : Timing) (moment td word members : ℕ) → word < 2 ^ 32 →
+    IsWithin moment td (after (transmitted moment (drawn_interval td word) members) timing)
 within_after_transmission timing moment td word members fits =
     record { last = omega arith; next = omega (arith, draw_fits td td word fits (omega arith)) }
 
-pub within_after_try : (timing : Timing) (newest greatest moment td word members : ℕ) → word < 2 ^ 32 → IsWithin newest greatest timing
+pub within_after_try : (timing : Timing) (newest greatest moment td word members : ℕ) → word < 2 ^ 32 →
+    IsWithin newest greatest timing
     → IsWithin newest (max td greatest) (after (tried moment (drawn_interval td word) members) timing)
 within_after_try timing newest greatest moment td word members fits h =
     let drawn = draw_fits td (max td greatest) word fits (omega arith) in
@@ -82,18 +91,26 @@ within_after_try timing newest greatest moment td word members fits h =
     record {
       last = h.last;
       next =
-          elim (nat_le (timing.last + drawn_interval td word) moment) as (λ t. (if t then timing.next else timing.last + drawn_interval td word) ≤ timing.last + longest_draw (max td greatest)) [
+          elim (nat_le (timing.last + drawn_interval td word) moment) as (λ t.
+          (if t then timing.next else timing.last + drawn_interval td word) ≤ timing.last + longest_draw
+          (max td greatest)) [
             | true ↦ omega (arith, h.next, before)
             | false ↦ omega (arith, drawn)
           ];
     }
 
-pub within_after_departure : (timing : Timing) (newest greatest moment members : ℕ) → timing.last ≤ moment → members < timing.known → IsWithin newest greatest timing
+pub within_after_departure : (timing : Timing) (newest greatest moment members : ℕ) → timing.last ≤ moment →
+    members < timing.known → IsWithin newest greatest timing
     → IsWithin moment greatest (after (recounted moment members) timing)
 within_after_departure timing newest greatest moment members past fewer h =
-    record { last = (last_after moment members timing past).1; next = next_near_after moment members (longest_draw greatest) timing past h.next }
+    record {
+      last = (last_after moment members timing past).1;
+      next = next_near_after moment members
+          (longest_draw greatest) timing past h.next;
+    }
 
-pub within_after_count : (timing : Timing) (newest greatest moment members : ℕ) → timing.known ≤ members → IsWithin newest greatest timing → IsWithin newest greatest (after (recounted moment members) timing)
+pub within_after_count : (timing : Timing) (newest greatest moment members : ℕ) → timing.known ≤ members →
+    IsWithin newest greatest timing → IsWithin newest greatest (after (recounted moment members) timing)
 within_after_count timing newest greatest moment members enough h =
     by_test {X = Timing} (λ new. IsWithin newest greatest new) members timing.known _ _
     (λ (fewer : members < timing.known). absurd (omega (arith, fewer, enough)))

@@ -9,7 +9,8 @@ use Rattle.rtcp_timer.proofs.Cases.{by_test}
 
 -- ---- The members
 
-known_after_count : (moment members : ℕ) (timing : Timing) → (after (recounted moment members) timing).known ≡ min members timing.known
+known_after_count : (moment members : ℕ) (timing : Timing) → (after (recounted moment members) timing).known
+    ≡ min members timing.known
 known_after_count moment members timing =
     by_test {X = Timing} (λ new. new.known ≡ min members timing.known) members timing.known _ _
     (λ (fewer : members < timing.known). omega arith) (λ (not_fewer : timing.known ≤ members). omega arith)
@@ -30,7 +31,8 @@ last_after_count : (moment members last : ℕ) (earlier : List Departure) (timin
 last_after_count moment members last earlier timing same =
     elim (nat_lt members timing.known) as (λ t.
     (if t then after_departure moment members timing else timing).last ≡
-    last_scaled (if t then record { moment = moment; members = members; members_before = timing.known } ∷ earlier else earlier) last) [
+    last_scaled (if t then record { moment = moment; members = members; members_before = timing.known } ∷ earlier else
+    earlier) last) [
       | true ↦ ap (λ l. moment - scaled_down (moment - l) members timing.known) same
       | false ↦ same
     ]
@@ -51,7 +53,8 @@ next_after_count : (moment members next : ℕ) (earlier : List Departure) (timin
 next_after_count moment members next earlier timing same =
     elim (nat_lt members timing.known) as (λ t.
     (if t then after_departure moment members timing else timing).next ≡
-    next_scaled (if t then record { moment = moment; members = members; members_before = timing.known } ∷ earlier else earlier) next) [
+    next_scaled (if t then record { moment = moment; members = members; members_before = timing.known } ∷ earlier else
+    earlier) next) [
       | true ↦ ap (λ n. if nat_le moment n then moment + scaled_down (n - moment) members timing.known else n) same
       | false ↦ same
     ]
@@ -60,7 +63,8 @@ next_after_count moment members next earlier timing same =
 next_after_try : (moment interval last next : ℕ) (earlier : List Departure) (before : ℕ) →
     next ≡ next_scaled earlier before →
     (if nat_le (last + interval) moment then next else last + interval) ≡
-    next_scaled (if nat_lt moment (last + interval) then [] else earlier) (if nat_lt moment (last + interval) then last + interval else before)
+    next_scaled (if nat_lt moment (last + interval) then [] else earlier)
+    (if nat_lt moment (last + interval) then last + interval else before)
 next_after_try moment interval last next earlier before same =
     elim (nat_lt moment (last + interval)) as (λ t. nat_lt moment (last + interval) ≡ t →
     (if nat_le (last + interval) moment then next else last + interval) ≡

@@ -25,24 +25,34 @@ fourfold : (senders bandwidth : ℕ) → senders * (bandwidth + 3 * bandwidth) �
 fourfold senders bandwidth = grind arith
 
 -- senders are more of the members than their part of the bandwidth where they are more than a quarter of them
-same_test : (members senders bandwidth : ℕ) → 1 ≤ bandwidth → nat_le (senders * (bandwidth + 3 * bandwidth)) (members * bandwidth) ≡ nat_le (4 * senders) members
+same_test : (members senders bandwidth : ℕ) → 1 ≤ bandwidth →
+    nat_le (senders * (bandwidth + 3 * bandwidth)) (members * bandwidth) ≡ nat_le (4 * senders) members
 same_test members senders bandwidth some =
     ap (λ (n : ℕ). nat_le n (members * bandwidth)) (fourfold senders bandwidth)
     ∙ elim (cases_lt members (4 * senders)) [
-      | inl many ↦ (let more : members * bandwidth + bandwidth ≤ 4 * senders * bandwidth = le_trans (grind arith) (mul-le-mul_right bandwidth many) in
-          lt-leb (4 * senders * bandwidth) (members * bandwidth) (omega (arith, some, more)) ∙ sym (lt-leb (4 * senders) members many))
-      | inr few ↦ le-leb (4 * senders * bandwidth) (members * bandwidth) (mul-le-mul_right bandwidth few) ∙ sym (le-leb (4 * senders) members few)
+      | inl many ↦ (let more : members * bandwidth + bandwidth ≤ 4 * senders * bandwidth =
+          le_trans (grind arith) (mul-le-mul_right bandwidth many) in
+          lt-leb (4 * senders * bandwidth) (members * bandwidth) (omega (arith, some, more))
+          ∙ sym (lt-leb (4 * senders) members many))
+      | inr few ↦ le-leb (4 * senders * bandwidth) (members * bandwidth) (mul-le-mul_right bandwidth few)
+          ∙ sym (le-leb (4 * senders) members few)
     ]
 
 -- each part, where that of the others is so large
-senders_part : (count avg bandwidth : ℕ) → 1 ≤ bandwidth → div_ceil (1000000 * count * avg) (256 * bandwidth) ≡ div_ceil (4 * 1000000 * count * avg) (1 * 256 * (4 * bandwidth))
-senders_part count avg bandwidth some = part (1000000 * count * avg) (256 * bandwidth) _ _ (omega (arith, some)) (grind arith) (grind arith)
+senders_part : (count avg bandwidth : ℕ) → 1 ≤ bandwidth → div_ceil (1000000 * count * avg) (256 * bandwidth) ≡ div_ceil
+    (4 * 1000000 * count * avg) (1 * 256 * (4 * bandwidth))
+senders_part count avg bandwidth some = part (1000000 * count * avg) (256 * bandwidth) _ _ (omega (arith, some))
+    (grind arith) (grind arith)
 
-others_part : (count avg bandwidth : ℕ) → 1 ≤ bandwidth → div_ceil (1000000 * count * avg) (256 * (3 * bandwidth)) ≡ div_ceil (4 * 1000000 * count * avg) (3 * 256 * (4 * bandwidth))
-others_part count avg bandwidth some = part (1000000 * count * avg) (256 * (3 * bandwidth)) _ _ (omega (arith, some)) (grind arith) (grind arith)
+others_part : (count avg bandwidth : ℕ) → 1 ≤ bandwidth → div_ceil (1000000 * count * avg) (256 * (3 * bandwidth))
+    ≡ div_ceil (4 * 1000000 * count * avg) (3 * 256 * (4 * bandwidth))
+others_part count avg bandwidth some = part (1000000 * count * avg) (256 * (3 * bandwidth)) _ _ (omega (arith, some))
+    (grind arith) (grind arith)
 
-whole : (count avg bandwidth : ℕ) → 1 ≤ bandwidth → div_ceil (1000000 * count * avg) (256 * (bandwidth + 3 * bandwidth)) ≡ div_ceil (4 * 1000000 * count * avg) (4 * 256 * (4 * bandwidth))
-whole count avg bandwidth some = part (1000000 * count * avg) (256 * (bandwidth + 3 * bandwidth)) _ _ (omega (arith, some)) (grind arith) (grind arith)
+whole : (count avg bandwidth : ℕ) → 1 ≤ bandwidth → div_ceil (1000000 * count * avg) (256 * (bandwidth + 3 * bandwidth))
+    ≡ div_ceil (4 * 1000000 * count * avg) (4 * 256 * (4 * bandwidth))
+whole count avg bandwidth some = part (1000000 * count * avg) (256 * (bandwidth + 3 * bandwidth)) _ _
+    (omega (arith, some)) (grind arith) (grind arith)
 
 abbrev pub chosen : (few we_sent : Bool) → Load → Sharers
 chosen few we_sent load = if few then (if we_sent then the_senders else the_others) else everyone
@@ -55,16 +65,22 @@ quarterly few we_sent load =
     else interval_at_quarters 3 (load.members - load.senders) (4 * load.sender_bw) load)
     else interval_at_quarters 4 load.members (4 * load.sender_bw) load
 
-by_cases : (few we_sent : Bool) (load : Load) → load.receiver_bw ≡ 3 * load.sender_bw → 1 ≤ load.sender_bw → interval_at_share (chosen few we_sent load) load ≡ quarterly few we_sent load
+by_cases : (few we_sent : Bool) (load : Load) → load.receiver_bw ≡ 3 * load.sender_bw → 1 ≤ load.sender_bw →
+    interval_at_share (chosen few we_sent load) load ≡ quarterly few we_sent load
 by_cases true true load is some = senders_part load.senders load.avg load.sender_bw some
 by_cases true false load is some =
-    ap (λ (b : ℕ). div_ceil (1000000 * (load.members - load.senders) * load.avg) (256 * b)) is ∙ others_part (load.members - load.senders) load.avg load.sender_bw some
+    ap (λ (b : ℕ). div_ceil (1000000 * (load.members - load.senders) * load.avg) (256 * b)) is
+    ∙ others_part (load.members - load.senders) load.avg load.sender_bw some
 by_cases false we_sent load is some =
-    ap (λ (b : ℕ). div_ceil (1000000 * load.members * load.avg) (256 * (load.sender_bw + b))) is ∙ whole load.members load.avg load.sender_bw some
+    ap (λ (b : ℕ). div_ceil (1000000 * load.members * load.avg) (256 * (load.sender_bw + b))) is
+    ∙ whole load.members load.avg load.sender_bw some
 
-pub by_quarters : (load : Load) → load.receiver_bw ≡ 3 * load.sender_bw → 1 ≤ load.sender_bw → interval_of load ≡ quarterly_interval (4 * load.sender_bw) load
+pub by_quarters : (load : Load) → load.receiver_bw ≡ 3 * load.sender_bw → 1 ≤ load.sender_bw →
+    interval_of load ≡ quarterly_interval (4 * load.sender_bw) load
 by_quarters load is some =
-    let test : nat_le (load.senders * (load.sender_bw + load.receiver_bw)) (load.members * load.sender_bw) ≡ nat_le (4 * load.senders) load.members =
-    ap (λ (b : ℕ). nat_le (load.senders * (load.sender_bw + b)) (load.members * load.sender_bw)) is ∙ same_test load.members load.senders load.sender_bw some in
+    let test : nat_le (load.senders * (load.sender_bw + load.receiver_bw)) (load.members * load.sender_bw) ≡ nat_le
+    (4 * load.senders) load.members =
+    ap (λ (b : ℕ). nat_le (load.senders * (load.sender_bw + b)) (load.members * load.sender_bw)) is
+    ∙ same_test load.members load.senders load.sender_bw some in
     ap (λ (few : Bool). max (minimum_of load.initial) (interval_at_share (chosen few load.we_sent load) load)) test
     ∙ ap (max (minimum_of load.initial)) (by_cases (nat_le (4 * load.senders) load.members) load.we_sent load is some)

@@ -9,7 +9,15 @@ use Rattle.rtcp_timer.specs.Departures.{Departure, members_known, last_departure
 -- ---- The interval of a session of 60, not the initial one
 
 abbrev many_senders : Load
-many_senders = record { members = 60; senders = 16; we_sent = true; initial = false; avg = 25600; sender_bw = 100; receiver_bw = 300 }
+many_senders = record {
+  members = 60;
+  senders = 16;
+  we_sent = true;
+  initial = false;
+  avg = 25600;
+  sender_bw = 100;
+  receiver_bw = 300;
+}
 
 among_many_senders : interval_of many_senders ≡ 15000000
 among_many_senders = refl

@@ -5,7 +5,8 @@ use Rattle.rtcp_timer.specs.declared.load.Load.{Load}
 use Rattle.rtcp_timer.specs.Loads.{Sharers, the_senders, the_others, everyone, sharers_of, count_of, bandwidth_of, interval_at_share, minimum_of, interval_of, KeepsToShare}
 use Rattle.rtcp_timer.proofs.Quotients.{div_ceil_covers, div_ceil_least}
 
-some_share : (sharers : Sharers) (load : Load) → 1 ≤ load.sender_bw → 1 ≤ load.receiver_bw → 0 < 256 * bandwidth_of sharers load
+some_share : (sharers : Sharers) (load : Load) → 1 ≤ load.sender_bw → 1 ≤ load.receiver_bw →
+    0 < 256 * bandwidth_of sharers load
 some_share the_senders load senders others = omega (arith, senders)
 some_share the_others load senders others = omega (arith, others)
 some_share everyone load senders others = omega (arith, senders)
@@ -15,11 +16,13 @@ keeps_to_share load senders others =
     let sharers = sharers_of load in
     let room = 256 * bandwidth_of sharers load in
     let by_share = interval_at_share sharers load in
-    let covered = div_ceil_covers (1000000 * count_of sharers load * load.avg) room (some_share sharers load senders others) in
+    let covered = div_ceil_covers (1000000 * count_of sharers load * load.avg) room
+    (some_share sharers load senders others) in
     let longer = mul-le-mul_right room (le-max_right (minimum_of load.initial) by_share) in
     le_trans covered longer
 
-pub is_least : (load : Load) (interval : ℕ) → 1 ≤ load.sender_bw → 1 ≤ load.receiver_bw → minimum_of load.initial ≤ interval → KeepsToShare load interval → interval_of load ≤ interval
+pub is_least : (load : Load) (interval : ℕ) → 1 ≤ load.sender_bw → 1 ≤ load.receiver_bw →
+    minimum_of load.initial ≤ interval → KeepsToShare load interval → interval_of load ≤ interval
 is_least load interval senders others long_enough keeps =
     let sharers = sharers_of load in
     let room = 256 * bandwidth_of sharers load in

@@ -13,20 +13,25 @@ no_longer : (load : Load) (n b m d : ℕ) → 0 < b → 0 < d → n * d ≤ m * 
 no_longer load n b m d some other fewer =
     let k = interval_for m d load in
     let octets = 1000000 * load.avg in
-    let covers : 1000000 * m * load.avg ≤ k * (256 * d) = div_ceil_covers (1000000 * m * load.avg) (256 * d) (omega (arith, other)) in
+    let covers : 1000000 * m * load.avg ≤ k * (256 * d) = div_ceil_covers (1000000 * m * load.avg) (256 * d)
+    (omega (arith, other)) in
     let one : 1000000 * n * load.avg * d ≤ 1000000 * m * load.avg * b = grind (arith, mul-le-mul_right octets fewer) in
     let two : 1000000 * m * load.avg * b ≤ k * (256 * b) * d = grind (arith, mul-le-mul_right b covers) in
-    div_ceil_least (1000000 * n * load.avg) (256 * b) k (omega (arith, some)) (le_of_mul-le-mul_right (le_trans one two) other)
+    div_ceil_least (1000000 * n * load.avg) (256 * b) k (omega (arith, some))
+    (le_of_mul-le-mul_right (le_trans one two) other)
 
 -- ---- Those that are left are more for their part where the senders are fewer for theirs
 
-left_are_more : (senders left s r : ℕ) → senders * (s + r) ≤ (senders + left) * s → (senders + left) * r ≤ left * (s + r)
+left_are_more : (senders left s r : ℕ) → senders * (s + r) ≤ (senders + left) * s →
+    (senders + left) * r ≤ left * (s + r)
 left_are_more senders left s r few = grind (arith, few)
 
-left_are_fewer : (senders left s r : ℕ) → (senders + left) * s ≤ senders * (s + r) → left * (s + r) ≤ (senders + left) * r
+left_are_fewer : (senders left s r : ℕ) → (senders + left) * s ≤ senders * (s + r) →
+    left * (s + r) ≤ (senders + left) * r
 left_are_fewer senders left s r many = grind (arith, many)
 
-module _ (load : Load) (some : 1 ≤ load.sender_bw) (some_more : 1 ≤ load.receiver_bw) (senders_are_members : load.senders ≤ load.members) where
+module _ (load : Load) (some : 1 ≤ load.sender_bw) (some_more : 1 ≤ load.receiver_bw)
+    (senders_are_members : load.senders ≤ load.members) where
   abbrev both : ℕ
   both = load.sender_bw + load.receiver_bw
 
@@ -58,26 +63,32 @@ module _ (load : Load) (some : 1 ≤ load.sender_bw) (some_more : 1 ≤ load.rec
   others_longer few =
       no_longer load load.members both left load.receiver_bw room some_more
       (subst (λ (n : ℕ). n * load.receiver_bw ≤ left * both) all_are
-      (left_are_more load.senders left load.sender_bw load.receiver_bw (subst (λ (n : ℕ). load.senders * both ≤ n * load.sender_bw) (sym all_are) few)))
+      (left_are_more load.senders left load.sender_bw load.receiver_bw
+      (subst (λ (n : ℕ). load.senders * both ≤ n * load.sender_bw) (sym all_are) few)))
 
   others_shorter : load.members * load.sender_bw ≤ load.senders * both → of_others ≤ of_all
   others_shorter many =
       no_longer load left load.receiver_bw load.members both some_more room
       (subst (λ (n : ℕ). left * both ≤ n * load.receiver_bw) all_are
-      (left_are_fewer load.senders left load.sender_bw load.receiver_bw (subst (λ (n : ℕ). n * load.sender_bw ≤ load.senders * both) (sym all_are) many)))
+      (left_are_fewer load.senders left load.sender_bw load.receiver_bw
+      (subst (λ (n : ℕ). n * load.sender_bw ≤ load.senders * both) (sym all_are) many)))
 
   by_test : (few : Bool) → nat_le (load.senders * both) (load.members * load.sender_bw) ≡ few → (we_sent : Bool)
-      → interval_at_share (chosen few we_sent load) load ≡ (if we_sent then min of_senders of_all else max of_others of_all)
+      → interval_at_share (chosen few we_sent load) load
+      ≡ (if we_sent then min of_senders of_all else max of_others of_all)
   by_test true is true = sym (min-eq_left (few_senders (leb-true _ _ is)))
   by_test true is false = sym (max-eq_left (others_longer (leb-true _ _ is)))
   by_test false is true = sym (min-eq_right (many_senders (grind (arith, nat_tests, is))))
   by_test false is false = sym (max-eq_right (others_shorter (grind (arith, nat_tests, is))))
 
-  shared : interval_at_share (sharers_of load) load ≡ (if load.we_sent then min of_senders of_all else max of_others of_all)
+  shared : interval_at_share (sharers_of load) load
+      ≡ (if load.we_sent then min of_senders of_all else max of_others of_all)
   shared = by_test (nat_le (load.senders * both) (load.members * load.sender_bw)) refl load.we_sent
 
   pub of_a_sender : load.we_sent ≡ true → interval_of load ≡ max (minimum_of load.initial) (min of_senders of_all)
-  of_a_sender is = ap (max (minimum_of load.initial)) (shared ∙ ap (λ (b : Bool). if b then min of_senders of_all else max of_others of_all) is)
+  of_a_sender is = ap (max (minimum_of load.initial))
+      (shared ∙ ap (λ (b : Bool). if b then min of_senders of_all else max of_others of_all) is)
 
   pub of_another : load.we_sent ≡ false → interval_of load ≡ max (minimum_of load.initial) (max of_others of_all)
-  of_another is = ap (max (minimum_of load.initial)) (shared ∙ ap (λ (b : Bool). if b then min of_senders of_all else max of_others of_all) is)
+  of_another is = ap (max (minimum_of load.initial))
+      (shared ∙ ap (λ (b : Bool). if b then min of_senders of_all else max of_others of_all) is)

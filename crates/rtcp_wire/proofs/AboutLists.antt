@@ -8,12 +8,15 @@ use denote.Param.Members.{Mut}
 use denote.Ref.{Bor}
 
 -- an iterator that shows what is left of it, and a closure f that answers a test and stays as it is
-module _ {S A B F : Type 0} {g : Mut F (Bor A × Unit {0}) Bool} {f : F} (view : A → B) (rest : S → List B) (test : B → Bool)
+module _ {S A B F : Type 0} {g : Mut F (Bor A × Unit {0}) Bool} {f : F} (view : A → B) (rest : S → List B)
+    (test : B → Bool)
     (answers : (x : A) (b : Bool) (q : F) → CalledAt g f x b q → (q ≡ f) × (b ≡ test (view x))) where
-  left_out : (s t : S) (x : A) → rest s ≡ view x ∷ rest t → test (view x) ≡ false → filter test (rest s) ≡ filter test (rest t)
+  left_out : (s t : S) (x : A) → rest s ≡ view x ∷ rest t → test (view x) ≡ false →
+      filter test (rest s) ≡ filter test (rest t)
   left_out s t x is fails = rw (is, fails) refl
 
-  kept : (s t : S) (x : A) → rest s ≡ view x ∷ rest t → test (view x) ≡ true → filter test (rest s) ≡ view x ∷ filter test (rest t)
+  kept : (s t : S) (x : A) → rest s ≡ view x ∷ rest t → test (view x) ≡ true →
+      filter test (rest s) ≡ view x ∷ filter test (rest t)
   kept s t x is passes = rw (is, passes) refl
 
   -- A call of what is still f answers the test.

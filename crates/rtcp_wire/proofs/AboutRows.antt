@@ -11,7 +11,15 @@ sender = record { ssrc = 9; ntp = 5; rtp = 1; packets = 2; octets = 3 }
 
 -- what is reported of source 0xaa
 abbrev block : ReportBlock
-block = record { ssrc = 0xaa; fraction = 25; lost = pos 3; highest = 11; jitter = 0; lsr = 0xb7052000; dlsr = 0x00054000 }
+block = record {
+  ssrc = 0xaa;
+  fraction = 25;
+  lost = pos 3;
+  highest = 11;
+  jitter = 0;
+  lsr = 0xb7052000;
+  dlsr = 0x00054000;
+}
 
 -- and later
 abbrev later : ReportBlock
@@ -36,12 +44,14 @@ of_itself : blocks_about 0xaa (rr 0xaa (block ∷ []) [] ∷ []) ≡ (0xaa, bloc
 of_itself = refl
 
 -- Both reports of a compound count, in order, whatever stands between their blocks.
-two_reports : blocks_about 0xaa (sr sender (of_another ∷ block ∷ of_another ∷ []) [] ∷ rr 7 (of_another ∷ later ∷ []) [] ∷ [])
+two_reports : blocks_about 0xaa (sr sender (of_another ∷ block ∷ of_another ∷ []) [] ∷ rr 7 (of_another ∷ later ∷ [])
+    [] ∷ [])
     ≡ (9, block) ∷ (7, later) ∷ []
 two_reports = refl
 
 -- The other source is named three times.
-of_the_other : blocks_about 0xbb (sr sender (of_another ∷ block ∷ of_another ∷ []) [] ∷ rr 7 (of_another ∷ later ∷ []) [] ∷ [])
+of_the_other : blocks_about 0xbb (sr sender (of_another ∷ block ∷ of_another ∷ []) [] ∷ rr 7 (of_another ∷ later ∷ [])
+    [] ∷ [])
     ≡ (9, of_another) ∷ (9, of_another) ∷ (7, of_another) ∷ []
 of_the_other = refl
 
@@ -50,7 +60,8 @@ named_twice : blocks_about 0xaa (rr 7 (block ∷ later ∷ []) [] ∷ []) ≡ (7
 named_twice = refl
 
 -- and a packet that is no report is passed over.
-between : blocks_about 0xaa (rr 7 [] [] ∷ sdes [] ∷ bye (0xaa ∷ []) None ∷ app 0 0xaa [] [] ∷ other 207 0 [] ∷ rr 8 (block ∷ []) [] ∷ [])
+between : blocks_about 0xaa (rr 7 [] [] ∷ sdes [] ∷ bye (0xaa ∷ []) None ∷ app 0 0xaa [] [] ∷ other 207 0 [] ∷ rr 8
+    (block ∷ []) [] ∷ [])
     ≡ (8, block) ∷ []
 between = refl
 

@@ -15,11 +15,20 @@ use Rattle.rtcp_wire.proofs.Passing.{BodyEnd, no_chunk_taken, chunks_from}
 -- ---- Reports
 
 -- With room for the blocks that are counted, octets are these and an extension.
-report_end_from : (count : ℕ) (octets : List ℕ) → 24 * count ≤ length octets → (blocks : List ReportBlock) × (extension : List ℕ) × IsReportEnd blocks extension count octets
+report_end_from : (count : ℕ) (octets : List ℕ) → 24 * count ≤ length octets →
+    (blocks : List ReportBlock) × (extension : List ℕ) × IsReportEnd blocks extension count octets
 report_end_from count octets room =
     let size : ℕ = 24 * count in
-    let blocks = fixed_from 24 block_in count (take size octets) (length-take-le size octets room) in
-    (blocks.0, drop size octets, record { reports = take size octets; parts = sym (take-append-drop size octets); counted = blocks.1; each = blocks.2 })
+    let blocks = fixed_from 24 block_in count (take size octets) (length-take-le size octets room) in (
+      blocks.0,
+      drop size octets,
+      record {
+        reports = take size octets;
+        parts = sym (take-append-drop size octets);
+        counted = blocks.1;
+        each = blocks.2;
+      },
+    )
 
 -- With room for its sender too, a body is a sender report.
 sender_from : (count : ℕ) (body : List ℕ) → 24 + 24 * count ≤ length body → IsSomeBody 200 count body
@@ -28,7 +37,15 @@ sender_from count body room =
       sr (sender_in (take 24 body)) ends.0 ends.1,
       (
         refl,
-        record { prefix = take 24 body; rest = drop 24 body; parts = sym (take-append-drop 24 body); prefix_size = length-take-le 24 body (omega arith); says = refl; ends = ends.2 },
+        record {
+          prefix = take 24 body;
+          rest = drop 24 body;
+          parts = sym (take-append-drop 24 body);
+          prefix_size =
+              length-take-le 24 body (omega arith);
+          says = refl;
+          ends = ends.2;
+        },
       ),
     )
 
@@ -37,7 +54,16 @@ report_from : (count : ℕ) (body : List ℕ) → 4 + 24 * count ≤ length body
 report_from count body room =
     let ends = report_end_from count (drop 4 body) (omega (arith, length-drop 4 body)) in (
       rr (big_number 4 (take 4 body)) ends.0 ends.1,
-      (refl, record { id = take 4 body; rest = drop 4 body; parts = sym (take-append-drop 4 body); sender = (length-take-le 4 body (omega arith), refl); ends = ends.2 }),
+      (
+        refl,
+        record {
+          id = take 4 body;
+          rest = drop 4 body;
+          parts = sym (take-append-drop 4 body);
+          sender = (length-take-le 4 body (omega arith), refl);
+          ends = ends.2;
+        },
+      ),
     )
 
 -- ---- Goodbyes
@@ -55,7 +81,8 @@ reason_from (size ∷ text) whole =
               Some (take size text),
               record {
                 free = drop size text;
-                parts = ap (λ (t : List ℕ). size ∷ t) (sym (take-append-drop size text)) ∙ ap (λ (n : ℕ). n ∷ (take size text ++ drop size text)) (sym len);
+                parts = ap (λ (t : List ℕ). size ∷ t) (sym (take-append-drop size text))
+                    ∙ ap (λ (n : ℕ). n ∷ (take size text ++ drop size text)) (sym len);
                 fill = omega (arith, length-drop size text);
                 aligned = whole;
               },
@@ -89,15 +116,21 @@ application_from count body room =
 -- ---- Bodies
 
 -- at the type that it has
-at_type : (own kind count : ℕ) (body : List ℕ) → kind ≡ own → least_size kind count ≤ length body → (least_size own count ≤ length body → IsSomeBody own count body) → IsSomeBody kind count body
-at_type own kind count body is room from = subst (λ (k : ℕ). IsSomeBody k count body) (sym is) (from (subst (λ (k : ℕ). least_size k count ≤ length body) is room))
+at_type : (own kind count : ℕ) (body : List ℕ) → kind ≡ own → least_size kind count ≤ length body →
+    (least_size own count ≤ length body → IsSomeBody own count body) → IsSomeBody kind count body
+at_type own kind count body is room from = subst (λ (k : ℕ). IsSomeBody k count body) (sym is)
+    (from (subst (λ (k : ℕ). least_size k count ≤ length body) is room))
 
 -- Five types are looked into.
 other_type : (kind : ℕ) → kind ≢ 200 → kind ≢ 201 → kind ≢ 202 → kind ≢ 203 → kind ≢ 204 → IsOtherType kind
-other_type kind not_sr not_rr not_sdes not_bye not_app = elim (cases_lt kind 200) [ inl below ↦ inl below | inr above ↦ inr (omega arith) ]
+other_type kind not_sr not_rr not_sdes not_bye not_app = elim (cases_lt kind 200) [
+  | inl below ↦ inl below
+  | inr above ↦ inr (omega arith)
+]
 
 -- With the octets that its type asks for, no chunks and no reason, a body is some packet's.
-pub plain_body : (kind count : ℕ) (body : List ℕ) → least_size kind count ≤ length body → kind ≢ 202 → kind ≢ 203 → IsSomeBody kind count body
+pub plain_body : (kind count : ℕ) (body : List ℕ) → least_size kind count ≤ length body → kind ≢ 202 → kind ≢ 203 →
+    IsSomeBody kind count body
 plain_body kind count body room not_sdes not_bye =
     elim (cases_eq kind 200) [
       | inl is ↦ at_type 200 kind count body is room (sender_from count body)
@@ -105,45 +138,72 @@ plain_body kind count body room not_sdes not_bye =
         | inl is ↦ at_type 201 kind count body is room (report_from count body)
         | inr not_rr ↦ elim (cases_eq kind 204) [
           | inl is ↦ at_type 204 kind count body is room (application_from count body)
-          | inr not_app ↦ (other kind count body, (other_type kind not_sr not_rr not_sdes not_bye not_app, refl, refl, refl))
+          | inr not_app ↦ (
+            other kind count body,
+            (other_type kind not_sr not_rr not_sdes not_bye not_app, refl, refl, refl),
+          )
         ]
       ]
     ]
 
 -- With room for its identifiers a goodbye's body is some packet's, or what follows them is no reason.
-goodbye_from : (kind count : ℕ) (body : List ℕ) → kind ≡ 203 → length body % 4 ≡ 0 → least_size kind count ≤ length body → IsSomeBody kind count body ⊎ IsNoReason (drop (4 * count) body)
+goodbye_from : (kind count : ℕ) (body : List ℕ) → kind ≡ 203 → length body % 4 ≡ 0 →
+    least_size kind count ≤ length body → IsSomeBody kind count body ⊎ IsNoReason (drop (4 * count) body)
 goodbye_from kind count body is words room =
     let size : ℕ = 4 * count in
     let enough : size ≤ length body = subst (λ (k : ℕ). least_size k count ≤ length body) is room in
     let ids = fixed_from 4 (big_number 4) count (take size body) (length-take-le size body enough) in
-    elim (reason_from (drop size body) (rest_is_whole (length body) count (length (drop size body)) words (length-drop size body) enough)) [
+    elim (reason_from (drop size body)
+    (rest_is_whole (length body) count (length (drop size body)) words (length-drop size body) enough)) [
       | inr bad ↦ inr bad
       | inl said ↦ inl (
         bye ids.0 said.0,
-        (is, record { prefix = take size body; rest = drop size body; parts = sym (take-append-drop size body); counted = ids.1; each = ids.2; ends = said.1 }),
+        (
+          is,
+          record {
+            prefix = take size body;
+            rest = drop size body;
+            parts = sym (take-append-drop size body);
+            counted = ids.1;
+            each = ids.2;
+            ends = said.1;
+          },
+        ),
       )
     ]
 
 -- where its reason was tested
-pub goodbye_checked : (kind count : ℕ) (body rest : List ℕ) (tested : Result Unit FaultReason) → kind ≡ 203 → length body % 4 ≡ 0 → least_size kind count ≤ length body → rest ≡ drop (4 * count) body
+pub goodbye_checked : (kind count : ℕ) (body rest : List ℕ) (tested : Result Unit FaultReason) → kind ≡ 203 →
+    length body % 4 ≡ 0 → least_size kind count ≤ length body → rest ≡ drop (4 * count) body
     → MatchResult tested (λ _. IsNoReason rest → ⊥) (λ reason. (reason ≡ Reason) × IsNoReason rest)
     → MatchResult tested (λ _. IsSomeBody kind count body) (λ reason. FindsInBody reason kind count body)
 goodbye_checked kind count body rest (Ok done) is words room following good =
-    elim (goodbye_from kind count body is words room) [ inl some ↦ some | inr bad ↦ absurd (good (subst IsNoReason (sym following) bad)) ]
+    elim (goodbye_from kind count body is words room) [
+      | inl some ↦ some
+      | inr bad ↦ absurd (good (subst IsNoReason (sym following) bad))
+    ]
 goodbye_checked kind count body rest (Err found) is words room following bad =
     subst (λ (r : FaultReason). FindsInBody r kind count body) (sym bad.0) (is, subst IsNoReason following bad.1)
 
 -- a body with the octets that its type asks for
-with_room : (kind count : ℕ) (body : List ℕ) → length body % 4 ≡ 0 → least_size kind count ≤ length body → BodyEnd kind count body
+with_room : (kind count : ℕ) (body : List ℕ) → length body % 4 ≡ 0 → least_size kind count ≤ length body →
+    BodyEnd kind count body
 with_room kind count body words room =
     elim (cases_eq kind 202) [
-      | inl is ↦ subst (λ (k : ℕ). BodyEnd k count body) (sym is) (chunks_from count 0 count body body (omega arith) (no_chunk_taken body words))
+      | inl is ↦ subst (λ (k : ℕ). BodyEnd k count body) (sym is)
+          (chunks_from count 0 count body body (omega arith) (no_chunk_taken body words))
       | inr not_sdes ↦ elim (cases_eq kind 203) [
         | inr not_bye ↦ inl (plain_body kind count body room not_sdes not_bye)
-        | inl is ↦ elim (goodbye_from kind count body is words room) [ inl some ↦ inl some | inr bad ↦ inr (Reason, (is, bad)) ]
+        | inl is ↦ elim (goodbye_from kind count body is words room) [
+          | inl some ↦ inl some
+          | inr bad ↦ inr (Reason, (is, bad))
+        ]
       ]
     ]
 
 -- Each body of whole words is some packet's or has a fault.
 pub body_from : (kind count : ℕ) (body : List ℕ) → length body % 4 ≡ 0 → BodyEnd kind count body
-body_from kind count body words = elim (cases_lt (length body) (least_size kind count)) [ inl few ↦ inr (Body, inl few) | inr room ↦ with_room kind count body words room ]
+body_from kind count body words = elim (cases_lt (length body) (least_size kind count)) [
+  | inl few ↦ inr (Body, inl few)
+  | inr room ↦ with_room kind count body words room
+]

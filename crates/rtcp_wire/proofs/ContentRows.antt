@@ -28,7 +28,8 @@ abbrev packets : List RtcpPacket
 packets =
     sr sender (block ∷ later ∷ []) []
     ∷ rr 7 (block ∷ []) []
-    ∷ sdes (record { id = 9; items = cname ∷ note ∷ [] } ∷ record { id = 5; items = [] } ∷ record { id = 7; items = cname ∷ [] } ∷ [])
+    ∷ sdes (record { id = 9; items = cname ∷ note ∷ [] } ∷ record { id = 5; items = [] } ∷ record
+    { id = 7; items = cname ∷ [] } ∷ [])
     ∷ app 0 7 [] []
     ∷ bye (9 ∷ 7 ∷ []) (Some [])
     ∷ other 207 0 []

@@ -37,7 +37,8 @@ sender_report : facts_of_packet (sr sender [] []) ≡ Heard 9 ∷ Told 9 5 1 ∷
 sender_report = refl
 
 -- The sources of report blocks were not heard.
-reported_sources : facts_of (sr sender (block ∷ []) [] ∷ rr 7 (block ∷ []) [] ∷ []) ≡ Heard 9 ∷ Told 9 5 1 ∷ Heard 7 ∷ []
+reported_sources : facts_of (sr sender (block ∷ []) [] ∷ rr 7 (block ∷ []) [] ∷ []) ≡ Heard 9 ∷ Told 9 5 1 ∷ Heard
+    7 ∷ []
 reported_sources = refl
 
 goodbye : facts_of_packet (bye (7 ∷ 8 ∷ []) None) ≡ Gone 7 ∷ Gone 8 ∷ []

@@ -22,12 +22,18 @@ module _ {A : Type 0} (all left : List A) (index now : ℕ) (h : Passing all lef
   pub same_at : slice_get all index ≡ slice_get left now
   same_at = (λ i. slice_get (h.1 i) (sym h.2 i)) ∙ get_after h.0 left now
 
-  pub found_first : (first more : List A) (v : A) → left ≡ first ++ more → slice_get first now ≡ Some v → slice_get all index ≡ Some v
-  found_first first more v is found = same_at ∙ ap (λ (l : List A). slice_get l now) is ∙ get_first first more now v found
+  pub found_first : (first more : List A) (v : A) → left ≡ first ++ more → slice_get first now ≡ Some v →
+      slice_get all index ≡ Some v
+  found_first first more v is found = same_at ∙ ap (λ (l : List A). slice_get l now) is
+      ∙ get_first first more now v found
 
-  pub pass_first : (first more : List A) (then : ℕ) → left ≡ first ++ more → length first + then ≡ now → Passing all more index then
-  pass_first first more then is counted =
-      (h.0 ++ first, h.1 ∙ ap (λ (l : List A). h.0 ++ l) is ∙ sym (append_assoc h.0 first more), omega (arith, h.2, counted, length-append h.0 first))
+  pub pass_first : (first more : List A) (then : ℕ) → left ≡ first ++ more → length first + then ≡ now →
+      Passing all more index then
+  pass_first first more then is counted = (
+    h.0 ++ first,
+    h.1 ∙ ap (λ (l : List A). h.0 ++ l) is ∙ sym (append_assoc h.0 first more),
+    omega (arith, h.2, counted, length-append h.0 first),
+  )
 
   pub all_passed : left ≡ [] → length all + now ≡ index
   all_passed none =

@@ -3,7 +3,8 @@ use Rattle.std.proofs.Common.{◌≡◌, ℕ, suc, ◌<◌, sym, ap, subst, ◌�
 use Rattle.std.proofs.lemmas.Bool.{cases_order}
 
 -- Each reason has a number of its own, from 1 on.
-module _ {R : Type 0} (number_of : R → ℕ) (reason_in : ℕ → R) (has_number : (r : R) → reason_in (number_of r) ≡ r) (some : 0 < number_of (reason_in 0)) (Finds : R → Type 0) where
+module _ {R : Type 0} (number_of : R → ℕ) (reason_in : ℕ → R) (has_number : (r : R) → reason_in (number_of r) ≡ r)
+    (some : 0 < number_of (reason_in 0)) (Finds : R → Type 0) where
   same_number : (r q : R) → number_of r ≡ number_of q → r ≡ q
   same_number r q e = sym (has_number r) ∙ ap reason_in e ∙ has_number q
 

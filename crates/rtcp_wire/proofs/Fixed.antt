@@ -13,7 +13,8 @@ Says size value x octets = (length octets ≡ size) × (x ≡ value octets)
 
 -- No such octets are a proper prefix of others.
 pub one_fixed : {A : Type 0} (size : ℕ) (value : List ℕ → A) → IsPrefixFree (Says size value)
-one_fixed size value x y a c r s h k e = let both = same_prefixes a c r s (h.0 ∙ sym k.0) e in (both.0, h.1 ∙ ap value both.0 ∙ sym k.1)
+one_fixed size value x y a c r s h k e = let both = same_prefixes a c r s (h.0 ∙ sym k.0) e in
+    (both.0, h.1 ∙ ap value both.0 ∙ sym k.1)
 
 pub one_block : IsPrefixFree IsBlock
 one_block = one_fixed 24 block_in
@@ -22,7 +23,8 @@ pub one_id : IsPrefixFree IsId
 one_id = one_fixed 4 (big_number 4)
 
 -- how long as many of them are
-pub fixed_length : {A : Type 0} (size : ℕ) (value : List ℕ → A) (xs : List A) (octets : List ℕ) → Joins (Says size value) xs octets → length octets ≡ size * length xs
+pub fixed_length : {A : Type 0} (size : ℕ) (value : List ℕ → A) (xs : List A) (octets : List ℕ) →
+    Joins (Says size value) xs octets → length octets ≡ size * length xs
 fixed_length size value [] octets h = ap length h ∙ sym (mul-zero size)
 fixed_length size value (x ∷ xs) octets h =
     let more = fixed_length size value xs h.1 h.4 in
@@ -30,13 +32,17 @@ fixed_length size value (x ∷ xs) octets h =
     sum ∙ sym (mul-suc size (length xs))
 
 -- Any octets of that length are as many of them.
-pub fixed_from : {A : Type 0} (size : ℕ) (value : List ℕ → A) (n : ℕ) (octets : List ℕ) → length octets ≡ size * n → (xs : List A) × (length xs ≡ n) × Joins (Says size value) xs octets
+pub fixed_from : {A : Type 0} (size : ℕ) (value : List ℕ → A) (n : ℕ) (octets : List ℕ) → length octets ≡ size * n →
+    (xs : List A) × (length xs ≡ n) × Joins (Says size value) xs octets
 fixed_from size value zero octets e = ([], refl, nil_from_length octets (e ∙ mul-zero size))
 fixed_from size value (suc n) octets e =
     let sum : length octets ≡ size * n + size = e ∙ mul-suc size n in
     let more = fixed_from size value n (drop size octets) (omega (arith, length-drop size octets)) in
-    let len : length (take size octets) ≡ size = length-take-le size octets (omega arith) in
-    (value (take size octets) ∷ more.0, ap suc more.1, (take size octets, drop size octets, sym (take-append-drop size octets), (len, refl), more.2))
+    let len : length (take size octets) ≡ size = length-take-le size octets (omega arith) in (
+      value (take size octets) ∷ more.0,
+      ap suc more.1,
+      (take size octets, drop size octets, sym (take-append-drop size octets), (len, refl), more.2),
+    )
 
 -- the number in four octets is in them alone
 pub big_number-take : (octets : List ℕ) → big_number 4 (take 4 octets) ≡ big_number 4 octets

@@ -9,7 +9,8 @@ use Rattle.rtcp_wire.specs.declared.placed.Span.{Span}
 use Rattle.rtcp_wire.proofs.Places.{stands_within, stands_room}
 
 -- The reason stands after the identifiers and the octet that says its size.
-pub reason_stands : (ids : ℕ) (body : List ℕ) → ids ≤ length body → MaySpan (span_at (ids + 1) (reason_in (drop ids body))) (reason_in (drop ids body)) body
+pub reason_stands : (ids : ℕ) (body : List ℕ) → ids ≤ length body →
+    MaySpan (span_at (ids + 1) (reason_in (drop ids body))) (reason_in (drop ids body)) body
 reason_stands ids body room = stands (drop ids body) refl
   where
     stands : (ends : List ℕ) → drop ids body ≡ ends → MaySpan (span_at (ids + 1) (reason_in ends)) (reason_in ends) body
@@ -28,16 +29,22 @@ reason_stands ids body room = stands (drop ids body) refl
 
 module _ (q : ℕ) (middle whole : List ℕ) (stands : StandsIn q middle whole) where
   -- What stands in a part stands in the whole, after what stands before the part.
-  pub span_moves : (span : Option Span) (text : Option (List ℕ)) → MaySpan span text middle → MaySpan (span_moved q span) text whole
+  pub span_moves : (span : Option Span) (text : Option (List ℕ)) → MaySpan span text middle →
+      MaySpan (span_moved q span) text whole
   span_moves None None h = h
   span_moves None (Some text) h = h
   span_moves (Some span) None h = h
-  span_moves (Some span) (Some text) h = (stands_within span.place q (span.place + q) text middle whole h.0 stands refl, h.1)
+  span_moves (Some span) (Some text) h = (
+    stands_within span.place q (span.place + q) text middle whole h.0 stands refl,
+    h.1,
+  )
 
-  pub may_move : (span : Option Span) (text : Option (List ℕ)) → MaySpan span text middle → length whole < 2 ^ 64 → MayMove q span
+  pub may_move : (span : Option Span) (text : Option (List ℕ)) → MaySpan span text middle → length whole < 2 ^ 64 →
+      MayMove q span
   may_move None text h short = tt {0}
   may_move (Some span) None h short = absurd h
-  may_move (Some span) (Some text) h short = omega (arith, stands_room span.place text middle h.0, stands_room q middle whole stands, short)
+  may_move (Some span) (Some text) h short =
+      omega (arith, stands_room span.place text middle h.0, stands_room q middle whole stands, short)
 
 -- ---- Identifiers
 
@@ -46,11 +53,16 @@ ids_counted zero octets = refl
 ids_counted (suc count) octets = omega (arith, ids_counted count (drop 4 octets))
 
 -- Past the last identifier there is none.
-pub counted_past : (count : ℕ) (octets : List ℕ) (index : ℕ) → slice_get (ids_in count octets) index ≡ None → count ≤ index
+pub counted_past : (count : ℕ) (octets : List ℕ) (index : ℕ) → slice_get (ids_in count octets) index ≡ None →
+    count ≤ index
 counted_past count octets index none = past (ids_in count octets) index none (ids_counted count octets)
   where
     past : (ids : List ℕ) (index : ℕ) → slice_get ids index ≡ None → length ids ≡ count → count ≤ index
-    past ids index none counted = elim (slice_get_cases ids index).1 [ inl found ↦ absurd (cc (found.2, none)) | inr gone ↦ omega (arith, gone.0, counted) ]
+    past ids index none counted = elim (slice_get_cases ids index).1 [
+      | inl found ↦ absurd (cc (found.2, none))
+      | inr gone ↦ omega (arith, gone.0, counted)
+    ]
 
-pub goodbyes_counted : (count : ℕ) (octets : List ℕ) (reason : Option (List ℕ)) → length (goodbyes_by reason (ids_in count octets)) ≡ count
+pub goodbyes_counted : (count : ℕ) (octets : List ℕ) (reason : Option (List ℕ)) →
+    length (goodbyes_by reason (ids_in count octets)) ≡ count
 goodbyes_counted count octets reason = length-map (ids_in count octets) (λ id. (id, reason)) ∙ ids_counted count octets

@@ -41,7 +41,8 @@ walks_read_encodings octets packets accepted = walk_reads packets octets accepte
 
 -- ---- What is written (src/write_laws.rt)
 
-pub reads_back : (packets : List RtcpPacket) → All IsWritable packets → All IsInRange packets → BeginsWithReport packets →
+pub reads_back : (packets : List RtcpPacket) → All IsWritable packets → All IsInRange packets →
+    BeginsWithReport packets →
     length (written_all packets) ≤ 65535 → IsAccepted (written_all packets) packets
 reads_back = λ packets can fits begins short. writing.reads_back packets can fits short begins
 

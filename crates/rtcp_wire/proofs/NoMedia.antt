@@ -14,7 +14,8 @@ one_fact : (fact : Fact) → IsNoMedia fact → All IsNoMedia (fact ∷ [])
 one_fact fact is = All-cons IsNoMedia fact [] is (All-nil IsNoMedia)
 
 -- What holds of the parts of each value holds of all parts.
-all_in_parts : {A B : Type 0} (P : B → Type 0) (f : A → List B) → ((x : A) → All P (f x)) → (xs : List A) → All P (flat_map f xs)
+all_in_parts : {A B : Type 0} (P : B → Type 0) (f : A → List B) → ((x : A) → All P (f x)) → (xs : List A) →
+    All P (flat_map f xs)
 all_in_parts P f each [] = All-nil P
 all_in_parts P f each (x ∷ xs) = All-append P (f x) (flat_map f xs) (each x) (all_in_parts P f each xs)
 
@@ -33,7 +34,8 @@ goodbyes_give_none (id ∷ ids) = All-cons IsNoMedia (Gone id) (map Gone ids) re
 
 packet_gives_none : (packet : RtcpPacket) → All IsNoMedia (facts_of_packet packet)
 packet_gives_none (sr sender blocks extension) =
-    All-cons IsNoMedia (Heard sender.ssrc) (Told sender.ssrc sender.ntp sender.rtp ∷ []) refl (one_fact (Told sender.ssrc sender.ntp sender.rtp) refl)
+    All-cons IsNoMedia (Heard sender.ssrc) (Told sender.ssrc sender.ntp sender.rtp ∷ []) refl
+    (one_fact (Told sender.ssrc sender.ntp sender.rtp) refl)
 packet_gives_none (rr ssrc blocks extension) = one_fact (Heard ssrc) refl
 packet_gives_none (sdes chunks) = all_in_parts IsNoMedia facts_of_chunk chunk_gives_none chunks
 packet_gives_none (bye ids reason) = goodbyes_give_none ids

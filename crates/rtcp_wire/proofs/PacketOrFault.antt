@@ -26,7 +26,8 @@ pub none_at_first : (first : Bool) (b : List ℕ) → NoneBefore 1 first b
 none_at_first first b = first_of_all number_of reason_in reason_has_number (lit< tt) (λ reason. Finds reason first b)
 
 -- one test further, where this one finds nothing
-next_test : (r : FaultReason) (first : Bool) (b : List ℕ) → NoneBefore (number_of r) first b → (Finds r first b → ⊥) → NoneBefore (suc (number_of r)) first b
+next_test : (r : FaultReason) (first : Bool) (b : List ℕ) → NoneBefore (number_of r) first b → (Finds r first b → ⊥) →
+    NoneBefore (suc (number_of r)) first b
 next_test r first b = one_further number_of reason_in reason_has_number (lit< tt) (λ reason. Finds reason first b) r
 
 -- Some test is the first that finds a fault.
@@ -34,18 +35,23 @@ abbrev pub IsFaulty : Bool → List ℕ → Type 0
 IsFaulty first b = (reason : FaultReason) × IsFirstFound reason first b
 
 -- The test that comes next finds one.
-faulty : (r : FaultReason) (first : Bool) (b : List ℕ) → NoneBefore (number_of r) first b → Finds r first b → IsFaulty first b
+faulty : (r : FaultReason) (first : Bool) (b : List ℕ) → NoneBefore (number_of r) first b → Finds r first b →
+    IsFaulty first b
 faulty r first b none found = (r, record { found = found; no_earlier = none })
 
 -- ---- Single tests
 
 -- whether the type may be the first packet's
-may_be_first : (first : Bool) (kind : ℕ) → ((first ≡ true) × (kind ≢ 200) × (kind ≢ 201)) ⊎ (first ≡ true → (kind ≡ 200) ⊎ (kind ≡ 201))
+may_be_first : (first : Bool) (kind : ℕ) → ((first ≡ true) × (kind ≢ 200) × (kind ≢ 201)) ⊎
+    (first ≡ true → (kind ≡ 200) ⊎ (kind ≡ 201))
 may_be_first false kind = inr (λ e. absurd cc)
 may_be_first true kind =
     elim (cases_eq kind 200) [
       | inl sender ↦ inr (λ e. inl sender)
-      | inr no_sender ↦ elim (cases_eq kind 201) [ inl receiver ↦ inr (λ e. inr receiver) | inr no_receiver ↦ inl (refl, no_sender, no_receiver) ]
+      | inr no_sender ↦ elim (cases_eq kind 201) [
+        | inl receiver ↦ inr (λ e. inr receiver)
+        | inr no_receiver ↦ inl (refl, no_sender, no_receiver)
+      ]
     ]
 
 -- whether the padding bit may be set
@@ -61,12 +67,16 @@ is_padding_or_not size padding =
       | inl none ↦ inr (λ h. h.0 none)
       | inr some ↦ elim (cases_eq (padding % 4) 0) [
         | inr odd ↦ inr (λ h. odd h.1)
-        | inl even ↦ elim (cases_lt (size - 4) padding) [ inl more ↦ inr (λ h. omega (arith, h.2)) | inr fits ↦ inl (some, even, fits) ]
+        | inl even ↦ elim (cases_lt (size - 4) padding) [
+          | inl more ↦ inr (λ h. omega (arith, h.2))
+          | inr fits ↦ inl (some, even, fits)
+        ]
       ]
     ]
 
 -- whether there is no padding, or one that fits
-padding_is_good : (padded : Bool) (size padding : ℕ) → ((padded ≡ true) × (IsPadding size padding → ⊥)) ⊎ (padded ≡ true → IsPadding size padding)
+padding_is_good : (padded : Bool) (size padding : ℕ) → ((padded ≡ true) × (IsPadding size padding → ⊥)) ⊎
+    (padded ≡ true → IsPadding size padding)
 padding_is_good padded size padding =
     elim (cases_Bool padded) [
       | inl set ↦ elim (is_padding_or_not size padding) [ inl good ↦ inr (λ e. good) | inr bad ↦ inl (set, bad) ]
@@ -82,20 +92,25 @@ not_both_bits p set clear = cc
 module _ (first : Bool) (b : List ℕ) where
   -- Each test of a header that finds nothing leads to the next.
   before_version : 4 ≤ length b → NoneBefore 2 first b
-  before_version enough = next_test Short first b (none_at_first first b) (λ (few : length b < 4). omega (arith, few, enough))
+  before_version enough = next_test Short first b (none_at_first first b)
+      (λ (few : length b < 4). omega (arith, few, enough))
 
   before_type : 4 ≤ length b → version_of b ≡ 2 → NoneBefore 3 first b
   before_type enough version = next_test Version first b (before_version enough) (λ differs. differs version)
 
-  pub before_first_padding : 4 ≤ length b → version_of b ≡ 2 → (first ≡ true → (type_of b ≡ 200) ⊎ (type_of b ≡ 201)) → NoneBefore 4 first b
-  before_first_padding enough version kind = next_test FirstType first b (before_type enough version) (λ bad. elim (kind bad.0) [ inl e ↦ bad.1 e | inr e ↦ bad.2 e ])
+  pub before_first_padding : 4 ≤ length b → version_of b ≡ 2 → (first ≡ true → (type_of b ≡ 200) ⊎ (type_of b ≡ 201)) →
+      NoneBefore 4 first b
+  before_first_padding enough version kind = next_test FirstType first b (before_type enough version)
+      (λ bad. elim (kind bad.0) [ inl e ↦ bad.1 e | inr e ↦ bad.2 e ])
 
   pub before_length : 4 ≤ length b → version_of b ≡ 2 → MayStand first b → NoneBefore 5 first b
   before_length enough version may =
-      next_test FirstPadding first b (before_first_padding enough version (λ is_first. (may is_first).0)) (λ bad. not_both_bits (is_padded b) bad.1 (may bad.0).1)
+      next_test FirstPadding first b (before_first_padding enough version (λ is_first. (may is_first).0))
+      (λ bad. not_both_bits (is_padded b) bad.1 (may bad.0).1)
 
   before_padding : IsWhole first b → NoneBefore 6 first b
-  before_padding good = next_test Length first b (before_length good.header good.version good.may_stand) (λ (few : length b < size_of b). omega (arith, few, good.size))
+  before_padding good = next_test Length first b (before_length good.header good.version good.may_stand)
+      (λ (few : length b < size_of b). omega (arith, few, good.size))
 
   -- A header is good, or a first test finds a fault.
   header_from : IsWhole first b ⊎ IsFaulty first b
@@ -119,30 +134,40 @@ module _ (first : Bool) (b : List ℕ) where
       ]
 
 -- A padding that is not good is the first fault.
-padding_found : (first : Bool) (b : List ℕ) → IsWhole first b → Finds Padding false (own b) → IsFirstFound Padding first b
+padding_found : (first : Bool) (b : List ℕ) → IsWhole first b → Finds Padding false (own b) →
+    IsFirstFound Padding first b
 padding_found first b good found =
     let same = (is_own b good.size).parts in
     record {
-      found = (same.header.padded ∙ found.0, λ padding. found.1 (padding_at (size_of b) (size_of (own b)) (padding_of b) (padding_of (own b)) same.header.size same.padding padding));
+      found = (
+        same.header.padded ∙ found.0,
+        λ padding. found.1 (padding_at (size_of b) (size_of (own b)) (padding_of b) (padding_of (own b))
+            same.header.size same.padding padding),
+      );
       no_earlier = before_padding first b good;
     }
 
 -- ---- The body
 
 -- Padding is whole words.
-padding_is_words : (padded : Bool) (size octet : ℕ) → (padded ≡ true → IsPadding size (cond padded octet 0)) → cond padded octet 0 % 4 ≡ 0
+padding_is_words : (padded : Bool) (size octet : ℕ) → (padded ≡ true → IsPadding size (cond padded octet 0)) →
+    cond padded octet 0 % 4 ≡ 0
 padding_is_words true size octet h = (h refl).1
 padding_is_words false size octet h = refl
 
 -- Without the header and the padding whole words are left.
-words_are_left : (n size words padding : ℕ) → n ≡ size - 4 - padding → size ≡ 4 * (words + 1) → padding % 4 ≡ 0 → n % 4 ≡ 0
+words_are_left : (n size words padding : ℕ) → n ≡ size - 4 - padding → size ≡ 4 * (words + 1) → padding % 4 ≡ 0 →
+    n % 4 ≡ 0
 words_are_left n size words padding is e even = omega arith
 
 -- The body of a packet with good padding is whole words.
-body_is_words : (s : List ℕ) → length s ≡ size_of s → (is_padded s ≡ true → IsPadding (size_of s) (padding_of s)) → length (body_of s) % 4 ≡ 0
+body_is_words : (s : List ℕ) → length s ≡ size_of s → (is_padded s ≡ true → IsPadding (size_of s) (padding_of s)) →
+    length (body_of s) % 4 ≡ 0
 body_is_words s size good =
-    let fits : size_of s - 4 - padding_of s ≤ length (drop 4 s) = within (size_of s) (padding_of s) (length s) (length (drop 4 s)) size (length-drop 4 s) in
-    words_are_left (length (body_of s)) (size_of s) (big_number 2 (drop 2 s)) (padding_of s) (length-take-le (size_of s - 4 - padding_of s) (drop 4 s) fits) refl
+    let fits : size_of s - 4 - padding_of s ≤ length (drop 4 s) = within (size_of s) (padding_of s) (length s)
+    (length (drop 4 s)) size (length-drop 4 s) in
+    words_are_left (length (body_of s)) (size_of s) (big_number 2 (drop 2 s)) (padding_of s)
+    (length-take-le (size_of s - 4 - padding_of s) (drop 4 s) fits) refl
     (padding_is_words (is_padded s) (size_of s) (get_or s (size_of s - 1) 0) good)
   where
     within : (size padding n rest : ℕ) → n ≡ size → rest ≡ n - 4 → size - 4 - padding ≤ rest
@@ -161,21 +186,33 @@ module _ (first : Bool) (b body : List ℕ) (kind count : ℕ) (h : HasBody firs
   before_body =
       let same = (is_own b h.good.size).parts in
       next_test Padding first b (before_padding first b h.good) (λ bad. bad.1 (
-      padding_at (size_of (own b)) (size_of b) (padding_of (own b)) (padding_of b) (sym same.header.size) (sym same.padding) (h.unpadded.1 (sym same.header.padded ∙ bad.0))
+      padding_at (size_of (own b)) (size_of b) (padding_of (own b)) (padding_of b) (sym same.header.size)
+      (sym same.padding) (h.unpadded.1 (sym same.header.padded ∙ bad.0))
       ))
 
   -- The fault of a body is the first one.
   pub body_found : (r : FaultReason) → FindsInBody r (type_of b) (count_of b) (body_of b) → IsFirstFound r first b
   body_found Body found = record { found = found; no_earlier = before_body }
-  body_found Item found = record { found = found; no_earlier = next_test Body first b before_body (λ body. body_or_item (type_of b) (count_of b) (body_of b) body found) }
+  body_found Item found = record {
+    found = found;
+    no_earlier = next_test Body first b before_body
+        (λ body. body_or_item (type_of b) (count_of b) (body_of b) body found);
+  }
   body_found Reason found =
-      let none8 : NoneBefore 8 first b = next_test Body first b before_body (λ body. body_or_reason (type_of b) (count_of b) (body_of b) body found) in
-      record { found = found; no_earlier = next_test Item first b none8 (λ item. item_or_reason (type_of b) (count_of b) (body_of b) item found) }
+      let none8 : NoneBefore 8 first b = next_test Body first b before_body
+      (λ body. body_or_reason (type_of b) (count_of b) (body_of b) body found) in
+      record {
+        found = found;
+        no_earlier = next_test Item first b none8
+            (λ item. item_or_reason (type_of b) (count_of b) (body_of b) item found);
+      }
   body_found r found = absurd found
 
   -- What is found in a body is found of the packet.
-  pub packet_passed : (tested : Result Unit FaultReason) → MatchResult tested (λ _. IsSomeBody kind count body) (λ reason. FindsInBody reason kind count body)
-      → MatchResult tested (λ _. Takes b (drop (size_of b) b) (λ s. IsSomePacket s × MayStand first s)) (λ reason. IsFirstFound reason first b)
+  pub packet_passed : (tested : Result Unit FaultReason) → MatchResult tested (λ _. IsSomeBody kind count body)
+      (λ reason. FindsInBody reason kind count body)
+      → MatchResult tested (λ _. Takes b (drop (size_of b) b) (λ s. IsSomePacket s × MayStand first s))
+      (λ reason. IsFirstFound reason first b)
   packet_passed (Ok done) made =
       let mine = is_own b h.good.size in
       let header = mine.parts.header in
@@ -183,10 +220,15 @@ module _ (first : Bool) (b body : List ℕ) (kind count : ℕ) (h : HasBody firs
         version = sym header.version ∙ h.good.version;
         size = mine.size;
         padding = h.unpadded.1;
-        body = body_at made.0 kind (type_of (own b)) count (count_of (own b)) body (body_of (own b)) (h.kind_is ∙ header.kind) (h.count_is ∙ header.count) h.unpadded.0 made.1;
-      } in
-      (own b, sym (take-append-drop (size_of b) b), ((made.0, spelled), λ is_first. begins_at (own b) b header (h.good.may_stand is_first)))
-  packet_passed (Err reason) found = body_found reason (rw (← h.kind_is, ← h.count_is, ← (h.unpadded.0 ∙ sym (is_own b h.good.size).parts.body)) found)
+        body = body_at made.0 kind (type_of (own b)) count (count_of (own b)) body (body_of (own b))
+            (h.kind_is ∙ header.kind) (h.count_is ∙ header.count) h.unpadded.0 made.1;
+      } in (
+        own b,
+        sym (take-append-drop (size_of b) b),
+        ((made.0, spelled), λ is_first. begins_at (own b) b header (h.good.may_stand is_first)),
+      )
+  packet_passed (Err reason) found =
+      body_found reason (rw (← h.kind_is, ← h.count_is, ← (h.unpadded.0 ∙ sym (is_own b h.good.size).parts.body)) found)
 
 -- ---- The packet
 
@@ -201,10 +243,16 @@ packet_from first b =
       | inr fault ↦ inr fault
       | inl good ↦ elim (padding_is_good (is_padded (own b)) (size_of (own b)) (padding_of (own b))) [
         | inl bad ↦ inr (Padding, padding_found first b good bad)
-        | inr padding ↦ (let has : HasBody first b (body_of (own b)) (type_of b) (count_of b) = record { good = good; unpadded = (refl, padding); kind_is = refl; count_is = refl } in
-            elim (body_from (type_of b) (count_of b) (body_of (own b)) (body_is_words (own b) (is_own b good.size).size padding)) [
+        | inr padding ↦ (let has : HasBody first b (body_of (own b)) (type_of b) (count_of b) =
+            record { good = good; unpadded = (refl, padding); kind_is = refl; count_is = refl } in
+            elim (body_from (type_of b) (count_of b) (body_of (own b))
+            (body_is_words (own b) (is_own b good.size).size padding)) [
               | inl some ↦ inl (packet_passed first b (body_of (own b)) (type_of b) (count_of b) has (Ok tt) some)
-              | inr fault ↦ inr (fault.0, packet_passed first b (body_of (own b)) (type_of b) (count_of b) has (Err fault.0) fault.1)
+              | inr fault ↦ inr (
+                fault.0,
+                packet_passed first b (body_of (own b)) (type_of b) (count_of b) has
+                    (Err fault.0) fault.1,
+              )
             ])
       ]
     ]

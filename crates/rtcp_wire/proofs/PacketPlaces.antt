@@ -12,7 +12,8 @@ use Rattle.rtcp_wire.proofs.Places.{rest_of_rest, rest_stands, stands_within}
 -- ---- Packets of other types
 
 -- of six packets, one of which tests pick, the third or the fourth may give something
-others_give_none : {A : Type 0} (f : RtcpPacket → List A) (a b c d e : Bool) (p q r s t u : RtcpPacket) → f p ≡ [] → f q ≡ []
+others_give_none : {A : Type 0} (f : RtcpPacket → List A) (a b c d e : Bool) (p q r s t u : RtcpPacket) → f p ≡ [] →
+    f q ≡ []
     → (c ≡ true → f r ≡ []) → (d ≡ true → f s ≡ []) → f t ≡ [] → f u ≡ []
     → f (if a then p else (if b then q else (if c then r else (if d then s else (if e then t else u))))) ≡ []
 others_give_none f true b c d e p q r s t u hp hq hr hs ht hu = hp
@@ -24,12 +25,14 @@ others_give_none f false false false false false p q r s t u hp hq hr hs ht hu =
 
 pub no_items : (kind count : ℕ) (body : List ℕ) → (kind ≡ 202 → ⊥) → packet_items (body_says kind count body) ≡ []
 no_items kind count body not =
-    others_give_none packet_items (kind == 200) (kind == 201) (kind == 202) (kind == 203) (kind == 204) _ _ _ _ _ _ refl refl
+    others_give_none packet_items (kind == 200) (kind == 201) (kind == 202) (kind == 203) (kind == 204) _ _ _ _ _ _ refl
+    refl
     (λ is. absurd (cc (ne_eqb kind 202 not, is))) (λ is. refl) refl refl
 
 pub no_goodbyes : (kind count : ℕ) (body : List ℕ) → (kind ≡ 203 → ⊥) → packet_goodbyes (body_says kind count body) ≡ []
 no_goodbyes kind count body not =
-    others_give_none packet_goodbyes (kind == 200) (kind == 201) (kind == 202) (kind == 203) (kind == 204) _ _ _ _ _ _ refl refl
+    others_give_none packet_goodbyes (kind == 200) (kind == 201) (kind == 202) (kind == 203) (kind == 204) _ _ _ _ _ _
+    refl refl
     (λ is. refl) (λ is. absurd (cc (ne_eqb kind 203 not, is))) refl refl
 
 -- ---- Packets
@@ -42,31 +45,41 @@ AtPacket f datagram rest index now =
 
 -- At a packet: the octets from it on, its body, and the octets after it.
 module _ {A : Type 0} (f : RtcpPacket → List A) (index now kind count : ℕ) (datagram rest body others : List ℕ)
-    (h : AtPacket f datagram rest index now) (first : packets_in rest ≡ body_says kind count body ∷ packets_in others) where
-  pub packet_found : (v : A) → slice_get (f (body_says kind count body)) now ≡ Some v → slice_get (flat_map f (packets_in datagram)) index ≡ Some v
+    (h : AtPacket f datagram rest index now)
+    (first : packets_in rest ≡ body_says kind count body ∷ packets_in others) where
+  pub packet_found : (v : A) → slice_get (f (body_says kind count body)) now ≡ Some v →
+      slice_get (flat_map f (packets_in datagram)) index ≡ Some v
   packet_found v found =
-      found_first (flat_map f (packets_in datagram)) (flat_map f (packets_in rest)) index now h.2 (f (body_says kind count body)) (flat_map f (packets_in others)) v
+      found_first (flat_map f (packets_in datagram)) (flat_map f (packets_in rest)) index now h.2
+      (f (body_says kind count body)) (flat_map f (packets_in others)) v
       (ap (flat_map f) first) found
 
-  pub packet_passed : (next : ℕ) → length (f (body_says kind count body)) + next ≡ now → Joins IsSpelling (packets_in others) others → IsRest others rest
+  pub packet_passed : (next : ℕ) → length (f (body_says kind count body)) + next ≡ now →
+      Joins IsSpelling (packets_in others) others → IsRest others rest
       → AtPacket f datagram others index next
   packet_passed next counted joins last = (
     joins,
     rest_of_rest others rest datagram last h.1,
-    pass_first (flat_map f (packets_in datagram)) (flat_map f (packets_in rest)) index now h.2 (f (body_says kind count body)) (flat_map f (packets_in others)) next
+    pass_first (flat_map f (packets_in datagram)) (flat_map f (packets_in rest)) index now h.2
+        (f (body_says kind count body)) (flat_map f (packets_in others)) next
         (ap (flat_map f) first) counted,
   )
 
   pub body_stands : StandsIn 4 body rest → StandsIn (length datagram - length rest + 4) body datagram
-  body_stands own = stands_within 4 (length datagram - length rest) (length datagram - length rest + 4) body rest datagram own (rest_stands rest datagram h.1) (omega arith)
+  body_stands own = stands_within 4 (length datagram - length rest) (length datagram - length rest + 4) body rest
+      datagram own (rest_stands rest datagram h.1) (omega arith)
 
 -- Nothing is left to read where the test says so.
-pub none_left_to_read : (octets : List ℕ) (is_empty : Bool) → is_empty ≡ (length octets == 0) → is_empty ≡ true → octets ≡ []
+pub none_left_to_read : (octets : List ℕ) (is_empty : Bool) → is_empty ≡ (length octets == 0) → is_empty ≡ true →
+    octets ≡ []
 none_left_to_read [] is_empty is none = refl
-none_left_to_read (o ∷ octets) is_empty is none = absurd (cc (is, none, ne_eqb (length (o ∷ octets)) 0 (λ zero_long. omega (arith, zero_long))))
+none_left_to_read (o ∷ octets) is_empty is none =
+    absurd (cc (is, none, ne_eqb (length (o ∷ octets)) 0 (λ zero_long. omega (arith, zero_long))))
 
 -- at the end
-pub packets_end : {A : Type 0} (f : RtcpPacket → List A) (index now : ℕ) (datagram rest : List ℕ) → AtPacket f datagram rest index now → rest ≡ []
+pub packets_end : {A : Type 0} (f : RtcpPacket → List A) (index now : ℕ) (datagram rest : List ℕ) →
+    AtPacket f datagram rest index now → rest ≡ []
     → slice_get (flat_map f (packets_in datagram)) index ≡ None
 packets_end f index now datagram rest h none =
-    none_left (flat_map f (packets_in datagram)) (flat_map f (packets_in rest)) index now h.2 (ap (λ (t : List ℕ). flat_map f (packets_in t)) none)
+    none_left (flat_map f (packets_in datagram)) (flat_map f (packets_in rest)) index now h.2
+    (ap (λ (t : List ℕ). flat_map f (packets_in t)) none)

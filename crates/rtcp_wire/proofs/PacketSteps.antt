@@ -15,11 +15,14 @@ use Rattle.rtcp_wire.proofs.Stops.{spelling_body}
 -- ---- Bodies
 
 -- An accepted body has the octets that its type asks for.
-pub some_room : (own kind count : ℕ) (body : List ℕ) → kind ≡ own → IsSomeBody kind count body → least_size own count ≤ length body
-some_room own kind count body is h = subst (λ (k : ℕ). least_size k count ≤ length body) is (body_room h.0 kind count body h.1)
+pub some_room : (own kind count : ℕ) (body : List ℕ) → kind ≡ own → IsSomeBody kind count body →
+    least_size own count ≤ length body
+some_room own kind count body is h = subst (λ (k : ℕ). least_size k count ≤ length body) is
+    (body_room h.0 kind count body h.1)
 
 -- An accepted goodbye has a reason or nothing after its identifiers.
-pub some_reason : (kind count : ℕ) (body : List ℕ) → kind ≡ 203 → IsSomeBody kind count body → IsSomeReason (drop (4 * count) body)
+pub some_reason : (kind count : ℕ) (body : List ℕ) → kind ≡ 203 → IsSomeBody kind count body →
+    IsSomeReason (drop (4 * count) body)
 some_reason kind count body is h = ends h.0 h.1
   where
     ends : (packet : RtcpPacket) → IsBody packet kind count body → IsSomeReason (drop (4 * count) body)
@@ -38,7 +41,8 @@ pub record PacketStep (octets : List ℕ) : Type 0 where
   pub first : packets_in octets ≡ packet_in octets ∷ packets_in (drop (size_of octets) octets)
 
 -- at a packet and what follows it
-here : (packet : RtcpPacket) (packets : List RtcpPacket) (a r : List ℕ) → IsSpelling packet a → Joins IsSpelling packets r → PacketStep (a ++ r)
+here : (packet : RtcpPacket) (packets : List RtcpPacket) (a r : List ℕ) → IsSpelling packet a →
+    Joins IsSpelling packets r → PacketStep (a ++ r)
 here packet packets a r h k =
     let size : length a ≡ size_of (a ++ r) = h.size ∙ sym (spelling_parts packet a r h).header.size in
     let own : take (size_of (a ++ r)) (a ++ r) ≡ a = first_part (size_of (a ++ r)) a r size in
@@ -50,11 +54,13 @@ here packet packets a r h k =
       spelled = (packet, subst (IsSpelling packet) (sym own) h);
       body = (packet, spelling_body packet a r h);
       more = rw (after, others) k;
-      first = walk_reads (packet ∷ packets) (a ++ r) (a, r, refl, h, k) ∙ (λ i. sym (packet_read packet a r h) i ∷ sym (ap packets_in after ∙ others) i);
+      first = walk_reads (packet ∷ packets) (a ++ r) (a, r, refl, h, k)
+          ∙ (λ i. sym (packet_read packet a r h) i ∷ sym (ap packets_in after ∙ others) i);
     }
 
 -- The body of the packet's own octets is the one that stands first.
-pub own_body : (octets packet body : List ℕ) (size : ℕ) → PacketStep octets → size ≡ size_of octets → packet ≡ take size octets → body ≡ body_of packet → body ≡ body_of octets
+pub own_body : (octets packet body : List ℕ) (size : ℕ) → PacketStep octets → size ≡ size_of octets →
+    packet ≡ take size octets → body ≡ body_of packet → body ≡ body_of octets
 own_body octets packet body size step size_is own_is body_is =
     body_is ∙ ap body_of (own_is ∙ ap (λ (n : ℕ). take n octets) size_is) ∙ sym (is_own octets step.room).parts.body
 

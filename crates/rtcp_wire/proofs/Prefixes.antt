@@ -65,26 +65,38 @@ abbrev pub BeginsNone : {A : Type 0} → (A → List ℕ → Type 0) → List �
 BeginsNone {A = A} S rest = (x : A) (f g : List ℕ) → rest ≡ f ++ g → S x f → ⊥
 
 -- Where nothing begins, nothing is joined.
-pub none_joined : {A : Type 0} (S : A → List ℕ → Type 0) (more : List A) (octets r s : List ℕ) → BeginsNone S r → Joins S more octets → r ≡ octets ++ s → length more ≡ 0
+pub none_joined : {A : Type 0} (S : A → List ℕ → Type 0) (more : List A) (octets r s : List ℕ) → BeginsNone S r →
+    Joins S more octets → r ≡ octets ++ s → length more ≡ 0
 none_joined S [] octets r s none h e = refl
-none_joined S (x ∷ more) octets r s none h e = absurd (none x h.0 (h.1 ++ s) (e ∙ ap (λ (t : List ℕ). t ++ s) h.2 ∙ append_assoc h.0 h.1 s) h.3)
+none_joined S (x ∷ more) octets r s none h e =
+    absurd (none x h.0 (h.1 ++ s) (e ∙ ap (λ (t : List ℕ). t ++ s) h.2 ∙ append_assoc h.0 h.1 s) h.3)
 
 -- Where nothing begins after the shorter prefix, the longer one is the same.
-pub Extends-end : {A : Type 0} (S : A → List ℕ → Type 0) (xs : List A) (a r : List ℕ) (ys : List A) (c s : List ℕ) → BeginsNone S r → Extends A S xs a r ys c s → (a ≡ c) × (xs ≡ ys)
-Extends-end S xs a r ys c s none e = Extends-none S xs a r ys c s e (none_joined S e.more e.octets r s none e.each e.rest)
+pub Extends-end : {A : Type 0} (S : A → List ℕ → Type 0) (xs : List A) (a r : List ℕ) (ys : List A) (c s : List ℕ) →
+    BeginsNone S r → Extends A S xs a r ys c s → (a ≡ c) × (xs ≡ ys)
+Extends-end S xs a r ys c s none e = Extends-none S xs a r ys c s e
+    (none_joined S e.more e.octets r s none e.each e.rest)
 
 -- Two joined prefixes, after each of which nothing begins, are the same.
-pub same_end : {A : Type 0} (S : A → List ℕ → Type 0) → IsPrefixFree S → (xs ys : List A) (a c r s : List ℕ) → Joins S xs a → Joins S ys c → a ++ r ≡ c ++ s → BeginsNone S r → BeginsNone S s → (a ≡ c) × (xs ≡ ys) × (r ≡ s)
+pub same_end : {A : Type 0} (S : A → List ℕ → Type 0) → IsPrefixFree S → (xs ys : List A) (a c r s : List ℕ) →
+    Joins S xs a → Joins S ys c → a ++ r ≡ c ++ s → BeginsNone S r → BeginsNone S s → (a ≡ c) × (xs ≡ ys) × (r ≡ s)
 same_end S free xs ys a c r s h k e none_r none_s =
     elim (comparing S free xs ys a c r s h k e) [
       | inl on ↦ (let both = Extends-end S xs a r ys c s none_r on in (both.0, both.1, cut_prefix a c r s both.0 e))
-      | inr on ↦ (let both = Extends-end S ys c s xs a r none_s on in (sym both.0, sym both.1, cut_prefix a c r s (sym both.0) e))
+      | inr on ↦ (let both = Extends-end S ys c s xs a r none_s on in
+          (sym both.0, sym both.1, cut_prefix a c r s (sym both.0) e))
     ]
 
 -- Where nothing begins after these values, no other joined prefix has more values.
-pub no_longer : {A : Type 0} (S : A → List ℕ → Type 0) → IsPrefixFree S → (xs ys : List A) (a c r s : List ℕ) → Joins S xs a → Joins S ys c → a ++ r ≡ c ++ s → BeginsNone S r → length ys ≤ length xs
+pub no_longer : {A : Type 0} (S : A → List ℕ → Type 0) → IsPrefixFree S → (xs ys : List A) (a c r s : List ℕ) →
+    Joins S xs a → Joins S ys c → a ++ r ≡ c ++ s → BeginsNone S r → length ys ≤ length xs
 no_longer S free xs ys a c r s h k e none =
     elim (comparing S free xs ys a c r s h k e) [
-      | inl on ↦ omega (arith, Extends-length S xs a r ys c s on, none_joined S on.more on.octets r s none on.each on.rest)
+      | inl on ↦ omega (
+        arith,
+        Extends-length S xs a r ys c s on,
+        none_joined S on.more on.octets r s none on.each
+            on.rest,
+      )
       | inr on ↦ omega (arith, Extends-length S ys c s xs a r on)
     ]

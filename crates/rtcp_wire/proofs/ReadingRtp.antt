@@ -14,29 +14,43 @@ pub record HasRoom (octets reader : List ℕ) (csrcs_size : ℕ) : Type 0 where
   pub size : csrcs_size ≡ 4 * csrc_count_of octets
   pub rest : reader ≡ drop 12 octets
 
-pub has_room : (octets reader : List ℕ) (csrcs_size : ℕ) → 12 ≤ length octets → reader ≡ drop 12 octets → csrcs_size ≡ 4 * csrc_count_of octets → csrcs_size ≤ length reader → HasRoom octets reader csrcs_size
-has_room octets reader csrcs_size fixed rest size enough = record { room = omega (arith, ap length rest, length-drop 12 octets); size = size; rest = rest }
+pub has_room : (octets reader : List ℕ) (csrcs_size : ℕ) → 12 ≤ length octets → reader ≡ drop 12 octets →
+    csrcs_size ≡ 4 * csrc_count_of octets → csrcs_size ≤ length reader → HasRoom octets reader csrcs_size
+has_room octets reader csrcs_size fixed rest size enough =
+    record { room = omega (arith, ap length rest, length-drop 12 octets); size = size; rest = rest }
 
 -- what is left after the CSRC list
-pub after_list : (octets reader : List ℕ) (csrcs_size : ℕ) → HasRoom octets reader csrcs_size → drop csrcs_size reader ≡ after_csrcs octets
+pub after_list : (octets reader : List ℕ) (csrcs_size : ℕ) → HasRoom octets reader csrcs_size →
+    drop csrcs_size reader ≡ after_csrcs octets
 after_list octets reader csrcs_size h =
-    ap (λ (t : List ℕ). drop csrcs_size t) h.rest ∙ drop-drop csrcs_size 12 octets ∙ ap (λ (n : ℕ). drop n octets) (omega (arith, h.size))
+    ap (λ (t : List ℕ). drop csrcs_size t) h.rest ∙ drop-drop csrcs_size 12 octets
+    ∙ ap (λ (n : ℕ). drop n octets) (omega (arith, h.size))
 
 -- the octets of the CSRC list
-pub list_taken : (octets reader : List ℕ) (csrcs_size : ℕ) → HasRoom octets reader csrcs_size → take csrcs_size reader ≡ take (4 * csrc_count_of octets) (drop 12 octets)
-list_taken octets reader csrcs_size h = ap (λ (n : ℕ). take n reader) h.size ∙ ap (λ (t : List ℕ). take (4 * csrc_count_of octets) t) h.rest
+pub list_taken : (octets reader : List ℕ) (csrcs_size : ℕ) → HasRoom octets reader csrcs_size →
+    take csrcs_size reader ≡ take (4 * csrc_count_of octets) (drop 12 octets)
+list_taken octets reader csrcs_size h = ap (λ (n : ℕ). take n reader) h.size
+    ∙ ap (λ (t : List ℕ). take (4 * csrc_count_of octets) t) h.rest
 
 -- Four bits count them, so they are at most 15.
-pub few_csrcs : (octets reader : List ℕ) (csrcs_size : ℕ) → HasRoom octets reader csrcs_size → length (csrcs_in (take csrcs_size reader)) ≤ 15
+pub few_csrcs : (octets reader : List ℕ) (csrcs_size : ℕ) → HasRoom octets reader csrcs_size →
+    length (csrcs_in (take csrcs_size reader)) ≤ 15
 few_csrcs octets reader csrcs_size h =
     let count : ℕ = csrc_count_of octets in
     let words : List ℕ = take (4 * count) (drop 12 octets) in
-    let size : length words ≡ 4 * count = length-take-le (4 * count) (drop 12 octets) (omega (arith, h.room, length-drop 12 octets)) in
-    omega (arith, ap (λ (t : List ℕ). length (csrcs_in t)) (list_taken octets reader csrcs_size h), (words_joined count words size).1)
+    let size : length words ≡ 4 * count = length-take-le (4 * count) (drop 12 octets)
+    (omega (arith, h.room, length-drop 12 octets)) in
+    omega (
+      arith,
+      ap (λ (t : List ℕ). length (csrcs_in t)) (list_taken octets reader csrcs_size h),
+      (words_joined count words size).1,
+    )
 
 -- A type that was not found reserved is free.
-pub free_type : (octets : List ℕ) (kind : ℕ) (reserved : Bool) → kind ≡ payload_type_of octets → (reserved ≡ true) ↔ IsReserved kind → reserved ≡ false → IsReserved (payload_type_of octets) → ⊥
-free_type octets kind reserved is tested free h = (let found : reserved ≡ true = tested.1 (subst IsReserved (sym is) h) in cc)
+pub free_type : (octets : List ℕ) (kind : ℕ) (reserved : Bool) → kind ≡ payload_type_of octets →
+    (reserved ≡ true) ↔ IsReserved kind → reserved ≡ false → IsReserved (payload_type_of octets) → ⊥
+free_type octets kind reserved is tested free h =
+    (let found : reserved ≡ true = tested.1 (subst IsReserved (sym is) h) in cc)
 
 -- The tests before the extension's were passed, and this is left, and may begin with one.
 pub record IsBeforeExtension (octets rest : List ℕ) (extended : Bool) : Type 0 where
@@ -47,9 +61,11 @@ pub record IsBeforeExtension (octets rest : List ℕ) (extended : Bool) : Type 0
   pub following : rest ≡ after_csrcs octets
 
 -- no room for the extension
-pub extension_exit : (octets rest : List ℕ) (extended : Bool) → IsBeforeExtension octets rest extended → extended ≡ true → length rest < extension_size rest → IsRtpFault octets Extension
+pub extension_exit : (octets rest : List ℕ) (extended : Bool) → IsBeforeExtension octets rest extended →
+    extended ≡ true → length rest < extension_size rest → IsRtpFault octets Extension
 extension_exit octets rest extended h set few =
-    is_extension octets h.room h.version h.not_reserved (sym h.bit ∙ set, subst (λ (t : List ℕ). length t < extension_size t) h.following few)
+    is_extension octets h.room h.version h.not_reserved
+    (sym h.bit ∙ set, subst (λ (t : List ℕ). length t < extension_size t) h.following few)
 
 -- The extension was passed too, and this is left.
 pub record IsBeforePadding (octets rest : List ℕ) (padded : Bool) : Type 0 where
@@ -60,7 +76,9 @@ pub record IsBeforePadding (octets rest : List ℕ) (padded : Bool) : Type 0 whe
   pub bit : padded ≡ has_padding octets
   pub following : rest ≡ after_extension octets
 
-pub extension_passed : (octets rest left : List ℕ) (extended padded : Bool) → IsBeforeExtension octets rest extended → padded ≡ has_padding octets → left ≡ without_extension extended rest → (extended ≡ true → extension_size rest ≤ length rest)
+pub extension_passed : (octets rest left : List ℕ) (extended padded : Bool) → IsBeforeExtension octets rest extended →
+    padded ≡ has_padding octets → left ≡ without_extension extended rest →
+    (extended ≡ true → extension_size rest ≤ length rest)
     → IsBeforePadding octets left padded
 extension_passed octets rest left extended padded h bit is room = record {
   room = h.room;
@@ -68,19 +86,25 @@ extension_passed octets rest left extended padded h bit is room = record {
   not_reserved = h.not_reserved;
   extension = λ set. subst (λ (t : List ℕ). extension_size t ≤ length t) h.following (room (h.bit ∙ set));
   bit = bit;
-  following = is ∙ ap (λ (x : Bool). without_extension x rest) h.bit ∙ ap (λ (t : List ℕ). without_extension (has_extension octets) t) h.following;
+  following = is ∙ ap (λ (x : Bool). without_extension x rest) h.bit
+      ∙ ap (λ (t : List ℕ). without_extension (has_extension octets) t) h.following;
 }
 
 -- no padding that is counted right
-pub padding_exit : (octets rest : List ℕ) (padded : Bool) → IsBeforePadding octets rest padded → padded ≡ true → (IsPadded rest → ⊥) → IsRtpFault octets Padding
+pub padding_exit : (octets rest : List ℕ) (padded : Bool) → IsBeforePadding octets rest padded → padded ≡ true →
+    (IsPadded rest → ⊥) → IsRtpFault octets Padding
 padding_exit octets rest padded h set bad =
     is_padding octets h.room h.version h.not_reserved h.extension
     (sym h.bit ∙ set, not_padded (after_extension octets) (subst (λ (t : List ℕ). IsPadded t → ⊥) h.following bad))
 
 -- the packet, where its padding was passed
-pub head_read : (octets rest : List ℕ) (padded : Bool) (head : RtpValue) → IsBeforePadding octets rest padded → (padded ≡ true → IsPadded rest)
-    → head.payload_type ≡ payload_type_of octets → head.marker ≡ marker_of octets → head.sequence ≡ big_number 2 (drop 2 octets) → head.timestamp ≡ big_number 4 (drop 4 octets) → head.ssrc ≡ big_number 4 (drop 8 octets)
-    → head.csrcs ≡ csrcs_in (take (4 * csrc_count_of octets) (drop 12 octets)) → head.payload ≡ without_padding padded rest → IsRtpHead octets head
+pub head_read : (octets rest : List ℕ) (padded : Bool) (head : RtpValue) → IsBeforePadding octets rest padded →
+    (padded ≡ true → IsPadded rest)
+    → head.payload_type ≡ payload_type_of octets → head.marker ≡ marker_of octets →
+    head.sequence ≡ big_number 2 (drop 2 octets) → head.timestamp ≡ big_number 4 (drop 4 octets) →
+    head.ssrc ≡ big_number 4 (drop 8 octets)
+    → head.csrcs ≡ csrcs_in (take (4 * csrc_count_of octets) (drop 12 octets)) →
+    head.payload ≡ without_padding padded rest → IsRtpHead octets head
 head_read octets rest padded head h counted kind marker sequence timestamp ssrc sources is =
     head_made octets head (record {
       room = h.room;
@@ -89,5 +113,6 @@ head_read octets rest padded head h counted kind marker sequence timestamp ssrc 
       extension = h.extension;
       padding = λ set. subst IsPadded h.following (counted (h.bit ∙ set));
       says = values_equal head (head_in octets) kind marker sequence timestamp ssrc sources
-          (is ∙ ap (λ (x : Bool). without_padding x rest) h.bit ∙ ap (λ (t : List ℕ). without_padding (has_padding octets) t) h.following);
+          (is ∙ ap (λ (x : Bool). without_padding x rest) h.bit
+          ∙ ap (λ (t : List ℕ). without_padding (has_padding octets) t) h.following);
     })

@@ -107,7 +107,11 @@ padded_spelled = record {
 
 -- 80c9000100000007
 pub report_accepted : IsAccepted report (rr 7 [] [] ∷ [])
-report_accepted = record { short = omega arith; begins = (inr refl, refl); joined = (report, [], refl, report_spelled, refl) }
+report_accepted = record {
+  short = omega arith;
+  begins = (inr refl, refl);
+  joined = (report, [], refl, report_spelled, refl);
+}
 
 -- 80c9000100000007 81ca0002 00000007 01016100
 pub description_accepted : IsAccepted (report ++ description) (rr 7 [] [] ∷ sdes (source ∷ []) ∷ [])
@@ -128,18 +132,33 @@ padded_accepted = record {
 -- ---- Datagrams that are refused
 
 -- The report is passed.
-pub after_report : (octets : List ℕ) → octets ≢ [] → length (report ++ octets) ≤ 65535 → HasPassed (report ++ octets) octets
-after_report octets some short = record { prefix = report; short = short; parts = refl; before = inr (rr 7 [] [] ∷ [], report_accepted); more = inl some }
+pub after_report : (octets : List ℕ) → octets ≢ [] → length (report ++ octets) ≤ 65535 →
+    HasPassed (report ++ octets) octets
+after_report octets some short =
+    record {
+      prefix = report;
+      short = short;
+      parts = refl;
+      before = inr (rr 7 [] [] ∷ [], report_accepted);
+      more = inl some;
+    }
 
 -- the datagram of no octets
 pub nothing_refused : IsFirstFault [] (record { reason = Short; place = 0 })
-nothing_refused = stops_next [] [] 0 (none_passed [] (omega arith)) refl Short (record { found = omega arith; no_earlier = none_at_first true [] })
+nothing_refused = stops_next [] [] 0 (none_passed [] (omega arith)) refl Short
+    (record { found = omega arith; no_earlier = none_at_first true [] })
 
 -- 80c9000100000007 81ca0002 00000007 01016100 00
 pub one_octet_more_refused : IsFirstFault (report ++ description ++ 0 ∷ []) (record { reason = Short; place = 20 })
 one_octet_more_refused =
     stops_next (report ++ description ++ 0 ∷ []) (0 ∷ []) 20
-    (record { prefix = report ++ description; short = omega arith; parts = refl; before = inr (rr 7 [] [] ∷ sdes (source ∷ []) ∷ [], description_accepted); more = inl (cons_not_nil 0 []) })
+    (record {
+      prefix = report ++ description;
+      short = omega arith;
+      parts = refl;
+      before = inr (rr 7 [] [] ∷ sdes (source ∷ []) ∷ [], description_accepted);
+      more = inl (cons_not_nil 0 []);
+    })
     refl Short (record { found = omega arith; no_earlier = none_at_first false (0 ∷ []) })
 
 -- a0c90002 00000007 00000004
@@ -150,7 +169,11 @@ padded_first = 160 ∷ 201 ∷ 0 ∷ 2 ∷ 0 ∷ 0 ∷ 0 ∷ 7 ∷ 0 ∷ 0 ∷ 0
 pub padded_first_refused : IsFirstFault padded_first (record { reason = FirstPadding; place = 0 })
 padded_first_refused =
     stops_next padded_first padded_first 0 (none_passed padded_first (omega arith)) refl FirstPadding
-    (record { found = (refl, refl); no_earlier = before_first_padding true padded_first (omega arith) refl (λ e. inr refl) })
+    (record {
+      found = (refl, refl);
+      no_earlier = before_first_padding true padded_first (omega arith) refl
+          (λ e. inr refl);
+    })
 
 -- 80c90001000000
 abbrev cut_off : List ℕ
@@ -163,11 +186,19 @@ cut_off_refused =
     (record { found = omega arith; no_earlier = before_length true cut_off (omega arith) refl (λ e. (inr refl, refl)) })
 
 -- What is found in the body of a whole packet without padding is found first.
-pub first_found : (reason : FaultReason) (first : Bool) (octets : List ℕ) → IsWhole first octets → is_padded octets ≡ false → FindsInBody reason (type_of octets) (count_of octets) (body_of octets) → IsFirstFound reason first octets
+pub first_found : (reason : FaultReason) (first : Bool) (octets : List ℕ) → IsWhole first octets →
+    is_padded octets ≡ false → FindsInBody reason (type_of octets) (count_of octets) (body_of octets) →
+    IsFirstFound reason first octets
 first_found reason first octets good unpadded found =
     let padded = (is_own octets good.size).parts.header.padded in
     let has : HasBody first octets (body_of (own octets)) (type_of octets) (count_of octets) =
-    record { good = good; unpadded = (refl, λ set. absurd (not_both_bits (is_padded (own octets)) set (sym padded ∙ unpadded))); kind_is = refl; count_is = refl } in
+    record {
+      good = good;
+      unpadded =
+          (refl, λ set. absurd (not_both_bits (is_padded (own octets)) set (sym padded ∙ unpadded)));
+      kind_is = refl;
+      count_is = refl;
+    } in
     body_found first octets (body_of (own octets)) (type_of octets) (count_of octets) has reason found
 
 -- 81c9000100000007
@@ -178,7 +209,9 @@ no_block = 129 ∷ 201 ∷ 0 ∷ 1 ∷ 0 ∷ 0 ∷ 0 ∷ 7 ∷ []
 pub no_block_refused : IsFirstFault no_block (record { reason = Body; place = 0 })
 no_block_refused =
     stops_next no_block no_block 0 (none_passed no_block (omega arith)) refl Body
-    (first_found Body true no_block (record { header = omega arith; version = refl; size = omega arith; may_stand = λ e. (inr refl, refl) }) refl (inl (omega arith)))
+    (first_found Body true no_block
+    (record { header = omega arith; version = refl; size = omega arith; may_stand = λ e. (inr refl, refl) }) refl
+    (inl (omega arith)))
 
 -- a description whose one item says five octets of text, and has two
 abbrev long_item : List ℕ
@@ -202,11 +235,14 @@ ends_inside = record {
 }
 
 -- A whole packet may stand after the first.
-pub later : (octets : List ℕ) → 4 ≤ length octets → version_of octets ≡ 2 → size_of octets ≤ length octets → IsWhole false octets
-later octets enough version room = record { header = enough; version = version; size = room; may_stand = λ e. absurd (differs e) }
+pub later : (octets : List ℕ) → 4 ≤ length octets → version_of octets ≡ 2 → size_of octets ≤ length octets →
+    IsWhole false octets
+later octets enough version room =
+    record { header = enough; version = version; size = room; may_stand = λ e. absurd (differs e) }
 
 -- 80c9000100000007 81ca0002 00000007 01056100
 pub long_item_refused : IsFirstFault (report ++ long_item) (record { reason = Item; place = 8 })
 long_item_refused =
-    stops_next (report ++ long_item) long_item 8 (after_report long_item (cons_not_nil 129 (drop 1 long_item)) (omega arith)) refl Item
+    stops_next (report ++ long_item) long_item 8
+    (after_report long_item (cons_not_nil 129 (drop 1 long_item)) (omega arith)) refl Item
     (first_found Item false long_item (later long_item (omega arith) refl (omega arith)) refl (refl, ends_inside))

@@ -13,7 +13,8 @@ use Rattle.rtcp_wire.proofs.Rows.{differs, report, report_spelled, after_report,
 
 -- 80c80006 00000009 0000b705 20000000 0000000a 00000003 000001e0
 abbrev sending : List ℕ
-sending = 128 ∷ 200 ∷ 0 ∷ 6 ∷ 0 ∷ 0 ∷ 0 ∷ 9 ∷ 0 ∷ 0 ∷ 183 ∷ 5 ∷ 32 ∷ 0 ∷ 0 ∷ 0 ∷ 0 ∷ 0 ∷ 0 ∷ 10 ∷ 0 ∷ 0 ∷ 0 ∷ 3 ∷ 0 ∷ 0 ∷ 1 ∷ 224 ∷ []
+sending = 128 ∷ 200 ∷ 0 ∷ 6 ∷ 0 ∷ 0 ∷ 0 ∷ 9 ∷ 0 ∷ 0 ∷ 183 ∷ 5 ∷ 32 ∷ 0 ∷ 0 ∷ 0 ∷ 0 ∷ 0 ∷ 0 ∷ 10 ∷ 0 ∷ 0 ∷ 0 ∷ 3 ∷ 0 ∷ 0
+    ∷ 1 ∷ 224 ∷ []
 
 -- 0x0000b70520000000 is 46853 * 2 ^ 32 + 536870912.
 abbrev sender : SenderValue
@@ -39,7 +40,11 @@ sending_spelled = record {
 
 -- It may be the first packet.
 pub sending_accepted : IsAccepted sending (sr sender [] [] ∷ [])
-sending_accepted = record { short = omega arith; begins = (inl refl, refl); joined = (sending, [], refl, sending_spelled, refl) }
+sending_accepted = record {
+  short = omega arith;
+  begins = (inl refl, refl);
+  joined = (sending, [], refl, sending_spelled, refl);
+}
 
 -- ---- Goodbyes
 
@@ -120,7 +125,8 @@ applied_spelled = record {
 -- ---- After a report
 
 -- A packet after 80c9000100000007 is accepted.
-pub after_accepted : (p : RtcpPacket) (octets : List ℕ) → IsSpelling p octets → length (report ++ octets) ≤ 65535 → IsAccepted (report ++ octets) (rr 7 [] [] ∷ p ∷ [])
+pub after_accepted : (p : RtcpPacket) (octets : List ℕ) → IsSpelling p octets → length (report ++ octets) ≤ 65535 →
+    IsAccepted (report ++ octets) (rr 7 [] [] ∷ p ∷ [])
 after_accepted p octets spelled short = record {
   short = short;
   begins = (inr refl, refl);
@@ -136,8 +142,10 @@ silent_accepted = after_accepted (bye (7 ∷ []) (Some [])) silent silent_spelle
 pub nobody_accepted : IsAccepted (report ++ nobody) (rr 7 [] [] ∷ bye [] None ∷ [])
 nobody_accepted = after_accepted (bye [] None) nobody nobody_spelled (omega arith)
 
-pub applied_accepted : IsAccepted (report ++ applied) (rr 7 [] [] ∷ app 5 7 (65 ∷ 66 ∷ 67 ∷ 68 ∷ []) (1 ∷ 2 ∷ 3 ∷ 4 ∷ []) ∷ [])
-applied_accepted = after_accepted (app 5 7 (65 ∷ 66 ∷ 67 ∷ 68 ∷ []) (1 ∷ 2 ∷ 3 ∷ 4 ∷ [])) applied applied_spelled (omega arith)
+pub applied_accepted : IsAccepted (report ++ applied)
+    (rr 7 [] [] ∷ app 5 7 (65 ∷ 66 ∷ 67 ∷ 68 ∷ []) (1 ∷ 2 ∷ 3 ∷ 4 ∷ []) ∷ [])
+applied_accepted = after_accepted (app 5 7 (65 ∷ 66 ∷ 67 ∷ 68 ∷ []) (1 ∷ 2 ∷ 3 ∷ 4 ∷ [])) applied applied_spelled
+    (omega arith)
 
 -- ---- Refused
 
@@ -148,8 +156,10 @@ long_reason = 129 ∷ 203 ∷ 0 ∷ 2 ∷ 0 ∷ 0 ∷ 0 ∷ 7 ∷ 5 ∷ 97 ∷ 9
 -- A text of five octets is no three.
 pub long_reason_refused : IsFirstFault (report ++ long_reason) (record { reason = Reason; place = 8 })
 long_reason_refused =
-    stops_next (report ++ long_reason) long_reason 8 (after_report long_reason (cons_not_nil 129 (drop 1 long_reason)) (omega arith)) refl Reason
-    (first_found Reason false long_reason (later long_reason (omega arith) refl (omega arith)) refl (refl, inl (omega arith)))
+    stops_next (report ++ long_reason) long_reason 8
+    (after_report long_reason (cons_not_nil 129 (drop 1 long_reason)) (omega arith)) refl Reason
+    (first_found Reason false long_reason (later long_reason (omega arith) refl (omega arith)) refl
+    (refl, inl (omega arith)))
 
 -- 81cb0003 00000007 02616200 00000000
 abbrev word_more : List ℕ
@@ -158,8 +168,10 @@ word_more = 129 ∷ 203 ∷ 0 ∷ 3 ∷ 0 ∷ 0 ∷ 0 ∷ 7 ∷ 2 ∷ 97 ∷ 98 
 -- After a reason no word is left.
 pub word_more_refused : IsFirstFault (report ++ word_more) (record { reason = Reason; place = 8 })
 word_more_refused =
-    stops_next (report ++ word_more) word_more 8 (after_report word_more (cons_not_nil 129 (drop 1 word_more)) (omega arith)) refl Reason
-    (first_found Reason false word_more (later word_more (omega arith) refl (omega arith)) refl (refl, inr (omega arith)))
+    stops_next (report ++ word_more) word_more 8
+    (after_report word_more (cons_not_nil 129 (drop 1 word_more)) (omega arith)) refl Reason
+    (first_found Reason false word_more (later word_more (omega arith) refl (omega arith)) refl
+    (refl, inr (omega arith)))
 
 -- 82cb0001 00000007
 abbrev one_id_short : List ℕ
@@ -168,7 +180,8 @@ one_id_short = 130 ∷ 203 ∷ 0 ∷ 1 ∷ 0 ∷ 0 ∷ 0 ∷ 7 ∷ []
 -- A goodbye that counts two identifiers has them.
 pub one_id_short_refused : IsFirstFault (report ++ one_id_short) (record { reason = Body; place = 8 })
 one_id_short_refused =
-    stops_next (report ++ one_id_short) one_id_short 8 (after_report one_id_short (cons_not_nil 130 (drop 1 one_id_short)) (omega arith)) refl Body
+    stops_next (report ++ one_id_short) one_id_short 8
+    (after_report one_id_short (cons_not_nil 130 (drop 1 one_id_short)) (omega arith)) refl Body
     (first_found Body false one_id_short (later one_id_short (omega arith) refl (omega arith)) refl (inl (omega arith)))
 
 -- 80cc0001 00000007
@@ -178,5 +191,6 @@ no_name = 128 ∷ 204 ∷ 0 ∷ 1 ∷ 0 ∷ 0 ∷ 0 ∷ 7 ∷ []
 -- An application's packet has a name.
 pub no_name_refused : IsFirstFault (report ++ no_name) (record { reason = Body; place = 8 })
 no_name_refused =
-    stops_next (report ++ no_name) no_name 8 (after_report no_name (cons_not_nil 128 (drop 1 no_name)) (omega arith)) refl Body
+    stops_next (report ++ no_name) no_name 8 (after_report no_name (cons_not_nil 128 (drop 1 no_name)) (omega arith))
+    refl Body
     (first_found Body false no_name (later no_name (omega arith) refl (omega arith)) refl (inl (omega arith)))

@@ -14,7 +14,8 @@ pub one_head : (octets : List ℕ) (h k : RtpValue) → IsRtpHead octets h → I
 one_head octets h k is_h is_k = (sound_head octets h is_h).says ∙ sym (sound_head octets k is_k).says
 
 -- No test finds a fault in sound octets.
-sound_faultless : (octets : List ℕ) (head : RtpValue) → IsSoundRtp octets head → (fault : RtpFault) → FindsRtp fault octets → ⊥
+sound_faultless : (octets : List ℕ) (head : RtpValue) → IsSoundRtp octets head → (fault : RtpFault) →
+    FindsRtp fault octets → ⊥
 sound_faultless octets head h Short found = omega (arith, h.room, found)
 sound_faultless octets head h Version found = found h.version
 sound_faultless octets head h PayloadType found = h.not_reserved found
@@ -28,14 +29,16 @@ sound_faultless octets head h Padding found =
     ]
 
 -- A packet has no fault.
-pub never_both : (octets : List ℕ) (head : RtpValue) (fault : RtpFault) → IsRtpHead octets head → IsRtpFault octets fault → ⊥
+pub never_both : (octets : List ℕ) (head : RtpValue) (fault : RtpFault) → IsRtpHead octets head →
+    IsRtpFault octets fault → ⊥
 never_both octets head fault h f = sound_faultless octets head (sound_head octets head h) fault f.found
 
 -- ---- Tests
 
 -- the fault of this number
 abbrev fault_in : ℕ → RtpFault
-fault_in n = if n == 1 then Short else if n == 2 then Version else if n == 3 then PayloadType else if n == 4 then Extension else Padding
+fault_in n = if n == 1 then Short else if n == 2 then Version else if n == 3 then PayloadType else if n == 4 then
+    Extension else Padding
 
 -- Each fault is that of its number.
 has_number : (f : RtpFault) → fault_in (rtp_number_of f) ≡ f
@@ -47,10 +50,12 @@ has_number Padding = refl
 
 -- Octets have at most one first fault.
 pub one_fault : (octets : List ℕ) (f g : RtpFault) → IsRtpFault octets f → IsRtpFault octets g → f ≡ g
-one_fault octets f g is_f is_g = one_first rtp_number_of fault_in has_number (lit< tt) (λ fault. FindsRtp fault octets) f g is_f.found is_f.no_earlier is_g.found is_g.no_earlier
+one_fault octets f g is_f is_g = one_first rtp_number_of fault_in has_number (lit< tt) (λ fault. FindsRtp fault octets)
+    f g is_f.found is_f.no_earlier is_g.found is_g.no_earlier
 
 -- The fault that is returned is the first one.
-pub same_fault : (octets : List ℕ) (f g : RtpFault) → IsRtpFault octets f → ◌≡◌ {A = Result RtpValue RtpFault} (Err f) (Err g) → IsRtpFault octets g
+pub same_fault : (octets : List ℕ) (f g : RtpFault) → IsRtpFault octets f →
+    ◌≡◌ {A = Result RtpValue RtpFault} (Err f) (Err g) → IsRtpFault octets g
 same_fault octets f g is_f e = let same : f ≡ g = cc in subst (IsRtpFault octets) same is_f
 
 -- No earlier test finds a fault.
@@ -62,7 +67,8 @@ none_at_first : (octets : List ℕ) → NoneBefore 1 octets
 none_at_first octets = first_of_all rtp_number_of fault_in has_number (lit< tt) (λ fault. FindsRtp fault octets)
 
 -- one test further, where this one finds nothing
-next_test : (f : RtpFault) (octets : List ℕ) → NoneBefore (rtp_number_of f) octets → (FindsRtp f octets → ⊥) → NoneBefore (suc (rtp_number_of f)) octets
+next_test : (f : RtpFault) (octets : List ℕ) → NoneBefore (rtp_number_of f) octets → (FindsRtp f octets → ⊥) →
+    NoneBefore (suc (rtp_number_of f)) octets
 next_test f octets = one_further rtp_number_of fault_in has_number (lit< tt) (λ fault. FindsRtp fault octets) f
 
 -- ---- Each first fault
@@ -72,31 +78,40 @@ is_short octets few = record { found = few; no_earlier = none_at_first octets }
 
 -- Before the version the size is tested,
 before_version : (octets : List ℕ) → lists_size octets ≤ length octets → NoneBefore 2 octets
-before_version octets room = next_test Short octets (none_at_first octets) (λ (few : length octets < lists_size octets). omega (arith, room, few))
+before_version octets room = next_test Short octets (none_at_first octets)
+    (λ (few : length octets < lists_size octets). omega (arith, room, few))
 
-pub is_version : (octets : List ℕ) → lists_size octets ≤ length octets → rtp_version_of octets ≢ 2 → IsRtpFault octets Version
+pub is_version : (octets : List ℕ) → lists_size octets ≤ length octets → rtp_version_of octets ≢ 2 →
+    IsRtpFault octets Version
 is_version octets room wrong = record { found = wrong; no_earlier = before_version octets room }
 
 -- before the payload type the version,
 before_type : (octets : List ℕ) → lists_size octets ≤ length octets → rtp_version_of octets ≡ 2 → NoneBefore 3 octets
 before_type octets room version = next_test Version octets (before_version octets room) (λ wrong. wrong version)
 
-pub is_payload_type : (octets : List ℕ) → lists_size octets ≤ length octets → rtp_version_of octets ≡ 2 → IsReserved (payload_type_of octets) → IsRtpFault octets PayloadType
+pub is_payload_type : (octets : List ℕ) → lists_size octets ≤ length octets → rtp_version_of octets ≡ 2 →
+    IsReserved (payload_type_of octets) → IsRtpFault octets PayloadType
 is_payload_type octets room version reserved = record { found = reserved; no_earlier = before_type octets room version }
 
 -- before the extension the payload type,
-before_extension : (octets : List ℕ) → lists_size octets ≤ length octets → rtp_version_of octets ≡ 2 → (IsReserved (payload_type_of octets) → ⊥) → NoneBefore 4 octets
+before_extension : (octets : List ℕ) → lists_size octets ≤ length octets → rtp_version_of octets ≡ 2 →
+    (IsReserved (payload_type_of octets) → ⊥) → NoneBefore 4 octets
 before_extension octets room version free = next_test PayloadType octets (before_type octets room version) free
 
-pub is_extension : (octets : List ℕ) → lists_size octets ≤ length octets → rtp_version_of octets ≡ 2 → (IsReserved (payload_type_of octets) → ⊥) → FindsRtp Extension octets → IsRtpFault octets Extension
-is_extension octets room version free found = record { found = found; no_earlier = before_extension octets room version free }
+pub is_extension : (octets : List ℕ) → lists_size octets ≤ length octets → rtp_version_of octets ≡ 2 →
+    (IsReserved (payload_type_of octets) → ⊥) → FindsRtp Extension octets → IsRtpFault octets Extension
+is_extension octets room version free found =
+    record { found = found; no_earlier = before_extension octets room version free }
 
 -- and before the padding the extension.
-pub is_padding : (octets : List ℕ) → lists_size octets ≤ length octets → rtp_version_of octets ≡ 2 → (IsReserved (payload_type_of octets) → ⊥)
-    → (has_extension octets ≡ true → extension_size (after_csrcs octets) ≤ length (after_csrcs octets)) → FindsRtp Padding octets → IsRtpFault octets Padding
+pub is_padding : (octets : List ℕ) → lists_size octets ≤ length octets → rtp_version_of octets ≡ 2 →
+    (IsReserved (payload_type_of octets) → ⊥)
+    → (has_extension octets ≡ true → extension_size (after_csrcs octets) ≤ length (after_csrcs octets)) →
+    FindsRtp Padding octets → IsRtpFault octets Padding
 is_padding octets room version free extended found = record {
   found = found;
-  no_earlier = next_test Extension octets (before_extension octets room version free) (λ wrong. omega (arith, extended wrong.0, wrong.1));
+  no_earlier = next_test Extension octets (before_extension octets room version free)
+      (λ wrong. omega (arith, extended wrong.0, wrong.1));
 }
 
 -- ---- Always one
@@ -115,11 +130,15 @@ extension_or_not false n size = inr (λ e. absurd cc)
 extension_or_not true n size = elim (cases_lt n size) [ inl few ↦ inl (refl, few) | inr room ↦ inr (λ e. room) ]
 
 -- why octets end with no padding
-pub not_padded : (octets : List ℕ) → (IsPadded octets → ⊥) → (octets ≡ []) ⊎ (last_of octets ≡ 0) ⊎ (length octets < last_of octets)
+pub not_padded : (octets : List ℕ) → (IsPadded octets → ⊥) →
+    (octets ≡ []) ⊎ (last_of octets ≡ 0) ⊎ (length octets < last_of octets)
 not_padded octets bad =
     elim (cases_eq (last_of octets) 0) [
       | inl zero ↦ inr (inl zero)
-      | inr some ↦ elim (cases_lt (length octets) (last_of octets)) [ inl more ↦ inr (inr more) | inr fits ↦ absurd (bad (some, fits)) ]
+      | inr some ↦ elim (cases_lt (length octets) (last_of octets)) [
+        | inl more ↦ inr (inr more)
+        | inr fits ↦ absurd (bad (some, fits))
+      ]
     ]
 
 -- whether octets end with padding
@@ -127,11 +146,13 @@ padding_or_not : (octets : List ℕ) → IsPadded octets ⊎ (IsPadded octets �
 padding_or_not octets =
     elim (cases_eq (last_of octets) 0) [
       | inl zero ↦ inr (λ good. good.0 zero)
-      | inr some ↦ elim (cases_lt (length octets) (last_of octets)) [ inl more ↦ inr (λ good. omega (arith, good.1, more)) | inr fits ↦ inl (some, fits) ]
+      | inr some ↦ elim (cases_lt (length octets) (last_of octets))
+          [ inl more ↦ inr (λ good. omega (arith, good.1, more)) | inr fits ↦ inl (some, fits) ]
     ]
 
 -- whether there is no padding, or one that is counted right
-padding_is_good : (padded : Bool) (octets : List ℕ) → ((padded ≡ true) × (IsPadded octets → ⊥)) ⊎ (padded ≡ true → IsPadded octets)
+padding_is_good : (padded : Bool) (octets : List ℕ) →
+    ((padded ≡ true) × (IsPadded octets → ⊥)) ⊎ (padded ≡ true → IsPadded octets)
 padding_is_good false octets = inr (λ e. absurd cc)
 padding_is_good true octets = elim (padding_or_not octets) [ inl good ↦ inr (λ e. good) | inr bad ↦ inl (refl, bad) ]
 
@@ -140,21 +161,35 @@ abbrev IsDecided : List ℕ → Type 0
 IsDecided octets = ((head : RtpValue) × IsRtpHead octets head) ⊎ ((fault : RtpFault) × IsRtpFault octets fault)
 
 -- the tests of the extension and the padding
-from_extension : (octets : List ℕ) → lists_size octets ≤ length octets → rtp_version_of octets ≡ 2 → (IsReserved (payload_type_of octets) → ⊥) → IsDecided octets
+from_extension : (octets : List ℕ) → lists_size octets ≤ length octets → rtp_version_of octets ≡ 2 →
+    (IsReserved (payload_type_of octets) → ⊥) → IsDecided octets
 from_extension octets room version free =
     elim (extension_or_not (has_extension octets) (length (after_csrcs octets)) (extension_size (after_csrcs octets))) [
       | inl few ↦ inr (Extension, is_extension octets room version free few)
       | inr extended ↦ elim (padding_is_good (has_padding octets) (after_extension octets)) [
-        | inl bad ↦ inr (Padding, is_padding octets room version free extended (bad.0, not_padded (after_extension octets) bad.1))
+        | inl bad ↦ inr (
+          Padding,
+          is_padding octets room version free extended
+              (bad.0, not_padded (after_extension octets) bad.1),
+        )
         | inr padded ↦ inl (
           head_in octets,
-          head_made octets (head_in octets) (record { room = room; version = version; not_reserved = free; extension = extended; padding = padded; says = refl }),
+          head_made octets (head_in octets)
+              (record {
+                room = room;
+                version = version;
+                not_reserved = free;
+                extension = extended;
+                padding = padded;
+                says = refl;
+              }),
         )
       ]
     ]
 
 -- Each list of octets is a packet or has a first fault.
-pub always_one : (octets : List ℕ) → ((head : RtpValue) × IsRtpHead octets head) ⊎ ((fault : RtpFault) × IsRtpFault octets fault)
+pub always_one : (octets : List ℕ) →
+    ((head : RtpValue) × IsRtpHead octets head) ⊎ ((fault : RtpFault) × IsRtpFault octets fault)
 always_one octets =
     elim (cases_lt (length octets) (lists_size octets)) [
       | inl few ↦ inr (Short, is_short octets few)

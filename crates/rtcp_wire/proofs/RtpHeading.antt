@@ -48,10 +48,19 @@ same_fixed fixed rest size = record {
 -- a value by its fields
 abbrev value : ℕ → Bool → ℕ → ℕ → ℕ → List ℕ → List ℕ → RtpValue
 value payload_type marker sequence timestamp ssrc csrcs payload =
-    record { payload_type = payload_type; marker = marker; sequence = sequence; timestamp = timestamp; ssrc = ssrc; csrcs = csrcs; payload = payload }
+    record {
+      payload_type = payload_type;
+      marker = marker;
+      sequence = sequence;
+      timestamp = timestamp;
+      ssrc = ssrc;
+      csrcs = csrcs;
+      payload = payload;
+    }
 
 -- Values are the same where each of their fields is.
-pub values_equal : (h k : RtpValue) → h.payload_type ≡ k.payload_type → h.marker ≡ k.marker → h.sequence ≡ k.sequence → h.timestamp ≡ k.timestamp → h.ssrc ≡ k.ssrc → h.csrcs ≡ k.csrcs → h.payload ≡ k.payload → h ≡ k
+pub values_equal : (h k : RtpValue) → h.payload_type ≡ k.payload_type → h.marker ≡ k.marker → h.sequence ≡ k.sequence →
+    h.timestamp ≡ k.timestamp → h.ssrc ≡ k.ssrc → h.csrcs ≡ k.csrcs → h.payload ≡ k.payload → h ≡ k
 values_equal h k a b c d e f g =
     ap (λ (x : ℕ). value x h.marker h.sequence h.timestamp h.ssrc h.csrcs h.payload) a
     ∙ ap (λ (x : Bool). value k.payload_type x h.sequence h.timestamp h.ssrc h.csrcs h.payload) b
@@ -68,29 +77,40 @@ sound_head octets head h =
     let payload_on : List ℕ = head.payload ++ h.padding in
     let extension_to : List ℕ = h.extension ++ payload_on in
     let sources_to : List ℕ = h.sources ++ extension_to in
-    let same : SameFixed octets h.fixed = subst (λ (t : List ℕ). SameFixed t h.fixed) (sym h.parts) (same_fixed h.fixed sources_to h.is_fixed.size) in
+    let same : SameFixed octets h.fixed = subst (λ (t : List ℕ). SameFixed t h.fixed) (sym h.parts)
+    (same_fixed h.fixed sources_to h.is_fixed.size) in
     let count : csrc_count_of octets ≡ length head.csrcs = ap (λ (n : ℕ). n % 16) same.first ∙ sym h.counted in
     let each = joined_csrcs head.csrcs h.sources h.each in
     let sources_size : length h.sources ≡ 4 * csrc_count_of octets = omega (arith, each.0, count) in
     let after_fixed : drop 12 octets ≡ sources_to = (cut_at octets h.fixed sources_to 12 h.parts h.is_fixed.size).1 in
     let cut = cut_at (drop 12 octets) h.sources extension_to (4 * csrc_count_of octets) after_fixed sources_size in
-    let lists : length (h.fixed ++ h.sources) ≡ lists_size octets = omega (arith, length-append h.fixed h.sources, h.is_fixed.size, sources_size) in
-    let regrouped : octets ≡ (h.fixed ++ h.sources) ++ extension_to = h.parts ∙ sym (append_assoc h.fixed h.sources extension_to) in
-    let following : after_csrcs octets ≡ extension_to = (cut_at octets (h.fixed ++ h.sources) extension_to (lists_size octets) regrouped lists).1 in
+    let lists : length (h.fixed ++ h.sources) ≡ lists_size octets =
+    omega (arith, length-append h.fixed h.sources, h.is_fixed.size, sources_size) in
+    let regrouped : octets ≡ (h.fixed ++ h.sources) ++ extension_to = h.parts
+    ∙ sym (append_assoc h.fixed h.sources extension_to) in
+    let following : after_csrcs octets ≡ extension_to =
+    (cut_at octets (h.fixed ++ h.sources) extension_to (lists_size octets) regrouped lists).1 in
     let extended : has_extension octets ≡ has_extension h.fixed = ap (λ (n : ℕ). n / 16 % 2 == 1) same.first in
     let padded : has_padding octets ≡ has_padding h.fixed = ap (λ (n : ℕ). n / 32 % 2 == 1) same.first in
-    let off = extension_off (has_extension octets) h.extension payload_on (subst (λ (x : Bool). IsExtensionPart x h.extension) (sym extended) h.is_extension) in
-    let last : after_extension octets ≡ payload_on = ap (λ (t : List ℕ). without_extension (has_extension octets) t) following ∙ off.0 in
-    let unpadded = padding_off (has_padding octets) head.payload h.padding (subst (λ (x : Bool). IsPaddingPart x h.padding) (sym padded) h.is_padding) in
-    let kind : head.payload_type ≡ payload_type_of octets = h.is_fixed.payload_type ∙ ap (λ (n : ℕ). n % 128) (sym same.second) in
+    let off = extension_off (has_extension octets) h.extension payload_on
+    (subst (λ (x : Bool). IsExtensionPart x h.extension) (sym extended) h.is_extension) in
+    let last : after_extension octets ≡ payload_on = ap (λ (t : List ℕ). without_extension (has_extension octets) t)
+    following ∙ off.0 in
+    let unpadded = padding_off (has_padding octets) head.payload h.padding
+    (subst (λ (x : Bool). IsPaddingPart x h.padding) (sym padded) h.is_padding) in
+    let kind : head.payload_type ≡ payload_type_of octets = h.is_fixed.payload_type
+    ∙ ap (λ (n : ℕ). n % 128) (sym same.second) in
     record {
       room = omega (arith, ap length regrouped, length-append (h.fixed ++ h.sources) extension_to, lists);
       version = ap (λ (n : ℕ). n / 64) same.first ∙ h.is_fixed.version;
       not_reserved = λ reserved. h.is_fixed.not_reserved (subst IsReserved (sym kind) reserved);
       extension = λ set. subst (λ (t : List ℕ). extension_size t ≤ length t) (sym following) (off.1 set);
       padding = λ set. subst IsPadded (sym last) (unpadded.1 set);
-      says = values_equal head (head_in octets) kind (h.is_fixed.marker ∙ ap (λ (n : ℕ). n / 128 % 2 == 1) (sym same.second)) (h.is_fixed.sequence ∙ sym same.sequence)
-          (h.is_fixed.timestamp ∙ sym same.timestamp) (h.is_fixed.ssrc ∙ sym same.ssrc) (each.1 ∙ ap csrcs_in (sym cut.0))
+      says = values_equal head (head_in octets) kind
+          (h.is_fixed.marker ∙ ap (λ (n : ℕ). n / 128 % 2 == 1) (sym same.second))
+          (h.is_fixed.sequence ∙ sym same.sequence)
+          (h.is_fixed.timestamp ∙ sym same.timestamp) (h.is_fixed.ssrc ∙ sym same.ssrc)
+          (each.1 ∙ ap csrcs_in (sym cut.0))
           (sym (ap (λ (t : List ℕ). without_padding (has_padding octets) t) last ∙ unpadded.0));
     }
 
@@ -103,7 +123,8 @@ parts_made octets head h =
     let n : ℕ = 4 * csrc_count_of octets in
     let after : List ℕ = drop 12 octets in
     let sources : List ℕ = take n after in
-    let following : drop n after ≡ after_csrcs octets = drop-drop n 12 octets ∙ ap (λ (k : ℕ). drop k octets) (omega arith) in
+    let following : drop n after ≡ after_csrcs octets = drop-drop n 12 octets
+    ∙ ap (λ (k : ℕ). drop k octets) (omega arith) in
     let on = extension_on (has_extension octets) (after_csrcs octets) h.extension in
     let ends = padding_on (has_padding octets) (after_extension octets) h.padding in
     let whole : fixed ++ after ≡ octets = take-append-drop 12 octets in
@@ -117,7 +138,9 @@ parts_made octets head h =
       sources = sources;
       extension = on.0;
       padding = ends.0;
-      parts = sym whole ∙ ap (λ (t : List ℕ). fixed ++ t) (sym (take-append-drop n after) ∙ ap (λ (t : List ℕ). sources ++ t) (following ∙ on.1 ∙ ap (λ (t : List ℕ). on.0 ++ t) ends.1));
+      parts = sym whole ∙ ap (λ (t : List ℕ). fixed ++ t)
+          (sym (take-append-drop n after)
+          ∙ ap (λ (t : List ℕ). sources ++ t) (following ∙ on.1 ∙ ap (λ (t : List ℕ). on.0 ++ t) ends.1));
       is_fixed = record {
         size = size;
         version = ap (λ (k : ℕ). k / 64) (sym same.first) ∙ h.version;

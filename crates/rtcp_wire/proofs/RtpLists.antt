@@ -24,9 +24,11 @@ big_from-append (suc n) i x y h =
     cc
 
 -- So may those of one that begins at a place in it.
-pub big_number-prefix : (n i : ℕ) (x y : List ℕ) → i + n ≤ length x → big_number n (drop i (x ++ y)) ≡ big_number n (drop i x)
+pub big_number-prefix : (n i : ℕ) (x y : List ℕ) → i + n ≤ length x →
+    big_number n (drop i (x ++ y)) ≡ big_number n (drop i x)
 big_number-prefix n i x y h =
-    ap (λ (t : List ℕ). big_number n t) (drop-append-le i x y (omega arith)) ∙ big_from-append n 0 (drop i x) y (omega (arith, length-drop i x))
+    ap (λ (t : List ℕ). big_number n t) (drop-append-le i x y (omega arith))
+    ∙ big_from-append n 0 (drop i x) y (omega (arith, length-drop i x))
 
 -- ---- Contributing sources
 
@@ -40,7 +42,8 @@ csrcs_in-append (a ∷ b ∷ c ∷ []) y h = absurd (omega arith)
 csrcs_in-append (a ∷ b ∷ c ∷ d ∷ e ∷ x) y h = absurd (omega arith)
 
 -- Octets that are joined of sources say these and no others.
-pub joined_csrcs : (csrcs octets : List ℕ) → Joins IsCsrc csrcs octets → (length octets ≡ 4 * length csrcs) × (csrcs ≡ csrcs_in octets)
+pub joined_csrcs : (csrcs octets : List ℕ) → Joins IsCsrc csrcs octets →
+    (length octets ≡ 4 * length csrcs) × (csrcs ≡ csrcs_in octets)
 joined_csrcs [] octets h = (omega (arith, ap length h), ap csrcs_in (sym h))
 joined_csrcs (x ∷ xs) octets h =
     let others = joined_csrcs xs h.1 h.4 in
@@ -50,7 +53,8 @@ joined_csrcs (x ∷ xs) octets h =
     (omega (arith, ap length h.2, length-append h.0 h.1, h.3.0, others.0), cc)
 
 -- Whole words are joined of as many sources.
-pub words_joined : (n : ℕ) (octets : List ℕ) → length octets ≡ 4 * n → Joins IsCsrc (csrcs_in octets) octets × (length (csrcs_in octets) ≡ n)
+pub words_joined : (n : ℕ) (octets : List ℕ) → length octets ≡ 4 * n → Joins IsCsrc (csrcs_in octets) octets
+    × (length (csrcs_in octets) ≡ n)
 words_joined zero [] h = (refl, refl)
 words_joined zero (a ∷ octets) h = absurd (omega arith)
 words_joined (suc n) (a ∷ b ∷ c ∷ d ∷ rest) h =
@@ -62,7 +66,8 @@ words_joined (suc n) (a ∷ b ∷ []) h = absurd (omega arith)
 words_joined (suc n) (a ∷ b ∷ c ∷ []) h = absurd (omega arith)
 
 -- Where a word stands first, one source more does.
-pub csrcs_in-word : (octets : List ℕ) → 4 ≤ length octets → csrcs_in octets ≡ big_number 4 octets ∷ csrcs_in (drop 4 octets)
+pub csrcs_in-word : (octets : List ℕ) → 4 ≤ length octets → csrcs_in octets ≡ big_number 4 octets ∷ csrcs_in
+    (drop 4 octets)
 csrcs_in-word (a ∷ b ∷ c ∷ d ∷ rest) h = refl
 csrcs_in-word [] h = absurd (omega arith)
 csrcs_in-word (a ∷ []) h = absurd (omega arith)
@@ -76,7 +81,8 @@ extension_size-append : (x y : List ℕ) → 4 ≤ length x → extension_size (
 extension_size-append x y h = ap (λ (n : ℕ). 4 + 4 * n) (big_number-prefix 2 2 x y h)
 
 -- What follows an extension is what is left without it.
-pub extension_off : (extended : Bool) (x y : List ℕ) → IsExtensionPart extended x → (without_extension extended (x ++ y) ≡ y) × (extended ≡ true → extension_size (x ++ y) ≤ length (x ++ y))
+pub extension_off : (extended : Bool) (x y : List ℕ) → IsExtensionPart extended x →
+    (without_extension extended (x ++ y) ≡ y) × (extended ≡ true → extension_size (x ++ y) ≤ length (x ++ y))
 extension_off true x y h =
     let size : extension_size (x ++ y) ≡ extension_size x = extension_size-append x y (omega arith) in (
       (cut_at (x ++ y) x y (extension_size (x ++ y)) refl (h ∙ sym size)).1,
@@ -85,7 +91,8 @@ extension_off true x y h =
 extension_off false x y h = (ap (λ (t : List ℕ). t ++ y) h, λ e. absurd cc)
 
 -- Where there is room for it, an extension stands first.
-pub extension_on : (extended : Bool) (b : List ℕ) → (extended ≡ true → extension_size b ≤ length b) → (x : List ℕ) × (b ≡ x ++ without_extension extended b) × IsExtensionPart extended x
+pub extension_on : (extended : Bool) (b : List ℕ) → (extended ≡ true → extension_size b ≤ length b) →
+    (x : List ℕ) × (b ≡ x ++ without_extension extended b) × IsExtensionPart extended x
 extension_on true b room =
     let x : List ℕ = take (extension_size b) b in
     let rest : List ℕ = drop (extension_size b) b in
@@ -103,7 +110,8 @@ last_of-append x o =
     ap (λ (i : ℕ). slice_index (x ++ o ∷ []) i) place ∙ get_or-append_seam x o [] 0
 
 -- What stands before the padding is what is left without it.
-pub padding_off : (padded : Bool) (x y : List ℕ) → IsPaddingPart padded y → (without_padding padded (x ++ y) ≡ x) × (padded ≡ true → IsPadded (x ++ y))
+pub padding_off : (padded : Bool) (x y : List ℕ) → IsPaddingPart padded y → (without_padding padded (x ++ y) ≡ x)
+    × (padded ≡ true → IsPadded (x ++ y))
 padding_off true x y h =
     let n : ℕ = length h.0 + 1 in
     let whole : x ++ y ≡ (x ++ h.0) ++ n ∷ [] = ap (λ (t : List ℕ). x ++ t) h.1 ∙ sym (append_assoc x h.0 (n ∷ [])) in
@@ -123,7 +131,8 @@ last_apart b some =
     sym all ∙ take_more b n 0 (omega arith)
 
 -- Where it is counted right, padding stands at the end.
-pub padding_on : (padded : Bool) (b : List ℕ) → (padded ≡ true → IsPadded b) → (y : List ℕ) × (b ≡ without_padding padded b ++ y) × IsPaddingPart padded y
+pub padding_on : (padded : Bool) (b : List ℕ) → (padded ≡ true → IsPadded b) →
+    (y : List ℕ) × (b ≡ without_padding padded b ++ y) × IsPaddingPart padded y
 padding_on true b counts =
     let good : IsPadded b = counts refl in
     let n : ℕ = last_of b in
@@ -132,7 +141,8 @@ padding_on true b counts =
     let size : length y ≡ n = omega (arith, length-drop k b, good.0, good.1) in
     let free : List ℕ = take (length y - 1) y in
     let free_size : length free + 1 ≡ n = omega (arith, length-take-le (length y - 1) y (omega arith), size, good.0) in
-    let last : last_of y ≡ n = get_or-drop k b (length y - 1) 0 ∙ ap (λ (i : ℕ). slice_index b i) (omega (arith, size, good.0, good.1)) in
+    let last : last_of y ≡ n = get_or-drop k b (length y - 1) 0
+    ∙ ap (λ (i : ℕ). slice_index b i) (omega (arith, size, good.0, good.1)) in
     let ends : y ≡ free ++ last_of y ∷ [] = last_apart y (omega (arith, size, good.0)) in
     (y, sym (take-append-drop k b), (free, ends ∙ ap (λ (o : ℕ). free ++ o ∷ []) (last ∙ sym free_size)))
 padding_on false b counts = ([], search Rattle.std.proofs.Common.rules, refl)

@@ -6,7 +6,15 @@ use Rattle.rtcp_wire.proofs.RtpFaults.{is_short, is_version, is_payload_type, is
 
 -- what a packet of sequence number 1, timestamp 2 and source 3 says
 abbrev value : ℕ → Bool → List ℕ → List ℕ → RtpValue
-value payload_type marker csrcs payload = record { payload_type = payload_type; marker = marker; sequence = 1; timestamp = 2; ssrc = 3; csrcs = csrcs; payload = payload }
+value payload_type marker csrcs payload = record {
+  payload_type = payload_type;
+  marker = marker;
+  sequence = 1;
+  timestamp = 2;
+  ssrc = 3;
+  csrcs = csrcs;
+  payload = payload;
+}
 
 -- the fixed part of such a packet, by its first two octets
 abbrev fixed : ℕ → ℕ → List ℕ
@@ -27,14 +35,24 @@ differs e = absurd cc
 -- ---- Packets
 
 -- 90000001 00000002 00000003 00050001 aabbccdd 0102
-pub extended_read : IsRtpHead (fixed 144 0 ++ 0 ∷ 5 ∷ 0 ∷ 1 ∷ 170 ∷ 187 ∷ 204 ∷ 221 ∷ 1 ∷ 2 ∷ []) (value 0 false [] (1 ∷ 2 ∷ []))
+pub extended_read : IsRtpHead (fixed 144 0 ++ 0 ∷ 5 ∷ 0 ∷ 1 ∷ 170 ∷ 187 ∷ 204 ∷ 221 ∷ 1 ∷ 2 ∷ [])
+    (value 0 false [] (1 ∷ 2 ∷ []))
 extended_read = record {
   fixed = fixed 144 0;
   sources = [];
   extension = 0 ∷ 5 ∷ 0 ∷ 1 ∷ 170 ∷ 187 ∷ 204 ∷ 221 ∷ [];
   padding = [];
   parts = refl;
-  is_fixed = record { size = refl; version = refl; payload_type = refl; not_reserved = is_free 0 (omega arith); marker = refl; sequence = refl; timestamp = refl; ssrc = refl };
+  is_fixed = record {
+    size = refl;
+    version = refl;
+    payload_type = refl;
+    not_reserved = is_free 0 (omega arith);
+    marker = refl;
+    sequence = refl;
+    timestamp = refl;
+    ssrc = refl;
+  };
   counted = refl;
   each = refl;
   is_extension = refl;
@@ -49,7 +67,16 @@ padded_read = record {
   extension = [];
   padding = 1 ∷ 2 ∷ [];
   parts = refl;
-  is_fixed = record { size = refl; version = refl; payload_type = refl; not_reserved = is_free 0 (omega arith); marker = refl; sequence = refl; timestamp = refl; ssrc = refl };
+  is_fixed = record {
+    size = refl;
+    version = refl;
+    payload_type = refl;
+    not_reserved = is_free 0 (omega arith);
+    marker = refl;
+    sequence = refl;
+    timestamp = refl;
+    ssrc = refl;
+  };
   counted = refl;
   each = refl;
   is_extension = refl;
@@ -64,7 +91,16 @@ one_source_read = record {
   extension = [];
   padding = [];
   parts = refl;
-  is_fixed = record { size = refl; version = refl; payload_type = refl; not_reserved = is_free 0 (omega arith); marker = refl; sequence = refl; timestamp = refl; ssrc = refl };
+  is_fixed = record {
+    size = refl;
+    version = refl;
+    payload_type = refl;
+    not_reserved = is_free 0 (omega arith);
+    marker = refl;
+    sequence = refl;
+    timestamp = refl;
+    ssrc = refl;
+  };
   counted = refl;
   each = (0 ∷ 0 ∷ 0 ∷ 4 ∷ [], [], refl, (refl, refl), refl);
   is_extension = refl;
@@ -72,14 +108,24 @@ one_source_read = record {
 }
 
 -- a packet of no payload, by its second octet
-plain : (second kind : ℕ) (marker : Bool) → (IsReserved kind → ⊥) → kind ≡ payload_type_of (fixed 128 second) → marker ≡ marker_of (fixed 128 second) → IsRtpHead (fixed 128 second) (value kind marker [] [])
+plain : (second kind : ℕ) (marker : Bool) → (IsReserved kind → ⊥) → kind ≡ payload_type_of (fixed 128 second) →
+    marker ≡ marker_of (fixed 128 second) → IsRtpHead (fixed 128 second) (value kind marker [] [])
 plain second kind marker free is_kind is_marker = record {
   fixed = fixed 128 second;
   sources = [];
   extension = [];
   padding = [];
   parts = refl;
-  is_fixed = record { size = refl; version = refl; payload_type = is_kind; not_reserved = free; marker = is_marker; sequence = refl; timestamp = refl; ssrc = refl };
+  is_fixed = record {
+    size = refl;
+    version = refl;
+    payload_type = is_kind;
+    not_reserved = free;
+    marker = is_marker;
+    sequence = refl;
+    timestamp = refl;
+    ssrc = refl;
+  };
   counted = refl;
   each = refl;
   is_extension = refl;
@@ -113,7 +159,8 @@ pub version_refused : IsRtpFault (fixed 64 0) Version
 version_refused = is_version (fixed 64 0) (omega arith) (λ e. absurd (omega arith))
 
 -- 80480001, 804c0001, 80c80001 and 80cc0001, each before 00000002 00000003
-pub reserved_refused : IsRtpFault (fixed 128 72) PayloadType × IsRtpFault (fixed 128 76) PayloadType × IsRtpFault (fixed 128 200) PayloadType × IsRtpFault (fixed 128 204) PayloadType
+pub reserved_refused : IsRtpFault (fixed 128 72) PayloadType × IsRtpFault (fixed 128 76) PayloadType × IsRtpFault
+    (fixed 128 200) PayloadType × IsRtpFault (fixed 128 204) PayloadType
 reserved_refused = (
   is_payload_type (fixed 128 72) (omega arith) refl (omega arith, omega arith),
   is_payload_type (fixed 128 76) (omega arith) refl (omega arith, omega arith),
@@ -123,16 +170,20 @@ reserved_refused = (
 
 -- 90000001 00000002 00000003 00050001 aabbcc
 pub extension_refused : IsRtpFault (fixed 144 0 ++ 0 ∷ 5 ∷ 0 ∷ 1 ∷ 170 ∷ 187 ∷ 204 ∷ []) Extension
-extension_refused = is_extension (fixed 144 0 ++ 0 ∷ 5 ∷ 0 ∷ 1 ∷ 170 ∷ 187 ∷ 204 ∷ []) (omega arith) refl (is_free 0 (omega arith)) (refl, omega arith)
+extension_refused = is_extension (fixed 144 0 ++ 0 ∷ 5 ∷ 0 ∷ 1 ∷ 170 ∷ 187 ∷ 204 ∷ []) (omega arith) refl
+    (is_free 0 (omega arith)) (refl, omega arith)
 
 -- a0000001 00000002 00000003 0103
 pub padding_refused : IsRtpFault (fixed 160 0 ++ 1 ∷ 3 ∷ []) Padding
-padding_refused = is_padding (fixed 160 0 ++ 1 ∷ 3 ∷ []) (omega arith) refl (is_free 0 (omega arith)) (λ set. absurd (differs set)) (refl, inr (inr (omega arith)))
+padding_refused = is_padding (fixed 160 0 ++ 1 ∷ 3 ∷ []) (omega arith) refl (is_free 0 (omega arith))
+    (λ set. absurd (differs set)) (refl, inr (inr (omega arith)))
 
 -- a0000001 00000002 00000003
 pub no_padding_refused : IsRtpFault (fixed 160 0) Padding
-no_padding_refused = is_padding (fixed 160 0) (omega arith) refl (is_free 0 (omega arith)) (λ set. absurd (differs set)) (refl, inl refl)
+no_padding_refused = is_padding (fixed 160 0) (omega arith) refl (is_free 0 (omega arith)) (λ set. absurd (differs set))
+    (refl, inl refl)
 
 -- a0000001 00000002 00000003 0100
 pub zero_padding_refused : IsRtpFault (fixed 160 0 ++ 1 ∷ 0 ∷ []) Padding
-zero_padding_refused = is_padding (fixed 160 0 ++ 1 ∷ 0 ∷ []) (omega arith) refl (is_free 0 (omega arith)) (λ set. absurd (differs set)) (refl, inr (inl refl))
+zero_padding_refused = is_padding (fixed 160 0 ++ 1 ∷ 0 ∷ []) (omega arith) refl (is_free 0 (omega arith))
+    (λ set. absurd (differs set)) (refl, inr (inl refl))

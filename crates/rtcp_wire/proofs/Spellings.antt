@@ -1,4 +1,5 @@
--- A packet's first four octets say how long it is, so its octets are no proper prefix of another packet's, and they say one packet.
+-- A packet's first four octets say how long it is, so its octets are no proper prefix of another packet's, and they say
+-- one packet.
 use Rattle.std.proofs.Common.{◌≡◌, ℕ, ◌+◌, ◌-◌, ◌*◌, ◌<◌, ◌≤◌, Bool, cond, List, [], ◌∷◌, ◌++◌, length, get_or, take, drop, refl, sym, ap, subst, ◌∙◌, arith}
 use Rattle.std.proofs.lemmas.List.{get_or_append_left, take-append-le, drop-append-le, length-drop}
 use Rattle.std.proofs.lemmas.List.{take-append-drop, length-take-le}
@@ -25,7 +26,13 @@ same_header [] after h = absurd (omega arith)
 same_header (o ∷ []) after h = absurd (omega arith)
 same_header (o ∷ p ∷ []) after h = absurd (omega arith)
 same_header (o ∷ p ∷ q ∷ []) after h = absurd (omega arith)
-same_header (o ∷ p ∷ q ∷ r ∷ s) after h = record { version = refl; padded = refl; count = refl; kind = refl; size = refl }
+same_header (o ∷ p ∷ q ∷ r ∷ s) after h = record {
+  version = refl;
+  padded = refl;
+  count = refl;
+  kind = refl;
+  size = refl;
+}
 
 -- A whole packet has its padding and its body, whatever follows it.
 pub record SameParts (s b : List ℕ) : Type 0 where
@@ -42,9 +49,11 @@ same_choice : (p q : Bool) (x y : ℕ) → p ≡ q → x ≡ y → cond p x 0 �
 same_choice p q x y same e = cc
 
 -- a part of the prefix, after the header
-take_prefix : (s after : List ℕ) (n m : ℕ) → n ≡ m → 4 ≤ length s → m ≤ length s - 4 → take n (drop 4 (s ++ after)) ≡ take m (drop 4 s)
+take_prefix : (s after : List ℕ) (n m : ℕ) → n ≡ m → 4 ≤ length s → m ≤ length s - 4 →
+    take n (drop 4 (s ++ after)) ≡ take m (drop 4 s)
 take_prefix s after n m same h le =
-    ap (λ (k : ℕ). take k (drop 4 (s ++ after))) same ∙ ap (take m) (drop-append-le 4 s after h) ∙ take-append-le m (drop 4 s) after (omega (arith, length-drop 4 s))
+    ap (λ (k : ℕ). take k (drop 4 (s ++ after))) same ∙ ap (take m) (drop-append-le 4 s after h)
+    ∙ take-append-le m (drop 4 s) after (omega (arith, length-drop 4 s))
 
 -- the size of a body
 less : (a b c d : ℕ) → a ≡ b → c ≡ d → a - 4 - c ≡ b - 4 - d
@@ -55,12 +64,16 @@ pub same_parts : (s after : List ℕ) → 4 ≤ length s → length s ≡ size_o
 same_parts s after h whole =
     let header : SameHeader s (s ++ after) = same_header s after h in
     let padding : padding_of (s ++ after) ≡ padding_of s =
-    same_choice (is_padded (s ++ after)) (is_padded s) (get_or (s ++ after) (size_of (s ++ after) - 1) 0) (get_or s (size_of s - 1) 0) header.padded
-    (at_start s after (size_of (s ++ after) - 1) (size_of s - 1) (ap (λ (n : ℕ). n - 1) header.size) (below_one (length s) (size_of s) whole h)) in
+    same_choice (is_padded (s ++ after)) (is_padded s) (get_or (s ++ after) (size_of (s ++ after) - 1) 0)
+    (get_or s (size_of s - 1) 0) header.padded
+    (at_start s after (size_of (s ++ after) - 1) (size_of s - 1) (ap (λ (n : ℕ). n - 1) header.size)
+    (below_one (length s) (size_of s) whole h)) in
     record {
       header = header;
       padding = padding;
-      body = take_prefix s after (size_of (s ++ after) - 4 - padding_of (s ++ after)) (size_of s - 4 - padding_of s) (less (size_of (s ++ after)) (size_of s) (padding_of (s ++ after)) (padding_of s) header.size padding) h (at_most (length s) (size_of s) (padding_of s) whole);
+      body = take_prefix s after (size_of (s ++ after) - 4 - padding_of (s ++ after)) (size_of s - 4 - padding_of s)
+          (less (size_of (s ++ after)) (size_of s) (padding_of (s ++ after)) (padding_of s) header.size padding) h
+          (at_most (length s) (size_of s) (padding_of s) whole);
     }
   where
     below_one : (n m : ℕ) → n ≡ m → 4 ≤ n → m - 1 < n
@@ -91,7 +104,12 @@ is_own octets room =
     let size : length s ≡ size_of octets = length-take-le (size_of octets) octets room in
     let long : 4 ≤ length s = four_times (length s) (big_number 2 (drop 2 octets)) size in
     let sizes : size_of octets ≡ size_of s = ap size_of (sym whole) ∙ (same_header s after long).size in
-    record { long = long; size = size ∙ sizes; parts = subst (λ (t : List ℕ). SameParts s t) whole (same_parts s after long (size ∙ sizes)) }
+    record {
+      long = long;
+      size = size ∙ sizes;
+      parts = subst (λ (t : List ℕ). SameParts s t) whole
+          (same_parts s after long (size ∙ sizes));
+    }
 
 -- A spelling has its header.
 pub spelling_length : (p : RtcpPacket) (s : List ℕ) → IsSpelling p s → 4 ≤ length s
@@ -108,11 +126,14 @@ spelling_has_octets p h = absurd (omega (arith, spelling_length p [] h))
 -- ---- One packet for each spelling
 
 -- No spelling is a proper prefix of another, and a spelling says one packet.
-pub one_spelling : (p q : RtcpPacket) (s t x y : List ℕ) → IsSpelling p s → IsSpelling q t → s ++ x ≡ t ++ y → (s ≡ t) × (p ≡ q)
+pub one_spelling : (p q : RtcpPacket) (s t x y : List ℕ) → IsSpelling p s → IsSpelling q t → s ++ x ≡ t ++ y →
+    (s ≡ t) × (p ≡ q)
 one_spelling p q s t x y h k e =
-    let sizes : length s ≡ length t = h.size ∙ sym (spelling_parts p s x h).header.size ∙ ap size_of e ∙ (spelling_parts q t y k).header.size ∙ sym k.size in
+    let sizes : length s ≡ length t = h.size ∙ sym (spelling_parts p s x h).header.size ∙ ap size_of e
+    ∙ (spelling_parts q t y k).header.size ∙ sym k.size in
     let same : s ≡ t = (same_prefixes s t x y sizes e).0 in
-    let other_body : IsBody q (type_of s) (count_of s) (body_of s) = (subst (λ (z : List ℕ). IsSpelling q z) (sym same) k).body in
+    let other_body : IsBody q (type_of s) (count_of s) (body_of s) =
+    (subst (λ (z : List ℕ). IsSpelling q z) (sym same) k).body in
     (same, same_body p q (type_of s) (count_of s) (body_of s) h.body other_body)
 
 -- A datagram is read in one way.

@@ -23,7 +23,11 @@ two_chunks : packets_in (report
     ++ 0x82 ∷ 0xca ∷ 0 ∷ 6 ∷ 0 ∷ 0 ∷ 0 ∷ 7 ∷ 7 ∷ 0 ∷ 2 ∷ 2 ∷ 0x62 ∷ 0x63 ∷ 0 ∷ 0xff
     ∷ 0 ∷ 0 ∷ 0 ∷ 8 ∷ 0 ∷ 0xff ∷ 0xff ∷ 0xff ∷ 0 ∷ 0 ∷ 0 ∷ 0 ∷ [])
     ≡ rr 7 [] []
-    ∷ sdes (record { id = 7; items = record { kind = 7; text = [] } ∷ record { kind = 2; text = 0x62 ∷ 0x63 ∷ [] } ∷ [] }
+    ∷ sdes (record {
+      id = 7;
+      items = record { kind = 7; text = [] } ∷ record { kind = 2; text = 0x62 ∷ 0x63 ∷ [] }
+          ∷ [];
+    }
     ∷ record { id = 8; items = [] } ∷ []) ∷ []
 two_chunks = refl
 
@@ -37,23 +41,35 @@ with_reason : packets_in (report ++ 0x81 ∷ 0xcb ∷ 0 ∷ 2 ∷ 0 ∷ 0 ∷ 0 
     ≡ rr 7 [] [] ∷ bye (7 ∷ []) (Some (0x61 ∷ 0x62 ∷ [])) ∷ []
 with_reason = refl
 
-empty_reason : packets_in (report ++ 0x81 ∷ 0xcb ∷ 0 ∷ 2 ∷ 0 ∷ 0 ∷ 0 ∷ 7 ∷ 0 ∷ 0 ∷ 0 ∷ 0 ∷ []) ≡ rr 7 [] [] ∷ bye (7 ∷ []) (Some []) ∷ []
+empty_reason : packets_in (report ++ 0x81 ∷ 0xcb ∷ 0 ∷ 2 ∷ 0 ∷ 0 ∷ 0 ∷ 7 ∷ 0 ∷ 0 ∷ 0 ∷ 0 ∷ []) ≡ rr 7 [] [] ∷ bye
+    (7 ∷ []) (Some []) ∷ []
 empty_reason = refl
 
 no_source : packets_in (report ++ 0x80 ∷ 0xcb ∷ 0 ∷ 0 ∷ []) ≡ rr 7 [] [] ∷ bye [] None ∷ []
 no_source = refl
 
 -- an application's packet: name `ABCD`, four octets of data
-of_an_application : packets_in (report ++ 0x85 ∷ 0xcc ∷ 0 ∷ 3 ∷ 0 ∷ 0 ∷ 0 ∷ 7 ∷ 0x41 ∷ 0x42 ∷ 0x43 ∷ 0x44 ∷ 1 ∷ 2 ∷ 3 ∷ 4 ∷ [])
+of_an_application : packets_in
+    (report ++ 0x85 ∷ 0xcc ∷ 0 ∷ 3 ∷ 0 ∷ 0 ∷ 0 ∷ 7 ∷ 0x41 ∷ 0x42 ∷ 0x43 ∷ 0x44 ∷ 1 ∷ 2 ∷ 3 ∷ 4 ∷ [])
     ≡ rr 7 [] [] ∷ app 5 7 (0x41 ∷ 0x42 ∷ 0x43 ∷ 0x44 ∷ []) (1 ∷ 2 ∷ 3 ∷ 4 ∷ []) ∷ []
 of_an_application = refl
 
 -- a packet of another type, kept as it is
-of_another_type : packets_in (report ++ 0x83 ∷ 0xcf ∷ 0 ∷ 1 ∷ 9 ∷ 8 ∷ 7 ∷ 6 ∷ []) ≡ rr 7 [] [] ∷ other 207 3 (9 ∷ 8 ∷ 7 ∷ 6 ∷ []) ∷ []
+of_another_type : packets_in (report ++ 0x83 ∷ 0xcf ∷ 0 ∷ 1 ∷ 9 ∷ 8 ∷ 7 ∷ 6 ∷ []) ≡ rr 7 [] [] ∷ other 207 3
+    (9 ∷ 8 ∷ 7 ∷ 6 ∷ []) ∷ []
 of_another_type = refl
 
 -- a report of source 7 with one block, of fraction 25, lost 3, highest 11
-with_block : packets_in (0x81 ∷ 0xc9 ∷ 0 ∷ 7 ∷ 0 ∷ 0 ∷ 0 ∷ 7 ∷ 0 ∷ 0 ∷ 0 ∷ 0xaa ∷ 0x19 ∷ 0 ∷ 0 ∷ 3 ∷ 0 ∷ 0 ∷ 0 ∷ 0x0b ∷ 0 ∷ 0 ∷ 0 ∷ 0
+with_block : packets_in (0x81 ∷ 0xc9 ∷ 0 ∷ 7 ∷ 0 ∷ 0 ∷ 0 ∷ 7 ∷ 0 ∷ 0 ∷ 0 ∷ 0xaa ∷ 0x19 ∷ 0 ∷ 0 ∷ 3 ∷ 0 ∷ 0 ∷ 0 ∷ 0x0b
+    ∷ 0 ∷ 0 ∷ 0 ∷ 0
     ∷ 0xb7 ∷ 5 ∷ 0x20 ∷ 0 ∷ 0 ∷ 5 ∷ 0x40 ∷ 0 ∷ [])
-    ≡ rr 7 (record { ssrc = 0xaa; fraction = 25; lost = pos 3; highest = 11; jitter = 0; lsr = 0xb7052000; dlsr = 0x00054000 } ∷ []) [] ∷ []
+    ≡ rr 7 (record {
+      ssrc = 0xaa;
+      fraction = 25;
+      lost = pos 3;
+      highest = 11;
+      jitter = 0;
+      lsr = 0xb7052000;
+      dlsr = 0x00054000;
+    } ∷ []) [] ∷ []
 with_block = refl

@@ -1,4 +1,5 @@
--- Packets that are passed one after the other, to the datagram's end or to its first fault: a lemma for each step of the
+-- Packets that are passed one after the other, to the datagram's end or to its first fault: a lemma for each step of
+-- the
 -- tests, and a walk over any datagram by these steps.
 use Rattle.std.proofs.Common.{◌≡◌, ◌≢◌, ℕ, zero, suc, ◌-◌, ◌<◌, ◌≤◌, ◌⊎◌, ◌==◌, true, List, [], ◌∷◌, ◌++◌, length, drop, refl, sym, ap, subst, ◌∙◌, append_assoc, append-nil, arith, inl, inr}
 use Rattle.std.proofs.lemmas.Bool.{cases_lt, cases_eq, eq-eqb}
@@ -27,29 +28,46 @@ pub record HasPassed (datagram left : List ℕ) : Type 0 where
 
 -- at the start
 pub none_passed : (datagram : List ℕ) → length datagram ≤ 65535 → HasPassed datagram datagram
-none_passed datagram short = record { prefix = []; short = short; parts = refl; before = inl refl; more = some_or_none datagram }
+none_passed datagram short = record {
+  prefix = [];
+  short = short;
+  parts = refl;
+  before = inl refl;
+  more = some_or_none datagram;
+}
   where
     some_or_none : (octets : List ℕ) → (octets ≢ []) ⊎ (octets ≡ [])
     some_or_none [] = inr refl
     some_or_none (o ∷ octets) = inl (cons_not_nil o octets)
 
 -- A prefix with one packet more may begin a datagram.
-longer_begins : (prefix : List ℕ) (p : RtcpPacket) (s : List ℕ) → IsBefore prefix → IsSpelling p s → ((length prefix == 0) ≡ true → MayBegin s) → MayBegin (prefix ++ s)
-longer_begins prefix p s (inl none) h may = subst (λ (t : List ℕ). MayBegin (t ++ s)) (sym none) (may (eq-eqb (length prefix) 0 (ap length none)))
-longer_begins prefix p s (inr ([], accepted)) h may = subst (λ (t : List ℕ). MayBegin (t ++ s)) (sym accepted.joined) (may (eq-eqb (length prefix) 0 (ap length accepted.joined)))
+longer_begins : (prefix : List ℕ) (p : RtcpPacket) (s : List ℕ) → IsBefore prefix → IsSpelling p s →
+    ((length prefix == 0) ≡ true → MayBegin s) → MayBegin (prefix ++ s)
+longer_begins prefix p s (inl none) h may = subst (λ (t : List ℕ). MayBegin (t ++ s)) (sym none)
+    (may (eq-eqb (length prefix) 0 (ap length none)))
+longer_begins prefix p s (inr ([], accepted)) h may = subst (λ (t : List ℕ). MayBegin (t ++ s)) (sym accepted.joined)
+    (may (eq-eqb (length prefix) 0 (ap length accepted.joined)))
 longer_begins prefix p s (inr (q ∷ packets, accepted)) h may =
-    let enough : 4 ≤ length prefix = omega (arith, length_parts prefix accepted.joined.0 accepted.joined.1 accepted.joined.2, spelling_length q accepted.joined.0 accepted.joined.3) in
+    let enough : 4 ≤ length prefix =
+    omega (
+      arith,
+      length_parts prefix accepted.joined.0 accepted.joined.1 accepted.joined.2,
+      spelling_length q accepted.joined.0 accepted.joined.3,
+    ) in
     begins_on prefix (prefix ++ s) (same_header prefix s enough) accepted.begins
 
-module _ (datagram old : List ℕ) (place : ℕ) (h : HasPassed datagram old) (is : place ≡ length datagram - length old) where
+module _ (datagram old : List ℕ) (place : ℕ) (h : HasPassed datagram old)
+    (is : place ≡ length datagram - length old) where
   -- where the next packet begins
   place_is : place ≡ length h.prefix
   place_is = omega (arith, is, length_parts datagram h.prefix old h.parts)
 
   -- The next packet's fault is the datagram's first.
-  pub stops_next : (reason : FaultReason) → IsFirstFound reason (place == 0) old → IsFirstFault datagram (record { reason = reason; place = place })
+  pub stops_next : (reason : FaultReason) → IsFirstFound reason (place == 0) old →
+      IsFirstFault datagram (record { reason = reason; place = place })
   stops_next reason first =
-      let here : IsFirstFound reason (length h.prefix == 0) old = subst (λ (n : ℕ). IsFirstFound reason (n == 0) old) place_is first in
+      let here : IsFirstFound reason (length h.prefix == 0) old = subst (λ (n : ℕ). IsFirstFound reason (n == 0) old)
+      place_is first in
       inr (record {
         short = h.short;
         prefix = h.prefix;
@@ -76,19 +94,27 @@ module _ (datagram old : List ℕ) (place : ℕ) (h : HasPassed datagram old) (i
           so_far.0 ++ taken.2.0.0 ∷ [],
           record {
             short = omega (arith, h.short, length_parts datagram longer new parts_of);
-            begins = longer_begins h.prefix taken.2.0.0 taken.0 h.before taken.2.0.1 (λ is_first. taken.2.1 (subst (λ (n : ℕ). (n == 0) ≡ true) (sym place_is) is_first));
+            begins = longer_begins h.prefix taken.2.0.0 taken.0 h.before taken.2.0.1
+                (λ is_first. taken.2.1 (subst (λ (n : ℕ). (n == 0) ≡ true) (sym place_is) is_first));
             joined = Joins-push IsSpelling so_far.0 taken.2.0.0 h.prefix taken.0 so_far.1 taken.2.0.1;
           },
         )
 
     -- one packet more, where octets are left after it
     pub passed_more : length new ≢ 0 → HasPassed datagram new
-    passed_more left = record { prefix = longer; short = h.short; parts = parts_of; before = inr accepted; more = inl (λ none. left (ap length none)) }
+    passed_more left = record {
+      prefix = longer;
+      short = h.short;
+      parts = parts_of;
+      before = inr accepted;
+      more = inl (λ none. left (ap length none));
+    }
 
     -- one packet more, to the end
     pub passed_all : length new ≡ 0 → IsSomeDatagram datagram
     passed_all none =
-        let whole : datagram ≡ longer = parts_of ∙ ap (λ (t : List ℕ). longer ++ t) (nil_from_length new none) ∙ append-nil longer in
+        let whole : datagram ≡ longer = parts_of ∙ ap (λ (t : List ℕ). longer ++ t) (nil_from_length new none)
+        ∙ append-nil longer in
         subst IsSomeDatagram (sym whole) accepted
 
 -- the two outcomes
@@ -102,10 +128,20 @@ walk (suc n) datagram left below h =
     let place : ℕ = length datagram - length left in
     let new : List ℕ = drop (size_of left) left in
     elim (packet_from (place == 0) left) [
-      | inr fault ↦ inr (record { reason = fault.0; place = place }, stops_next datagram left place h refl fault.0 fault.1)
+      | inr fault ↦ inr (
+        record { reason = fault.0; place = place },
+        stops_next datagram left place h refl fault.0 fault.1,
+      )
       | inl taken ↦ elim (cases_eq (length new) 0) [
         | inl none ↦ inl (passed_all datagram left place h refl new taken none)
-        | inr some ↦ walk n datagram new (omega (arith, below, length_parts left taken.0 new taken.1, spelling_length taken.2.0.0 taken.0 taken.2.0.1)) (passed_more datagram left place h refl new taken some)
+        | inr some ↦ walk n datagram new
+            (omega (
+              arith,
+              below,
+              length_parts left taken.0 new taken.1,
+              spelling_length taken.2.0.0 taken.0 taken.2.0.1,
+            ))
+            (passed_more datagram left place h refl new taken some)
       ]
     ]
 

@@ -16,16 +16,19 @@ use Rattle.rtcp_wire.proofs.Joining.{Joins-cons}
 -- ---- Lists
 
 -- Where each value's octets spell it, all of them are joined.
-pub joins_written : {A : Type 0} (S : A → List ℕ → Type 0) (f : A → List ℕ) (P : A → Type 0) → ((x : A) → P x → S x (f x)) → (xs : List A) → All P xs → Joins S xs (flat_map f xs)
+pub joins_written : {A : Type 0} (S : A → List ℕ → Type 0) (f : A → List ℕ) (P : A → Type 0) →
+    ((x : A) → P x → S x (f x)) → (xs : List A) → All P xs → Joins S xs (flat_map f xs)
 joins_written S f P each [] all = refl
-joins_written S f P each (x ∷ xs) all = Joins-cons S x xs (f x) (flat_map f xs) (each x (All-head P x xs all)) (joins_written S f P each xs (All-tail P x xs all))
+joins_written S f P each (x ∷ xs) all = Joins-cons S x xs (f x) (flat_map f xs) (each x (All-head P x xs all))
+    (joins_written S f P each xs (All-tail P x xs all))
 
 -- what holds of each value in two ways
 pub both_all : {A : Type 0} (P Q : A → Type 0) (xs : List A) → All P xs → All Q xs → All (λ x. P x × Q x) xs
 both_all P Q xs all also k d lt = (all k d lt, also k d lt)
 
 -- Where each value has whole words, all have.
-pub words_joined : {A : Type 0} (f : A → List ℕ) → ((x : A) → length (f x) % 4 ≡ 0) → (xs : List A) → length (flat_map f xs) % 4 ≡ 0
+pub words_joined : {A : Type 0} (f : A → List ℕ) → ((x : A) → length (f x) % 4 ≡ 0) → (xs : List A) →
+    length (flat_map f xs) % 4 ≡ 0
 words_joined f each [] = refl
 words_joined f each (x ∷ xs) = omega (arith, each x, words_joined f each xs, length-append (f x) (flat_map f xs))
 
@@ -63,17 +66,21 @@ lost_back (negsuc n) low high =
 -- ---- Reports
 
 -- Equal fields make an equal sender,
-same_sender : (v : SenderValue) (a b c d e : ℕ) → v.ssrc ≡ a → v.ntp ≡ b → v.rtp ≡ c → v.packets ≡ d → v.octets ≡ e → v ≡ record { ssrc = a; ntp = b; rtp = c; packets = d; octets = e }
+same_sender : (v : SenderValue) (a b c d e : ℕ) → v.ssrc ≡ a → v.ntp ≡ b → v.rtp ≡ c → v.packets ≡ d → v.octets ≡ e →
+    v ≡ record { ssrc = a; ntp = b; rtp = c; packets = d; octets = e }
 same_sender v a b c d e p q r s t = rw (← p, ← q, ← r, ← s, ← t) refl
 
 -- and an equal block.
-same_block : (v : ReportBlock) (a b : ℕ) (z : ℤ) (c d e f : ℕ) → v.ssrc ≡ a → v.fraction ≡ b → v.lost ≡ z → v.highest ≡ c → v.jitter ≡ d → v.lsr ≡ e → v.dlsr ≡ f → v ≡ record { ssrc = a; fraction = b; lost = z; highest = c; jitter = d; lsr = e; dlsr = f }
+same_block : (v : ReportBlock) (a b : ℕ) (z : ℤ) (c d e f : ℕ) → v.ssrc ≡ a → v.fraction ≡ b → v.lost ≡ z →
+    v.highest ≡ c → v.jitter ≡ d → v.lsr ≡ e → v.dlsr ≡ f →
+    v ≡ record { ssrc = a; fraction = b; lost = z; highest = c; jitter = d; lsr = e; dlsr = f }
 same_block v a b z c d e f p q r s t u w = rw (← p, ← q, ← r, ← s, ← t, ← u, ← w) refl
 
 pub sender_written : (sender : SenderValue) → IsSenderInRange sender → sender ≡ sender_in (written_sender sender)
 sender_written sender fits =
     let octets : List ℕ = written_sender sender in
-    same_sender sender (big_number 4 octets) (big_number 8 (drop 4 octets)) (big_number 4 (drop 12 octets)) (big_number 4 (drop 16 octets)) (big_number 4 (drop 20 octets))
+    same_sender sender (big_number 4 octets) (big_number 8 (drop 4 octets)) (big_number 4 (drop 12 octets))
+    (big_number 4 (drop 16 octets)) (big_number 4 (drop 20 octets))
     (word_back sender.ssrc (drop 4 octets) fits.ssrc)
     (sym (big_number-reads_back 8 sender.ntp (drop 12 octets) fits.ntp))
     (word_back sender.rtp (drop 16 octets) fits.rtp)
@@ -81,16 +88,21 @@ sender_written sender fits =
     (word_back sender.octets [] fits.octets)
 
 -- The packets lost follow the fraction.
-lost_written : (block : ReportBlock) → IsWritableBlock block → block.lost ≡ twos_complement 3 (big_number 3 (drop 5 (written_block block)))
+lost_written : (block : ReportBlock) → IsWritableBlock block →
+    block.lost ≡ twos_complement 3 (big_number 3 (drop 5 (written_block block)))
 lost_written block is =
-    sym (ap (twos_complement 3) (big_number-reads_back 3 (low_bytes w64 3 block.lost) (drop 8 (written_block block)) (low_fits block.lost)) ∙ lost_back block.lost is.0 is.1)
+    sym (ap (twos_complement 3) (big_number-reads_back 3 (low_bytes w64 3 block.lost) (drop 8 (written_block block))
+    (low_fits block.lost)) ∙ lost_back block.lost is.0 is.1)
 
-pub block_written : (block : ReportBlock) → IsWritableBlock block × IsBlockInRange block → IsBlock block (written_block block)
+pub block_written : (block : ReportBlock) → IsWritableBlock block × IsBlockInRange block →
+    IsBlock block (written_block block)
 block_written block is =
     let octets : List ℕ = written_block block in
     let fits = is.1 in (
       refl,
-      same_block block (big_number 4 octets) block.fraction (twos_complement 3 (big_number 3 (drop 5 octets))) (big_number 4 (drop 8 octets)) (big_number 4 (drop 12 octets)) (big_number 4 (drop 16 octets)) (big_number 4 (drop 20 octets))
+      same_block block (big_number 4 octets) block.fraction (twos_complement 3 (big_number 3 (drop 5 octets)))
+          (big_number 4 (drop 8 octets)) (big_number 4 (drop 12 octets)) (big_number 4 (drop 16 octets))
+          (big_number 4 (drop 20 octets))
           (word_back block.ssrc (drop 4 octets) fits.ssrc)
           refl
           (lost_written block is.0)
@@ -121,7 +133,8 @@ chunk_words chunk =
     let items : List ℕ = flat_map written_item chunk.items in
     omega (arith, length-append items (0 ∷ fill_after (length items + 1)), fill_words (length items + 1))
 
-pub chunk_written : (chunk : ChunkValue) → IsWritableChunk chunk × IsChunkInRange chunk → IsChunk chunk (written_chunk chunk)
+pub chunk_written : (chunk : ChunkValue) → IsWritableChunk chunk × IsChunkInRange chunk →
+    IsChunk chunk (written_chunk chunk)
 chunk_written chunk is =
     let items : List ℕ = flat_map written_item chunk.items in
     record {
@@ -141,8 +154,17 @@ chunk_written chunk is =
 -- A reason is whole words.
 pub reason_words : (reason : Option (List ℕ)) → length (written_reason reason) % 4 ≡ 0
 reason_words None = refl
-reason_words (Some text) = omega (arith, length-append text (fill_after (length text + 1)), fill_words (length text + 1))
+reason_words (Some text) = omega (
+  arith,
+  length-append text (fill_after (length text + 1)),
+  fill_words (length text + 1),
+)
 
 pub reason_written : (reason : Option (List ℕ)) → IsReasonPart reason (written_reason reason)
 reason_written None = refl
-reason_written (Some text) = record { free = fill_after (length text + 1); parts = refl; fill = fill_few (length text + 1); aligned = reason_words (Some text) }
+reason_written (Some text) = record {
+  free = fill_after (length text + 1);
+  parts = refl;
+  fill = fill_few (length text + 1);
+  aligned = reason_words (Some text);
+}

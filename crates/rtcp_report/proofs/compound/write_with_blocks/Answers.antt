@@ -9,7 +9,8 @@ returns g c = (
   map block_value c.as_slice.result.now,
   record {
     blocks_are = ap (λ b. map block_value b) c.as_slice.ensures.value ∙ c.gather.ensures.blocks;
-    count = length-map c.as_slice.result.now block_value ∙ ap (λ b. length b) c.as_slice.ensures.value ∙ c.gather.ensures.count;
+    count = length-map c.as_slice.result.now block_value ∙ ap (λ b. length b) c.as_slice.ensures.value
+        ∙ c.gather.ensures.count;
     octets_are = c.write.ensures.octets;
     reads_back = c.write.ensures.reads_back;
     content = c.gather.ensures.content;

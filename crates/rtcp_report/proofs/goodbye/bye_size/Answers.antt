@@ -6,4 +6,9 @@ use Rattle.rtcp_report.proofs.goodbye.bye_size.Goals as goal
 
 pub returns-clause-exact : goal.returns-clause-exact
 returns-clause-exact c ssrc =
-    omega (arith, c.first_size.ensures.exact ssrc, all_length (packets_with (receiver_named ssrc c.args.cname.now) []) (goodbye ssrc))
+    omega (
+      arith,
+      c.first_size.ensures.exact ssrc,
+      all_length (packets_with (receiver_named ssrc c.args.cname.now) [])
+          (goodbye ssrc),
+    )

@@ -8,7 +8,8 @@ use Rattle.rtcp_report.proofs.goodbye.goodbye_of.Goals as goal
 
 pub packets_around-requires-clause-writable : goal.packets_around-requires-clause-writable
 packets_around-requires-clause-writable c =
-    description_writable (receiver_with c.args.ssrc (map item_ref_of c.args.items.now)) c.requires.writable (omega (arith, c.requires.short))
+    description_writable (receiver_with c.args.ssrc (map item_ref_of c.args.items.now)) c.requires.writable
+    (omega (arith, c.requires.short))
 
 pub packets_around-requires-clause-fits : goal.packets_around-requires-clause-fits
 packets_around-requires-clause-fits c =

@@ -10,8 +10,11 @@ use Rattle.rtcp_report.proofs.writing.write.Goals as goal
 
 pub compound_with-requires-clause-described : goal.compound_with-requires-clause-described
 compound_with-requires-clause-described c =
-    description_writable (reporter_with c.args.sender.now (map item_ref_of c.args.items.now)) c.requires.writable_items (omega (arith, c.requires.fits))
+    description_writable (reporter_with c.args.sender.now (map item_ref_of c.args.items.now)) c.requires.writable_items
+    (omega (arith, c.requires.fits))
 
 pub compound_with-requires-clause-fits : goal.compound_with-requires-clause-fits
 compound_with-requires-clause-fits c =
-    fits_by_size (reporter_with c.args.sender.now (map item_ref_of c.args.items.now)) (map block_value c.args.blocks.now) (length c.args.blocks.now) (length-map c.args.blocks.now block_value) c.requires.fits
+    fits_by_size (reporter_with c.args.sender.now (map item_ref_of c.args.items.now))
+    (map block_value c.args.blocks.now) (length c.args.blocks.now) (length-map c.args.blocks.now block_value)
+    c.requires.fits

@@ -10,7 +10,9 @@ item_in_packets-requires c = (accepted_as_read c.args.datagram.now (_, c.in-Ok.e
 
 pub returns-in-Ok-clause-gives : goal.returns-in-Ok-clause-gives
 returns-in-Ok-clause-gives c = λ packets accepted.
-    subst (λ packets. GivesAt (PlacesItem c.args.datagram.now) (all_items packets) c.args.index c.item_in_packets.result) (walks_read_encodings c.args.datagram.now packets accepted) c.item_in_packets.ensures
+    subst (λ packets. GivesAt (PlacesItem c.args.datagram.now) (all_items packets) c.args.index
+    c.item_in_packets.result) (walks_read_encodings c.args.datagram.now packets accepted)
+    c.item_in_packets.ensures
 
 pub returns-in-Ok-clause-finds : goal.returns-in-Ok-clause-finds
 returns-in-Ok-clause-finds c = λ fault first. absurd (cc (c.in-Ok.ensures.finds fault first))

@@ -6,7 +6,8 @@ pub returns-in-203 : goal.returns-in-203
 returns-in-203 c =
     let enough : c.fewest_octets.result ≤ length c.args.body.now = omega arith in
     let room = subst (λ n. n ≤ length c.args.body.now) c.fewest_octets.ensures enough in
-    goodbye_checked c.args.kind c.args.count c.args.body.now c.split_at.result.1.now c.check_reason.result c.in-203.is c.requires room c.split_at.ensures.back c.check_reason.ensures
+    goodbye_checked c.args.kind c.args.count c.args.body.now c.split_at.result.1.now c.check_reason.result c.in-203.is
+    c.requires room c.split_at.ensures.back c.check_reason.ensures
 
 pub returns-in_default : goal.returns-in_default
 returns-in_default c =

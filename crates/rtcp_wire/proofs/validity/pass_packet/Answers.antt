@@ -19,4 +19,5 @@ returns c =
       kind_is = fields.1 ∙ ap type_of c.rest.ensures;
       count_is = fields.0 ∙ ap count_of c.rest.ensures;
     } in
-    rw left (packet_passed c.args.is_first octets body header.kind header.count has c.check_body.result c.check_body.ensures)
+    rw left (packet_passed c.args.is_first octets body header.kind header.count has c.check_body.result
+    c.check_body.ensures)

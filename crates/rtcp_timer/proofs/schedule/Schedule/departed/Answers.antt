@@ -12,8 +12,11 @@ invariant_of-self c =
       | then-self-tc w ↦
           let last = ap (λ (s : Inside). s.last) w.self-inside-is in
           let next = ap (λ (s : Inside). s.next) w.self-inside-is in
-          let shorter = scaled_down_shorter (c.self.inside.next - c.args.tc) c.args.members c.self.inside.known (omega (arith, c.if-members-self.false)) in
-          (omega (arith, last, c.requires.moment_fits), omega (arith, next, shorter, w.scale_down-then-self-tc.ensures, w.if-self-tc.true, bounds.1))
+          let shorter = scaled_down_shorter (c.self.inside.next - c.args.tc) c.args.members c.self.inside.known
+          (omega (arith, c.if-members-self.false)) in (
+            omega (arith, last, c.requires.moment_fits),
+            omega (arith, next, shorter, w.scale_down-then-self-tc.ensures, w.if-self-tc.true, bounds.1),
+          )
       | else-self-tc w ↦
           let last = ap (λ (s : Inside). s.last) w.self-inside-is in
           let next = ap (λ (s : Inside). s.next) w.self-inside-is in

@@ -13,10 +13,14 @@ pub returns-in-Ok-clause-reads : goal.returns-in-Ok-clause-reads
 returns-in-Ok-clause-reads c = λ packets accepted. walks_read_encodings c.args.datagram.now packets accepted
 
 pub returns-in-Ok-clause-finds : goal.returns-in-Ok-clause-finds
-returns-in-Ok-clause-finds c = λ fault first. absurd (accepted_or_faulty-never_both c.args.datagram.now c.in-Ok.ensures.0 fault c.in-Ok.ensures.1 first)
+returns-in-Ok-clause-finds c =
+    λ fault first. absurd (accepted_or_faulty-never_both c.args.datagram.now c.in-Ok.ensures.0 fault c.in-Ok.ensures.1
+    first)
 
 pub returns-in-Err-clause-reads : goal.returns-in-Err-clause-reads
-returns-in-Err-clause-reads c = λ packets accepted. accepted_or_faulty-never_both c.args.datagram.now packets c.in-Err.fault accepted c.in-Err.ensures
+returns-in-Err-clause-reads c = λ packets accepted. accepted_or_faulty-never_both c.args.datagram.now packets
+    c.in-Err.fault accepted c.in-Err.ensures
 
 pub returns-in-Err-clause-finds : goal.returns-in-Err-clause-finds
-returns-in-Err-clause-finds c = λ fault first. ap Err (one_fault c.args.datagram.now c.in-Err.fault fault c.in-Err.ensures first)
+returns-in-Err-clause-finds c =
+    λ fault first. ap Err (one_fault c.args.datagram.now c.in-Err.fault fault c.in-Err.ensures first)

@@ -10,7 +10,8 @@ use Rattle.rtcp_wire.proofs.placed.items.item_in_chunks.Given as goal
 abbrev pub invariant-chunks : goal.invariant-chunks
 invariant-chunks l =
     HasChunks l.chunks l.rest × IsRest l.rest l.octets
-    × Passing (flat_map chunk_items (chunks_in l.count l.octets)) (flat_map chunk_items (chunks_in l.chunks l.rest)) l.index l.left
+    × Passing (flat_map chunk_items (chunks_in l.count l.octets)) (flat_map chunk_items (chunks_in l.chunks l.rest))
+    l.index l.left
 
 abbrev pub decreases-chunks : goal.decreases-chunks
 decreases-chunks l = l.chunks

@@ -8,12 +8,15 @@ pub returns-in-Ok : goal.returns-in-Ok
 returns-in-Ok c =
     let packet = c.first_packet-packet.result in
     let steps = c.first_packet-packet.ensures in
-    let found = packet_found packet_items c.args.index c.packets.left packet.kind packet.count c.args.datagram.now c.packets.rest.now packet.body.now packet.others.now c.packets.invariant steps.first
+    let found = packet_found packet_items c.args.index c.packets.left packet.kind packet.count c.args.datagram.now
+    c.packets.rest.now packet.body.now packet.others.now c.packets.invariant steps.first
     c.in-Ok.ensures.0 c.in-Ok.ensures.1 in
-    let stand = body_stands packet_items c.args.index c.packets.left packet.kind packet.count c.args.datagram.now c.packets.rest.now packet.body.now packet.others.now c.packets.invariant steps.first steps.place in (
+    let stand = body_stands packet_items c.args.index c.packets.left packet.kind packet.count c.args.datagram.now
+    c.packets.rest.now packet.body.now packet.others.now c.packets.invariant steps.first steps.place in (
       c.in-Ok.ensures.0,
       found,
-      item_moves _ packet.body.now c.args.datagram.now c.in-Ok.ensures.0 c.in-Ok.item (record { ssrc = c.in-Ok.item.ssrc; kind = c.in-Ok.item.kind; text = c.after.result })
+      item_moves _ packet.body.now c.args.datagram.now c.in-Ok.ensures.0 c.in-Ok.item
+          (record { ssrc = c.in-Ok.item.ssrc; kind = c.in-Ok.item.kind; text = c.after.result })
           c.in-Ok.ensures.2 stand refl refl c.after.ensures.place c.after.ensures.size,
     )
 
@@ -21,9 +24,11 @@ pub packets-preserved : goal.packets-preserved
 packets-preserved c =
     let packet = c.first_packet-packet.result in
     let steps = c.first_packet-packet.ensures in
-    packet_passed packet_items c.args.index c.packets.left packet.kind packet.count c.args.datagram.now c.packets.rest.now packet.body.now packet.others.now c.packets.invariant steps.first
+    packet_passed packet_items c.args.index c.packets.left packet.kind packet.count c.args.datagram.now
+    c.packets.rest.now packet.body.now packet.others.now c.packets.invariant steps.first
     c.in-Err.others c.in-Err.ensures steps.others steps.rest
 
 pub returns : goal.returns
 returns c =
-    packets_end packet_items c.args.index c.packets.left c.args.datagram.now c.packets.rest.now c.packets.invariant (none_left_to_read c.packets.rest.now c.is_empty.result c.is_empty.ensures c.packets-test.false)
+    packets_end packet_items c.args.index c.packets.left c.args.datagram.now c.packets.rest.now c.packets.invariant
+    (none_left_to_read c.packets.rest.now c.is_empty.result c.is_empty.ensures c.packets-test.false)

@@ -8,8 +8,10 @@ pub loop-preserved : goal.loop-preserved
 loop-preserved c =
     let old = c.loop.reader in
     let new = c.pass_chunk.new.reader in
-    let one = passed_if_some c.pass_chunk.result (EndsInChunk old) (Takes old new IsSomeChunk × (length new % 4 ≡ 0)) c.if-is_none.ensures c.pass_chunk.ensures in
+    let one = passed_if_some c.pass_chunk.result (EndsInChunk old) (Takes old new IsSomeChunk × (length new % 4 ≡ 0))
+    c.if-is_none.ensures c.pass_chunk.ensures in
     chunk_taken c.loop.counter c.args.body.now old new c.loop.invariant one.0 one.1
 
 pub returns : goal.returns
-returns c = all_chunks c.loop.counter c.args.count c.args.body.now c.loop.reader c.loop.invariant (omega arith) (omega arith)
+returns c = all_chunks c.loop.counter c.args.count c.args.body.now c.loop.reader c.loop.invariant (omega arith)
+    (omega arith)

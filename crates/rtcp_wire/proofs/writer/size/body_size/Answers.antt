@@ -12,17 +12,35 @@ pub returns-in-Sr : goal.returns-in-Sr
 returns-in-Sr c =
     let bs = c.in-Sr.blocks.now in
     let x = c.in-Sr.extension.now in
-    rw c.in-Sr.is (omega (arith, c.capped_sum.ensures, length-append (flat_map written_block (map block_value bs)) x, blocks_size bs))
+    rw c.in-Sr.is (omega (
+      arith,
+      c.capped_sum.ensures,
+      length-append (flat_map written_block (map block_value bs)) x,
+      blocks_size bs,
+    ))
 
 pub returns-in-Rr : goal.returns-in-Rr
 returns-in-Rr c =
     let bs = c.in-Rr.blocks.now in
     let x = c.in-Rr.extension.now in
-    rw c.in-Rr.is (omega (arith, c.capped_sum-in-Rr.ensures, length-append (flat_map written_block (map block_value bs)) x, blocks_size bs))
+    rw c.in-Rr.is (omega (
+      arith,
+      c.capped_sum-in-Rr.ensures,
+      length-append (flat_map written_block (map block_value bs))
+          x,
+      blocks_size bs,
+    ))
 
 pub returns-in-Bye : goal.returns-in-Bye
 returns-in-Bye c =
     let ids = c.in-Bye.ids.now in
     let reason = option_copied c.in-Bye.reason in
     let few = rw c.in-Bye.is at c.requires in
-    rw c.in-Bye.is (omega (arith, c.reason_size.ensures.value, c.reason_size.ensures.few, length-append (flat_map written_word ids) (written_reason reason), ids_size ids, few.0))
+    rw c.in-Bye.is (omega (
+      arith,
+      c.reason_size.ensures.value,
+      c.reason_size.ensures.few,
+      length-append (flat_map written_word ids) (written_reason reason),
+      ids_size ids,
+      few.0,
+    ))

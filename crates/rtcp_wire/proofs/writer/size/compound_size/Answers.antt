@@ -7,4 +7,6 @@ use Rattle.rtcp_wire.proofs.Appending.{all_here}
 use Rattle.rtcp_wire.proofs.writer.size.compound_size.Goals as goal
 
 pub body_size-requires : goal.body_size-requires
-body_size-requires c = (all_here IsWritable packet_ref_of c.args.packets.now c.loop-packet.packet-index (Sr 0 0 0 0 0 (record { ref_ptr = (0, 0); now = [] }) (record { ref_ptr = (0, 0); now = [] })) c.loop-packet-test.true c.requires).parts
+body_size-requires c = (all_here IsWritable packet_ref_of c.args.packets.now c.loop-packet.packet-index
+    (Sr 0 0 0 0 0 (record { ref_ptr = (0, 0); now = [] }) (record { ref_ptr = (0, 0); now = [] }))
+    c.loop-packet-test.true c.requires).parts

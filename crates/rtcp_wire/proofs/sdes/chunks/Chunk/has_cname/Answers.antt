@@ -7,4 +7,5 @@ use Rattle.rtcp_wire.specs.WriterViews.{item_ref_of}
 use Rattle.rtcp_wire.proofs.sdes.chunks.Chunk.has_cname.Goals as goal
 
 pub returns : goal.returns
-returns c = any_from_yields_List is_cname _ _ _ c.any.ensures.ran (YieldsList-from_first item_ref_of (λ items. items) _ c.items.ensures) (λ x b q k. search (rules, tests))
+returns c = any_from_yields_List is_cname _ _ _ c.any.ensures.ran
+    (YieldsList-from_first item_ref_of (λ items. items) _ c.items.ensures) (λ x b q k. search (rules, tests))
