@@ -1,13 +1,12 @@
 -- The laws of this crate as lemmas, for the proofs of the crates above: each has the name of its law, and of the
 -- clause where the law has several.
-use Rattle.std.proofs.Common.{◌≡◌, ◌↔◌, map, ℕ, ◌+◌, ◌-◌, ◌*◌, ◌/◌, ◌%◌, ◌≤◌, ◌^◌, ◌<◌, Bool, false, is_some, option_map, List, [], ◌∷◌, ◌++◌, length, slice_get, All, IfSome, Option, Some, None, Ok, Err, if◌then◌else◌, refl, sym, ap, ◌∙◌, arith, inl, inr}
+use Rattle.std.proofs.Common.{◌≡◌, ◌↔◌, map, ℕ, ◌+◌, ◌-◌, ◌*◌, ◌/◌, ◌%◌, ◌≤◌, ◌^◌, ◌<◌, Bool, false, is_some, option_map, List, [], ◌∷◌, ◌++◌, length, slice_get, IfSome, Option, Some, None, Ok, Err, if◌then◌else◌, refl, sym, ap, ◌∙◌, arith, inl, inr}
 use Rattle.std.specs.Option.{option_or}
 use Rattle.std.proofs.lemmas.Bool.{ne_eqb, eq-eqb, lt-ltb, le-ltb, cases_lt}
 use Rattle.rtcp_wire.specs.Values.{ItemValue}
 use Rattle.rtcp_wire.proofs.LawLemmas as wire
 use Rattle.rtcp_members.specs.Traces.{TraceStep, block_taken}
 use Rattle.rtcp_members.specs.Stays.{is_before}
-use Rattle.rtcp_members.specs.Past.{IsToldBy}
 use Rattle.rtcp_members.specs.Pending.{EntryRow, last_reported}
 use Rattle.rtcp_members.specs.Told.{StateValue}
 use Rattle.rtcp_report.specs.Traced.{with_blocks}
@@ -15,30 +14,32 @@ use Rattle.rtcp_engine.specs.declared.refusal.Refusal.{Refusal}
 use Rattle.rtcp_engine.specs.Setups.{Setup, IsUsable}
 use Rattle.rtcp_engine.specs.Refused.{error_in}
 use Rattle.rtcp_engine.specs.Acts.{Datagram, Act, moment_of, IsReading, IsRtpReading, IsTotal, IsUnique}
-use Rattle.rtcp_engine.specs.Lives.{TellsInLife, WalksInLife, out_by, own_bye}
+use Rattle.rtcp_engine.specs.Lives.{TellsInLife, out_by, own_bye}
 use Rattle.rtcp_engine.specs.Changes.{NewIdentifier, Session, bye_of_change, change_by, changed_by, changing_peers, is_taken, most_taken, new_identifier}
-use Rattle.rtcp_engine.specs.Identities.{AreApart, IsFirstFree, with_ssrc}
+use Rattle.rtcp_engine.specs.Identities.{AreApart, IsFirstFree}
 use Rattle.rtcp_engine.specs.OwnStreams.{OwnStep, packet_sent, check_passed, report_sent, counts_anew, sending_since}
 use Rattle.rtcp_engine.specs.OwnSending.{OutlastsChecks, IsSendingSince}
 use Rattle.rtcp_engine.specs.Reporting.{extra_item, last_reported_in}
-use Rattle.rtcp_engine.specs.Outcomes.{Outcome, timing_of}
-use Rattle.rtcp_engine.specs.Leaving.{Backoff, present, backing_off, leaving_timing}
-use Rattle.rtcp_engine.specs.Histories.{History, brought_by, last_moment, life_at, session_at, session_of, setup_at, with_act}
+use Rattle.rtcp_engine.specs.Histories.{History, brought_by, last_moment, life_at, session_at, setup_at, with_act}
 use Rattle.rtcp_engine.specs.Refusals.{refusal_after}
 use Rattle.rtcp_engine.specs.Steps.{answer_unless}
 use Rattle.rtcp_engine.specs.Answers.{step_by, answer_of, followed_by}
 use Rattle.rtcp_engine.specs.Taken.{IsHistory, NamesFew}
 use Rattle.rtcp_engine.specs.Sent.{reports_in, deciding_interval, sent_at, sent_with, handed_out, reports_of, counted_report}
-use Rattle.rtcp_engine.specs.Spacing.{newest_moment, LiesAfter, KeepsBounds}
-use Rattle.rtcp_engine.proofs.Changing.{bye_alone, same_but_ssrc, usable_in}
+use Rattle.rtcp_engine.proofs.Changing.{bye_alone}
 use Rattle.rtcp_engine.proofs.Choosing.{apart_listed, few_listed, new_is_free}
 use Rattle.rtcp_engine.proofs.Trying.{chosen_is_first}
-use Rattle.rtcp_engine.proofs.Past.{latest_in_range, told_after, walk_after}
+use Rattle.rtcp_engine.proofs.Past.{latest_in_range, told_after}
 use Rattle.rtcp_engine.proofs.Usable.{usable_of_unrefused, unrefused_of_usable}
 use Rattle.rtcp_engine.proofs.Counting.{reports_counted}
 use Rattle.rtcp_engine.specs.InTime.{AllInTime}
 use Rattle.rtcp_engine.proofs.Waiting.{all_in_time}
-use Rattle.rtcp_engine.proofs.Windows.{last_in_present, last_in_backoff, bounds_of}
+pub use Rattle.rtcp_engine.proofs.Windows.{last_in_present as last_lies_after_what_was_sent-present}
+pub use Rattle.rtcp_engine.proofs.Windows.{last_in_backoff as last_lies_after_what_was_sent-backing_off}
+pub use Rattle.rtcp_engine.proofs.Windows.{bounds_of as sent_compounds_keep_apart}
+pub use Rattle.rtcp_engine.proofs.Changing.{same_but_ssrc as changes_touch_the_identifier_alone-setup}
+pub use Rattle.rtcp_engine.proofs.Changing.{usable_in as changes_touch_the_identifier_alone-usable}
+pub use Rattle.rtcp_engine.proofs.Past.{walk_after as told_moments_have_passed-all}
 
 -- ---- Readings
 
@@ -148,17 +149,6 @@ last_block_is_newest (row ∷ rows) trace = last_block_is_newest rows (block_tak
 
 -- ---- Distances, sizes and the BYE
 
-pub last_lies_after_what_was_sent-present : (history : History) (outcome : Outcome) → IsHistory history → life_at history ≡ present outcome →
-    LiesAfter (newest_moment (reports_in (sent_at history))) outcome.happenings (timing_of outcome)
-last_lies_after_what_was_sent-present = last_in_present
-
-pub last_lies_after_what_was_sent-backing_off : (history : History) (outcome : Outcome) (backoff : Backoff) → IsHistory history →
-    life_at history ≡ backing_off outcome backoff → LiesAfter backoff.since backoff.happenings (leaving_timing backoff)
-last_lies_after_what_was_sent-backing_off = last_in_backoff
-
-pub sent_compounds_keep_apart : (history : History) → IsHistory history → KeepsBounds history
-sent_compounds_keep_apart = bounds_of
-
 pub sends_in_time : (history : History) → IsHistory history → AllInTime history.setup history.word history.acts
 sends_in_time history is = all_in_time history.setup history.word history.acts is.usable is.word is.taken
 
@@ -170,12 +160,6 @@ pub new_identifiers_are_free-first : (history : History) (datagram : Datagram) (
 new_identifiers_are_free-first history datagram word is fits few =
     let session = session_at history in
     chosen_is_first (most_taken session datagram) (is_taken session datagram) word fits (new_is_free history datagram word is fits few)
-
-pub changes_touch_the_identifier_alone-setup : (setup : Setup) (word : ℕ) (acts : List Act) → (session_of setup word acts).setup ≡ with_ssrc (session_of setup word acts).setup.ssrc setup
-changes_touch_the_identifier_alone-setup = same_but_ssrc
-
-pub changes_touch_the_identifier_alone-usable : (setup : Setup) (word : ℕ) (acts : List Act) → IsUsable setup → IsUsable (session_of setup word acts).setup
-changes_touch_the_identifier_alone-usable = usable_in
 
 pub changes_touch_the_identifier_alone-bye : (session : Session) (act : Act) (new : NewIdentifier) → change_by session act ≡ Some new → brought_by session act ≡ own_bye session.setup session.life
 changes_touch_the_identifier_alone-bye session act new is =
@@ -203,10 +187,6 @@ pub told_moments_have_passed-told : (history : History) → IsHistory history �
     TellsInLife (setup_at history) after (life_at history) (Some state) →
     IfSome state.told (λ told. told.moment ≤ last_moment history.acts)
 told_moments_have_passed-told history is after state tells = (told_after history is after state tells).told
-
-pub told_moments_have_passed-all : (history : History) → IsHistory history → (states : List StateValue) →
-    WalksInLife (setup_at history) (life_at history) states → All (IsToldBy (last_moment history.acts)) states
-told_moments_have_passed-all = walk_after
 
 pub told_moments_have_passed-range : (history : History) → IsHistory history → last_moment history.acts ≤ 2 ^ 50
 told_moments_have_passed-range history is = latest_in_range history.setup history.word history.acts is.taken

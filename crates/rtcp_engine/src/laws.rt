@@ -37,6 +37,7 @@ pub fn one_reading()
 {}
 
 /// A setup is usable exactly where no reason to refuse it applies.
+#[tactic(auto, using(crate::proofs::LawLemmas::usable_is_unrefused))]
 pub fn usable_is_unrefused()
     ensures { (setup : Setup) → IsUsable setup ↔ (error_in setup ≡ None) }
 {}
@@ -88,6 +89,7 @@ pub fn own_sending_lasts()
 {}
 
 /// What was sent over a session is what its answers handed out, each compound at the moment of its act.
+#[tactic(auto, using(crate::proofs::LawLemmas::answers_hand_out_compounds))]
 pub fn answers_hand_out_compounds()
     ensures { (history : History) (act : Act) → sent_at (followed_by history act)
         ≡ handed_out (moment_of act) (deciding_interval (session_at history) act) (answer_of history act)
@@ -96,6 +98,7 @@ pub fn answers_hand_out_compounds()
 
 /// The reports that a session counts, for its minimum interval and for the turns of its extra items, are those
 /// that it sent.
+#[tactic(auto, using(crate::proofs::LawLemmas::sent_reports_are_counted))]
 pub fn sent_reports_are_counted()
     ensures { (history : History) →
         reports_of (life_at history) ≡ map counted_report (reports_in (sent_at history)) }
@@ -128,6 +131,7 @@ pub fn sent_compounds_keep_apart()
 /// was computed since that report. In a backoff it sends the BYE that long after the leave (RFC 3550, 6.3.4,
 /// 6.3.6, 6.3.7). So nothing puts a report off for longer but members that go on falling, and a host that does
 /// not tick.
+#[tactic(auto, using(crate::proofs::LawLemmas::sends_in_time))]
 pub fn sends_in_time()
     ensures { (history : History) → IsHistory history →
         AllInTime history.setup history.word history.acts }
@@ -152,6 +156,7 @@ pub fn told_moments_have_passed()
 {}
 
 /// The source that was reported last is that of the newest block, over any number of blocks.
+#[tactic(auto, using(crate::proofs::LawLemmas::last_block_is_newest))]
 pub fn last_block_is_newest()
     ensures { (rows : List EntryRow) (trace : List TraceStep) →
         last_reported_in (with_blocks rows trace) ≡ last_reported (last_reported_in trace) rows }

@@ -32,6 +32,7 @@ pub fn tables_follow_traces()
 
 /// A trace has, for a capacity and a rate, one table that stands at it: so whatever is said of a table is
 /// said of its trace.
+#[tactic(auto, using(crate::proofs::TraceTables::table_stands, crate::proofs::TraceTables::only_table))]
 pub fn trace_has_one_table()
     ensures stands { (capacity rate : ℕ) (trace : List TraceStep) →
         StandsAt (table_at capacity rate trace) trace }
@@ -54,6 +55,7 @@ pub fn counts_agree()
 
 /// A table that stands at a trace has an entry of just the sources that have a stay; and the block of one that did not
 /// leave is that of all that its stay gave: its packets, its sender reports and the blocks made of it.
+#[tactic(auto, using(crate::proofs::Holding::held_as_stayed, crate::proofs::Holding::block_of_stay))]
 pub fn tables_hold_stays()
     ensures held { (table : TableValue) (trace : List TraceStep) (ssrc : ℕ) → StandsAt table trace →
         is_some (map.get table.entries ssrc) ≡ is_some (stay_of table.capacity trace ssrc) }
@@ -103,6 +105,7 @@ pub fn counts_are_ordered()
 {}
 
 /// A fact that is no goodbye never lowers the members of a trace.
+#[tactic(auto, using(crate::proofs::Growing::members_stay))]
 pub fn facts_keep_members()
     ensures { (capacity rate : ℕ) (trace : List TraceStep) (fact : Fact) (moment : ℕ) → is_gone fact ≡ false →
         members_at capacity rate trace ≤ members_at capacity rate (fact_came fact moment ∷ trace) }

@@ -29,6 +29,7 @@ pub fn roles_move_with_counts()
 {}
 
 /// Facts and checks change who is a member or who sends by the table where they do by the trace that it stands at.
+#[tactic(auto, using(crate::proofs::Roles::facts_alone_moved, crate::proofs::Roles::check_moved))]
 pub fn moves_follow_traces()
     ensures facts { (facts : List Fact) (moment : ℕ) (table : TableValue) (trace : List TraceStep) →
         StandsAt table trace → facts_move facts moment table

@@ -1,16 +1,17 @@
 -- The laws, to be cited by proofs.
-use Rattle.std.proofs.Common.{◌≡◌, ◌≤◌, ℕ, All, List, [], ◌∷◌, ◌++◌, Ok, Option, length, map, refl, sym, ap, ◌∙◌}
-use Rattle.std.specs.List.{flat_map}
-use Rattle.rtcp_engine.specs.Acts.{EventValue}
+use Rattle.std.proofs.Common.{◌≡◌, ℕ, List, ◌++◌, Option, refl, sym, ap, ◌∙◌}
 use Rattle.rtcp_engine.specs.Histories.{History}
 use Rattle.rtcp_text.specs.Check.{IsTextOf}
-use Rattle.rtcp_text.specs.EventLines.{IsCallable, datagram_in_event, event_in, event_text}
-use Rattle.rtcp_text.specs.Lines.{HasNoLineFeed, lines_of}
+use Rattle.rtcp_text.specs.Lines.{lines_of}
 use Rattle.rtcp_text.specs.Replay.{IsSessionOf, opening}
 use Rattle.rtcp_text.specs.declared.fault.LineFault.{LineFault}
 use Rattle.rtcp_text.proofs.CheckLemmas.{check_text_exists, one_check_text}
-use Rattle.rtcp_text.proofs.EventTextLemmas.{read_back, callable, one_line, short_line, record_read}
 use Rattle.rtcp_text.proofs.ReplayLemmas.{session_text_exists, one_session_text}
+pub use Rattle.rtcp_text.proofs.EventTextLemmas.{read_back as events_are_read_back-read}
+pub use Rattle.rtcp_text.proofs.EventTextLemmas.{one_line as events_are_read_back-line}
+pub use Rattle.rtcp_text.proofs.EventTextLemmas.{short_line as events_are_read_back-short}
+pub use Rattle.rtcp_text.proofs.EventTextLemmas.{callable as events_are_read_back-callable}
+pub use Rattle.rtcp_text.proofs.EventTextLemmas.{record_read as events_are_read_back-record}
 
 pub one_text-always : (most : ℕ) (input : List ℕ) → (text : List ℕ) × (end : Option (ℕ × LineFault)) × IsTextOf most end input text
 one_text-always most input = check_text_exists most 1 (lines_of input)
@@ -29,19 +30,3 @@ pub one_session_text-only : (most : ℕ) (history : History) (input text1 text2 
 one_session_text-only most history input text1 text2 end1 end2 (answers1, parts1, texts1) (answers2, parts2, texts2) =
     let same = one_session_text most history (lines_of input) answers1 answers2 end1 end2 texts1 texts2 in
     (parts1 ∙ ap (λ answers. opening history ++ answers) same.0 ∙ sym parts2, same.1)
-
-pub events_are_read_back-read : (event : EventValue) → IsCallable event → event_in (event_text event) ≡ Ok event
-events_are_read_back-read = read_back
-
-pub events_are_read_back-line : (event : EventValue) → IsCallable event → HasNoLineFeed (event_text event)
-events_are_read_back-line = one_line
-
-pub events_are_read_back-short : (event : EventValue) → IsCallable event → length (datagram_in_event event) ≤ 65535 → length (event_text event) ≤ 131200
-events_are_read_back-short = short_line
-
-pub events_are_read_back-callable : (line : List ℕ) (event : EventValue) → event_in line ≡ Ok event → IsCallable event
-events_are_read_back-callable = callable
-
-pub events_are_read_back-record : (events : List EventValue) → All IsCallable events
-    → map event_in (lines_of (flat_map (λ event. event_text event ++ 10 ∷ []) events)) ≡ map Ok events
-events_are_read_back-record = record_read
