@@ -1,9 +1,8 @@
 -- The laws of this crate as lemmas, for the proofs of the crates above: each has the name of its law, and of the
 -- clause where the law has several.
-use Rattle.std.proofs.Common.{◌≡◌, ◌↔◌, map, ℕ, ◌+◌, ◌-◌, ◌*◌, ◌/◌, ◌%◌, ◌≤◌, ◌^◌, ◌<◌, Bool, false, is_some, option_map, List, [], ◌∷◌, ◌++◌, length, slice_get, IfSome, Option, Some, None, Ok, Err, if◌then◌else◌, refl, sym, ap, ◌∙◌, arith, inl, inr}
+use Rattle.std.proofs.Common.{◌≡◌, ◌↔◌, map, ℕ, ◌≤◌, ◌^◌, Bool, is_some, option_map, List, [], ◌∷◌, ◌++◌, IfSome, Option, Some, None, Ok, Err, if◌then◌else◌, refl, sym, ap, ◌∙◌, arith, inl, inr}
 use Rattle.std.specs.Option.{option_or}
-use Rattle.std.proofs.lemmas.Bool.{ne_eqb, eq-eqb, lt-ltb, le-ltb, cases_lt}
-use Rattle.rtcp_wire.specs.Values.{ItemValue}
+use Rattle.std.proofs.lemmas.Bool.{lt-ltb, le-ltb, cases_lt}
 use Rattle.rtcp_wire.proofs.LawLemmas as wire
 use Rattle.rtcp_members.specs.Traces.{TraceStep, block_taken}
 use Rattle.rtcp_members.specs.Stays.{is_before}
@@ -13,22 +12,19 @@ use Rattle.rtcp_report.specs.Traced.{with_blocks}
 use Rattle.rtcp_engine.specs.declared.refusal.Refusal.{Refusal}
 use Rattle.rtcp_engine.specs.Setups.{Setup, IsUsable}
 use Rattle.rtcp_engine.specs.Refused.{error_in}
-use Rattle.rtcp_engine.specs.Acts.{Datagram, Act, moment_of, IsReading, IsRtpReading, IsTotal, IsUnique}
+use Rattle.rtcp_engine.specs.Acts.{Act, moment_of, IsReading, IsRtpReading, IsTotal, IsUnique}
 use Rattle.rtcp_engine.specs.Lives.{TellsInLife, out_by, own_bye}
-use Rattle.rtcp_engine.specs.Changes.{NewIdentifier, Session, bye_of_change, change_by, changed_by, changing_peers, is_taken, most_taken, new_identifier}
-use Rattle.rtcp_engine.specs.Identities.{AreApart, IsFirstFree}
+use Rattle.rtcp_engine.specs.Changes.{NewIdentifier, Session, bye_of_change, change_by, changed_by}
 use Rattle.rtcp_engine.specs.OwnStreams.{OwnStep, packet_sent, check_passed, report_sent, counts_anew, sending_since}
 use Rattle.rtcp_engine.specs.OwnSending.{OutlastsChecks, IsSendingSince}
-use Rattle.rtcp_engine.specs.Reporting.{extra_item, last_reported_in}
+use Rattle.rtcp_engine.specs.Reporting.{last_reported_in}
 use Rattle.rtcp_engine.specs.Histories.{History, brought_by, last_moment, life_at, session_at, setup_at, with_act}
 use Rattle.rtcp_engine.specs.Refusals.{refusal_after}
 use Rattle.rtcp_engine.specs.Steps.{answer_unless}
 use Rattle.rtcp_engine.specs.Answers.{step_by, answer_of, followed_by}
-use Rattle.rtcp_engine.specs.Taken.{IsHistory, NamesFew}
+use Rattle.rtcp_engine.specs.Taken.{IsHistory}
 use Rattle.rtcp_engine.specs.Sent.{reports_in, deciding_interval, sent_at, sent_with, handed_out, reports_of, counted_report}
 use Rattle.rtcp_engine.proofs.Changing.{bye_alone}
-use Rattle.rtcp_engine.proofs.Choosing.{apart_listed, few_listed, new_is_free}
-use Rattle.rtcp_engine.proofs.Trying.{chosen_is_first}
 use Rattle.rtcp_engine.proofs.Past.{latest_in_range, told_after}
 use Rattle.rtcp_engine.proofs.Usable.{usable_of_unrefused, unrefused_of_usable}
 use Rattle.rtcp_engine.proofs.Counting.{reports_counted}
@@ -67,12 +63,6 @@ pub usable_is_unrefused : (setup : Setup) → IsUsable setup ↔ (error_in setup
 usable_is_unrefused setup = (unrefused_of_usable setup, usable_of_unrefused setup)
 
 -- ---- Histories
-
-pub refused_acts_are_forgotten-refused : (history : History) (act : Act) (reason : Refusal) → refusal_after history act ≡ Some reason → followed_by history act ≡ history
-refused_acts_are_forgotten-refused history act reason is = ap (λ r. elim r [ None ↦ with_act history act | Some refusal ↦ history ]) is
-
-pub refused_acts_are_forgotten-taken : (history : History) (act : Act) → refusal_after history act ≡ None → followed_by history act ≡ with_act history act
-refused_acts_are_forgotten-taken history act is = ap (λ r. elim r [ None ↦ with_act history act | Some refusal ↦ history ]) is
 
 -- ---- The own stream
 
@@ -152,31 +142,12 @@ last_block_is_newest (row ∷ rows) trace = last_block_is_newest rows (block_tak
 pub sends_in_time : (history : History) → IsHistory history → AllInTime history.setup history.word history.acts
 sends_in_time history is = all_in_time history.setup history.word history.acts is.usable is.word is.taken
 
-pub new_identifiers_are_free-free : (history : History) (datagram : Datagram) (word : ℕ) → IsHistory history → word < 2 ^ 32 → NamesFew datagram → let session = session_at history in is_taken session datagram (new_identifier word session datagram) ≡ false
-new_identifiers_are_free-free history datagram word is fits few = new_is_free history datagram word is fits few
-
-pub new_identifiers_are_free-first : (history : History) (datagram : Datagram) (word : ℕ) → IsHistory history → word < 2 ^ 32 → NamesFew datagram → let session = session_at history in
-    IsFirstFree (is_taken session datagram) word (new_identifier word session datagram)
-new_identifiers_are_free-first history datagram word is fits few =
-    let session = session_at history in
-    chosen_is_first (most_taken session datagram) (is_taken session datagram) word fits (new_is_free history datagram word is fits few)
-
 pub changes_touch_the_identifier_alone-bye : (session : Session) (act : Act) (new : NewIdentifier) → change_by session act ≡ Some new → brought_by session act ≡ own_bye session.setup session.life
 changes_touch_the_identifier_alone-bye session act new is =
     ap (λ (change : Option NewIdentifier). let now = changed_by change session in option_or (bye_of_change change session) (out_by now.setup act now.life)) is
     ∙ bye_alone session act new is
 
-pub changes_are_few-few : (history : History) → IsHistory history → length (session_at history).changes ≤ 8
-changes_are_few-few history is = few_listed history.setup history.word history.acts is.taken
-
-pub changes_are_few-apart : (history : History) → IsHistory history → AreApart (changing_peers (session_at history))
-changes_are_few-apart history is = apart_listed history.setup history.word history.acts is.taken
-
 -- ---- What is told of sources
-
-pub told_moments_have_passed-heard : (history : History) → IsHistory history → (after : Option ℕ) (state : StateValue) →
-    TellsInLife (setup_at history) after (life_at history) (Some state) → state.heard ≤ last_moment history.acts
-told_moments_have_passed-heard history is after state tells = (told_after history is after state tells).heard
 
 pub told_moments_have_passed-left : (history : History) → IsHistory history → (after : Option ℕ) (state : StateValue) →
     TellsInLife (setup_at history) after (life_at history) (Some state) →
@@ -192,14 +163,3 @@ pub told_moments_have_passed-range : (history : History) → IsHistory history �
 told_moments_have_passed-range history is = latest_in_range history.setup history.word history.acts is.taken
 
 -- ---- Extra items
-
-pub extra_items_take_turns-third : (items : List ItemValue) (turn : ℕ) → (items ≡ [] → ⊥) →
-    extra_item items (3 * (turn + 1)) ≡ slice_get items (turn % length items)
-extra_items_take_turns-third items turn some =
-    let third : 3 * (turn + 1) % 3 ≡ 0 = omega arith in
-    let at : 3 * (turn + 1) / 3 - 1 ≡ turn = omega arith in
-    let one : ℕ → Option ItemValue = λ place. slice_get items (place % length items) in
-    ap (λ (b : Bool). if b then one (3 * (turn + 1) / 3 - 1) else None) (eq-eqb (3 * (turn + 1) % 3) 0 third) ∙ ap one at
-
-pub extra_items_take_turns-others : (items : List ItemValue) (number : ℕ) → (number % 3 ≡ 0 → ⊥) → extra_item items number ≡ None
-extra_items_take_turns-others items number not_third = rw (ne_eqb (number % 3) 0 not_third) refl

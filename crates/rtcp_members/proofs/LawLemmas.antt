@@ -1,28 +1,21 @@
 -- The laws of this crate as lemmas, for the proofs of the crates above: each has the name of its law, and of the clause where the law has
 -- several. Nothing here names a representation.
-use Rattle.std.proofs.Common.{◌≡◌, ◌==◌, ◌&&◌, ◌≤◌, ◌↔◌, ◌∙◌, ap, sym, refl, rules, is_some, if◌then◌else◌, true, false, All, IsTrue, ℕ, List, [], ◌∷◌, Option, Some, None, map, count_by}
+use Rattle.std.proofs.Common.{◌≡◌, ◌&&◌, ◌≤◌, ap, sym, refl, rules, is_some, false, All, IsTrue, ℕ, List, [], ◌∷◌, Option, Some, None}
 use Rattle.std.specs.FinMap as finite
 use Rattle.rtcp_wire.specs.declared.fact.Fact.{Fact}
 use Rattle.rtcp_wire.specs.declared.fact.Fact.TheVariants.{Heard, Named, Told}
 use Rattle.rtcp_wire.specs.Facts.{is_media}
-use Rattle.rtcp_members.specs.Traces.{Horizons, TraceStep, with_facts}
-use Rattle.rtcp_members.specs.Stays.{stay_of, IsStay}
-use Rattle.rtcp_members.specs.Entries.{EntryValue, members_at, senders_at, sending_of, is_such, is_member, is_sender, entry_at, IsSendingSince, IsSenderAt}
-use Rattle.rtcp_members.specs.Pending.{EntryRow, is_after, is_due_at, pending, after_blocks}
-use Rattle.rtcp_members.specs.News.{pending_at}
+use Rattle.rtcp_members.specs.Traces.{TraceStep, with_facts}
+use Rattle.rtcp_members.specs.Entries.{EntryValue, members_at, senders_at, is_such, is_member, is_sender, entry_at}
+use Rattle.rtcp_members.specs.Pending.{EntryRow, is_due_at, pending, after_blocks}
 use Rattle.rtcp_members.specs.Roles.{IsSameRole, facts_move}
 use Rattle.rtcp_members.proofs.RoleCounts.{nobody_passes}
-use Rattle.rtcp_members.specs.Told.{StateValue, IsWalk}
-use Rattle.rtcp_members.specs.Tables.{TableValue, StandsAt, KeepsBounds, HasFew, after_facts, entry_after_check, after_check, members_in, senders_in}
-use Rattle.rtcp_members.proofs.Above.{walk_counts}
+use Rattle.rtcp_members.specs.Tables.{TableValue, StandsAt, KeepsBounds, HasFew, after_facts, members_in, senders_in}
 use Rattle.rtcp_members.proofs.AtOnce.{once_said, once_moved}
 use Rattle.rtcp_members.proofs.Blocking.{blocks_keep_capacity}
-use Rattle.rtcp_members.proofs.Capacity.{facts_keep_bounds, blocks_keep_bounds, facts_keep_capacity, len_updated}
+use Rattle.rtcp_members.proofs.Capacity.{facts_keep_bounds, blocks_keep_bounds, facts_keep_capacity}
 use Rattle.rtcp_members.proofs.Following.{facts_follow, count_agrees}
-use Rattle.rtcp_members.proofs.NewsOfTraces.{pending_is_traced, pending_have_rows}
 use Rattle.rtcp_members.proofs.Packets.{few_facts}
-use Rattle.rtcp_members.proofs.SenderLaws.{kept_is_newest, newest_is_kept, sender_sends, who_sends_is_sender}
-use Rattle.rtcp_members.proofs.StayLaws.{stay_is_prefix, prefix_is_stay}
 use Rattle.rtcp_members.proofs.Turns.{due_row}
 pub use Rattle.rtcp_members.proofs.Following.{none_stands as tables_follow_traces-none}
 pub use Rattle.rtcp_members.proofs.Following.{fact_follows as tables_follow_traces-fact}
@@ -100,27 +93,11 @@ pub capacity_is_kept-blocks : (table : TableValue) (rows : List EntryRow) → fi
     finite.len (after_blocks rows table).entries ≤ table.capacity
 capacity_is_kept-blocks = λ table rows. blocks_keep_capacity rows table
 
-pub counts_are_ordered-check_entries : (table : TableValue) (horizons : Horizons) →
-    finite.len (after_check horizons table).entries ≤ finite.len table.entries
-counts_are_ordered-check_entries = λ table horizons. len_updated (entry_after_check horizons) table.entries
-
 pub packets_are_few-facts : (packets : ℕ) (table : TableValue) (facts : List Fact) (moment : ℕ) → All (λ fact. is_media fact ≡ false) facts →
     HasFew packets table → HasFew packets (after_facts facts moment table)
 packets_are_few-facts = λ packets table facts moment. few_facts packets facts table moment
 
 -- ---- Stays and senders
-
-pub stays_are_prefixes : (capacity : ℕ) (trace : List TraceStep) (ssrc : ℕ) (stay : List TraceStep) →
-    (stay_of capacity trace ssrc ≡ Some stay) ↔ IsStay capacity trace ssrc stay
-stays_are_prefixes = λ capacity trace ssrc stay. (stay_is_prefix capacity trace ssrc stay, prefix_is_stay capacity trace ssrc stay)
-
-pub senders_sent_lately-sending : (rate ssrc : ℕ) (own : List TraceStep) (moment : ℕ) →
-    (sending_of rate ssrc own ≡ Some moment) ↔ IsSendingSince rate ssrc own moment
-senders_sent_lately-sending = λ rate ssrc own moment. (kept_is_newest rate ssrc own moment, newest_is_kept rate ssrc own moment)
-
-pub senders_sent_lately-sender : (capacity rate : ℕ) (trace : List TraceStep) (ssrc : ℕ) →
-    (is_such is_sender (entry_at capacity rate trace ssrc) ≡ true) ↔ IsSenderAt capacity rate trace ssrc
-senders_sent_lately-sender = λ capacity rate trace ssrc. (sender_sends capacity rate trace ssrc, who_sends_is_sender capacity rate trace ssrc)
 
 -- ---- Turns
 
@@ -128,15 +105,7 @@ pub first_is_due-due : (last : Option ℕ) (table : TableValue) (row : EntryRow)
     IsTrue (is_due_at row.0 table)
 first_is_due-due = λ last table row rest is. search (rules, due_row last table row rest is)
 
-pub turns_follow_traces-sources : (last : Option ℕ) (table : TableValue) (trace : List TraceStep) → StandsAt table trace →
-    map (λ (row : EntryRow). row.0) (pending last table) ≡ pending_at last table.capacity table.rate trace
-turns_follow_traces-sources = λ last table trace stands. ap (map (λ (row : EntryRow). row.0)) (pending_is_traced last table trace stands) ∙ pending_have_rows last table.capacity table.rate trace
-
 -- ---- What is told
-
-pub walks_tell_each_once-once : (after : Option ℕ) (capacity rate : ℕ) (trace : List TraceStep) (ssrc : ℕ) (states : List StateValue) → IsWalk after capacity rate trace states
-    → count_by (λ (state : StateValue). state.ssrc == ssrc) states ≡ (if is_after after ssrc && is_some (stay_of capacity trace ssrc) then 1 else 0)
-walks_tell_each_once-once after capacity rate trace ssrc = walk_counts capacity rate trace ssrc after
 
 -- ---- Who is a member, and who sends
 

@@ -1,8 +1,9 @@
+use Rattle.rtcp_engine.proofs.Past.{told_after}
 use Rattle.rtcp_engine.proofs.LawLemmas as law
 use Rattle.rtcp_engine.proofs.laws.told_moments_have_passed.Goals as goal
 
 pub returns-clause-heard : goal.returns-clause-heard
-returns-clause-heard c = law.told_moments_have_passed-heard
+returns-clause-heard c history is after state tells = (told_after history is after state tells).heard
 
 pub returns-clause-left : goal.returns-clause-left
 returns-clause-left c = law.told_moments_have_passed-left

@@ -1,8 +1,9 @@
+use Rattle.rtcp_members.proofs.Above.{walk_counts}
 use Rattle.rtcp_members.proofs.LawLemmas as law
 use Rattle.rtcp_members.proofs.told_laws.walks_tell_each_once.Goals as goal
 
 pub returns-clause-once : goal.returns-clause-once
-returns-clause-once c = law.walks_tell_each_once-once
+returns-clause-once c after capacity rate trace ssrc = walk_counts capacity rate trace ssrc after
 
 pub returns-clause-rising : goal.returns-clause-rising
 returns-clause-rising c = law.walks_tell_each_once-rising

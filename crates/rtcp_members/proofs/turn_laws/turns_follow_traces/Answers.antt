@@ -1,8 +1,11 @@
-use Rattle.rtcp_members.proofs.LawLemmas.{turns_follow_traces-sources, turns_follow_traces-rows, turns_follow_traces-due}
+use Rattle.rtcp_members.proofs.NewsOfTraces.{pending_is_traced, pending_have_rows}
+use Rattle.rtcp_members.specs.Pending.{EntryRow}
+use Rattle.std.proofs.Common.{◌∙◌, ap, map}
+use Rattle.rtcp_members.proofs.LawLemmas.{turns_follow_traces-rows, turns_follow_traces-due}
 use Rattle.rtcp_members.proofs.turn_laws.turns_follow_traces.Goals as goal
 
 pub returns-clause-sources : goal.returns-clause-sources
-returns-clause-sources c = turns_follow_traces-sources
+returns-clause-sources c = λ last table trace stands. ap (map (λ (row : EntryRow). row.0)) (pending_is_traced last table trace stands) ∙ pending_have_rows last table.capacity table.rate trace
 
 pub returns-clause-rows : goal.returns-clause-rows
 returns-clause-rows c = turns_follow_traces-rows

@@ -1,8 +1,15 @@
-use Rattle.rtcp_text.proofs.LawLemmas.{one_session_text-always, one_session_text-only}
+use Rattle.rtcp_text.proofs.ReplayLemmas.{session_text_exists, one_session_text}
+use Rattle.rtcp_text.specs.Replay.{opening}
+use Rattle.rtcp_text.specs.Lines.{lines_of}
+use Rattle.std.proofs.Common.{◌++◌, refl, sym, ap, ◌∙◌}
 use Rattle.rtcp_text.proofs.laws.one_session_text.Goals as goal
 
 pub returns-clause-always : goal.returns-clause-always
-returns-clause-always c = one_session_text-always
+returns-clause-always c most history input =
+    let found = session_text_exists most history (lines_of input) in
+    (opening history ++ found.0, found.1, (found.0, refl, found.2))
 
 pub returns-clause-only : goal.returns-clause-only
-returns-clause-only c = one_session_text-only
+returns-clause-only c most history input text1 text2 end1 end2 (answers1, parts1, texts1) (answers2, parts2, texts2) =
+    let same = one_session_text most history (lines_of input) answers1 answers2 end1 end2 texts1 texts2 in
+    (parts1 ∙ ap (λ answers. opening history ++ answers) same.0 ∙ sym parts2, same.1)
