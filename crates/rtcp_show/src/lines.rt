@@ -2,14 +2,12 @@
 
 ghost use Rattle.std.specs.Prelude.{◌≡◌, ◌++◌, List, ℕ, OnOk, option_map};
 ghost use Rattle.rtcp_engine.specs.Views.{answer_value, event_value, out_value, step_value};
-ghost use Rattle.rtcp_text.specs.Check.{IsAnswer};
 ghost use Rattle.rtcp_show.specs.Lines.{ShowsAnswer, ShowsBoth, ShowsEvent, ShowsOut, ShowsRtcp, changed_text, moment_of_event as moment_in, passing_text, refused_text, rtp_text, told_text};
 
 use crate::numbers::{push_moment, push_peer};
 use rtcp_engine::{Answer, Event, Out, Refusal};
 use rtcp_text::text::digits::push_word;
-use rtcp_text::text::{push_accepted, push_answer, push_fault};
-use rtcp_wire::Compound;
+use rtcp_text::text::{push_answer, push_checked};
 use std::alloc::AllocError;
 
 /// Appends the lines of an event and its answer. `to` is the number of the peer to which compounds go.
@@ -165,16 +163,6 @@ fn push_passing(out: &mut Vec<u8>, now: u64, word: &[u8], peer: u64) -> Result<(
     push_peer(out, peer)?;
     out.push(b' ')?;
     Ok(())
-}
-
-/// Appends the line that `rtcp check` writes for a datagram.
-fn push_checked(out: &mut Vec<u8>, datagram: &[u8]) -> Result<(), AllocError>
-    ensures { OnOk result ((text : List ℕ) × IsAnswer datagram.now text × (out.new.items ≡ out.old.items ++ text)) }
-{
-    match Compound::read(datagram) {
-        Ok(compound) => push_accepted(out, &compound),
-        Err(fault) => push_fault(out, &fault),
-    }
 }
 
 /// Appends why a call was refused.

@@ -1,13 +1,9 @@
 //! The answer to a line of hex: what the octets are that it spells.
 
-ghost use Rattle.std.specs.Prelude.{◌≡◌, ◌++◌, ℕ, List, OnOk};
-ghost use Rattle.rtcp_text.specs.Check.{IsAnswer};
-
 use crate::answerer::Answerer;
 use crate::digit_pairs::{DecodeFault, decode};
 use crate::fault::{LineFault, TextFault};
-use crate::text::{push_accepted, push_fault};
-use rtcp_wire::Compound;
+use crate::text::push_checked;
 use std::alloc::{AllocError, Global};
 
 /// Answers each line of hex by itself. The buffer of the octets is kept from line to line.
@@ -43,20 +39,9 @@ impl Answerer for Checker {
                 });
             }
         }
-        match push_reading(&self.datagram, text) {
+        match push_checked(text, &self.datagram) {
             Ok(()) => Ok(()),
             Err(AllocError) => Err(TextFault::Memory),
         }
-    }
-}
-
-/// Appends the line of text for a datagram.
-fn push_reading(datagram: &[u8], text: &mut Vec<u8>) -> Result<(), AllocError>
-    ensures { OnOk result
-        ((answer : List ℕ) × IsAnswer datagram.now answer × (text.new.items ≡ text.old.items ++ answer)) }
-{
-    match Compound::read(datagram) {
-        Ok(compound) => push_accepted(text, &compound),
-        Err(fault) => push_fault(text, &fault),
     }
 }

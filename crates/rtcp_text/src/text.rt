@@ -6,8 +6,9 @@
 //! Each function here and in the modules below returns `AllocError` where memory is refused. It is then left
 //! open how much of the text was appended.
 
-ghost use Rattle.std.specs.Prelude.{◌≡◌, ◌++◌, OnOk};
+ghost use Rattle.std.specs.Prelude.{◌≡◌, ◌++◌, ℕ, List, OnOk};
 ghost use Rattle.rtcp_wire.specs.Views.{packet_value};
+ghost use Rattle.rtcp_text.specs.Check.{IsAnswer};
 ghost use Rattle.rtcp_text.specs.Text.{packet_text, accepted_text, reason_text, fault_text, fault_words};
 
 mod answers;
@@ -30,6 +31,16 @@ use others::{push_application, push_other};
 use reports::{push_receiver_report, push_sender_report};
 use rtcp_wire::{Compound, FaultReason, PacketView, WireFault};
 use std::alloc::AllocError;
+
+/// Appends the line that `rtcp check` answers to a datagram: its packets, or its first fault.
+pub fn push_checked(out: &mut Vec<u8>, datagram: &[u8]) -> Result<(), AllocError>
+    ensures { OnOk result ((text : List ℕ) × IsAnswer datagram.now text × (out.new.items ≡ out.old.items ++ text)) }
+{
+    match Compound::read(datagram) {
+        Ok(compound) => push_accepted(out, &compound),
+        Err(fault) => push_fault(out, &fault),
+    }
+}
 
 /// Appends the line for an accepted datagram.
 pub fn push_accepted(out: &mut Vec<u8>, compound: &Compound<'_>) -> Result<(), AllocError>

@@ -3,7 +3,7 @@ use Rattle.std.proofs.Common.{◌≡◌, ◌++◌, ℕ, List, refl, inr}
 use Rattle.std.proofs.lemmas.Result.{on_ok_weaker}
 use Rattle.rtcp_text.specs.Check.{IsAnswer}
 use Rattle.rtcp_text.specs.Text.{fault_text}
-use Rattle.rtcp_show.proofs.lines.push_checked.Goals as goal
+use Rattle.rtcp_text.proofs.text.push_checked.Goals as goal
 
 pub returns-in-Err : goal.returns-in-Err
 returns-in-Err c =
