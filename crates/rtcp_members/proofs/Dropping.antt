@@ -11,7 +11,7 @@ use Rattle.rtcp_members.specs.declared.entry.Entry.{Entry}
 use Rattle.rtcp_members.specs.declared.cells.Slot.{Slot}
 use Rattle.rtcp_members.specs.ListViews.{lapses, lapsed}
 use Rattle.rtcp_members.specs.Heaps.{no_slot, no_entry, entry_in, picked, place_at, IsKeyed, ArePlaces, IsHeap}
-use Rattle.rtcp_members.specs.HeapLaws.{has_place, picked_same, places_differ}
+use Rattle.rtcp_members.proofs.Ranked.{has_place, picked_same, places_differ}
 
 -- Where a check of the first ranks has come: the slots of what stays are in front, and those behind are as they were.
 pub record IsDropping (test : Entry → Bool) (change : Entry → Entry) (items entries : List Entry) (slots : List Slot) (used kept at : ℕ) : Type 0 where
@@ -24,9 +24,9 @@ pub record IsDropping (test : Entry → Bool) (change : Entry → Entry) (items 
   pub keyed : All (IsKeyed entries) (take kept slots)
   pub left : All (IsKeyed entries) (drop at (take used slots))
 
-pub none_dropped_yet : (test : Entry → Bool) (change : Entry → Entry) (entries : List Entry) (slots : List Slot) (used room : ℕ) → IsHeap entries slots used room
+pub none_dropped_yet : (test : Entry → Bool) (change : Entry → Entry) (entries : List Entry) (slots : List Slot) (used : ℕ) → IsHeap entries slots used
     → IsDropping test change (picked entries (take used slots)) entries slots used 0 0
-none_dropped_yet test change entries slots used room heap =
+none_dropped_yet test change entries slots used heap =
     record { places = heap.places; all = heap.all; order = omega arith; until = omega arith; in_use = heap.in_use; so_far = refl; keyed = All-nil (IsKeyed entries); left = heap.keyed }
 
 pub all_dropped : (test : Entry → Bool) (change : Entry → Entry) (items entries : List Entry) (slots : List Slot) (used kept : ℕ) → IsDropping test change items entries slots used kept used
@@ -35,9 +35,9 @@ all_dropped test change items entries slots used kept done =
     let none : drop used (take used slots) ≡ [] = drop_all used (take used slots) (omega (arith, length-take-le used slots done.in_use)) in
     sym (append-nil (picked entries (take kept slots))) ∙ ap (λ rest. picked entries (take kept slots) ++ retain_mut test change (picked entries rest)) (sym none) ∙ done.so_far
 
-pub heap_dropped : (test : Entry → Bool) (change : Entry → Entry) (items entries : List Entry) (slots : List Slot) (used kept room : ℕ) → IsDropping test change items entries slots used kept used → room ≤ 1024
-    → IsHeap entries slots kept room
-heap_dropped test change items entries slots used kept room done few =
+pub heap_dropped : (test : Entry → Bool) (change : Entry → Entry) (items entries : List Entry) (slots : List Slot) (used kept : ℕ) → IsDropping test change items entries slots used kept used → length entries ≤ 1024
+    → IsHeap entries slots kept
+heap_dropped test change items entries slots used kept done few =
     record { places = done.places; in_use = omega (arith, done.order, done.in_use); all = done.all; keyed = done.keyed; few = few }
 
 module _ (test : Entry → Bool) (change : Entry → Entry) (items entries : List Entry) (slots : List Slot) (used kept at : ℕ) (e : Entry) (so : IsDropping test change items entries slots used kept at) (less : at < used)

@@ -13,7 +13,7 @@ use Rattle.rtcp_members.specs.ListViews.{IsRankOf}
 use Rattle.rtcp_members.specs.SortedViews.{IsRising, IsGapFor}
 use Rattle.rtcp_members.proofs.Pairs.{take_inserted, behind}
 use Rattle.rtcp_members.specs.Heaps.{no_slot, no_entry, entry_in, picked, IsHalved, IsKeyed, IsHeap, IsPut}
-use Rattle.rtcp_members.specs.HeapLaws.{has_place, picked_same}
+use Rattle.rtcp_members.proofs.Ranked.{has_place, picked_same}
 use Rattle.rtcp_members.proofs.Rising.{rises}
 use Rattle.rtcp_members.proofs.Searching.{ssrc_found}
 
@@ -129,9 +129,9 @@ below_none (slot ∷ slots) place below =
     let none : has_place place slot ≡ 0 = ap {B = ℕ} (λ b. cond b 1 0) differs in
     omega (arith, sum_by-cons (has_place place) slot slots, none, below_none slots place (All-tail (λ (slot : Slot). slot.place < place) slot slots below))
 
-pub put_behind : (entries : List Entry) (slots : List Slot) (used room : ℕ) (e : Entry) (next : List Entry) (place : ℕ) → IsHeap entries slots used room → next ≡ entries ++ e ∷ [] → place ≡ length entries
+pub put_behind : (entries : List Entry) (slots : List Slot) (used : ℕ) (e : Entry) (next : List Entry) (place : ℕ) → IsHeap entries slots used → next ≡ entries ++ e ∷ [] → place ≡ length entries
     → IsPut entries next slots slots used place e
-put_behind entries slots used room e next place heap is at_end =
+put_behind entries slots used e next place heap is at_end =
     let longer : length next ≡ length entries + 1 = ap length is ∙ length_push entries e in
     record {
       same = λ k d within. ap (λ xs. entry_in xs (slice_index_or slots k d)) is ∙ get_or_append_left entries (e ∷ []) no_entry (slice_index_or slots k d).place (heap.places.within k d within);
@@ -159,9 +159,9 @@ away_from place (slot ∷ slots) none =
         let one : has_place place slot ≡ 1 = ap {B = ℕ} (λ b. cond b 1 0) equal in
         absurd (omega (arith, zero, one))
 
-pub put_free : (entries : List Entry) (slots front back : List Slot) (used room : ℕ) (free : Slot) (e : Entry) → IsHeap entries slots used room → slots ≡ front ++ free ∷ back → used ≤ length front
+pub put_free : (entries : List Entry) (slots front back : List Slot) (used : ℕ) (free : Slot) (e : Entry) → IsHeap entries slots used → slots ≡ front ++ free ∷ back → used ≤ length front
     → IsPut entries (set entries free.place e) slots (front ++ back) used free.place e
-put_free entries slots front back used room free e heap is fewer =
+put_free entries slots front back used free e heap is fewer =
     let longer : length slots ≡ length front + suc (length back) = ap length is ∙ length-append front (free ∷ back) in
     let others : length (front ++ back) ≡ length front + length back = length-append front back in
     let itself : (free.place == free.place) ≡ true = grind (arith, nat_tests) in
@@ -206,7 +206,7 @@ put_free entries slots front back used room free e heap is fewer =
 
 -- ---- Its slot
 
-module _ (entries next : List Entry) (old_slots slots : List Slot) (used room at : ℕ) (slot : Slot) (e : Entry) (heap : IsHeap entries old_slots used room) (put : IsPut entries next old_slots slots used slot.place e)
+module _ (entries next : List Entry) (old_slots slots : List Slot) (used at : ℕ) (slot : Slot) (e : Entry) (heap : IsHeap entries old_slots used) (put : IsPut entries next old_slots slots used slot.place e)
     (its_ssrc : slot.ssrc ≡ e.ssrc) (in_range : at ≤ used) where
   old_use : List Slot
   old_use = take used slots
@@ -245,8 +245,8 @@ module _ (entries next : List Entry) (old_slots slots : List Slot) (used room at
           let differs : (slot.place == p) ≡ false = grind (arith, nat_tests, unlike) in
           ap {B = ℕ} (λ b. cond b 1 0) differs
 
-  pub heap_inserted : IsHeap next (insert slots at slot) (used + 1) room
-  heap_inserted =
+  pub heap_inserted : length next ≤ 1024 → IsHeap next (insert slots at slot) (used + 1)
+  heap_inserted few =
       let within : at ≤ length slots = omega (arith, in_range, put.in_use) in
       record {
         places = record {
@@ -259,5 +259,5 @@ module _ (entries next : List Entry) (old_slots slots : List Slot) (used room at
         keyed = All-same (IsKeyed next) (take (used + 1) (insert slots at slot)) (insert (take used slots) at slot) cut
             (All-append (IsKeyed next) (take at (take used slots)) (slot ∷ drop at (take used slots)) (All-take (IsKeyed next) at (take used slots) keyed_as_before)
             (All-cons (IsKeyed next) slot (drop at (take used slots)) (its_ssrc ∙ ap (λ (x : Entry). x.ssrc) (sym put.there)) (All-drop (IsKeyed next) at (take used slots) keyed_as_before)));
-        few = heap.few;
+        few = few;
       }

@@ -9,6 +9,8 @@ mod Following
 mod Packets
 mod Listing
 mod Pairs
+mod Edits
+mod Ranked
 mod Changing
 mod Applying
 mod AtOnce

@@ -8,7 +8,6 @@ use Rattle.rtcp_members.specs.declared.entry.Entry.{Entry}
 use Rattle.rtcp_members.specs.declared.cells.Cell.{Cell}
 use Rattle.rtcp_members.specs.declared.cells.Slot.{Slot}
 use Rattle.rtcp_members.specs.Heaps.{no_slot, entries_in, pairs_in, slots_in, front_slots, spared_slots}
-use Rattle.rtcp_members.specs.HeapLaws.{pairs_same}
 
 -- ---- The slots of one cell
 
@@ -266,6 +265,18 @@ unwritten new old m k d from within =
     let rest : m + (k - m) ≡ k = omega (arith, from) in
     get_or-append_right (take m new) (drop m old) m k d (length-take-le m new within) from ∙ get_or-drop m old (k - m) d ∙ ap (λ n. slice_index_or old n d) rest
 
+-- What is read of a cell is read of it again.
+pub read_again : (cells : List Cell) (place : ℕ) (d : Cell) → slice_index_or cells place d ≡ slice_index_or cells place (slice_index_or cells place d)
+read_again [] place d = refl
+read_again (cell ∷ cells) zero d = refl
+read_again (cell ∷ cells) (suc place) d = read_again cells place d
+
+-- Writing an entry leaves the slots.
+pairs_same : (cells : List Cell) (at : ℕ) (e : Entry) (d : Cell) → pairs_in (set cells at (record (slice_index_or cells at d) { entry = e })) ≡ pairs_in cells
+pairs_same [] at e d = refl
+pairs_same (cell ∷ cells) zero e d = refl
+pairs_same (cell ∷ cells) (suc at) e d = ap (λ slots. cell.even ∷ cell.odd ∷ slots) (pairs_same cells at e d)
+
 -- An entry is written over that of a cell which was read.
 pub pairs_kept : (cells : List Cell) (place : ℕ) (e : Entry) (cell : Cell) → cell ≡ slice_index_or cells place cell → pairs_in (set cells place (record cell { entry = e })) ≡ pairs_in cells
 pairs_kept cells place e cell read = ap (λ (x : Cell). pairs_in (set cells place (record x { entry = e }))) read ∙ pairs_same cells place e cell
@@ -273,16 +284,11 @@ pairs_kept cells place e cell read = ap (λ (x : Cell). pairs_in (set cells plac
 pub slots_kept : (cells : List Cell) (place : ℕ) (e : Entry) (cell : Cell) → cell ≡ slice_index_or cells place cell → slots_in (set cells place (record cell { entry = e })) ≡ slots_in cells
 slots_kept cells place e cell read = λ i. take (length-set cells place (record cell { entry = e }) i) (pairs_kept cells place e cell read i)
 
-pub spared_kept : (end : ℕ) (cells : List Cell) (place : ℕ) (e : Entry) (cell : Cell) → cell ≡ slice_index_or cells place cell → spared_slots end (set cells place (record cell { entry = e })) ≡ spared_slots end cells
-spared_kept end cells place e cell read =
-    λ i. take (end - 1) (take (length-set cells place (record cell { entry = e }) i - 1) (pairs_kept cells place e cell read i)) ++ drop end (slots_kept cells place e cell read i)
+pub spared_same : (end : ℕ) (cells next : List Cell) → pairs_in next ≡ pairs_in cells → length next ≡ length cells → spared_slots end next ≡ spared_slots end cells
+spared_same end cells next same as_long = λ i. take (end - 1) (take (as_long i - 1) (same i)) ++ drop end (take (as_long i) (same i))
 
 pub entry_written : (cells : List Cell) (place : ℕ) (cell : Cell) → entries_in (set cells place cell) ≡ set (entries_in cells) place cell.entry
 entry_written cells place cell = map-set (λ (c : Cell). c.entry) cells place cell
-
--- A whole list is written over another of its length.
-pub over_whole : {X : Type 0} (n : ℕ) (old new : List X) → n ≡ length old → length new ≡ length old → take n (new ++ drop (length new) old) ≡ new
-over_whole n old new all same = take_at new (drop (length new) old) n (same ∙ sym all)
 
 -- One of the first slots is read.
 pub used_read : (cells : List Cell) (used rank : ℕ) → used ≤ length (slots_in cells) → rank < used → slice_index_or (pairs_in cells) rank no_slot ≡ slice_index_or (take used (slots_in cells)) rank no_slot

@@ -1,19 +1,16 @@
 -- Where a source stands in a list by rising SSRC.
-use Rattle.std.proofs.Common.{◌≡◌, ◌<◌, ◌≤◌, ◌+◌, ◌-◌, ℕ, suc, true, false, cond, List, [], ◌∷◌, length, set, Some, None, slice_get, slice_index_or, Result, Ok, Err, IsOk, is_ok, is_some, IfOk, IfErr, IsTrue, nat_cmp, is_lt, Less, Equal, Greater, inl, inr, arith, refl, sym, ap, subst, ◌∙◌}
-use Rattle.std.specs.Ordering.{eq_by_cmp, ordering_index}
-use Rattle.std.specs.List.Sorted.{IsSearchInRange, IsBinarySearchResult, IsNonDecreasingBy}
-use Rattle.std.specs.Cmp.{nat_cmp_total, nat_cmp_is, ranked}
+use Rattle.std.proofs.Common.{◌≡◌, ◌<◌, ◌≤◌, ◌-◌, ℕ, suc, true, false, cond, List, [], ◌∷◌, length, set, Some, None, slice_get, slice_index_or, Result, Ok, Err, IsOk, is_ok, is_some, IsTrue, nat_cmp, inl, inr, arith, refl, sym, ap, subst, ◌∙◌}
+use Rattle.std.specs.Ordering.{eq_by_cmp}
 use Rattle.std.specs.FinMap as finite
 use Rattle.std.proofs.lemmas.Bool.{cases_lt}
 use Rattle.std.proofs.lemmas.List.{set-get_or}
-use Rattle.std.proofs.lemmas.List.Sorted.{searchable_from_sorted}
 use Rattle.std.proofs.lemmas.Option.{slice_get-get_or, slice_get_read, get_or_from_slice_get}
 use Rattle.rtcp_members.specs.declared.entry.Entry.{Entry}
 use Rattle.rtcp_members.specs.Entries.{is_such}
 use Rattle.rtcp_members.specs.Tables.{TableValue, IsApart}
 use Rattle.rtcp_members.specs.Pending.{is_due, is_due_at}
 use Rattle.rtcp_members.specs.ListViews.{entry_value, rows_of, map_of, table_of, IsRankOf}
-use Rattle.rtcp_members.specs.SortedViews.{IsRising, IsGapFor}
+use Rattle.rtcp_members.specs.SortedViews.{IsRising, IsGapFor, Locates}
 use Rattle.rtcp_members.proofs.Listing.{get_rows, find_set, tied_itself, tied_key}
 use Rattle.rtcp_members.proofs.Rising.{rising_apart, rises}
 
@@ -44,32 +41,6 @@ ssrc_found ssrc [] at its rising within read same = absurd (omega arith)
 ssrc_found ssrc (x ∷ xs) at its rising within read same =
     let e : Entry = slice_index_or (x ∷ xs) at x in
     stands_found ssrc (x ∷ xs) at e (rising_apart (x ∷ xs) rising) (slice_get-get_or (x ∷ xs) at x within) (sym (read x) ∙ same)
-
--- ---- A binary search
-
-searchable : (entries : List Entry) → IsRising entries → (ssrc : ℕ) → IsNonDecreasingBy (λ (e : Entry). ordering_index (nat_cmp e.ssrc ssrc)) entries
-searchable entries rising ssrc =
-    searchable_from_sorted nat_cmp_total (λ (e : Entry). e.ssrc) entries ssrc
-    (λ k d _ within. ap is_lt (sym (nat_cmp_is (slice_index_or entries (k + 1) d).ssrc (slice_index_or entries k d).ssrc Greater (rises entries rising k (k + 1) d (omega arith) within))))
-
-stands_equal : (entries : List Entry) → IsRising entries → (ssrc at : ℕ) → at < length entries → ((d : Entry) → nat_cmp (slice_index_or entries at d).ssrc ssrc ≡ Equal) → IsRankOf ssrc entries at
-stands_equal [] rising ssrc at within equal = absurd (omega arith)
-stands_equal (x ∷ xs) rising ssrc at within equal =
-    let e : Entry = slice_index_or (x ∷ xs) at x in
-    stands_found ssrc (x ∷ xs) at e (rising_apart (x ∷ xs) rising) (slice_get-get_or (x ∷ xs) at x within) (ranked e.ssrc ssrc Equal (sym (equal x)))
-
-pub searched : (entries : List Entry) → IsRising entries → (ssrc : ℕ) → (r : Result ℕ ℕ) → IsSearchInRange r (length entries) → IsBinarySearchResult (λ (e : Entry). nat_cmp e.ssrc ssrc) entries r
-    → IfOk r (IsRankOf ssrc entries) × IfErr r (IsGapFor ssrc entries)
-searched entries rising ssrc (Ok at) within equal = (stands_equal entries rising ssrc at within equal, tt)
-searched entries rising ssrc (Err at) within parted =
-    let split = parted (searchable entries rising ssrc) in (
-      tt,
-      record {
-        in_range = within;
-        lesser = λ i d before. ranked _ ssrc Less (sym (split.0 i d (omega arith) before));
-        greater = λ i d from below. ranked _ ssrc Greater (sym (split.1 i d from below));
-      },
-    )
 
 -- ---- A gap
 
@@ -113,16 +84,16 @@ gap_beside ssrc entries at rising in_range last next = record { in_range = in_ra
         ]
 
 -- A source of which a block is due is found.
-pub due_is_found : (ssrc capacity rate : ℕ) (entries : List Entry) (table : TableValue) (r : Result ℕ ℕ) → table_of capacity rate entries ≡ table → IsTrue (is_due_at ssrc table) → IfErr r (IsGapFor ssrc entries) → IsOk r
-due_is_found ssrc capacity rate entries table (Ok at) is due absent = refl
+pub due_is_found : (ssrc capacity rate : ℕ) (entries : List Entry) (table : TableValue) (r : Result ℕ ℕ) → table_of capacity rate entries ≡ table → IsTrue (is_due_at ssrc table) → Locates ssrc entries r → IsOk r
+due_is_found ssrc capacity rate entries table (Ok at) is due place = refl
 due_is_found ssrc capacity rate entries table (Err at) is due absent = absurd (not_due (ap (is_such is_due) (sym (none_in_gap ssrc entries at absent)) ∙ ap (is_due_at ssrc) is ∙ due))
   where
     not_due : false ≡ true → ⊥
     not_due e = absurd cc
 
 -- The search finds an entry exactly where the table has one.
-pub found_is_held : (ssrc capacity rate : ℕ) (entries : List Entry) (table : TableValue) (found : Result ℕ ℕ) → table_of capacity rate entries ≡ table → IfOk found (IsRankOf ssrc entries) → IfErr found (IsGapFor ssrc entries)
+pub found_is_held : (ssrc capacity rate : ℕ) (entries : List Entry) (table : TableValue) (found : Result ℕ ℕ) → table_of capacity rate entries ≡ table → Locates ssrc entries found
     → is_ok found ≡ is_some (finite.get table.entries ssrc)
-found_is_held ssrc capacity rate entries table (Ok at) is place absent = sym (ap is_some place.found) ∙ ap (λ (t : TableValue). is_some (finite.get t.entries ssrc)) is
-found_is_held ssrc capacity rate entries table (Err at) is place absent =
+found_is_held ssrc capacity rate entries table (Ok at) is place = sym (ap is_some place.found) ∙ ap (λ (t : TableValue). is_some (finite.get t.entries ssrc)) is
+found_is_held ssrc capacity rate entries table (Err at) is absent =
     sym (ap is_some (none_in_gap ssrc entries at absent)) ∙ ap (λ (t : TableValue). is_some (finite.get t.entries ssrc)) is

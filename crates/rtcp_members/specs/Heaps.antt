@@ -1,11 +1,11 @@
 -- Entries that stay where they are, and an index of them by rising SSRC.
-use Rattle.std.specs.Prelude.{ℕ, Vec, ◌≡◌, ◌<◌, ◌≤◌, ◌==◌, ◌+◌, ◌-◌, ◌++◌, false, List, [], ◌∷◌, length, map, take, drop, All, slice_index_or}
+use Rattle.std.specs.Prelude.{ℕ, ◌≡◌, ◌<◌, ◌≤◌, ◌==◌, ◌+◌, ◌-◌, ◌++◌, false, List, [], ◌∷◌, length, map, take, drop, All, slice_index_or}
 use Rattle.std.specs.List.{count_by}
-use Rattle.std.specs.Vec.{with_item}
 use Rattle.rtcp_members.specs.declared.entry.Entry.{Entry}
 use Rattle.rtcp_members.specs.declared.cells.Cell.{Cell}
 use Rattle.rtcp_members.specs.declared.cells.Slot.{Slot}
 use Rattle.rtcp_source.specs.Steps.{no_source}
+use Rattle.rtcp_members.specs.SortedViews.{IsRising}
 
 -- what is read where there is none
 abbrev pub no_slot : Slot
@@ -54,14 +54,12 @@ entry_in entries slot = slice_index_or entries slot.place no_entry
 abbrev pub picked : List Entry → List Slot → List Entry
 picked entries slots = map (entry_in entries) slots
 
+-- the entries of the first slots, by rank
+abbrev pub in_order : List Cell → ℕ → List Entry
+in_order cells used = picked (entries_in cells) (take used (slots_in cells))
+
 abbrev pub place_at : List Slot → ℕ → ℕ
 place_at slots at = (slice_index_or slots at no_slot).place
-
--- cells with another entry of a rank
-abbrev pub with_entry_at : {Z : Type 0} → Vec Cell Z → ℕ → Entry → Vec Cell Z
-with_entry_at cells at e =
-    let place = place_at (pairs_in cells.items) at in
-    with_item cells place (record (slice_index_or cells.items place no_cell) { entry = e })
 
 -- A slot has the SSRC of its entry.
 abbrev pub IsKeyed : List Entry → Slot → Type 0
@@ -81,12 +79,17 @@ pub record ArePlaces (entries : List Entry) (slots : List Slot) : Type 0 where
 
 -- What holds of entries, of which the first slots are those in use: each place has a slot, and those in use have
 -- the SSRCs of their entries.
-pub record IsHeap (entries : List Entry) (slots : List Slot) (used room : ℕ) : Type 0 where
+pub record IsHeap (entries : List Entry) (slots : List Slot) (used : ℕ) : Type 0 where
   pub places : ArePlaces entries slots
   pub in_use : used ≤ length slots
   pub all : length slots ≡ length entries
   pub keyed : All (IsKeyed entries) (take used slots)
-  pub few : room ≤ 1024
+  pub few : length entries ≤ 1024
+
+-- Cells of which the first slots are those in use, by rising SSRC.
+pub record IsIndexed (cells : List Cell) (used : ℕ) : Type 0 where
+  pub heap : IsHeap (entries_in cells) (slots_in cells) used
+  pub rising : IsRising (in_order cells used)
 
 -- An entry is laid at a place that no slot has, and what the slots have stays.
 pub record IsPut (entries next : List Entry) (slots new_slots : List Slot) (used place : ℕ) (entry : Entry) :

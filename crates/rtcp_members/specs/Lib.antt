@@ -11,8 +11,8 @@ pub mod Least
 pub mod Codes
 pub mod ListViews
 pub mod SortedViews
-pub mod Storages
 pub mod Heaps
-pub mod HeapLaws
 pub mod Looks
+pub mod Shelves
+pub mod BlockLaws
 pub mod Standing

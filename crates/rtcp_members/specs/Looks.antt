@@ -1,8 +1,8 @@
 -- What is seen of a source at a cell of an index.
 use Rattle.std.specs.Prelude.{ℕ, ◌<◌, List}
 use Rattle.rtcp_members.specs.declared.entry.Entry.{Entry}
-use Rattle.rtcp_members.specs.declared.heap.Look.{Look}
-use Rattle.rtcp_members.specs.declared.heap.Look.TheVariants.{Stands, Missing, Below, Above}
+use Rattle.rtcp_members.specs.declared.index.Look.{Look}
+use Rattle.rtcp_members.specs.declared.index.Look.TheVariants.{Stands, Missing, Below, Above}
 use Rattle.rtcp_members.specs.ListViews.{IsRankOf}
 use Rattle.rtcp_members.specs.SortedViews.{IsGapFor}
 

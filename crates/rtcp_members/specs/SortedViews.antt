@@ -1,10 +1,10 @@
 -- Lists of entries by rising SSRC.
-use Rattle.std.specs.Prelude.{ℕ, ◌≡◌, ◌<◌, ◌≤◌, T, List, length, slice_index_or}
+use Rattle.std.specs.Prelude.{ℕ, ◌≡◌, ◌<◌, ◌≤◌, T, List, length, Result, Ok, Err, slice_index_or}
 use Rattle.std.specs.Ordering.{nat_cmp}
 use Rattle.std.specs.FinMap as finite
 use Rattle.rtcp_members.specs.declared.entry.Entry.{Entry}
 use Rattle.rtcp_members.specs.Entries.{is_member, is_sender}
-use Rattle.rtcp_members.specs.ListViews.{rows_of, tally_of}
+use Rattle.rtcp_members.specs.ListViews.{rows_of, tally_of, IsRankOf}
 
 -- The SSRCs strictly rise.
 abbrev pub IsRising : List Entry → Type 0
@@ -28,3 +28,8 @@ pub record IsGapFor (ssrc : ℕ) (entries : List Entry) (at : ℕ) : Type 0 wher
   pub in_range : at ≤ length entries
   pub lesser : (i : ℕ) (d : Entry) → i < at → (slice_index_or entries i d).ssrc < ssrc
   pub greater : (i : ℕ) (d : Entry) → at ≤ i → i < length entries → ssrc < (slice_index_or entries i d).ssrc
+
+-- What a search of a source comes to: its rank, or else the gap where it would stand.
+abbrev pub Locates : (ssrc : ℕ) → List Entry → Result ℕ ℕ → Type 0
+Locates ssrc entries (Ok rank) = IsRankOf ssrc entries rank
+Locates ssrc entries (Err gap) = IsGapFor ssrc entries gap

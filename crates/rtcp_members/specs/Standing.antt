@@ -1,5 +1,5 @@
 -- Up to which moments a check leaves entries as they are.
-use Rattle.std.specs.Prelude.{ℕ, ◌≡◌, ◌≤◌, true, List, length, All, Option, Some, None}
+use Rattle.std.specs.Prelude.{ℕ, ◌≡◌, ◌≤◌, true, List, All, Option, Some, None}
 use Rattle.rtcp_wire.specs.declared.fact.Fact.{Fact}
 use Rattle.rtcp_wire.specs.declared.fact.Fact.TheVariants.{Heard, Told, Named, Gone, Media}
 use Rattle.rtcp_members.specs.declared.bounds.Bounds.{Bounds}
@@ -37,15 +37,12 @@ pub record IsNoLater (one other : Bounds) : Type 0 where
   pub idle : one.idle ≤ other.idle
   pub gone : one.gone ≤ other.gone
 
--- What holds of a sorted table: its list and counts, the room that it has for its capacity, and its bounds, in storage that is
--- sound.
-pub record IsKept (capacity room : ℕ) (counts : Counts) (bounds : Bounds) (entries : List Entry)
-    (is_sound : Type 0) : Type 0 where
+-- What holds of a sorted table: its list and counts, the room that it has for its capacity, and its bounds.
+pub record IsKept (capacity room : ℕ) (counts : Counts) (bounds : Bounds) (entries : List Entry) : Type 0 where
   pub sorted : IsSortedTable capacity counts.members counts.senders entries
   pub its_due : counts.due ≡ tally_of is_due entries
   pub roomy : capacity ≤ room
   pub standing : AllStandBy bounds entries
-  pub sound : is_sound
 
 -- The counts of entries.
 pub record AreCounts (counts : Counts) (entries : List Entry) : Type 0 where
@@ -57,12 +54,6 @@ pub record AreCounts (counts : Counts) (entries : List Entry) : Type 0 where
 pub record IsMeasured (counts : Counts) (bounds : Bounds) (entries : List Entry) : Type 0 where
   pub counted : AreCounts counts entries
   pub stand : AllStandBy bounds entries
-
--- What an edit of one entry leaves: as many entries and as much room, in storage that is sound.
-pub record IsEdited (count room : ℕ) (entries : List Entry) (new_room : ℕ) (is_sound : Type 0) : Type 0 where
-  pub as_many : length entries ≡ count
-  pub as_roomy : new_room ≡ room
-  pub sound : is_sound
 
 -- A fact that surely leaves an entry as it is counted: as a member, as a sender, and as one of which a block
 -- is due.

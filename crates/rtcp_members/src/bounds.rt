@@ -1,10 +1,9 @@
 //! Up to which moments a check has nothing to do.
 
-ghost use Rattle.std.specs.Prelude.{◌≤◌, length, IsTrue, IfSome};
+ghost use Rattle.std.specs.Prelude.{◌≤◌, IsTrue};
 ghost use Rattle.rtcp_members.specs.ListViews.{entry_value};
-ghost use Rattle.rtcp_members.specs.Standing.{AllStandBy, IsMeasured, IsNoLater, IsUpTo, StandsBy};
+ghost use Rattle.rtcp_members.specs.Standing.{IsNoLater, IsUpTo, StandsBy};
 
-use crate::counts::Counts;
 use crate::entry::Entry;
 use rtcp_wire::Fact;
 
@@ -78,37 +77,4 @@ impl Bounds {
             }
         }
     }
-}
-
-/// The bounds of these entries, where a check with these horizons leaves each as it is.
-pub(crate) fn bounds_if_left(entries: &[Entry], silent: u64, idle: u64, gone: u64) -> Option<Bounds>
-    ensures stand { IfSome result (λ bounds. AllStandBy bounds entries.now) }
-    ensures within { IfSome result (λ bounds.
-        (silent ≤ bounds.silent) × (idle ≤ bounds.idle) × (gone ≤ bounds.gone)) }
-{
-    let mut bounds = Bounds::none();
-    'entries: for entry in entries {
-        bounds.cover(entry);
-        if bounds.is_silent(silent) {
-            return None;
-        }
-    }
-    if !bounds.reach(silent, idle, gone) {
-        return None;
-    }
-    Some(bounds)
-}
-
-/// The counts and the bounds of these entries.
-pub(crate) fn measure(entries: &[Entry]) -> (Counts, Bounds)
-    requires { length entries.now ≤ 1024 }
-    ensures { IsMeasured result.0 result.1 entries.now }
-{
-    let mut counts = Counts::none();
-    let mut bounds = Bounds::none();
-    'entries: for entry in entries {
-        counts.add(entry);
-        bounds.cover(entry);
-    }
-    (counts, bounds)
 }

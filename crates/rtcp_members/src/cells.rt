@@ -8,7 +8,7 @@ use crate::entry::Entry;
 
 /// Where the entry of a source lies.
 #[derive(Clone, Copy)]
-pub(crate) struct Slot {
+pub struct Slot {
     pub(crate) ssrc: u32,
     pub(crate) place: u32,
 }
@@ -25,7 +25,7 @@ impl Slot {
 /// Room for an entry, and for the slots of two ranks: twice the cell's place, and the next. So entries and index
 /// lie in one block of memory, and the slots of a list lie in the first half of its cells.
 #[derive(Drop)]
-pub(crate) struct Cell {
+pub struct Cell {
     pub(crate) entry: Entry,
     pub(crate) even: Slot,
     pub(crate) odd: Slot,
@@ -41,6 +41,12 @@ impl Cell {
             even: Slot::none(),
             odd: Slot::none(),
         }
+    }
+}
+
+impl Default for Cell {
+    fn default() -> Cell {
+        Cell::of(Entry::new(0))
     }
 }
 
@@ -67,6 +73,17 @@ fn set_slot(cells: &mut [Cell], rank: usize, slot: Slot)
     } else {
         cell.odd = slot;
     }
+}
+
+/// Lays an entry in a cell, in place of the one there.
+#[inline(always)]
+pub(crate) fn set_entry(cells: &mut [Cell], place: usize, entry: Entry)
+    requires { place < length cells.old }
+    ensures entries { entries_in cells.new ≡ set (entries_in cells.old) place entry }
+    ensures slots { pairs_in cells.new ≡ pairs_in cells.old }
+{
+    let cell = &mut cells[place];
+    cell.entry = entry;
 }
 
 /// Exchanges the slots of two ranks.

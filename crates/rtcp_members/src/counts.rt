@@ -1,12 +1,16 @@
 //! How many entries of a list are members and senders (RFC 3550, 6.2.1 and 6.3), and of how many a block is
 //! due (6.4).
 
-ghost use Rattle.std.specs.Prelude.{◌≡◌, ◌+◌, ◌≤◌, ◌<◌, ◌^◌, length};
+ghost use Rattle.std.specs.Prelude.{◌≡◌, ◌+◌, ◌≤◌, ◌<◌, ◌^◌, Bool, length, IsTrue, Some};
+ghost use Rattle.rtcp_wire.specs.Facts.{is_media};
 ghost use Rattle.rtcp_members.specs.Entries.{is_member, is_sender};
 ghost use Rattle.rtcp_members.specs.Pending.{is_due};
 ghost use Rattle.rtcp_members.specs.ListViews.{entry_value, lapsed, tally_of, weight_of};
+ghost use Rattle.rtcp_members.specs.Tables.{IsFew, counted_of, entry_with_fact, place_of};
 
 use crate::entry::Entry;
+use crate::table::Applied;
+use rtcp_wire::Fact;
 
 /// How many members, senders and sources with news there are: of a table, 1,024 at most.
 #[derive(Clone, Copy)]
@@ -68,6 +72,34 @@ impl Counts {
         self.members -= u16::from(entry.is_member());
         self.senders -= u16::from(entry.is_sender());
         self.due -= u16::from(entry.is_due());
+    }
+
+    /// A fact comes to an entry that is counted, which is counted anew unless it surely counts as it did.
+    #[inline(always)]
+    pub(crate) fn apply(&mut self, entry: &mut Entry, fact: Fact, t: u64, rate: u32) -> Applied
+        requires few { IsTrue (is_media fact) → IsFew (entry_value entry.old) }
+        requires members { weight_of is_member entry.old ≤ self.old.members }
+        requires senders { weight_of is_sender entry.old ≤ self.old.senders }
+        requires due { weight_of is_due entry.old ≤ self.old.due }
+        requires room { (self.old.members ≤ 1024) × (self.old.senders ≤ 1024) × (self.old.due ≤ 1024) }
+        ensures place { (room : Bool) → result.place ≡ place_of fact (Some (entry_value entry.old)) room }
+        ensures counted { result.counted ≡ counted_of fact (Some (entry_value entry.old)) }
+        ensures ssrc { entry.new.ssrc ≡ entry.old.ssrc }
+        ensures value { entry_value entry.new ≡ entry_with_fact rate fact t (entry_value entry.old) }
+        ensures members { self.new.members + weight_of is_member entry.old
+            ≡ self.old.members + weight_of is_member entry.new }
+        ensures senders { self.new.senders + weight_of is_sender entry.old
+            ≡ self.old.senders + weight_of is_sender entry.new }
+        ensures due { self.new.due + weight_of is_due entry.old
+            ≡ self.old.due + weight_of is_due entry.new }
+    {
+        if entry.keeps_counts(fact) {
+            return entry.apply(fact, t, rate);
+        }
+        self.remove(entry);
+        let applied = entry.apply(fact, t, rate);
+        self.add(entry);
+        applied
     }
 
     /// Ends the sending of an entry that is counted, if its last counted packet lies before `idle`.

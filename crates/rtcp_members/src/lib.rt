@@ -24,18 +24,19 @@
 //! (`News`); `turn_laws` states properties of these.
 #![tactic(auto)]
 
+mod blocks;
 mod bounds;
 mod cells;
 mod counts;
 mod entry;
-mod heap;
+mod index;
 pub mod laws;
 mod list_table;
 pub mod role_laws;
+mod shelf;
 mod sorted_table;
 mod sources;
 mod state;
-mod storage;
 mod table;
 pub mod told_laws;
 pub mod trace_laws;

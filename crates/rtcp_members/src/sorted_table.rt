@@ -1,26 +1,23 @@
 //! A table that keeps its entries by rising SSRC, with running counts.
 
-ghost use Rattle.std.specs.Prelude.{◌≡◌, ℕ, [], ◌<◌, ◌≤◌, ◌^◌, List, length, filter, take, drop, not, IfSome, IfOk, IfErr, IsTrue, Some, option_map};
-ghost use Rattle.std.specs.FinMap as finite;
-ghost use Rattle.rtcp_wire.specs.Facts.{subject, is_media};
+ghost use Rattle.std.specs.Prelude.{◌≡◌, ℕ, [], ◌<◌, ◌≤◌, ◌^◌, List, length, filter, take, drop, not, IfSome, IfOk, option_map};
+ghost use Rattle.rtcp_wire.specs.Facts.{subject};
 ghost use Rattle.rtcp_members.specs.Traces.{horizons_at};
 ghost use Rattle.rtcp_members.specs.Told.{first_state};
-ghost use Rattle.rtcp_members.specs.ListViews.{entry_value, state_value, rows_of, map_of, table_of, tally_of, IsRankOf};
-ghost use Rattle.rtcp_members.specs.SortedViews.{IsRising, IsOrdered, IsSortedTable, IsGapFor};
+ghost use Rattle.rtcp_members.specs.ListViews.{state_value, rows_of, table_of, tally_of};
+ghost use Rattle.rtcp_members.specs.SortedViews.{IsRising, IsSortedTable, IsGapFor, Locates};
 ghost use Rattle.rtcp_members.specs.declared.bounds.Bounds.{Bounds as BoundsOf};
-ghost use Rattle.rtcp_members.specs.Standing.{AllStandBy, IsEdited, IsUpTo};
-ghost use Rattle.rtcp_wire.specs.Views.{block_value};
-ghost use Rattle.rtcp_wire.specs.Writing.{IsWritableBlock};
-ghost use Rattle.rtcp_members.specs.Entries.{is_such};
-ghost use Rattle.rtcp_members.specs.Pending.{is_due, is_above, first_ssrc, block_at, after_block};
-ghost use Rattle.rtcp_members.specs.Tables.{IsFew, no_members, placed, counted, after_fact, after_check, dropped_entries, dropped_senders};
+ghost use Rattle.rtcp_members.specs.Standing.{AllStandBy, IsUpTo};
+ghost use Rattle.rtcp_members.specs.Pending.{is_due, is_above, first_ssrc};
+ghost use Rattle.rtcp_members.specs.Tables.{no_members, placed, after_fact, after_check, dropped_entries, dropped_senders};
 
+use crate::blocks::Blocks;
 use crate::bounds::Bounds;
+use crate::cells::Cell;
 use crate::counts::Counts;
 use crate::entry::Entry;
-use crate::heap::Heap;
+use crate::shelf::Shelf;
 use crate::state::SourceState;
-use crate::storage::Storage;
 use crate::table::{Applied, Dropped, InlineTable, MAX_CAPACITY, MemberTable, Place};
 use crate::walks::Walks;
 use arrayvec::ArrayVec;
@@ -35,12 +32,12 @@ const SHORT_LIST: u64 = 64;
 /// and knows its counts without a walk. It keeps bounds of what a check goes by, so a check that they rule out
 /// reads no entry. No call allocates.
 #[derive(Drop)]
-pub struct Sorted<S: Storage> {
+pub struct Sorted<B: Blocks> {
     capacity: u16,
     /// Where the source of the last fact, block or telling stands, or would.
     last_rank: u16,
     rate: u32,
-    entries: S,
+    entries: Shelf<B>,
     counts: Counts,
     /// Whether walks to a source pay.
     walks: Walks,
@@ -51,7 +48,7 @@ pub struct Sorted<S: Storage> {
     bounds: Bounds,
 }
 
-impl<S: Storage> Model for Sorted<S> {
+impl<B: Blocks> Model for Sorted<B> {
     ghost use Rattle.rtcp_members.specs.Tables.{TableValue};
     ghost use Rattle.rtcp_members.specs.Codes.{table_code};
     ghost use Rattle.rtcp_members.specs.ListViews.{table_of};
@@ -61,57 +58,59 @@ impl<S: Storage> Model for Sorted<S> {
 
     ghost coded = { table_code };
 
-    ghost view = { λ t. table_of t.capacity t.rate (S.items t.entries) };
+    ghost view = { λ t. table_of t.capacity t.rate t.entries.items };
 
-    ghost invariant = { λ t. IsKept t.capacity (S.room t.entries) t.counts t.bounds (S.items t.entries)
-        (S.is_sound t.entries) };
+    ghost invariant = { λ t. IsKept t.capacity t.entries.room t.counts t.bounds t.entries.items };
 }
 
-/// A sorted table with room for 1,024 entries in itself, whatever its capacity: some 131 KB.
-pub type SortedTable = Sorted<ArrayVec<Entry, MAX_CAPACITY>>;
+/// A sorted table with room for 1,024 entries in itself, whatever its capacity: some 147 KB.
+pub type SortedTable = Sorted<ArrayVec<Cell, MAX_CAPACITY>>;
 
 /// A sorted table whose entries lie in a block of memory of their own, with room for its capacity: 144 octets
-/// for each source, of which 16 are for an index of all of them. An entry stays where it is put until it is
-/// dropped. The block is taken when the table is made, and none later.
-pub type HeapTable = Sorted<Heap>;
+/// for each source, of which 16 are for an index of all of them. The block is taken when the table is made, and none
+/// later.
+pub type HeapTable = Sorted<Vec<Cell>>;
 
-impl InlineTable for Sorted<ArrayVec<Entry, MAX_CAPACITY>> {
-    fn empty(capacity: u32, rate: u32) -> Sorted<ArrayVec<Entry, MAX_CAPACITY>> {
+impl InlineTable for Sorted<ArrayVec<Cell, MAX_CAPACITY>> {
+    fn empty(capacity: u32, rate: u32) -> Sorted<ArrayVec<Cell, MAX_CAPACITY>> {
         Sorted::over(ArrayVec::new(), capacity, rate)
     }
 }
 
-impl Sorted<Heap> {
+impl Sorted<Vec<Cell>> {
     /// A table without entries, for at most `capacity` of them, from 1 to 1,024, of a session whose media's
     /// clock has `rate` units a second. It takes the memory for all of them here, and none later.
     ///
     /// # Errors
     ///
     /// There is no memory.
-    pub fn with_room(alloc: Global, capacity: u32, rate: u32) -> Result<Sorted<Heap>, AllocError>
+    pub fn with_room(
+        alloc: Global,
+        capacity: u32,
+        rate: u32,
+    ) -> Result<Sorted<Vec<Cell>>, AllocError>
         requires some { 1 ≤ capacity }
         requires few { capacity ≤ 1024 }
         ensures { IfOk result (λ table. table ≡ no_members capacity rate) }
     {
-        let entries = Heap::with_room(alloc, capacity as usize)?;
-        Ok(Sorted::over(entries, capacity, rate))
+        let cells = Vec::with_capacity(alloc, capacity as usize)?;
+        Ok(Sorted::over(cells, capacity, rate))
     }
 }
 
-impl<S: Storage> Sorted<S> {
-    /// A table without entries, over storage that has none.
-    fn over(entries: S, capacity: u32, rate: u32) -> Sorted<S>
-        requires few { capacity ≤ 1024 }
-        requires sound { S.is_sound entries }
-        requires vacant { S.items entries ≡ [] }
-        requires room { capacity ≤ S.room entries }
+impl<B: Blocks> Sorted<B> {
+    /// A table without entries, over a block without cells.
+    fn over(cells: B, capacity: u32, rate: u32) -> Sorted<B>
+        requires few { B.room cells ≤ 1024 }
+        requires vacant { B.cells cells ≡ [] }
+        requires room { capacity ≤ B.room cells }
         ensures { result ≡ no_members capacity rate }
     {
         Sorted {
             capacity: capacity as u16,
             last_rank: 0,
             rate,
-            entries,
+            entries: Shelf::over(cells),
             counts: Counts::none(),
             walks: Walks::none(),
             last_ssrc: 0,
@@ -146,7 +145,7 @@ impl<S: Storage> Sorted<S> {
     }
 }
 
-impl<S: Storage> MemberTable for Sorted<S> {
+impl<B: Blocks> MemberTable for Sorted<B> {
     ghost content = { λ t. t };
 
     // Inlined, with what it does to an entry, so that where the kind of a fact is known nothing is asked of it.
@@ -164,7 +163,7 @@ impl<S: Storage> MemberTable for Sorted<S> {
             Ok(at) => {
                 self.last_rank = at as u16;
                 let (entries, counts) = (&mut self.entries, &mut self.counts);
-                apply_at(entries, counts, at, fact, t, self.rate)
+                entries.apply(counts, at, fact, t, self.rate)
             }
             Err(gap) => {
                 self.last_rank = gap as u16;
@@ -228,19 +227,14 @@ impl<S: Storage> MemberTable for Sorted<S> {
         let last_rank = usize::from(self.last_rank);
         let at = search_behind(&self.entries, &mut self.walks, last_rank, ssrc).unwrap();
         self.last_rank = at as u16;
-        let (entries, due) = (&mut self.entries, &mut self.counts.due);
-        report_at(entries, due, at, ssrc, t)
+        self.counts.due -= 1;
+        self.entries.report(at, t)
     }
 
     fn source_above(&self, after: Option<u32>) -> Option<SourceState> {
         let entries = &self.entries;
-        let Some(above) = after else {
-            return state_at(entries, 0);
-        };
-        match search_again(entries, self.walks, above) {
-            Ok(at) => state_at(entries, at + 1),
-            Err(gap) => state_at(entries, gap),
-        }
+        let rank = first_above(entries, self.walks, usize::MAX, after);
+        state_at(entries, rank)
     }
 
     fn source_from(&self, after: Option<u32>, rank: &mut usize) -> Option<SourceState> {
@@ -251,12 +245,8 @@ impl<S: Storage> MemberTable for Sorted<S> {
 
     // The last rank becomes that of the source told, which the next call most likely goes on from.
     fn next_source(&mut self, after: Option<u32>) -> Option<SourceState> {
-        let rank = first_behind(
-            &self.entries,
-            self.walks,
-            usize::from(self.last_rank),
-            after,
-        );
+        let (entries, last_rank) = (&self.entries, usize::from(self.last_rank));
+        let rank = first_above(entries, self.walks, last_rank, after);
         self.last_rank = rank as u16;
         state_at(&self.entries, rank)
     }
@@ -264,16 +254,13 @@ impl<S: Storage> MemberTable for Sorted<S> {
 
 /// The rank of the entry of a source, or else the gap where it would stand. The ranks where it likely stands are tried
 /// first: the last one, and those that a walk from the likely rank comes to, if walks pay.
-fn search<S: Storage>(
-    entries: &S,
+fn search<B: Blocks>(
+    entries: &Shelf<B>,
     walks: &mut Walks,
     last_rank: usize,
     ssrc: u32,
 ) -> Result<usize, usize>
-    requires sound { S.is_sound entries.now }
-    requires rising { IsRising (S.items entries.now) }
-    ensures found { IfOk result (IsRankOf ssrc (S.items entries.now)) }
-    ensures absent { IfErr result (IsGapFor ssrc (S.items entries.now)) }
+    ensures { Locates ssrc entries.now.items result }
 {
     if last_rank < entries.len() && entries.ssrc_at(last_rank) == ssrc {
         return Ok(last_rank);
@@ -292,11 +279,8 @@ fn search<S: Storage>(
 
 /// What `search` returns, if a walk from the likely rank soon comes to where the source stands or would: an
 /// interpolation search that ends with a walk (Perl, Itai and Avni, 1978).
-fn search_near<S: Storage>(entries: &S, ssrc: u32) -> Option<Result<usize, usize>>
-    requires sound { S.is_sound entries.now }
-    requires rising { IsRising (S.items entries.now) }
-    ensures found { IfSome result (λ rank. IfOk rank (IsRankOf ssrc (S.items entries.now))) }
-    ensures absent { IfSome result (λ rank. IfErr rank (IsGapFor ssrc (S.items entries.now))) }
+fn search_near<B: Blocks>(entries: &Shelf<B>, ssrc: u32) -> Option<Result<usize, usize>>
+    ensures { IfSome result (Locates ssrc entries.now.items) }
 {
     entries.walk_to(ssrc, likely_place(entries, ssrc)?)
 }
@@ -304,20 +288,17 @@ fn search_near<S: Storage>(entries: &S, ssrc: u32) -> Option<Result<usize, usize
 /// `search` without a walk. Where SSRCs lie close together, a source without an entry likely lies beyond all of them,
 /// or in the gap where the last one was: these are looked at first.
 #[inline(never)]
-fn search_apart<S: Storage>(entries: &S, walks: &mut Walks, ssrc: u32) -> Result<usize, usize>
-    requires sound { S.is_sound entries.now }
-    requires rising { IsRising (S.items entries.now) }
-    ensures found { IfOk result (IsRankOf ssrc (S.items entries.now)) }
-    ensures absent { IfErr result (IsGapFor ssrc (S.items entries.now)) }
+fn search_apart<B: Blocks>(entries: &Shelf<B>, walks: &mut Walks, ssrc: u32) -> Result<usize, usize>
+    ensures { Locates ssrc entries.now.items result }
 {
     let (count, gap) = (entries.len(), walks.last_gap());
-    if is_gap(entries, gap, ssrc) {
+    if entries.is_gap(gap, ssrc) {
         return Err(gap);
     }
-    if is_gap(entries, count, ssrc) {
+    if entries.is_gap(count, ssrc) {
         return Err(count);
     }
-    if is_gap(entries, 0, ssrc) {
+    if entries.is_gap(0, ssrc) {
         return Err(0);
     }
     let found = entries.find(ssrc);
@@ -327,29 +308,9 @@ fn search_apart<S: Storage>(entries: &S, walks: &mut Walks, ssrc: u32) -> Result
     found
 }
 
-/// Whether a source has no entry, and one would stand at this rank.
-#[inline(always)]
-fn is_gap<S: Storage>(entries: &S, rank: usize, ssrc: u32) -> bool
-    requires sound { S.is_sound entries.now }
-    requires rising { IsRising (S.items entries.now) }
-    ensures { IsTrue result → IsGapFor ssrc (S.items entries.now) rank }
-{
-    let count = entries.len();
-    if rank > count {
-        return false;
-    }
-    if rank > 0 && ssrc <= entries.ssrc_at(rank - 1) {
-        return false;
-    }
-    rank == count || ssrc < entries.ssrc_at(rank)
-}
-
 /// `search` for a source that most likely has an entry, by a walk if these pay, and else by halves.
-fn search_again<S: Storage>(entries: &S, walks: Walks, ssrc: u32) -> Result<usize, usize>
-    requires sound { S.is_sound entries.now }
-    requires rising { IsRising (S.items entries.now) }
-    ensures found { IfOk result (IsRankOf ssrc (S.items entries.now)) }
-    ensures absent { IfErr result (IsGapFor ssrc (S.items entries.now)) }
+fn search_again<B: Blocks>(entries: &Shelf<B>, walks: Walks, ssrc: u32) -> Result<usize, usize>
+    ensures { Locates ssrc entries.now.items result }
 {
     if walks.pay() {
         if let Some(found) = search_near(entries, ssrc) {
@@ -361,9 +322,7 @@ fn search_again<S: Storage>(entries: &S, walks: Walks, ssrc: u32) -> Result<usiz
 
 /// Where the entry of a source stands if the SSRCs are spread evenly, as random ones are (RFC 3550, 8.1): by the
 /// whole list, and in a long one, where that is still far off, by what stands at that rank.
-fn likely_place<S: Storage>(entries: &S, ssrc: u32) -> Option<usize>
-    requires { S.is_sound entries.now }
-{
+fn likely_place<B: Blocks>(entries: &Shelf<B>, ssrc: u32) -> Option<usize> {
     let count = entries.len() as u64;
     let rank = (u64::from(ssrc).wrapping_mul(count) >> 32) as usize;
     if count <= SHORT_LIST {
@@ -379,16 +338,13 @@ fn likely_place<S: Storage>(entries: &S, ssrc: u32) -> Option<usize>
 }
 
 /// As `search`, but the rank after the last one is tried first: the blocks of a report go by rising SSRC.
-fn search_behind<S: Storage>(
-    entries: &S,
+fn search_behind<B: Blocks>(
+    entries: &Shelf<B>,
     walks: &mut Walks,
     last_rank: usize,
     ssrc: u32,
 ) -> Result<usize, usize>
-    requires sound { S.is_sound entries.now }
-    requires rising { IsRising (S.items entries.now) }
-    ensures found { IfOk result (IsRankOf ssrc (S.items entries.now)) }
-    ensures absent { IfErr result (IsGapFor ssrc (S.items entries.now)) }
+    ensures { Locates ssrc entries.now.items result }
 {
     let next = last_rank.wrapping_add(1);
     if next < entries.len() && entries.ssrc_at(next) == ssrc {
@@ -397,50 +353,10 @@ fn search_behind<S: Storage>(
     search(entries, walks, last_rank, ssrc)
 }
 
-/// A fact comes to the entry of its source, which stands at `at`.
-#[inline(always)]
-fn apply_at<S: Storage>(
-    entries: &mut S,
-    counts: &mut Counts,
-    at: usize,
-    fact: Fact,
-    t: u64,
-    rate: u32,
-) -> Applied
-    requires sound { S.is_sound entries.old }
-    requires ordered { IsOrdered counts.old.members counts.old.senders (S.items entries.old) }
-    requires its_due { counts.old.due ≡ tally_of is_due (S.items entries.old) }
-    requires within { length (S.items entries.old) ≤ 1024 }
-    requires rank { IsRankOf (subject fact) (S.items entries.old) at }
-    requires few { IsTrue (is_media fact) →
-        IfSome (finite.get (map_of (S.items entries.old)) (subject fact)) IsFew }
-    ensures kept { IsEdited (length (S.items entries.old)) (S.room entries.old)
-        (S.items entries.new) (S.room entries.new) (S.is_sound entries.new) }
-    ensures ordered { IsOrdered counts.new.members counts.new.senders (S.items entries.new) }
-    ensures its_due { counts.new.due ≡ tally_of is_due (S.items entries.new) }
-    ensures place { (capacity : ℕ) →
-        result.place ≡ placed (table_of capacity rate (S.items entries.old)) fact }
-    ensures counted { (capacity : ℕ) →
-        result.counted ≡ counted (table_of capacity rate (S.items entries.old)) fact }
-    ensures stand { (bounds : BoundsOf) → IsUpTo bounds fact t → AllStandBy bounds (S.items entries.old) →
-        AllStandBy bounds (S.items entries.new) }
-    ensures table { (capacity : ℕ) → table_of capacity rate (S.items entries.new)
-        ≡ after_fact fact t (table_of capacity rate (S.items entries.old)) }
-{
-    let entry = entries.entry_mut(at);
-    if entry.keeps_counts(fact) {
-        return entry.apply(fact, t, rate);
-    }
-    counts.remove(entry);
-    let applied = entry.apply(fact, t, rate);
-    counts.add(entry);
-    applied
-}
-
 /// A fact comes whose source has no entry. Where it is added, its entry is put into the gap.
 #[inline(never)]
-fn admit<S: Storage>(
-    entries: &mut S,
+fn admit<B: Blocks>(
+    entries: &mut Shelf<B>,
     counts: &mut Counts,
     gap: usize,
     capacity: u32,
@@ -448,21 +364,19 @@ fn admit<S: Storage>(
     t: u64,
     rate: u32,
 ) -> Place
-    requires sound { S.is_sound entries.old }
-    requires sorted { IsSortedTable capacity counts.old.members counts.old.senders (S.items entries.old) }
-    requires its_due { counts.old.due ≡ tally_of is_due (S.items entries.old) }
-    requires room { capacity ≤ S.room entries.old }
-    requires gap { IsGapFor (subject fact) (S.items entries.old) gap }
-    ensures sound { S.is_sound entries.new }
-    ensures sorted { IsSortedTable capacity counts.new.members counts.new.senders (S.items entries.new) }
-    ensures its_due { counts.new.due ≡ tally_of is_due (S.items entries.new) }
-    ensures room { capacity ≤ S.room entries.new }
-    ensures in_place { S.block entries.new ≡ S.block entries.old }
-    ensures place { result ≡ placed (table_of capacity rate (S.items entries.old)) fact }
-    ensures stand { (bounds : BoundsOf) → IsUpTo bounds fact t → AllStandBy bounds (S.items entries.old) →
-        AllStandBy bounds (S.items entries.new) }
-    ensures table { table_of capacity rate (S.items entries.new)
-        ≡ after_fact fact t (table_of capacity rate (S.items entries.old)) }
+    requires sorted { IsSortedTable capacity counts.old.members counts.old.senders entries.old.items }
+    requires its_due { counts.old.due ≡ tally_of is_due entries.old.items }
+    requires room { capacity ≤ entries.old.room }
+    requires gap { IsGapFor (subject fact) entries.old.items gap }
+    ensures sorted { IsSortedTable capacity counts.new.members counts.new.senders entries.new.items }
+    ensures its_due { counts.new.due ≡ tally_of is_due entries.new.items }
+    ensures room { capacity ≤ entries.new.room }
+    ensures in_place { entries.new.block ≡ entries.old.block }
+    ensures place { result ≡ placed (table_of capacity rate entries.old.items) fact }
+    ensures stand { (bounds : BoundsOf) → IsUpTo bounds fact t → AllStandBy bounds entries.old.items →
+        AllStandBy bounds entries.new.items }
+    ensures table { table_of capacity rate entries.new.items
+        ≡ after_fact fact t (table_of capacity rate entries.old.items) }
 {
     if fact.is_goodbye() {
         return Place::Ignored;
@@ -478,40 +392,19 @@ fn admit<S: Storage>(
 }
 
 /// How many entries have no SSRC above `above`: where the others begin. That is after the entry of `above`, if it is
-/// there; in a report, and in a listing, it is.
-fn first_above<S: Storage>(entries: &S, walks: Walks, last_rank: usize, above: Option<u32>) -> usize
-    requires sound { S.is_sound entries.now }
-    requires rising { IsRising (S.items entries.now) }
-    requires few { length (S.items entries.now) ≤ 1024 }
-    ensures bound { result ≤ length (S.items entries.now) }
-    ensures rest { filter (is_above above) (rows_of (S.items entries.now))
-        ≡ rows_of (drop result (S.items entries.now)) }
-    ensures before { filter (λ row. not (is_above above row)) (rows_of (S.items entries.now))
-        ≡ rows_of (take result (S.items entries.now)) }
-{
-    let Some(above) = above else {
-        return 0;
-    };
-    let mut walks = walks;
-    match search(entries, &mut walks, last_rank, above) {
-        Ok(at) => at + 1,
-        Err(gap) => gap,
-    }
-}
-
-/// Where those above `above` begin, as `first_above`, in a listing: what it asks for is there.
-fn first_behind<S: Storage>(
-    entries: &S,
+/// there; in a report, and in a listing, it is, and most likely at the last rank.
+fn first_above<B: Blocks>(
+    entries: &Shelf<B>,
     walks: Walks,
     last_rank: usize,
     above: Option<u32>,
 ) -> usize
-    requires sound { S.is_sound entries.now }
-    requires rising { IsRising (S.items entries.now) }
-    requires few { length (S.items entries.now) ≤ 1024 }
-    ensures bound { result ≤ length (S.items entries.now) }
-    ensures rest { filter (is_above above) (rows_of (S.items entries.now))
-        ≡ rows_of (drop result (S.items entries.now)) }
+    requires rising { IsRising entries.now.items }
+    requires few { length entries.now.items ≤ 1024 }
+    ensures bound { result ≤ length entries.now.items }
+    ensures rest { filter (is_above above) (rows_of entries.now.items) ≡ rows_of (drop result entries.now.items) }
+    ensures before { filter (λ row. not (is_above above row)) (rows_of entries.now.items)
+        ≡ rows_of (take result entries.now.items) }
 {
     let Some(above) = above else {
         return 0;
@@ -520,59 +413,32 @@ fn first_behind<S: Storage>(
         return last_rank + 1;
     }
     match search_again(entries, walks, above) {
-        Ok(rank) => rank + 1,
+        Ok(at) => at + 1,
         Err(gap) => gap,
     }
 }
 
 /// What is told of the source whose entry stands at `at`, if one does.
-fn state_at<S: Storage>(entries: &S, at: usize) -> Option<SourceState>
-    requires { S.is_sound entries.now }
-    ensures { option_map state_value result ≡ first_state (rows_of (drop at (S.items entries.now))) }
+fn state_at<B: Blocks>(entries: &Shelf<B>, at: usize) -> Option<SourceState>
+    ensures { option_map state_value result ≡ first_state (rows_of (drop at entries.now.items)) }
 {
     if at >= entries.len() {
         return None;
     }
-    Some(entries.entry(at).state())
+    Some(entries.state(at))
 }
 
 /// The first source of which a block is due, among those that stand from `from` on and before `until`.
-fn first_due<S: Storage>(entries: &S, from: usize, until: usize) -> Option<u32>
-    requires sound { S.is_sound entries.now }
+fn first_due<B: Blocks>(entries: &Shelf<B>, from: usize, until: usize) -> Option<u32>
     requires ordered { from ≤ until }
-    requires bound { until ≤ length (S.items entries.now) }
+    requires bound { until ≤ length entries.now.items }
     ensures { result ≡ first_ssrc (filter (λ row. is_due row.1)
-        (rows_of (drop from (take until (S.items entries.now))))) }
+        (rows_of (drop from (take until entries.now.items)))) }
 {
     'entries: for at in from..until {
-        let entry = entries.entry(at);
-        if entry.is_due() {
-            return Some(entry.ssrc);
+        if entries.is_due_at(at) {
+            return Some(entries.ssrc_at(at));
         }
     }
     None
-}
-
-/// The block of the source whose entry stands at `at`, and which is counted as due no more.
-fn report_at<S: Storage>(entries: &mut S, counted: &mut u16, at: usize, ssrc: u32, t: u64) -> Block
-    requires sound { S.is_sound entries.old }
-    requires counted { counted.old ≡ tally_of is_due (S.items entries.old) }
-    requires rising { IsRising (S.items entries.old) }
-    requires rank { IsRankOf ssrc (S.items entries.old) at }
-    requires due { IsTrue (is_such is_due (finite.get (map_of (S.items entries.old)) ssrc)) }
-    ensures kept { IsEdited (length (S.items entries.old)) (S.room entries.old)
-        (S.items entries.new) (S.room entries.new) (S.is_sound entries.new) }
-    ensures ordered { (members senders : ℕ) →
-        IsOrdered members senders (S.items entries.old) → IsOrdered members senders (S.items entries.new) }
-    ensures counted { counted.new ≡ tally_of is_due (S.items entries.new) }
-    ensures stand { (bounds : BoundsOf) → AllStandBy bounds (S.items entries.old) →
-        AllStandBy bounds (S.items entries.new) }
-    ensures block { (capacity rate : ℕ) →
-        Some (block_value result) ≡ block_at ssrc t (table_of capacity rate (S.items entries.old)) }
-    ensures table { (capacity rate : ℕ) → table_of capacity rate (S.items entries.new)
-        ≡ after_block ssrc (table_of capacity rate (S.items entries.old)) }
-    ensures writable { IsWritableBlock (block_value result) }
-{
-    *counted -= 1;
-    entries.entry_mut(at).report(t)
 }

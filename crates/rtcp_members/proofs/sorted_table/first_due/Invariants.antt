@@ -6,5 +6,5 @@ use Rattle.rtcp_members.proofs.sorted_table.first_due.Given as goal
 
 abbrev pub invariant-entries : goal.invariant-entries
 invariant-entries g l =
-    first_ssrc (filter (λ (row : EntryRow). is_due row.1) (rows_of (drop l.at (take l.until (g.S.Storage.items l.entries)))))
-    ≡ first_ssrc (filter (λ (row : EntryRow). is_due row.1) (rows_of (drop l.from (take l.until (g.S.Storage.items l.entries)))))
+    first_ssrc (filter (λ (row : EntryRow). is_due row.1) (rows_of (drop l.at (take l.until l.entries.items))))
+    ≡ first_ssrc (filter (λ (row : EntryRow). is_due row.1) (rows_of (drop l.from (take l.until l.entries.items))))

@@ -1,42 +1,71 @@
 -- The list that the call worked on is the table's, and a source without an entry counts no packet.
-use Rattle.std.proofs.Common.{ℕ, rules, arith, ◌∙◌, ap, sym, subst}
+use Rattle.std.proofs.Common.{ℕ, List, arith, ◌∙◌, ap, sym, subst}
 use Rattle.rtcp_wire.specs.Facts.{subject}
-use Rattle.rtcp_members.specs.SortedViews.{IsSortedTable}
-use Rattle.rtcp_members.specs.Tables.{counted, counted_of}
+use Rattle.rtcp_members.specs.declared.entry.Entry.{Entry}
+use Rattle.rtcp_members.specs.Heaps.{no_entry}
+use Rattle.rtcp_members.specs.ListViews.{IsRankOf}
+use Rattle.rtcp_members.specs.SortedViews.{IsGapFor, IsSortedTable}
+use Rattle.rtcp_members.specs.Tables.{TableValue, after_fact, counted, counted_of, entry_with_fact, placed}
+use Rattle.rtcp_members.proofs.Applying.{counted_applied, place_applied}
+use Rattle.rtcp_members.proofs.Edits.{sorted_edited, table_edited, stand_with_fact}
 use Rattle.rtcp_members.proofs.Standing.{all_lower}
 use Rattle.rtcp_members.proofs.Searching.{none_in_gap}
 use Rattle.rtcp_members.proofs.sorted_table.SortedMemberTable.apply.Goals as goal
 
-pub returns-in-Ok-clause-counted : goal.returns-in-Ok-clause-counted
-returns-in-Ok-clause-counted g c = c.apply_at.ensures.counted c.self.inside.capacity ∙ ap (λ table. counted table c.args.fact) c.self.view_is
+-- ---- Where the source has an entry
 
-pub returns-in-Err-clause-counted : goal.returns-in-Err-clause-counted
-returns-in-Err-clause-counted g c =
-    ap (counted_of c.args.fact) (sym (none_in_gap (subject c.args.fact) (g.S.Storage.items c.self.inside.entries) c.in-Err.gap (search rules))) ∙ ap (λ table. counted table c.args.fact) c.self.view_is
+pub apply-requires-clause-counted : goal.apply-requires-clause-counted
+apply-requires-clause-counted g c =
+    let ordered = c.self.invariant.sorted.ordered in
+    record { members = ordered.its_members; senders = ordered.its_senders; due = c.self.invariant.its_due }
+
+pub returns-in-Ok-clause-place : goal.returns-in-Ok-clause-place
+returns-in-Ok-clause-place g c =
+    let items : List Entry = c.self.inside.entries.items in
+    let place : IsRankOf (subject c.args.fact) items c.in-Ok.at = subst (λ ssrc. IsRankOf ssrc items c.in-Ok.at) c.ssrc-ssrc.ensures c.in-Ok.ensures in
+    place_applied items c.in-Ok.at c.args.fact c.self.inside.rate no_entry c.apply.result.place place (c.apply.ensures.place no_entry) c.self.inside.capacity ∙ ap (λ (table : TableValue). placed table c.args.fact) c.self.view_is
+
+pub returns-in-Ok-clause-counted : goal.returns-in-Ok-clause-counted
+returns-in-Ok-clause-counted g c =
+    let items : List Entry = c.self.inside.entries.items in
+    let place : IsRankOf (subject c.args.fact) items c.in-Ok.at = subst (λ ssrc. IsRankOf ssrc items c.in-Ok.at) c.ssrc-ssrc.ensures c.in-Ok.ensures in
+    counted_applied items c.in-Ok.at c.args.fact c.self.inside.rate no_entry c.apply.result.counted place (c.apply.ensures.counted no_entry) c.self.inside.capacity ∙ ap (λ (table : TableValue). counted table c.args.fact) c.self.view_is
+
+pub returns-in-Ok-clause-content : goal.returns-in-Ok-clause-content
+returns-in-Ok-clause-content g c =
+    let items : List Entry = c.self.inside.entries.items in
+    let place : IsRankOf (subject c.args.fact) items c.in-Ok.at = subst (λ ssrc. IsRankOf ssrc items c.in-Ok.at) c.ssrc-ssrc.ensures c.in-Ok.ensures in
+    table_edited c.args.fact c.args.t c.self.inside.rate items c.apply.new.self.items c.in-Ok.at place c.apply.ensures.changed c.self.invariant.sorted.ordered.rising c.self.inside.capacity
+    ∙ ap (after_fact c.args.fact c.args.t) c.self.view_is
 
 pub invariant_of-self : goal.invariant_of-self
 invariant_of-self g c =
-    let stood = all_lower c.lower.new.self c.self.inside.bounds c.lower.ensures.no_later (g.S.Storage.items c.self.inside.entries) c.self.invariant.standing in
-    let kept = c.apply_at.ensures.kept in
+    let items : List Entry = c.self.inside.entries.items in
+    let place : IsRankOf (subject c.args.fact) items c.in-Ok.at = subst (λ ssrc. IsRankOf ssrc items c.in-Ok.at) c.ssrc-ssrc.ensures c.in-Ok.ensures in
+    let made = c.apply.ensures.changed in
+    let next : List Entry = c.apply.new.self.items in
+    let stood = all_lower c.lower.new.self c.self.inside.bounds c.lower.ensures.no_later items c.self.invariant.standing in
     record {
-      sorted = record {
-        ordered = c.apply_at.ensures.ordered;
-        within = omega (arith, kept.as_many, c.self.invariant.sorted.within);
-        room = c.self.invariant.sorted.room;
-      };
-      its_due = c.apply_at.ensures.its_due;
-      roomy = omega (arith, c.self.invariant.roomy, kept.as_roomy);
-      standing = c.apply_at.ensures.stand c.lower.new.self c.lower.ensures.up_to stood;
-      sound = kept.sound;
+      sorted = sorted_edited (subject c.args.fact) items next c.in-Ok.at (entry_with_fact c.self.inside.rate c.args.fact c.args.t) place made c.self.inside.capacity c.self.inside.counts.members c.self.inside.counts.senders c.apply.new.counts c.self.invariant.sorted c.apply.ensures.recounted;
+      its_due = c.apply.ensures.recounted.due;
+      roomy = omega (arith, c.self.invariant.roomy, c.apply.ensures.room);
+      standing = stand_with_fact c.args.fact c.args.t c.self.inside.rate items next c.in-Ok.at place made c.lower.new.self c.lower.ensures.up_to stood;
     }
+
+-- ---- Where it has none
+
+pub returns-in-Err-clause-counted : goal.returns-in-Err-clause-counted
+returns-in-Err-clause-counted g c =
+    let items : List Entry = c.self.inside.entries.items in
+    let gap = subst (λ ssrc. IsGapFor ssrc items c.in-Err.gap) c.ssrc-ssrc.ensures c.in-Err.ensures in
+    ap (counted_of c.args.fact) (sym (none_in_gap (subject c.args.fact) items c.in-Err.gap gap)) ∙ ap (λ (table : TableValue). counted table c.args.fact) c.self.view_is
 
 pub invariant_of-self-in-Err : goal.invariant_of-self-in-Err
 invariant_of-self-in-Err g c =
-    let stood = all_lower c.lower.new.self c.self.inside.bounds c.lower.ensures.no_later (g.S.Storage.items c.self.inside.entries) c.self.invariant.standing in
+    let stood = all_lower c.lower.new.self c.self.inside.bounds c.lower.ensures.no_later c.self.inside.entries.items c.self.invariant.standing in
     record {
-      sorted = subst (λ (n : ℕ). IsSortedTable n c.admit-place.new.counts.members c.admit-place.new.counts.senders (g.S.Storage.items c.admit-place.new.entries)) c.from-capacity.ensures c.admit-place.ensures.sorted;
+      sorted = subst (λ (n : ℕ). IsSortedTable n c.admit-place.new.counts.members c.admit-place.new.counts.senders c.admit-place.new.entries.items) c.from-capacity.ensures c.admit-place.ensures.sorted;
       its_due = c.admit-place.ensures.its_due;
       roomy = omega (arith, c.from-capacity.ensures, c.admit-place.ensures.room);
       standing = c.admit-place.ensures.stand c.lower.new.self c.lower.ensures.up_to stood;
-      sound = c.admit-place.ensures.sound;
     }

@@ -5,9 +5,9 @@ use Rattle.rtcp_members.proofs.Above.{told_of_sorted}
 use Rattle.rtcp_members.proofs.sorted_table.SortedMemberTable.next_source.Goals as goal
 
 pub overflow_cast-self : goal.overflow_cast-self
-overflow_cast-self g c = omega (arith, c.first_behind-rank.ensures.bound, c.self.invariant.sorted.within)
+overflow_cast-self g c = omega (arith, c.first_above-rank.ensures.bound, c.self.invariant.sorted.within)
 
 pub returns-clause-told : goal.returns-clause-told
 returns-clause-told g c =
-    told_of_sorted c.args.after c.self.inside.capacity c.self.inside.rate (g.S.Storage.items c.self.inside.entries) c.first_behind-rank.result c.args.self.now (option_map state_value c.state_at.result)
-    c.self.view_is c.self.invariant.sorted.ordered.rising c.first_behind-rank.ensures.rest c.state_at.ensures
+    told_of_sorted c.args.after c.self.inside.capacity c.self.inside.rate c.self.inside.entries.items c.first_above-rank.result c.args.self.now (option_map state_value c.state_at.result)
+    c.self.view_is c.self.invariant.sorted.ordered.rising c.first_above-rank.ensures.rest c.state_at.ensures

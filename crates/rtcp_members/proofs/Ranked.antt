@@ -1,0 +1,232 @@
+-- What is read and written at the places of a heap of entries.
+use Rattle.std.specs.Prelude.{ℕ, suc, ◌≡◌, ◌<◌, ◌≤◌, ◌+◌, ◌==◌, true, false, cond, Bool, Some, slice_get, List, [], ◌∷◌, length, take, set, All, slice_index_or, refl}
+use Rattle.std.specs.List.{count_by, sum_by}
+use Rattle.std.proofs.Common.{inl, inr, arith, sym, ap, subst, ◌∙◌}
+use Rattle.std.proofs.lemmas.Bool.{cases_eq}
+use Rattle.std.proofs.lemmas.Bool.Decides.{nat_tests}
+use Rattle.std.proofs.lemmas.List.{length-set, length-map, length-take-le, get_or-take, get_or-map, get_or-set_same, get_or-set_other, get_or_default, get_or_read, same_lists}
+use Rattle.std.proofs.lemmas.List.Sums.{sum_by-set}
+use Rattle.std.proofs.lemmas.List.Elements.{All-head, All-tail, All-weaker, All-from_get_or}
+use Rattle.rtcp_members.specs.declared.entry.Entry.{Entry}
+use Rattle.rtcp_members.specs.declared.cells.Cell.{Cell}
+use Rattle.rtcp_members.specs.declared.cells.Slot.{Slot}
+use Rattle.rtcp_members.specs.Heaps.{no_slot, no_entry, no_cell, entries_in, pairs_in, slots_in, entry_in, picked, in_order, place_at, IsKeyed, ArePlaces, IsHeap, IsIndexed}
+use Rattle.rtcp_members.specs.declared.counts.Counts.{Counts}
+use Rattle.rtcp_members.specs.Entries.{EntryValue, is_member, is_sender}
+use Rattle.rtcp_members.specs.ListViews.{entry_value, tally_of, weight_of}
+use Rattle.rtcp_members.specs.Pending.{is_due}
+use Rattle.rtcp_members.specs.Standing.{AreCounts}
+use Rattle.rtcp_members.proofs.Weights.{tally_at_most, tally_set, weight_within}
+use Rattle.rtcp_members.specs.Shelves.{IsChanged}
+use Rattle.rtcp_members.specs.SortedViews.{IsRising}
+use Rattle.rtcp_members.proofs.Pairs.{length_slots, slot_read, slots_kept, entry_written}
+use Rattle.rtcp_members.proofs.Rising.{rising_set}
+use Rattle.std.proofs.lemmas.Option.{slice_get_read}
+
+-- ---- Places
+
+abbrev pub has_place : ℕ → Slot → ℕ
+has_place place slot = cond (slot.place == place) 1 0
+
+itself : (place : ℕ) → ◌≡◌ {A = ℕ} (cond (place == place) 1 0) 1
+itself place =
+    let same : (place == place) ≡ true = grind (arith, nat_tests) in
+    ap {B = ℕ} (λ b. cond b 1 0) same
+
+other : (place : ℕ) → ◌≡◌ {A = ℕ} (cond (suc place == place) 1 0) 0
+other place =
+    let differ : (suc place == place) ≡ false = grind (arith, nat_tests) in
+    ap {B = ℕ} (λ b. cond b 1 0) differ
+
+-- Two slots have different places.
+pub places_differ : (slots : List Slot) (i j : ℕ) → ((place : ℕ) → count_by (λ (slot : Slot). slot.place == place) slots ≤ 1) → (j ≡ i → ⊥) → i < length slots → j < length slots → place_at slots j ≡ place_at slots i → ⊥
+places_differ slots i j apart unlike below_i below_j same =
+    let p : ℕ = place_at slots i in
+    let elsewhere : Slot = record { ssrc = 0; place = suc p } in
+    let rest : List Slot = set slots i elsewhere in
+    let in_rest : j < length rest = omega (arith, length-set slots i elsewhere) in
+    let first : sum_by (has_place p) rest + has_place p (slice_index_or slots i no_slot) ≡ sum_by (has_place p) slots + has_place p elsewhere = sum_by-set (has_place p) slots i elsewhere no_slot below_i in
+    let second : sum_by (has_place p) (set rest j elsewhere) + has_place p (slice_index_or rest j no_slot) ≡ sum_by (has_place p) rest + has_place p elsewhere = sum_by-set (has_place p) rest j elsewhere no_slot in_rest in
+    let at_i : has_place p (slice_index_or slots i no_slot) ≡ 1 = itself p in
+    let away : has_place p elsewhere ≡ 0 = other p in
+    let at_j : has_place p (slice_index_or rest j no_slot) ≡ 1 =
+    ap (has_place p) (get_or-set_other slots i j elsewhere no_slot unlike) ∙ ap {B = ℕ} (λ q. cond (q == p) 1 0) same ∙ itself p in
+    let most : sum_by (has_place p) slots ≤ 1 = apart p in
+    absurd (omega (arith, first, second, at_i, away, at_j, most))
+
+-- What is read where nothing was written is as it was.
+pub picked_same : (entries next : List Entry) (slots : List Slot) → All (λ (slot : Slot). entry_in next slot ≡ entry_in entries slot) slots → picked next slots ≡ picked entries slots
+picked_same entries next [] all = refl
+picked_same entries next (slot ∷ slots) all =
+    λ i. All-head (λ (slot : Slot). entry_in next slot ≡ entry_in entries slot) slot slots all i ∷ picked_same entries next slots (All-tail (λ (slot : Slot). entry_in next slot ≡ entry_in entries slot) slot slots all) i
+
+module _ (entries : List Entry) (slots : List Slot) (used at : ℕ) (places : ArePlaces entries slots) (in_use : used ≤ length slots) (stands : at < length (picked entries (take used slots))) where
+  as_many : length (picked entries (take used slots)) ≡ used
+  as_many = length-map (take used slots) (entry_in entries) ∙ length-take-le used slots in_use
+
+  pub below : at < used
+  below = omega (arith, stands, as_many)
+
+  pub place_within : place_at slots at < length entries
+  place_within = places.within at no_slot (omega (arith, below, in_use))
+
+  -- the slot of a rank is that of the index
+  pub slot_at : slice_index_or (take used slots) at no_slot ≡ slice_index_or slots at no_slot
+  slot_at = get_or-take used slots at no_slot below
+
+  pub read_at : (d : Entry) → slice_index_or entries (place_at slots at) d ≡ slice_index_or (picked entries (take used slots)) at d
+  read_at d =
+      get_or_default entries (place_at slots at) d no_entry place_within
+      ∙ ap (entry_in entries) (sym slot_at)
+      ∙ sym (get_or-map (entry_in entries) (take used slots) at no_slot d (omega (arith, below, length-take-le used slots in_use)))
+
+  module _ (e : Entry) where
+    abbrev next : List Entry
+    next = set entries (place_at slots at) e
+
+    here : entry_in next (slice_index_or slots at no_slot) ≡ e
+    here = get_or-set_same entries (place_at slots at) e no_entry place_within
+
+    elsewhere_same : (k : ℕ) → (k ≡ at → ⊥) → k < used → entry_in next (slice_index_or slots k no_slot) ≡ entry_in entries (slice_index_or slots k no_slot)
+    elsewhere_same k unlike less =
+        get_or-set_other entries (place_at slots at) (place_at slots k) e no_entry (places_differ slots at k places.apart unlike (omega (arith, below, in_use)) (omega (arith, less, in_use)))
+
+    pub set_picked : picked next (take used slots) ≡ set (picked entries (take used slots)) at e
+    set_picked =
+        same_lists (picked next (take used slots)) (set (picked entries (take used slots)) at e)
+        (length-map (take used slots) (entry_in next) ∙ sym (length-set (picked entries (take used slots)) at e ∙ length-map (take used slots) (entry_in entries)))
+        (λ k d within. by_rank k d (omega (arith, within, length-map (take used slots) (entry_in next), length-take-le used slots in_use)))
+      where
+        left : (k : ℕ) (d : Entry) → k < used → slice_index_or (picked next (take used slots)) k d ≡ entry_in next (slice_index_or slots k no_slot)
+        left k d less =
+            get_or-map (entry_in next) (take used slots) k no_slot d (omega (arith, less, length-take-le used slots in_use)) ∙ ap (entry_in next) (get_or-take used slots k no_slot less)
+
+        right : (k : ℕ) (d : Entry) → k < used → slice_index_or (picked entries (take used slots)) k d ≡ entry_in entries (slice_index_or slots k no_slot)
+        right k d less =
+            get_or-map (entry_in entries) (take used slots) k no_slot d (omega (arith, less, length-take-le used slots in_use)) ∙ ap (entry_in entries) (get_or-take used slots k no_slot less)
+
+        by_rank : (k : ℕ) (d : Entry) → k < used → slice_index_or (picked next (take used slots)) k d ≡ slice_index_or (set (picked entries (take used slots)) at e) k d
+        by_rank k d less = elim (cases_eq k at) [
+          | inl same ↦ left k d less ∙ ap (λ n. entry_in next (slice_index_or slots n no_slot)) same ∙ here
+              ∙ sym (get_or-set_same (picked entries (take used slots)) at e d stands) ∙ ap (λ n. slice_index_or (set (picked entries (take used slots)) at e) n d) (sym same)
+          | inr unlike ↦ left k d less ∙ elsewhere_same k unlike less ∙ sym (right k d less) ∙ sym (get_or-set_other (picked entries (take used slots)) at k e d unlike)
+        ]
+
+    pub keyed_at : All (IsKeyed entries) (take used slots) → (d : Entry) → e.ssrc ≡ (slice_index_or (picked entries (take used slots)) at d).ssrc → All (IsKeyed next) (take used slots)
+    keyed_at keyed d same = All-from_get_or (IsKeyed next) (take used slots) no_slot (λ k within. by_rank k (omega (arith, within, length-take-le used slots in_use)))
+      where
+        was : (k : ℕ) → k < used → (slice_index_or slots k no_slot).ssrc ≡ (entry_in entries (slice_index_or slots k no_slot)).ssrc
+        was k less = subst (IsKeyed entries) (get_or-take used slots k no_slot less) (keyed k no_slot (omega (arith, less, length-take-le used slots in_use)))
+
+        is : (k : ℕ) → k < used → IsKeyed next (slice_index_or slots k no_slot)
+        is k less = elim (cases_eq k at) [
+          | inl equal ↦ was k less ∙ ap (λ n. (entry_in entries (slice_index_or slots n no_slot)).ssrc) equal
+              ∙ ap (λ (x : Entry). x.ssrc) (get_or_default entries (place_at slots at) no_entry d place_within ∙ read_at d) ∙ sym same ∙ ap (λ (x : Entry). x.ssrc) (sym here)
+              ∙ ap (λ n. (entry_in next (slice_index_or slots n no_slot)).ssrc) (sym equal)
+          | inr unlike ↦ was k less ∙ ap (λ (x : Entry). x.ssrc) (sym (elsewhere_same k unlike less))
+        ]
+
+        by_rank : (k : ℕ) → k < used → IsKeyed next (slice_index_or (take used slots) k no_slot)
+        by_rank k less = subst (IsKeyed next) (sym (get_or-take used slots k no_slot less)) (is k less)
+
+    pub places_at : ArePlaces next slots
+    places_at =
+        record {
+          within = All-weaker (λ (slot : Slot). slot.place < length entries) (λ (slot : Slot). slot.place < length next) (λ slot less. omega (arith, less, length-set entries (place_at slots at) e)) slots places.within;
+          apart = places.apart;
+        }
+
+-- ---- The entry of a rank, among cells
+
+-- the cell of a place
+abbrev pub cell_of : List Cell → ℕ → Cell → Cell
+cell_of cells place d = slice_index_or cells place d
+
+module _ (cells : List Cell) (used at : ℕ) (indexed : IsIndexed cells used) (early : at < used) (slot : Slot) (its : slot ≡ slice_index_or (pairs_in cells) at no_slot) (cell : Cell) (read : cell ≡ slice_index_or cells slot.place cell) where
+  heap : IsHeap (entries_in cells) (slots_in cells) used
+  heap = indexed.heap
+
+  as_long : length (in_order cells used) ≡ used
+  as_long = length-map (take used (slots_in cells)) (entry_in (entries_in cells)) ∙ length-take-le used (slots_in cells) heap.in_use
+
+  stands : at < length (in_order cells used)
+  stands = omega (arith, early, as_long)
+
+  its_place : slot.place ≡ place_at (slots_in cells) at
+  its_place = ap (λ (s : Slot). s.place) (its ∙ slot_read cells at (omega (arith, early, heap.in_use, length_slots cells)))
+
+  pub in_cells : slot.place < length cells
+  in_cells = omega (arith, its_place, place_within (entries_in cells) (slots_in cells) used at heap.places heap.in_use stands, length-map cells (λ (c : Cell). c.entry))
+
+  -- What is read there is the entry of the rank.
+  pub read_ranked : (d : Entry) → cell.entry ≡ slice_index_or (in_order cells used) at d
+  read_ranked d =
+      ap (λ (c : Cell). c.entry) (get_or_read cells slot.place cell in_cells read no_cell)
+      ∙ sym (get_or-map (λ (c : Cell). c.entry) cells slot.place no_cell d in_cells)
+      ∙ ap (λ n. slice_index_or (entries_in cells) n d) its_place
+      ∙ read_at (entries_in cells) (slots_in cells) used at heap.places heap.in_use stands d
+
+  got : slice_get (in_order cells used) at ≡ Some cell.entry
+  got = slice_get_read (in_order cells used) (length (in_order cells used)) at cell.entry refl stands (read_ranked cell.entry)
+
+  pub counted_within : (test : EntryValue → Bool) → weight_of test cell.entry ≤ tally_of test (in_order cells used)
+  counted_within test = weight_within test (in_order cells used) at cell.entry got
+
+  pub few_counted : (test : EntryValue → Bool) → tally_of test (in_order cells used) ≤ 1024
+  few_counted test = omega (arith, tally_at_most test (in_order cells used), as_long, heap.in_use, heap.all, heap.few)
+
+  -- What is written there, of the same source, is the entry of the rank.
+  module _ (e : Entry) (same : e.ssrc ≡ cell.entry.ssrc) where
+    abbrev after : List Cell
+    after = set cells slot.place (record cell { entry = e })
+
+    entries_after : entries_in after ≡ set (entries_in cells) (place_at (slots_in cells) at) e
+    entries_after = entry_written cells slot.place (record cell { entry = e }) ∙ ap (λ place. set (entries_in cells) place e) its_place
+
+    slots_after : slots_in after ≡ slots_in cells
+    slots_after = slots_kept cells slot.place e cell read
+
+    pub written_ranked : in_order after used ≡ set (in_order cells used) at e
+    written_ranked =
+        (λ i. picked (entries_after i) (take used (slots_after i))) ∙ set_picked (entries_in cells) (slots_in cells) used at heap.places heap.in_use stands e
+
+    its_ssrc : (d : Entry) → e.ssrc ≡ (slice_index_or (in_order cells used) at d).ssrc
+    its_ssrc d = same ∙ ap (λ (x : Entry). x.ssrc) (read_ranked d)
+
+    still_heap : IsHeap (set (entries_in cells) (place_at (slots_in cells) at) e) (slots_in cells) used
+    still_heap =
+        let old = entries_in cells in
+        let slots = slots_in cells in
+        record {
+          places = places_at old slots used at heap.places heap.in_use stands e;
+          in_use = heap.in_use;
+          all = heap.all ∙ sym (length-set old (place_at slots at) e);
+          keyed = keyed_at old slots used at heap.places heap.in_use stands e heap.keyed cell.entry (its_ssrc cell.entry);
+          few = omega (arith, heap.few, length-set old (place_at slots at) e);
+        }
+
+    pub still_indexed : IsIndexed after used
+    still_indexed = record {
+      heap = subst (λ slots. IsHeap (entries_in after) slots used) (sym slots_after) (subst (λ es. IsHeap es (slots_in cells) used) (sym entries_after) still_heap);
+      rising = subst IsRising (sym written_ranked)
+          (rising_set (in_order cells used) at cell.entry e indexed.rising got same);
+    }
+
+    pub changed_ranked : (change : EntryValue → EntryValue) → entry_value e ≡ change (entry_value cell.entry) → IsChanged change (in_order cells used) (in_order after used) at
+    changed_ranked change value =
+        record { entry = e; items = written_ranked; ssrc = its_ssrc; value = λ d. value ∙ ap (λ (x : Entry). change (entry_value x)) (read_ranked d) }
+
+    pub as_many_after : length after ≡ length cells
+    as_many_after = length-set cells slot.place (record cell { entry = e })
+
+    one_recounted : (test : EntryValue → Bool) (old new : ℕ) → old ≡ tally_of test (in_order cells used) → new + weight_of test cell.entry ≡ old + weight_of test e → new ≡ tally_of test (in_order after used)
+    one_recounted test old new was moved = omega (arith, was, moved, tally_set test (in_order cells used) at cell.entry e got, ap (tally_of test) written_ranked)
+
+    pub recounted_ranked : (counts next : Counts) → AreCounts counts (in_order cells used) → next.members + weight_of is_member cell.entry ≡ counts.members + weight_of is_member e
+        → next.senders + weight_of is_sender cell.entry ≡ counts.senders + weight_of is_sender e → next.due + weight_of is_due cell.entry ≡ counts.due + weight_of is_due e → AreCounts next (in_order after used)
+    recounted_ranked counts next so members senders due =
+        record {
+          members = one_recounted is_member counts.members next.members so.members members;
+          senders = one_recounted is_sender counts.senders next.senders so.senders senders;
+          due = one_recounted is_due counts.due next.due so.due due;
+        }

@@ -1,8 +1,0 @@
--- The entries of the cells so far stand by the bounds.
-use Rattle.std.proofs.Common.{take}
-use Rattle.rtcp_members.specs.Heaps.{entries_in}
-use Rattle.rtcp_members.specs.Standing.{AllStandBy}
-use Rattle.rtcp_members.proofs.heap.HeapStorage.bounds_if_left.Given as goal
-
-abbrev pub invariant-cells : goal.invariant-cells
-invariant-cells l = AllStandBy l.bounds (take l.cell-index (entries_in l.self.cells.items))

@@ -1,0 +1,86 @@
+-- The slots from the rank on are shifted, and the new one is put there.
+use Rattle.std.proofs.Common.{arith, ◌≡◌, ◌≤◌, ◌<◌, ◌+◌, ◌*◌, ◌/◌, ◌++◌, ℕ, List, length, take, drop, refl, sym, ap, subst, ◌∙◌}
+use Rattle.std.specs.List.{insert}
+use Rattle.std.proofs.lemmas.List.{length-map, length-take-le}
+use Rattle.rtcp_members.specs.declared.cells.Cell.{Cell}
+use Rattle.rtcp_members.specs.declared.cells.Slot.{Slot}
+use Rattle.rtcp_members.specs.declared.entry.Entry.{Entry}
+use Rattle.rtcp_members.specs.Heaps.{entry_in, in_order, picked, entries_in, pairs_in, slots_in, spared_slots, IsHeap, IsIndexed, IsPut}
+use Rattle.rtcp_members.specs.Shelves.{ShelfValue}
+use Rattle.rtcp_members.specs.SortedViews.{IsGapFor, IsRising}
+use Rattle.rtcp_members.proofs.Heaps.{items_inserted, heap_inserted}
+use Rattle.rtcp_members.proofs.Rising.{rising_insert}
+use Rattle.rtcp_members.proofs.Pairs.{as_many, slots_shifted}
+use Rattle.rtcp_members.proofs.shelf.Shelf.insert.Goals as goal
+
+-- what is left once an entry was put and the slots were shifted
+module _ (old cells shifted : List Cell) (used at until place : ℕ) (entry : Entry) (indexed : IsIndexed old used) (put : IsPut (entries_in old) (entries_in cells) (slots_in old) (spared_slots (2 * until) cells) used place entry)
+    (gap : IsGapFor entry.ssrc (in_order old used) at) (is_until : until ≡ used / 2 + 1) (few : length cells ≤ 1024)
+    (slots : pairs_in shifted ≡ take (2 * until) (insert (pairs_in cells) at (record { ssrc = entry.ssrc; place = place })) ++ drop (2 * until) (pairs_in cells)) (entries : entries_in shifted ≡ entries_in cells) where
+  abbrev slot : Slot
+  slot = record { ssrc = entry.ssrc; place = place }
+
+  below_used : at ≤ used
+  below_used = omega (arith, gap.in_range, length-map (take used (slots_in old)) (entry_in (entries_in old)), length-take-le used (slots_in old) indexed.heap.in_use)
+
+  fits : used < length cells
+  fits = omega (arith, put.in_use, put.all, length-map cells (λ (x : Cell). x.entry))
+
+  pub same_length : length shifted ≡ length cells
+  same_length = as_many cells shifted entries
+
+  inserted : slots_in shifted ≡ insert (spared_slots (2 * until) cells) at slot
+  inserted = slots_shifted cells shifted at until slot (omega (arith, below_used, fits)) (omega (arith, below_used, is_until)) (omega (arith, fits, is_until)) same_length slots
+
+  pub its_items : in_order shifted (used + 1) ≡ insert (in_order old used) at entry
+  its_items =
+      (λ i. picked (entries i) (take (used + 1) (inserted i)))
+      ∙ items_inserted (entries_in old) (entries_in cells) (slots_in old) (spared_slots (2 * until) cells) used at slot entry indexed.heap put refl below_used
+
+  pub still_indexed : IsIndexed shifted (used + 1)
+  still_indexed = record {
+    heap = subst (λ es. IsHeap es (slots_in shifted) (used + 1)) (sym entries)
+        (subst (λ ss. IsHeap (entries_in cells) ss (used + 1)) (sym inserted)
+        (heap_inserted (entries_in old) (entries_in cells) (slots_in old) (spared_slots (2 * until) cells) used at slot entry indexed.heap put refl below_used (omega (arith, few, length-map cells (λ (x : Cell). x.entry)))));
+    rising = subst IsRising (sym its_items) (rising_insert (in_order old used) at entry indexed.rising gap);
+  }
+
+pub returns-clause-items : goal.returns-clause-items
+returns-clause-items g c =
+    let before : List Cell = g.B.Blocks.cells c.self.inside.cells in
+    let cells : List Cell = g.B.Blocks.cells c.lay-place.new.cells in
+    let shifted : List Cell = c.shift.new.cells in
+    let lent = c.as_mut_slice.ensures.cells in
+    let used : ℕ = c.self.inside.used in
+    let until : ℕ = used / 2 + 1 in
+    let slot : Slot = record { ssrc = c.args.entry.ssrc; place = c.lay-place.result } in
+    let items = ap (λ (v : ShelfValue). v.items) c.self.view_is in
+    let gap = subst (λ (entries : List Entry). IsGapFor c.args.entry.ssrc entries c.args.gap) (sym items) c.requires.gap in
+    let few : length cells ≤ 1024 = omega (arith, ap (λ (xs : List Cell). length xs) lent, c.as_mut_slice.ensures.fits, c.lay-place.ensures.room, c.self.invariant.few) in
+    let slots = c.shift.ensures.slots ∙ ap (λ xs. take (2 * until) (insert (pairs_in xs) c.args.gap slot) ++ drop (2 * until) (pairs_in xs)) lent in
+    let entries = c.shift.ensures.entries ∙ ap entries_in lent in
+    let whole : g.B.Blocks.cells (g.B.Blocks.with_cells c.lay-place.new.cells shifted) ≡ shifted = g.met.B.Blocks.written c.lay-place.new.cells shifted (as_many cells shifted entries) in
+    ap (λ xs. in_order xs (used + 1)) whole
+    ∙ its_items before cells shifted used c.args.gap until c.lay-place.result c.args.entry c.self.invariant.index c.lay-place.ensures.put gap refl few slots entries
+    ∙ ap (λ xs. insert xs c.args.gap c.args.entry) items
+
+pub invariant_of-self : goal.invariant_of-self
+invariant_of-self g c =
+    let before : List Cell = g.B.Blocks.cells c.self.inside.cells in
+    let cells : List Cell = g.B.Blocks.cells c.lay-place.new.cells in
+    let shifted : List Cell = c.shift.new.cells in
+    let lent = c.as_mut_slice.ensures.cells in
+    let used : ℕ = c.self.inside.used in
+    let until : ℕ = used / 2 + 1 in
+    let slot : Slot = record { ssrc = c.args.entry.ssrc; place = c.lay-place.result } in
+    let items = ap (λ (v : ShelfValue). v.items) c.self.view_is in
+    let gap = subst (λ (entries : List Entry). IsGapFor c.args.entry.ssrc entries c.args.gap) (sym items) c.requires.gap in
+    let few : length cells ≤ 1024 = omega (arith, ap (λ (xs : List Cell). length xs) lent, c.as_mut_slice.ensures.fits, c.lay-place.ensures.room, c.self.invariant.few) in
+    let slots = c.shift.ensures.slots ∙ ap (λ xs. take (2 * until) (insert (pairs_in xs) c.args.gap slot) ++ drop (2 * until) (pairs_in xs)) lent in
+    let entries = c.shift.ensures.entries ∙ ap entries_in lent in
+    let whole : g.B.Blocks.cells (g.B.Blocks.with_cells c.lay-place.new.cells shifted) ≡ shifted = g.met.B.Blocks.written c.lay-place.new.cells shifted (as_many cells shifted entries) in
+    record {
+      index = subst (λ xs. IsIndexed xs (used + 1)) (sym whole)
+          (still_indexed before cells shifted used c.args.gap until c.lay-place.result c.args.entry c.self.invariant.index c.lay-place.ensures.put gap refl few slots entries);
+      few = omega (arith, c.self.invariant.few, c.lay-place.ensures.room, g.met.B.Blocks.kept c.lay-place.new.cells shifted);
+    }

@@ -1,0 +1,31 @@
+-- Each cell's entry is covered; those in use are among them.
+use Rattle.std.proofs.Common.{◌≡◌, ◌<◌, ◌≤◌, List, arith, length, take, slice_index_or, sym, ap, subst, ◌∙◌}
+use Rattle.std.proofs.lemmas.List.{take_all, length-map, get_or_read, get_or-map}
+use Rattle.std.proofs.lemmas.List.Elements.{All-take}
+use Rattle.rtcp_members.specs.declared.cells.Cell.{Cell}
+use Rattle.rtcp_members.specs.declared.cells.Slot.{Slot}
+use Rattle.rtcp_members.specs.declared.entry.Entry.{Entry}
+use Rattle.rtcp_members.specs.ListViews.{entry_value}
+use Rattle.rtcp_members.specs.Standing.{AllStandBy, StandsBy}
+use Rattle.rtcp_members.specs.Heaps.{entries_in, slots_in, no_cell, no_entry}
+use Rattle.rtcp_members.proofs.Standing.{all_covered, all_picked}
+use Rattle.rtcp_members.proofs.shelf.bounds_if_left.Goals as goal
+
+pub cells-preserved : goal.cells-preserved
+cells-preserved c =
+    let cells : List Cell = c.args.cells.now in
+    let cell : Cell = c.cell-item.result in
+    let bounds = c.cover.new.self in
+    let at = c.cells.cell-index in
+    let early : at < length cells = omega (arith, c.cells-test.true) in
+    let read : cell ≡ slice_index_or cells at cell = c.cell-item.is in
+    let its : cell.entry ≡ slice_index_or (entries_in cells) at no_entry = ap (λ (x : Cell). x.entry) (get_or_read cells at cell early read no_cell) ∙ sym (get_or-map (λ (x : Cell). x.entry) cells at no_cell no_entry early) in
+    all_covered bounds c.cells.bounds c.cover.ensures.no_later (entries_in cells) at no_entry (omega (arith, early, length-map cells (λ (x : Cell). x.entry))) c.cells.invariant
+    (subst (λ (e : Entry). StandsBy bounds (entry_value e)) its c.cover.ensures.stands)
+
+pub returns-clause-stand : goal.returns-clause-stand
+returns-clause-stand c =
+    let cells : List Cell = c.args.cells.now in
+    let past : length (entries_in cells) ≤ c.cells.cell-index = omega (arith, c.cells-test.false, length-map cells (λ (x : Cell). x.entry)) in
+    let all : AllStandBy c.cells.bounds (entries_in cells) = subst (AllStandBy c.cells.bounds) (take_all c.cells.cell-index (entries_in cells) past) c.cells.invariant in
+    all_picked c.cells.bounds (entries_in cells) (take c.args.used (slots_in cells)) (All-take (λ (slot : Slot). slot.place < length (entries_in cells)) c.args.used (slots_in cells) c.requires.heap.places.within) all

@@ -1,0 +1,63 @@
+-- Entries by rising SSRC on a shelf, and the cells in which they lie.
+use Rattle.std.specs.Prelude.{ℕ, Bool, ◌≡◌, ◌≤◌, List, set, slice_index_or, Option, refl}
+use Rattle.std.specs.Coded.{Coded, code_by, coded×, coded_ℕ, coded_bool, coded_list, coded_option}
+use Rattle.std.specs.Borrow.{Lends, Fml, RattleType, MutBor, Array}
+use Rattle.rtcp_source.specs.Summary.{SourceValue}
+use Rattle.rtcp_members.specs.declared.cells.Cell.{Cell}
+use Rattle.rtcp_members.specs.declared.entry.Entry.{Entry}
+use Rattle.rtcp_members.specs.contracts.cells.Cell.{the_row}
+use Rattle.rtcp_members.specs.Codes.{source_code}
+use Rattle.rtcp_members.specs.Entries.{EntryValue}
+use Rattle.rtcp_members.specs.ListViews.{entry_value}
+use Rattle.rtcp_members.specs.Heaps.{IsIndexed}
+use denote.RawPtr.{Ptr, coded_ptr}
+
+-- The entries in order, how many there is room for, and the block of memory that they lie in, where they lie in one
+-- of their own.
+pub record ShelfValue : Type 0 where
+  pub items : List Entry
+  pub room : ℕ
+  pub block : Option Ptr
+
+-- What holds of a shelf: the first slots of its cells are those of its entries, by rising SSRC.
+pub record IsShelf (cells : List Cell) (used room : ℕ) : Type 0 where
+  pub index : IsIndexed cells used
+  pub few : room ≤ 1024
+
+-- The entry of a rank becomes another one of the same source, of which the value is changed so.
+pub record IsChanged (change : EntryValue → EntryValue) (entries next : List Entry) (at : ℕ) : Type 0 where
+  pub entry : Entry
+  pub items : next ≡ set entries at entry
+  pub ssrc : (d : Entry) → entry.ssrc ≡ (slice_index_or entries at d).ssrc
+  pub value : (d : Entry) → entry_value entry ≡ change (entry_value (slice_index_or entries at d))
+
+-- once the borrow r ends, s has the cells that r shows last
+abbrev pub LendsCells : (S : RattleType) → MutBor S.Denot → MutBor (List Cell) → (S.Denot → List Cell → S.Denot) → Fml
+LendsCells S s r with_cells = Lends S (Array the_row 0) s r (with_cells s.now)
+
+-- ---- Codes, by which a proof tells shelves apart
+
+abbrev pub written_code : Coded Entry
+written_code =
+    code_by (ℕ × (Bool × (Bool × (Bool × (ℕ × (ℕ × (ℕ × SourceValue)))))))
+    (coded× coded_ℕ (coded× coded_bool (coded× coded_bool (coded× coded_bool
+    (coded× coded_ℕ (coded× coded_ℕ (coded× coded_ℕ source_code)))))))
+    (λ e. (e.ssrc, (e.valid, (e.left, (e.sends, (e.mark, (e.sighting, (e.sending, e.source))))))))
+    (λ p. record {
+      ssrc = p.0;
+      valid = p.1.0;
+      left = p.1.1.0;
+      sends = p.1.1.1.0;
+      mark = p.1.1.1.1.0;
+      sighting = p.1.1.1.1.1.0;
+      sending = p.1.1.1.1.1.1.0;
+      source = p.1.1.1.1.1.1.1;
+    })
+    (λ _. refl)
+
+abbrev pub shelf_code : Coded ShelfValue
+shelf_code =
+    code_by (List Entry × (ℕ × Option Ptr)) (coded× (coded_list written_code) (coded× coded_ℕ (coded_option coded_ptr)))
+    (λ s. (s.items, (s.room, s.block)))
+    (λ p. record { items = p.0; room = p.1.0; block = p.1.1 })
+    (λ _. refl)

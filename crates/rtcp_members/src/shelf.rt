@@ -1,0 +1,352 @@
+//! Entries by rising SSRC, that stay where they are put, with an index of them.
+
+ghost use Rattle.std.specs.Prelude.{◌≡◌, ℕ, [], ◌<◌, ◌≤◌, ◌*◌, Bool, length, slice_index_or, IfSome, IsTrue, Some};
+ghost use Rattle.std.specs.List.{insert, retain_mut};
+ghost use Rattle.rtcp_source.specs.Blocks.{block_for};
+ghost use Rattle.rtcp_wire.specs.Facts.{is_media};
+ghost use Rattle.rtcp_wire.specs.Views.{block_value};
+ghost use Rattle.rtcp_wire.specs.Writing.{IsWritableBlock};
+ghost use Rattle.rtcp_members.specs.declared.entry.Entry.{Entry};
+ghost use Rattle.rtcp_members.specs.Heaps.{IsIndexed, IsHeap, IsPut, in_order, entries_in, slots_in, spared_slots};
+ghost use Rattle.rtcp_members.specs.ListViews.{entry_value, lapsed, outlasts, row_of, state_value, IsRankOf};
+ghost use Rattle.rtcp_members.specs.Pending.{is_due, reported_entry};
+ghost use Rattle.rtcp_members.specs.Shelves.{IsChanged};
+ghost use Rattle.rtcp_members.specs.SortedViews.{IsGapFor, Locates};
+ghost use Rattle.rtcp_members.specs.Standing.{AllStandBy, AreCounts, IsMeasured};
+ghost use Rattle.rtcp_members.specs.Tables.{IsFew, counted_of, entry_with_fact, place_of};
+ghost use Rattle.rtcp_members.specs.Told.{state_of};
+ghost use Rattle.rtcp_members.specs.Traces.{horizons_at};
+
+use crate::blocks::Blocks;
+use crate::bounds::Bounds;
+use crate::cells::{Cell, Slot, exchange, set_entry, shift, slot_at};
+use crate::counts::Counts;
+use crate::entry::Entry;
+use crate::index::{entry_at, find, walk_to};
+use crate::state::SourceState;
+use crate::table::Applied;
+use rtcp_wire::{Block, Fact};
+use std::marker::Model;
+
+/// Entries by rising SSRC. Each lies in one cell from when it is put in until it is dropped, and slots say where, by
+/// rank: those of the entries in use, and then those of cells that are free. A search reads slots alone, and an
+/// insert moves slots and no entry. No call takes memory.
+#[derive(Drop)]
+pub struct Shelf<B: Blocks> {
+    cells: B,
+    used: usize,
+}
+
+impl<B: Blocks> Model for Shelf<B> {
+    ghost use Rattle.rtcp_members.specs.Heaps.{in_order};
+    ghost use Rattle.rtcp_members.specs.Shelves.{IsShelf, ShelfValue, shelf_code};
+
+    ghost Value = { ShelfValue };
+
+    ghost coded = { shelf_code };
+
+    ghost view = { λ s.
+        record { items = in_order (B.cells s.cells) s.used; room = B.room s.cells; block = B.block s.cells } };
+
+    ghost invariant = { λ s. IsShelf (B.cells s.cells) s.used (B.room s.cells) };
+}
+
+impl<B: Blocks> Shelf<B> {
+    /// A shelf without entries, over a block without cells.
+    pub(crate) fn over(cells: B) -> Shelf<B>
+        requires vacant { B.cells cells ≡ [] }
+        requires few { B.room cells ≤ 1024 }
+        ensures vacant { result.items ≡ [] }
+        ensures room { result.room ≡ B.room cells }
+    {
+        Shelf { cells, used: 0 }
+    }
+
+    #[inline(always)]
+    pub(crate) fn len(&self) -> usize
+        ensures { result ≡ length self.now.items }
+    {
+        self.used
+    }
+
+    /// The SSRC of a rank.
+    #[inline(always)]
+    pub(crate) fn ssrc_at(&self, at: usize) -> u32
+        requires { at < length self.now.items }
+        ensures { IsRankOf result self.now.items at }
+    {
+        slot_at(self.cells.as_slice(), at).ssrc
+    }
+
+    /// Whether a source has no entry, and one would stand at this rank.
+    #[inline(always)]
+    pub(crate) fn is_gap(&self, rank: usize, ssrc: u32) -> bool
+        ensures { IsTrue result → IsGapFor ssrc self.now.items rank }
+    {
+        if rank > self.used {
+            return false;
+        }
+        let cells = self.cells.as_slice();
+        if rank > 0 && ssrc <= slot_at(cells, rank - 1).ssrc {
+            return false;
+        }
+        rank == self.used || ssrc < slot_at(cells, rank).ssrc
+    }
+
+    /// The rank of a source, or else that which it would have.
+    pub(crate) fn find(&self, ssrc: u32) -> Result<usize, usize>
+        ensures { Locates ssrc self.now.items result }
+    {
+        find(self.cells.as_slice(), self.used, ssrc)
+    }
+
+    /// What `find` returns, where a walk from the rank `from` soon comes to it.
+    pub(crate) fn walk_to(&self, ssrc: u32, from: usize) -> Option<Result<usize, usize>>
+        ensures { IfSome result (Locates ssrc self.now.items) }
+    {
+        walk_to(self.cells.as_slice(), self.used, ssrc, from)
+    }
+
+    /// Whether a block is due of the source of a rank.
+    #[inline(always)]
+    pub(crate) fn is_due_at(&self, at: usize) -> bool
+        requires { at < length self.now.items }
+        ensures { (d : Entry) → result ≡ is_due (entry_value (slice_index_or self.now.items at d)) }
+    {
+        entry_at(self.cells.as_slice(), self.used, at).is_due()
+    }
+
+    /// What is told of the source of a rank.
+    #[inline(always)]
+    pub(crate) fn state(&self, at: usize) -> SourceState
+        requires { at < length self.now.items }
+        ensures { (d : Entry) → state_value result ≡ state_of (row_of (slice_index_or self.now.items at d)) }
+    {
+        entry_at(self.cells.as_slice(), self.used, at).state()
+    }
+
+    /// A fact comes to the source of a rank, which is counted anew.
+    #[inline(always)]
+    pub(crate) fn apply(
+        &mut self,
+        counts: &mut Counts,
+        at: usize,
+        fact: Fact,
+        t: u64,
+        rate: u32,
+    ) -> Applied
+        requires stands { at < length self.old.items }
+        requires counted { AreCounts counts.old self.old.items }
+        requires few { (d : Entry) → IsTrue (is_media fact) →
+            IsFew (entry_value (slice_index_or self.old.items at d)) }
+        ensures changed { IsChanged (entry_with_fact rate fact t) self.old.items self.new.items at }
+        ensures recounted { AreCounts counts.new self.new.items }
+        ensures place { (d : Entry) (room : Bool) →
+            result.place ≡ place_of fact (Some (entry_value (slice_index_or self.old.items at d))) room }
+        ensures counted { (d : Entry) →
+            result.counted ≡ counted_of fact (Some (entry_value (slice_index_or self.old.items at d))) }
+        ensures room { self.new.room ≡ self.old.room }
+        ensures in_place { self.new.block ≡ self.old.block }
+    {
+        let used = self.used;
+        apply_at(self.cells.as_mut_slice(), used, counts, at, fact, t, rate)
+    }
+
+    /// The block of the source of a rank, where one is due.
+    pub(crate) fn report(&mut self, at: usize, t: u64) -> Block
+        requires stands { at < length self.old.items }
+        requires due { (d : Entry) → IsTrue (is_due (entry_value (slice_index_or self.old.items at d))) }
+        ensures changed { IsChanged reported_entry self.old.items self.new.items at }
+        ensures block { (d : Entry) → Some (block_value result)
+            ≡ block_for (slice_index_or self.old.items at d).ssrc t (slice_index_or self.old.items at d).source }
+        ensures writable { IsWritableBlock (block_value result) }
+        ensures room { self.new.room ≡ self.old.room }
+        ensures in_place { self.new.block ≡ self.old.block }
+    {
+        let used = self.used;
+        report_at(self.cells.as_mut_slice(), used, at, t)
+    }
+
+    /// Puts an entry into the gap for its source.
+    // The slots after those in use stay where they are, except the one that the new slot replaces.
+    pub(crate) fn insert(&mut self, gap: usize, entry: Entry)
+        requires gap { IsGapFor entry.ssrc self.old.items gap }
+        requires room { length self.old.items < self.old.room }
+        ensures items { self.new.items ≡ insert self.old.items gap entry }
+        ensures room { self.new.room ≡ self.old.room }
+        ensures in_place { self.new.block ≡ self.old.block }
+    {
+        let ssrc = entry.ssrc;
+        let until = self.used / 2 + 1;
+        let place = lay(&mut self.cells, self.used, 2 * until, entry);
+        shift(self.cells.as_mut_slice(), gap, until, Slot { ssrc, place });
+        self.used += 1;
+    }
+
+    /// Bounds of the entries which these horizons do not pass, if it finds such: then the check leaves each entry as
+    /// it is.
+    pub(crate) fn bounds_if_left(&self, silent: u64, idle: u64, gone: u64) -> Option<Bounds>
+        ensures stand { IfSome result (λ bounds. AllStandBy bounds self.now.items) }
+        ensures within { IfSome result (λ bounds.
+            (silent ≤ bounds.silent) × (idle ≤ bounds.idle) × (gone ≤ bounds.gone)) }
+    {
+        bounds_if_left(self.cells.as_slice(), self.used, silent, idle, gone)
+    }
+
+    /// Drops the entries that do not outlast a check, and ends the sending of the idle ones. It is given the counts of
+    /// all, and returns the counts and the bounds of those that stay.
+    pub(crate) fn drop_silent(
+        &mut self,
+        counts: Counts,
+        silent: u64,
+        idle: u64,
+        gone: u64,
+    ) -> (Counts, Bounds)
+        requires { AreCounts counts self.old.items }
+        ensures items { self.new.items
+            ≡ retain_mut (outlasts (horizons_at silent idle gone)) (lapsed idle) self.old.items }
+        ensures room { self.new.room ≡ self.old.room }
+        ensures in_place { self.new.block ≡ self.old.block }
+        ensures measured { IsMeasured result.0 result.1 self.new.items }
+    {
+        let used = self.used;
+        let (kept, counts, bounds) = drop_silent(
+            self.cells.as_mut_slice(),
+            used,
+            counts,
+            silent,
+            idle,
+            gone,
+        );
+        self.used = kept;
+        (counts, bounds)
+    }
+}
+
+/// Lays an entry in a free cell, or else in a new one. Returns its place, which no slot has but the last before
+/// the rank `end`, or the last of all.
+#[inline(always)]
+fn lay<B: Blocks>(cells: &mut B, used: usize, end: usize, entry: Entry) -> u32
+    requires sound { IsHeap (entries_in (B.cells cells.old)) (slots_in (B.cells cells.old)) used }
+    requires room { used < B.room cells.old }
+    requires end { used < end }
+    ensures put { IsPut (entries_in (B.cells cells.old)) (entries_in (B.cells cells.new))
+        (slots_in (B.cells cells.old)) (spared_slots end (B.cells cells.new)) used result entry }
+    ensures room { B.room cells.new ≡ B.room cells.old }
+    ensures in_place { B.block cells.new ≡ B.block cells.old }
+{
+    let count = cells.as_slice().len();
+    if used == count {
+        cells.push(Cell::of(entry));
+        return count as u32;
+    }
+    let place = slot_at(cells.as_slice(), end.min(count) - 1).place;
+    set_entry(cells.as_mut_slice(), place as usize, entry);
+    place
+}
+
+/// A fact comes to the entry of a rank, which is counted anew.
+#[inline(always)]
+fn apply_at(
+    cells: &mut [Cell],
+    used: usize,
+    counts: &mut Counts,
+    at: usize,
+    fact: Fact,
+    t: u64,
+    rate: u32,
+) -> Applied
+    requires indexed { IsIndexed cells.old used }
+    requires stands { at < used }
+    requires counted { AreCounts counts.old (in_order cells.old used) }
+    requires few { (d : Entry) → IsTrue (is_media fact) →
+        IsFew (entry_value (slice_index_or (in_order cells.old used) at d)) }
+    ensures indexed { IsIndexed cells.new used }
+    ensures as_many { length cells.new ≡ length cells.old }
+    ensures changed { IsChanged (entry_with_fact rate fact t) (in_order cells.old used) (in_order cells.new used) at }
+    ensures recounted { AreCounts counts.new (in_order cells.new used) }
+    ensures place { (d : Entry) (room : Bool) →
+        result.place ≡ place_of fact (Some (entry_value (slice_index_or (in_order cells.old used) at d))) room }
+    ensures counted { (d : Entry) →
+        result.counted ≡ counted_of fact (Some (entry_value (slice_index_or (in_order cells.old used) at d))) }
+{
+    let place = slot_at(cells, at).place;
+    let cell = &mut cells[place as usize];
+    counts.apply(&mut cell.entry, fact, t, rate)
+}
+
+/// The block of the source of a rank, where one is due.
+fn report_at(cells: &mut [Cell], used: usize, at: usize, t: u64) -> Block
+    requires indexed { IsIndexed cells.old used }
+    requires stands { at < used }
+    requires due { (d : Entry) → IsTrue (is_due (entry_value (slice_index_or (in_order cells.old used) at d))) }
+    ensures indexed { IsIndexed cells.new used }
+    ensures as_many { length cells.new ≡ length cells.old }
+    ensures changed { IsChanged reported_entry (in_order cells.old used) (in_order cells.new used) at }
+    ensures block { (d : Entry) → Some (block_value result)
+        ≡ block_for (slice_index_or (in_order cells.old used) at d).ssrc t
+        (slice_index_or (in_order cells.old used) at d).source }
+    ensures writable { IsWritableBlock (block_value result) }
+{
+    let place = slot_at(cells, at).place;
+    let cell = &mut cells[place as usize];
+    cell.entry.report(t)
+}
+
+/// Bounds of the entries, where a check with these horizons leaves each as it is.
+// In order of memory, over free cells too: what is left in these keeps no check from being ruled out.
+fn bounds_if_left(cells: &[Cell], used: usize, silent: u64, idle: u64, gone: u64) -> Option<Bounds>
+    requires { IsIndexed cells.now used }
+    ensures stand { IfSome result (λ bounds. AllStandBy bounds (in_order cells.now used)) }
+    ensures within { IfSome result (λ bounds.
+        (silent ≤ bounds.silent) × (idle ≤ bounds.idle) × (gone ≤ bounds.gone)) }
+{
+    let mut bounds = Bounds::none();
+    'cells: for cell in cells {
+        bounds.cover(&cell.entry);
+        if bounds.is_silent(silent) {
+            return None;
+        }
+    }
+    if !bounds.reach(silent, idle, gone) {
+        return None;
+    }
+    Some(bounds)
+}
+
+/// Drops the entries that do not outlast a check. Returns how many stay, with their counts and bounds.
+// One walk, in which only an entry that changes is counted anew; no slot is written before one is dropped.
+fn drop_silent(
+    cells: &mut [Cell],
+    used: usize,
+    counts: Counts,
+    silent: u64,
+    idle: u64,
+    gone: u64,
+) -> (usize, Counts, Bounds)
+    requires indexed { IsIndexed cells.old used }
+    requires counted { AreCounts counts (in_order cells.old used) }
+    ensures indexed { IsIndexed cells.new result.0 }
+    ensures as_many { length cells.new ≡ length cells.old }
+    ensures items { in_order cells.new result.0
+        ≡ retain_mut (outlasts (horizons_at silent idle gone)) (lapsed idle) (in_order cells.old used) }
+    ensures measured { IsMeasured result.1 result.2 (in_order cells.new result.0) }
+{
+    let mut counts = counts;
+    let mut bounds = Bounds::none();
+    let mut kept = 0;
+    'ranks: for at in 0..used {
+        let slot = slot_at(cells, at);
+        let cell = &mut cells[slot.place as usize];
+        if !cell.entry.stays(silent, gone) {
+            counts.remove(&cell.entry);
+            cell.entry.retire();
+            continue;
+        }
+        counts.lapse(&mut cell.entry, idle);
+        bounds.cover(&cell.entry);
+        exchange(cells, kept, at);
+        kept += 1;
+    }
+    (kept, counts, bounds)
+}
