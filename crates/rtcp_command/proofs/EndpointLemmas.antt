@@ -40,7 +40,8 @@ read_is text parts e =
     let sound = read_socket_v4_sound text [] (address_of parts) (is ∙ ap₂ (λ x y. Some (x, y)) whole.1 rest) in
     subst (λ front. IsSocketV4Text front (address_of parts)) (sym (sound.1 ∙ append-nil sound.0)) sound.2
 
-no_reading : (found : Option (List ℕ × ℕ)) → ((parts : List ℕ × ℕ) → found ≡ Some parts → ⊥) → None ≡ option_map endpoint_read found
+no_reading : (found : Option (List ℕ × ℕ)) → ((parts : List ℕ × ℕ) → found ≡ Some parts → ⊥) →
+    None ≡ option_map endpoint_read found
 no_reading None lacks = refl
 no_reading (Some parts) lacks = absurd (lacks parts refl)
 
@@ -61,16 +62,19 @@ small a b c d (suc (suc (suc (suc k)))) fit = lit≤ tt
 -- No colon stands in an address.
 lacks_colon : (ip octets : List ℕ) → IsDotted ip octets → (k : ℕ) → k < length ip → get_or ip k 0 ≢ 58
 lacks_colon ip octets h k inside colon =
-    let all : All IsDigitOrDot ip = subst (All IsDigitOrDot) (sym h.spelled) (All-ipv4_text (h.a ∷ h.b ∷ h.c ∷ h.d ∷ []) (λ i. small h.a h.b h.c h.d i h.fit)) in
+    let all : All IsDigitOrDot ip = subst (All IsDigitOrDot) (sym h.spelled)
+    (All-ipv4_text (h.a ∷ h.b ∷ h.c ∷ h.d ∷ []) (λ i. small h.a h.b h.c h.d i h.fit)) in
     grind (arith, common_steps)
 
-after_colon : (front back : List ℕ) → ((k : ℕ) → k < length front → get_or front k 0 ≢ 58) → after_first (λ c. c == 58) (front ++ 58 ∷ back) ≡ back
+after_colon : (front back : List ℕ) → ((k : ℕ) → k < length front → get_or front k 0 ≢ 58) →
+    after_first (λ c. c == 58) (front ++ 58 ∷ back) ≡ back
 after_colon front back lacks =
     let p = λ (c : ℕ). c == 58 in
     let text = front ++ 58 ∷ back in
     let longer : length front < length text = grind (arith, common_steps) in
     let before : (k : ℕ) → k < length front → p (get_or text k 0) ≡ false =
-    λ k inside. let same : get_or text k 0 ≡ get_or front k 0 = grind (arith, common_steps) in ne_eqb _ 58 (λ e. lacks k inside (sym same ∙ e)) in
+    λ k inside. let same : get_or text k 0 ≡ get_or front k 0 = grind (arith, common_steps) in
+    ne_eqb _ 58 (λ e. lacks k inside (sym same ∙ e)) in
     let here : get_or text (length front) 0 ≡ 58 = grind (arith, common_steps) in
     let at = position_or_len_is p text (length front) 0 (omega arith) before (λ _. eq-eqb _ 58 here) in
     let after : after_first p text ≡ back = grind (arith, common_steps) in
@@ -84,7 +88,8 @@ no_leading_zero (suc n) small =
     and_right (nat_lt 1 (length (decimal (suc n)))) (slice_index (decimal (suc n)) 0 == 48) other
 
 -- A text without a leading zero that begins with a zero is that zero alone.
-alone : (digits : List ℕ) → leads_with_zero digits ≡ false → 0 < length digits → slice_index digits 0 ≡ 48 → length digits ≡ 1
+alone : (digits : List ℕ) → leads_with_zero digits ≡ false → 0 < length digits → slice_index digits 0 ≡ 48 →
+    length digits ≡ 1
 alone digits plain some begins = grind (arith, nat_tests)
 
 -- ---- Whole texts
@@ -93,19 +98,24 @@ none_else : {A : Type 0} (b : Bool) (o : Option A) (x : A) → cond b None o ≡
 none_else true o x e = absurd (none-some x e)
 none_else false o x e = (refl, e)
 
-mapped : (o : Option (List ℕ × ℕ)) (endpoint : Endpoint) → option_map endpoint_read o ≡ Some endpoint → o ≡ Some (endpoint.octets, endpoint.port)
+mapped : (o : Option (List ℕ × ℕ)) (endpoint : Endpoint) → option_map endpoint_read o ≡ Some endpoint →
+    o ≡ Some (endpoint.octets, endpoint.port)
 mapped None endpoint e = absurd (none-some endpoint e)
-mapped (Some parts) endpoint e = let same : endpoint_read parts ≡ endpoint = cc e in ap (λ shown. Some (shown.octets, shown.port)) same
+mapped (Some parts) endpoint e = let same : endpoint_read parts ≡ endpoint = cc e in
+    ap (λ shown. Some (shown.octets, shown.port)) same
 
-pub endpoint_in-read : (text : List ℕ) (endpoint : Endpoint) → endpoint_in text ≡ Some endpoint → IsEndpointText text endpoint
+pub endpoint_in-read : (text : List ℕ) (endpoint : Endpoint) → endpoint_in text ≡ Some endpoint →
+    IsEndpointText text endpoint
 endpoint_in-read text endpoint found =
     let plain = none_else (has_leading_zero text) (option_map endpoint_read (reading text)) endpoint found in
-    let (ip, port, parts, dotted, (digits, colon, number, fits)) = read_is text (endpoint.octets, endpoint.port) (mapped (reading text) endpoint plain.1) in
+    let (ip, port, parts, dotted, (digits, colon, number, fits)) = read_is text (endpoint.octets, endpoint.port)
+    (mapped (reading text) endpoint plain.1) in
     let whole : text ≡ ip ++ 58 ∷ digits = parts ∙ ap (λ x. ip ++ x) colon in
     let same = ap (after_first (λ c. c == 58)) whole ∙ after_colon ip digits (lacks_colon ip endpoint.octets dotted) in
     let leads : leads_with_zero digits ≡ false = ap leads_with_zero (sym same) ∙ plain.0 in
     let spelled : digits ≡ decimal endpoint.port =
-    sym (decimal-digits_value (numerals_by_value _ tells_digits) digits number.0.1 number.0.0 (alone digits leads number.0.0) (omega (arith, number.1, fits))) ∙ ap decimal number.1 in
+    sym (decimal-digits_value (numerals_by_value _ tells_digits) digits number.0.1 number.0.0
+    (alone digits leads number.0.0) (omega (arith, number.1, fits))) ∙ ap decimal number.1 in
     record {
       a = dotted.a;
       b = dotted.b;
@@ -114,17 +124,29 @@ endpoint_in-read text endpoint found =
       octets = dotted.value;
       octets_fit = dotted.fit;
       port_fits = fits;
-      spelled = whole ∙ ap₂ (λ x y. x ++ 58 ∷ y) dotted.spelled spelled ∙ sym (append_assoc (dotted_text dotted.a dotted.b dotted.c dotted.d) (58 ∷ []) (decimal endpoint.port));
+      spelled = whole ∙ ap₂ (λ x y. x ++ 58 ∷ y) dotted.spelled spelled
+          ∙ sym (append_assoc (dotted_text dotted.a dotted.b dotted.c dotted.d) (58 ∷ []) (decimal endpoint.port));
     }
 
-pub endpoint_in-text : (text : List ℕ) (endpoint : Endpoint) → IsEndpointText text endpoint → endpoint_in text ≡ Some endpoint
+pub endpoint_in-text : (text : List ℕ) (endpoint : Endpoint) → IsEndpointText text endpoint →
+    endpoint_in text ≡ Some endpoint
 endpoint_in-text text endpoint h =
     let digits = decimal endpoint.port in
     let ip = dotted_text h.a h.b h.c h.d in
-    let dotted : IsDotted ip endpoint.octets = record { a = h.a; b = h.b; c = h.c; d = h.d; fit = h.octets_fit; value = h.octets; spelled = refl } in
+    let dotted : IsDotted ip endpoint.octets = record {
+      a = h.a;
+      b = h.b;
+      c = h.c;
+      d = h.d;
+      fit = h.octets_fit;
+      value = h.octets;
+      spelled = refl;
+    } in
     let number = decimal_is_IsNumeral endpoint.port (omega (arith, h.port_fits)) in
     let whole : text ≡ ip ++ 58 ∷ digits = h.spelled ∙ append_assoc ip (58 ∷ []) digits in
-    let is : IsSocketV4Text text (address_of (endpoint.octets, endpoint.port)) = (ip, 58 ∷ digits, whole, dotted, (digits, refl, number, h.port_fits)) in
+    let is : IsSocketV4Text text (address_of (endpoint.octets, endpoint.port)) =
+    (ip, 58 ∷ digits, whole, dotted, (digits, refl, number, h.port_fits)) in
     let same = ap (after_first (λ c. c == 58)) whole ∙ after_colon ip digits (lacks_colon ip endpoint.octets dotted) in
     let plain = ap leads_with_zero same ∙ no_leading_zero endpoint.port (omega (arith, h.port_fits)) in
-    cond-false (has_leading_zero text) None (option_map endpoint_read (reading text)) plain ∙ ap (option_map endpoint_read) (is_read text _ is)
+    cond-false (has_leading_zero text) None (option_map endpoint_read (reading text)) plain
+    ∙ ap (option_map endpoint_read) (is_read text _ is)

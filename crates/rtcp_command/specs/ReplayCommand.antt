@@ -7,7 +7,8 @@ use Rattle.rtcp_wire.specs.Values.{ItemValue}
 use Rattle.rtcp_engine.specs.Setups.{Setup}
 use Rattle.rtcp_text.specs.Text.{hex_word, hex_long}
 
--- A text between single quotes (39), in which a shell takes each octet as it is. A single quote ends them, stands after a
+-- A text between single quotes (39), in which a shell takes each octet as it is. A single quote ends them, stands after
+-- a
 -- backslash, and begins them again.
 abbrev pub quoted_octet : ℕ → List ℕ
 quoted_octet octet = if octet == 39 then codes "'\\''" else octet ∷ []

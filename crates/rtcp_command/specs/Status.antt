@@ -24,7 +24,8 @@ abbrev pub replay_fault : ReplayFault → RunFault
 replay_fault (BadConfig error) = Config error
 replay_fault (Run fault) = text_fault fault
 
--- 2 where the text or the configuration is refused, and 1 where the link, the file of a record, reading, writing or memory failed
+-- 2 where the text or the configuration is refused, and 1 where the link, the file of a record, reading, writing or
+-- memory failed
 abbrev pub fault_status : RunFault → ℕ
 fault_status (Config error) = 2
 fault_status (Text line fault) = 2

@@ -15,10 +15,12 @@ use Rattle.rtcp_session.specs.Crowds.{total_reports, total_compounds}
 abbrev more_if : Bool → ℕ → ℕ
 more_if counts n = cond counts (suc n) n
 
-one_more : (test : Sent → Bool) (sent : Sent) (earlier : List Sent) → length (filter test (sent ∷ earlier)) ≡ more_if (test sent) (length (filter test earlier))
+one_more : (test : Sent → Bool) (sent : Sent) (earlier : List Sent) → length (filter test (sent ∷ earlier)) ≡ more_if
+    (test sent) (length (filter test earlier))
 one_more test sent earlier = by (test sent)
   where
-    by : (counts : Bool) → length (cond counts (sent ∷ filter test earlier) (filter test earlier)) ≡ more_if counts (length (filter test earlier))
+    by : (counts : Bool) → length (cond counts (sent ∷ filter test earlier) (filter test earlier)) ≡ more_if counts
+        (length (filter test earlier))
     by true = refl
     by false = refl
 
@@ -26,15 +28,18 @@ one_more test sent earlier = by (test sent)
 abbrev kept : (Sent → Bool) → List Sent → List Sent
 kept test sent = filter test (reports_in sent)
 
-one_report : (test : Sent → Bool) (sent : Sent) (earlier : List Sent) → length (kept test (sent ∷ earlier)) ≡ more_if (is_report sent && test sent) (length (kept test earlier))
+one_report : (test : Sent → Bool) (sent : Sent) (earlier : List Sent) →
+    length (kept test (sent ∷ earlier)) ≡ more_if (is_report sent && test sent) (length (kept test earlier))
 one_report test sent earlier = by (is_report sent)
   where
-    by : (reports : Bool) → length (filter test (cond reports (sent ∷ reports_in earlier) (reports_in earlier))) ≡ more_if (reports && test sent) (length (kept test earlier))
+    by : (reports : Bool) → length (filter test (cond reports (sent ∷ reports_in earlier) (reports_in earlier)))
+        ≡ more_if (reports && test sent) (length (kept test earlier))
     by true = one_more test sent (reports_in earlier)
     by false = refl
 
 one_of_three : (inside reports changes : Bool) (all n last change : ℕ) → all ≤ n + last + change
-    → more_if inside all ≤ more_if (reports && inside) n + more_if (not reports && not changes) last + more_if (not reports && changes) change
+    → more_if inside all ≤ more_if (reports && inside) n + more_if (not reports && not changes) last + more_if
+    (not reports && changes) change
 one_of_three true true true all n last change h = omega (arith, h)
 one_of_three true true false all n last change h = omega (arith, h)
 one_of_three true false true all n last change h = omega (arith, h)
@@ -44,14 +49,17 @@ one_of_three false true false all n last change h = omega (arith, h)
 one_of_three false false true all n last change h = omega (arith, h)
 one_of_three false false false all n last change h = omega (arith, h)
 
-three_kinds : (test : Sent → Bool) (sent : List Sent) → length (filter test sent) ≤ length (kept test sent) + length (filter is_last_bye sent) + length (filter is_change_bye sent)
+three_kinds : (test : Sent → Bool) (sent : List Sent) → length (filter test sent) ≤ length (kept test sent) + length
+    (filter is_last_bye sent) + length (filter is_change_bye sent)
 three_kinds test [] = omega arith
 three_kinds test (sent ∷ earlier) =
     let all = one_more test sent earlier in
     let reports = one_report test sent earlier in
     let last = one_more is_last_bye sent earlier in
     let change = one_more is_change_bye sent earlier in
-    let parts = one_of_three (test sent) (is_report sent) sent.changes (length (filter test earlier)) (length (kept test earlier)) (length (filter is_last_bye earlier)) (length (filter is_change_bye earlier)) (three_kinds test earlier) in
+    let parts = one_of_three (test sent) (is_report sent) sent.changes (length (filter test earlier))
+    (length (kept test earlier)) (length (filter is_last_bye earlier)) (length (filter is_change_bye earlier))
+    (three_kinds test earlier) in
     omega (arith, all, reports, last, change, parts)
 
 none_of : (sent : List Sent) → All (λ sent. is_last_bye sent ≡ false) sent → length (filter is_last_bye sent) ≡ 0
@@ -59,7 +67,8 @@ none_of [] h = refl
 none_of (sent ∷ earlier) h =
     let P : Sent → Type 0 = λ (sent : Sent). is_last_bye sent ≡ false in
     let rest = none_of earlier (All-tail P sent earlier h) in
-    let here = ap (λ (counts : Bool). more_if counts (length (filter is_last_bye earlier))) (All-head P sent earlier h) in
+    let here = ap (λ (counts : Bool). more_if counts (length (filter is_last_bye earlier)))
+    (All-head P sent earlier h) in
     let all = one_more is_last_bye sent earlier in
     omega (arith, all, here, rest)
 
@@ -76,7 +85,8 @@ one_last leave (newest ∷ earlier) h =
 
 -- ---- In a window
 
-pub nine_more : (joined : Joined) (from width : ℕ) → IsHistory joined.history → length (compounds_within from width joined) ≤ length (reports_within from width joined) + 9
+pub nine_more : (joined : Joined) (from width : ℕ) → IsHistory joined.history →
+    length (compounds_within from width joined) ≤ length (reports_within from width joined) + 9
 nine_more joined from width is =
     let sent : List Sent = sent_at joined.history in
     let bounds = sent_compounds_keep_apart joined.history is in
@@ -88,7 +98,8 @@ nine_more joined from width is =
 abbrev Stands : Joined → Type 0
 Stands joined = IsHistory joined.history
 
-pub nine_more_each : (from width : ℕ) (all : List Joined) → All Stands all → total_compounds from width all ≤ total_reports from width all + 9 * length all
+pub nine_more_each : (from width : ℕ) (all : List Joined) → All Stands all →
+    total_compounds from width all ≤ total_reports from width all + 9 * length all
 nine_more_each from width [] h = omega arith
 nine_more_each from width (joined ∷ others) h =
     let one = nine_more joined from width (All-head Stands joined others h) in

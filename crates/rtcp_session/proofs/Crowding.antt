@@ -22,14 +22,16 @@ use Rattle.rtcp_session.proofs.Compounds.{nine_more_each}
 -- ---- One interval each
 
 pub totals_paced : (all : List Paced) (from width : ℕ) → All (IsPaced from width) all
-    → total_reports from width (map (λ paced. paced.joined) all) ≤ length all + sum_by (λ paced. 2 * 121828 * width / (100000 * paced.least)) all
+    → total_reports from width (map (λ paced. paced.joined) all) ≤ length all + sum_by
+    (λ paced. 2 * 121828 * width / (100000 * paced.least)) all
 totals_paced [] from width h = omega arith
 totals_paced (paced ∷ others) from width h =
     let quotient : Paced → ℕ = λ (paced : Paced). 2 * 121828 * width / (100000 * paced.least) in
     let one = All-head (IsPaced from width) paced others h in
     let few = few_within paced.joined from width paced.least one.stands one.some one.least in
     let rest = totals_paced others from width (All-tail (IsPaced from width) paced others h) in
-    let total = sum_by-cons (λ (joined : Joined). length (reports_within from width joined)) paced.joined (map (λ (paced : Paced). paced.joined) others) in
+    let total = sum_by-cons (λ (joined : Joined). length (reports_within from width joined)) paced.joined
+    (map (λ (paced : Paced). paced.joined) others) in
     let quotients = sum_by-cons quotient paced others in
     omega (arith, few, rest, total, quotients)
 
@@ -40,18 +42,23 @@ has_some part joined = nat_le 1 (length (part joined))
 
 -- The intervals of some reports fit into so long, and a bandwidth carries so much in each.
 abbrev Carries : (part : Joined → List Decided) (c b room : ℕ) → Joined → Type 0
-Carries part c b room joined = (100000 * spans_of (part joined) ≤ room) × All (λ decided. c ≤ b * decided.report.interval) (part joined)
+Carries part c b room joined = (100000 * spans_of (part joined) ≤ room)
+    × All (λ decided. c ≤ b * decided.report.interval) (part joined)
 
-some_of : (part : Joined → List Decided) (c b room : ℕ) (joined : Joined) (n total : ℕ) → Carries part c b room joined → 100000 * c * total ≤ n * (b * room)
-    → (some : Bool) → has_some part joined ≡ some → 100000 * c * (length (part joined) + total) ≤ cond some (suc n) n * (b * room)
+some_of : (part : Joined → List Decided) (c b room : ℕ) (joined : Joined) (n total : ℕ) → Carries part c b room joined →
+    100000 * c * total ≤ n * (b * room)
+    → (some : Bool) → has_some part joined ≡ some → 100000 * c * (length (part joined) + total) ≤ cond some
+    (suc n) n * (b * room)
 some_of part c b room joined n total h rest true is =
     let up = counted_up (λ (decided : Decided). decided.report.interval) c b (part joined) h.1 in
     let fit = mul-le-mul_left b h.0 in
     plus (length (part joined)) (spans_of (part joined)) up fit rest
   where
-    plus : (m sum : ℕ) → c * m ≤ b * sum → b * (100000 * sum) ≤ b * room → 100000 * c * total ≤ n * (b * room) → 100000 * c * (m + total) ≤ suc n * (b * room)
+    plus : (m sum : ℕ) → c * m ≤ b * sum → b * (100000 * sum) ≤ b * room → 100000 * c * total ≤ n * (b * room) →
+        100000 * c * (m + total) ≤ suc n * (b * room)
     plus m sum up fit rest = omega (arith, up, fit, rest)
-some_of part c b room joined n total h rest false is = none (length (part joined)) (leb-false 1 (length (part joined)) is) rest
+some_of part c b room joined n total h rest false is = none (length (part joined))
+    (leb-false 1 (length (part joined)) is) rest
   where
     none_more : (t : ℕ) → t ≡ 0 + t
     none_more t = omega arith
@@ -60,10 +67,13 @@ some_of part c b room joined n total h rest false is = none (length (part joined
     none zero few rest = subst (λ (t : ℕ). 100000 * c * t ≤ n * (b * room)) (none_more total) rest
     none (suc m) few rest = absurd (omega (arith, few))
 
-kept_length : (part : Joined → List Decided) (joined : Joined) (others : List Joined) → length (filter (has_some part) (joined ∷ others)) ≡ cond (has_some part joined) (suc (length (filter (has_some part) others))) (length (filter (has_some part) others))
+kept_length : (part : Joined → List Decided) (joined : Joined) (others : List Joined) →
+    length (filter (has_some part) (joined ∷ others)) ≡ cond (has_some part joined)
+    (suc (length (filter (has_some part) others))) (length (filter (has_some part) others))
 kept_length part joined others = by (has_some part joined)
   where
-    by : (some : Bool) → length (cond some (joined ∷ filter (has_some part) others) (filter (has_some part) others)) ≡ cond some (suc (length (filter (has_some part) others))) (length (filter (has_some part) others))
+    by : (some : Bool) → length (cond some (joined ∷ filter (has_some part) others) (filter (has_some part) others))
+        ≡ cond some (suc (length (filter (has_some part) others))) (length (filter (has_some part) others))
     by true = refl
     by false = refl
 
@@ -75,25 +85,35 @@ group part c b room (joined ∷ others) h =
     let rest = group part c b room others (All-tail (Carries part c b room) joined others h) in
     let total = sum_by-cons (λ (joined : Joined). length (part joined)) joined others in
     subst (λ (n : ℕ). 100000 * c * n ≤ length (filter (has_some part) (joined ∷ others)) * (b * room)) (sym total)
-    (subst (λ (n : ℕ). 100000 * c * (length (part joined) + sum_by (λ (joined : Joined). length (part joined)) others) ≤ n * (b * room)) (sym (kept_length part joined others))
-    (some_of part c b room joined (length (filter (has_some part) others)) (sum_by (λ (joined : Joined). length (part joined)) others) (All-head (Carries part c b room) joined others h) rest (has_some part joined) refl))
+    (subst (λ (n : ℕ). 100000 * c * (length (part joined) + sum_by (λ (joined : Joined). length (part joined)) others)
+    ≤ n * (b * room)) (sym (kept_length part joined others))
+    (some_of part c b room joined (length (filter (has_some part) others))
+    (sum_by (λ (joined : Joined). length (part joined)) others) (All-head (Carries part c b room) joined others h)
+    rest (has_some part joined) refl))
 
-none_some : (part : Joined → List Decided) (all : List Joined) → length (filter (has_some part) all) ≡ 0 → sum_by (λ joined. length (part joined)) all ≡ 0
+none_some : (part : Joined → List Decided) (all : List Joined) → length (filter (has_some part) all) ≡ 0 →
+    sum_by (λ joined. length (part joined)) all ≡ 0
 none_some part [] h = refl
 none_some part (joined ∷ others) h = by (has_some part joined) refl (none_some part others)
   where
-    total : sum_by (λ joined. length (part joined)) (joined ∷ others) ≡ length (part joined) + sum_by (λ joined. length (part joined)) others
+    total : sum_by (λ joined. length (part joined)) (joined ∷ others) ≡ length (part joined) + sum_by
+        (λ joined. length (part joined)) others
     total = sum_by-cons (λ (joined : Joined). length (part joined)) joined others
 
-    by : (some : Bool) → has_some part joined ≡ some → (length (filter (has_some part) others) ≡ 0 → sum_by (λ joined. length (part joined)) others ≡ 0)
+    by : (some : Bool) → has_some part joined ≡ some →
+        (length (filter (has_some part) others) ≡ 0 → sum_by (λ joined. length (part joined)) others ≡ 0)
         → sum_by (λ joined. length (part joined)) (joined ∷ others) ≡ 0
     by true is later =
         let kept : length (filter (has_some part) (joined ∷ others)) ≡ suc (length (filter (has_some part) others)) =
-        subst (λ (some : Bool). length (filter (has_some part) (joined ∷ others)) ≡ cond some (suc (length (filter (has_some part) others))) (length (filter (has_some part) others))) is (kept_length part joined others) in
+        subst (λ (some : Bool). length (filter (has_some part) (joined ∷ others)) ≡ cond some
+        (suc (length (filter (has_some part) others))) (length (filter (has_some part) others))) is
+        (kept_length part joined others) in
         absurd (omega (arith, kept, h))
     by false is later =
         let kept : length (filter (has_some part) (joined ∷ others)) ≡ length (filter (has_some part) others) =
-        subst (λ (some : Bool). length (filter (has_some part) (joined ∷ others)) ≡ cond some (suc (length (filter (has_some part) others))) (length (filter (has_some part) others))) is (kept_length part joined others) in
+        subst (λ (some : Bool). length (filter (has_some part) (joined ∷ others)) ≡ cond some
+        (suc (length (filter (has_some part) others))) (length (filter (has_some part) others))) is
+        (kept_length part joined others) in
         let none = later (omega (arith, kept, h)) in
         let few = leb-false 1 (length (part joined)) is in
         let all = total in
@@ -103,8 +123,10 @@ few_some : (part : Joined → List Decided) (all : List Joined) → length (filt
 few_some part [] = omega arith
 few_some part (joined ∷ others) = by (has_some part joined) (kept_length part joined others) (few_some part others)
   where
-    by : (some : Bool) → length (filter (has_some part) (joined ∷ others)) ≡ cond some (suc (length (filter (has_some part) others))) (length (filter (has_some part) others))
-        → length (filter (has_some part) others) ≤ length others → length (filter (has_some part) (joined ∷ others)) ≤ suc (length others)
+    by : (some : Bool) → length (filter (has_some part) (joined ∷ others)) ≡ cond some
+        (suc (length (filter (has_some part) others))) (length (filter (has_some part) others))
+        → length (filter (has_some part) others) ≤ length others → length (filter (has_some part) (joined ∷ others))
+        ≤ suc (length others)
     by true kept few = omega (arith, kept, few)
     by false kept few = omega (arith, kept, few)
 
@@ -112,32 +134,42 @@ few_some part (joined ∷ others) = by (has_some part joined) (kept_length part 
 of_those : (part : Joined → List Decided) (size b room : ℕ) (all : List Joined)
     → All (Carries part (1000000 * length (filter (has_some part) all) * size) b room) all
     → 100000 * 1000000 * size * sum_by (λ joined. length (part joined)) all ≤ b * room
-of_those part size b room all h = by (length (filter (has_some part) all)) refl (group part (1000000 * length (filter (has_some part) all) * size) b room all h)
+of_those part size b room all h = by (length (filter (has_some part) all)) refl
+    (group part (1000000 * length (filter (has_some part) all) * size) b room all h)
   where
     total : ℕ
     total = sum_by (λ joined. length (part joined)) all
 
-    by : (n : ℕ) → length (filter (has_some part) all) ≡ n → 100000 * (1000000 * length (filter (has_some part) all) * size) * sum_by (λ joined. length (part joined)) all ≤ length (filter (has_some part) all) * (b * room)
+    by : (n : ℕ) → length (filter (has_some part) all) ≡ n →
+        100000 * (1000000 * length (filter (has_some part) all) * size) * sum_by (λ joined. length (part joined)) all
+        ≤ length (filter (has_some part) all) * (b * room)
         → 100000 * 1000000 * size * sum_by (λ joined. length (part joined)) all ≤ b * room
-    by zero is rest = subst (λ (t : ℕ). 100000 * 1000000 * size * t ≤ b * room) (sym (none_some part all is)) (omega arith)
-    by (suc n) is rest = cancel n (sum_by (λ (joined : Joined). length (part joined)) all) (subst (λ (n : ℕ). 100000 * (1000000 * n * size) * sum_by (λ (joined : Joined). length (part joined)) all ≤ n * (b * room)) is rest)
+    by zero is rest = subst (λ (t : ℕ). 100000 * 1000000 * size * t ≤ b * room) (sym (none_some part all is))
+        (omega arith)
+    by (suc n) is rest = cancel n (sum_by (λ (joined : Joined). length (part joined)) all)
+        (subst (λ (n : ℕ). 100000 * (1000000 * n * size) * sum_by (λ (joined : Joined). length (part joined)) all
+        ≤ n * (b * room)) is rest)
       where
-        cancel : (n t : ℕ) → 100000 * (1000000 * suc n * size) * t ≤ suc n * (b * room) → 100000 * 1000000 * size * t ≤ b * room
+        cancel : (n t : ℕ) → 100000 * (1000000 * suc n * size) * t ≤ suc n * (b * room) →
+            100000 * 1000000 * size * t ≤ b * room
         cancel n t h =
             let some : 0 < suc n = omega arith in
             let scaled : suc n * (100000 * 1000000 * size * t) ≤ suc n * (b * room) = omega (arith, h) in
             le_of_mul-le-mul_left scaled some
 
 -- where each carries one from each of all
-of_everyone : (part : Joined → List Decided) (size b room : ℕ) (all : List Joined) → All (Carries part (1000000 * length all * size) b room) all
+of_everyone : (part : Joined → List Decided) (size b room : ℕ) (all : List Joined) →
+    All (Carries part (1000000 * length all * size) b room) all
     → 100000 * 1000000 * size * sum_by (λ joined. length (part joined)) all ≤ b * room
 of_everyone part size b room [] h = omega arith
 of_everyone part size b room (joined ∷ others) h =
     let grouped = group part (1000000 * suc (length others) * size) b room (joined ∷ others) h in
     let few = few_some part (joined ∷ others) in
-    cancel (length others) (sum_by (λ (joined : Joined). length (part joined)) (joined ∷ others)) (length (filter (has_some part) (joined ∷ others))) few grouped
+    cancel (length others) (sum_by (λ (joined : Joined). length (part joined)) (joined ∷ others))
+    (length (filter (has_some part) (joined ∷ others))) few grouped
   where
-    cancel : (l t n : ℕ) → n ≤ suc l → 100000 * (1000000 * suc l * size) * t ≤ n * (b * room) → 100000 * 1000000 * size * t ≤ b * room
+    cancel : (l t n : ℕ) → n ≤ suc l → 100000 * (1000000 * suc l * size) * t ≤ n * (b * room) →
+        100000 * 1000000 * size * t ≤ b * room
     cancel l t n few h =
         let some : 0 < suc l = omega arith in
         let more : n * (b * room) ≤ suc l * (b * room) = mul-le-mul_right (b * room) few in
@@ -147,21 +179,24 @@ of_everyone part size b room (joined ∷ others) h =
 -- ---- Shares
 
 -- A share of the bandwidth carries a compound of such a size from each of so many.
-carried : (n m avg size times bw interval : ℕ) → n ≤ times * m → 256 * size ≤ avg → 1000000 * m * avg ≤ interval * (256 * bw) → 1000000 * n * size ≤ times * bw * interval
+carried : (n m avg size times bw interval : ℕ) → n ≤ times * m → 256 * size ≤ avg →
+    1000000 * m * avg ≤ interval * (256 * bw) → 1000000 * n * size ≤ times * bw * interval
 carried n m avg size times bw interval counted large keeps =
     let one : n * (256 * size) ≤ times * m * avg = mul-le-mul counted large in
     let two : times * (1000000 * m * avg) ≤ times * (interval * (256 * bw)) = mul-le-mul_left times keeps in
     omega (arith, one, two)
 
 -- Another share carries one from each of others that are no more for their bandwidth.
-carried_too : (n b m d size times interval : ℕ) → 1 ≤ b → m * b ≤ n * d → 1000000 * n * size ≤ times * b * interval → 1000000 * m * size ≤ times * d * interval
+carried_too : (n b m d size times interval : ℕ) → 1 ≤ b → m * b ≤ n * d → 1000000 * n * size ≤ times * b * interval →
+    1000000 * m * size ≤ times * d * interval
 carried_too n b m d size times interval some fewer h =
     let one : 1000000 * size * (m * b) ≤ 1000000 * size * (n * d) = mul-le-mul_left (1000000 * size) fewer in
     let two : d * (1000000 * n * size) ≤ d * (times * b * interval) = mul-le-mul_left d h in
     let both : 1000000 * m * size * b ≤ times * d * interval * b = omega (arith, one, two) in
     le_of_mul-le-mul_right both some
 
-of_sender : (Keeps : Sharers → Type 0) (few sends : Bool) → sends ≡ true → Keeps (if few then (if sends then the_senders else the_others) else everyone) → Keeps the_senders ⊎ Keeps everyone
+of_sender : (Keeps : Sharers → Type 0) (few sends : Bool) → sends ≡ true →
+    Keeps (if few then (if sends then the_senders else the_others) else everyone) → Keeps the_senders ⊎ Keeps everyone
 of_sender Keeps true true is h = inl h
 of_sender Keeps true false is h = absurd cc
 of_sender Keeps false sends is h = inr h
@@ -213,29 +248,40 @@ module _ (terms : Terms) (from width : ℕ) (all : List Joined) where
   both_are : (load : Load) → IsOf load → load.sender_bw + load.receiver_bw ≡ S + R
   both_are load is = omega (arith, is.for_senders, is.for_others)
 
-  alike : (load : Load) → IsOf load → (sends : Bool) → load.we_sent ≡ sends → those sends ≤ terms.times * (if sends then load.senders else load.members - load.senders)
+  alike : (load : Load) → IsOf load → (sends : Bool) → load.we_sent ≡ sends →
+      those sends ≤ terms.times * (if sends then load.senders else load.members - load.senders)
   alike load is sends same =
-      subst (λ (b : Bool). length (those_as b from width all) ≤ terms.times * (if b then load.senders else load.members - load.senders)) same is.counts.alike
+      subst (λ (b : Bool). length (those_as b from width all)
+      ≤ terms.times * (if b then load.senders else load.members - load.senders)) same is.counts.alike
 
-  sender_shares : (load : Load) → IsOf load → load.we_sent ≡ true → OfRole true (interval_of load) ⊎ OfAll (interval_of load)
+  sender_shares : (load : Load) → IsOf load → load.we_sent ≡ true →
+      OfRole true (interval_of load) ⊎ OfAll (interval_of load)
   sender_shares load is sends =
-      let Keeps : Sharers → Type 0 = λ (sharers : Sharers). 1000000 * count_of sharers load * load.avg ≤ interval_of load * (256 * bandwidth_of sharers load) in
-      elim (of_sender Keeps (nat_le (load.senders * (load.sender_bw + load.receiver_bw)) (load.members * load.sender_bw)) load.we_sent sends (interval_keeps_to_share load is.some is.some_more)) [
+      let Keeps : Sharers → Type 0 = λ (sharers : Sharers). 1000000 * count_of sharers load * load.avg ≤ interval_of
+      load * (256 * bandwidth_of sharers load) in
+      elim (of_sender Keeps (nat_le (load.senders * (load.sender_bw + load.receiver_bw))
+      (load.members * load.sender_bw)) load.we_sent sends (interval_keeps_to_share load is.some is.some_more)) [
         | inl keeps ↦
-            inl (subst (λ (b : ℕ). 1000000 * those true * terms.size ≤ terms.times * b * interval_of load) is.for_senders
-            (carried (those true) load.senders load.avg terms.size terms.times load.sender_bw (interval_of load) (alike load is true sends) is.size keeps))
+            inl (subst (λ (b : ℕ). 1000000 * those true * terms.size ≤ terms.times * b * interval_of load)
+            is.for_senders
+            (carried (those true) load.senders load.avg terms.size terms.times load.sender_bw (interval_of load)
+            (alike load is true sends) is.size keeps))
         | inr keeps ↦
             inr (subst (λ (b : ℕ). 1000000 * p * terms.size ≤ terms.times * b * interval_of load) (both_are load is)
-            (carried p load.members load.avg terms.size terms.times (load.sender_bw + load.receiver_bw) (interval_of load) is.counts.everyone is.size keeps))
+            (carried p load.members load.avg terms.size terms.times (load.sender_bw + load.receiver_bw)
+            (interval_of load) is.counts.everyone is.size keeps))
       ]
 
-  other_shares : (load : Load) → IsOf load → load.we_sent ≡ false → OfRole false (interval_of load) × OfAll (interval_of load)
+  other_shares : (load : Load) → IsOf load → load.we_sent ≡ false →
+      OfRole false (interval_of load) × OfAll (interval_of load)
   other_shares load is sends =
       let keeps = interval_of_others load is.some is.some_more is.ordered sends in (
         subst (λ (b : ℕ). 1000000 * those false * terms.size ≤ terms.times * b * interval_of load) is.for_others
-            (carried (those false) (load.members - load.senders) load.avg terms.size terms.times load.receiver_bw (interval_of load) (alike load is false sends) is.size keeps.0),
+            (carried (those false) (load.members - load.senders) load.avg terms.size terms.times load.receiver_bw
+            (interval_of load) (alike load is false sends) is.size keeps.0),
         subst (λ (b : ℕ). 1000000 * p * terms.size ≤ terms.times * b * interval_of load) (both_are load is)
-            (carried p load.members load.avg terms.size terms.times (load.sender_bw + load.receiver_bw) (interval_of load) is.counts.everyone is.size keeps.1),
+            (carried p load.members load.avg terms.size terms.times (load.sender_bw + load.receiver_bw)
+            (interval_of load) is.counts.everyone is.size keeps.1),
       )
 
   some_sender : (load : Load) → IsOf load → 1 ≤ S
@@ -246,7 +292,8 @@ module _ (terms : Terms) (from width : ℕ) (all : List Joined) where
   in_role load is few true sends =
       elim (sender_shares load is sends) [
         | inl h ↦ h
-        | inr h ↦ carried_too p (S + R) (those true) S terms.size terms.times (interval_of load) (more S R (some_sender load is)) few h
+        | inr h ↦ carried_too p (S + R) (those true) S terms.size terms.times (interval_of load)
+            (more S R (some_sender load is)) few h
       ]
     where
       more : (s r : ℕ) → 1 ≤ s → 1 ≤ s + r
@@ -257,20 +304,26 @@ module _ (terms : Terms) (from width : ℕ) (all : List Joined) where
   in_all : (load : Load) → IsOf load → AreMany → (sends : Bool) → load.we_sent ≡ sends → OfAll (interval_of load)
   in_all load is many true sends =
       elim (sender_shares load is sends) [
-        | inl h ↦ carried_too (those true) S p (S + R) terms.size terms.times (interval_of load) (some_sender load is) many h
+        | inl h ↦ carried_too (those true) S p (S + R) terms.size terms.times (interval_of load) (some_sender load is)
+            many h
         | inr h ↦ h
       ]
   in_all load is many false sends = (other_shares load is sends).1
 
   -- ---- One participant
 
-  counted_loads : (joined : Joined) → TakesPart terms from width all joined → All (λ decided. IsOf (load_at decided)) (later_within from width joined)
+  counted_loads : (joined : Joined) → TakesPart terms from width all joined →
+      All (λ decided. IsOf (load_at decided)) (later_within from width joined)
   counted_loads joined part =
-      let loads = each_later (λ (decided : Decided). IsLoadOf joined.history.setup (load_at decided)) from width joined (loads_of_setup joined.history part.stands) in
-      let averages = each_later (λ (decided : Decided). 256 * terms.size ≤ (load_at decided).avg) from width joined (averages_of_sizes joined.history terms.size part.own part.sizes) in
-      λ k d inside. one (load_at (get_or (later_within from width joined) k d)) (loads k d inside) (averages k d inside) (part.counts k d inside)
+      let loads = each_later (λ (decided : Decided). IsLoadOf joined.history.setup (load_at decided)) from width joined
+      (loads_of_setup joined.history part.stands) in
+      let averages = each_later (λ (decided : Decided). 256 * terms.size ≤ (load_at decided).avg) from width joined
+      (averages_of_sizes joined.history terms.size part.own part.sizes) in
+      λ k d inside. one (load_at (get_or (later_within from width joined) k d)) (loads k d inside) (averages k d inside)
+      (part.counts k d inside)
     where
-      one : (load : Load) → IsLoadOf joined.history.setup load → 256 * terms.size ≤ load.avg → CountsMost terms.times from width all load → IsOf load
+      one : (load : Load) → IsLoadOf joined.history.setup load → 256 * terms.size ≤ load.avg →
+          CountsMost terms.times from width all load → IsOf load
       one load of large counts = record {
         for_senders = of.for_senders ∙ part.for_senders;
         for_others = of.for_others ∙ part.for_others;
@@ -281,14 +334,19 @@ module _ (terms : Terms) (from width : ℕ) (all : List Joined) where
         counts = counts;
       }
 
-  role_carries : AreFew → (sends : Bool) (joined : Joined) → TakesPart terms from width all joined → All (λ decided. OfRole sends decided.report.interval) (later_as sends from width joined)
+  role_carries : AreFew → (sends : Bool) (joined : Joined) → TakesPart terms from width all joined →
+      All (λ decided. OfRole sends decided.report.interval) (later_as sends from width joined)
   role_carries few sends joined part =
-      let loads = each_as (λ (decided : Decided). IsOf (load_at decided)) sends from width joined (counted_loads joined part) in
+      let loads = each_as (λ (decided : Decided). IsOf (load_at decided)) sends from width joined
+      (counted_loads joined part) in
       let intervals = each_as IsOfLoad sends from width joined (later_intervals from width joined) in
       let roles = sent_so sends from width joined in
-      λ k d inside. subst (OfRole sends) (sym (intervals k d inside)) (in_role (load_at (get_or (later_as sends from width joined) k d)) (loads k d inside) few sends (roles k d inside))
+      λ k d inside. subst (OfRole sends) (sym (intervals k d inside))
+      (in_role (load_at (get_or (later_as sends from width joined) k d)) (loads k d inside) few sends
+      (roles k d inside))
 
-  all_carry : AreMany → (joined : Joined) → TakesPart terms from width all joined → All (λ decided. OfAll decided.report.interval) (later_within from width joined)
+  all_carry : AreMany → (joined : Joined) → TakesPart terms from width all joined →
+      All (λ decided. OfAll decided.report.interval) (later_within from width joined)
   all_carry many joined part =
       let loads = counted_loads joined part in
       let intervals = later_intervals from width joined in
@@ -307,7 +365,10 @@ module _ (terms : Terms) (from width : ℕ) (all : List Joined) where
   abbrev all_later : ℕ
   all_later = sum_by (λ joined. length (later_within from width joined)) all
 
-  of_role : (sends : Bool) (bw : ℕ) → ((joined : Joined) → TakesPart terms from width all joined → All (λ decided. 1000000 * those sends * terms.size ≤ terms.times * bw * decided.report.interval) (later_as sends from width joined))
+  of_role : (sends : Bool) (bw : ℕ) →
+      ((joined : Joined) → TakesPart terms from width all joined →
+      All (λ decided. 1000000 * those sends * terms.size ≤ terms.times * bw * decided.report.interval)
+      (later_as sends from width joined))
       → IsCrowd terms from width all → each * total_as sends from width all ≤ terms.times * bw * room
   of_role sends bw carry crowd =
       of_those (later_as sends from width) terms.size (terms.times * bw) room all
@@ -319,14 +380,19 @@ module _ (terms : Terms) (from width : ℕ) (all : List Joined) where
   others_fit : IsCrowd terms from width all → each * total_as false from width all ≤ terms.times * R * room
   others_fit crowd = of_role false R carry crowd
     where
-      carry : (joined : Joined) → TakesPart terms from width all joined → All (λ decided. OfRole false decided.report.interval) (later_as false from width joined)
+      carry : (joined : Joined) → TakesPart terms from width all joined →
+          All (λ decided. OfRole false decided.report.interval) (later_as false from width joined)
       carry joined part =
-          let loads = each_as (λ (decided : Decided). IsOf (load_at decided)) false from width joined (counted_loads joined part) in
+          let loads = each_as (λ (decided : Decided). IsOf (load_at decided)) false from width joined
+          (counted_loads joined part) in
           let intervals = each_as IsOfLoad false from width joined (later_intervals from width joined) in
           let roles = sent_so false from width joined in
-          λ k d inside. subst (OfRole false) (sym (intervals k d inside)) (other_shares (load_at (get_or (later_as false from width joined) k d)) (loads k d inside) (roles k d inside)).0
+          λ k d inside. subst (OfRole false) (sym (intervals k d inside))
+          (other_shares (load_at (get_or (later_as false from width joined) k d)) (loads k d inside)
+          (roles k d inside)).0
 
-  later_roles : (list : List Joined) → sum_by (λ joined. length (later_within from width joined)) list ≡ total_as true from width list + total_as false from width list
+  later_roles : (list : List Joined) → sum_by (λ joined. length (later_within from width joined)) list ≡ total_as true
+      from width list + total_as false from width list
   later_roles [] = refl
   later_roles (joined ∷ others) =
       let rest = later_roles others in
@@ -340,10 +406,13 @@ module _ (terms : Terms) (from width : ℕ) (all : List Joined) where
   few_fit few crowd =
       let senders = of_role true S (role_carries few true) crowd in
       let listeners = others_fit crowd in
-      sum all_later (total_as true from width all) (total_as false from width all) each (later_roles all) senders listeners
+      sum all_later (total_as true from width all) (total_as false from width all) each (later_roles all) senders
+      listeners
     where
-      sum : (t u v e : ℕ) → t ≡ u + v → e * u ≤ terms.times * S * room → e * v ≤ terms.times * R * room → e * t ≤ terms.times * (room * (S + R))
-      sum t u v e is one two = subst (λ (n : ℕ). e * n ≤ terms.times * (room * (S + R))) (sym is) (omega (arith, one, two))
+      sum : (t u v e : ℕ) → t ≡ u + v → e * u ≤ terms.times * S * room → e * v ≤ terms.times * R * room →
+          e * t ≤ terms.times * (room * (S + R))
+      sum t u v e is one two = subst (λ (n : ℕ). e * n ≤ terms.times * (room * (S + R))) (sym is)
+          (omega (arith, one, two))
 
   many_fit : AreMany → IsCrowd terms from width all → each * all_later ≤ terms.times * (room * (S + R))
   many_fit many crowd =
@@ -366,7 +435,8 @@ module _ (terms : Terms) (from width : ℕ) (all : List Joined) where
   fits : (t z : ℕ) → 1 ≤ terms.size → each * t ≤ z → t ≤ z / each
   fits t z some h = le-div t z each (omega (arith, some)) (omega (arith, h))
 
-one_each : (from width : ℕ) (all : List Joined) → total_reports from width all ≤ length all + sum_by (λ joined. length (later_within from width joined)) all
+one_each : (from width : ℕ) (all : List Joined) → total_reports from width all ≤ length all + sum_by
+    (λ joined. length (later_within from width joined)) all
 one_each from width [] = omega arith
 one_each from width (joined ∷ others) =
     let one = one_and_later from width joined in
@@ -379,35 +449,46 @@ pub no_flood : (terms : Terms) (from width : ℕ) (all : List Joined) → 1 ≤ 
     → total_reports from width all ≤ length all + carried_in width (terms.sender_bw + terms.receiver_bw) terms
 no_flood terms from width all some crowd =
     let one = one_each from width all in
-    let fit = fits terms from width all (sum_by (λ (joined : Joined). length (later_within from width joined)) all) (terms.times * (2 * 121828 * width * (terms.sender_bw + terms.receiver_bw))) some (later_fit terms from width all crowd) in
+    let fit = fits terms from width all (sum_by (λ (joined : Joined). length (later_within from width joined)) all)
+    (terms.times * (2 * 121828 * width * (terms.sender_bw + terms.receiver_bw))) some
+    (later_fit terms from width all crowd) in
     omega (arith, one, fit)
 
-pub no_flood_of_others : (terms : Terms) (from width : ℕ) (all : List Joined) → 1 ≤ terms.size → IsCrowd terms from width all
+pub no_flood_of_others : (terms : Terms) (from width : ℕ) (all : List Joined) → 1 ≤ terms.size →
+    IsCrowd terms from width all
     → total_as false from width all ≤ carried_in width terms.receiver_bw terms
 no_flood_of_others terms from width all some crowd =
-    fits terms from width all (total_as false from width all) (terms.times * (2 * 121828 * width * terms.receiver_bw)) some
+    fits terms from width all (total_as false from width all) (terms.times * (2 * 121828 * width * terms.receiver_bw))
+    some
     (turned (total_as false from width all) (100000 * 1000000 * terms.size) (others_fit terms from width all crowd))
   where
-    turned : (t e : ℕ) → e * t ≤ terms.times * terms.receiver_bw * (2 * 121828 * width) → e * t ≤ terms.times * (2 * 121828 * width * terms.receiver_bw)
+    turned : (t e : ℕ) → e * t ≤ terms.times * terms.receiver_bw * (2 * 121828 * width) →
+        e * t ≤ terms.times * (2 * 121828 * width * terms.receiver_bw)
     turned t e h = omega (arith, h)
 
 -- ---- Octets
 
-octets_by_total : (most from width : ℕ) (all : List Joined) → All (λ joined. All (λ report. with_headers (length report.out.octets) ≤ most) (reports_within from width joined)) all
+octets_by_total : (most from width : ℕ) (all : List Joined) →
+    All (λ joined. All (λ report. with_headers (length report.out.octets) ≤ most) (reports_within from width joined))
+    all
     → total_octets from width all ≤ total_reports from width all * most
 octets_by_total most from width [] h = omega arith
 octets_by_total most from width (joined ∷ others) h =
-    let Fits : Joined → Type 0 = λ (joined : Joined). All (λ report. with_headers (length report.out.octets) ≤ most) (reports_within from width joined) in
+    let Fits : Joined → Type 0 = λ (joined : Joined). All (λ report. with_headers (length report.out.octets) ≤ most)
+    (reports_within from width joined) in
     let size : Sent → ℕ = λ (report : Sent). with_headers (length report.out.octets) in
     let one = sum_by-le size most (reports_within from width joined) (All-head Fits joined others h) in
     let rest = octets_by_total most from width others (All-tail Fits joined others h) in
     let octets = sum_by-cons (λ (joined : Joined). sum_by size (reports_within from width joined)) joined others in
     let total = sum_by-cons (λ (joined : Joined). length (reports_within from width joined)) joined others in
     subst (λ (n : ℕ). n ≤ total_reports from width (joined ∷ others) * most) (sym octets)
-    (subst (λ (n : ℕ). sum_by size (reports_within from width joined) + total_octets from width others ≤ n * most) (sym total) (omega (arith, one, rest)))
+    (subst (λ (n : ℕ). sum_by size (reports_within from width joined) + total_octets from width others ≤ n * most)
+    (sym total) (omega (arith, one, rest)))
 
-pub no_flood_of_octets : (terms : Terms) (from width most : ℕ) (all : List Joined) → 1 ≤ terms.size → IsCrowd terms from width all
-    → All (λ joined. All (λ report. with_headers (length report.out.octets) ≤ most) (reports_within from width joined)) all
+pub no_flood_of_octets : (terms : Terms) (from width most : ℕ) (all : List Joined) → 1 ≤ terms.size →
+    IsCrowd terms from width all
+    → All (λ joined. All (λ report. with_headers (length report.out.octets) ≤ most) (reports_within from width joined))
+    all
     → total_octets from width all ≤ most * (length all + carried_in width (terms.sender_bw + terms.receiver_bw) terms)
 no_flood_of_octets terms from width most all some crowd fit =
     let octets = octets_by_total most from width all fit in
@@ -419,7 +500,8 @@ no_flood_of_octets terms from width most all some crowd fit =
 
 -- ---- All compounds
 
-pub no_flood_of_compounds : (terms : Terms) (from width : ℕ) (all : List Joined) → 1 ≤ terms.size → IsCrowd terms from width all
+pub no_flood_of_compounds : (terms : Terms) (from width : ℕ) (all : List Joined) → 1 ≤ terms.size →
+    IsCrowd terms from width all
     → total_compounds from width all ≤ 10 * length all + carried_in width (terms.sender_bw + terms.receiver_bw) terms
 no_flood_of_compounds terms from width all some crowd =
     let more = nine_more_each from width all (λ k d inside. (crowd k d inside).stands) in

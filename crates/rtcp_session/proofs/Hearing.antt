@@ -26,7 +26,8 @@ same_equiv = nat_eq_equiv
 
 -- ---- Distinct sources of a kind
 
-one_of : (P : ℕ → Type 0) (numbers : List ℕ) → All P numbers → (number : ℕ) → is_in same numbers number ≡ true → P number
+one_of : (P : ℕ → Type 0) (numbers : List ℕ) → All P numbers → (number : ℕ) → is_in same numbers number ≡ true →
+    P number
 one_of P [] h number is = absurd cc
 one_of P (first ∷ others) h number is = by (number == first) refl (one_of P others (All-tail P first others h) number)
   where
@@ -34,14 +35,18 @@ one_of P (first ∷ others) h number is = by (number == first) refl (one_of P ot
     by true here later = subst P (sym (eqb-true number first here)) (All-head P first others h)
     by false apart later = later (sym (ap (λ (b : Bool). b || is_in same others number) apart) ∙ is)
 
-there_is : (test : EntryValue → Bool) (rate ssrc : ℕ) (stay : Option (List TraceStep)) → is_such test (option_map (entry_of rate ssrc) stay) ≡ true → is_some stay ≡ true
+there_is : (test : EntryValue → Bool) (rate ssrc : ℕ) (stay : Option (List TraceStep)) →
+    is_such test (option_map (entry_of rate ssrc) stay) ≡ true → is_some stay ≡ true
 there_is test rate ssrc None is = absurd cc
 there_is test rate ssrc (Some stay) is = refl
 
-heard_counted : (test : EntryValue → Bool) (capacity rate : ℕ) (trace : List TraceStep) (ssrcs : List ℕ) → IsDistinct same ssrcs
-    → All (λ ssrc. is_such test (entry_at capacity rate trace ssrc) ≡ true) ssrcs → length ssrcs ≤ count_at test capacity rate trace
+heard_counted : (test : EntryValue → Bool) (capacity rate : ℕ) (trace : List TraceStep) (ssrcs : List ℕ) →
+    IsDistinct same ssrcs
+    → All (λ ssrc. is_such test (entry_at capacity rate trace ssrc) ≡ true) ssrcs →
+    length ssrcs ≤ count_at test capacity rate trace
 heard_counted test capacity rate trace ssrcs apart heard =
-    length-le_from_is_member same_equiv ssrcs (filter counts (names trace)) apart (λ ssrc is. kept ssrc (one_of (λ (s : ℕ). counts s ≡ true) ssrcs heard ssrc is))
+    length-le_from_is_member same_equiv ssrcs (filter counts (names trace)) apart
+    (λ ssrc is. kept ssrc (one_of (λ (s : ℕ). counts s ≡ true) ssrcs heard ssrc is))
   where
     counts : ℕ → Bool
     counts ssrc = is_such test (entry_at capacity rate trace ssrc)
@@ -51,22 +56,28 @@ heard_counted test capacity rate trace ssrcs apart heard =
 
     kept : (ssrc : ℕ) → counts ssrc ≡ true → is_in same (filter counts (names trace)) ssrc ≡ true
     kept ssrc is =
-        let there : is_some (stay_of capacity trace ssrc) ≡ true = there_is test rate ssrc (stay_of capacity trace ssrc) is in
-        let named : list_any (λ named. named == ssrc) (names trace) ≡ true = present_were_named_and_fit-named capacity trace ssrc there in
-        let among : is_in same (names trace) ssrc ≡ true = (λ i. list_any (λ (named : ℕ). same_equiv.symm ssrc named i) (names trace)) ∙ named in
+        let there : is_some (stay_of capacity trace ssrc) ≡ true = there_is test rate ssrc (stay_of capacity trace ssrc)
+        is in
+        let named : list_any (λ named. named == ssrc) (names trace) ≡ true = present_were_named_and_fit-named capacity
+        trace ssrc there in
+        let among : is_in same (names trace) ssrc ≡ true =
+        (λ i. list_any (λ (named : ℕ). same_equiv.symm ssrc named i) (names trace)) ∙ named in
         is_member-filter same_equiv counts ssrc (alike ssrc) (names trace)
         ∙ ap (λ (b : Bool). b && counts ssrc) among ∙ is
 
 -- ---- Members that do not send
 
-two_kinds : (f g h : ℕ → Bool) → ((n : ℕ) → length (cond (f n) (n ∷ []) []) ≡ length (cond (g n) (n ∷ []) []) + length (cond (h n) (n ∷ []) [])) → (all : List ℕ)
+two_kinds : (f g h : ℕ → Bool) →
+    ((n : ℕ) → length (cond (f n) (n ∷ []) []) ≡ length (cond (g n) (n ∷ []) []) + length (cond (h n) (n ∷ []) [])) →
+    (all : List ℕ)
     → length (filter f all) ≡ length (filter g all) + length (filter h all)
 two_kinds f g h one [] = refl
 two_kinds f g h one (n ∷ rest) = by (f n) (g n) (h n) (one n) (two_kinds f g h one rest)
   where
     by : (x y z : Bool) → length (cond x (n ∷ []) []) ≡ length (cond y (n ∷ []) []) + length (cond z (n ∷ []) [])
         → length (filter f rest) ≡ length (filter g rest) + length (filter h rest)
-        → length (cond x (n ∷ filter f rest) (filter f rest)) ≡ length (cond y (n ∷ filter g rest) (filter g rest)) + length (cond z (n ∷ filter h rest) (filter h rest))
+        → length (cond x (n ∷ filter f rest) (filter f rest)) ≡ length (cond y (n ∷ filter g rest) (filter g rest))
+        + length (cond z (n ∷ filter h rest) (filter h rest))
     by true true true is before = absurd (omega (arith, is))
     by true true false is before = omega (arith, before)
     by true false true is before = omega (arith, before)
@@ -76,37 +87,45 @@ two_kinds f g h one (n ∷ rest) = by (f n) (g n) (h n) (one n) (two_kinds f g h
     by false false true is before = absurd (omega (arith, is))
     by false false false is before = before
 
-members_are : (capacity rate : ℕ) (trace : List TraceStep) → members_at capacity rate trace ≡ senders_at capacity rate trace + count_at is_listener capacity rate trace
+members_are : (capacity rate : ℕ) (trace : List TraceStep) →
+    members_at capacity rate trace ≡ senders_at capacity rate trace + count_at is_listener capacity rate trace
 members_are capacity rate trace =
-    two_kinds (such is_member) (such is_sender) (such is_listener) (λ ssrc. by_entry ssrc (entry_at capacity rate trace ssrc)) (names trace)
+    two_kinds (such is_member) (such is_sender) (such is_listener)
+    (λ ssrc. by_entry ssrc (entry_at capacity rate trace ssrc)) (names trace)
   where
     such : (EntryValue → Bool) → ℕ → Bool
     such test ssrc = is_such test (entry_at capacity rate trace ssrc)
 
-    by_both : (ssrc : ℕ) (member sends : Bool) → length (cond member (ssrc ∷ []) []) ≡ length (cond (member && sends) (ssrc ∷ []) []) + length (cond (member && not (member && sends)) (ssrc ∷ []) [])
+    by_both : (ssrc : ℕ) (member sends : Bool) →
+        length (cond member (ssrc ∷ []) []) ≡ length (cond (member && sends) (ssrc ∷ []) []) + length
+        (cond (member && not (member && sends)) (ssrc ∷ []) [])
     by_both ssrc true true = refl
     by_both ssrc true false = refl
     by_both ssrc false sends = refl
 
     by_entry : (ssrc : ℕ) (entry : Option EntryValue)
-        → length (cond (is_such is_member entry) (ssrc ∷ []) []) ≡ length (cond (is_such is_sender entry) (ssrc ∷ []) []) + length (cond (is_such is_listener entry) (ssrc ∷ []) [])
+        → length (cond (is_such is_member entry) (ssrc ∷ []) []) ≡ length
+        (cond (is_such is_sender entry) (ssrc ∷ []) []) + length (cond (is_such is_listener entry) (ssrc ∷ []) [])
     by_entry ssrc None = refl
     by_entry ssrc (Some entry) = by_both ssrc (is_member entry) (is_some entry.sending)
 
 -- ---- Loads
 
-pub heard_members : (setup : Setup) (outcome : Outcome) (ssrcs : List ℕ) → AreHeard is_member setup outcome ssrcs → 1 + length ssrcs ≤ (load_of setup outcome).members
+pub heard_members : (setup : Setup) (outcome : Outcome) (ssrcs : List ℕ) → AreHeard is_member setup outcome ssrcs →
+    1 + length ssrcs ≤ (load_of setup outcome).members
 heard_members setup outcome ssrcs h =
     let counted = heard_counted is_member setup.capacity setup.rate outcome.trace ssrcs h.apart h.heard in
     omega (arith, counted)
 
-pub heard_senders : (setup : Setup) (outcome : Outcome) (ssrcs : List ℕ) → AreHeard is_sender setup outcome ssrcs → one_if (we_sent outcome.own) + length ssrcs ≤ (load_of setup outcome).senders
+pub heard_senders : (setup : Setup) (outcome : Outcome) (ssrcs : List ℕ) → AreHeard is_sender setup outcome ssrcs →
+    one_if (we_sent outcome.own) + length ssrcs ≤ (load_of setup outcome).senders
 heard_senders setup outcome ssrcs h =
     let counted = heard_counted is_sender setup.capacity setup.rate outcome.trace ssrcs h.apart h.heard in
     omega (arith, counted)
 
 pub heard_listeners : (setup : Setup) (outcome : Outcome) (ssrcs : List ℕ) → AreHeard is_listener setup outcome ssrcs
-    → one_if (not (we_sent outcome.own)) + length ssrcs ≤ (load_of setup outcome).members - (load_of setup outcome).senders
+    → one_if (not (we_sent outcome.own)) + length ssrcs
+    ≤ (load_of setup outcome).members - (load_of setup outcome).senders
 heard_listeners setup outcome ssrcs h =
     let counted = heard_counted is_listener setup.capacity setup.rate outcome.trace ssrcs h.apart h.heard in
     let others = members_are setup.capacity setup.rate outcome.trace in
@@ -119,8 +138,10 @@ heard_listeners setup outcome ssrcs h =
 
 -- ---- A crowd
 
-same_role_counted : (setup : Setup) (outcome : Outcome) (ssrcs : List ℕ) (sends : Bool) → we_sent outcome.own ≡ sends → AreHeard (has_role sends) setup outcome ssrcs
-    → 1 + length ssrcs ≤ (if sends then (load_of setup outcome).senders else (load_of setup outcome).members - (load_of setup outcome).senders)
+same_role_counted : (setup : Setup) (outcome : Outcome) (ssrcs : List ℕ) (sends : Bool) → we_sent outcome.own ≡ sends →
+    AreHeard (has_role sends) setup outcome ssrcs
+    → 1 + length ssrcs ≤ (if sends then (load_of setup outcome).senders else
+    (load_of setup outcome).members - (load_of setup outcome).senders)
 same_role_counted setup outcome ssrcs true is h =
     let own : one_if (we_sent outcome.own) ≡ 1 = ap one_if is in
     let counted = heard_senders setup outcome ssrcs h in
@@ -130,8 +151,10 @@ same_role_counted setup outcome ssrcs false is h =
     let counted = heard_listeners setup outcome ssrcs h in
     omega (arith, own, counted)
 
-pub heard_are_counted : (times from width : ℕ) (all : List Joined) (decided : Decided) → HearsMost times from width all decided → CountsMost times from width all (load_at decided)
+pub heard_are_counted : (times from width : ℕ) (all : List Joined) (decided : Decided) →
+    HearsMost times from width all decided → CountsMost times from width all (load_at decided)
 heard_are_counted times from width all decided h =
     let members = mul-le-mul_left times (heard_members decided.setup decided.outcome h.members h.heard) in
-    let alike = mul-le-mul_left times (same_role_counted decided.setup decided.outcome h.those (load_at decided).we_sent refl h.same_role) in
+    let alike = mul-le-mul_left times
+    (same_role_counted decided.setup decided.outcome h.those (load_at decided).we_sent refl h.same_role) in
     record { everyone = le_trans h.everyone members; alike = le_trans h.alike alike }

@@ -1,4 +1,5 @@
--- What is known of each load of a history: whose bandwidths it has, that senders are members, and how small its average is.
+-- What is known of each load of a history: whose bandwidths it has, that senders are members, and how small its average
+-- is.
 use Rattle.std.proofs.Common.{◌≡◌, ℕ, ◌+◌, ◌*◌, ◌≤◌, Bool, true, false, List, [], ◌∷◌, length, All, Option, Some, None, Ok, Err, nat_le, if◌then◌else◌, refl, sym, ap, arith, subst}
 use Rattle.std.proofs.lemmas.List.{length-append}
 use Rattle.std.proofs.lemmas.List.Concat.{flat_map-append}
@@ -38,7 +39,8 @@ use Rattle.rtcp_session.proofs.Deciding.{such_over}
 -- ---- Roles
 
 -- No more of the others send than are members.
-others_ordered : (capacity rate : ℕ) (trace : List TraceStep) → senders_at capacity rate trace ≤ members_at capacity rate trace
+others_ordered : (capacity rate : ℕ) (trace : List TraceStep) →
+    senders_at capacity rate trace ≤ members_at capacity rate trace
 others_ordered capacity rate trace =
     let table = table_at capacity rate trace in
     let stands = trace_has_one_table-stands capacity rate trace in
@@ -67,7 +69,8 @@ pub record IsLoadOf (setup : Setup) (load : Load) : Type 0 where
   pub some_more : 1 ≤ load.receiver_bw
   pub ordered : load.senders ≤ load.members
 
-of_setup : (setup now : Setup) (outcome : Outcome) → now ≡ with_ssrc now.ssrc setup → IsUsable setup → IsLoadOf setup (load_of now outcome)
+of_setup : (setup now : Setup) (outcome : Outcome) → now ≡ with_ssrc now.ssrc setup → IsUsable setup →
+    IsLoadOf setup (load_of now outcome)
 of_setup setup now outcome same usable =
     let senders : now.sender_bw ≡ setup.sender_bw = ap (λ (s : Setup). s.sender_bw) same in
     let others : now.receiver_bw ≡ setup.receiver_bw = ap (λ (s : Setup). s.receiver_bw) same in
@@ -79,14 +82,17 @@ of_setup setup now outcome same usable =
       ordered = ordered now outcome;
     }
 
-pub loads_of_setup : (history : History) → IsHistory history → All (λ decided. IsLoadOf history.setup (load_at decided)) (decided_at history)
+pub loads_of_setup : (history : History) → IsHistory history → All (λ decided. IsLoadOf history.setup (load_at decided))
+    (decided_at history)
 loads_of_setup history is =
     let setup = history.setup in
-    such_over (λ (acts : List Act). Unit {0}) (λ (now : Setup) (outcome : Outcome). IsLoadOf setup (load_of now outcome)) setup history.word
+    such_over (λ (acts : List Act). Unit {0})
+    (λ (now : Setup) (outcome : Outcome). IsLoadOf setup (load_of now outcome)) setup history.word
     (λ act earlier h. tt)
     (λ moment earlier outcome h is_present.
     let now = (session_of setup history.word earlier).setup in
-    of_setup setup now (checked now moment outcome) (changes_touch_the_identifier_alone-setup setup history.word earlier) is.usable)
+    of_setup setup now (checked now moment outcome)
+    (changes_touch_the_identifier_alone-setup setup history.word earlier) is.usable)
     history.acts tt
 
 -- ---- Averages
@@ -95,26 +101,35 @@ abbrev IsLarge : (least size : ℕ) → Type 0
 IsLarge least size = least ≤ with_headers size
 
 -- An average over sizes is no less than all of them.
-floor : (least first : ℕ) (sizes : List ℕ) → IsLarge least first → All (IsLarge least) sizes → 256 * least ≤ average_of first sizes
+floor : (least first : ℕ) (sizes : List ℕ) → IsLarge least first → All (IsLarge least) sizes →
+    256 * least ≤ average_of first sizes
 floor least first [] large h = omega (arith, large)
 floor least first (size ∷ sizes) large h =
     let newest : least ≤ with_headers size = All-head (IsLarge least) size sizes h in
     let before = floor least first sizes large (All-tail (IsLarge least) size sizes h) in
-    le-div (256 * least) (256 * with_headers size + 15 * average_of first sizes) 16 (omega arith) (omega (arith, newest, before))
+    le-div (256 * least) (256 * with_headers size + 15 * average_of first sizes) 16 (omega arith)
+    (omega (arith, newest, before))
 
 -- ---- Own compounds
 
-described : (cname : List ℕ) (extra : Option ItemValue) → description_size (items_of cname None) ≤ description_size (items_of cname extra)
+described : (cname : List ℕ) (extra : Option ItemValue) → description_size (items_of cname None) ≤ description_size
+    (items_of cname extra)
 described cname None = omega arith
 described cname (Some item) =
-    omega (arith, sum_by-cons item_size (cname_item cname) [], sum_by-cons item_size (cname_item cname) (item ∷ []), sum_by-cons item_size item [])
+    omega (
+      arith,
+      sum_by-cons item_size (cname_item cname) [],
+      sum_by-cons item_size (cname_item cname) (item ∷ []),
+      sum_by-cons item_size item [],
+    )
 
 first_is_least : (sent : Option SentValue) → 8 ≤ first_report_size sent
 first_is_least None = omega arith
 first_is_least (Some sent) = omega arith
 
 -- The least of them is a receiver report without blocks.
-report_is_large : (setup : Setup) (t : ℕ) (outcome : Outcome) → first_size_of setup ≤ length (report_octets setup t outcome)
+report_is_large : (setup : Setup) (t : ℕ) (outcome : Outcome) →
+    first_size_of setup ≤ length (report_octets setup t outcome)
 report_is_large setup t outcome =
     let reporter = reporter_at setup t outcome in
     let blocks = blocks_of t (reported_at setup t outcome) in
@@ -148,44 +163,57 @@ AreLargeIn least (present outcome) = AreLarge least outcome
 AreLargeIn least (backing_off outcome backoff) = Unit {0}
 AreLargeIn least (gone outcome) = Unit {0}
 
-either : (least : ℕ) (test : Bool) (one other : Outcome) → AreLarge least one → AreLarge least other → AreLarge least (if test then one else other)
+either : (least : ℕ) (test : Bool) (one other : Outcome) → AreLarge least one → AreLarge least other →
+    AreLarge least (if test then one else other)
 either least true one other h k = h
 either least false one other h k = k
 
-one_more : (least size : ℕ) (sizes : List ℕ) → IsLarge least size → All (IsLarge least) sizes → All (IsLarge least) (size ∷ sizes)
+one_more : (least size : ℕ) (sizes : List ℕ) → IsLarge least size → All (IsLarge least) sizes →
+    All (IsLarge least) (size ∷ sizes)
 one_more least size sizes large h = All-cons (IsLarge least) size sizes large h
 
-ticked_large : (least : ℕ) (setup : Setup) (t first_word second_word : ℕ) (outcome : Outcome) → IsLarge least (first_size_of setup) → AreLarge least outcome
+ticked_large : (least : ℕ) (setup : Setup) (t first_word second_word : ℕ) (outcome : Outcome) →
+    IsLarge least (first_size_of setup) → AreLarge least outcome
     → AreLarge least (after_tick setup t first_word second_word outcome)
 ticked_large least setup t first_word second_word outcome own h =
     let now = checked setup t outcome in
     let report = report_is_large setup t now in
-    either least (has_come t now) (if has_passed setup t first_word now then reported setup t second_word now else put_off setup t first_word now) now
-    (either least (has_passed setup t first_word now) (reported setup t second_word now) (put_off setup t first_word now)
+    either least (has_come t now) (if has_passed setup t first_word now then reported setup t second_word now else
+    put_off setup t first_word now) now
+    (either least (has_passed setup t first_word now) (reported setup t second_word now)
+    (put_off setup t first_word now)
     (one_more least (length (report_octets setup t now)) outcome.sizes (omega (arith, own, report)) h) h) h
 
-arrived_large : (least : ℕ) (setup : Setup) (moment peer word : ℕ) (datagram : Datagram) (outcome : Outcome) → HasSize least (arrived moment peer word datagram) → AreLarge least outcome
+arrived_large : (least : ℕ) (setup : Setup) (moment peer word : ℕ) (datagram : Datagram) (outcome : Outcome) →
+    HasSize least (arrived moment peer word datagram) → AreLarge least outcome
     → AreLarge least (with_datagram setup moment datagram outcome)
-arrived_large least setup moment peer word (rtcp size (Ok packets)) outcome large h = one_more least size outcome.sizes large h
+arrived_large least setup moment peer word (rtcp size (Ok packets)) outcome large h =
+    one_more least size outcome.sizes large h
 arrived_large least setup moment peer word (rtcp size (Err fault)) outcome large h = h
 arrived_large least setup moment peer word (rtp (Ok head)) outcome large h = h
 arrived_large least setup moment peer word (rtp (Err fault)) outcome large h = h
 
-left_large : (least : ℕ) (unheard few : Bool) (outcome : Outcome) (backoff : Backoff) → AreLargeIn least (if unheard then gone outcome else (if few then gone outcome else backing_off outcome backoff))
+left_large : (least : ℕ) (unheard few : Bool) (outcome : Outcome) (backoff : Backoff) →
+    AreLargeIn least (if unheard then gone outcome else (if few then gone outcome else backing_off outcome backoff))
 left_large least true few outcome backoff = tt
 left_large least false true outcome backoff = tt
 left_large least false false outcome backoff = tt
 
-waited_large : (least : ℕ) (due : Bool) (outcome : Outcome) (backoff : Backoff) → AreLargeIn least (if due then gone outcome else backing_off outcome backoff)
+waited_large : (least : ℕ) (due : Bool) (outcome : Outcome) (backoff : Backoff) →
+    AreLargeIn least (if due then gone outcome else backing_off outcome backoff)
 waited_large least true outcome backoff = tt
 waited_large least false outcome backoff = tt
 
-lived_large : (least : ℕ) (setup : Setup) (act : Act) (life : Life) → IsLarge least (first_size_of setup) → HasSize least act → AreLargeIn least life → AreLargeIn least (lived setup act life)
-lived_large least setup (arrived moment peer word datagram) (present outcome) own large h = arrived_large least setup moment peer word datagram outcome large h
+lived_large : (least : ℕ) (setup : Setup) (act : Act) (life : Life) → IsLarge least (first_size_of setup) →
+    HasSize least act → AreLargeIn least life → AreLargeIn least (lived setup act life)
+lived_large least setup (arrived moment peer word datagram) (present outcome) own large h =
+    arrived_large least setup moment peer word datagram outcome large h
 lived_large least setup (rtp_sent moment timestamp octets) (present outcome) own large h = h
-lived_large least setup (ticked moment first_word second_word) (present outcome) own large h = ticked_large least setup moment first_word second_word outcome own h
+lived_large least setup (ticked moment first_word second_word) (present outcome) own large h =
+    ticked_large least setup moment first_word second_word outcome own h
 lived_large least setup (left moment word) (present outcome) own large h =
-    left_large least (is_unheard outcome) (nat_le (member_count setup outcome) few_members) outcome (backoff_from setup moment word outcome)
+    left_large least (is_unheard outcome) (nat_le (member_count setup outcome) few_members) outcome
+    (backoff_from setup moment word outcome)
 lived_large least setup (arrived moment peer word (rtcp size reading)) (backing_off outcome backoff) own large h = tt
 lived_large least setup (arrived moment peer word (rtp reading)) (backing_off outcome backoff) own large h = tt
 lived_large least setup (rtp_sent moment timestamp octets) (backing_off outcome backoff) own large h = tt
@@ -194,47 +222,61 @@ lived_large least setup (ticked moment first_word second_word) (backing_off outc
 lived_large least setup (left moment word) (backing_off outcome backoff) own large h = tt
 lived_large least setup act (gone outcome) own large h = tt
 
-renamed_large : (least : ℕ) (setup : Setup) (life : Life) → IsLarge least (first_size_of setup) → AreLargeIn least life → AreLargeIn least (with_new_ssrc setup life)
+renamed_large : (least : ℕ) (setup : Setup) (life : Life) → IsLarge least (first_size_of setup) →
+    AreLargeIn least life → AreLargeIn least (with_new_ssrc setup life)
 renamed_large least setup (present outcome) own h = by (has_sent outcome.own)
   where
-    by : (heard : Bool) → All (IsLarge least) (if heard then length (bye_octets setup) ∷ outcome.sizes else outcome.sizes)
-    by true = (let bye = bye_is_large setup in one_more least (length (bye_octets setup)) outcome.sizes (omega (arith, own, bye)) h)
+    by : (heard : Bool) → All (IsLarge least)
+        (if heard then length (bye_octets setup) ∷ outcome.sizes else outcome.sizes)
+    by true = (let bye = bye_is_large setup in one_more least (length (bye_octets setup)) outcome.sizes
+        (omega (arith, own, bye)) h)
     by false = h
 renamed_large least setup (backing_off outcome backoff) own h = tt
 renamed_large least setup (gone outcome) own h = tt
 
-changed_large : (least : ℕ) (session : Session) (change : Option NewIdentifier) → IsLarge least (first_size_of session.setup) → AreLargeIn least session.life
+changed_large : (least : ℕ) (session : Session) (change : Option NewIdentifier) →
+    IsLarge least (first_size_of session.setup) → AreLargeIn least session.life
     → AreLargeIn least (changed_by change session).life
 changed_large least session None own h = h
 changed_large least session (Some new) own h = renamed_large least session.setup session.life own h
 
-same_first : (session : Session) (change : Option NewIdentifier) → first_size_of (changed_by change session).setup ≡ first_size_of session.setup
+same_first : (session : Session) (change : Option NewIdentifier) → first_size_of (changed_by change session).setup
+    ≡ first_size_of session.setup
 same_first session None = refl
 same_first session (Some new) = refl
 
-firsts_same : (setup : Setup) (word : ℕ) (acts : List Act) → first_size_of (session_of setup word acts).setup ≡ first_size_of setup
+firsts_same : (setup : Setup) (word : ℕ) (acts : List Act) → first_size_of (session_of setup word acts).setup
+    ≡ first_size_of setup
 firsts_same setup word acts = ap first_size_of (changes_touch_the_identifier_alone-setup setup word acts)
 
-large_over : (least : ℕ) (setup : Setup) (word : ℕ) (acts : List Act) → IsLarge least (first_size_of setup) → All (HasSize least) acts → AreLargeIn least (session_of setup word acts).life
+large_over : (least : ℕ) (setup : Setup) (word : ℕ) (acts : List Act) → IsLarge least (first_size_of setup) →
+    All (HasSize least) acts → AreLargeIn least (session_of setup word acts).life
 large_over least setup word [] own h = All-nil (IsLarge least)
 large_over least setup word (act ∷ earlier) own h =
     let before = session_of setup word earlier in
     let change = change_by before act in
-    let first : IsLarge least (first_size_of before.setup) = subst (IsLarge least) (sym (firsts_same setup word earlier)) own in
-    let now : IsLarge least (first_size_of (changed_by change before).setup) = subst (IsLarge least) (sym (same_first before change)) first in
-    lived_large least (changed_by change before).setup act (changed_by change before).life now (All-head (HasSize least) act earlier h)
-    (changed_large least before change first (large_over least setup word earlier own (All-tail (HasSize least) act earlier h)))
+    let first : IsLarge least (first_size_of before.setup) =
+    subst (IsLarge least) (sym (firsts_same setup word earlier)) own in
+    let now : IsLarge least (first_size_of (changed_by change before).setup) =
+    subst (IsLarge least) (sym (same_first before change)) first in
+    lived_large least (changed_by change before).setup act (changed_by change before).life now
+    (All-head (HasSize least) act earlier h)
+    (changed_large least before change first
+    (large_over least setup word earlier own (All-tail (HasSize least) act earlier h)))
 
 -- The average of each load is at least that of a size which no compound is below.
-pub averages_of_sizes : (history : History) (least : ℕ) → least ≤ with_headers (first_size_of history.setup) → All (HasSize least) history.acts
+pub averages_of_sizes : (history : History) (least : ℕ) → least ≤ with_headers (first_size_of history.setup) →
+    All (HasSize least) history.acts
     → All (λ decided. 256 * least ≤ (load_at decided).avg) (decided_at history)
 averages_of_sizes history least own sizes =
     let setup = history.setup in
-    such_over (All (HasSize least)) (λ (now : Setup) (outcome : Outcome). 256 * least ≤ (load_of now outcome).avg) setup history.word
+    such_over (All (HasSize least)) (λ (now : Setup) (outcome : Outcome). 256 * least ≤ (load_of now outcome).avg) setup
+    history.word
     (λ act earlier h. All-tail (HasSize least) act earlier h)
     (λ moment earlier outcome h is_present.
     let now = (session_of setup history.word earlier).setup in
-    let first : IsLarge least (first_size_of now) = subst (IsLarge least) (sym (firsts_same setup history.word earlier)) own in
+    let first : IsLarge least (first_size_of now) = subst (IsLarge least) (sym (firsts_same setup history.word earlier))
+    own in
     floor least (first_size_of now) (checked now moment outcome).sizes first
     (subst (AreLargeIn least) is_present (large_over least setup history.word earlier own h)))
     history.acts sizes

@@ -18,20 +18,26 @@ use Rattle.rtcp_session.proofs.Pacing.{spans_of, spans_fit}
 -- ---- Roles
 
 -- A sum is that over those that pass a test and that over those that do not.
-split : {A : Type 0} (size : A → ℕ) (test : A → Bool) (all : List A) → sum_by size all ≡ sum_by size (filter test all) + sum_by size (filter (λ x. not (test x)) all)
+split : {A : Type 0} (size : A → ℕ) (test : A → Bool) (all : List A) →
+    sum_by size all ≡ sum_by size (filter test all) + sum_by size (filter (λ x. not (test x)) all)
 split {A} size test [] = refl
 split {A} size test (newest ∷ earlier) =
-    subst (λ (n : ℕ). n ≡ sum_by size (filter test (newest ∷ earlier)) + sum_by size (filter (λ x. not (test x)) (newest ∷ earlier))) (sym (sum_by-cons size newest earlier))
+    subst (λ (n : ℕ). n ≡ sum_by size (filter test (newest ∷ earlier)) + sum_by size
+    (filter (λ x. not (test x)) (newest ∷ earlier))) (sym (sum_by-cons size newest earlier))
     (by (test newest) (split size test earlier))
   where
-    by : (passes : Bool) → sum_by size earlier ≡ sum_by size (filter test earlier) + sum_by size (filter (λ x. not (test x)) earlier)
+    by : (passes : Bool) → sum_by size earlier ≡ sum_by size (filter test earlier) + sum_by size
+        (filter (λ x. not (test x)) earlier)
         → size newest + sum_by size earlier
         ≡ sum_by size (cond passes (newest ∷ filter test earlier) (filter test earlier))
-        + sum_by size (cond (not passes) (newest ∷ filter (λ x. not (test x)) earlier) (filter (λ x. not (test x)) earlier))
+        + sum_by size (cond (not passes) (newest ∷ filter (λ x. not (test x)) earlier)
+        (filter (λ x. not (test x)) earlier))
     by true rest = (let cons = sum_by-cons size newest (filter test earlier) in omega (arith, rest, cons))
-    by false rest = (let cons = sum_by-cons size newest (filter (λ (x : A). not (test x)) earlier) in omega (arith, rest, cons))
+    by false rest = (let cons = sum_by-cons size newest (filter (λ (x : A). not (test x)) earlier) in
+        omega (arith, rest, cons))
 
-split_length : {A : Type 0} (test : A → Bool) (all : List A) → length all ≡ length (filter test all) + length (filter (λ x. not (test x)) all)
+split_length : {A : Type 0} (test : A → Bool) (all : List A) →
+    length all ≡ length (filter test all) + length (filter (λ x. not (test x)) all)
 split_length {A} test [] = refl
 split_length {A} test (newest ∷ earlier) = by (test newest) (split_length test earlier)
   where
@@ -41,19 +47,26 @@ split_length {A} test (newest ∷ earlier) = by (test newest) (split_length test
     by true rest = omega (arith, rest)
     by false rest = omega (arith, rest)
 
-pub roles_are : (from width : ℕ) (joined : Joined) → length (later_within from width joined) ≡ length (later_as true from width joined) + length (later_as false from width joined)
+pub roles_are : (from width : ℕ) (joined : Joined) → length (later_within from width joined) ≡ length
+    (later_as true from width joined) + length (later_as false from width joined)
 roles_are from width joined = split_length (λ decided. (load_at decided).we_sent) (later_within from width joined)
 
 -- What holds of each later report holds of those of a role.
-pub each_as : (P : Decided → Type 0) (sender : Bool) (from width : ℕ) (joined : Joined) → All P (later_within from width joined) → All P (later_as sender from width joined)
-each_as P true from width joined h = All-filter (λ (decided : Decided). (load_at decided).we_sent) P (later_within from width joined) h
-each_as P false from width joined h = All-filter (λ (decided : Decided). not (load_at decided).we_sent) P (later_within from width joined) h
+pub each_as : (P : Decided → Type 0) (sender : Bool) (from width : ℕ) (joined : Joined) →
+    All P (later_within from width joined) → All P (later_as sender from width joined)
+each_as P true from width joined h = All-filter (λ (decided : Decided). (load_at decided).we_sent) P
+    (later_within from width joined) h
+each_as P false from width joined h = All-filter (λ (decided : Decided). not (load_at decided).we_sent) P
+    (later_within from width joined) h
 
 -- Each of a role was sent so.
-pub sent_so : (sender : Bool) (from width : ℕ) (joined : Joined) → All (λ decided. (load_at decided).we_sent ≡ sender) (later_as sender from width joined)
-sent_so true from width joined = filter_passes (λ (decided : Decided). (load_at decided).we_sent) (later_within from width joined)
+pub sent_so : (sender : Bool) (from width : ℕ) (joined : Joined) → All (λ decided. (load_at decided).we_sent ≡ sender)
+    (later_as sender from width joined)
+sent_so true from width joined = filter_passes (λ (decided : Decided). (load_at decided).we_sent)
+    (later_within from width joined)
 sent_so false from width joined =
-    let passes = filter_passes (λ (decided : Decided). not (load_at decided).we_sent) (later_within from width joined) in
+    let passes = filter_passes (λ (decided : Decided). not (load_at decided).we_sent)
+    (later_within from width joined) in
     λ k d inside. not_true (load_at (get_or (later_as false from width joined) k d)).we_sent (passes k d inside)
   where
     not_true : (b : Bool) → not b ≡ true → b ≡ false
@@ -61,11 +74,14 @@ sent_so false from width joined =
     not_true false h = refl
 
 -- The intervals of those of a role fit into the window.
-pub spans_fit_as : (sender : Bool) (from width : ℕ) (joined : Joined) → IsHistory joined.history → 100000 * spans_of (later_as sender from width joined) ≤ 2 * 121828 * width
+pub spans_fit_as : (sender : Bool) (from width : ℕ) (joined : Joined) → IsHistory joined.history →
+    100000 * spans_of (later_as sender from width joined) ≤ 2 * 121828 * width
 spans_fit_as sender from width joined is = by sender
   where
-    both : spans_of (later_within from width joined) ≡ spans_of (later_as true from width joined) + spans_of (later_as false from width joined)
-    both = split (λ (decided : Decided). decided.report.interval) (λ (decided : Decided). (load_at decided).we_sent) (later_within from width joined)
+    both : spans_of (later_within from width joined) ≡ spans_of (later_as true from width joined) + spans_of
+        (later_as false from width joined)
+    both = split (λ (decided : Decided). decided.report.interval) (λ (decided : Decided). (load_at decided).we_sent)
+        (later_within from width joined)
 
     fit : 100000 * spans_of (later_within from width joined) ≤ 2 * 121828 * width
     fit = spans_fit joined from width is
@@ -77,21 +93,27 @@ spans_fit_as sender from width joined is = by sender
 -- ---- One load
 
 -- what those that do not send have the longer one of
-pub interval_of_others : (load : Load) → 1 ≤ load.sender_bw → 1 ≤ load.receiver_bw → load.senders ≤ load.members → load.we_sent ≡ false
-    → (1000000 * (load.members - load.senders) * load.avg ≤ interval_of load * (256 * load.receiver_bw)) × (1000000 * load.members * load.avg ≤ interval_of load * (256 * (load.sender_bw + load.receiver_bw)))
+pub interval_of_others : (load : Load) → 1 ≤ load.sender_bw → 1 ≤ load.receiver_bw → load.senders ≤ load.members →
+    load.we_sent ≡ false
+    → (1000000 * (load.members - load.senders) * load.avg ≤ interval_of load * (256 * load.receiver_bw))
+    × (1000000 * load.members * load.avg ≤ interval_of load * (256 * (load.sender_bw + load.receiver_bw)))
 interval_of_others load some some_more ordered sends =
     let of_others : ℕ = interval_for (load.members - load.senders) load.receiver_bw load in
     let of_all : ℕ = interval_for load.members (load.sender_bw + load.receiver_bw) load in
-    let longer : interval_of load ≡ max (minimum_of load.initial) (max of_others of_all) = senders_have_the_shorter_interval-others load some some_more ordered sends in
+    let longer : interval_of load ≡ max (minimum_of load.initial) (max of_others of_all) =
+    senders_have_the_shorter_interval-others load some some_more ordered sends in
     let by_others : of_others ≤ interval_of load = omega (arith, longer) in
     let by_all : of_all ≤ interval_of load = omega (arith, longer) in (
-      le_trans (div_ceil_times (1000000 * (load.members - load.senders) * load.avg) (256 * load.receiver_bw) (omega (arith, some_more))).0 (mul-le-mul_right (256 * load.receiver_bw) by_others),
-      le_trans (div_ceil_times (1000000 * load.members * load.avg) (256 * (load.sender_bw + load.receiver_bw)) (omega (arith, some))).0 (mul-le-mul_right (256 * (load.sender_bw + load.receiver_bw)) by_all),
+      le_trans (div_ceil_times (1000000 * (load.members - load.senders) * load.avg) (256 * load.receiver_bw)
+          (omega (arith, some_more))).0 (mul-le-mul_right (256 * load.receiver_bw) by_others),
+      le_trans (div_ceil_times (1000000 * load.members * load.avg) (256 * (load.sender_bw + load.receiver_bw))
+          (omega (arith, some))).0 (mul-le-mul_right (256 * (load.sender_bw + load.receiver_bw)) by_all),
     )
 
 -- ---- Shares
 
-weighed : (c b : ℕ) (weight : Decided → ℕ) (all : List Decided) → All (λ decided. c * weight decided ≤ b * decided.report.interval) all → c * sum_by weight all ≤ b * spans_of all
+weighed : (c b : ℕ) (weight : Decided → ℕ) (all : List Decided) →
+    All (λ decided. c * weight decided ≤ b * decided.report.interval) all → c * sum_by weight all ≤ b * spans_of all
 weighed c b weight [] h = omega arith
 weighed c b weight (decided ∷ earlier) h =
     let P : Decided → Type 0 = λ (decided : Decided). c * weight decided ≤ b * decided.report.interval in
@@ -106,30 +128,40 @@ weighed c b weight (decided ∷ earlier) h =
     plus : (w ws i is : ℕ) → c * w ≤ b * i → c * ws ≤ b * is → c * (w + ws) ≤ b * (i + is)
     plus w ws i is one rest = omega (arith, one, rest)
 
-pub shares_fit : (joined : Joined) (from width : ℕ) → IsHistory joined.history → 100000 * 1000000 * shares_within from width joined ≤ 2 * 121828 * width * (256 * joined.history.setup.receiver_bw)
+pub shares_fit : (joined : Joined) (from width : ℕ) → IsHistory joined.history →
+    100000 * 1000000 * shares_within from width joined ≤ 2 * 121828 * width * (256 * joined.history.setup.receiver_bw)
 shares_fit joined from width is =
     let b : ℕ = 256 * joined.history.setup.receiver_bw in
     let others : List Decided = later_as false from width joined in
-    let loads = each_as (λ (decided : Decided). IsLoadOf joined.history.setup (load_at decided)) false from width joined (each_later (λ (decided : Decided). IsLoadOf joined.history.setup (load_at decided)) from width joined (loads_of_setup joined.history is)) in
+    let loads = each_as (λ (decided : Decided). IsLoadOf joined.history.setup (load_at decided)) false from width joined
+    (each_later (λ (decided : Decided). IsLoadOf joined.history.setup (load_at decided)) from width joined
+    (loads_of_setup joined.history is)) in
     let intervals = each_as IsOfLoad false from width joined (later_intervals from width joined) in
     let sends = sent_so false from width joined in
     let each : All (λ decided. 1000000 * share_of_others (load_at decided) ≤ b * decided.report.interval) others =
     λ k d inside. one (get_or others k d) (loads k d inside) (intervals k d inside) (sends k d inside) in
     let fit = mul-le-mul_left b (spans_fit_as false from width joined is) in
-    chain (shares_within from width joined) (spans_of others) b (weighed 1000000 b (λ (decided : Decided). share_of_others (load_at decided)) others each) fit
+    chain (shares_within from width joined) (spans_of others) b
+    (weighed 1000000 b (λ (decided : Decided). share_of_others (load_at decided)) others each) fit
   where
-    turned : (n avg interval bw : ℕ) → 1000000 * n * avg ≤ interval * (256 * bw) → 1000000 * (n * avg) ≤ 256 * bw * interval
+    turned : (n avg interval bw : ℕ) → 1000000 * n * avg ≤ interval * (256 * bw) →
+        1000000 * (n * avg) ≤ 256 * bw * interval
     turned n avg interval bw h = omega (arith, h)
 
-    one : (decided : Decided) → IsLoadOf joined.history.setup (load_at decided) → IsOfLoad decided → (load_at decided).we_sent ≡ false
+    one : (decided : Decided) → IsLoadOf joined.history.setup (load_at decided) → IsOfLoad decided →
+        (load_at decided).we_sent ≡ false
         → 1000000 * share_of_others (load_at decided) ≤ 256 * joined.history.setup.receiver_bw * decided.report.interval
     one decided load interval sends =
         let keeps = interval_of_others (load_at decided) load.some load.some_more load.ordered sends in
-        subst (λ (n : ℕ). 1000000 * share_of_others (load_at decided) ≤ 256 * joined.history.setup.receiver_bw * n) (sym interval)
-        (subst (λ (n : ℕ). 1000000 * share_of_others (load_at decided) ≤ 256 * n * interval_of (load_at decided)) load.for_others
-        (turned ((load_at decided).members - (load_at decided).senders) (load_at decided).avg (interval_of (load_at decided)) (load_at decided).receiver_bw keeps.0))
+        subst (λ (n : ℕ). 1000000 * share_of_others (load_at decided) ≤ 256 * joined.history.setup.receiver_bw * n)
+        (sym interval)
+        (subst (λ (n : ℕ). 1000000 * share_of_others (load_at decided) ≤ 256 * n * interval_of (load_at decided))
+        load.for_others
+        (turned ((load_at decided).members - (load_at decided).senders) (load_at decided).avg
+        (interval_of (load_at decided)) (load_at decided).receiver_bw keeps.0))
 
-    chain : (weight sum b : ℕ) → 1000000 * weight ≤ b * sum → b * (100000 * sum) ≤ b * (2 * 121828 * width) → 100000 * 1000000 * weight ≤ 2 * 121828 * width * b
+    chain : (weight sum b : ℕ) → 1000000 * weight ≤ b * sum → b * (100000 * sum) ≤ b * (2 * 121828 * width) →
+        100000 * 1000000 * weight ≤ 2 * 121828 * width * b
     chain weight sum b h k = omega (arith, h, k)
 
 pub total_shares_fit : (all : List Joined) (from width receiver_bw : ℕ) → All (SharesBandwidth receiver_bw) all
@@ -137,10 +169,14 @@ pub total_shares_fit : (all : List Joined) (from width receiver_bw : ℕ) → Al
 total_shares_fit [] from width receiver_bw h = omega arith
 total_shares_fit (joined ∷ others) from width receiver_bw h =
     let one = All-head (SharesBandwidth receiver_bw) joined others h in
-    let fit = subst (λ (n : ℕ). 100000 * 1000000 * shares_within from width joined ≤ 2 * 121828 * width * (256 * n)) one.for_others (shares_fit joined from width one.stands) in
-    let rest = total_shares_fit others from width receiver_bw (All-tail (SharesBandwidth receiver_bw) joined others h) in
+    let fit = subst (λ (n : ℕ). 100000 * 1000000 * shares_within from width joined ≤ 2 * 121828 * width * (256 * n))
+    one.for_others (shares_fit joined from width one.stands) in
+    let rest = total_shares_fit others from width receiver_bw
+    (All-tail (SharesBandwidth receiver_bw) joined others h) in
     let total = sum_by-cons (shares_within from width) joined others in
-    plus (shares_within from width joined) (total_shares from width others) (total_shares from width (joined ∷ others)) (length others) (2 * 121828 * width * (256 * receiver_bw)) total fit rest
+    plus (shares_within from width joined) (total_shares from width others) (total_shares from width (joined ∷ others))
+    (length others) (2 * 121828 * width * (256 * receiver_bw)) total fit rest
   where
-    plus : (w ws total n room : ℕ) → total ≡ w + ws → 100000 * 1000000 * w ≤ room → 100000 * 1000000 * ws ≤ n * room → 100000 * 1000000 * total ≤ suc n * room
+    plus : (w ws total n room : ℕ) → total ≡ w + ws → 100000 * 1000000 * w ≤ room → 100000 * 1000000 * ws ≤ n * room →
+        100000 * 1000000 * total ≤ suc n * room
     plus w ws total n room is one rest = omega (arith, is, one, rest)

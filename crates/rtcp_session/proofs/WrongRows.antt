@@ -1,4 +1,5 @@
--- What would be wrong: each statement here is a law with a number moved or a part left out, and there is a session where
+-- What would be wrong: each statement here is a law with a number moved or a part left out, and there is a session
+-- where
 -- it does not hold.
 use Rattle.std.proofs.Common.{◌≡◌, ℕ, ◌+◌, ◌*◌, ◌/◌, ◌≤◌, List, [], ◌∷◌, length, map, replicate, All, true, false, Ok, None, refl, arith, nat_le, filter, inr, Result}
 use Rattle.std.specs.List.{sum_by, IsDistinct}
@@ -33,13 +34,15 @@ first_stands = stands 170 first.acts first_of_pair
 six_seconds : intervals_of (later_ones (in_window 2462489 2462489 (reports_of first))) ≡ 6000000
 six_seconds = refl
 
-less_than_243656 : ((history : History) (from width : ℕ) → IsHistory history → 100000 * intervals_of (later_ones (in_window from width (reports_of history))) ≤ 243655 * width) → ⊥
+less_than_243656 : ((history : History) (from width : ℕ) → IsHistory history →
+    100000 * intervals_of (later_ones (in_window from width (reports_of history))) ≤ 243655 * width) → ⊥
 less_than_243656 law =
     let one = law first 2462489 2462489 first_stands in
     omega (arith, one, six_seconds)
 
 less_of_a_crowd : ((terms : Terms) (from width : ℕ) (all : List Joined) → 1 ≤ terms.size → IsCrowd terms from width all
-    → total_as false from width all ≤ terms.times * (243655 * width * terms.receiver_bw) / (100000 * 1000000 * terms.size)) → ⊥
+    → total_as false from width all ≤ terms.times * (243655 * width * terms.receiver_bw) /
+    (100000 * 1000000 * terms.size)) → ⊥
 less_of_a_crowd law =
     let one : total_as false 2462496 2462489 pair ≤ 1 = law terms 2462496 2462489 pair (omega arith) pair_is_crowd in
     let two : total_as false 2462496 2462489 pair ≡ 2 = refl in
@@ -47,7 +50,8 @@ less_of_a_crowd law =
 
 -- ---- The oldest report is not left out
 
-no_window_holds_all : ((history : History) (from width : ℕ) → IsHistory history → 100000 * intervals_of (in_window from width (reports_of history)) ≤ 2 * 121828 * width) → ⊥
+no_window_holds_all : ((history : History) (from width : ℕ) → IsHistory history →
+    100000 * intervals_of (in_window from width (reports_of history)) ≤ 2 * 121828 * width) → ⊥
 no_window_holds_all law =
     let one = law first 2462489 0 first_stands in
     let its : intervals_of (in_window 2462489 0 (reports_of first)) ≡ 6000000 = refl in
@@ -57,9 +61,14 @@ all_at_once : IsCrowd terms 2462496 0 pair
 all_at_once =
     let Takes : Joined → Type 0 = TakesPart terms 2462496 0 pair in
     let Counts : Load → Type 0 = CountsMost 1 2462496 0 pair in
-    let one = takes_part 1 2462496 0 pair 170 (who_hears 187 170).history.acts [] (refl, (omega arith, omega arith), (refl, (omega arith, omega arith), (refl, omega arith, tt))) refl refl (All-nil Counts) in
-    let other = takes_part 1 2462496 0 pair 187 (who_hears 170 187).history.acts [] (refl, (omega arith, omega arith), (refl, (omega arith, omega arith), (refl, omega arith, tt))) refl refl (All-nil Counts) in
-    All-cons Takes (who_hears 187 170) (who_hears 170 187 ∷ []) one (All-cons Takes (who_hears 170 187) [] other (All-nil Takes))
+    let one = takes_part 1 2462496 0 pair 170 (who_hears 187 170).history.acts []
+    (refl, (omega arith, omega arith), (refl, (omega arith, omega arith), (refl, omega arith, tt))) refl refl
+    (All-nil Counts) in
+    let other = takes_part 1 2462496 0 pair 187 (who_hears 170 187).history.acts []
+    (refl, (omega arith, omega arith), (refl, (omega arith, omega arith), (refl, omega arith, tt))) refl refl
+    (All-nil Counts) in
+    All-cons Takes (who_hears 187 170) (who_hears 170 187 ∷ []) one
+    (All-cons Takes (who_hears 170 187) [] other (All-nil Takes))
 
 none_besides : ((terms : Terms) (from width : ℕ) (all : List Joined) → 1 ≤ terms.size → IsCrowd terms from width all
     → total_reports from width all ≤ carried_in width (terms.sender_bw + terms.receiver_bw) terms) → ⊥
@@ -79,17 +88,39 @@ bye_came moment ssrc = arrived moment 1 0 (rtcp 16 (Ok (rr ssrc [] [] ∷ bye (s
 
 -- counts three others, which then leave
 abbrev left_alone : History
-left_alone = (joined_with 170 (ticked 7030000 0 0 ∷ bye_came 4925020 3 ∷ bye_came 4925010 2 ∷ bye_came 4925000 1 ∷ ticked 4924978 0 0
+left_alone = (joined_with 170 (ticked 7030000 0 0 ∷ bye_came 4925020 3 ∷ bye_came 4925010 2 ∷ bye_came 4925000
+    1 ∷ ticked 4924978 0 0
     ∷ named_came 120 3 ∷ named_came 110 2 ∷ named_came 100 1 ∷ [])).history
 
 left_alone_stands : IsHistory left_alone
-left_alone_stands = stands 170 left_alone.acts
-    (refl, (omega arith, omega arith), (refl, omega arith, (refl, omega arith, (refl, omega arith, (refl, (omega arith, omega arith), (refl, omega arith, (refl, omega arith, (refl, omega arith, tt))))))))
+left_alone_stands = stands 170 left_alone.acts (
+  refl,
+  (omega arith, omega arith),
+  (
+    refl,
+    omega arith,
+    (
+      refl,
+      omega arith,
+      (
+        refl,
+        omega arith,
+        (
+          refl,
+          (omega arith, omega arith),
+          (refl, omega arith, (refl, omega arith, (refl, omega arith, tt))),
+        ),
+      ),
+    ),
+  ),
+)
 
-twelve_then_five : map (λ report. report.interval) (in_window 4924978 2105022 (reports_of left_alone)) ≡ 5000000 ∷ 12000000 ∷ []
+twelve_then_five : map (λ report. report.interval) (in_window 4924978 2105022 (reports_of left_alone))
+    ≡ 5000000 ∷ 12000000 ∷ []
 twelve_then_five = refl
 
-not_the_newest : ((history : History) (from width : ℕ) → IsHistory history → 100000 * intervals_of (earlier_ones (in_window from width (reports_of history))) ≤ 2 * 121828 * width) → ⊥
+not_the_newest : ((history : History) (from width : ℕ) → IsHistory history →
+    100000 * intervals_of (earlier_ones (in_window from width (reports_of history))) ≤ 2 * 121828 * width) → ⊥
 not_the_newest law =
     let one = law left_alone 4924978 2105022 left_alone_stands in
     let its : intervals_of (earlier_ones (in_window 4924978 2105022 (reports_of left_alone))) ≡ 12000000 = refl in
@@ -99,7 +130,9 @@ not_the_newest law =
 
 -- hears nobody
 abbrev who_is_deaf : (ssrc : ℕ) → Joined
-who_is_deaf ssrc = joined_with ssrc (ticked 11491615 0 0 ∷ ticked 9439541 0 0 ∷ ticked 7387467 0 0 ∷ ticked 5335393 0 0 ∷ ticked 3283319 0 0 ∷ ticked 1231245 0 0 ∷ [])
+who_is_deaf ssrc = joined_with ssrc
+    (ticked 11491615 0 0 ∷ ticked 9439541 0 0 ∷ ticked 7387467 0 0 ∷ ticked 5335393 0 0 ∷ ticked 3283319 0 0 ∷ ticked
+    1231245 0 0 ∷ [])
 
 abbrev four : List Joined
 four = who_is_deaf 1 ∷ who_is_deaf 2 ∷ who_is_deaf 3 ∷ who_is_deaf 4 ∷ []
@@ -108,28 +141,57 @@ abbrev one_in_four : Terms
 one_in_four = record terms { times = 4 }
 
 abbrev load_alone : Load
-load_alone = record { members = 1; senders = 0; we_sent = false; initial = false; avg = 12288; sender_bw = 16; receiver_bw = 16 }
+load_alone = record {
+  members = 1;
+  senders = 0;
+  we_sent = false;
+  initial = false;
+  avg = 12288;
+  sender_bw = 16;
+  receiver_bw = 16;
+}
 
 deaf_taken : (ssrc : ℕ) → AllTaken (setup_of ssrc) 0 (who_is_deaf ssrc).history.acts
-deaf_taken ssrc = (refl, (omega arith, omega arith), (refl, (omega arith, omega arith), (refl, (omega arith, omega arith), (refl, (omega arith, omega arith), (refl, (omega arith, omega arith), (refl, (omega arith, omega arith), tt))))))
+deaf_taken ssrc = (
+  refl,
+  (omega arith, omega arith),
+  (
+    refl,
+    (omega arith, omega arith),
+    (
+      refl,
+      (omega arith, omega arith),
+      (
+        refl,
+        (omega arith, omega arith),
+        (refl, (omega arith, omega arith), (refl, (omega arith, omega arith), tt)),
+      ),
+    ),
+  ),
+)
 
 four_listen : length (those_as false 0 11491622 four) ≡ 4
 four_listen = refl
 
-deaf_takes_part : (ssrc : ℕ) → map load_at (later_within 0 11491622 (who_is_deaf ssrc)) ≡ replicate 5 load_alone → TakesPart one_in_four 0 11491622 four (who_is_deaf ssrc)
+deaf_takes_part : (ssrc : ℕ) → map load_at (later_within 0 11491622 (who_is_deaf ssrc)) ≡ replicate 5 load_alone →
+    TakesPart one_in_four 0 11491622 four (who_is_deaf ssrc)
 deaf_takes_part ssrc loads =
-    takes_part 4 0 11491622 four ssrc (who_is_deaf ssrc).history.acts (replicate 5 load_alone) (deaf_taken ssrc) refl loads
-    (All-replicate (CountsMost 4 0 11491622 four) 5 load_alone (record { everyone = omega arith; alike = omega (arith, four_listen) }))
+    takes_part 4 0 11491622 four ssrc (who_is_deaf ssrc).history.acts (replicate 5 load_alone) (deaf_taken ssrc) refl
+    loads
+    (All-replicate (CountsMost 4 0 11491622 four) 5 load_alone
+    (record { everyone = omega arith; alike = omega (arith, four_listen) }))
 
 deaf_are_crowd : IsCrowd one_in_four 0 11491622 four
 deaf_are_crowd =
     let Takes : Joined → Type 0 = TakesPart one_in_four 0 11491622 four in
     All-cons Takes (who_is_deaf 1) (who_is_deaf 2 ∷ who_is_deaf 3 ∷ who_is_deaf 4 ∷ []) (deaf_takes_part 1 refl)
     (All-cons Takes (who_is_deaf 2) (who_is_deaf 3 ∷ who_is_deaf 4 ∷ []) (deaf_takes_part 2 refl)
-    (All-cons Takes (who_is_deaf 3) (who_is_deaf 4 ∷ []) (deaf_takes_part 3 refl) (All-cons Takes (who_is_deaf 4) [] (deaf_takes_part 4 refl) (All-nil Takes))))
+    (All-cons Takes (who_is_deaf 3) (who_is_deaf 4 ∷ []) (deaf_takes_part 3 refl)
+    (All-cons Takes (who_is_deaf 4) [] (deaf_takes_part 4 refl) (All-nil Takes))))
 
 as_if_counted : ((terms : Terms) (from width : ℕ) (all : List Joined) → 1 ≤ terms.size → IsCrowd terms from width all
-    → total_reports from width all ≤ length all + carried_in width (terms.sender_bw + terms.receiver_bw) (record terms { times = 1 })) → ⊥
+    → total_reports from width all ≤ length all + carried_in width (terms.sender_bw + terms.receiver_bw)
+    (record terms { times = 1 })) → ⊥
 as_if_counted law =
     let bound : total_reports 0 11491622 four ≤ 22 = law one_in_four 0 11491622 four (omega arith) deaf_are_crowd in
     let its : total_reports 0 11491622 four ≡ 24 = refl in
@@ -138,7 +200,8 @@ as_if_counted law =
 -- ---- The bandwidth of senders is left out
 
 abbrev listener : Joined
-listener = joined_with 187 (ticked 3283319 0 0 ∷ ticked 1231245 0 0 ∷ packet_came 210 170 10 ∷ packet_came 200 170 9 ∷ named_came 100 170 ∷ [])
+listener = joined_with 187 (ticked 3283319 0 0 ∷ ticked 1231245 0 0 ∷ packet_came 210 170 10 ∷ packet_came 200 170
+    9 ∷ named_came 100 170 ∷ [])
 
 abbrev heard : List Joined
 heard = sender ∷ listener ∷ []
@@ -153,19 +216,30 @@ heard_are_crowd : IsCrowd terms 1231252 2052074 heard
 heard_are_crowd =
     let Takes : Joined → Type 0 = TakesPart terms 1231252 2052074 heard in
     let Counts : Load → Type 0 = CountsMost 1 1231252 2052074 heard in
-    let listens : Counts (record (load_alone) { members = 2; senders = 1; avg = 12672 }) = record { everyone = omega arith; alike = omega (arith, one_listens) } in
-    let one = takes_part 1 1231252 2052074 heard 170 sender.history.acts (sender_load 2 12608 ∷ [])
-    (refl, (omega arith, omega arith), (refl, (omega arith, omega arith), (refl, (omega arith, omega arith), (refl, omega arith, tt)))) refl refl
-    (All-cons Counts (sender_load 2 12608) [] (record { everyone = omega arith; alike = omega (arith, one_sends) }) (All-nil Counts)) in
-    let other = takes_part 1 1231252 2052074 heard 187 listener.history.acts (record load_alone { members = 2; senders = 1; avg = 12672 } ∷ [])
-    (refl, (omega arith, omega arith), (refl, (omega arith, omega arith), (refl, omega arith, (refl, omega arith, (refl, omega arith, tt))))) refl refl
+    let listens : Counts (record (load_alone) { members = 2; senders = 1; avg = 12672 }) =
+    record { everyone = omega arith; alike = omega (arith, one_listens) } in
+    let one = takes_part 1 1231252 2052074 heard 170 sender.history.acts (sender_load 2 12608 ∷ []) (
+      refl,
+      (omega arith, omega arith),
+      (refl, (omega arith, omega arith), (refl, (omega arith, omega arith), (refl, omega arith, tt))),
+    ) refl refl
+    (All-cons Counts (sender_load 2 12608) [] (record { everyone = omega arith; alike = omega (arith, one_sends) })
+    (All-nil Counts)) in
+    let other = takes_part 1 1231252 2052074 heard 187 listener.history.acts
+    (record load_alone { members = 2; senders = 1; avg = 12672 } ∷ []) (
+      refl,
+      (omega arith, omega arith),
+      (refl, (omega arith, omega arith), (refl, omega arith, (refl, omega arith, (refl, omega arith, tt)))),
+    ) refl
+    refl
     (All-cons Counts (record load_alone { members = 2; senders = 1; avg = 12672 }) [] listens (All-nil Counts)) in
     All-cons Takes sender (listener ∷ []) one (All-cons Takes listener [] other (All-nil Takes))
 
 without_senders : ((terms : Terms) (from width : ℕ) (all : List Joined) → 1 ≤ terms.size → IsCrowd terms from width all
     → total_reports from width all ≤ length all + carried_in width terms.receiver_bw terms) → ⊥
 without_senders law =
-    let bound : total_reports 1231252 2052074 heard ≤ 3 = law terms 1231252 2052074 heard (omega arith) heard_are_crowd in
+    let bound : total_reports 1231252 2052074 heard ≤ 3 = law terms 1231252 2052074 heard (omega arith)
+    heard_are_crowd in
     let its : total_reports 1231252 2052074 heard ≡ 4 = refl in
     omega (arith, bound, its)
 
@@ -175,7 +249,9 @@ without_senders law =
 abbrev with_later_minimum : Decided → ℕ × ℕ
 with_later_minimum decided = (decided.report.interval, interval_of (record (load_at decided) { initial = false }))
 
-of_another_load : ((history : History) → All (λ decided. decided.report.interval ≡ interval_of (record (load_at decided) { initial = false })) (decided_at history)) → ⊥
+of_another_load : ((history : History) →
+    All (λ decided. decided.report.interval ≡ interval_of (record (load_at decided) { initial = false }))
+    (decided_at history)) → ⊥
 of_another_load law =
     let history : History = (joined_with 1 (ticked 1231245 0 0 ∷ [])).history in
     let P : ℕ × ℕ → Type 0 = λ (both : ℕ × ℕ). both.0 ≡ both.1 in
@@ -184,28 +260,39 @@ of_another_load law =
     omega (arith, one)
 
 without_one_more : ((history : History) (from width least : ℕ) → IsHistory history → 1 ≤ least
-    → length (filter (λ report. nat_le least report.interval) (in_window from width (reports_of history))) ≤ 2 * 121828 * width / (100000 * least)) → ⊥
+    → length (filter (λ report. nat_le least report.interval) (in_window from width (reports_of history)))
+    ≤ 2 * 121828 * width / (100000 * least)) → ⊥
 without_one_more law =
     let none = law first 2462489 0 6000000 first_stands (omega arith) in
-    let one : length (filter (λ report. nat_le 6000000 report.interval) (in_window 2462489 0 (reports_of first))) ≡ 1 = refl in
+    let one : length (filter (λ report. nat_le 6000000 report.interval) (in_window 2462489 0 (reports_of first))) ≡ 1 =
+    refl in
     omega (arith, none, one)
 
 without_one_each : ((all : List Paced) (from width : ℕ) → All (IsPaced from width) all
-    → total_reports from width (map (λ paced. paced.joined) all) ≤ sum_by (λ paced. 2 * 121828 * width / (100000 * paced.least)) all) → ⊥
+    → total_reports from width (map (λ paced. paced.joined) all) ≤ sum_by
+    (λ paced. 2 * 121828 * width / (100000 * paced.least)) all) → ⊥
 without_one_each law =
     let paced : Paced = record { joined = who_hears 187 170; least = 1 } in
-    let is : IsPaced 2462496 0 paced = record { stands = first_stands; some = omega arith; least = All-nil (λ (decided : Decided). 1 ≤ decided.report.interval) } in
-    let none : 1 ≤ 0 = law (paced ∷ []) 2462496 0 (All-cons (IsPaced 2462496 0) paced [] is (All-nil (IsPaced 2462496 0))) in
+    let is : IsPaced 2462496 0 paced =
+    record {
+      stands = first_stands;
+      some = omega arith;
+      least = All-nil (λ (decided : Decided). 1 ≤ decided.report.interval);
+    } in
+    let none : 1 ≤ 0 = law (paced ∷ []) 2462496 0
+    (All-cons (IsPaced 2462496 0) paced [] is (All-nil (IsPaced 2462496 0))) in
     omega (arith, none)
 
 of_less_bandwidth : ((joined : Joined) (from width : ℕ) → IsHistory joined.history
-    → 100000 * 1000000 * shares_within from width joined ≤ 243655 * width * (256 * joined.history.setup.receiver_bw)) → ⊥
+    → 100000 * 1000000 * shares_within from width joined ≤ 243655 * width * (256 * joined.history.setup.receiver_bw)) →
+    ⊥
 of_less_bandwidth law =
     let fits = law (who_hears 187 170) 2462496 2462489 first_stands in
     let its : shares_within 2462496 2462489 (who_hears 187 170) ≡ 24576 = refl in
     omega (arith, fits, its)
 
-others_as_if_counted : ((terms : Terms) (from width : ℕ) (all : List Joined) → 1 ≤ terms.size → IsCrowd terms from width all
+others_as_if_counted : ((terms : Terms) (from width : ℕ) (all : List Joined) → 1 ≤ terms.size →
+    IsCrowd terms from width all
     → total_as false from width all ≤ carried_in width terms.receiver_bw (record terms { times = 1 })) → ⊥
 others_as_if_counted law =
     let bound : total_as false 0 11491622 four ≤ 9 = law one_in_four 0 11491622 four (omega arith) deaf_are_crowd in
@@ -214,9 +301,13 @@ others_as_if_counted law =
 
 nobody_heard : AreHeard is_member (setup_of 1) nothing_yet []
 unfolding IsDistinct
-nobody_heard = record { apart = tt; heard = All-nil (λ (ssrc : ℕ). is_such is_member (entry_at 1024 8000 [] ssrc) ≡ true) }
+nobody_heard = record {
+  apart = tt;
+  heard = All-nil (λ (ssrc : ℕ). is_such is_member (entry_at 1024 8000 [] ssrc) ≡ true);
+}
 
-itself_twice : ((setup : Setup) (outcome : Outcome) (ssrcs : List ℕ) → AreHeard is_member setup outcome ssrcs → 2 + length ssrcs ≤ (load_of setup outcome).members) → ⊥
+itself_twice : ((setup : Setup) (outcome : Outcome) (ssrcs : List ℕ) → AreHeard is_member setup outcome ssrcs →
+    2 + length ssrcs ≤ (load_of setup outcome).members) → ⊥
 itself_twice law =
     let two : 2 ≤ 1 = law (setup_of 1) nothing_yet [] nobody_heard in
     omega (arith, two)
@@ -226,17 +317,31 @@ abbrev empty_report : List ℕ
 empty_report = 128 ∷ 201 ∷ 0 ∷ 1 ∷ 0 ∷ 0 ∷ 0 ∷ 1 ∷ []
 
 is_accepted : IsAccepted empty_report (rr 1 [] [] ∷ [])
-is_accepted = record { short = omega arith; begins = (inr refl, refl); joined = (empty_report, [], refl, is_spelled, refl) }
+is_accepted = record {
+  short = omega arith;
+  begins = (inr refl, refl);
+  joined = (empty_report, [], refl, is_spelled, refl);
+}
   where
     is_spelled : IsSpelling (rr 1 [] []) empty_report
     is_spelled = record {
       version = refl;
       size = refl;
       padding = λ padded. absurd cc;
-      body = (refl, record { id = 0 ∷ 0 ∷ 0 ∷ 1 ∷ []; rest = []; parts = refl; sender = (refl, refl); ends = record { reports = []; parts = refl; counted = refl; each = refl } });
+      body = (
+        refl,
+        record {
+          id = 0 ∷ 0 ∷ 0 ∷ 1 ∷ [];
+          rest = [];
+          parts = refl;
+          sender = (refl, refl);
+          ends = record { reports = []; parts = refl; counted = refl; each = refl };
+        },
+      );
     }
 
-least_of_37 : ((moment peer word : ℕ) (octets : List ℕ) (reading : Result (List RtcpPacket) WireFault) → IsReading octets reading → HasSize 37 (rtcp_came moment peer word octets reading)) → ⊥
+least_of_37 : ((moment peer word : ℕ) (octets : List ℕ) (reading : Result (List RtcpPacket) WireFault) →
+    IsReading octets reading → HasSize 37 (rtcp_came moment peer word octets reading)) → ⊥
 least_of_37 law =
     let large : 37 ≤ 36 = law 0 0 0 empty_report (Ok (rr 1 [] [] ∷ [])) is_accepted in
     omega (arith, large)

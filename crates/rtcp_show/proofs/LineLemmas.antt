@@ -7,8 +7,12 @@ pub passed :
     → middle ≡ before ++ head
     → (text : List ℕ) × P text × (after ≡ middle ++ text)
     → (whole : List ℕ) × ((text : List ℕ) × P text × (whole ≡ head ++ text)) × (after ≡ before ++ whole)
-passed before middle after head P first given =
-    (head ++ given.0, (given.0, given.1, refl), given.2 ∙ ap (λ xs. xs ++ given.0) first ∙ append_assoc before head given.0)
+passed before middle after head P first given = (
+  head ++ given.0,
+  (given.0, given.1, refl),
+  given.2 ∙ ap (λ xs. xs ++ given.0) first
+      ∙ append_assoc before head given.0,
+)
 
 -- A moment, a space and the rows are written one after the other, into a buffer that is empty.
 pub said :

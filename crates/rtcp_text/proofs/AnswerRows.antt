@@ -15,39 +15,102 @@ unfolding digits
 start = refl
 
 -- a participant with SSRC 0xaa and the CNAME `a`
-opens : opening (begun (record { ssrc = 170; cname = 97 ∷ []; extras = []; capacity = 1024; limit = 1472; sender_bw = 100; receiver_bw = 300; rate = 8000; ntp_base = 0 }) 0)
+opens : opening (begun (record {
+  ssrc = 170;
+  cname = 97 ∷ [];
+  extras = [];
+  capacity = 1024;
+  limit = 1472;
+  sender_bw =
+      100;
+  receiver_bw = 300;
+  rate = 8000;
+  ntp_base = 0;
+}) 0)
     ≡ codes "start members=1 senders=0 next=1026037" ++ 10 ∷ []
 unfolding digits
 opens = refl
 
-nothing_sent : answer_text (Ok (record { out = None; members = 2; senders = 1; entries = 1; next = Some 1026037; changed = None; others_changed = true }))
+nothing_sent : answer_text (Ok
+    (record {
+      out = None;
+      members = 2;
+      senders = 1;
+      entries = 1;
+      next = Some 1026037;
+      changed = None;
+      others_changed =
+          true;
+    }))
     ≡ codes "ok members=2 senders=1 next=1026037 out=-" ++ 10 ∷ []
 unfolding digits
 nothing_sent = refl
 
-report : answer_text (Ok (record { out = Some (record { kind = Report; octets = 128 ∷ 201 ∷ 0 ∷ 1 ∷ 0 ∷ 0 ∷ 0 ∷ 170 ∷ [] }); members = 1; senders = 0; entries = 0; next = Some 3078111; changed = None; others_changed = true }))
+report : answer_text (Ok (record {
+  out =
+      Some (record { kind = Report; octets = 128 ∷ 201 ∷ 0 ∷ 1 ∷ 0 ∷ 0 ∷ 0 ∷ 170 ∷ [] });
+  members = 1;
+  senders = 0;
+  entries = 0;
+  next = Some 3078111;
+  changed = None;
+  others_changed = true;
+}))
     ≡ codes "ok members=1 senders=0 next=3078111 out=report:80c90001000000aa" ++ 10 ∷ []
 unfolding digits encode_with
 report = refl
 
-bye : answer_text (Ok (record { out = Some (record { kind = Bye; octets = 129 ∷ 203 ∷ 0 ∷ 1 ∷ 0 ∷ 0 ∷ 0 ∷ 170 ∷ [] }); members = 0; senders = 0; entries = 0; next = None; changed = None; others_changed = true }))
+bye : answer_text (Ok (record {
+  out = Some (record { kind = Bye; octets = 129 ∷ 203 ∷ 0 ∷ 1 ∷ 0 ∷ 0 ∷ 0 ∷ 170 ∷ [] });
+  members = 0;
+  senders = 0;
+  entries = 0;
+  next = None;
+  changed = None;
+  others_changed = true;
+}))
     ≡ codes "ok members=0 senders=0 next=- out=bye:81cb0001000000aa" ++ 10 ∷ []
 unfolding digits encode_with
 bye = refl
 
-no_next : answer_text (Ok (record { out = None; members = 0; senders = 0; entries = 0; next = None; changed = None; others_changed = false }))
+no_next : answer_text (Ok (record {
+  out = None;
+  members = 0;
+  senders = 0;
+  entries = 0;
+  next = None;
+  changed = None;
+  others_changed = false;
+}))
     ≡ codes "ok members=0 senders=0 next=- out=-" ++ 10 ∷ []
 unfolding digits
 no_next = refl
 
 -- A change of identifier before anything was sent under the old one,
-changed : answer_text (Ok (record { out = None; members = 1; senders = 0; entries = 1; next = Some 1026037; changed = Some 187; others_changed = false }))
+changed : answer_text (Ok (record {
+  out = None;
+  members = 1;
+  senders = 0;
+  entries = 1;
+  next = Some 1026037;
+  changed = Some 187;
+  others_changed = false;
+}))
     ≡ codes "ok members=1 senders=0 next=1026037 out=- ssrc=000000bb" ++ 10 ∷ []
 unfolding digits encode_with
 changed = refl
 
 -- and one that gives it up with a BYE.
-changed_with_bye : answer_text (Ok (record { out = Some (record { kind = Bye; octets = 129 ∷ 203 ∷ 0 ∷ 1 ∷ 0 ∷ 0 ∷ 0 ∷ 170 ∷ [] }); members = 2; senders = 0; entries = 1; next = Some 3078111; changed = Some 187; others_changed = true }))
+changed_with_bye : answer_text
+    (Ok (record {
+      out = Some (record { kind = Bye; octets = 129 ∷ 203 ∷ 0 ∷ 1 ∷ 0 ∷ 0 ∷ 0 ∷ 170 ∷ [] });
+      members = 2;
+      senders = 0;
+      entries = 1;
+      next = Some 3078111;
+      changed = Some 187;
+      others_changed = true;
+    }))
     ≡ codes "ok members=2 senders=0 next=3078111 out=bye:81cb0001000000aa ssrc=000000bb" ++ 10 ∷ []
 unfolding digits encode_with
 changed_with_bye = refl
@@ -64,7 +127,8 @@ too_far = refl
 too_many : answer_text (Err TooMany) ≡ codes "refused E4 TooMany" ++ 10 ∷ []
 too_many = refl
 
-wire : answer_text (Err (Wire (record { reason = Short; place = 20 }))) ≡ codes "refused E5 Wire: F1 Short at 20" ++ 10 ∷ []
+wire : answer_text (Err (Wire (record { reason = Short; place = 20 }))) ≡ codes "refused E5 Wire: F1 Short at 20"
+    ++ 10 ∷ []
 unfolding digits
 wire = refl
 

@@ -59,27 +59,35 @@ unique = record {
 
 -- ---- The text of a check
 
-pub check_text_exists : (most n : ℕ) (lines : List (List ℕ)) → (text : List ℕ) × (end : Option (ℕ × LineFault)) × IsCheckText most n lines text end
-check_text_exists most n lines = let found = text_exists most answers_alone IsNotHex total n tt lines in (found.0, found.1, found.2.1)
+pub check_text_exists : (most n : ℕ) (lines : List (List ℕ)) → (text : List ℕ) × (end : Option (ℕ × LineFault))
+    × IsCheckText most n lines text end
+check_text_exists most n lines = let found = text_exists most answers_alone IsNotHex total n tt lines in
+    (found.0, found.1, found.2.1)
 
 pub one_check_text : (most n : ℕ) (lines : List (List ℕ)) (text text' : List ℕ) (end end' : Option (ℕ × LineFault))
     → IsCheckText most n lines text end → IsCheckText most n lines text' end' → (text ≡ text') × (end ≡ end')
-one_check_text most n lines text text' end end' h k = one_text most answers_alone IsNotHex unique n tt tt tt lines text text' end end' h k
+one_check_text most n lines text text' end end' h k = one_text most answers_alone IsNotHex unique n tt tt tt lines text
+    text' end end' h k
 
 pub check_text_continues : (most : ℕ) → Continues (IsCheckText most 1)
 check_text_continues most lines others text texts =
-    let found = text_continues most answers_alone IsNotHex total 1 tt lines others text (tt, texts) in (found.0, found.1, found.2.1)
+    let found = text_continues most answers_alone IsNotHex total 1 tt lines others text (tt, texts) in
+    (found.0, found.1, found.2.1)
 
 -- What an answerer of single lines writes is the text of a check.
-IsCheckText-from : {S : Type 0} (most n : ℕ) (state : S) (lines : List (List ℕ)) (text : List ℕ) (end : Option (ℕ × LineFault))
+IsCheckText-from : {S : Type 0} (most n : ℕ) (state : S) (lines : List (List ℕ)) (text : List ℕ)
+    (end : Option (ℕ × LineFault))
     → IsTextFrom {S = S} most answers_alone IsNotHex n state lines text end → IsCheckText most n lines text end
 IsCheckText-from {S} most n state lines text end (last, texts) =
-    (IsTextBy-shown {S = S} {T = Unit {0}} most answers_alone answers_alone IsNotHex (λ shown s. Unit {0}) (λ s next shown line answer shows h. (tt, tt, h))
+    (IsTextBy-shown {S = S} {T = Unit {0}} most answers_alone answers_alone IsNotHex (λ shown s. Unit {0})
+    (λ s next shown line answer shows h. (tt, tt, h))
     n state last tt lines text end tt texts).2
 
 -- And so what it leaves is what a check leaves.
-pub check_leaves : {S A : Type 0} (most : ℕ) (state : S) (r : Result A TextFault) (remaining held holds left : Option (List ℕ))
-    → Writes remaining held holds (RunLeaves (IsTextFrom {S = S} most answers_alone IsNotHex 1 state) r left) → Writes remaining held holds (RunLeaves (IsCheckText most 1) r left)
+pub check_leaves : {S A : Type 0} (most : ℕ) (state : S) (r : Result A TextFault)
+    (remaining held holds left : Option (List ℕ))
+    → Writes remaining held holds (RunLeaves (IsTextFrom {S = S} most answers_alone IsNotHex 1 state) r left) →
+    Writes remaining held holds (RunLeaves (IsCheckText most 1) r left)
 check_leaves {S} most state r remaining held holds left writes =
     let IsText = IsTextFrom {S = S} most answers_alone IsNotHex 1 state in
     Writes-weaker remaining held holds (RunLeaves IsText r left) (RunLeaves (IsCheckText most 1) r left)

@@ -4,7 +4,8 @@ use Rattle.std.proofs.lemmas.Bool.Decides.{nat_tests}
 use Rattle.rtcp_text.specs.Counted.{count_after, took_nothing}
 
 -- A write that took something leaves the count.
-pub count_after-took : {E : Type 0} (r : Result ℕ E) (taken : ℕ) (octets : List ℕ) (old new : ℕ) → r ≡ Ok taken → taken ≢ 0
+pub count_after-took : {E : Type 0} (r : Result ℕ E) (taken : ℕ) (octets : List ℕ) (old new : ℕ) → r ≡ Ok taken →
+    taken ≢ 0
     → new ≡ count_after (took_nothing r octets) old → new ≡ old
 count_after-took r taken octets old new is some counted =
     let e : eqb taken 0 ≡ false = grind (arith, nat_tests) in

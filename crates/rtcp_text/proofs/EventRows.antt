@@ -11,7 +11,8 @@ unfolding decode_pairs
 empty_datagram = refl
 
 -- The greatest moment, and digits of either case.
-greatest_moment : event_in (codes "rtcp 18446744073709551615 1 00000000 80C9f0") ≡ Ok (rtcp_arrived 18446744073709551615 1 0 (128 ∷ 201 ∷ 240 ∷ []))
+greatest_moment : event_in (codes "rtcp 18446744073709551615 1 00000000 80C9f0") ≡ Ok
+    (rtcp_arrived 18446744073709551615 1 0 (128 ∷ 201 ∷ 240 ∷ []))
 unfolding decode_pairs
 greatest_moment = refl
 
@@ -127,7 +128,8 @@ sign = refl
 -- ---- Peers
 
 -- The greatest peer, and a word of either case.
-greatest_peer : event_in (codes "rtcp 5 18446744073709551615 0000000A 80") ≡ Ok (rtcp_arrived 5 18446744073709551615 10 (128 ∷ []))
+greatest_peer : event_in (codes "rtcp 5 18446744073709551615 0000000A 80") ≡ Ok
+    (rtcp_arrived 5 18446744073709551615 10 (128 ∷ []))
 unfolding decode_pairs
 greatest_peer = refl
 

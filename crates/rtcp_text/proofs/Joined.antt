@@ -26,22 +26,27 @@ module _ {X : Type 0} (c : ℕ) (text : X → List ℕ) (x : X) (new out before 
   texts xs = before ++ join_with_byte c (map text xs)
 
   -- the first piece, with nothing before it
-  pub first_piece : (xs : List X) → true ≡ is_none xs → new ≡ out ++ text x → out ≡ texts xs → new ≡ texts (xs ++ x ∷ [])
+  pub first_piece : (xs : List X) → true ≡ is_none xs → new ≡ out ++ text x → out ≡ texts xs →
+      new ≡ texts (xs ++ x ∷ [])
   first_piece [] none pushed so_far = pushed ∙ ap (λ (t : List ℕ). t ++ text x) (so_far ∙ append-nil before)
   first_piece (y ∷ xs) none pushed so_far = absurd (cc)
 
   -- a later piece, after the separator
-  pub next_piece : (xs : List X) (held : List ℕ) → false ≡ is_none xs → held ≡ out ++ c ∷ [] → new ≡ held ++ text x → out ≡ texts xs
+  pub next_piece : (xs : List X) (held : List ℕ) → false ≡ is_none xs → held ≡ out ++ c ∷ [] → new ≡ held ++ text x →
+      out ≡ texts xs
       → new ≡ texts (xs ++ x ∷ [])
   next_piece [] held some separated pushed so_far = absurd (cc)
   next_piece (y ∷ xs) held some separated pushed so_far =
-      let all : join_with_byte c (map text ((y ∷ xs) ++ x ∷ [])) ≡ join_with_byte c (map text (y ∷ xs)) ++ (c ∷ text x) =
+      let all : join_with_byte c (map text ((y ∷ xs) ++ x ∷ [])) ≡ join_with_byte c (map text (y ∷ xs))
+      ++ (c ∷ text x) =
       ap (join_with_byte c) (map_push text (y ∷ xs) x) ∙ join_with_byte-push c (text y) (map text xs) (text x) in
       rw (all, pushed, separated, so_far) (simp append_assoc)
 
 -- An iterator whose value is the list that it gives, where `view` reads the items, gave the texts of that list.
-pub texts_given : {X V : Type 0} (view : X → V) (text : V → List ℕ) (all : List V) (given : List X) → Drains (YieldsFirstBy view (λ left. left)) all given
+pub texts_given : {X V : Type 0} (view : X → V) (text : V → List ℕ) (all : List V) (given : List X) →
+    Drains (YieldsFirstBy view (λ left. left)) all given
     → map (λ x. text (view x)) given ≡ map text all
 texts_given view text all [] drains = ap (map text) (sym (drains.1.1 ∙ drains.1.2.0))
 texts_given view text all (x ∷ given) (last, (before, (left, first, others), ends)) =
-    ap (λ (texts : List (List ℕ)). text (view x) ∷ texts) (texts_given view text left given (last, (before, others, ends))) ∙ ap (map text) (sym first)
+    ap (λ (texts : List (List ℕ)). text (view x) ∷ texts)
+    (texts_given view text left given (last, (before, others, ends))) ∙ ap (map text) (sym first)

@@ -23,7 +23,8 @@ not_digits (digit ∷ digits) (suc i) within other all = not_digits digits i (om
 pub below_eighteen_digits : (text : List ℕ) (i : ℕ) → i < length text → length text ≤ 19 → AllDigits 10 (take i text)
     → digits_value 10 (take i text) < 10 ^ 18
 below_eighteen_digits text i within few all =
-    digits_value_short (numerals_by_value (AllDigits 10) tells_digits) (take i text) 18 all (omega (arith, length-take i text))
+    digits_value_short (numerals_by_value (AllDigits 10) tells_digits) (take i text) 18 all
+    (omega (arith, length-take i text))
 
 AllDigits-from_test : (text : List ℕ) → list_all (λ digit. is_digit digit 10) text ≡ true → AllDigits 10 text
 AllDigits-from_test [] h = tt
@@ -34,10 +35,12 @@ AllDigits-from_test (digit ∷ digits) h =
 pub test-from_AllDigits : (text : List ℕ) → AllDigits 10 text → list_all (λ digit. is_digit digit 10) text ≡ true
 test-from_AllDigits [] all = refl
 test-from_AllDigits (digit ∷ digits) all =
-    and_from (is_digit digit 10) (list_all (λ d. is_digit d 10) digits) (lt-ltb (digit_value digit) 10 all.0) (test-from_AllDigits digits all.1)
+    and_from (is_digit digit 10) (list_all (λ d. is_digit d 10) digits) (lt-ltb (digit_value digit) 10 all.0)
+    (test-from_AllDigits digits all.1)
 
 -- The first of more digits are digits, and so is the last.
-parts_are_digits : (others : List ℕ) (last : ℕ) → AllDigits 10 (others ++ last ∷ []) → AllDigits 10 others × (digit_value last < 10)
+parts_are_digits : (others : List ℕ) (last : ℕ) → AllDigits 10 (others ++ last ∷ []) →
+    AllDigits 10 others × (digit_value last < 10)
 parts_are_digits [] last all = (tt, all.0)
 parts_are_digits (digit ∷ digits) last all =
     let rest = parts_are_digits digits last all.1 in
@@ -55,7 +58,8 @@ record IsNumber (text : List ℕ) : Type 0 where
 is_number : (text : List ℕ) → (is_decimal text && nat_lt (digits_value 10 text) (2 ^ 64)) ≡ true → IsNumber text
 is_number text h =
     let great = and_parts (is_decimal text) (nat_lt (digits_value 10 text) (2 ^ 64)) h in
-    let all = and_parts (nat_le 1 (length text) && nat_le (length text) 20) (list_all (λ d. is_digit d 10) text) great.0 in
+    let all = and_parts (nat_le 1 (length text) && nat_le (length text) 20) (list_all (λ d. is_digit d 10) text)
+    great.0 in
     let long = and_parts (nat_le 1 (length text)) (nat_le (length text) 20) all.0 in
     record {
       some = leb-true 1 (length text) long.0;
@@ -69,11 +73,13 @@ no_number text h =
     let test = is_decimal text && nat_lt (digits_value 10 text) (2 ^ 64) in
     sym (cond-false test (Some (digits_value 10 text)) None (false_from_ne_true test (λ e. h (is_number text e))))
 
-pub other_first : (text others : List ℕ) (last : ℕ) → text ≡ others ++ last ∷ [] → (AllDigits 10 others → ⊥) → None ≡ decimal_in 64 text
+pub other_first : (text others : List ℕ) (last : ℕ) → text ≡ others ++ last ∷ [] → (AllDigits 10 others → ⊥) →
+    None ≡ decimal_in 64 text
 other_first text others last parts other =
     no_number text (λ n. other (parts_are_digits others last (subst (AllDigits 10) parts n.all)).0)
 
-pub too_great : (text others : List ℕ) (last : ℕ) → text ≡ others ++ last ∷ [] → 2 ^ 64 ≤ digits_value 10 others * 10 + digit_value last
+pub too_great : (text others : List ℕ) (last : ℕ) → text ≡ others ++ last ∷ [] →
+    2 ^ 64 ≤ digits_value 10 others * 10 + digit_value last
     → None ≡ decimal_in 64 text
 too_great text others last parts great =
     no_number text (λ n.
@@ -81,23 +87,30 @@ too_great text others last parts great =
     omega (arith, digits_value_push 10 others last, fits))
 
 -- At most 19 digits and one more write ten times the number of the first ones, and the last one.
-decimal_read : (text others : List ℕ) (last number : ℕ) → text ≡ others ++ last ∷ [] → length others < 20 → AllDigits 10 others → digit_value last < 10
+decimal_read : (text others : List ℕ) (last number : ℕ) → text ≡ others ++ last ∷ [] → length others < 20 →
+    AllDigits 10 others → digit_value last < 10
     → number ≡ digits_value 10 others * 10 + digit_value last → number < 2 ^ 64 → Some number ≡ decimal_in 64 text
 decimal_read text others last number parts few first digit is fits =
     let value : digits_value 10 text ≡ number = rw (parts, digits_value_push 10 others last) (sym is) in
     let long : length text ≡ length others + 1 = rw parts (length-append others (last ∷ [])) in
     let all = test-from_AllDigits text (subst (AllDigits 10) (sym parts) (digits_push 10 others last first digit)) in
-    let short = and_from (nat_le 1 (length text)) (nat_le (length text) 20) (le-leb 1 (length text) (omega arith)) (le-leb (length text) 20 (omega arith)) in
-    let decimal = and_from (nat_le 1 (length text) && nat_le (length text) 20) (list_all (λ d. is_digit d 10) text) short all in
+    let short = and_from (nat_le 1 (length text)) (nat_le (length text) 20) (le-leb 1 (length text) (omega arith))
+    (le-leb (length text) 20 (omega arith)) in
+    let decimal = and_from (nat_le 1 (length text) && nat_le (length text) 20) (list_all (λ d. is_digit d 10) text)
+    short all in
     let small = lt-ltb (digits_value 10 text) (2 ^ 64) (omega arith) in
     let test = and_from (is_decimal text) (nat_lt (digits_value 10 text) (2 ^ 64)) decimal small in
-    ap Some (sym value) ∙ sym (cond-true (is_decimal text && nat_lt (digits_value 10 text) (2 ^ 64)) (Some (digits_value 10 text)) None test)
+    ap Some (sym value) ∙ sym (cond-true (is_decimal text && nat_lt (digits_value 10 text) (2 ^ 64))
+    (Some (digits_value 10 text)) None test)
 
 -- The same of what `checked_add` makes of them.
-pub decimal_summed : (text others : List ℕ) (last first tens digit : ℕ) (r : Option ℕ) → SomeIff r (tens + digit < 2 ^ 64) (tens + digit)
-    → text ≡ others ++ last ∷ [] → length others < 20 → AllDigits 10 others → first ≡ digits_value 10 others → tens ≡ first * 10
+pub decimal_summed : (text others : List ℕ) (last first tens digit : ℕ) (r : Option ℕ) →
+    SomeIff r (tens + digit < 2 ^ 64) (tens + digit)
+    → text ≡ others ++ last ∷ [] → length others < 20 → AllDigits 10 others → first ≡ digits_value 10 others →
+    tens ≡ first * 10
     → digit ≡ digit_value last → digit < 10 → r ≡ decimal_in 64 text
 decimal_summed text others last first tens digit (Some number) sums parts few all is times small below =
-    decimal_read text others last number parts few all (omega (arith, small, below)) (omega (arith, sums.1, is, times, small)) (omega (arith, sums.0, sums.1))
+    decimal_read text others last number parts few all (omega (arith, small, below))
+    (omega (arith, sums.1, is, times, small)) (omega (arith, sums.0, sums.1))
 decimal_summed text others last first tens digit None sums parts few all is times small below =
     too_great text others last parts (omega (arith, sums, is, times, small))

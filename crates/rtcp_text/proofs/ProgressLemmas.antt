@@ -21,7 +21,8 @@ joined lines = flat_map (λ line. line ++ 10 ∷ []) lines
 
 -- Lines, and then more lines.
 pub BeginsWithLines-append : (octets more : List ℕ) (lines others : List (List ℕ)) (rest last : List ℕ)
-    → BeginsWithLines octets lines rest → BeginsWithLines (rest ++ more) others last → BeginsWithLines (octets ++ more) (lines ++ others) last
+    → BeginsWithLines octets lines rest → BeginsWithLines (rest ++ more) others last →
+    BeginsWithLines (octets ++ more) (lines ++ others) last
 BeginsWithLines-append octets more lines others rest last first second = record {
   parts =
       ap (λ l. l ++ more) first.parts ∙ append_assoc (joined lines) rest more
@@ -73,19 +74,23 @@ some_from_test b octets is_false test e =
     false≢true (sym is_false ∙ test ∙ ap (λ m. eqb m 0) zero_long)
 
 -- A line ends at its line feed.
-cut_at_feed : (rest piece after others : List ℕ) (octet : ℕ) → rest ≡ piece ++ after → after ≡ octet ∷ others → IsAfterLine after
+cut_at_feed : (rest piece after others : List ℕ) (octet : ℕ) → rest ≡ piece ++ after → after ≡ octet ∷ others →
+    IsAfterLine after
     → rest ≡ piece ++ 10 ∷ others
 cut_at_feed rest piece after others octet cut e feed =
     let is_feed : octet ≡ 10 = subst IsAfterLine e feed in
     cut ∙ ap (λ l. piece ++ l) (e ∙ ap (λ o. o ∷ others) is_feed)
 
 module _ {S : Type 0} (most : ℕ) (answers : Answering S) (refuses : Refusing) where
-  module _ (n answered : ℕ) (state between : S) (octets rest text more : List ℕ) (first : AnswersLines most answers refuses n state octets answered between rest text) where
-    moved : (others : List (List ℕ)) (text' : List ℕ) (end : Option (ℕ × LineFault)) (last : S) → IsTextBy most answers refuses (answered + 1) between others text' end last
+  module _ (n answered : ℕ) (state between : S) (octets rest text more : List ℕ)
+      (first : AnswersLines most answers refuses n state octets answered between rest text) where
+    moved : (others : List (List ℕ)) (text' : List ℕ) (end : Option (ℕ × LineFault)) (last : S) →
+        IsTextBy most answers refuses (answered + 1) between others text' end last
         → IsTextBy most answers refuses (n + 1) state (first.lines ++ others) (text ++ text') end last
     moved others text' end last second =
         IsTextBy-append most answers refuses (n + 1) state between last first.lines others text text' end first.texts
-        (subst (λ m. IsTextBy most answers refuses m between others text' end last) (next_number n answered (length first.lines) first.number) second)
+        (subst (λ m. IsTextBy most answers refuses m between others text' end last)
+        (next_number n answered (length first.lines) first.number) second)
 
     -- One part after the other.
     pub PartLeaves-after : {A : Type 0} (r : Result A TextFault) (answered' : ℕ) (last : S) (rest' text' : List ℕ)
@@ -100,8 +105,11 @@ module _ {S : Type 0} (most : ℕ) (answers : Answering S) (refuses : Refusing) 
     PartLeaves-after (Err (Text number fault)) answered' last rest' text' second = λ after.
         let found = second after in (
           found.0,
-          subst (λ lines. IsTextBy most answers refuses (n + 1) state lines (text ++ text') (Some (number, fault)) found.0)
-              (sym (ap lines_of (append_assoc octets more after) ∙ lines_of-begins _ first.lines _ (BeginsWithLines-longer octets (more ++ after) first.lines rest first.begins)
+          subst (λ lines. IsTextBy most answers refuses (n + 1) state lines (text ++ text') (Some (number, fault))
+              found.0)
+              (sym (ap lines_of (append_assoc octets more after)
+              ∙ lines_of-begins _ first.lines _
+              (BeginsWithLines-longer octets (more ++ after) first.lines rest first.begins)
               ∙ ap (λ l. first.lines ++ lines_of l) (sym (append_assoc rest more after))))
               (moved (lines_of ((rest ++ more) ++ after)) text' (Some (number, fault)) found.0 found.1),
         )
@@ -117,17 +125,21 @@ module _ {S : Type 0} (most : ℕ) (answers : Answering S) (refuses : Refusing) 
       rest = second.rest;
       more = second.more;
       begins = BeginsWithLines-append octets more first.lines second.lines rest second.rest first.begins second.begins;
-      texts = subst (λ t. IsTextFrom most answers refuses (n + 1) state (first.lines ++ second.lines) t None) (sym (append_assoc text text' second.more))
+      texts = subst (λ t. IsTextFrom most answers refuses (n + 1) state (first.lines ++ second.lines) t None)
+          (sym (append_assoc text text' second.more))
           (second.texts.0, moved second.lines (text' ++ second.more) None second.texts.0 second.texts.1);
     }
     PartLeaves-after (Err Read) answered' last rest' text' second = absurd second
 
   -- A fault stays, whatever comes after the octets.
-  pub PartLeaves-longer : (fault : TextFault) (n answered answered' : ℕ) (state next next' : S) (octets more rest rest' text : List ℕ)
+  pub PartLeaves-longer : (fault : TextFault) (n answered answered' : ℕ) (state next next' : S)
+      (octets more rest rest' text : List ℕ)
       → PartLeaves most answers refuses {A = Unit {0}} (Err fault) n state octets answered next rest text
       → PartLeaves most answers refuses {A = Unit {0}} (Err fault) n state (octets ++ more) answered' next' rest' text
-  PartLeaves-longer (Text number fault) n answered answered' state next next' octets more rest rest' text first = λ after.
-      subst (λ l. IsTextFrom most answers refuses (n + 1) state (lines_of l) text (Some (number, fault))) (sym (append_assoc octets more after)) (first (more ++ after))
+  PartLeaves-longer (Text number fault) n answered answered' state next next' octets more rest rest' text first =
+      λ after.
+      subst (λ l. IsTextFrom most answers refuses (n + 1) state (lines_of l) text (Some (number, fault)))
+      (sym (append_assoc octets more after)) (first (more ++ after))
   PartLeaves-longer Memory n answered answered' state next next' octets more rest rest' text first = record {
     lines = first.lines;
     rest = first.rest ++ more;
@@ -145,9 +157,12 @@ module _ {S : Type 0} (most : ℕ) (answers : Answering S) (refuses : Refusing) 
   PartLeaves-longer Read n answered answered' state next next' octets more rest rest' text first = absurd first
 
   -- An answered line is a part.
-  pub PartLeaves-line : {A : Type 0} (r : Result A TextFault) (n : ℕ) (state next : S) (line text : List ℕ) → HasNoLineFeed line
-      → LineLeaves most answers refuses r (n + 1) state line text next → PartLeaves most answers refuses r n state (line ++ 10 ∷ []) (n + 1) next [] text
-  PartLeaves-line (Ok x) n state next line text part leaves = record { lines = line ∷ []; begins = one_line line part; number = refl; texts = leaves }
+  pub PartLeaves-line : {A : Type 0} (r : Result A TextFault) (n : ℕ) (state next : S) (line text : List ℕ) →
+      HasNoLineFeed line
+      → LineLeaves most answers refuses r (n + 1) state line text next →
+      PartLeaves most answers refuses r n state (line ++ 10 ∷ []) (n + 1) next [] text
+  PartLeaves-line (Ok x) n state next line text part leaves =
+      record { lines = line ∷ []; begins = one_line line part; number = refl; texts = leaves }
   PartLeaves-line (Err (Text number fault)) n state next line text part leaves = λ after.
       subst (λ lines. IsTextFrom most answers refuses (n + 1) state lines text (Some (number, fault)))
       (sym (ap lines_of (append_assoc line (10 ∷ []) after) ∙ lines_of-line line after part)) (leaves (lines_of after))
@@ -158,7 +173,8 @@ module _ {S : Type 0} (most : ℕ) (answers : Answering S) (refuses : Refusing) 
     begins = record { parts = refl; each = All-nil HasNoLineFeed };
     texts = (state, (leaves, refl, refl));
   }
-  PartLeaves-line (Err Write) n state next line text part leaves = record { lines = line ∷ []; rest = []; more = leaves.0; begins = one_line line part; texts = leaves.1 }
+  PartLeaves-line (Err Write) n state next line text part leaves =
+      record { lines = line ∷ []; rest = []; more = leaves.0; begins = one_line line part; texts = leaves.1 }
   PartLeaves-line (Err Read) n state next line text part leaves = absurd leaves
 
   -- A line too many comes after n lines.
@@ -168,11 +184,13 @@ module _ {S : Type 0} (most : ℕ) (answers : Answering S) (refuses : Refusing) 
       let first = first_of_some octets some in
       let found = lines_of-some first.0 first.1 in
       let late : most < n + 1 = omega arith in
-      subst (λ lines. IsTextFrom most answers refuses (n + 1) state lines [] (Some (number, TooManyLines))) (sym (ap lines_of first.2 ∙ found.2))
+      subst (λ lines. IsTextFrom most answers refuses (n + 1) state lines [] (Some (number, TooManyLines)))
+      (sym (ap lines_of first.2 ∙ found.2))
       (state, inl (TooManyLines, inl (refl, late), refl, ap (λ m. Some (m, TooManyLines)) e, refl))
 
   -- A line that is too long comes after n lines.
-  too_long : (n number : ℕ) (state : S) (part more : List ℕ) → HasNoLineFeed part → 131200 < length part → number ≡ n + 1 → n < most
+  too_long : (n number : ℕ) (state : S) (part more : List ℕ) → HasNoLineFeed part → 131200 < length part →
+      number ≡ n + 1 → n < most
       → IsTextFrom most answers refuses (n + 1) state (lines_of (part ++ more)) [] (Some (number, LineTooLong))
   too_long n number state [] more each long e few = absurd (omega arith)
   too_long n number state (octet ∷ part) more each long e few =
@@ -184,18 +202,27 @@ module _ {S : Type 0} (most : ℕ) (answers : Answering S) (refuses : Refusing) 
       (state, inl (LineTooLong, inr (inl (refl, early, longer)), refl, ap (λ m. Some (m, LineTooLong)) e, refl))
 
   -- The pending part could not be made longer.
-  PartLeaves-lengthens : (fault : TextFault) (n answered' : ℕ) (state next : S) (pending piece after longer rest' : List ℕ) → HasNoLineFeed pending → HasNoLineFeed piece
+  PartLeaves-lengthens : (fault : TextFault) (n answered' : ℕ) (state next : S)
+      (pending piece after longer rest' : List ℕ) → HasNoLineFeed pending → HasNoLineFeed piece
       → piece ++ after ≢ [] → Lengthens most {A = Unit {0}} (Err fault) n pending piece longer
-      → PartLeaves most answers refuses {A = Unit {0}} (Err fault) n state (pending ++ (piece ++ after)) answered' next rest' []
-  PartLeaves-lengthens (Text number TooManyLines) n answered' state next pending piece after longer rest' part each some h = λ more.
+      → PartLeaves most answers refuses {A = Unit {0}} (Err fault) n state (pending ++ (piece ++ after)) answered' next
+      rest' []
+  PartLeaves-lengthens (Text number TooManyLines) n answered' state next pending piece after longer rest' part each some
+      h = λ more.
       too_many n number state _ (ne-append _ more (some_after pending _ some)) h.0 h.1
-  PartLeaves-lengthens (Text number LineTooLong) n answered' state next pending piece after longer rest' part each some h = λ more.
+  PartLeaves-lengthens (Text number LineTooLong) n answered' state next pending piece after longer rest' part each some
+      h = λ more.
       subst (λ l. IsTextFrom most answers refuses (n + 1) state (lines_of l) [] (Some (number, LineTooLong)))
-      (append_assoc pending piece (after ++ more) ∙ ap (λ l. pending ++ l) (sym (append_assoc piece after more)) ∙ sym (append_assoc pending (piece ++ after) more))
-      (too_long n number state (pending ++ piece) (after ++ more) (All-append (λ octet. octet ≢ 10) pending piece part each) h.2 h.0 h.1)
-  PartLeaves-lengthens (Text number Words) n answered' state next pending piece after longer rest' part each some h = absurd h
-  PartLeaves-lengthens (Text number Hex) n answered' state next pending piece after longer rest' part each some h = absurd h
-  PartLeaves-lengthens (Text number Number) n answered' state next pending piece after longer rest' part each some h = absurd h
+      (append_assoc pending piece (after ++ more) ∙ ap (λ l. pending ++ l) (sym (append_assoc piece after more))
+      ∙ sym (append_assoc pending (piece ++ after) more))
+      (too_long n number state (pending ++ piece) (after ++ more)
+      (All-append (λ octet. octet ≢ 10) pending piece part each) h.2 h.0 h.1)
+  PartLeaves-lengthens (Text number Words) n answered' state next pending piece after longer rest' part each some h =
+      absurd h
+  PartLeaves-lengthens (Text number Hex) n answered' state next pending piece after longer rest' part each some h =
+      absurd h
+  PartLeaves-lengthens (Text number Number) n answered' state next pending piece after longer rest' part each some h =
+      absurd h
   PartLeaves-lengthens Memory n answered' state next pending piece after longer rest' part each some h = record {
     lines = [];
     rest = pending ++ (piece ++ after);
@@ -209,87 +236,133 @@ module _ {S : Type 0} (most : ℕ) (answers : Answering S) (refuses : Refusing) 
   -- ---- a block, of which a prefix is answered and the rest is left
 
   module _ (n answered : ℕ) (state between : S) (old prefix rest block pending text : List ℕ)
-      (first : AnswersLines most answers refuses n state (old ++ prefix) answered between pending text) (parts : block ≡ prefix ++ rest) where
+      (first : AnswersLines most answers refuses n state (old ++ prefix) answered between pending text)
+      (parts : block ≡ prefix ++ rest) where
     in_block : (old ++ prefix) ++ rest ≡ old ++ block
     in_block = append_assoc old prefix rest ∙ ap (λ l. old ++ l) (sym parts)
 
     -- The next line could not be taken.
-    pub block_refused : (fault : TextFault) (answered' : ℕ) (next : S) (piece after longer rest' : List ℕ) → HasNoLineFeed pending → HasNoLineFeed piece
+    pub block_refused : (fault : TextFault) (answered' : ℕ) (next : S) (piece after longer rest' : List ℕ) →
+        HasNoLineFeed pending → HasNoLineFeed piece
         → rest ≡ piece ++ after → rest ≢ [] → Lengthens most {A = Unit {0}} (Err fault) answered pending piece longer
         → PartLeaves most answers refuses {A = Unit {0}} (Err fault) n state (old ++ block) answered' next rest' text
     block_refused fault answered' next piece after longer rest' part each cut some h =
-        let here = PartLeaves-lengthens fault answered answered' between next pending piece after longer rest' part each (λ e. some (cut ∙ e)) h in
-        let here' = subst (λ l. PartLeaves most answers refuses {A = Unit {0}} (Err fault) answered between (pending ++ l) answered' next rest' []) (sym cut) here in
-        let all = PartLeaves-after n answered state between (old ++ prefix) pending text rest first {A = Unit {0}} (Err fault) answered' next rest' [] here' in
-        subst (λ t. PartLeaves most answers refuses {A = Unit {0}} (Err fault) n state (old ++ block) answered' next rest' t) (append-nil text)
-        (subst (λ l. PartLeaves most answers refuses {A = Unit {0}} (Err fault) n state l answered' next rest' (text ++ [])) in_block all)
+        let here = PartLeaves-lengthens fault answered answered' between next pending piece after longer rest' part each
+        (λ e. some (cut ∙ e)) h in
+        let here' = subst (λ l. PartLeaves most answers refuses {A = Unit {0}} (Err fault) answered between
+        (pending ++ l) answered' next rest' []) (sym cut) here in
+        let all = PartLeaves-after n answered state between (old ++ prefix) pending text rest first {A = Unit {0}}
+        (Err fault) answered' next rest' [] here' in
+        subst (λ t. PartLeaves most answers refuses {A = Unit {0}} (Err fault) n state (old ++ block) answered' next
+        rest' t) (append-nil text)
+        (subst (λ l. PartLeaves most answers refuses {A = Unit {0}} (Err fault) n state l answered' next rest'
+        (text ++ [])) in_block all)
 
     -- The next line could not be answered.
-    pub block_failed : (fault : TextFault) (answered' : ℕ) (next : S) (piece others rest' text' : List ℕ) → HasNoLineFeed pending → HasNoLineFeed piece
-        → rest ≡ piece ++ 10 ∷ others → LineLeaves most answers refuses {A = Unit {0}} (Err fault) (answered + 1) between (pending ++ piece) text' next
-        → PartLeaves most answers refuses {A = Unit {0}} (Err fault) n state (old ++ block) answered' next rest' (text ++ text')
+    pub block_failed : (fault : TextFault) (answered' : ℕ) (next : S) (piece others rest' text' : List ℕ) →
+        HasNoLineFeed pending → HasNoLineFeed piece
+        → rest ≡ piece ++ 10 ∷ others → LineLeaves most answers refuses {A = Unit {0}} (Err fault) (answered + 1)
+        between (pending ++ piece) text' next
+        → PartLeaves most answers refuses {A = Unit {0}} (Err fault) n state (old ++ block) answered' next rest'
+        (text ++ text')
     block_failed fault answered' next piece others rest' text' part each cut leaves =
         let line = pending ++ piece in
-        let here = PartLeaves-line {A = Unit {0}} (Err fault) answered between next line text' (All-append (λ octet. octet ≢ 10) pending piece part each) leaves in
-        let longer = PartLeaves-longer fault answered (answered + 1) answered' between next next (line ++ 10 ∷ []) others [] rest' text' here in
+        let here = PartLeaves-line {A = Unit {0}} (Err fault) answered between next line text'
+        (All-append (λ octet. octet ≢ 10) pending piece part each) leaves in
+        let longer = PartLeaves-longer fault answered (answered + 1) answered' between next next (line ++ 10 ∷ [])
+        others [] rest' text' here in
         let same : (line ++ 10 ∷ []) ++ others ≡ pending ++ rest =
-        append_assoc line (10 ∷ []) others ∙ append_assoc pending piece (10 ∷ others) ∙ ap (λ l. pending ++ l) (sym cut) in
-        let here' = subst (λ l. PartLeaves most answers refuses {A = Unit {0}} (Err fault) answered between l answered' next rest' text') same longer in
-        let all = PartLeaves-after n answered state between (old ++ prefix) pending text rest first {A = Unit {0}} (Err fault) answered' next rest' text' here' in
-        subst (λ l. PartLeaves most answers refuses {A = Unit {0}} (Err fault) n state l answered' next rest' (text ++ text')) in_block all
+        append_assoc line (10 ∷ []) others ∙ append_assoc pending piece (10 ∷ others)
+        ∙ ap (λ l. pending ++ l) (sym cut) in
+        let here' = subst (λ l. PartLeaves most answers refuses {A = Unit {0}} (Err fault) answered between l answered'
+        next rest' text') same longer in
+        let all = PartLeaves-after n answered state between (old ++ prefix) pending text rest first {A = Unit {0}}
+        (Err fault) answered' next rest' text' here' in
+        subst (λ l. PartLeaves most answers refuses {A = Unit {0}} (Err fault) n state l answered' next rest'
+        (text ++ text')) in_block all
 
     -- The next line is answered.
-    pub block_answered : (x : Unit {0}) (next : S) (piece others text' : List ℕ) → HasNoLineFeed pending → HasNoLineFeed piece
-        → rest ≡ piece ++ 10 ∷ others → LineLeaves most answers refuses {A = Unit {0}} (Ok x) (answered + 1) between (pending ++ piece) text' next
+    pub block_answered : (x : Unit {0}) (next : S) (piece others text' : List ℕ) → HasNoLineFeed pending →
+        HasNoLineFeed piece
+        → rest ≡ piece ++ 10 ∷ others → LineLeaves most answers refuses {A = Unit {0}} (Ok x) (answered + 1) between
+        (pending ++ piece) text' next
         → (block ≡ (prefix ++ (piece ++ 10 ∷ [])) ++ others)
-        × AnswersLines most answers refuses n state (old ++ (prefix ++ (piece ++ 10 ∷ []))) (answered + 1) next [] (text ++ text')
+        × AnswersLines most answers refuses n state (old ++ (prefix ++ (piece ++ 10 ∷ []))) (answered + 1) next []
+        (text ++ text')
     block_answered x next piece others text' part each cut leaves =
         let line = pending ++ piece in
-        let here = PartLeaves-line {A = Unit {0}} (Ok x) answered between next line text' (All-append (λ octet. octet ≢ 10) pending piece part each) leaves in
-        let here' = subst (λ l. AnswersLines most answers refuses answered between l (answered + 1) next [] text') (append_assoc pending piece (10 ∷ [])) here in
-        let all = PartLeaves-after n answered state between (old ++ prefix) pending text (piece ++ 10 ∷ []) first {A = Unit {0}} (Ok x) (answered + 1) next [] text' here' in (
-          parts ∙ ap (λ l. prefix ++ l) (cut ∙ sym (append_assoc piece (10 ∷ []) others)) ∙ sym (append_assoc prefix (piece ++ 10 ∷ []) others),
-          subst (λ l. AnswersLines most answers refuses n state l (answered + 1) next [] (text ++ text')) (append_assoc old prefix (piece ++ 10 ∷ [])) all,
+        let here = PartLeaves-line {A = Unit {0}} (Ok x) answered between next line text'
+        (All-append (λ octet. octet ≢ 10) pending piece part each) leaves in
+        let here' = subst (λ l. AnswersLines most answers refuses answered between l (answered + 1) next [] text')
+        (append_assoc pending piece (10 ∷ [])) here in
+        let all = PartLeaves-after n answered state between (old ++ prefix) pending text (piece ++ 10 ∷ []) first
+        {A = Unit {0}} (Ok x) (answered + 1) next [] text' here' in (
+          parts ∙ ap (λ l. prefix ++ l) (cut ∙ sym (append_assoc piece (10 ∷ []) others))
+              ∙ sym (append_assoc prefix (piece ++ 10 ∷ []) others),
+          subst (λ l. AnswersLines most answers refuses n state l (answered + 1) next [] (text ++ text'))
+              (append_assoc old prefix (piece ++ 10 ∷ [])) all,
         )
 
     -- The line that was cut could not be answered.
-    pub turn_failed : (fault : TextFault) (octet answered' answered'' : ℕ) (between' next : S) (piece after others longer rest' text' : List ℕ) → HasNoLineFeed pending → HasNoLineFeed piece
-        → rest ≡ piece ++ after → after ≡ octet ∷ others → IsAfterLine after → longer ≡ pending ++ piece → answered'' ≡ answered → between' ≡ between
+    pub turn_failed : (fault : TextFault) (octet answered' answered'' : ℕ) (between' next : S)
+        (piece after others longer rest' text' : List ℕ) → HasNoLineFeed pending → HasNoLineFeed piece
+        → rest ≡ piece ++ after → after ≡ octet ∷ others → IsAfterLine after → longer ≡ pending ++ piece →
+        answered'' ≡ answered → between' ≡ between
         → LineLeaves most answers refuses {A = Unit {0}} (Err fault) (answered'' + 1) between' longer text' next
-        → PartLeaves most answers refuses {A = Unit {0}} (Err fault) n state (old ++ block) answered' next rest' (text ++ text')
-    turn_failed fault octet answered' answered'' between' next piece after others longer rest' text' part each cut e feed made same kept leaves =
-        block_failed fault answered' next piece others rest' text' part each (cut_at_feed rest piece after others octet cut e feed)
-        (subst (λ m. LineLeaves most answers refuses {A = Unit {0}} (Err fault) (m + 1) between (pending ++ piece) text' next) same
-        (subst (λ s. LineLeaves most answers refuses {A = Unit {0}} (Err fault) (answered'' + 1) s (pending ++ piece) text' next) kept
-        (subst (λ l. LineLeaves most answers refuses {A = Unit {0}} (Err fault) (answered'' + 1) between' l text' next) made leaves)))
+        → PartLeaves most answers refuses {A = Unit {0}} (Err fault) n state (old ++ block) answered' next rest'
+        (text ++ text')
+    turn_failed fault octet answered' answered'' between' next piece after others longer rest' text' part each cut e
+        feed made same kept leaves =
+        block_failed fault answered' next piece others rest' text' part each
+        (cut_at_feed rest piece after others octet cut e feed)
+        (subst (λ m. LineLeaves most answers refuses {A = Unit {0}} (Err fault) (m + 1) between (pending ++ piece) text'
+        next) same
+        (subst (λ s. LineLeaves most answers refuses {A = Unit {0}} (Err fault) (answered'' + 1) s (pending ++ piece)
+        text' next) kept
+        (subst (λ l. LineLeaves most answers refuses {A = Unit {0}} (Err fault) (answered'' + 1) between' l text' next)
+        made leaves)))
 
     -- The line that was cut is answered.
-    pub turn_answered : (x : Unit {0}) (octet answered' answered'' : ℕ) (between' next : S) (piece after others longer rest' text' : List ℕ) → HasNoLineFeed pending → HasNoLineFeed piece
-        → rest ≡ piece ++ after → after ≡ octet ∷ others → IsAfterLine after → longer ≡ pending ++ piece → answered'' ≡ answered → between' ≡ between
+    pub turn_answered : (x : Unit {0}) (octet answered' answered'' : ℕ) (between' next : S)
+        (piece after others longer rest' text' : List ℕ) → HasNoLineFeed pending → HasNoLineFeed piece
+        → rest ≡ piece ++ after → after ≡ octet ∷ others → IsAfterLine after → longer ≡ pending ++ piece →
+        answered'' ≡ answered → between' ≡ between
         → answered' ≡ answered'' + 1 → rest' ≡ []
         → LineLeaves most answers refuses {A = Unit {0}} (Ok x) (answered'' + 1) between' longer text' next
         → (block ≡ (prefix ++ (piece ++ 10 ∷ [])) ++ others)
-        × AnswersLines most answers refuses n state (old ++ (prefix ++ (piece ++ 10 ∷ []))) answered' next rest' (text ++ text')
-    turn_answered x octet answered' answered'' between' next piece after others longer rest' text' part each cut e feed made same kept number none leaves =
-        let found = block_answered x next piece others text' part each (cut_at_feed rest piece after others octet cut e feed)
-        (subst (λ m. LineLeaves most answers refuses {A = Unit {0}} (Ok x) (m + 1) between (pending ++ piece) text' next) same
-        (subst (λ s. LineLeaves most answers refuses {A = Unit {0}} (Ok x) (answered'' + 1) s (pending ++ piece) text' next) kept
-        (subst (λ l. LineLeaves most answers refuses {A = Unit {0}} (Ok x) (answered'' + 1) between' l text' next) made leaves))) in (
+        × AnswersLines most answers refuses n state (old ++ (prefix ++ (piece ++ 10 ∷ []))) answered' next rest'
+        (text ++ text')
+    turn_answered x octet answered' answered'' between' next piece after others longer rest' text' part each cut e feed
+        made same kept number none leaves =
+        let found = block_answered x next piece others text' part each
+        (cut_at_feed rest piece after others octet cut e feed)
+        (subst (λ m. LineLeaves most answers refuses {A = Unit {0}} (Ok x) (m + 1) between (pending ++ piece) text'
+        next) same
+        (subst (λ s. LineLeaves most answers refuses {A = Unit {0}} (Ok x) (answered'' + 1) s (pending ++ piece) text'
+        next) kept
+        (subst (λ l. LineLeaves most answers refuses {A = Unit {0}} (Ok x) (answered'' + 1) between' l text' next) made
+        leaves))) in (
           found.0,
-          subst (λ m. AnswersLines most answers refuses n state (old ++ (prefix ++ (piece ++ 10 ∷ []))) m next rest' (text ++ text')) (sym (number ∙ ap (λ m. m + 1) same))
-              (subst (λ l. AnswersLines most answers refuses n state (old ++ (prefix ++ (piece ++ 10 ∷ []))) (answered + 1) next l (text ++ text')) (sym none) found.1),
+          subst (λ m. AnswersLines most answers refuses n state (old ++ (prefix ++ (piece ++ 10 ∷ []))) m next rest'
+              (text ++ text')) (sym (number ∙ ap (λ m. m + 1) same))
+              (subst (λ l. AnswersLines most answers refuses n state (old ++ (prefix ++ (piece ++ 10 ∷ [])))
+              (answered + 1) next l (text ++ text')) (sym none) found.1),
         )
 
   -- ---- one line
 
   -- The line is answered by this text.
-  pub LineLeaves-answered : (x : Unit {0}) (n : ℕ) (state next : S) (line text : List ℕ) → n ≤ most → length line ≤ 131200 → answers state line text next
+  pub LineLeaves-answered : (x : Unit {0}) (n : ℕ) (state next : S) (line text : List ℕ) → n ≤ most →
+      length line ≤ 131200 → answers state line text next
       → LineLeaves most answers refuses {A = Unit {0}} (Ok x) n state line text next
-  LineLeaves-answered x n state next line text few short is_answer = inr (text, next, [], few, short, is_answer, sym (append-nil text), (refl, refl, refl))
+  LineLeaves-answered x n state next line text few short is_answer =
+      inr (text, next, [], few, short, is_answer, sym (append-nil text), (refl, refl, refl))
 
   -- There is no answer.
-  pub LineLeaves-failed : (fault : TextFault) (n : ℕ) (state next next' : S) (line text : List ℕ) → n ≤ most → length line ≤ 131200
-      → AnswersLine answers refuses {A = Unit {0}} (Err fault) n state line text next' → LineLeaves most answers refuses {A = Unit {0}} (Err fault) n state line [] next
+  pub LineLeaves-failed : (fault : TextFault) (n : ℕ) (state next next' : S) (line text : List ℕ) → n ≤ most →
+      length line ≤ 131200
+      → AnswersLine answers refuses {A = Unit {0}} (Err fault) n state line text next' →
+      LineLeaves most answers refuses {A = Unit {0}} (Err fault) n state line [] next
   LineLeaves-failed (Text number fault) n state next next' line text few short (same, refused) = λ others.
       (state, inl (fault, inr (inr (few, short, refused)), refl, ap (λ m. Some (m, fault)) same, refl))
   LineLeaves-failed Memory n state next next' line text few short leaves = refl
@@ -297,28 +370,47 @@ module _ {S : Type 0} (most : ℕ) (answers : Answering S) (refuses : Refusing) 
   LineLeaves-failed Read n state next next' line text few short leaves = absurd leaves
 
   -- A prefix of the answer is written.
-  pub LineLeaves-cut : (n : ℕ) (state next next' : S) (line text prefix more : List ℕ) → n ≤ most → length line ≤ 131200 → answers state line text next
+  pub LineLeaves-cut : (n : ℕ) (state next next' : S) (line text prefix more : List ℕ) → n ≤ most →
+      length line ≤ 131200 → answers state line text next
       → text ≡ prefix ++ more → LineLeaves most answers refuses {A = Unit {0}} (Err Write) n state line prefix next'
-  LineLeaves-cut n state next next' line text prefix more few short is_answer parts =
-      (more, (next, subst (λ t. IsTextBy most answers refuses n state (line ∷ []) t None next) parts (LineLeaves-answered tt n state next line text few short is_answer)))
+  LineLeaves-cut n state next next' line text prefix more few short is_answer parts = (
+    more,
+    (
+      next,
+      subst (λ t. IsTextBy most answers refuses n state (line ∷ []) t None next) parts
+          (LineLeaves-answered tt n state next line text few short is_answer),
+    ),
+  )
 
   -- As much of the answer is written as the outcome says.
-  pub LineLeaves-written : (r : Result (Unit {0}) TextFault) (n : ℕ) (state next : S) (line text prefix more : List ℕ) → n ≤ most → length line ≤ 131200
-      → answers state line text next → IsOkUnless r Write → OnOk r (more ≡ []) → text ≡ prefix ++ more → LineLeaves most answers refuses r n state line prefix next
+  pub LineLeaves-written : (r : Result (Unit {0}) TextFault) (n : ℕ) (state next : S) (line text prefix more : List ℕ) →
+      n ≤ most → length line ≤ 131200
+      → answers state line text next → IsOkUnless r Write → OnOk r (more ≡ []) → text ≡ prefix ++ more →
+      LineLeaves most answers refuses r n state line prefix next
   LineLeaves-written (Ok x) n state next line text prefix more few short is_answer only whole parts =
       let same : text ≡ prefix = parts ∙ ap (λ m. prefix ++ m) whole ∙ append-nil prefix in
-      subst (λ t. LineLeaves most answers refuses {A = Unit {0}} (Ok x) n state line t next) same (LineLeaves-answered x n state next line text few short is_answer)
+      subst (λ t. LineLeaves most answers refuses {A = Unit {0}} (Ok x) n state line t next) same
+      (LineLeaves-answered x n state next line text few short is_answer)
   LineLeaves-written (Err fault) n state next line text prefix more few short is_answer only whole parts =
       subst (λ f. LineLeaves most answers refuses {A = Unit {0}} (Err f) n state line prefix next) (sym only)
       (LineLeaves-cut n state next next line text prefix more few short is_answer parts)
 
   -- The line could not be made longer.
-  pub LineLeaves-refused : (fault : TextFault) (n : ℕ) (state next : S) (pending piece longer : List ℕ) → Lengthens most {A = Unit {0}} (Err fault) n pending piece longer
+  pub LineLeaves-refused : (fault : TextFault) (n : ℕ) (state next : S) (pending piece longer : List ℕ) →
+      Lengthens most {A = Unit {0}} (Err fault) n pending piece longer
       → LineLeaves most answers refuses {A = Unit {0}} (Err fault) (n + 1) state (pending ++ piece) [] next
   LineLeaves-refused (Text number TooManyLines) n state next pending piece longer (same, late) = λ others.
       (state, inl (TooManyLines, inl (refl, omega (arith, late)), refl, ap (λ m. Some (m, TooManyLines)) same, refl))
-  LineLeaves-refused (Text number LineTooLong) n state next pending piece longer (same, early, long) = λ others.
-      (state, inl (LineTooLong, inr (inl (refl, omega (arith, early), long)), refl, ap (λ m. Some (m, LineTooLong)) same, refl))
+  LineLeaves-refused (Text number LineTooLong) n state next pending piece longer (same, early, long) = λ others. (
+    state,
+    inl (
+      LineTooLong,
+      inr (inl (refl, omega (arith, early), long)),
+      refl,
+      ap (λ m. Some (m, LineTooLong)) same,
+      refl,
+    ),
+  )
   LineLeaves-refused (Text number Words) n state next pending piece longer h = absurd h
   LineLeaves-refused (Text number Hex) n state next pending piece longer h = absurd h
   LineLeaves-refused (Text number Number) n state next pending piece longer h = absurd h
@@ -327,35 +419,49 @@ module _ {S : Type 0} (most : ℕ) (answers : Answering S) (refuses : Refusing) 
   LineLeaves-refused Read n state next pending piece longer h = absurd h
 
   -- The line that was put together is the one that is answered.
-  pub LineLeaves-longer : {A : Type 0} (r : Result A TextFault) (n n' : ℕ) (state state' next : S) (line line' text : List ℕ) → n' ≡ n → state' ≡ state → line' ≡ line
-      → LineLeaves most answers refuses r (n' + 1) state' line' text next → LineLeaves most answers refuses r (n + 1) state line text next
+  pub LineLeaves-longer : {A : Type 0} (r : Result A TextFault) (n n' : ℕ) (state state' next : S)
+      (line line' text : List ℕ) → n' ≡ n → state' ≡ state → line' ≡ line
+      → LineLeaves most answers refuses r (n' + 1) state' line' text next →
+      LineLeaves most answers refuses r (n + 1) state line text next
   LineLeaves-longer r n n' state state' next line line' text number same made leaves =
       subst (λ m. LineLeaves most answers refuses r (m + 1) state line text next) number
       (subst (λ s. LineLeaves most answers refuses r (n' + 1) s line text next) same
       (subst (λ l. LineLeaves most answers refuses r (n' + 1) state' l text next) made leaves))
 
   -- Where nothing is pending, the piece is the line.
-  pub LineLeaves-whole : {A : Type 0} (r : Result A TextFault) (n : ℕ) (state next : S) (pending line text : List ℕ) → length pending ≡ 0
-      → LineLeaves most answers refuses r n state line text next → LineLeaves most answers refuses r n state (pending ++ line) text next
+  pub LineLeaves-whole : {A : Type 0} (r : Result A TextFault) (n : ℕ) (state next : S) (pending line text : List ℕ) →
+      length pending ≡ 0
+      → LineLeaves most answers refuses r n state line text next →
+      LineLeaves most answers refuses r n state (pending ++ line) text next
   LineLeaves-whole r n state next [] line text none leaves = leaves
   LineLeaves-whole r n state next (octet ∷ pending) line text none leaves = absurd (omega (arith, none))
 
   -- Nothing is pending at the end.
-  pub EndLeaves-none : (x : Unit {0}) (n : ℕ) (state : S) (octets : List ℕ) → length octets ≡ 0 → EndLeaves most answers refuses {A = Unit {0}} (Ok x) n state octets []
+  pub EndLeaves-none : (x : Unit {0}) (n : ℕ) (state : S) (octets : List ℕ) → length octets ≡ 0 →
+      EndLeaves most answers refuses {A = Unit {0}} (Ok x) n state octets []
   EndLeaves-none x n state [] none = (state, (refl, refl, refl))
   EndLeaves-none x n state (octet ∷ octets) none = absurd (omega arith)
 
   -- The last line has no line feed.
-  pub EndLeaves-line : {A : Type 0} (r : Result A TextFault) (n : ℕ) (state next : S) (line text : List ℕ) → HasNoLineFeed line → 0 < length line
-      → LineLeaves most answers refuses r (n + 1) state line text next → EndLeaves most answers refuses r n state line text
+  pub EndLeaves-line : {A : Type 0} (r : Result A TextFault) (n : ℕ) (state next : S) (line text : List ℕ) →
+      HasNoLineFeed line → 0 < length line
+      → LineLeaves most answers refuses r (n + 1) state line text next →
+      EndLeaves most answers refuses r n state line text
   EndLeaves-line r n state next [] text part some leaves = absurd (omega arith)
-  EndLeaves-line (Ok x) n state next (octet ∷ line) text part some leaves =
-      (next, subst (λ lines. IsTextBy most answers refuses (n + 1) state lines text None next) (sym (lines_of-last octet line part)) leaves)
+  EndLeaves-line (Ok x) n state next (octet ∷ line) text part some leaves = (
+    next,
+    subst (λ lines. IsTextBy most answers refuses (n + 1) state lines text None next)
+        (sym (lines_of-last octet line part)) leaves,
+  )
   EndLeaves-line (Err (Text number fault)) n state next (octet ∷ line) text part some leaves =
-      subst (λ lines. IsTextFrom most answers refuses (n + 1) state lines text (Some (number, fault))) (sym (lines_of-last octet line part)) (leaves [])
+      subst (λ lines. IsTextFrom most answers refuses (n + 1) state lines text (Some (number, fault)))
+      (sym (lines_of-last octet line part)) (leaves [])
   EndLeaves-line (Err Memory) n state next (octet ∷ line) text part some leaves = ((λ e. cc), leaves)
-  EndLeaves-line (Err Write) n state next (octet ∷ line) text part some leaves =
-      (leaves.0, subst (λ lines. IsTextFrom most answers refuses (n + 1) state lines (text ++ leaves.0) None) (sym (lines_of-last octet line part)) leaves.1)
+  EndLeaves-line (Err Write) n state next (octet ∷ line) text part some leaves = (
+    leaves.0,
+    subst (λ lines. IsTextFrom most answers refuses (n + 1) state lines (text ++ leaves.0) None)
+        (sym (lines_of-last octet line part)) leaves.1,
+  )
   EndLeaves-line (Err Read) n state next (octet ∷ line) text part some leaves = absurd leaves
 
 -- ---- between two lines
@@ -369,14 +475,16 @@ IsBetween-none most answered few = record {
 }
 
 -- The answer leaves nothing pending.
-pub IsBetween-answered : (most answered answered' answered'' : ℕ) (rest : List ℕ) → answered < most → answered'' ≡ answered → answered' ≡ answered'' + 1 → rest ≡ [] → IsBetween most answered' rest
+pub IsBetween-answered : (most answered answered' answered'' : ℕ) (rest : List ℕ) → answered < most →
+    answered'' ≡ answered → answered' ≡ answered'' + 1 → rest ≡ [] → IsBetween most answered' rest
 IsBetween-answered most answered answered' answered'' rest room same next none =
     subst (IsBetween most answered') (sym none) (IsBetween-none most answered' (omega arith))
 
 -- ---- the exit of a `?`
 
 -- What holds at the fault holds of what the exit returns.
-pub at_exit : {A : Type 0} (P : Result A TextFault → Type 0) (r : Result A TextFault) (fault : TextFault) → IsErrAnd r (λ e. e ≡ fault) → P (Err fault) → P r
+pub at_exit : {A : Type 0} (P : Result A TextFault → Type 0) (r : Result A TextFault) (fault : TextFault) →
+    IsErrAnd r (λ e. e ≡ fault) → P (Err fault) → P r
 at_exit P r fault exit holds =
     let found = err_from_is_err_and r exit in
     subst P (sym (found.1 ∙ ap Err found.2)) holds

@@ -1,4 +1,5 @@
--- The text of a session: each line says one act or has one fault, and what holds a participant answers as its history does.
+-- The text of a session: each line says one act or has one fault, and what holds a participant answers as its history
+-- does.
 use Rattle.std.proofs.Common.{◌≡◌, ℕ, ◌⊎◌, inl, inr, List, [], ◌++◌, Option, Result, Ok, Err, refl, sym, ◌∙◌, ap, subst, append_assoc}
 use Rattle.rtcp_engine.specs.Acts.{Act, rtcp_came, rtp_came, rtp_sent, ticked, left as asked_to_leave, EventValue, rtcp_arrived, rtp_arrived, packet_sent, time_passed, leave_asked, IsActOfEvent}
 use Rattle.rtcp_engine.specs.Steps.{AnswerValue}
@@ -29,8 +30,10 @@ act_exists (time_passed moment first_word second_word) = (ticked moment first_wo
 act_exists (leave_asked moment word) = (asked_to_leave moment word, refl)
 
 one_act : (event : EventValue) (act act' : Act) → IsActOfEvent event act → IsActOfEvent event act' → act ≡ act'
-one_act (rtcp_arrived moment peer word octets) act act' h k = h.2 ∙ ap (rtcp_came moment peer word octets) (one_reading-once octets h.0 k.0 h.1 k.1) ∙ sym k.2
-one_act (rtp_arrived moment peer word octets) act act' h k = h.2 ∙ ap (rtp_came moment peer word) (one_reading-rtp_once octets h.0 k.0 h.1 k.1) ∙ sym k.2
+one_act (rtcp_arrived moment peer word octets) act act' h k = h.2 ∙ ap (rtcp_came moment peer word octets)
+    (one_reading-once octets h.0 k.0 h.1 k.1) ∙ sym k.2
+one_act (rtp_arrived moment peer word octets) act act' h k = h.2
+    ∙ ap (rtp_came moment peer word) (one_reading-rtp_once octets h.0 k.0 h.1 k.1) ∙ sym k.2
 one_act (packet_sent moment timestamp octets) act act' h k = h ∙ sym k
 one_act (time_passed moment first_word second_word) act act' h k = h ∙ sym k
 one_act (leave_asked moment word) act act' h k = h ∙ sym k
@@ -38,18 +41,25 @@ one_act (leave_asked moment word) act act' h k = h ∙ sym k
 -- ---- Each line has an answer or a fault, and only one
 
 line_exists : (history : History) (line : List ℕ) (r : Result EventValue LineFault) → event_in line ≡ r
-    → ((fault : LineFault) × IsNoEvent line fault) ⊎ ((text : List ℕ) × (next : History) × AnswersEvent history line text next)
+    → ((fault : LineFault) × IsNoEvent line fault) ⊎
+    ((text : List ℕ) × (next : History) × AnswersEvent history line text next)
 line_exists history line (Ok event) is =
     let found = act_exists event in
-    inr (answer_text (answer_of history found.0), followed_by history found.0, (event, found.0, is, found.1, refl, refl))
+    inr (
+      answer_text (answer_of history found.0),
+      followed_by history found.0,
+      (event, found.0, is, found.1, refl, refl),
+    )
 line_exists history line (Err fault) is = inl (fault, is)
 
 total : IsTotal AnswersEvent IsNoEvent
 total history line = line_exists history line (event_in line) refl
 
-one_answer : (history next next' : History) (line text text' : List ℕ) → AnswersEvent history line text next → AnswersEvent history line text' next'
+one_answer : (history next next' : History) (line text text' : List ℕ) → AnswersEvent history line text next →
+    AnswersEvent history line text' next'
     → (text ≡ text') × (next ≡ next')
-one_answer history next next' line text text' (event, act, is, is_act, shown, follows) (event', act', is', is_act', shown', follows') =
+one_answer history next next' line text text' (event, act, is, is_act, shown, follows)
+    (event', act', is', is_act', shown', follows') =
     let same : event ≡ event' = cc (is, is') in
     let acts : act ≡ act' = one_act event act act' is_act (subst (λ e. IsActOfEvent e act') (sym same) is_act') in (
       shown ∙ ap (λ a. answer_text (answer_of history a)) acts ∙ sym shown',
@@ -59,7 +69,8 @@ one_answer history next next' line text text' (event, act, is, is_act, shown, fo
 one_fault : (line : List ℕ) (fault fault' : LineFault) → IsNoEvent line fault → IsNoEvent line fault' → fault ≡ fault'
 one_fault line fault fault' h k = cc (h, k)
 
-never_both : (line : List ℕ) (fault : LineFault) (event : EventValue) → IsNoEvent line fault → event_in line ≡ Ok event → ⊥
+never_both : (line : List ℕ) (fault : LineFault) (event : EventValue) → IsNoEvent line fault →
+    event_in line ≡ Ok event → ⊥
 never_both line fault event h k = cc (h, k)
 
 unique : IsUnique AnswersEvent IsNoEvent
@@ -70,86 +81,119 @@ unique = record {
 }
 
 -- What is appended to nothing is all.
-pub answer_shown : (before text : List ℕ) (shown answer : AnswerValue) → text ≡ before ++ answer_text shown → before ≡ [] → shown ≡ answer → text ≡ answer_text answer
-answer_shown before text shown answer parts none same = parts ∙ ap (λ b. b ++ answer_text shown) none ∙ ap answer_text same
+pub answer_shown : (before text : List ℕ) (shown answer : AnswerValue) → text ≡ before ++ answer_text shown →
+    before ≡ [] → shown ≡ answer → text ≡ answer_text answer
+answer_shown before text shown answer parts none same = parts ∙ ap (λ b. b ++ answer_text shown) none
+    ∙ ap answer_text same
 
 -- ---- The text of a session
 
-pub session_text_exists : (most : ℕ) (history : History) (lines : List (List ℕ)) → (text : List ℕ) × (end : Option (ℕ × LineFault)) × IsSessionText most history lines text end
+pub session_text_exists : (most : ℕ) (history : History) (lines : List (List ℕ)) →
+    (text : List ℕ) × (end : Option (ℕ × LineFault)) × IsSessionText most history lines text end
 session_text_exists most history lines = text_exists most AnswersEvent IsNoEvent total 1 history lines
 
-pub one_session_text : (most : ℕ) (history : History) (lines : List (List ℕ)) (text text' : List ℕ) (end end' : Option (ℕ × LineFault))
-    → IsSessionText most history lines text end → IsSessionText most history lines text' end' → (text ≡ text') × (end ≡ end')
-one_session_text most history lines text text' end end' h k = one_text most AnswersEvent IsNoEvent unique 1 history h.0 k.0 lines text text' end end' h.1 k.1
+pub one_session_text : (most : ℕ) (history : History) (lines : List (List ℕ)) (text text' : List ℕ)
+    (end end' : Option (ℕ × LineFault))
+    → IsSessionText most history lines text end → IsSessionText most history lines text' end' →
+    (text ≡ text') × (end ≡ end')
+one_session_text most history lines text text' end end' h k = one_text most AnswersEvent IsNoEvent unique 1 history h.0
+    k.0 lines text text' end end' h.1 k.1
 
 session_text_continues : (most : ℕ) (history : History) → Continues (IsSessionText most history)
-session_text_continues most history lines others text texts = text_continues most AnswersEvent IsNoEvent total 1 history lines others text texts
+session_text_continues most history lines others text texts = text_continues most AnswersEvent IsNoEvent total 1 history
+    lines others text texts
 
 -- ---- What holds a participant writes the text of its history
 
 module _ {S : Type 0} (most : ℕ) (participant_of : S → ParticipantValue) where
-  shown_by_history : (state next : S) (history : History) (line text : List ℕ) → StandsAt (participant_of state) history → AnswersStanding participant_of state line text next
+  shown_by_history : (state next : S) (history : History) (line text : List ℕ) →
+      StandsAt (participant_of state) history → AnswersStanding participant_of state line text next
       → (history' : History) × StandsAt (participant_of next) history' × AnswersEvent history line text history'
   shown_by_history state next history line text stands (event, act, is, is_act, at) =
-      let answered = at history stands in (followed_by history act, answered.1, (event, act, is, is_act, answered.0, refl))
+      let answered = at history stands in
+      (followed_by history act, answered.1, (event, act, is, is_act, answered.0, refl))
 
-  IsSessionText-from : (state : S) (history : History) → StandsAt (participant_of state) history → (lines : List (List ℕ)) (text : List ℕ) (end : Option (ℕ × LineFault))
-      → IsTextFrom most (AnswersStanding participant_of) IsNoEvent 1 state lines text end → IsSessionText most history lines text end
+  IsSessionText-from : (state : S) (history : History) → StandsAt (participant_of state) history →
+      (lines : List (List ℕ)) (text : List ℕ) (end : Option (ℕ × LineFault))
+      → IsTextFrom most (AnswersStanding participant_of) IsNoEvent 1 state lines text end →
+      IsSessionText most history lines text end
   IsSessionText-from state history stands lines text end (last, texts) =
-      let shown = IsTextBy-shown most (AnswersStanding participant_of) AnswersEvent IsNoEvent (λ h s. StandsAt (participant_of s) h)
-      (λ s next h line answer at is_answer. shown_by_history s next h line answer at is_answer) 1 state last history lines text end stands texts in
+      let shown = IsTextBy-shown most (AnswersStanding participant_of) AnswersEvent IsNoEvent
+      (λ h s. StandsAt (participant_of s) h)
+      (λ s next h line answer at is_answer. shown_by_history s next h line answer at is_answer) 1 state last history
+      lines text end stands texts in
       (shown.0, shown.2)
 
-  pub RunLeaves-standing : {A : Type 0} (state : S) (history : History) → StandsAt (participant_of state) history → (r : Result A TextFault) (left : Option (List ℕ)) (input text : List ℕ)
-      → RunLeaves (IsTextFrom most (AnswersStanding participant_of) IsNoEvent 1 state) r left input text → RunLeaves (IsSessionText most history) r left input text
+  pub RunLeaves-standing : {A : Type 0} (state : S) (history : History) → StandsAt (participant_of state) history →
+      (r : Result A TextFault) (left : Option (List ℕ)) (input text : List ℕ)
+      → RunLeaves (IsTextFrom most (AnswersStanding participant_of) IsNoEvent 1 state) r left input text →
+      RunLeaves (IsSessionText most history) r left input text
   RunLeaves-standing state history stands r left input text leaves =
       RunLeaves-weaker (IsTextFrom most (AnswersStanding participant_of) IsNoEvent 1 state) (IsSessionText most history)
       (IsSessionText-from state history stands) r left input text leaves
 
 -- ---- After the line for the start
 
-pub SessionLeaves-opened : {A : Type 0} (most : ℕ) (history : History) (r : Result A TextFault) (left : Option (List ℕ)) (input answers : List ℕ)
-    → RunLeaves (IsSessionText most history) r left input answers → SessionLeaves most history r left input (opening history ++ answers)
+pub SessionLeaves-opened : {A : Type 0} (most : ℕ) (history : History) (r : Result A TextFault) (left : Option (List ℕ))
+    (input answers : List ℕ)
+    → RunLeaves (IsSessionText most history) r left input answers →
+    SessionLeaves most history r left input (opening history ++ answers)
 SessionLeaves-opened most history (Ok x) left input answers leaves = (answers, refl, leaves)
 SessionLeaves-opened most history (Err (Text line fault)) left input answers leaves = (answers, refl, leaves)
 SessionLeaves-opened most history (Err Memory) left input answers leaves = inr (answers, refl, leaves)
 SessionLeaves-opened most history (Err Read) left input answers leaves = (answers, refl, leaves)
 SessionLeaves-opened {A} most history (Err Write) left input answers leaves =
-    let found = IsPrefixBy-leaves (IsSessionText most history) (session_text_continues most history) {A = A} (Err Write) left input answers leaves in
+    let found = IsPrefixBy-leaves (IsSessionText most history) (session_text_continues most history) {A = A} (Err Write)
+    left input answers leaves in
     (found.0, answers ++ found.1, found.1, found.2, sym (append_assoc (opening history) answers found.1))
 
 -- A prefix of the line for the start is one of the whole text.
-pub IsPrefixOfSession-start : (most : ℕ) (history : History) (input text more : List ℕ) → opening history ≡ text ++ more → IsPrefixOfSession most history input text
+pub IsPrefixOfSession-start : (most : ℕ) (history : History) (input text more : List ℕ) →
+    opening history ≡ text ++ more → IsPrefixOfSession most history input text
 IsPrefixOfSession-start most history input text more parts =
     let found = session_text_exists most history (lines_of input) in
     (found.1, found.0, more ++ found.0, found.2, ap (λ t. t ++ found.0) parts ∙ append_assoc text more found.0)
 
 -- ---- The clauses
 
-pub SessionBefore-block : (most : ℕ) (history : History) (left : Option (List ℕ)) (input text : List ℕ) → SessionUpToBlock most history left input text → SessionBefore most history input text
+pub SessionBefore-block : (most : ℕ) (history : History) (left : Option (List ℕ)) (input text : List ℕ) →
+    SessionUpToBlock most history left input text → SessionBefore most history input text
 SessionBefore-block most history left input text (inl none) = inl none
 SessionBefore-block most history left input text (inr (answers, parts, block)) =
     inr (answers, parts, AnswersLinesBeforeBy-block (IsSessionText most history) left input answers block)
 
 opened_prefix : (most : ℕ) (history : History) (input text answers : List ℕ) → text ≡ opening history ++ answers
-    → ((end : Option (ℕ × LineFault)) × (more : List ℕ) × IsSessionText most history (lines_of input) (answers ++ more) end) → IsPrefixOfSession most history input text
-opened_prefix most history input text answers parts (end, more, texts) =
-    (end, answers ++ more, more, texts, sym (append_assoc (opening history) answers more) ∙ ap (λ t. t ++ more) (sym parts))
+    → ((end : Option (ℕ × LineFault)) × (more : List ℕ) × IsSessionText most history (lines_of input) (answers ++ more)
+    end) → IsPrefixOfSession most history input text
+opened_prefix most history input text answers parts (end, more, texts) = (
+  end,
+  answers ++ more,
+  more,
+  texts,
+  sym (append_assoc (opening history) answers more)
+      ∙ ap (λ t. t ++ more) (sym parts),
+)
 
-pub IsPrefixOfSession-leaves : {A : Type 0} (most : ℕ) (history : History) (r : Result A TextFault) (left : Option (List ℕ)) (input text : List ℕ)
+pub IsPrefixOfSession-leaves : {A : Type 0} (most : ℕ) (history : History) (r : Result A TextFault)
+    (left : Option (List ℕ)) (input text : List ℕ)
     → SessionLeaves most history r left input text → IsPrefixOfSession most history input text
 IsPrefixOfSession-leaves {A} most history (Ok x) left input text (answers, parts, texts) =
-    opened_prefix most history input text answers parts (IsPrefixBy-leaves (IsSessionText most history) (session_text_continues most history) (Ok x) left input answers texts)
+    opened_prefix most history input text answers parts
+    (IsPrefixBy-leaves (IsSessionText most history) (session_text_continues most history) (Ok x) left input answers
+    texts)
 IsPrefixOfSession-leaves {A} most history (Err (Text line fault)) left input text (answers, parts, texts) =
     opened_prefix most history input text answers parts
-    (IsPrefixBy-leaves (IsSessionText most history) (session_text_continues most history) {A = A} (Err (Text line fault)) left input answers texts)
+    (IsPrefixBy-leaves (IsSessionText most history) (session_text_continues most history) {A = A}
+    (Err (Text line fault)) left input answers texts)
 IsPrefixOfSession-leaves {A} most history (Err Memory) left input text (inl none) =
     let found = session_text_exists most history (lines_of input) in
     (found.1, found.0, opening history ++ found.0, found.2, ap (λ t. t ++ (opening history ++ found.0)) (sym none))
 IsPrefixOfSession-leaves {A} most history (Err Memory) left input text (inr (answers, parts, texts)) =
     opened_prefix most history input text answers parts
-    (IsPrefixBy-leaves (IsSessionText most history) (session_text_continues most history) {A = A} (Err Memory) left input answers texts)
+    (IsPrefixBy-leaves (IsSessionText most history) (session_text_continues most history) {A = A} (Err Memory) left
+    input answers texts)
 IsPrefixOfSession-leaves {A} most history (Err Read) left input text (answers, parts, texts) =
     opened_prefix most history input text answers parts
-    (IsPrefixBy-leaves (IsSessionText most history) (session_text_continues most history) {A = A} (Err Read) left input answers texts)
+    (IsPrefixBy-leaves (IsSessionText most history) (session_text_continues most history) {A = A} (Err Read) left input
+    answers texts)
 IsPrefixOfSession-leaves most history (Err Write) left input text leaves = leaves

@@ -16,52 +16,67 @@ use Rattle.rtcp_text.specs.Replay.{AnswersStanding, IsNoEvent, SessionLeaves, op
 use Rattle.rtcp_text.proofs.ReplayLemmas.{RunLeaves-standing, SessionLeaves-opened, IsPrefixOfSession-start}
 
 -- What is appended to nothing for the next moment is the line for the start.
-pub opening_shown : (history : History) (next : Option ℕ) (before start : List ℕ) → start ≡ before ++ start_text next → before ≡ []
+pub opening_shown : (history : History) (next : Option ℕ) (before start : List ℕ) → start ≡ before ++ start_text next →
+    before ≡ []
     → next ≡ next_in_life (life_at history) → start ≡ opening history
-opening_shown history next before start parts none same = parts ∙ ap (λ b. b ++ start_text next) none ∙ ap start_text same
+opening_shown history next before start parts none same = parts ∙ ap (λ b. b ++ start_text next) none
+    ∙ ap start_text same
 
 -- What a writer held is known where it grew by a text.
-appended_to : (held holds : Option (List ℕ)) (before text : List ℕ) → Appends held holds text → held ≡ Some before → holds ≡ Some (before ++ text)
+appended_to : (held holds : Option (List ℕ)) (before text : List ℕ) → Appends held holds text → held ≡ Some before →
+    holds ≡ Some (before ++ text)
 appended_to None holds before text appends known = absurd (cc known)
 appended_to (Some x) None before text appends known = absurd appends
 appended_to (Some x) (Some y) before text appends known = cc (appends, known)
 
 -- Nothing is written where no call of the writer is made.
-pub Writes-nothing : (remaining held : Option (List ℕ)) (P : List ℕ → List ℕ → Type 0) → ((input : List ℕ) → P input []) → Writes remaining held held P
+pub Writes-nothing : (remaining held : Option (List ℕ)) (P : List ℕ → List ℕ → Type 0) →
+    ((input : List ℕ) → P input []) → Writes remaining held held P
 Writes-nothing remaining held P holds = λ input before known written.
     ([], appended_to held held before [] (Appends-nil held) written, holds input)
 
 -- A prefix of the line for the start is written.
-pub Writes-start_cut : (A : Type 0) (most : ℕ) (history : History) (fault : TextFault) (remaining held holds left : Option (List ℕ)) (start prefix more : List ℕ)
-    → start ≡ opening history → start ≡ prefix ++ more → Appends held holds prefix → fault ≡ Write → Writes remaining held holds (SessionLeaves most history {A = A} (Err fault) left)
-Writes-start_cut A most history fault remaining held holds left start prefix more opens parts appends is_write = λ input before known written. (
-  prefix,
-  appended_to held holds before prefix appends written,
-  subst (λ f. SessionLeaves most history {A = A} (Err f) left input prefix) (sym is_write) (IsPrefixOfSession-start most history input prefix more (sym opens ∙ parts)),
-)
+pub Writes-start_cut : (A : Type 0) (most : ℕ) (history : History) (fault : TextFault)
+    (remaining held holds left : Option (List ℕ)) (start prefix more : List ℕ)
+    → start ≡ opening history → start ≡ prefix ++ more → Appends held holds prefix → fault ≡ Write →
+    Writes remaining held holds (SessionLeaves most history {A = A} (Err fault) left)
+Writes-start_cut A most history fault remaining held holds left start prefix more opens parts appends is_write =
+    λ input before known written. (
+      prefix,
+      appended_to held holds before prefix appends written,
+      subst (λ f. SessionLeaves most history {A = A} (Err f) left input prefix) (sym is_write)
+          (IsPrefixOfSession-start most history input prefix more (sym opens ∙ parts)),
+    )
 
 -- The line for the start is written, and then what the answers leave.
 module _ {S : Type 0} (most : ℕ) (participant_of : S → ParticipantValue) where
   pub Writes-session : {A : Type 0} (state : S) (history : History) → StandsAt (participant_of state) history
       → (r : Result A TextFault) (remaining held holds last left : Option (List ℕ)) (start prefix more : List ℕ)
       → start ≡ opening history → start ≡ prefix ++ more → more ≡ [] → Appends held holds prefix
-      → Writes remaining holds last (RunLeaves (IsTextFrom most (AnswersStanding participant_of) IsNoEvent 1 state) r left)
+      → Writes remaining holds last (RunLeaves (IsTextFrom most (AnswersStanding participant_of) IsNoEvent 1 state) r
+      left)
       → Writes remaining held last (SessionLeaves most history r left)
-  Writes-session state history stands r remaining held holds last left start prefix more opens parts none appends writes = λ input before known written.
-      let is_prefix : prefix ≡ opening history = sym (append-nil prefix) ∙ ap (λ m. prefix ++ m) (sym none) ∙ sym parts ∙ opens in
+  Writes-session state history stands r remaining held holds last left start prefix more opens parts none appends
+      writes = λ input before known written.
+      let is_prefix : prefix ≡ opening history = sym (append-nil prefix) ∙ ap (λ m. prefix ++ m) (sym none) ∙ sym parts
+      ∙ opens in
       let found = writes input (before ++ prefix) known (appended_to held holds before prefix appends written) in
       let same : (before ++ prefix) ++ found.0 ≡ before ++ (opening history ++ found.0) =
       append_assoc before prefix found.0 ∙ ap (λ p. before ++ (p ++ found.0)) is_prefix in (
         opening history ++ found.0,
         found.1 ∙ ap Some same,
-        SessionLeaves-opened most history r left input found.0 (RunLeaves-standing most participant_of state history stands r left input found.0 found.2),
+        SessionLeaves-opened most history r left input found.0
+            (RunLeaves-standing most participant_of state history stands r left input found.0 found.2),
       )
 
 -- ---- The fault of a replay
 
 -- What a run's fault leaves is what a replay's fault says.
-pub Writes-run : (A B : Type 0) (most : ℕ) (history : History) (remaining held holds left : Option (List ℕ)) (fault wanted : TextFault)
-    → ◌≡◌ {A = Result B ReplayFault} (Err (Run fault)) (Err (Run wanted)) → Writes remaining held holds (SessionLeaves most history {A = A} (Err fault) left)
+pub Writes-run : (A B : Type 0) (most : ℕ) (history : History) (remaining held holds left : Option (List ℕ))
+    (fault wanted : TextFault)
+    → ◌≡◌ {A = Result B ReplayFault} (Err (Run fault)) (Err (Run wanted)) →
+    Writes remaining held holds (SessionLeaves most history {A = A} (Err fault) left)
     → Writes remaining held holds (SessionLeaves most history {A = A} (Err wanted) left)
 Writes-run A B most history remaining held holds left fault wanted is writes =
-    let same : fault ≡ wanted = cc is in subst (λ f. Writes remaining held holds (SessionLeaves most history {A = A} (Err f) left)) same writes
+    let same : fault ≡ wanted = cc is in
+    subst (λ f. Writes remaining held holds (SessionLeaves most history {A = A} (Err f) left)) same writes

@@ -17,7 +17,8 @@ some_pass : (p : ℕ → Bool) (xs : List ℕ) → 0 < mask_l (map p xs) → pre
 some_pass p [] set = absurd (omega arith)
 some_pass p (x ∷ xs) set = go (λ later. some_pass p xs later) (p x) refl
   where
-    go : (0 < mask_l (map p xs) → prefix_len (λ y. not (p y)) xs < length xs) → (b : Bool) → p x ≡ b → prefix_len (λ y. not (p y)) (x ∷ xs) < length (x ∷ xs)
+    go : (0 < mask_l (map p xs) → prefix_len (λ y. not (p y)) xs < length xs) → (b : Bool) → p x ≡ b →
+        prefix_len (λ y. not (p y)) (x ∷ xs) < length (x ∷ xs)
     go others true is = rw is (omega arith)
     go others false is =
         let here = rw is at set in
@@ -29,7 +30,8 @@ pub record IsFirstSpace (octets : List ℕ) (end : ℕ) : Type 0 where
   pub space : eqb (get_or octets end 0) 32 ≡ true
   pub before : (k : ℕ) → k < end → eqb (get_or octets k 0) 32 ≡ false
 
-pub first_space : (octets : List ℕ) → 16 ≤ length octets → spaces octets ≢ 0 → IsFirstSpace octets (count_trailing_zeros 64 (spaces octets))
+pub first_space : (octets : List ℕ) → 16 ≤ length octets → spaces octets ≢ 0 →
+    IsFirstSpace octets (count_trailing_zeros 64 (spaces octets))
 first_space octets room set =
     let first = chunk 0 16 octets in
     let long : length first ≡ 16 = length-chunk 0 16 octets (omega arith) in
@@ -40,7 +42,8 @@ first_space octets room set =
     let few = some_pass is_space first some in
     let found : IsFirstSpace octets end = record {
       within = omega (arith, few);
-      space = subst (λ (i : ℕ). eqb (get_or octets i 0) 32 ≡ true) (omega arith) (run_in_chunk_stops is_space octets 0 16 end 0 (omega arith) refl (omega (arith, few)));
+      space = subst (λ (i : ℕ). eqb (get_or octets i 0) 32 ≡ true) (omega arith)
+          (run_in_chunk_stops is_space octets 0 16 end 0 (omega arith) refl (omega (arith, few)));
       before = λ k lt. run_in_chunk_fails is_space octets 0 16 end 0 (omega arith) refl k (omega arith) (omega arith);
     } in
     subst (IsFirstSpace octets) (sym (ap (count_trailing_zeros 64) mask ∙ counted)) found

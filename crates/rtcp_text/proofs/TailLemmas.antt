@@ -4,7 +4,8 @@ use Rattle.std.proofs.lemmas.List.{append_assoc, length-take, drop-drop, drop_at
 use borrow.Rule.Slice.PartMut.{put_mid}
 use Rattle.std.specs.Prelude.{OnOk, is_ok}
 
-pub appended : {T E : Type 0} (result : Result T E) (old new text whole : List ℕ) → new ≡ cond (is_ok result) (old ++ text) old → text ≡ whole
+pub appended : {T E : Type 0} (result : Result T E) (old new text whole : List ℕ) →
+    new ≡ cond (is_ok result) (old ++ text) old → text ≡ whole
     → OnOk result (new ≡ old ++ whole)
 appended (Ok x) old new text whole items same = items ∙ ap (λ (t : List ℕ). old ++ t) same
 appended (Err e) old new text whole items same = tt
@@ -12,7 +13,8 @@ appended (Err e) old new text whole items same = tt
 -- seven parts with an octet between each two of them, which were put in front one after the other
 pub seven_parts : (octet : ℕ) (a b c d e f g : List ℕ)
     → a ++ octet ∷ (b ++ octet ∷ (c ++ octet ∷ (d ++ octet ∷ (e ++ octet ∷ (f ++ octet ∷ g)))))
-    ≡ a ++ (octet ∷ []) ++ b ++ (octet ∷ []) ++ c ++ (octet ∷ []) ++ d ++ (octet ∷ []) ++ e ++ (octet ∷ []) ++ f ++ (octet ∷ []) ++ g
+    ≡ a ++ (octet ∷ []) ++ b ++ (octet ∷ []) ++ c ++ (octet ∷ []) ++ d ++ (octet ∷ []) ++ e ++ (octet ∷ []) ++ f
+    ++ (octet ∷ []) ++ g
 seven_parts octet a b c d e f g = simp append_assoc
 
 -- What stands from a place on where a text was written up to another.

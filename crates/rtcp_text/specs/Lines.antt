@@ -38,7 +38,8 @@ Answering S = S → (line : List ℕ) → (text : List ℕ) → S → Type 0
 abbrev pub Refusing : Type 1
 Refusing = (line : List ℕ) → LineFault → Type 0
 
--- What is wrong with line n of the input, counted from 1, where so many lines at most are answered. The faults are tested
+-- What is wrong with line n of the input, counted from 1, where so many lines at most are answered. The faults are
+-- tested
 -- in this order.
 abbrev pub IsLineFault : (most : ℕ) → Refusing → ℕ → List ℕ → LineFault → Type 0
 IsLineFault most refuses n line fault =

@@ -20,4 +20,5 @@ held_by contents recorder = contents (inner_of recorder.writer)
 
 -- What the writer holds grows by a prefix of a line.
 abbrev pub GrowsByPrefix : Option (List ℕ) → Option (List ℕ) → List ℕ → Type 0
-GrowsByPrefix held holds line = (prefix : List ℕ) × (more : List ℕ) × (line ≡ prefix ++ more) × Appends held holds prefix
+GrowsByPrefix held holds line = (prefix : List ℕ) × (more : List ℕ) × (line ≡ prefix ++ more)
+    × Appends held holds prefix

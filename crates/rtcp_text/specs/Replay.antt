@@ -77,7 +77,8 @@ SessionUpToBlock most history left input text =
 abbrev pub SessionLeaves : (most : ℕ) → History → {A : Type 0} → Result A TextFault
     → Option (List ℕ) → List ℕ → List ℕ → Type 0
 SessionLeaves most history (Ok x) left input text = IsSessionOf most history None input text
-SessionLeaves most history (Err (Text line fault)) left input text = IsSessionOf most history (Some (line, fault)) input text
+SessionLeaves most history (Err (Text line fault)) left input text = IsSessionOf most history (Some (line, fault)) input
+    text
 SessionLeaves most history (Err Memory) left input text = SessionUpToBlock most history left input text
 SessionLeaves most history (Err Read) left input text = SessionOfWhatCame most history left input text
 SessionLeaves most history (Err Write) left input text = IsPrefixOfSession most history input text

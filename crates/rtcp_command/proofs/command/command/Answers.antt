@@ -7,7 +7,8 @@ use Rattle.rtcp_command.proofs.command.command.Goals as goal
 pub returns-in-Ok-clause-whole : goal.returns-in-Ok-clause-whole
 returns-in-Ok-clause-whole g c = λ zero. (
   inner_of c.run.new.writer,
-  Writes-inner g.R.Read.remaining g.W.Write.contents c.new-reader.result c.new-writer.result c.run.new.writer c.args.reader c.args.writer _
+  Writes-inner g.R.Read.remaining g.W.Write.contents c.new-reader.result c.new-writer.result c.run.new.writer
+      c.args.reader c.args.writer _
       c.new-reader.ensures.inner c.new-writer.ensures.inner c.in-Ok.ensures.whole,
 )
 
@@ -19,7 +20,9 @@ returns-clause-refused g c = λ two.
         inner_of c.run.new.writer,
         text.0,
         text.1,
-        Writes-inner g.R.Read.remaining g.W.Write.contents c.new-reader.result c.new-writer.result c.run.new.writer c.args.reader c.args.writer _
-            c.new-reader.ensures.inner c.new-writer.ensures.inner (c.in-Err.ensures.refused text.0 text.1 (ap Err text.2)),
+        Writes-inner g.R.Read.remaining g.W.Write.contents c.new-reader.result c.new-writer.result c.run.new.writer
+            c.args.reader c.args.writer _
+            c.new-reader.ensures.inner c.new-writer.ensures.inner
+            (c.in-Err.ensures.refused text.0 text.1 (ap Err text.2)),
       )
     ]

@@ -7,27 +7,36 @@ use Rattle.rtcp_command.proofs.command.run.Goals as goal
 
 pub returns-in_err-outcome-in-Check-clause-refused : goal.returns-in_err-outcome-in-Check-clause-refused
 returns-in_err-outcome-in-Check-clause-refused g c = λ line fault is.
-    let found = check_refused c.in_err-outcome-in-Check.field-0.0 line fault (sym (rw is at c.from_residual-in_err-outcome-in-Check.ensures.1)) in
-    subst (λ o. Wrote g.R.Read.remaining g.W.Write.contents c.args.reader.now c.args.writer.now c.flush.new.writer (IsTextOfOrder o (Some (line, fault)))) (sym c.in-Check.is)
+    let found = check_refused c.in_err-outcome-in-Check.field-0.0 line fault
+    (sym (rw is at c.from_residual-in_err-outcome-in-Check.ensures.1)) in
+    subst (λ o. Wrote g.R.Read.remaining g.W.Write.contents c.args.reader.now c.args.writer.now c.flush.new.writer
+    (IsTextOfOrder o (Some (line, fault)))) (sym c.in-Check.is)
     (Writes-kept _ _ _ _ _ c.flush.ensures.kept (c.in_err-outcome-in-Check.ensures.refused line fault (ap Err found)))
 
 pub returns-in_err-outcome-in-Replay-clause-refused : goal.returns-in_err-outcome-in-Replay-clause-refused
 returns-in_err-outcome-in-Replay-clause-refused g c = λ line fault is.
-    let found = replay_refused c.in_err-outcome-in-Replay.field-0.0 line fault (sym (rw is at c.from_residual-in_err-outcome-in-Replay.ensures.1)) in
-    subst (λ o. Wrote g.R.Read.remaining g.W.Write.contents c.args.reader.now c.args.writer.now c.flush-in-Replay.new.writer (IsTextOfOrder o (Some (line, fault))))
-    (sym c.in-Replay.is) (Writes-kept _ _ _ _ _ c.flush-in-Replay.ensures.kept (c.in_err-outcome-in-Replay.ensures.refused line fault (ap Err found)))
+    let found = replay_refused c.in_err-outcome-in-Replay.field-0.0 line fault
+    (sym (rw is at c.from_residual-in_err-outcome-in-Replay.ensures.1)) in
+    subst (λ o. Wrote g.R.Read.remaining g.W.Write.contents c.args.reader.now c.args.writer.now
+    c.flush-in-Replay.new.writer (IsTextOfOrder o (Some (line, fault))))
+    (sym c.in-Replay.is) (Writes-kept _ _ _ _ _ c.flush-in-Replay.ensures.kept
+    (c.in_err-outcome-in-Replay.ensures.refused line fault (ap Err found)))
 
 pub returns-in_err-outcome-in-Replay-clause-config : goal.returns-in_err-outcome-in-Replay-clause-config
 returns-in_err-outcome-in-Replay-clause-config g c = λ error is.
-    let found = replay_config c.in_err-outcome-in-Replay.field-0.0 error (sym (rw is at c.from_residual-in_err-outcome-in-Replay.ensures.1)) in
-    subst (λ o. RefusesConfig o error) (sym c.in-Replay.is) ((c.in_err-outcome-in-Replay.ensures.config error).0 (ap Err found))
+    let found = replay_config c.in_err-outcome-in-Replay.field-0.0 error
+    (sym (rw is at c.from_residual-in_err-outcome-in-Replay.ensures.1)) in
+    subst (λ o. RefusesConfig o error) (sym c.in-Replay.is)
+    ((c.in_err-outcome-in-Replay.ensures.config error).0 (ap Err found))
 
 pub returns-in_ok-outcome-in-Check-clause-whole : goal.returns-in_ok-outcome-in-Check-clause-whole
 returns-in_ok-outcome-in-Check-clause-whole g c =
-    subst (λ o. Wrote g.R.Read.remaining g.W.Write.contents c.args.reader.now c.args.writer.now c.flush.new.writer (IsTextOfOrder o None)) (sym c.in-Check.is)
+    subst (λ o. Wrote g.R.Read.remaining g.W.Write.contents c.args.reader.now c.args.writer.now c.flush.new.writer
+    (IsTextOfOrder o None)) (sym c.in-Check.is)
     (Writes-kept _ _ _ _ _ c.flush.ensures.kept c.in_ok-outcome-in-Check.ensures.whole)
 
 pub returns-in_ok-outcome-in-Replay-clause-whole : goal.returns-in_ok-outcome-in-Replay-clause-whole
 returns-in_ok-outcome-in-Replay-clause-whole g c =
-    subst (λ o. Wrote g.R.Read.remaining g.W.Write.contents c.args.reader.now c.args.writer.now c.flush-in-Replay.new.writer (IsTextOfOrder o None)) (sym c.in-Replay.is)
+    subst (λ o. Wrote g.R.Read.remaining g.W.Write.contents c.args.reader.now c.args.writer.now
+    c.flush-in-Replay.new.writer (IsTextOfOrder o None)) (sym c.in-Replay.is)
     (Writes-kept _ _ _ _ _ c.flush-in-Replay.ensures.kept c.in_ok-outcome-in-Replay.ensures.whole)

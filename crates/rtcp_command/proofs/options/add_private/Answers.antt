@@ -9,6 +9,7 @@ returns-clause-added c =
     let octets = c.in_ok-text.text.items in
     let read = sym c.read_hex_text.ensures ∙ ap (option_map (λ text. text.items)) c.in_ok-text.ensures.ok_part in (
       record { kind = 8; text = octets } ∷ [],
-      ap (λ given. item_in 8 (codes "priv") hex_text_in (text_given given)) c.in-Some.is ∙ item_in-given 8 (codes "priv") c.in-Some.given.now octets hex_text_in read,
+      ap (λ given. item_in 8 (codes "priv") hex_text_in (text_given given)) c.in-Some.is
+          ∙ item_in-given 8 (codes "priv") c.in-Some.given.now octets hex_text_in read,
       rw (c.push.ensures.items, map-append),
     )

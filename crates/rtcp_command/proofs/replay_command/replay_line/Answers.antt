@@ -12,7 +12,8 @@ returns c =
     ∙ ap (λ xs. xs ++ codes "rtcp replay") c.new-line.ensures.items in
     let setup = c.in_ok-push_setup.ensures ∙ ap (λ xs. xs ++ setup_text s) first in
     let word = c.in_ok-push_hex.ensures ∙ ap (λ xs. xs ++ codes " --word " ++ hex_word c.args.word) setup in
-    let file = c.in_ok-push_text.ensures ∙ ap (λ xs. xs ++ codes " --lines 4294967295 < " ++ quoted c.as_bytes.result.now) word in
+    let file = c.in_ok-push_text.ensures
+    ∙ ap (λ xs. xs ++ codes " --lines 4294967295 < " ++ quoted c.as_bytes.result.now) word in
     c.in_ok-push.ensures.items
     ∙ ap (λ xs. xs ++ 10 ∷ [])
     (file ∙ ap (λ text. codes "rtcp replay" ++ setup_text s ++ codes " --word " ++ hex_word c.args.word ++ codes

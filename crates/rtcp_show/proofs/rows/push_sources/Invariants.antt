@@ -10,5 +10,6 @@ invariant-loop-state g l = record {
   can : (goal.iterator-loop-state g).can_next l.state-iterator;
   finite : (goal.iterator-loop-state g).is_finite l.state-iterator;
   written : l.out.items ++ flat_map (λ state. row_text l.rate state (noted_in l.notes state.ssrc)) l.state-iterator
-      ≡ l.initial.out.items ++ flat_map (λ state. row_text l.rate state (noted_in l.notes state.ssrc)) l.initial.state-iterator;
+      ≡ l.initial.out.items ++ flat_map (λ state. row_text l.rate state (noted_in l.notes state.ssrc))
+      l.initial.state-iterator;
 }

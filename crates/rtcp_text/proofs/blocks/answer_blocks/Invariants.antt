@@ -15,7 +15,8 @@ invariant-turns g l = record {
   written : (taken : List ℕ) × (text : List ℕ)
       × Consumes (g.R.Read.remaining (inner_of l.initial.reader)) (g.R.Read.remaining (inner_of l.reader)) taken
       × Appends (g.W.Write.contents (inner_of l.initial.writer)) (g.W.Write.contents (inner_of l.writer)) text
-      × AnswersLines l.fn.lines g.A.Answerer.answers g.A.Answerer.refuses 0 l.fn.answerer taken l.cutter.answered l.cutter.answerer
+      × AnswersLines l.fn.lines g.A.Answerer.answers g.A.Answerer.refuses 0 l.fn.answerer taken l.cutter.answered
+      l.cutter.answerer
       l.cutter.pending.items text;
 }
 

@@ -10,34 +10,43 @@ use Rattle.rtcp_text.proofs.check.check_up_to.Goals as goal
 pub returns-clause-prefix : goal.returns-clause-prefix
 returns-clause-prefix g c =
     let left = g.R.Read.remaining (inner_of c.answer_blocks.new.reader) in
-    Writes-weaker _ _ _ (RunLeaves (IsCheckText c.args.lines 1) c.answer_blocks.result left) (IsPrefixOfText c.args.lines)
+    Writes-weaker _ _ _ (RunLeaves (IsCheckText c.args.lines 1) c.answer_blocks.result left)
+    (IsPrefixOfText c.args.lines)
     (IsPrefixBy-leaves (IsCheckText c.args.lines 1) (check_text_continues c.args.lines) c.answer_blocks.result left)
     (check_leaves c.args.lines c.new.result c.answer_blocks.result _ _ _ left c.answer_blocks.ensures.leaves)
 
 pub returns-clause-whole : goal.returns-clause-whole
 returns-clause-whole g c =
     let left = g.R.Read.remaining (inner_of c.answer_blocks.new.reader) in
-    Writes-whole (IsCheckText c.args.lines 1) _ _ _ left c.answer_blocks.result (check_leaves c.args.lines c.new.result c.answer_blocks.result _ _ _ left c.answer_blocks.ensures.leaves)
+    Writes-whole (IsCheckText c.args.lines 1) _ _ _ left c.answer_blocks.result
+    (check_leaves c.args.lines c.new.result c.answer_blocks.result _ _ _ left c.answer_blocks.ensures.leaves)
 
 pub returns-clause-refused : goal.returns-clause-refused
 returns-clause-refused g c = λ line fault is.
     let left = g.R.Read.remaining (inner_of c.answer_blocks.new.reader) in
-    Writes-refused (IsCheckText c.args.lines 1) _ _ _ left c.answer_blocks.result (check_leaves c.args.lines c.new.result c.answer_blocks.result _ _ _ left c.answer_blocks.ensures.leaves)
+    Writes-refused (IsCheckText c.args.lines 1) _ _ _ left c.answer_blocks.result
+    (check_leaves c.args.lines c.new.result c.answer_blocks.result _ _ _ left c.answer_blocks.ensures.leaves)
     (Text line fault) is
 
 pub returns-clause-read : goal.returns-clause-read
 returns-clause-read g c = λ is.
     let left = g.R.Read.remaining (inner_of c.answer_blocks.new.reader) in
-    Writes-refused (IsCheckText c.args.lines 1) _ _ _ left c.answer_blocks.result (check_leaves c.args.lines c.new.result c.answer_blocks.result _ _ _ left c.answer_blocks.ensures.leaves) Read is
+    Writes-refused (IsCheckText c.args.lines 1) _ _ _ left c.answer_blocks.result
+    (check_leaves c.args.lines c.new.result c.answer_blocks.result _ _ _ left c.answer_blocks.ensures.leaves) Read
+    is
 
 pub returns-clause-memory : goal.returns-clause-memory
 returns-clause-memory g c = λ is.
     let left = g.R.Read.remaining (inner_of c.answer_blocks.new.reader) in
-    let block = Writes-refused (IsCheckText c.args.lines 1) _ _ _ left c.answer_blocks.result (check_leaves c.args.lines c.new.result c.answer_blocks.result _ _ _ left c.answer_blocks.ensures.leaves)
+    let block = Writes-refused (IsCheckText c.args.lines 1) _ _ _ left c.answer_blocks.result
+    (check_leaves c.args.lines c.new.result c.answer_blocks.result _ _ _ left c.answer_blocks.ensures.leaves)
     Memory is in
-    Writes-weaker _ _ _ (AnswersUpToBlock c.args.lines left) (AnswersLinesBefore c.args.lines) (AnswersLinesBeforeBy-block (IsCheckText c.args.lines 1) left) block
+    Writes-weaker _ _ _ (AnswersUpToBlock c.args.lines left) (AnswersLinesBefore c.args.lines)
+    (AnswersLinesBeforeBy-block (IsCheckText c.args.lines 1) left) block
 
 pub returns-clause-memory_block : goal.returns-clause-memory_block
 returns-clause-memory_block g c = λ is.
     let left = g.R.Read.remaining (inner_of c.answer_blocks.new.reader) in
-    Writes-refused (IsCheckText c.args.lines 1) _ _ _ left c.answer_blocks.result (check_leaves c.args.lines c.new.result c.answer_blocks.result _ _ _ left c.answer_blocks.ensures.leaves) Memory is
+    Writes-refused (IsCheckText c.args.lines 1) _ _ _ left c.answer_blocks.result
+    (check_leaves c.args.lines c.new.result c.answer_blocks.result _ _ _ left c.answer_blocks.ensures.leaves) Memory
+    is

@@ -14,7 +14,8 @@ front-preserved c =
     record {
       whole = rw length-put_chunk c.front.invariant.whole;
       within = rw length-put_chunk (omega arith);
-      spelled = block_step c.args.line.now c.front.octets c.in-Some.block c.front.done (omega arith) (omega arith) eight c.in-Some.ensures c.front.invariant.spelled;
+      spelled = block_step c.args.line.now c.front.octets c.in-Some.block c.front.done (omega arith) (omega arith) eight
+          c.in-Some.ensures c.front.invariant.spelled;
     }
 
 pub octets-preserved : goal.octets-preserved
@@ -22,7 +23,8 @@ octets-preserved c =
     let i = c.octets.i in
     let line = c.args.line.now in
     let within : 2 * i + 1 < length line = omega arith in
-    let pair = pair_in_table (slice_index line (2 * i)) (slice_index line (2 * i + 1)) (2 * i) (omega (arith, c.type_inv.line (2 * i))) (omega (arith, c.type_inv.line (2 * i + 1)))
+    let pair = pair_in_table (slice_index line (2 * i)) (slice_index line (2 * i + 1)) (2 * i)
+    (omega (arith, c.type_inv.line (2 * i))) (omega (arith, c.type_inv.line (2 * i + 1)))
     c.if-high-ge16.false c.if-low-ge16.false in
     record {
       whole = rw length-set c.octets.invariant.whole;
@@ -41,7 +43,8 @@ returns-then-high-ge16 c =
     let i = c.octets.i in
     let line = c.args.line.now in
     let within : 2 * i + 1 < length line = omega arith in
-    let refused = refused_in_table (slice_index line (2 * i)) (slice_index line (2 * i + 1)) (2 * i) (omega (arith, c.type_inv.line (2 * i))) (omega (arith, c.type_inv.line (2 * i + 1)))
+    let refused = refused_in_table (slice_index line (2 * i)) (slice_index line (2 * i + 1)) (2 * i)
+    (omega (arith, c.type_inv.line (2 * i))) (omega (arith, c.type_inv.line (2 * i + 1)))
     c.then-high-ge16.either in
     let found = decode_err line c.octets.octets i refused.0 within refused.1 c.octets.invariant.spelled in
     let sized = decode_sized-pairs line (length c.octets.octets) (omega arith) (omega arith) in

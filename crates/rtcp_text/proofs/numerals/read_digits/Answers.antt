@@ -17,14 +17,17 @@ loop-octet-preserved c =
 
 pub overflow_mul-number : goal.overflow_mul-number
 overflow_mul-number c =
-    let small = below_eighteen_digits c.args.text.now c.loop-octet.octet-index c.loop-octet-test.true c.requires c.loop-octet.invariant.digits in
+    let small = below_eighteen_digits c.args.text.now c.loop-octet.octet-index c.loop-octet-test.true c.requires
+    c.loop-octet.invariant.digits in
     omega (arith, small, c.loop-octet.invariant.number)
 
 pub overflow_add-number : goal.overflow_add-number
 overflow_add-number c =
-    let small = below_eighteen_digits c.args.text.now c.loop-octet.octet-index c.loop-octet-test.true c.requires c.loop-octet.invariant.digits in
+    let small = below_eighteen_digits c.args.text.now c.loop-octet.octet-index c.loop-octet-test.true c.requires
+    c.loop-octet.invariant.digits in
     omega (arith, small, c.loop-octet.invariant.number, c.in_ok-number.ensures.1)
 
 pub returns-in_err-number : goal.returns-in_err-number
 returns-in_err-number c =
-    rw c.from_residual.ensures (not_digits c.args.text.now c.loop-octet.octet-index c.loop-octet-test.true c.in_err-number.ensures)
+    rw c.from_residual.ensures (not_digits c.args.text.now c.loop-octet.octet-index c.loop-octet-test.true
+    c.in_err-number.ensures)

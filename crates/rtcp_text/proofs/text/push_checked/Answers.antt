@@ -11,6 +11,7 @@ returns-in-Err c =
     let first = c.in-Err.ensures.refused fault refl in
     let text = c.push_fault.new.out.items in
     let before = c.args.out.now.items in
-    let answered : text ≡ before ++ fault_text fault → (answer : List ℕ) × IsAnswer c.args.datagram.now answer × (text ≡ before ++ answer) =
+    let answered : text ≡ before ++ fault_text fault → (answer : List ℕ) × IsAnswer c.args.datagram.now answer
+    × (text ≡ before ++ answer) =
     λ e. (fault_text fault, inr (fault, first, refl), e) in
     on_ok_weaker _ answered c.push_fault.ensures

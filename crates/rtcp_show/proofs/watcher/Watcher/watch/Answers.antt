@@ -19,10 +19,18 @@ returns-in-Ok-clause-written g c =
     let Lines : List ℕ → Type 0 = ShowsBoth terms.to (event_value c.args.event.now) (answer_value c.args.answer.now) in
     let Those : List ℕ → Type 0 = ShowsThose terms.rate (moment_of_event (event_value c.args.event.now)) history in
     let first : (lines : List ℕ) × Lines lines × Appends at_first between lines = c.in-Ok.ensures.written in
-    let before = subst (λ participant. StandsAt participant history) c.show_sources-listed.ensures.keeps.participant stands in
+    let before = subst (λ participant. StandsAt participant history) c.show_sources-listed.ensures.keeps.participant
+    stands in
     let step : (those : List ℕ) × Those those × Appends between in_the_end those
     → (lines : List ℕ) × (those : List ℕ) × Lines lines × Those those × Appends at_first in_the_end (lines ++ those) =
-    λ given. (first.0, given.0, first.1, given.1, Appends-trans at_first between in_the_end first.0 given.0 first.2 given.2) in
+    λ given. (
+      first.0,
+      given.0,
+      first.1,
+      given.1,
+      Appends-trans at_first between in_the_end first.0 given.0 first.2
+          given.2,
+    ) in
     on_ok_weaker c.show_sources-listed.result step
     (rw (c.note.ensures.keeps.terms, c.show_event-shown.ensures.keeps.terms, c.moment_of.ensures, c.note.ensures.writer)
     at (c.show_sources-listed.ensures.written history before))

@@ -15,8 +15,10 @@ returns-in_err-append-clause-written g c =
     let after = c.append.new.self.answerer in (
       [],
       Appends-nil _,
-      at_exit (λ r. LineLeaves cutter.most answers refuses r (cutter.answered + 1) cutter.answerer line [] after) c.from_residual.result fault c.from_residual.ensures.1
-          (LineLeaves-refused cutter.most answers refuses fault cutter.answered cutter.answerer after cutter.pending.items c.args.piece.now c.append.new.self.pending.items c.in_err-append.ensures.longer),
+      at_exit (λ r. LineLeaves cutter.most answers refuses r (cutter.answered + 1) cutter.answerer line [] after)
+          c.from_residual.result fault c.from_residual.ensures.1
+          (LineLeaves-refused cutter.most answers refuses fault cutter.answered cutter.answerer after
+          cutter.pending.items c.args.piece.now c.append.new.self.pending.items c.in_err-append.ensures.longer),
     )
 
 pub returns-in_err-admit-clause-written : goal.returns-in_err-admit-clause-written
@@ -28,6 +30,8 @@ returns-in_err-admit-clause-written g c =
     let fault = c.in_err-admit.field-0.0 in (
       [],
       Appends-nil _,
-      at_exit (λ r. LineLeaves cutter.most answers refuses r (cutter.answered + 1) cutter.answerer line [] cutter.answerer) c.from_residual-in_err-admit.result fault c.from_residual-in_err-admit.ensures.1
-          (LineLeaves-refused cutter.most answers refuses fault cutter.answered cutter.answerer cutter.answerer cutter.pending.items c.args.piece.now line c.in_err-admit.ensures.longer),
+      at_exit (λ r. LineLeaves cutter.most answers refuses r (cutter.answered + 1) cutter.answerer line []
+          cutter.answerer) c.from_residual-in_err-admit.result fault c.from_residual-in_err-admit.ensures.1
+          (LineLeaves-refused cutter.most answers refuses fault cutter.answered cutter.answerer cutter.answerer
+          cutter.pending.items c.args.piece.now line c.in_err-admit.ensures.longer),
     )

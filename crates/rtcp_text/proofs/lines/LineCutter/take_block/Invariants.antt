@@ -12,7 +12,8 @@ invariant-loop-rest g l = record {
   unfailed : failures_of l.writer ≡ 0;
   written : (prefix : List ℕ) × (text : List ℕ) × (l.block ≡ prefix ++ l.rest)
       × Appends (g.W.Write.contents (inner_of l.initial.writer)) (g.W.Write.contents (inner_of l.writer)) text
-      × AnswersLines l.initial.self.most g.A.Answerer.answers g.A.Answerer.refuses l.initial.self.answered l.initial.self.answerer
+      × AnswersLines l.initial.self.most g.A.Answerer.answers g.A.Answerer.refuses l.initial.self.answered
+      l.initial.self.answerer
       (l.initial.self.pending.items ++ prefix) l.self.answered l.self.answerer l.self.pending.items text;
 }
 

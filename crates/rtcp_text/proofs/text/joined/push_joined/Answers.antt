@@ -11,8 +11,11 @@ loop-value-preserved g c =
       first = is_none-push given c.in-Some.value;
       written = elim c.if-not-is_first.branch [
         | then-not-is_first+in_ok-push w ↦
-            next_piece c.args.separator text c.in-Some.value _ _ _ given c.if-not-is_first.out.items (cc (w.if-not-is_first.true)) (rw w.out-is w.in_ok-push.ensures.items) c.in_ok-push_text.ensures so_far.written
+            next_piece c.args.separator text c.in-Some.value _ _ _ given c.if-not-is_first.out.items
+            (cc (w.if-not-is_first.true)) (rw w.out-is w.in_ok-push.ensures.items) c.in_ok-push_text.ensures
+            so_far.written
         | else-not-is_first w ↦
-            first_piece c.args.separator text c.in-Some.value _ _ _ given (cc (w.if-not-is_first.false)) (rw w.out-is at c.in_ok-push_text.ensures) so_far.written
+            first_piece c.args.separator text c.in-Some.value _ _ _ given (cc (w.if-not-is_first.false))
+            (rw w.out-is at c.in_ok-push_text.ensures) so_far.written
       ];
     }

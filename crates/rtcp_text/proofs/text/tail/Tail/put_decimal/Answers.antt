@@ -5,10 +5,12 @@ use Rattle.rtcp_text.proofs.text.tail.Tail.put_decimal.Goals as goal
 
 pub write_digits-self-requires : goal.write_digits-self-requires
 write_digits-self-requires c =
-    let short : length (decimal c.from.result) ≤ 10 = length-decimal-le 10 c.from.result (omega arith) (omega arith) (omega arith) in
+    let short : length (decimal c.from.result) ≤ 10 = length-decimal-le 10 c.from.result (omega arith) (omega arith)
+    (omega arith) in
     (omega arith, search rules)
 
 pub returns-clause-room : goal.returns-clause-room
 returns-clause-room c =
-    let short : length (decimal c.from.result) ≤ 10 = length-decimal-le 10 c.from.result (omega arith) (omega arith) (omega arith) in
+    let short : length (decimal c.from.result) ≤ 10 = length-decimal-le 10 c.from.result (omega arith) (omega arith)
+    (omega arith) in
     omega arith

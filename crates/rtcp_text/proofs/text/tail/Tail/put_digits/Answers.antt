@@ -9,9 +9,11 @@ use Rattle.rtcp_text.proofs.text.tail.Tail.put_digits.Goals as goal
 part_written : (xs digits : List ℕ) (a e : ℕ) → a ≤ e → e ≤ length xs → length digits ≡ e - a
     → drop a (put_mid a (e - a) xs (put_chunk 0 (mid_of a (e - a) xs) digits)) ≡ digits ++ drop e xs
 part_written xs digits a e before within long =
-    rw (put_chunk_whole (mid_of a (e - a) xs) digits (mid_len a e xs within ∙ sym long)) (text_written xs digits a e before within long)
+    rw (put_chunk_whole (mid_of a (e - a) xs) digits (mid_len a e xs within ∙ sym long))
+    (text_written xs digits a e before within long)
 
 pub returns-clause-text : goal.returns-clause-text
 returns-clause-text c =
     let s = c.args.self.now.start in
-    part_written c.args.self.now.octets c.args.digits (s - 8) s (omega arith) (search rules) (omega (arith, c.fits-digits.0))
+    part_written c.args.self.now.octets c.args.digits (s - 8) s (omega arith) (search rules)
+    (omega (arith, c.fits-digits.0))
