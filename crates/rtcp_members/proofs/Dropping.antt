@@ -24,11 +24,6 @@ pub record IsDropping (test : Entry → Bool) (change : Entry → Entry) (items 
   pub keyed : All (IsKeyed entries) (take kept slots)
   pub left : All (IsKeyed entries) (drop at (take used slots))
 
-pub none_dropped_yet : (test : Entry → Bool) (change : Entry → Entry) (entries : List Entry) (slots : List Slot) (used : ℕ) → IsHeap entries slots used
-    → IsDropping test change (picked entries (take used slots)) entries slots used 0 0
-none_dropped_yet test change entries slots used heap =
-    record { places = heap.places; all = heap.all; order = omega arith; until = omega arith; in_use = heap.in_use; so_far = refl; keyed = All-nil (IsKeyed entries); left = heap.keyed }
-
 pub all_dropped : (test : Entry → Bool) (change : Entry → Entry) (items entries : List Entry) (slots : List Slot) (used kept : ℕ) → IsDropping test change items entries slots used kept used
     → picked entries (take kept slots) ≡ retain_mut test change items
 all_dropped test change items entries slots used kept done =
@@ -56,9 +51,6 @@ module _ (test : Entry → Bool) (change : Entry → Entry) (items entries : Lis
 
   rest : drop at (take used slots) ≡ slot ∷ drop (at + 1) (take used slots)
   rest = drop_more (take used slots) at no_slot (omega (arith, less, as_long)) ∙ ap (λ s. s ∷ drop (at + 1) (take used slots)) (get_or-take used slots at no_slot less)
-
-  IsSame : Slot → Type 0
-  IsSame s = entry_in next s ≡ entry_in entries s
 
   same_at : (k : ℕ) → k < length slots → (k ≡ at → ⊥) → entry_in next (slice_index_or slots k no_slot) ≡ entry_in entries (slice_index_or slots k no_slot)
   same_at k within unlike =

@@ -208,9 +208,6 @@ put_free entries slots front back used free e heap is fewer =
 
 module _ (entries next : List Entry) (old_slots slots : List Slot) (used at : ℕ) (slot : Slot) (e : Entry) (heap : IsHeap entries old_slots used) (put : IsPut entries next old_slots slots used slot.place e)
     (its_ssrc : slot.ssrc ≡ e.ssrc) (in_range : at ≤ used) where
-  old_use : List Slot
-  old_use = take used slots
-
   cut : take (used + 1) (insert slots at slot) ≡ insert (take used slots) at slot
   cut = take_inserted slots used at slot in_range put.in_use
 

@@ -1,9 +1,8 @@
 -- A fact or a block at an entry of a sorted list, and its counts.
-use Rattle.std.proofs.Common.{◌≡◌, ◌≤◌, ◌+◌, ℕ, Bool, true, List, set, IfSome, IsTrue, slice_index_or, if◌then◌else◌, arith, sym, ap, subst, ◌∙◌}
+use Rattle.std.proofs.Common.{◌≡◌, ◌≤◌, ◌+◌, ℕ, Bool, true, List, set, IsTrue, slice_index_or, if◌then◌else◌, arith, ap, subst, ◌∙◌}
 use Rattle.std.specs.FinMap as finite
 use Rattle.rtcp_members.specs.declared.entry.Entry.{Entry}
 use Rattle.rtcp_members.specs.Entries.{EntryValue, is_member, is_sender, is_such}
-use Rattle.rtcp_members.specs.Tables.{IsFew}
 use Rattle.rtcp_members.specs.Pending.{is_due, reported_entry}
 use Rattle.rtcp_members.specs.ListViews.{entry_value, map_of, tally_of, weight_of, IsRankOf}
 use Rattle.rtcp_members.specs.SortedViews.{IsOrdered}
@@ -13,14 +12,6 @@ use Rattle.rtcp_members.proofs.Rising.{rising_set}
 use Rattle.rtcp_members.proofs.Weights.{tally_set, weight_within}
 
 module _ (ssrc : ℕ) (entries : List Entry) (at : ℕ) (d : Entry) (place : IsRankOf ssrc entries at) where
-  pub counted_there : (test : EntryValue → Bool) → weight_of test (slice_index_or entries at d) ≤ tally_of test entries
-  counted_there test = omega (arith, ap (weight_of test) (read_there ssrc entries at d place), weight_within test entries at place.entry place.stands)
-
-  pub few_there : IfSome (finite.get (map_of entries) ssrc) IsFew → IsFew (entry_value (slice_index_or entries at d))
-  few_there few =
-      let its : IsFew (entry_value place.entry) = subst (λ o. IfSome o IsFew) place.found few in
-      subst (λ (y : Entry). IsFew (entry_value y)) (sym (read_there ssrc entries at d place)) its
-
   -- a count that the entry left, and that what became of it joined
   pub recounted : (test : EntryValue → Bool) (next : Entry) (old between new : ℕ) → old ≡ tally_of test entries → old ≡ weight_of test (slice_index_or entries at d) + between
       → new ≡ weight_of test next + between → new ≡ tally_of test (set entries at next)
@@ -29,16 +20,6 @@ module _ (ssrc : ℕ) (entries : List Entry) (at : ℕ) (d : Entry) (place : IsR
 
   its_ssrc : (next : Entry) → next.ssrc ≡ (slice_index_or entries at d).ssrc → next.ssrc ≡ place.entry.ssrc
   its_ssrc next same = same ∙ ap (λ (y : Entry). y.ssrc) (read_there ssrc entries at d place)
-
-  pub ordered_set : (next : Entry) (members senders members_between senders_between next_members next_senders : ℕ) → IsOrdered members senders entries → next.ssrc ≡ (slice_index_or entries at d).ssrc
-      → members ≡ weight_of is_member (slice_index_or entries at d) + members_between → senders ≡ weight_of is_sender (slice_index_or entries at d) + senders_between
-      → next_members ≡ weight_of is_member next + members_between → next_senders ≡ weight_of is_sender next + senders_between → IsOrdered next_members next_senders (set entries at next)
-  ordered_set next members senders members_between senders_between next_members next_senders ordered same members_left senders_left members_joined senders_joined =
-      record {
-        rising = rising_set entries at place.entry next ordered.rising place.stands (its_ssrc next same);
-        its_members = recounted is_member next members members_between next_members ordered.its_members members_left members_joined;
-        its_senders = recounted is_sender next senders senders_between next_senders ordered.its_senders senders_left senders_joined;
-      }
 
   -- A block changes no count.
   pub ordered_reported : (next : Entry) (members senders : ℕ) → IsOrdered members senders entries → next.ssrc ≡ (slice_index_or entries at d).ssrc → entry_value next ≡ reported_entry (entry_value (slice_index_or entries at d))
@@ -52,21 +33,6 @@ module _ (ssrc : ℕ) (entries : List Entry) (at : ℕ) (d : Entry) (place : IsR
         rising = rising_set entries at place.entry next ordered.rising place.stands (its_ssrc next same);
         its_members = omega (arith, ordered.its_members, as_member, ap (weight_of is_member) there, tally_set is_member entries at place.entry next place.stands);
         its_senders = omega (arith, ordered.its_senders, as_sender, ap (weight_of is_sender) there, tally_set is_sender entries at place.entry next place.stands);
-      }
-
-  -- What keeps a test keeps its count.
-  pub kept_count : (test : EntryValue → Bool) (next : Entry) (count : ℕ) → count ≡ tally_of test entries → test (entry_value next) ≡ test (entry_value (slice_index_or entries at d)) → count ≡ tally_of test (set entries at next)
-  kept_count test next count was same =
-      let as_was : weight_of test next ≡ weight_of test (slice_index_or entries at d) = ap (λ (b : Bool). if b then 1 else 0) same in
-      omega (arith, was, as_was, ap (weight_of test) (read_there ssrc entries at d place), tally_set test entries at place.entry next place.stands)
-
-  pub ordered_kept : (next : Entry) (members senders : ℕ) → IsOrdered members senders entries → next.ssrc ≡ (slice_index_or entries at d).ssrc →
-      is_member (entry_value next) ≡ is_member (entry_value (slice_index_or entries at d)) → is_sender (entry_value next) ≡ is_sender (entry_value (slice_index_or entries at d)) → IsOrdered members senders (set entries at next)
-  ordered_kept next members senders ordered same as_member as_sender =
-      record {
-        rising = rising_set entries at place.entry next ordered.rising place.stands (its_ssrc next same);
-        its_members = kept_count is_member next members ordered.its_members as_member;
-        its_senders = kept_count is_sender next senders ordered.its_senders as_sender;
       }
 
   -- ---- A source of which a block is due

@@ -216,9 +216,6 @@ module _ (cells : List Cell) (used at : ℕ) (indexed : IsIndexed cells used) (e
     changed_ranked change value =
         record { entry = e; items = written_ranked; ssrc = its_ssrc; value = λ d. value ∙ ap (λ (x : Entry). change (entry_value x)) (read_ranked d) }
 
-    pub as_many_after : length after ≡ length cells
-    as_many_after = length-set cells slot.place (record cell { entry = e })
-
     one_recounted : (test : EntryValue → Bool) (old new : ℕ) → old ≡ tally_of test (in_order cells used) → new + weight_of test cell.entry ≡ old + weight_of test e → new ≡ tally_of test (in_order after used)
     one_recounted test old new was moved = omega (arith, was, moved, tally_set test (in_order cells used) at cell.entry e got, ap (tally_of test) written_ranked)
 

@@ -1,10 +1,10 @@
 -- Where a source stands in a list by rising SSRC.
-use Rattle.std.proofs.Common.{◌≡◌, ◌<◌, ◌≤◌, ◌-◌, ℕ, suc, true, false, cond, List, [], ◌∷◌, length, set, Some, None, slice_get, slice_index_or, Result, Ok, Err, IsOk, is_ok, is_some, IsTrue, nat_cmp, inl, inr, arith, refl, sym, ap, subst, ◌∙◌}
+use Rattle.std.proofs.Common.{◌≡◌, ◌<◌, ℕ, suc, true, false, cond, List, [], ◌∷◌, length, set, Some, None, slice_get, slice_index_or, Result, Ok, Err, IsOk, is_ok, is_some, IsTrue, nat_cmp, inl, inr, arith, refl, sym, ap, ◌∙◌}
 use Rattle.std.specs.Ordering.{eq_by_cmp}
 use Rattle.std.specs.FinMap as finite
 use Rattle.std.proofs.lemmas.Bool.{cases_lt}
 use Rattle.std.proofs.lemmas.List.{set-get_or}
-use Rattle.std.proofs.lemmas.Option.{slice_get-get_or, slice_get_read, get_or_from_slice_get}
+use Rattle.std.proofs.lemmas.Option.{slice_get-get_or, get_or_from_slice_get}
 use Rattle.rtcp_members.specs.declared.entry.Entry.{Entry}
 use Rattle.rtcp_members.specs.Entries.{is_such}
 use Rattle.rtcp_members.specs.Tables.{TableValue, IsApart}
@@ -12,7 +12,7 @@ use Rattle.rtcp_members.specs.Pending.{is_due, is_due_at}
 use Rattle.rtcp_members.specs.ListViews.{entry_value, rows_of, map_of, table_of, IsRankOf}
 use Rattle.rtcp_members.specs.SortedViews.{IsRising, IsGapFor, Locates}
 use Rattle.rtcp_members.proofs.Listing.{get_rows, find_set, tied_itself, tied_key}
-use Rattle.rtcp_members.proofs.Rising.{rising_apart, rises}
+use Rattle.rtcp_members.proofs.Rising.{rising_apart}
 
 -- ---- Found
 
@@ -30,10 +30,6 @@ stands_found ssrc entries at e apart is same =
           ∙ find_set entries at e e e.ssrc apart is refl
           ∙ ap (λ b. cond b (Some (entry_value e)) (finite.find nat_cmp e.ssrc (rows_of entries))) (tied_itself e.ssrc);
     }
-
--- what was read at an index is the source's entry
-pub read_found : (ssrc : ℕ) (entries : List Entry) (at : ℕ) (e : Entry) → IsRising entries → at < length entries → e ≡ slice_index_or entries at e → e.ssrc ≡ ssrc → IsRankOf ssrc entries at
-read_found ssrc entries at e rising within read same = stands_found ssrc entries at e (rising_apart entries rising) (slice_get_read entries (length entries) at e refl within read) same
 
 -- so was one of which the SSRC was read
 pub ssrc_found : (ssrc : ℕ) (entries : List Entry) (at its : ℕ) → IsRising entries → at < length entries → ((d : Entry) → its ≡ (slice_index_or entries at d).ssrc) → its ≡ ssrc → IsRankOf ssrc entries at
@@ -61,27 +57,6 @@ none_in_gap ssrc entries at gap = get_rows entries ssrc ∙ missing ssrc entries
       | inl before ↦ omega (arith, gap.lesser k d before)
       | inr from ↦ omega (arith, gap.greater k d from within)
     ]
-
--- A source has a gap where the entry before is of a lesser SSRC, and the next of a greater one.
-pub gap_beside : (ssrc : ℕ) (entries : List Entry) (at : ℕ) → IsRising entries → at ≤ length entries → (0 < at → (d : Entry) → (slice_index_or entries (at - 1) d).ssrc < ssrc)
-    → (at < length entries → (d : Entry) → ssrc < (slice_index_or entries at d).ssrc) → IsGapFor ssrc entries at
-gap_beside ssrc entries at rising in_range last next = record { in_range = in_range; lesser = early; greater = late }
-  where
-    early : (i : ℕ) (d : Entry) → i < at → (slice_index_or entries i d).ssrc < ssrc
-    early i d before =
-        let least : (slice_index_or entries (at - 1) d).ssrc < ssrc = last (omega (arith, before)) d in
-        elim (cases_lt i (at - 1)) [
-          | inl earlier ↦ omega (arith, least, rises entries rising i (at - 1) d earlier (omega (arith, before, in_range)))
-          | inr same ↦ subst (λ n. (slice_index_or entries n d).ssrc < ssrc) (omega (arith, before, same)) least
-        ]
-
-    late : (i : ℕ) (d : Entry) → at ≤ i → i < length entries → ssrc < (slice_index_or entries i d).ssrc
-    late i d from below =
-        let least : ssrc < (slice_index_or entries at d).ssrc = next (omega (arith, from, below)) d in
-        elim (cases_lt at i) [
-          | inl later ↦ omega (arith, least, rises entries rising at i d later below)
-          | inr same ↦ subst (λ n. ssrc < (slice_index_or entries n d).ssrc) (omega (arith, from, same)) least
-        ]
 
 -- A source of which a block is due is found.
 pub due_is_found : (ssrc capacity rate : ℕ) (entries : List Entry) (table : TableValue) (r : Result ℕ ℕ) → table_of capacity rate entries ≡ table → IsTrue (is_due_at ssrc table) → Locates ssrc entries r → IsOk r

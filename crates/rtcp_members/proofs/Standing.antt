@@ -144,6 +144,3 @@ kept_by rate (Media ssrc seq timestamp octets) t valid None sighting sending sou
     let taken = taken_by source seq in
     let sends = by_packet (is_counted taken) t valid sending keeps.0 in
     (sends.0, sends.1, news_kept taken seq (transit_of timestamp (media_units t rate)) octets source keeps.1 ∙ sym keeps.1)
-
-pub counts_kept : (rate : ℕ) (fact : Fact) (t : ℕ) (e : EntryValue) → KeepsCounts fact e → IsCountedAs (entry_with_fact rate fact t e) e
-counts_kept rate fact t e keeps = kept_by rate fact t e.valid e.mark e.sighting e.sending e.source keeps
