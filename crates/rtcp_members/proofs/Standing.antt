@@ -1,22 +1,15 @@
 -- Bounds by which entries stand, after a fact, a block and a check.
-use Rattle.std.proofs.Common.{◌∙◌, length, zero, suc, slice_get, slice_index_or, ◌≡◌, ◌≤◌, ◌<◌, ◌+◌, ◌||◌, ◌&&◌, ℕ, Bool, true, false, not, nat_lt, List, [], ◌∷◌, Option, Some, None, set, take, is_some, is_none, if◌then◌else◌, arith, refl, sym, subst}
-use Rattle.std.proofs.lemmas.Bool.{le-ltb, lt-ltb, ltb-true}
+use Rattle.std.proofs.Common.{length, zero, suc, slice_get, slice_index_or, ◌≡◌, ◌≤◌, ◌<◌, ◌+◌, ◌||◌, ◌&&◌, ℕ, Bool, true, false, not, nat_lt, List, [], ◌∷◌, Option, Some, None, set, take, is_none, if◌then◌else◌, arith, refl, sym, subst}
+use Rattle.std.proofs.lemmas.Bool.{le-ltb}
 use Rattle.std.proofs.lemmas.List.Elements.{All-set, All-head, All-tail, All-weaker, All-more}
 use Rattle.std.proofs.lemmas.List.{length-map, get_or-map}
 use Rattle.std.specs.List.{All, list_all}
 use Rattle.rtcp_wire.specs.declared.fact.Fact.{Fact}
 use Rattle.rtcp_wire.specs.declared.fact.Fact.TheVariants.{Heard, Told, Named, Gone, Media}
-use Rattle.rtcp_source.specs.Summary.{RunValue, SourceValue}
-use Rattle.rtcp_source.specs.declared.taken.Taken.{Taken}
-use Rattle.rtcp_source.specs.declared.taken.Taken.TheVariants.{Probation, Counted, Became, Restarted, Bad}
-use Rattle.rtcp_source.specs.Blocks.{news_of}
-use Rattle.rtcp_clock.specs.Moments.{media_units}
-use Rattle.rtcp_source.specs.Packets.{is_counted, transit_of}
-use Rattle.rtcp_source.specs.Steps.{taken_by, counted_in, source_with}
+use Rattle.rtcp_source.specs.Summary.{SourceValue}
 use Rattle.rtcp_members.specs.declared.bounds.Bounds.{Bounds}
 use Rattle.rtcp_members.specs.declared.entry.Entry.{Entry}
-use Rattle.rtcp_members.specs.Entries.{EntryValue, is_member, is_sender}
-use Rattle.rtcp_members.specs.Pending.{is_due}
+use Rattle.rtcp_members.specs.Entries.{EntryValue}
 use Rattle.rtcp_members.specs.Traces.{horizons_at}
 use Rattle.rtcp_members.specs.Stays.{is_before}
 use Rattle.rtcp_members.specs.Tables.{entry_with_fact}
@@ -24,7 +17,7 @@ use Rattle.rtcp_members.specs.ListViews.{entry_value, mark_in, sending_in, is_le
 use Rattle.rtcp_members.specs.declared.cells.Slot.{Slot}
 use Rattle.rtcp_members.specs.Heaps.{no_slot, no_entry, entry_in, picked}
 use Rattle.rtcp_members.proofs.Applying.{read_there}
-use Rattle.rtcp_members.specs.Standing.{KeepsCounts, MarkStandsBy, StandsBy, AllStandBy, IsUpTo, IsNoLater}
+use Rattle.rtcp_members.specs.Standing.{MarkStandsBy, StandsBy, AllStandBy, IsUpTo, IsNoLater}
 
 -- ---- Lower bounds
 
@@ -102,45 +95,3 @@ pub all_picked : (b : Bounds) (entries : List Entry) (slots : List Slot) → All
 all_picked b entries slots within all k d below =
     let early : k < length slots = omega (arith, below, length-map slots (entry_in entries)) in
     subst (stands b) (sym (get_or-map (entry_in entries) slots k no_slot d early)) (all (slice_index_or slots k no_slot).place no_entry (within k no_slot early))
-
--- ---- Counts that a fact keeps
-
-by_packet : (counted : Bool) (t : ℕ) (valid : Bool) (sending : Option ℕ) → ((valid && true) && is_some sending) ≡ true →
-    (((counted || valid) && true) ≡ (valid && true)) × ((((counted || valid) && true) && is_some (if counted then Some t else sending)) ≡ ((valid && true) && is_some sending))
-by_packet counted t false sending sends = absurd cc
-by_packet counted t true None sends = absurd cc
-by_packet true t true (Some sent) sends = (refl, refl)
-by_packet false t true (Some sent) sends = (refl, refl)
-
-one_more_news : (before received : ℕ) → nat_lt before received ≡ true → nat_lt before (received + 1) ≡ true
-one_more_news before received news = lt-ltb before (received + 1) (omega (arith, ltb-true before received news))
-
-counted_news : (seq transit octets : ℕ) (run : Option RunValue) → news_of run ≡ true → news_of (counted_in seq transit octets run) ≡ true
-counted_news seq transit octets None news = absurd cc
-counted_news seq transit octets (Some run) news = one_more_news run.received_before run.received news
-
--- A packet leaves a source with news where it had some.
-news_kept : (taken : Taken) (seq transit octets : ℕ) (source : SourceValue) → news_of source.run ≡ true → news_of (source_with taken seq transit octets source).run ≡ true
-news_kept Counted seq transit octets source news = counted_news seq transit octets source.run news
-news_kept Became seq transit octets source news = refl
-news_kept Restarted seq transit octets source news = refl
-news_kept Probation seq transit octets source news = news
-news_kept Bad seq transit octets source news = news
-
-abbrev IsCountedAs : (next e : EntryValue) → Type 0
-IsCountedAs next e = (is_member next ≡ is_member e) × (is_sender next ≡ is_sender e) × (is_due next ≡ is_due e)
-
--- What a fact leaves as it is, by an entry's fields.
-kept_by : (rate : ℕ) (fact : Fact) (t : ℕ) (valid : Bool) (mark : Option ℕ) (sighting : ℕ) (sending : Option ℕ) (source : SourceValue) →
-    let e : EntryValue = record { valid = valid; mark = mark; sighting = sighting; sending = sending; source = source } in
-    KeepsCounts fact e → IsCountedAs (entry_with_fact rate fact t e) e
-kept_by rate fact t valid (Some mark) sighting sending source keeps = (refl, refl, refl)
-kept_by rate (Heard ssrc) t valid None sighting sending source keeps = (refl, refl, refl)
-kept_by rate (Told ssrc ntp rtp) t valid None sighting sending source keeps = (refl, refl, refl)
-kept_by rate (Named ssrc) t valid None sighting sending source keeps =
-    (λ i. sym keeps i && true, λ i. (sym keeps i && true) && is_some sending, refl)
-kept_by rate (Gone ssrc) t valid None sighting sending source keeps = absurd keeps
-kept_by rate (Media ssrc seq timestamp octets) t valid None sighting sending source keeps =
-    let taken = taken_by source seq in
-    let sends = by_packet (is_counted taken) t valid sending keeps.0 in
-    (sends.0, sends.1, news_kept taken seq (transit_of timestamp (media_units t rate)) octets source keeps.1 ∙ sym keeps.1)
