@@ -19,7 +19,7 @@ use Rattle.rtcp_members.specs.Standing.{AreCounts}
 use Rattle.rtcp_members.proofs.Weights.{tally_at_most, tally_set, weight_within}
 use Rattle.rtcp_members.specs.Shelves.{IsChanged}
 use Rattle.rtcp_members.specs.SortedViews.{IsRising}
-use Rattle.rtcp_members.proofs.Pairs.{length_slots, slot_read, slots_kept, entry_written}
+use Rattle.rtcp_members.proofs.Pairs.{length_slots, slot_read, slots_kept, entry_written, read_again}
 use Rattle.rtcp_members.proofs.Rising.{rising_set}
 use Rattle.std.proofs.lemmas.Option.{slice_get_read}
 
@@ -138,22 +138,30 @@ module _ (entries : List Entry) (slots : List Slot) (used at : ℕ) (places : Ar
 
 -- ---- The entry of a rank, among cells
 
--- the cell of a place
-abbrev pub cell_of : List Cell → ℕ → Cell → Cell
-cell_of cells place d = slice_index_or cells place d
+-- What is read as the cell of a rank.
+pub record IsAtRank (cells : List Cell) (used at : ℕ) (slot : Slot) (cell : Cell) : Type 0 where
+  pub indexed : IsIndexed cells used
+  pub early : at < used
+  pub its : slot ≡ slice_index_or (pairs_in cells) at no_slot
+  pub read : cell ≡ slice_index_or cells slot.place cell
 
-module _ (cells : List Cell) (used at : ℕ) (indexed : IsIndexed cells used) (early : at < used) (slot : Slot) (its : slot ≡ slice_index_or (pairs_in cells) at no_slot) (cell : Cell) (read : cell ≡ slice_index_or cells slot.place cell) where
+pub at_rank : (cells : List Cell) (used at : ℕ) (slot : Slot) (d : Cell) → IsIndexed cells used → at < used →
+    slot ≡ slice_index_or (pairs_in cells) at no_slot → IsAtRank cells used at slot (slice_index_or cells slot.place d)
+at_rank cells used at slot d indexed early its =
+    record { indexed = indexed; early = early; its = its; read = read_again cells slot.place d }
+
+module _ {cells : List Cell} {used at : ℕ} {slot : Slot} {cell : Cell} (so : IsAtRank cells used at slot cell) where
   heap : IsHeap (entries_in cells) (slots_in cells) used
-  heap = indexed.heap
+  heap = so.indexed.heap
 
   as_long : length (in_order cells used) ≡ used
   as_long = length-map (take used (slots_in cells)) (entry_in (entries_in cells)) ∙ length-take-le used (slots_in cells) heap.in_use
 
   stands : at < length (in_order cells used)
-  stands = omega (arith, early, as_long)
+  stands = omega (arith, so.early, as_long)
 
   its_place : slot.place ≡ place_at (slots_in cells) at
-  its_place = ap (λ (s : Slot). s.place) (its ∙ slot_read cells at (omega (arith, early, heap.in_use, length_slots cells)))
+  its_place = ap (λ (s : Slot). s.place) (so.its ∙ slot_read cells at (omega (arith, so.early, heap.in_use, length_slots cells)))
 
   pub in_cells : slot.place < length cells
   in_cells = omega (arith, its_place, place_within (entries_in cells) (slots_in cells) used at heap.places heap.in_use stands, length-map cells (λ (c : Cell). c.entry))
@@ -161,7 +169,7 @@ module _ (cells : List Cell) (used at : ℕ) (indexed : IsIndexed cells used) (e
   -- What is read there is the entry of the rank.
   pub read_ranked : (d : Entry) → cell.entry ≡ slice_index_or (in_order cells used) at d
   read_ranked d =
-      ap (λ (c : Cell). c.entry) (get_or_read cells slot.place cell in_cells read no_cell)
+      ap (λ (c : Cell). c.entry) (get_or_read cells slot.place cell in_cells so.read no_cell)
       ∙ sym (get_or-map (λ (c : Cell). c.entry) cells slot.place no_cell d in_cells)
       ∙ ap (λ n. slice_index_or (entries_in cells) n d) its_place
       ∙ read_at (entries_in cells) (slots_in cells) used at heap.places heap.in_use stands d
@@ -184,7 +192,7 @@ module _ (cells : List Cell) (used at : ℕ) (indexed : IsIndexed cells used) (e
     entries_after = entry_written cells slot.place (record cell { entry = e }) ∙ ap (λ place. set (entries_in cells) place e) its_place
 
     slots_after : slots_in after ≡ slots_in cells
-    slots_after = slots_kept cells slot.place e cell read
+    slots_after = slots_kept cells slot.place e cell so.read
 
     pub written_ranked : in_order after used ≡ set (in_order cells used) at e
     written_ranked =
@@ -209,7 +217,7 @@ module _ (cells : List Cell) (used at : ℕ) (indexed : IsIndexed cells used) (e
     still_indexed = record {
       heap = subst (λ slots. IsHeap (entries_in after) slots used) (sym slots_after) (subst (λ es. IsHeap es (slots_in cells) used) (sym entries_after) still_heap);
       rising = subst IsRising (sym written_ranked)
-          (rising_set (in_order cells used) at cell.entry e indexed.rising got same);
+          (rising_set (in_order cells used) at cell.entry e so.indexed.rising got same);
     }
 
     pub changed_ranked : (change : EntryValue → EntryValue) → entry_value e ≡ change (entry_value cell.entry) → IsChanged change (in_order cells used) (in_order after used) at
