@@ -17,7 +17,8 @@ use Rattle.rtcp_members.proofs.Applying.{read_there, table_applied}
 use Rattle.rtcp_members.proofs.Rising.{rising_apart, rising_set}
 use Rattle.rtcp_members.proofs.Standing.{all_set, stands_after, stands_there}
 
-module _ (ssrc : ℕ) (entries next : List Entry) (at : ℕ) (change : EntryValue → EntryValue) (place : IsRankOf ssrc entries at) (made : IsChanged change entries next at) where
+module _ (ssrc : ℕ) (entries next : List Entry) (at : ℕ) (change : EntryValue
+    → EntryValue) (place : IsRankOf ssrc entries at) (made : IsChanged change entries next at) where
   pub within : at < length entries
   within = slice_get_within entries at place.entry place.stands
 
@@ -27,9 +28,11 @@ module _ (ssrc : ℕ) (entries next : List Entry) (at : ℕ) (change : EntryValu
   pub still_rising : IsRising entries → IsRising next
   still_rising rising =
       subst IsRising (sym made.items)
-      (rising_set entries at place.entry made.entry rising place.stands (made.ssrc place.entry ∙ ap (λ (e : Entry). e.ssrc) (read_there ssrc entries at place.entry place)))
+      (rising_set entries at place.entry made.entry rising place.stands (made.ssrc place.entry
+      ∙ ap (λ (e : Entry). e.ssrc) (read_there ssrc entries at place.entry place)))
 
-  pub sorted_edited : (capacity members senders : ℕ) (counts : Counts) → IsSortedTable capacity members senders entries → AreCounts counts next → IsSortedTable capacity counts.members counts.senders next
+  pub sorted_edited : (capacity members senders : ℕ) (counts : Counts) → IsSortedTable capacity members senders entries
+      → AreCounts counts next → IsSortedTable capacity counts.members counts.senders next
   sorted_edited capacity members senders counts sorted counted = record {
     ordered = record { rising = still_rising sorted.ordered.rising; its_members = counted.members; its_senders = counted.senders };
     within = omega (arith, as_many, sorted.within);
@@ -37,17 +40,23 @@ module _ (ssrc : ℕ) (entries next : List Entry) (at : ℕ) (change : EntryValu
   }
 
   -- Where what the change makes of an entry stands by bounds, all do.
-  pub stand_edited : (bounds : Bounds) → ((value : EntryValue) → StandsBy bounds value → StandsBy bounds (change value)) → AllStandBy bounds entries → AllStandBy bounds next
+  pub stand_edited : (bounds : Bounds) → ((value : EntryValue) → StandsBy bounds value
+      → StandsBy bounds (change value)) → AllStandBy bounds entries → AllStandBy bounds next
   stand_edited bounds stays all =
       let read = entry_value place.entry in
       subst (AllStandBy bounds) (sym made.items)
-      (all_set bounds entries at made.entry all (subst (StandsBy bounds) (sym (made.value place.entry)) (stays _ (stands_there bounds entries at place.entry ssrc place all))))
+      (all_set bounds entries at made.entry all (subst (StandsBy bounds) (sym (made.value place.entry)) (stays _
+      (stands_there bounds entries at place.entry ssrc place all))))
 
-module _ (fact : Fact) (t rate : ℕ) (entries next : List Entry) (at : ℕ) (place : IsRankOf (subject fact) entries at) (made : IsChanged (entry_with_fact rate fact t) entries next at) where
-  pub table_edited : IsRising entries → (capacity : ℕ) → table_of capacity rate next ≡ after_fact fact t (table_of capacity rate entries)
+module _ (fact : Fact) (t rate : ℕ) (entries next : List Entry) (at : ℕ) (place : IsRankOf (subject fact) entries at)
+    (made : IsChanged (entry_with_fact rate fact t) entries next at) where
+  pub table_edited : IsRising entries → (capacity : ℕ) → table_of capacity rate next ≡ after_fact fact t
+      (table_of capacity rate entries)
   table_edited rising capacity =
       ap (table_of capacity rate) made.items
-      ∙ table_applied entries at fact t rate place.entry made.entry (rising_apart entries rising) place (made.ssrc place.entry) (made.value place.entry) capacity
+      ∙ table_applied entries at fact t rate place.entry made.entry (rising_apart entries rising) place
+      (made.ssrc place.entry) (made.value place.entry) capacity
 
   pub stand_with_fact : (bounds : Bounds) → IsUpTo bounds fact t → AllStandBy bounds entries → AllStandBy bounds next
-  stand_with_fact bounds up = stand_edited (subject fact) entries next at (entry_with_fact rate fact t) place made bounds (λ value. stands_after bounds rate fact t value up)
+  stand_with_fact bounds up = stand_edited (subject fact) entries next at
+      (entry_with_fact rate fact t) place made bounds (λ value. stands_after bounds rate fact t value up)

@@ -155,13 +155,15 @@ module _ {cells : List Cell} {used at : ℕ} {slot : Slot} {cell : Cell} (so : I
   heap = so.indexed.heap
 
   as_long : length (in_order cells used) ≡ used
-  as_long = length-map (take used (slots_in cells)) (entry_in (entries_in cells)) ∙ length-take-le used (slots_in cells) heap.in_use
+  as_long = length-map (take used (slots_in cells)) (entry_in (entries_in cells))
+      ∙ length-take-le used (slots_in cells) heap.in_use
 
   stands : at < length (in_order cells used)
   stands = omega (arith, so.early, as_long)
 
   its_place : slot.place ≡ place_at (slots_in cells) at
-  its_place = ap (λ (s : Slot). s.place) (so.its ∙ slot_read cells at (omega (arith, so.early, heap.in_use, length_slots cells)))
+  its_place = ap (λ (s : Slot). s.place) (so.its ∙ slot_read cells at (omega
+      (arith, so.early, heap.in_use, length_slots cells)))
 
   pub in_cells : slot.place < length cells
   in_cells = omega (arith, its_place, place_within (entries_in cells) (slots_in cells) used at heap.places heap.in_use stands, length-map cells (λ (c : Cell). c.entry))
@@ -175,7 +177,8 @@ module _ {cells : List Cell} {used at : ℕ} {slot : Slot} {cell : Cell} (so : I
       ∙ read_at (entries_in cells) (slots_in cells) used at heap.places heap.in_use stands d
 
   got : slice_get (in_order cells used) at ≡ Some cell.entry
-  got = slice_get_read (in_order cells used) (length (in_order cells used)) at cell.entry refl stands (read_ranked cell.entry)
+  got = slice_get_read (in_order cells used) (length (in_order cells used)) at cell.entry refl stands
+      (read_ranked cell.entry)
 
   pub counted_within : (test : EntryValue → Bool) → weight_of test cell.entry ≤ tally_of test (in_order cells used)
   counted_within test = weight_within test (in_order cells used) at cell.entry got
@@ -189,14 +192,16 @@ module _ {cells : List Cell} {used at : ℕ} {slot : Slot} {cell : Cell} (so : I
     after = set cells slot.place (record cell { entry = e })
 
     entries_after : entries_in after ≡ set (entries_in cells) (place_at (slots_in cells) at) e
-    entries_after = entry_written cells slot.place (record cell { entry = e }) ∙ ap (λ place. set (entries_in cells) place e) its_place
+    entries_after = entry_written cells slot.place (record cell { entry = e })
+        ∙ ap (λ place. set (entries_in cells) place e) its_place
 
     slots_after : slots_in after ≡ slots_in cells
     slots_after = slots_kept cells slot.place e cell so.read
 
     pub written_ranked : in_order after used ≡ set (in_order cells used) at e
     written_ranked =
-        (λ i. picked (entries_after i) (take used (slots_after i))) ∙ set_picked (entries_in cells) (slots_in cells) used at heap.places heap.in_use stands e
+        (λ i. picked (entries_after i) (take used (slots_after i))) ∙ set_picked (entries_in cells)
+        (slots_in cells) used at heap.places heap.in_use stands e
 
     its_ssrc : (d : Entry) → e.ssrc ≡ (slice_index_or (in_order cells used) at d).ssrc
     its_ssrc d = same ∙ ap (λ (x : Entry). x.ssrc) (read_ranked d)
@@ -209,26 +214,34 @@ module _ {cells : List Cell} {used at : ℕ} {slot : Slot} {cell : Cell} (so : I
           places = places_at old slots used at heap.places heap.in_use stands e;
           in_use = heap.in_use;
           all = heap.all ∙ sym (length-set old (place_at slots at) e);
-          keyed = keyed_at old slots used at heap.places heap.in_use stands e heap.keyed cell.entry (its_ssrc cell.entry);
+          keyed = keyed_at old slots used at heap.places heap.in_use stands e heap.keyed cell.entry
+              (its_ssrc cell.entry);
           few = omega (arith, heap.few, length-set old (place_at slots at) e);
         }
 
     pub still_indexed : IsIndexed after used
     still_indexed = record {
-      heap = subst (λ slots. IsHeap (entries_in after) slots used) (sym slots_after) (subst (λ es. IsHeap es (slots_in cells) used) (sym entries_after) still_heap);
+      heap = subst (λ slots. IsHeap (entries_in after) slots used) (sym slots_after) (subst (λ es. IsHeap es
+          (slots_in cells) used) (sym entries_after) still_heap);
       rising = subst IsRising (sym written_ranked)
           (rising_set (in_order cells used) at cell.entry e so.indexed.rising got same);
     }
 
-    pub changed_ranked : (change : EntryValue → EntryValue) → entry_value e ≡ change (entry_value cell.entry) → IsChanged change (in_order cells used) (in_order after used) at
+    pub changed_ranked : (change : EntryValue → EntryValue) → entry_value e ≡ change (entry_value cell.entry)
+        → IsChanged change (in_order cells used) (in_order after used) at
     changed_ranked change value =
         record { entry = e; items = written_ranked; ssrc = its_ssrc; value = λ d. value ∙ ap (λ (x : Entry). change (entry_value x)) (read_ranked d) }
 
-    one_recounted : (test : EntryValue → Bool) (old new : ℕ) → old ≡ tally_of test (in_order cells used) → new + weight_of test cell.entry ≡ old + weight_of test e → new ≡ tally_of test (in_order after used)
-    one_recounted test old new was moved = omega (arith, was, moved, tally_set test (in_order cells used) at cell.entry e got, ap (tally_of test) written_ranked)
+    one_recounted : (test : EntryValue → Bool) (old new : ℕ) → old ≡ tally_of test (in_order cells used)
+        → new + weight_of test cell.entry ≡ old + weight_of test e → new ≡ tally_of test (in_order after used)
+    one_recounted test old new was moved =
+        omega (arith, was, moved, tally_set test (in_order cells used) at cell.entry e got, ap (tally_of test) written_ranked)
 
-    pub recounted_ranked : (counts next : Counts) → AreCounts counts (in_order cells used) → next.members + weight_of is_member cell.entry ≡ counts.members + weight_of is_member e
-        → next.senders + weight_of is_sender cell.entry ≡ counts.senders + weight_of is_sender e → next.due + weight_of is_due cell.entry ≡ counts.due + weight_of is_due e → AreCounts next (in_order after used)
+    pub recounted_ranked : (counts next : Counts) → AreCounts counts (in_order cells used)
+        → next.members + weight_of is_member cell.entry ≡ counts.members + weight_of is_member e
+        → next.senders + weight_of is_sender cell.entry ≡ counts.senders + weight_of is_sender e
+        → next.due + weight_of is_due cell.entry ≡ counts.due + weight_of is_due e
+        → AreCounts next (in_order after used)
     recounted_ranked counts next so members senders due =
         record {
           members = one_recounted is_member counts.members next.members so.members members;

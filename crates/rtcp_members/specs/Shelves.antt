@@ -32,7 +32,8 @@ pub record IsChanged (change : EntryValue → EntryValue) (entries next : List E
   pub value : (d : Entry) → entry_value entry ≡ change (entry_value (slice_index_or entries at d))
 
 -- once the borrow r ends, s has the cells that r shows last
-abbrev pub LendsCells : (S : RattleType) → MutBor S.Denot → MutBor (List Cell) → (S.Denot → List Cell → S.Denot) → Fml
+abbrev pub LendsCells : (S : RattleType) → MutBor S.Denot → MutBor (List Cell) →
+    (S.Denot → List Cell → S.Denot) → Fml
 LendsCells S s r with_cells = Lends S (Array the_row 0) s r (with_cells s.now)
 
 -- ---- Codes, by which a proof tells shelves apart
@@ -57,7 +58,8 @@ written_code =
 
 abbrev pub shelf_code : Coded ShelfValue
 shelf_code =
-    code_by (List Entry × (ℕ × Option Ptr)) (coded× (coded_list written_code) (coded× coded_ℕ (coded_option coded_ptr)))
+    code_by (List Entry × (ℕ × Option Ptr))
+    (coded× (coded_list written_code) (coded× coded_ℕ (coded_option coded_ptr)))
     (λ s. (s.items, (s.room, s.block)))
     (λ p. record { items = p.0; room = p.1.0; block = p.1.1 })
     (λ _. refl)

@@ -8,4 +8,5 @@ returns-clause-entries c = entry_written c.args.cells.now c.args.place _
 
 pub returns-clause-slots : goal.returns-clause-slots
 returns-clause-slots c =
-    pairs_kept c.args.cells.now c.args.place c.args.entry (slice_index_or c.args.cells.now c.args.place c.index-cells-place.result) (read_again c.args.cells.now c.args.place c.index-cells-place.result)
+    pairs_kept c.args.cells.now c.args.place c.args.entry (slice_index_or c.args.cells.now c.args.place
+    c.index-cells-place.result) (read_again c.args.cells.now c.args.place c.index-cells-place.result)

@@ -14,7 +14,8 @@ apply-requires-clause-few c =
     let so =
     at_rank c.args.cells.now c.args.used c.args.at c.slot_at-place.result c.index-cells-place.result c.requires.indexed
     c.requires.stands c.slot_at-place.ensures in
-    λ is_media. subst (λ (e : Entry). IsFew (entry_value e)) (sym (read_ranked so no_entry)) (c.requires.few no_entry is_media)
+    λ is_media. subst (λ (e : Entry). IsFew (entry_value e)) (sym (read_ranked so no_entry))
+    (c.requires.few no_entry is_media)
 
 pub apply-requires-clause-members : goal.apply-requires-clause-members
 apply-requires-clause-members c =
@@ -42,8 +43,7 @@ apply-requires-clause-room c =
     let so =
     at_rank c.args.cells.now c.args.used c.args.at c.slot_at-place.result c.index-cells-place.result c.requires.indexed
     c.requires.stands c.slot_at-place.ensures in
-    let few = few_counted so in
-    (
+    let few = few_counted so in (
       omega (arith, few is_member, c.requires.counted.members),
       omega (arith, few is_sender, c.requires.counted.senders),
       omega (arith, few is_due, c.requires.counted.due),
@@ -77,7 +77,8 @@ returns-clause-place c =
     let so =
     at_rank c.args.cells.now c.args.used c.args.at c.slot_at-place.result c.index-cells-place.result c.requires.indexed
     c.requires.stands c.slot_at-place.ensures in
-    λ d room. c.apply.ensures.place room ∙ ap (λ (e : Entry). place_of c.args.fact (Some (entry_value e)) room) (read_ranked so d)
+    λ d room. c.apply.ensures.place room ∙ ap (λ (e : Entry). place_of c.args.fact (Some (entry_value e)) room)
+    (read_ranked so d)
 
 pub returns-clause-counted : goal.returns-clause-counted
 returns-clause-counted c =

@@ -19,13 +19,20 @@ cells-preserved c =
     let at = c.cells.cell-index in
     let early : at < length cells = omega (arith, c.cells-test.true) in
     let read : cell ≡ slice_index_or cells at cell = c.cell-item.is in
-    let its : cell.entry ≡ slice_index_or (entries_in cells) at no_entry = ap (λ (x : Cell). x.entry) (get_or_read cells at cell early read no_cell) ∙ sym (get_or-map (λ (x : Cell). x.entry) cells at no_cell no_entry early) in
-    all_covered bounds c.cells.bounds c.cover.ensures.no_later (entries_in cells) at no_entry (omega (arith, early, length-map cells (λ (x : Cell). x.entry))) c.cells.invariant
+    let its : cell.entry ≡ slice_index_or (entries_in cells) at no_entry = ap (λ (x : Cell). x.entry)
+    (get_or_read cells at cell early read no_cell) ∙ sym (get_or-map (λ
+    (x : Cell). x.entry) cells at no_cell no_entry early) in
+    all_covered bounds c.cells.bounds c.cover.ensures.no_later (entries_in cells) at no_entry (omega
+    (arith, early, length-map cells (λ (x : Cell). x.entry))) c.cells.invariant
     (subst (λ (e : Entry). StandsBy bounds (entry_value e)) its c.cover.ensures.stands)
 
 pub returns-clause-stand : goal.returns-clause-stand
 returns-clause-stand c =
     let cells : List Cell = c.args.cells.now in
-    let past : length (entries_in cells) ≤ c.cells.cell-index = omega (arith, c.cells-test.false, length-map cells (λ (x : Cell). x.entry)) in
-    let all : AllStandBy c.cells.bounds (entries_in cells) = subst (AllStandBy c.cells.bounds) (take_all c.cells.cell-index (entries_in cells) past) c.cells.invariant in
-    all_picked c.cells.bounds (entries_in cells) (take c.args.used (slots_in cells)) (All-take (λ (slot : Slot). slot.place < length (entries_in cells)) c.args.used (slots_in cells) c.requires.heap.places.within) all
+    let past : length (entries_in cells) ≤ c.cells.cell-index =
+    omega (arith, c.cells-test.false, length-map cells (λ (x : Cell). x.entry)) in
+    let all : AllStandBy c.cells.bounds (entries_in cells) = subst (AllStandBy c.cells.bounds)
+    (take_all c.cells.cell-index (entries_in cells) past) c.cells.invariant in
+    all_picked c.cells.bounds (entries_in cells) (take c.args.used (slots_in cells)) (All-take (λ
+    (slot : Slot). slot.place < length (entries_in cells)) c.args.used
+    (slots_in cells) c.requires.heap.places.within) all

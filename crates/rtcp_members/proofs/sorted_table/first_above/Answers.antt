@@ -28,18 +28,22 @@ pub returns-in-Ok-clause-bound : goal.returns-in-Ok-clause-bound
 returns-in-Ok-clause-bound g c = omega (arith, slice_get_within c.args.entries.now.items c.in-Ok.at c.in-Ok.ensures.entry c.in-Ok.ensures.stands)
 
 pub returns-in-Ok-clause-rest : goal.returns-in-Ok-clause-rest
-returns-in-Ok-clause-rest g c = (cut_after c.args.entries.now.items c.in-Some.above c.in-Ok.at c.args.above c.in-Some.is c.requires.rising c.in-Ok.ensures).0
+returns-in-Ok-clause-rest g c = (cut_after c.args.entries.now.items c.in-Some.above c.in-Ok.at c.args.above
+    c.in-Some.is c.requires.rising c.in-Ok.ensures).0
 
 pub returns-in-Ok-clause-before : goal.returns-in-Ok-clause-before
-returns-in-Ok-clause-before g c = (cut_after c.args.entries.now.items c.in-Some.above c.in-Ok.at c.args.above c.in-Some.is c.requires.rising c.in-Ok.ensures).1
+returns-in-Ok-clause-before g c = (cut_after c.args.entries.now.items c.in-Some.above c.in-Ok.at c.args.above
+    c.in-Some.is c.requires.rising c.in-Ok.ensures).1
 
 -- ---- Where it would be
 
 pub returns-in-Err-clause-rest : goal.returns-in-Err-clause-rest
-returns-in-Err-clause-rest g c = (cut_gap c.args.entries.now.items c.in-Some.above c.in-Err.gap c.args.above c.in-Some.is c.in-Err.ensures).0
+returns-in-Err-clause-rest g c = (cut_gap c.args.entries.now.items c.in-Some.above c.in-Err.gap c.args.above
+    c.in-Some.is c.in-Err.ensures).0
 
 pub returns-in-Err-clause-before : goal.returns-in-Err-clause-before
-returns-in-Err-clause-before g c = (cut_gap c.args.entries.now.items c.in-Some.above c.in-Err.gap c.args.above c.in-Some.is c.in-Err.ensures).1
+returns-in-Err-clause-before g c = (cut_gap c.args.entries.now.items c.in-Some.above c.in-Err.gap c.args.above
+    c.in-Some.is c.in-Err.ensures).1
 
 -- ---- Where all are asked for
 

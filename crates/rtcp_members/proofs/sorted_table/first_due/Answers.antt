@@ -11,15 +11,23 @@ pub returns-then-is_due_at : goal.returns-then-is_due_at
 returns-then-is_due_at g c =
     let items : List Entry = c.args.entries.now.items in
     let entry : Entry = slice_index_or items c.entries.at no_entry in
-    let within : c.entries.at < length (take c.args.until items) = omega (arith, c.entries-test.true, length-take-le c.args.until items c.requires.bound) in
-    let read : entry ≡ slice_index_or (take c.args.until items) c.entries.at no_entry = sym (get_or-take c.args.until items c.entries.at no_entry c.entries-test.true) in
-    let its : c.ssrc_at.result ≡ entry.ssrc = sym c.ssrc_at.ensures.its_ssrc ∙ ap (λ (e : Entry). e.ssrc) (sym (read_there c.ssrc_at.result items c.entries.at no_entry c.ssrc_at.ensures)) in
-    ap Some its ∙ due_rank (take c.args.until items) c.entries.at no_entry entry within read (sym (c.is_due_at.ensures no_entry) ∙ c.if-is_due_at.true) ∙ c.entries.invariant
+    let within : c.entries.at < length (take c.args.until items) = omega
+    (arith, c.entries-test.true, length-take-le c.args.until items c.requires.bound) in
+    let read : entry ≡ slice_index_or (take c.args.until items) c.entries.at no_entry = sym
+    (get_or-take c.args.until items c.entries.at no_entry c.entries-test.true) in
+    let its : c.ssrc_at.result ≡ entry.ssrc = sym c.ssrc_at.ensures.its_ssrc
+    ∙ ap (λ (e : Entry). e.ssrc) (sym (read_there c.ssrc_at.result items c.entries.at no_entry
+    c.ssrc_at.ensures)) in
+    ap Some its ∙ due_rank (take c.args.until items) c.entries.at no_entry entry within read (sym
+    (c.is_due_at.ensures no_entry) ∙ c.if-is_due_at.true) ∙ c.entries.invariant
 
 pub entries-preserved : goal.entries-preserved
 entries-preserved g c =
     let items : List Entry = c.args.entries.now.items in
     let entry : Entry = slice_index_or items c.entries.at no_entry in
-    let within : c.entries.at < length (take c.args.until items) = omega (arith, c.entries-test.true, length-take-le c.args.until items c.requires.bound) in
-    let read : entry ≡ slice_index_or (take c.args.until items) c.entries.at no_entry = sym (get_or-take c.args.until items c.entries.at no_entry c.entries-test.true) in
-    idle_rank (take c.args.until items) c.entries.at no_entry entry within read (sym (c.is_due_at.ensures no_entry) ∙ c.if-is_due_at.false) ∙ c.entries.invariant
+    let within : c.entries.at < length (take c.args.until items) = omega
+    (arith, c.entries-test.true, length-take-le c.args.until items c.requires.bound) in
+    let read : entry ≡ slice_index_or (take c.args.until items) c.entries.at no_entry = sym
+    (get_or-take c.args.until items c.entries.at no_entry c.entries-test.true) in
+    idle_rank (take c.args.until items) c.entries.at no_entry entry within read (sym (c.is_due_at.ensures no_entry)
+    ∙ c.if-is_due_at.false) ∙ c.entries.invariant

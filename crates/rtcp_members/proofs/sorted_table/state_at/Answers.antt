@@ -7,4 +7,5 @@ use Rattle.rtcp_members.proofs.sorted_table.state_at.Goals as goal
 pub returns : goal.returns
 returns g c =
     let items = c.args.entries.now.items in
-    ap Some (c.state.ensures no_entry) ∙ told_rank items c.args.at no_entry (slice_index_or items c.args.at no_entry) (omega (arith, c.len.ensures, c.if-at-len.false)) refl
+    ap Some (c.state.ensures no_entry) ∙ told_rank items c.args.at no_entry (slice_index_or items c.args.at no_entry)
+    (omega (arith, c.len.ensures, c.if-at-len.false)) refl

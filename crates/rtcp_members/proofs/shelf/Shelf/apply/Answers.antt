@@ -11,4 +11,5 @@ pub returns-clause-place : goal.returns-clause-place
 returns-clause-place g c = λ d room.
     c.apply_at.ensures.place d room
     ∙ ap (λ (entries : List Entry). place_of c.args.fact (Some (entry_value (slice_index_or entries c.args.at d))) room)
-    (ap (λ xs. in_order xs c.self.inside.used) c.as_mut_slice.ensures.cells ∙ ap (λ (v : ShelfValue). v.items) c.self.view_is)
+    (ap (λ xs. in_order xs c.self.inside.used) c.as_mut_slice.ensures.cells
+    ∙ ap (λ (v : ShelfValue). v.items) c.self.view_is)

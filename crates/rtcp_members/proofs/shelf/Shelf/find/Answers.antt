@@ -9,4 +9,5 @@ use Rattle.rtcp_members.proofs.shelf.Shelf.find.Goals as goal
 pub returns : goal.returns
 returns g c =
     subst (λ (entries : List Entry). Locates c.args.ssrc entries c.find.result)
-    (ap (λ xs. in_order xs c.self.inside.used) c.as_slice.ensures.cells ∙ ap (λ (v : ShelfValue). v.items) c.self.view_is) c.find.ensures
+    (ap (λ xs. in_order xs c.self.inside.used) c.as_slice.ensures.cells
+    ∙ ap (λ (v : ShelfValue). v.items) c.self.view_is) c.find.ensures

@@ -14,9 +14,12 @@ use Rattle.rtcp_members.proofs.Pairs.{as_many, slots_shifted}
 use Rattle.rtcp_members.proofs.shelf.Shelf.insert.Goals as goal
 
 -- what is left once an entry was put and the slots were shifted
-module _ (old cells shifted : List Cell) (used at until place : ℕ) (entry : Entry) (indexed : IsIndexed old used) (put : IsPut (entries_in old) (entries_in cells) (slots_in old) (spared_slots (2 * until) cells) used place entry)
+module _ (old cells shifted : List Cell) (used at until place : ℕ) (entry : Entry) (indexed : IsIndexed old used)
+    (put : IsPut (entries_in old) (entries_in cells) (slots_in old) (spared_slots (2 * until) cells) used place entry)
     (gap : IsGapFor entry.ssrc (in_order old used) at) (is_until : until ≡ used / 2 + 1) (few : length cells ≤ 1024)
-    (slots : pairs_in shifted ≡ take (2 * until) (insert (pairs_in cells) at (record { ssrc = entry.ssrc; place = place })) ++ drop (2 * until) (pairs_in cells)) (entries : entries_in shifted ≡ entries_in cells) where
+    (slots : pairs_in shifted ≡ take (2 * until) (insert (pairs_in cells) at
+    (record { ssrc = entry.ssrc; place = place })) ++ drop (2 * until) (pairs_in cells))
+    (entries : entries_in shifted ≡ entries_in cells) where
   abbrev slot : Slot
   slot = record { ssrc = entry.ssrc; place = place }
 
@@ -30,18 +33,22 @@ module _ (old cells shifted : List Cell) (used at until place : ℕ) (entry : En
   same_length = as_many cells shifted entries
 
   inserted : slots_in shifted ≡ insert (spared_slots (2 * until) cells) at slot
-  inserted = slots_shifted cells shifted at until slot (omega (arith, below_used, fits)) (omega (arith, below_used, is_until)) (omega (arith, fits, is_until)) same_length slots
+  inserted = slots_shifted cells shifted at until slot (omega (arith, below_used, fits)) (omega
+      (arith, below_used, is_until)) (omega (arith, fits, is_until)) same_length slots
 
   pub its_items : in_order shifted (used + 1) ≡ insert (in_order old used) at entry
   its_items =
       (λ i. picked (entries i) (take (used + 1) (inserted i)))
-      ∙ items_inserted (entries_in old) (entries_in cells) (slots_in old) (spared_slots (2 * until) cells) used at slot entry indexed.heap put refl below_used
+      ∙ items_inserted (entries_in old) (entries_in cells) (slots_in old) (spared_slots
+      (2 * until) cells) used at slot entry indexed.heap put refl below_used
 
   pub still_indexed : IsIndexed shifted (used + 1)
   still_indexed = record {
     heap = subst (λ es. IsHeap es (slots_in shifted) (used + 1)) (sym entries)
         (subst (λ ss. IsHeap (entries_in cells) ss (used + 1)) (sym inserted)
-        (heap_inserted (entries_in old) (entries_in cells) (slots_in old) (spared_slots (2 * until) cells) used at slot entry indexed.heap put refl below_used (omega (arith, few, length-map cells (λ (x : Cell). x.entry)))));
+        (heap_inserted (entries_in old) (entries_in cells) (slots_in old) (spared_slots
+        (2 * until) cells) used at slot entry indexed.heap put refl below_used (omega
+        (arith, few, length-map cells (λ (x : Cell). x.entry)))));
     rising = subst IsRising (sym its_items) (rising_insert (in_order old used) at entry indexed.rising gap);
   }
 
@@ -55,13 +62,17 @@ returns-clause-items g c =
     let until : ℕ = used / 2 + 1 in
     let slot : Slot = record { ssrc = c.args.entry.ssrc; place = c.lay-place.result } in
     let items = ap (λ (v : ShelfValue). v.items) c.self.view_is in
-    let gap = subst (λ (entries : List Entry). IsGapFor c.args.entry.ssrc entries c.args.gap) (sym items) c.requires.gap in
+    let gap = subst (λ (entries : List Entry). IsGapFor c.args.entry.ssrc entries c.args.gap)
+    (sym items) c.requires.gap in
     let few : length cells ≤ 1024 = omega (arith, ap (λ (xs : List Cell). length xs) lent, c.as_mut_slice.ensures.fits, c.lay-place.ensures.room, c.self.invariant.few) in
-    let slots = c.shift.ensures.slots ∙ ap (λ xs. take (2 * until) (insert (pairs_in xs) c.args.gap slot) ++ drop (2 * until) (pairs_in xs)) lent in
+    let slots = c.shift.ensures.slots ∙ ap (λ xs. take (2 * until) (insert (pairs_in xs) c.args.gap slot) ++ drop
+    (2 * until) (pairs_in xs)) lent in
     let entries = c.shift.ensures.entries ∙ ap entries_in lent in
-    let whole : g.B.Blocks.cells (g.B.Blocks.with_cells c.lay-place.new.cells shifted) ≡ shifted = g.met.B.Blocks.written c.lay-place.new.cells shifted (as_many cells shifted entries) in
+    let whole : g.B.Blocks.cells (g.B.Blocks.with_cells c.lay-place.new.cells shifted) ≡ shifted =
+    g.met.B.Blocks.written c.lay-place.new.cells shifted (as_many cells shifted entries) in
     ap (λ xs. in_order xs (used + 1)) whole
-    ∙ its_items before cells shifted used c.args.gap until c.lay-place.result c.args.entry c.self.invariant.index c.lay-place.ensures.put gap refl few slots entries
+    ∙ its_items before cells shifted used c.args.gap until c.lay-place.result c.args.entry c.self.invariant.index
+    c.lay-place.ensures.put gap refl few slots entries
     ∙ ap (λ xs. insert xs c.args.gap c.args.entry) items
 
 pub invariant_of-self : goal.invariant_of-self
@@ -74,13 +85,17 @@ invariant_of-self g c =
     let until : ℕ = used / 2 + 1 in
     let slot : Slot = record { ssrc = c.args.entry.ssrc; place = c.lay-place.result } in
     let items = ap (λ (v : ShelfValue). v.items) c.self.view_is in
-    let gap = subst (λ (entries : List Entry). IsGapFor c.args.entry.ssrc entries c.args.gap) (sym items) c.requires.gap in
+    let gap = subst (λ (entries : List Entry). IsGapFor c.args.entry.ssrc entries c.args.gap)
+    (sym items) c.requires.gap in
     let few : length cells ≤ 1024 = omega (arith, ap (λ (xs : List Cell). length xs) lent, c.as_mut_slice.ensures.fits, c.lay-place.ensures.room, c.self.invariant.few) in
-    let slots = c.shift.ensures.slots ∙ ap (λ xs. take (2 * until) (insert (pairs_in xs) c.args.gap slot) ++ drop (2 * until) (pairs_in xs)) lent in
+    let slots = c.shift.ensures.slots ∙ ap (λ xs. take (2 * until) (insert (pairs_in xs) c.args.gap slot) ++ drop
+    (2 * until) (pairs_in xs)) lent in
     let entries = c.shift.ensures.entries ∙ ap entries_in lent in
-    let whole : g.B.Blocks.cells (g.B.Blocks.with_cells c.lay-place.new.cells shifted) ≡ shifted = g.met.B.Blocks.written c.lay-place.new.cells shifted (as_many cells shifted entries) in
+    let whole : g.B.Blocks.cells (g.B.Blocks.with_cells c.lay-place.new.cells shifted) ≡ shifted =
+    g.met.B.Blocks.written c.lay-place.new.cells shifted (as_many cells shifted entries) in
     record {
       index = subst (λ xs. IsIndexed xs (used + 1)) (sym whole)
-          (still_indexed before cells shifted used c.args.gap until c.lay-place.result c.args.entry c.self.invariant.index c.lay-place.ensures.put gap refl few slots entries);
+          (still_indexed before cells shifted used c.args.gap until c.lay-place.result c.args.entry
+          c.self.invariant.index c.lay-place.ensures.put gap refl few slots entries);
       few = omega (arith, c.self.invariant.few, c.lay-place.ensures.room, g.met.B.Blocks.kept c.lay-place.new.cells shifted);
     }

@@ -12,4 +12,5 @@ returns g c = λ d.
     c.is_due.ensures
     ∙ ap (λ (e : Entry). is_due (entry_value e)) (c.entry_at.ensures d)
     ∙ ap (λ (entries : List Entry). is_due (entry_value (slice_index_or entries c.args.at d)))
-    (ap (λ xs. in_order xs c.self.inside.used) c.as_slice.ensures.cells ∙ ap (λ (v : ShelfValue). v.items) c.self.view_is)
+    (ap (λ xs. in_order xs c.self.inside.used) c.as_slice.ensures.cells
+    ∙ ap (λ (v : ShelfValue). v.items) c.self.view_is)

@@ -12,4 +12,5 @@ returns g c = λ d.
     c.state.ensures
     ∙ ap (λ (e : Entry). state_of (row_of e)) (c.entry_at.ensures d)
     ∙ ap (λ (entries : List Entry). state_of (row_of (slice_index_or entries c.args.at d)))
-    (ap (λ xs. in_order xs c.self.inside.used) c.as_slice.ensures.cells ∙ ap (λ (v : ShelfValue). v.items) c.self.view_is)
+    (ap (λ xs. in_order xs c.self.inside.used) c.as_slice.ensures.cells
+    ∙ ap (λ (v : ShelfValue). v.items) c.self.view_is)

@@ -9,4 +9,5 @@ use Rattle.rtcp_members.proofs.shelf.Shelf.walk_to.Goals as goal
 pub returns : goal.returns
 returns g c =
     subst (λ (entries : List Entry). IfSome c.walk_to.result (Locates c.args.ssrc entries))
-    (ap (λ xs. in_order xs c.self.inside.used) c.as_slice.ensures.cells ∙ ap (λ (v : ShelfValue). v.items) c.self.view_is) c.walk_to.ensures
+    (ap (λ xs. in_order xs c.self.inside.used) c.as_slice.ensures.cells
+    ∙ ap (λ (v : ShelfValue). v.items) c.self.view_is) c.walk_to.ensures
