@@ -1,5 +1,5 @@
 -- A datagram that was read: whether it is refused, and whether it changes the identifier.
-use Rattle.std.proofs.Common.{◌≡◌, ℕ, ◌&&◌, not, Bool, true, false, List, map, Option, Some, None, Result, Err, if◌then◌else◌, refl, sym, ap, ◌∙◌}
+use Rattle.std.proofs.Common.{◌≡◌, ℕ, ◌&&◌, not, Bool, true, false, List, map, Option, Some, None, Result, Err, if◌then◌else◌, refl, sym, ap, ◌∙◌, subst}
 use Rattle.std.specs.Option.{option_or}
 use Rattle.rtcp_engine.specs.declared.arrival.Arrival.{Arrival}
 use Rattle.rtcp_engine.specs.declared.arrival.Arrival.TheVariants.{Rtcp, Rtp}
@@ -11,9 +11,10 @@ use Rattle.rtcp_engine.specs.Acts.{Datagram, arrived}
 use Rattle.rtcp_engine.specs.Identities.{may_change}
 use Rattle.rtcp_engine.specs.Changes.{NewIdentifier, Session, changing_peers, is_about, new_identifier}
 use Rattle.rtcp_engine.specs.Histories.{History, session_at}
+use Rattle.rtcp_engine.specs.Promises.{PassesOn}
 use Rattle.rtcp_engine.specs.Refusals.{fault_in, refusal_after, refusal_if, refusal_of_datagram}
 use Rattle.rtcp_engine.specs.Setups.{Setup}
-use Rattle.rtcp_engine.specs.States.{ParticipantValue, StandsAt, refusal_by}
+use Rattle.rtcp_engine.specs.States.{KeepsCapacity, ParticipantValue, StandsAt, refusal_by}
 use Rattle.rtcp_engine.specs.Views.{datagram_of}
 use Rattle.rtcp_engine.proofs.Acting.{Takes}
 use Rattle.rtcp_engine.proofs.Standing.{refusal_is}
@@ -72,7 +73,12 @@ pub own_refused : (p : ParticipantValue) (t peer word : ℕ) (arrival : Arrival)
     → (h : History) → StandsAt p h → refusal_after h (arrived t peer word (datagram_of arrival)) ≡ Some OwnSsrc
 own_refused p t peer word arrival none own may h stands = refused_as_own p h t peer word arrival stands none (is_own p h (datagram_of arrival) stands own) (sym (may_is p h peer stands) ∙ may)
 
--- What is neither told nor refused is of a peer that may change the identifier.
-pub changing_if_untaken : (result : Option (Result Told Refusal)) (may : Bool) → result ≡ (if may then None else Some (Err OwnSsrc)) → result ≡ None → may ≡ true
-changing_if_untaken result true refused untaken = refl
-changing_if_untaken result false refused untaken = absurd cc
+-- One that names the own identifier is refused, unless its peer may change that: then it is passed on.
+pub passed_or_refused : (p : ParticipantValue) (peer : ℕ) (reply : Option (Result Told Refusal))
+    → reply ≡ (if may_change (map (λ (change : Change). change.peer) p.changes) peer then None else Some (Err OwnSsrc)) → KeepsCapacity p.presence → PassesOn p peer reply p
+passed_or_refused p peer reply is within =
+    let may = may_change (map (λ (change : Change). change.peer) p.changes) peer in
+    subst (λ (r : Option (Result Told Refusal)). PassesOn p peer r p) (sym is) (elim may as (λ b. may ≡ b → PassesOn p peer (if b then None else Some (Err OwnSsrc)) p) [
+      | true ↦ λ yes. record { empty = tt; changing = λ _. yes; untaken = λ _. refl; within = within; refused = tt }
+      | false ↦ λ no. record { empty = refl; changing = λ untaken. absurd cc; untaken = λ _. refl; within = within; refused = refl }
+    ] refl)

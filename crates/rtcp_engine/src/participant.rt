@@ -14,7 +14,7 @@ ghost use Rattle.rtcp_engine.specs.Lives.{members_in_life, senders_in_life, entr
 ghost use Rattle.rtcp_engine.specs.Refused.{error_in};
 ghost use Rattle.rtcp_engine.specs.States.{KeepsCapacity, StandsAt};
 ghost use Rattle.rtcp_engine.specs.InTime.{IsOverdue};
-ghost use Rattle.rtcp_engine.specs.Promises.{Takes};
+ghost use Rattle.rtcp_engine.specs.Promises.{Spares, Takes};
 ghost use Rattle.rtcp_engine.specs.Taken.{begun};
 ghost use Rattle.rtcp_engine.specs.Views.{setup_of, answer_value};
 
@@ -218,8 +218,7 @@ impl<T: MemberTable> Participant<T> {
     pub fn arrive_rtcp(&mut self, now: u64, peer: u64, w: u32, bytes: &[u8]) -> Answer
         ensures takes { (reading : Result (List RtcpPacket) Fault) → IsReading bytes.now reading →
             Takes self.old (rtcp_came now peer w bytes.now reading) (answer_value result) self.new }
-        ensures within { KeepsCapacity self.new.presence }
-        ensures refused { OnErr result (self.new ≡ self.old) }
+        ensures spares { Spares self.old result self.new }
     {
         let mut octets = ArrayVec::new();
         match self.arrive_rtcp_into(now, peer, w, bytes, &mut octets) {
@@ -237,8 +236,7 @@ impl<T: MemberTable> Participant<T> {
     pub fn arrive_rtp(&mut self, now: u64, peer: u64, w: u32, bytes: &[u8]) -> Answer
         ensures takes { (reading : Result RtpValue HeadFault) → IsRtpReading bytes.now reading →
             Takes self.old (rtp_came now peer w reading) (answer_value result) self.new }
-        ensures within { KeepsCapacity self.new.presence }
-        ensures refused { OnErr result (self.new ≡ self.old) }
+        ensures spares { Spares self.old result self.new }
     {
         let mut octets = ArrayVec::new();
         match self.arrive_rtp_into(now, peer, w, bytes, &mut octets) {
@@ -255,8 +253,7 @@ impl<T: MemberTable> Participant<T> {
     /// The first of E1 to E4 that applies. Then the participant is unchanged.
     pub fn sent_rtp(&mut self, now: u64, rtp_ts: u32, octets: u32) -> Answer
         ensures takes { Takes self.old (rtp_sent now rtp_ts octets) (answer_value result) self.new }
-        ensures within { KeepsCapacity self.new.presence }
-        ensures refused { OnErr result (self.new ≡ self.old) }
+        ensures spares { Spares self.old result self.new }
     {
         match self.sent_rtp_told(now, rtp_ts, octets) {
             Ok(told) => Ok(told.step(ArrayVec::new())),
@@ -278,8 +275,7 @@ impl<T: MemberTable> Participant<T> {
         ensures takes { Takes self.old (ticked now w1 w2) (answer_value result) self.new }
         ensures not_too_late { (history : History) → StandsAt self.old history →
             IsOverdue history (ticked now w1 w2) → IfOk result (λ step. IsTrue (is_some step.out)) }
-        ensures within { KeepsCapacity self.new.presence }
-        ensures refused { OnErr result (self.new ≡ self.old) }
+        ensures spares { Spares self.old result self.new }
     {
         let mut octets = ArrayVec::new();
         match self.tick_into(now, w1, w2, &mut octets) {
@@ -300,8 +296,7 @@ impl<T: MemberTable> Participant<T> {
     /// The first of E1 to E4 that applies. Then the participant is unchanged.
     pub fn leave(&mut self, now: u64, w: u32) -> Answer
         ensures takes { Takes self.old (left now w) (answer_value result) self.new }
-        ensures within { KeepsCapacity self.new.presence }
-        ensures refused { OnErr result (self.new ≡ self.old) }
+        ensures spares { Spares self.old result self.new }
     {
         let mut octets = ArrayVec::new();
         match self.leave_into(now, w, &mut octets) {

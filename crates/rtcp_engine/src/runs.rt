@@ -1,6 +1,6 @@
 //! Runs of a participant over events.
 
-ghost use Rattle.std.specs.Prelude.{◌≡◌, ◌≤◌, ◌<◌, ◌+◌, ◌-◌, ◌^◌, ◌++◌, true, false, List, length, take, OnErr};
+ghost use Rattle.std.specs.Prelude.{◌≡◌, ◌≤◌, ◌<◌, ◌+◌, ◌-◌, ◌^◌, ◌++◌, true, false, List, length, take};
 ghost use Rattle.rtcp_engine.specs.Acts.{Act};
 ghost use Rattle.rtcp_engine.specs.Outcomes.{one_if};
 ghost use Rattle.rtcp_engine.specs.Histories.{History};
@@ -8,7 +8,7 @@ ghost use Rattle.rtcp_engine.specs.Answers.{answers_to, followed_by_all};
 ghost use Rattle.rtcp_engine.specs.Views.{answer_value, IsActOf, AreActsOf};
 ghost use Rattle.rtcp_engine.specs.Spacing.{KeepsBounds};
 ghost use Rattle.rtcp_engine.specs.InTime.{AllInTime};
-ghost use Rattle.rtcp_engine.specs.Promises.{Takes};
+ghost use Rattle.rtcp_engine.specs.Promises.{Spares, Takes};
 ghost use Rattle.rtcp_engine.specs.States.{KeepsCapacity, StandsAt};
 
 use crate::event::Event;
@@ -96,8 +96,7 @@ pub fn run<T: MemberTable, S: Sink>(
 fn tell<T: MemberTable>(participant: &mut Participant<T>, event: &Event<'_>) -> Answer
     ensures takes { (act : Act) → IsActOf event.now act →
         Takes participant.old act (answer_value result) participant.new }
-    ensures within { KeepsCapacity participant.new.presence }
-    ensures refused { OnErr result (participant.new ≡ participant.old) }
+    ensures spares { Spares participant.old result participant.new }
 {
     match *event {
         Event::ArriveRtcp {

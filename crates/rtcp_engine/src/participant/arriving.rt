@@ -1,6 +1,6 @@
 //! What a participant does with a datagram that it takes: it may change its identifier first (RFC 3550, 8.2).
 
-ghost use Rattle.std.specs.Prelude.{◌≡◌, ◌≤◌, ◌<◌, ◌-◌, ◌^◌, ℕ, List, None, Some, Ok, Err, length, map, if◌then◌else◌, true, false, OnErr};
+ghost use Rattle.std.specs.Prelude.{◌≡◌, ◌≤◌, ◌<◌, ◌-◌, ◌^◌, ℕ, List, None, Some, Ok, Err, length, map, if◌then◌else◌, true, false};
 ghost use Rattle.rtcp_engine.specs.declared.changes.Change.{Change};
 ghost use Rattle.rtcp_engine.specs.declared.refusal.Refusal.TheVariants.{OwnSsrc};
 ghost use Rattle.rtcp_engine.specs.Identities.{may_change};
@@ -10,7 +10,7 @@ ghost use Rattle.rtcp_engine.specs.Histories.{History, session_at};
 ghost use Rattle.rtcp_engine.specs.Identities.{is_among};
 ghost use Rattle.rtcp_engine.specs.Leaving.{Life};
 ghost use Rattle.rtcp_engine.specs.Lives.{own_bye, step_into};
-ghost use Rattle.rtcp_engine.specs.Promises.{Takes};
+ghost use Rattle.rtcp_engine.specs.Promises.{Spares, Takes};
 ghost use Rattle.rtcp_engine.specs.States.{Acts, Admits, IsAt, IsIn, KeepsCapacity, StandsAt, over, refusal_by};
 ghost use Rattle.rtcp_engine.specs.Views.{NamesFewer, datagram_of, kind_told, out_with, reply_value, size_of, told_value};
 ghost use Rattle.rtcp_members.specs.Tables.{HasFew};
@@ -100,8 +100,7 @@ impl<T: MemberTable> Participant<T> {
         requires few { NamesFewer arrival }
         ensures takes { Takes self.old (arrived now peer w (datagram_of arrival.entry))
             (reply_value octets.new.items result) self.new }
-        ensures within { KeepsCapacity self.new.presence }
-        ensures refused { OnErr result (self.new ≡ self.old) }
+        ensures spares { Spares self.old result self.new }
         ensures untouched { kind_told result ≡ None → octets.new ≡ octets.old }
     {
         if !self.changes.allows(peer) {

@@ -2,19 +2,17 @@
 //! of its size is handed on. `octets` changes only where the reply says what was written: a refusal leaves it as
 //! it was, and so does a call without a compound.
 
-ghost use Rattle.std.specs.Prelude.{◌≡◌, ◌<◌, ◌^◌, ℕ, List, None, Result, length, map, true, IfOk, IfSome, IsTrue, OnErr, is_some};
+ghost use Rattle.std.specs.Prelude.{◌≡◌, ◌<◌, ◌^◌, ℕ, List, None, Result, length, true, IfOk, IfSome, IsTrue, is_some};
 ghost use Rattle.rtcp_wire.specs.declared.fault.WireFault.{WireFault as Fault};
 ghost use Rattle.rtcp_wire.specs.declared.rtp.fault.RtpFault.{RtpFault as HeadFault};
 ghost use Rattle.rtcp_wire.specs.Values.{RtcpPacket};
 ghost use Rattle.rtcp_wire.specs.RtpHeads.{RtpValue};
-ghost use Rattle.rtcp_engine.specs.declared.changes.Change.{Change};
 ghost use Rattle.rtcp_engine.specs.Acts.{rtcp, rtcp_came, rtp, rtp_came, rtp_sent, ticked, left, IsReading, IsRtpReading};
 ghost use Rattle.rtcp_engine.specs.Changes.{is_about};
 ghost use Rattle.rtcp_engine.specs.Histories.{History};
-ghost use Rattle.rtcp_engine.specs.Identities.{may_change};
 ghost use Rattle.rtcp_engine.specs.InTime.{IsOverdue};
-ghost use Rattle.rtcp_engine.specs.Promises.{Takes};
-ghost use Rattle.rtcp_engine.specs.States.{KeepsCapacity, StandsAt, refusal_by};
+ghost use Rattle.rtcp_engine.specs.Promises.{PassesOn, Spares, Takes};
+ghost use Rattle.rtcp_engine.specs.States.{StandsAt, refusal_by};
 ghost use Rattle.rtcp_engine.specs.Views.{kind_told, reply_value};
 
 use super::Participant;
@@ -43,8 +41,7 @@ impl<T: MemberTable> Participant<T> {
         ensures takes { (reading : Result (List RtcpPacket) Fault) → IsReading bytes.now reading →
             Takes self.old (rtcp_came now peer w bytes.now reading) (reply_value octets.new.items result)
             self.new }
-        ensures within { KeepsCapacity self.new.presence }
-        ensures refused { OnErr result (self.new ≡ self.old) }
+        ensures spares { Spares self.old result self.new }
         ensures untouched { kind_told result ≡ None → octets.new ≡ octets.old }
     {
         if let Some(refusal) = self.refusal(now) {
@@ -75,15 +72,10 @@ impl<T: MemberTable> Participant<T> {
         ensures takes { (w : ℕ) (room : List ℕ) (reading : Result (List RtcpPacket) Fault) → w < 2 ^ 32 →
             IsReading bytes.now reading → IfSome result (λ reply.
             Takes self.old (rtcp_came now peer w bytes.now reading) (reply_value room reply) self.new) }
-        ensures empty { IfSome result (λ reply. kind_told reply ≡ None) }
         ensures admitted { result ≡ None → refusal_by now self.old ≡ None }
         ensures own { (reading : Result (List RtcpPacket) Fault) → IsReading bytes.now reading → result ≡ None →
             is_about self.old.presence.setup.ssrc (rtcp (length bytes.now) reading) ≡ true }
-        ensures changing { result ≡ None →
-            may_change (map (λ (change : Change). change.peer) self.old.changes) peer ≡ true }
-        ensures untaken { result ≡ None → self.new ≡ self.old }
-        ensures within { KeepsCapacity self.new.presence }
-        ensures refused { IfSome result (λ reply. OnErr reply (self.new ≡ self.old)) }
+        ensures passes { PassesOn self.old peer result self.new }
     {
         if let Some(refusal) = self.refusal(now) {
             return Some(Err(refusal));
@@ -115,8 +107,7 @@ impl<T: MemberTable> Participant<T> {
     ) -> Reply
         ensures takes { (reading : Result RtpValue HeadFault) → IsRtpReading bytes.now reading →
             Takes self.old (rtp_came now peer w reading) (reply_value octets.new.items result) self.new }
-        ensures within { KeepsCapacity self.new.presence }
-        ensures refused { OnErr result (self.new ≡ self.old) }
+        ensures spares { Spares self.old result self.new }
         ensures untouched { kind_told result ≡ None → octets.new ≡ octets.old }
     {
         if let Some(refusal) = self.refusal(now) {
@@ -147,15 +138,10 @@ impl<T: MemberTable> Participant<T> {
         ensures takes { (w : ℕ) (room : List ℕ) (reading : Result RtpValue HeadFault) → w < 2 ^ 32 →
             IsRtpReading bytes.now reading → IfSome result (λ reply.
             Takes self.old (rtp_came now peer w reading) (reply_value room reply) self.new) }
-        ensures empty { IfSome result (λ reply. kind_told reply ≡ None) }
         ensures admitted { result ≡ None → refusal_by now self.old ≡ None }
         ensures own { (reading : Result RtpValue HeadFault) → IsRtpReading bytes.now reading → result ≡ None →
             is_about self.old.presence.setup.ssrc (rtp reading) ≡ true }
-        ensures changing { result ≡ None →
-            may_change (map (λ (change : Change). change.peer) self.old.changes) peer ≡ true }
-        ensures untaken { result ≡ None → self.new ≡ self.old }
-        ensures within { KeepsCapacity self.new.presence }
-        ensures refused { IfSome result (λ reply. OnErr reply (self.new ≡ self.old)) }
+        ensures passes { PassesOn self.old peer result self.new }
     {
         if let Some(reason) = self.refusal(now) {
             return Some(Err(reason));
@@ -180,8 +166,7 @@ impl<T: MemberTable> Participant<T> {
         ensures takes { (room : List ℕ) →
             Takes self.old (rtp_sent now rtp_ts octets) (reply_value room result) self.new }
         ensures empty { kind_told result ≡ None }
-        ensures within { KeepsCapacity self.new.presence }
-        ensures refused { OnErr result (self.new ≡ self.old) }
+        ensures spares { Spares self.old result self.new }
     {
         if let Some(refusal) = self.refusal(now) {
             return Err(refusal);
@@ -206,8 +191,7 @@ impl<T: MemberTable> Participant<T> {
         ensures takes { Takes self.old (ticked now w1 w2) (reply_value octets.new.items result) self.new }
         ensures not_too_late { (history : History) → StandsAt self.old history →
             IsOverdue history (ticked now w1 w2) → IfOk result (λ told. IsTrue (is_some told.out)) }
-        ensures within { KeepsCapacity self.new.presence }
-        ensures refused { OnErr result (self.new ≡ self.old) }
+        ensures spares { Spares self.old result self.new }
         ensures untouched { kind_told result ≡ None → octets.new ≡ octets.old }
     {
         if let Some(refusal) = self.refusal(now) {
@@ -225,8 +209,7 @@ impl<T: MemberTable> Participant<T> {
     /// The first of E1 to E4 that applies. Then the participant and `octets` are unchanged.
     pub fn leave_into(&mut self, now: u64, w: u32, octets: &mut ArrayVec<u8, MAX_COMPOUND>) -> Reply
         ensures takes { Takes self.old (left now w) (reply_value octets.new.items result) self.new }
-        ensures within { KeepsCapacity self.new.presence }
-        ensures refused { OnErr result (self.new ≡ self.old) }
+        ensures spares { Spares self.old result self.new }
         ensures untouched { kind_told result ≡ None → octets.new ≡ octets.old }
     {
         if let Some(refusal) = self.refusal(now) {

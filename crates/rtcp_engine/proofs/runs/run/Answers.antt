@@ -37,7 +37,7 @@ events-preserved g c =
       handed = ap length (of_no_error c.put.result none c.put.ensures.taken)
           ∙ length-append _ (answer_value c.tell-answer.result ∷ [])
           ∙ omega (arith, c.events.invariant.handed);
-      within = λ before. c.tell-answer.ensures.within;
+      within = λ before. c.tell-answer.ensures.spares.within;
       told = λ history acts h are.
           let next = next_act c.args.events.now acts c.events.taken c.events.event-index c.events.invariant.count c.events-test.true are in
           let told = followed_by_all history (take c.events.taken acts) in

@@ -13,7 +13,7 @@ use Rattle.rtcp_engine.specs.Acts.{arrived, rtcp, rtcp_came}
 use Rattle.rtcp_engine.specs.Promises.{Takes}
 use Rattle.rtcp_engine.specs.Views.{datagram_of, reply_value, told_value}
 use Rattle.rtcp_engine.proofs.Acting.{call_refused_by, refuses}
-use Rattle.rtcp_engine.proofs.Arriving.{changing_if_untaken, fault_refused, own_refused}
+use Rattle.rtcp_engine.proofs.Arriving.{fault_refused, own_refused, passed_or_refused}
 use Rattle.rtcp_engine.proofs.LawLemmas.{one_reading-once}
 use Rattle.rtcp_engine.proofs.participant.Participant.arrive_rtcp_told.Goals as goal
 
@@ -53,6 +53,5 @@ returns-then-is_named_by-clause-own g c reading is none =
     let own = sym c.is_named_by.ensures ∙ c.if-is_named_by.true in
     subst (λ (r : Result (List RtcpPacket) WireFault). is_about c.args.self.now.presence.setup.ssrc (rtcp (length c.args.bytes.now) r) ≡ true) (one_reading-once c.args.bytes.now (Ok c.in-Ok.compound) reading c.in-Ok.ensures.accepted is) own
 
-pub returns-then-is_named_by-clause-changing : goal.returns-then-is_named_by-clause-changing
-returns-then-is_named_by-clause-changing g c untaken =
-    changing_if_untaken c.own_refusal.result (may_change (map (λ (change : Change). change.peer) c.args.self.now.changes) c.args.peer) c.own_refusal.ensures untaken
+pub returns-then-is_named_by-clause-passes : goal.returns-then-is_named_by-clause-passes
+returns-then-is_named_by-clause-passes g c = passed_or_refused c.args.self.now c.args.peer c.own_refusal.result c.own_refusal.ensures c.refusal.ensures.within
