@@ -26,9 +26,11 @@ use arrayvec::ArrayVec;
 use rtcp_members::{InlineTable, MemberTable, SourceState, Sources};
 use std::marker::Model;
 
-mod arriving;
+mod answering;
 mod backoff;
-mod telling;
+mod calls;
+mod changing;
+mod phases;
 
 /// The most members with which a BYE goes out at once (RFC 3550, 6.3.7).
 const FEW_MEMBERS: u32 = 50;

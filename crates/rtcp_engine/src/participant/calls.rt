@@ -2,23 +2,23 @@
 //! of its size is handed on. `octets` changes only where the reply says what was written: a refusal leaves it as
 //! it was, and so does a call without a compound.
 
-ghost use Rattle.std.specs.Prelude.{◌≡◌, ◌<◌, ◌^◌, ℕ, List, None, Result, length, true, IfOk, IfSome, IsTrue, is_some};
+ghost use Rattle.std.specs.Prelude.{◌≡◌, ◌≤◌, ◌<◌, ◌^◌, ℕ, List, None, Ok, length, true, false, Result, IfOk, IfSome, IsTrue, is_some};
+ghost use Rattle.rtcp_engine.specs.Acts.{arrived, left, rtcp, rtp_sent, ticked, rtcp_came, rtp, rtp_came, IsReading, IsRtpReading};
+ghost use Rattle.rtcp_engine.specs.Changes.{is_about};
+ghost use Rattle.rtcp_engine.specs.Histories.{History};
+ghost use Rattle.rtcp_engine.specs.Promises.{Spares, Takes, PassesOn};
+ghost use Rattle.rtcp_engine.specs.States.{Admits, KeepsCapacity, StandsAt, refusal_by};
+ghost use Rattle.rtcp_engine.specs.Views.{NamesFewer, datagram_of, kind_told, reply_value, size_of, told_value};
 ghost use Rattle.rtcp_wire.specs.declared.fault.WireFault.{WireFault as Fault};
 ghost use Rattle.rtcp_wire.specs.declared.rtp.fault.RtpFault.{RtpFault as HeadFault};
 ghost use Rattle.rtcp_wire.specs.Values.{RtcpPacket};
 ghost use Rattle.rtcp_wire.specs.RtpHeads.{RtpValue};
-ghost use Rattle.rtcp_engine.specs.Acts.{rtcp, rtcp_came, rtp, rtp_came, rtp_sent, ticked, left, IsReading, IsRtpReading};
-ghost use Rattle.rtcp_engine.specs.Changes.{is_about};
-ghost use Rattle.rtcp_engine.specs.Histories.{History};
 ghost use Rattle.rtcp_engine.specs.InTime.{IsOverdue};
-ghost use Rattle.rtcp_engine.specs.Promises.{PassesOn, Spares, Takes};
-ghost use Rattle.rtcp_engine.specs.States.{StandsAt, refusal_by};
-ghost use Rattle.rtcp_engine.specs.Views.{kind_told, reply_value};
 
-use super::Participant;
+use super::{Participant, Phase};
 use crate::arrival::Arrival;
 use crate::refusal::Refusal;
-use crate::step::{NOTHING, Reply};
+use crate::step::{Brought, NOTHING, Reply, Told};
 use arrayvec::ArrayVec;
 use rtcp_members::MemberTable;
 use rtcp_wire::{Compound, MAX_COMPOUND, RtpHead};
@@ -51,13 +51,8 @@ impl<T: MemberTable> Participant<T> {
             Ok(compound) => compound,
             Err(fault) => return Err(Refusal::Wire(fault)),
         };
-        let arrival = Arrival::Rtcp(compound, bytes.len());
-        if self.is_named_by(&arrival) {
-            // Not returned at once: the compiler would keep every answer on the stack for this call.
-            let reply = self.arrive_as_own(now, peer, w, arrival, octets);
-            return reply;
-        }
-        Ok(self.arrive_as_other(now, &arrival))
+        let datagram = Arrival::Rtcp(compound, bytes.len());
+        self.arrive(now, peer, w, datagram, octets)
     }
 
     /// [`arrive_rtcp`](Participant::arrive_rtcp) of a datagram that changes no identifier. That never has a
@@ -85,10 +80,7 @@ impl<T: MemberTable> Participant<T> {
             Err(fault) => return Some(Err(Refusal::Wire(fault))),
         };
         let datagram = Arrival::Rtcp(compound, bytes.len());
-        if self.is_named_by(&datagram) {
-            return self.own_refusal(peer);
-        }
-        Some(Ok(self.arrive_as_other(now, &datagram)))
+        self.arrive_told(now, peer, &datagram)
     }
 
     /// [`arrive_rtp`](Participant::arrive_rtp), where the BYE of an SSRC that is given up replaces what stood
@@ -117,13 +109,7 @@ impl<T: MemberTable> Participant<T> {
             Ok(head) => head,
             Err(fault) => return Err(Refusal::Rtp(fault)),
         };
-        let packet = Arrival::Rtp(head);
-        if self.is_named_by(&packet) {
-            // As in `arrive_rtcp_into`.
-            let reply = self.arrive_as_own(now, peer, w, packet, octets);
-            return reply;
-        }
-        Ok(self.arrive_as_other(now, &packet))
+        self.arrive(now, peer, w, Arrival::Rtp(head), octets)
     }
 
     /// [`arrive_rtp`](Participant::arrive_rtp) of a packet that changes no identifier. That never has a compound:
@@ -150,11 +136,8 @@ impl<T: MemberTable> Participant<T> {
             Ok(head) => head,
             Err(fault) => return Some(Err(Refusal::Rtp(fault))),
         };
-        let media = Arrival::Rtp(head);
-        if self.is_named_by(&media) {
-            return self.own_refusal(peer);
-        }
-        Some(Ok(self.arrive_as_other(now, &media)))
+        let packet = Arrival::Rtp(head);
+        self.arrive_told(now, peer, &packet)
     }
 
     /// [`sent_rtp`](Participant::sent_rtp), which never has a compound: so it takes no room for one.
@@ -218,5 +201,95 @@ impl<T: MemberTable> Participant<T> {
         self.take_call(now);
         let brought = self.take_leave(now, w, octets);
         Ok(self.told(brought))
+    }
+
+    /// Why a call at the moment `now` is refused, whatever it tells.
+    fn refusal(&self, now: u64) -> Option<Refusal>
+        ensures exact { result ≡ refusal_by now self.now }
+        ensures in_order { result ≡ None → Admits self.now.presence now }
+        ensures within { KeepsCapacity self.now.presence }
+    {
+        match self.phase {
+            Phase::Present | Phase::BackingOff(_) => self.presence.refusal(now),
+            Phase::Gone => Some(Refusal::Left),
+        }
+    }
+
+    /// Takes a datagram that was read, after a change of the participant's SSRC if it names that.
+    // Inlined, as what it calls: each call takes its own kind of datagram on a path without the other.
+    #[inline(always)]
+    fn arrive(
+        &mut self,
+        now: u64,
+        peer: u64,
+        w: u32,
+        arrival: Arrival<'_>,
+        octets: &mut ArrayVec<u8, MAX_COMPOUND>,
+    ) -> Reply
+        requires admitted { refusal_by now self.old ≡ None }
+        requires in_order { Admits self.old.presence now }
+        requires size { size_of arrival ≤ 65535 }
+        requires few { NamesFewer arrival }
+        ensures takes { Takes self.old (arrived now peer w (datagram_of arrival.entry))
+            (reply_value octets.new.items result) self.new }
+        ensures spares { Spares self.old result self.new }
+        ensures untouched { kind_told result ≡ None → octets.new ≡ octets.old }
+    {
+        if self.is_named_by(&arrival) {
+            // Not returned at once: the compiler would keep every answer on the stack for this call.
+            let reply = self.arrive_as_own(now, peer, w, arrival, octets);
+            return reply;
+        }
+        Ok(self.arrive_as_other(now, &arrival))
+    }
+
+    /// The same, of a datagram that changes no identifier: `None` where it names the participant's SSRC, and its peer
+    /// may change that.
+    #[inline(always)]
+    fn arrive_told(&mut self, now: u64, peer: u64, arrival: &Arrival<'_>) -> Option<Reply>
+        requires admitted { refusal_by now self.old ≡ None }
+        requires in_order { Admits self.old.presence now }
+        requires size { size_of arrival.now ≤ 65535 }
+        requires within { KeepsCapacity self.old.presence }
+        ensures takes { (w : ℕ) (room : List ℕ) → w < 2 ^ 32 → IfSome result (λ reply.
+            Takes self.old (arrived now peer w (datagram_of arrival.now)) (reply_value room reply) self.new) }
+        ensures own { result ≡ None → is_about self.old.presence.setup.ssrc (datagram_of arrival.now) ≡ true }
+        ensures passes { PassesOn self.old peer result self.new }
+    {
+        if self.is_named_by(arrival) {
+            return self.own_refusal(peer);
+        }
+        Some(Ok(self.arrive_as_other(now, arrival)))
+    }
+
+    /// Whether a datagram names the participant's SSRC.
+    // Inlined, as `Arrival::is_of`.
+    #[inline(always)]
+    fn is_named_by(&self, arrival: &Arrival<'_>) -> bool
+        ensures { result ≡ is_about self.now.presence.setup.ssrc (datagram_of arrival.now) }
+    {
+        arrival.is_of(self.presence.ssrc())
+    }
+
+    /// Takes a datagram that does not name the participant's SSRC: it hands out nothing.
+    // Inlined, so that a call goes on with the datagram at hand, and writes its answer once, into its caller's
+    // room for that: what answers otherwise has returned before.
+    #[inline(always)]
+    fn arrive_as_other(&mut self, now: u64, arrival: &Arrival<'_>) -> Told
+        requires other { is_about self.old.presence.setup.ssrc (datagram_of arrival.now) ≡ false }
+        requires admitted { refusal_by now self.old ≡ None }
+        requires in_order { Admits self.old.presence now }
+        requires size { size_of arrival.now ≤ 65535 }
+        ensures takes { (peer w : ℕ) (room : List ℕ) → w < 2 ^ 32 →
+            Takes self.old (arrived now peer w (datagram_of arrival.now)) (Ok (told_value room result)) self.new }
+        ensures empty { result.out ≡ None }
+        ensures within { KeepsCapacity self.new.presence }
+    {
+        self.take_call(now);
+        let others_changed = self.take_datagram(now, arrival);
+        self.told(Brought {
+            out: None,
+            others_changed,
+        })
     }
 }

@@ -1,0 +1,129 @@
+//! A change of the participant's identifier, for a datagram that names it (RFC 3550, 8.2).
+
+ghost use Rattle.std.specs.Prelude.{◌≡◌, ◌≤◌, ◌<◌, None, Some, Err, length, map, if◌then◌else◌, true};
+ghost use Rattle.rtcp_engine.specs.declared.changes.Change.{Change};
+ghost use Rattle.rtcp_engine.specs.declared.refusal.Refusal.TheVariants.{OwnSsrc};
+ghost use Rattle.rtcp_engine.specs.Identities.{may_change, is_among};
+ghost use Rattle.rtcp_engine.specs.Acts.{arrived};
+ghost use Rattle.rtcp_engine.specs.Changes.{Session, changed_to, identifiers, is_about, is_taken as is_taken_of, new_identifier};
+ghost use Rattle.rtcp_engine.specs.Histories.{History, session_at};
+ghost use Rattle.rtcp_engine.specs.Lives.{own_bye};
+ghost use Rattle.rtcp_engine.specs.Promises.{Spares, Takes};
+ghost use Rattle.rtcp_engine.specs.States.{Admits, IsIn, KeepsCapacity, StandsAt, over, refusal_by};
+ghost use Rattle.rtcp_engine.specs.Views.{NamesFewer, datagram_of, kind_told, out_with, reply_value, size_of};
+
+use super::Participant;
+use crate::arrival::Arrival;
+use crate::refusal::Refusal;
+use crate::step::{Brought, OutKind, Reply};
+use arrayvec::ArrayVec;
+use rtcp_members::MemberTable;
+use rtcp_wire::MAX_COMPOUND;
+
+/// More than can be taken of the identifiers that follow one another: at most nine are or were the participant's
+/// own, 1,024 are in its table, and fewer than 2^16 are in a datagram.
+const MAX_TRIES: u32 = 1 << 17;
+
+impl<T: MemberTable> Participant<T> {
+    /// The refusal of a datagram that names the participant's SSRC, unless its peer may change that.
+    #[cold]
+    pub(super) fn own_refusal(&self, peer: u64) -> Option<Reply>
+        ensures { result ≡ (if may_change (map (λ (change : Change). change.peer) self.now.changes) peer
+            then None else Some (Err OwnSsrc)) }
+    {
+        if self.changes.allows(peer) {
+            return None;
+        }
+        Some(Err(Refusal::OwnSsrc))
+    }
+
+    /// Takes a datagram that names the participant's SSRC, after a change of that, or refuses it.
+    #[cold]
+    pub(super) fn arrive_as_own(
+        &mut self,
+        now: u64,
+        peer: u64,
+        w: u32,
+        arrival: Arrival<'_>,
+        octets: &mut ArrayVec<u8, MAX_COMPOUND>,
+    ) -> Reply
+        requires own { is_about self.old.presence.setup.ssrc (datagram_of arrival) ≡ true }
+        requires admitted { refusal_by now self.old ≡ None }
+        requires in_order { Admits self.old.presence now }
+        requires size { size_of arrival ≤ 65535 }
+        requires few { NamesFewer arrival }
+        ensures takes { Takes self.old (arrived now peer w (datagram_of arrival.entry))
+            (reply_value octets.new.items result) self.new }
+        ensures spares { Spares self.old result self.new }
+        ensures untouched { kind_told result ≡ None → octets.new ≡ octets.old }
+    {
+        if !self.changes.allows(peer) {
+            return Err(Refusal::OwnSsrc);
+        }
+        let ssrc = self.free_ssrc(w, &arrival);
+        let out = self.change(peer, ssrc, octets);
+        self.take_call(now);
+        let others_changed = self.take_datagram(now, &arrival);
+        let mut told = self.told(Brought {
+            out,
+            others_changed,
+        });
+        told.changed = Some(ssrc);
+        Ok(told)
+    }
+
+    /// The first of `w`, the number after it, and so on that is not taken: neither by the participant, now or
+    /// before, nor by a source of its table, nor in the datagram.
+    fn free_ssrc(&self, w: u32, arrival: &Arrival<'_>) -> u32
+        requires few { NamesFewer arrival.now }
+        ensures { (history : History) → StandsAt self.now history → (self.now.phase ≡ over → ⊥) →
+            result ≡ new_identifier w (session_at history) (datagram_of arrival.now) }
+    {
+        'tries: for offset in 0..MAX_TRIES {
+            let ssrc = w.wrapping_add(offset);
+            if !self.is_taken(ssrc, arrival) {
+                return ssrc;
+            }
+        }
+        w
+    }
+
+    /// Whether a source has this SSRC, as far as the participant knows, or the datagram names it.
+    fn is_taken(&self, ssrc: u32, arrival: &Arrival<'_>) -> bool
+        ensures { (session : Session) → IsIn self.now session → (self.now.phase ≡ over → ⊥) →
+            result ≡ is_taken_of session (datagram_of arrival.now) ssrc }
+    {
+        self.is_own(ssrc) || self.presence.knows(ssrc) || arrival.names(ssrc)
+    }
+
+    /// Whether this SSRC is the participant's, or was.
+    fn is_own(&self, ssrc: u32) -> bool
+        ensures { (session : Session) → IsIn self.now session →
+            result ≡ is_among (identifiers session) ssrc }
+    {
+        self.presence.ssrc() == ssrc || self.changes.gave_up(ssrc)
+    }
+
+    /// Takes another SSRC, as a datagram of this peer names the present one. The BYE of that one is written,
+    /// if something was sent under it.
+    fn change(
+        &mut self,
+        peer: u64,
+        ssrc: u32,
+        octets: &mut ArrayVec<u8, MAX_COMPOUND>,
+    ) -> Option<OutKind>
+        requires room { length self.old.changes < 8 }
+        requires present { self.old.phase ≡ over → ⊥ }
+        ensures out { (session : Session) → IsIn self.old session →
+            out_with octets.new.items result ≡ own_bye session.setup session.life }
+        ensures new { (session : Session) → IsIn self.old session →
+            IsIn self.new (changed_to (record { peer = peer; ssrc = ssrc }) session) }
+        ensures latest { self.new.presence.latest ≡ self.old.presence.latest }
+        ensures calls { self.new.presence.calls ≡ self.old.presence.calls }
+        ensures within { KeepsCapacity self.new.presence }
+        ensures untouched { result ≡ None → octets.new ≡ octets.old }
+    {
+        self.changes.add(peer, self.presence.ssrc());
+        self.presence.change_identifier(ssrc, octets)
+    }
+}

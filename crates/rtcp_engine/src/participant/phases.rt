@@ -1,0 +1,114 @@
+//! What a participant does with an act in each phase.
+
+ghost use Rattle.std.specs.Prelude.{◌≡◌, ◌≤◌, ◌<◌, ◌-◌, ℕ, None, false};
+ghost use Rattle.rtcp_engine.specs.Acts.{arrived, left, rtp_sent, ticked};
+ghost use Rattle.rtcp_engine.specs.States.{Acts, Admits, KeepsCapacity, called};
+ghost use Rattle.rtcp_engine.specs.Views.{datagram_of, out_with, size_of};
+ghost use Rattle.rtcp_members.specs.Tables.{HasFew};
+
+use super::{Participant, Phase};
+use crate::arrival::Arrival;
+use crate::step::{Brought, NOTHING};
+use arrayvec::ArrayVec;
+use rtcp_members::MemberTable;
+use rtcp_wire::MAX_COMPOUND;
+
+impl<T: MemberTable> Participant<T> {
+    /// Takes a call.
+    pub(super) fn take_call(&mut self, now: u64)
+        requires { Admits self.old.presence now }
+        ensures new { self.new ≡ called now self.old }
+        ensures reports { self.new.presence.reports < self.new.presence.calls }
+        ensures few { HasFew (self.new.presence.calls - 1) self.new.presence.table }
+    {
+        self.presence.take_call(now);
+    }
+
+    /// Takes a datagram under the present SSRC: nothing of it counts in a backoff but BYE packets. Returns whether it
+    /// changed who of the others is a member or who sends.
+    // Inlined, so that each call takes its own kind of datagram on a path without the other.
+    #[inline(always)]
+    pub(super) fn take_datagram(&mut self, now: u64, arrival: &Arrival<'_>) -> bool
+        requires order { self.old.presence.latest ≡ now }
+        requires size { size_of arrival.now ≤ 65535 }
+        requires reports { self.old.presence.reports < self.old.presence.calls }
+        requires few { HasFew (self.old.presence.calls - 1) self.old.presence.table }
+        ensures new { (peer word : ℕ) →
+            Acts self.old self.new (arrived now peer word (datagram_of arrival.now)) None result }
+        ensures within { KeepsCapacity self.new.presence }
+    {
+        match self.phase {
+            Phase::Present => self.presence.take_datagram(now, arrival),
+            Phase::BackingOff(members) => {
+                if let Arrival::Rtcp(compound, size) = arrival {
+                    self.count_farewell(compound, *size, members);
+                }
+                false
+            }
+            Phase::Gone => false,
+        }
+    }
+
+    /// Takes a packet that the host sent, which counts as long as the participant takes part.
+    pub(super) fn take_sent(&mut self, now: u64, rtp_ts: u32, octets: u32)
+        ensures new { Acts self.old self.new (rtp_sent now rtp_ts octets) None false }
+        ensures within { KeepsCapacity self.new.presence }
+    {
+        match self.phase {
+            Phase::Present => self.presence.take_sent(now, rtp_ts, octets),
+            Phase::BackingOff(_) => {}
+            Phase::Gone => {}
+        }
+    }
+
+    /// Writes a report or the BYE, if it is due.
+    pub(super) fn take_tick(
+        &mut self,
+        now: u64,
+        w1: u32,
+        w2: u32,
+        octets: &mut ArrayVec<u8, MAX_COMPOUND>,
+    ) -> Brought
+        requires order { self.old.presence.latest ≡ now }
+        requires reports { self.old.presence.reports < self.old.presence.calls }
+        ensures new { Acts self.old self.new (ticked now w1 w2) (out_with octets.new.items result.out)
+            result.others_changed }
+        ensures within { KeepsCapacity self.new.presence }
+        ensures untouched { result.out ≡ None → octets.new ≡ octets.old }
+    {
+        match self.phase {
+            Phase::Present => self.presence.tick(now, w1, w2, octets),
+            Phase::BackingOff(members) => Brought {
+                out: self.try_bye(now, w1, members, octets),
+                others_changed: false,
+            },
+            Phase::Gone => NOTHING,
+        }
+    }
+
+    /// Leaves, if it has not left yet.
+    pub(super) fn take_leave(
+        &mut self,
+        now: u64,
+        w: u32,
+        octets: &mut ArrayVec<u8, MAX_COMPOUND>,
+    ) -> Brought
+        requires order { self.old.presence.latest ≡ now }
+        ensures new { Acts self.old self.new (left now w) (out_with octets.new.items result.out)
+            result.others_changed }
+        ensures within { KeepsCapacity self.new.presence }
+        ensures untouched { result.out ≡ None → octets.new ≡ octets.old }
+    {
+        match self.phase {
+            Phase::Present => {
+                let others_changed = self.presence.has_others();
+                Brought {
+                    out: self.depart(w, octets),
+                    others_changed,
+                }
+            }
+            Phase::BackingOff(_) => NOTHING,
+            Phase::Gone => NOTHING,
+        }
+    }
+}
