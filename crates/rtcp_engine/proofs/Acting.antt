@@ -45,6 +45,10 @@ inside_at {p} {w} is life at = subst (λ (x : ParticipantValue). IsAt x life) (s
 pub outside : {p w q : ParticipantValue} {act : Act} {out : Option OutValue} {moved : Bool} → p ≡ w → Acts p q act out moved → Acts w q act out moved
 outside {p} {w} {q} {act} {out} {moved} is acts = subst (λ (x : ParticipantValue). Acts x q act out moved) is acts
 
+-- the same of an act that tells the moment of the latest call
+pub outside_at : {p w q : ParticipantValue} {out : Option OutValue} {moved : Bool} (act : ParticipantValue → Act) → p ≡ w → Acts p q (act p) out moved → Acts w q (act w) out moved
+outside_at {p} {w} {q} {out} {moved} act is = subst (λ (x : ParticipantValue). Acts x q (act x) out moved) is
+
 pub same_stays : (s : State) → Stays s s
 same_stays s = record { setup = refl; latest = refl; calls = refl }
 

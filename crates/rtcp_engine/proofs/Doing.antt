@@ -33,6 +33,17 @@ both {a} {b} {c} {f} {g} first second = record {
   follows = λ outcome agrees. subst (λ (setup : Setup). Agrees c (g setup (f a.setup outcome))) first.stays.setup (second.follows (f a.setup outcome) (first.follows outcome agrees));
 }
 
+-- the same, where the second step tells the moment of the latest call, which the first one leaves
+pub both_now : {a b c : State} {f : Setup → Outcome → Outcome} (g : (t : ℕ) → Setup → Outcome → Outcome) → Does a b f → Does b c (g b.latest) → Does a c (λ setup outcome. g a.latest setup (f setup outcome))
+both_now {a} {b} {c} {f} g first second = both first (subst (λ (t : ℕ). Does b c (g t)) first.stays.latest second)
+
+-- what is known at the moment of the latest call inside is known at that outside
+pub at_latest : {s w : State} → s ≡ w → (P : ℕ → Type 0) → P s.latest → P w.latest
+at_latest {s} {w} is P inside = subst (λ (x : State). P x.latest) is inside
+
+pub does_at : {s w v : State} → s ≡ w → (step : (t : ℕ) → Setup → Outcome → Outcome) → Does w v (step s.latest) → Does w v (step w.latest)
+does_at {s} {w} {v} is step = at_latest is (λ t. Does w v (step t))
+
 pub seen : {s w : State} → s ≡ w → (outcome : Outcome) → Agrees w outcome → Agrees s outcome
 seen {s} {w} is outcome agrees = subst (λ (x : State). Agrees x outcome) (sym is) agrees
 
@@ -218,10 +229,11 @@ puts_off {w} {v} t first_word second_word none before = record {
   follows = λ outcome a. subst (Agrees v) (undue w.setup t first_word second_word outcome (has_come t outcome) (has_passed w.setup t first_word outcome) (sym (none outcome a))) (before.follows outcome a);
 }
 
-pub reports_now : {w v u : State} (t first_word second_word : ℕ) → IsDueBy w t first_word true → Does w v (λ setup. tried_at setup t first_word) → Does v u (λ setup. reported setup t second_word)
-    → Does w u (λ setup. after_check_at setup t first_word second_word)
-reports_now {w} {v} {u} t first_word second_word is_due before sent =
-    let whole = both before sent in record {
+pub reports_now : {w v u : State} (first_word second_word : ℕ) → IsDueBy w w.latest first_word true → Does w v (λ setup. tried_at setup w.latest first_word) → Does v u (λ setup. reported setup v.latest second_word)
+    → Does w u (λ setup. after_check_at setup w.latest first_word second_word)
+reports_now {w} {v} {u} first_word second_word is_due before sent =
+    let t = w.latest in
+    let whole = both_now (λ t setup. reported setup t second_word) before sent in record {
       stays = whole.stays;
       follows = λ outcome a. due u w.setup t first_word second_word outcome (has_come t outcome) (has_passed w.setup t first_word outcome) (sym (is_due outcome a)) (whole.follows outcome a);
     }
@@ -230,11 +242,12 @@ same_octets : (setup : Setup) (t word : ℕ) (outcome : Outcome) (come : Bool) �
 same_octets setup t word outcome true = refl
 same_octets setup t word outcome false = refl
 
-pub hands_out : {w v : State} (t word : ℕ) (octets : List ℕ) → IsDueBy w t word true → Does w v (λ setup. tried_at setup t word) → ((outcome : Outcome) → Agrees v outcome → octets ≡ report_octets v.setup t outcome)
-    → (outcome : Outcome) → Agrees w outcome → Some octets ≡ report_due w.setup t word outcome
-hands_out {w} {v} t word octets is_due before made outcome a =
+pub hands_out : {w v : State} (word : ℕ) (octets : List ℕ) → IsDueBy w w.latest word true → Does w v (λ setup. tried_at setup w.latest word) → ((outcome : Outcome) → Agrees v outcome → octets ≡ report_octets v.setup v.latest outcome)
+    → (outcome : Outcome) → Agrees w outcome → Some octets ≡ report_due w.setup w.latest word outcome
+hands_out {w} {v} word octets is_due before made outcome a =
+    let t = w.latest in
     let tried_outcome = tried_at w.setup t word outcome in
-    ap Some (made tried_outcome (before.follows outcome a) ∙ ap (λ (setup : Setup). report_octets setup t tried_outcome) before.stays.setup ∙ same_octets w.setup t word outcome (has_come t outcome))
+    ap Some (made tried_outcome (before.follows outcome a) ∙ (λ i. report_octets (before.stays.setup i) (before.stays.latest i) tried_outcome) ∙ same_octets w.setup t word outcome (has_come t outcome))
     ∙ ap (λ (b : Bool). if b then Some (report_octets w.setup t outcome) else None) (is_due outcome a)
 
 -- ---- Datagrams
@@ -301,6 +314,9 @@ waits_on {s} {w} is timing t word td members interval unchanged steps = record {
             })
       ];
 }
+
+pub waiting_at : {s w v : State} {members : ℕ} → s ≡ w → (step : (t : ℕ) → Setup → Backoff → Backoff) → DoesWaiting members w v (step s.latest) → DoesWaiting members w v (step w.latest)
+waiting_at {s} {w} {v} {members} is step = at_latest is (λ t. DoesWaiting members w v (step t))
 
 pub hears : {s w : State} → s ≡ w → (average size : ℕ) → average ≡ moved_average s.average size → (outcome : Outcome) (backoff : Backoff) (byes : ℕ) → Waits w outcome backoff → Waits (record s { average = average }) outcome (with_farewell_of byes size backoff)
 hears {s} {w} is average size average_is outcome backoff byes h =

@@ -62,18 +62,17 @@ impl<T: MemberTable> Participant<T> {
     #[cold]
     pub(super) fn try_bye(
         &mut self,
-        now: u64,
         w1: u32,
         members: u32,
         octets: &mut ArrayVec<u8, MAX_COMPOUND>,
     ) -> Option<OutKind>
         requires phase { self.old.phase ≡ leaving members }
         ensures new { (w2 : ℕ) →
-            Acts self.old self.new (ticked now w1 w2) (out_with octets.new.items result) false }
+            Acts self.old self.new (ticked self.old.presence.latest w1 w2) (out_with octets.new.items result) false }
         ensures within { KeepsCapacity self.new.presence }
         ensures untouched { result ≡ None → octets.new ≡ octets.old }
     {
-        if !self.presence.expire_backoff(now, w1, members) {
+        if !self.presence.expire_backoff(w1, members) {
             return None;
         }
         self.phase = Phase::Gone;

@@ -181,7 +181,7 @@ impl<T: MemberTable> Participant<T> {
             return Err(refusal);
         }
         self.take_call(now);
-        let brought = self.take_tick(now, w1, w2, octets);
+        let brought = self.take_tick(w1, w2, octets);
         Ok(self.told(brought))
     }
 
@@ -199,7 +199,7 @@ impl<T: MemberTable> Participant<T> {
             return Err(refusal);
         }
         self.take_call(now);
-        let brought = self.take_leave(now, w, octets);
+        let brought = self.take_leave(w, octets);
         Ok(self.told(brought))
     }
 

@@ -1,4 +1,5 @@
-//! What a participant does with an act in each phase.
+//! What a participant does with an act in each phase. A tick and a leave come at the moment of the latest call. A
+//! datagram and a sent packet are told that moment again: these calls are frequent, and have it at hand.
 
 ghost use Rattle.std.specs.Prelude.{◌≡◌, ◌≤◌, ◌<◌, ◌-◌, ℕ, None, false};
 ghost use Rattle.rtcp_engine.specs.Acts.{arrived, left, rtp_sent, ticked};
@@ -64,22 +65,20 @@ impl<T: MemberTable> Participant<T> {
     /// Writes a report or the BYE, if it is due.
     pub(super) fn take_tick(
         &mut self,
-        now: u64,
         w1: u32,
         w2: u32,
         octets: &mut ArrayVec<u8, MAX_COMPOUND>,
     ) -> Brought
-        requires order { self.old.presence.latest ≡ now }
         requires reports { self.old.presence.reports < self.old.presence.calls }
-        ensures new { Acts self.old self.new (ticked now w1 w2) (out_with octets.new.items result.out)
-            result.others_changed }
+        ensures new { Acts self.old self.new (ticked self.old.presence.latest w1 w2)
+            (out_with octets.new.items result.out) result.others_changed }
         ensures within { KeepsCapacity self.new.presence }
         ensures untouched { result.out ≡ None → octets.new ≡ octets.old }
     {
         match self.phase {
-            Phase::Present => self.presence.tick(now, w1, w2, octets),
+            Phase::Present => self.presence.tick(w1, w2, octets),
             Phase::BackingOff(members) => Brought {
-                out: self.try_bye(now, w1, members, octets),
+                out: self.try_bye(w1, members, octets),
                 others_changed: false,
             },
             Phase::Gone => NOTHING,
@@ -87,15 +86,9 @@ impl<T: MemberTable> Participant<T> {
     }
 
     /// Leaves, if it has not left yet.
-    pub(super) fn take_leave(
-        &mut self,
-        now: u64,
-        w: u32,
-        octets: &mut ArrayVec<u8, MAX_COMPOUND>,
-    ) -> Brought
-        requires order { self.old.presence.latest ≡ now }
-        ensures new { Acts self.old self.new (left now w) (out_with octets.new.items result.out)
-            result.others_changed }
+    pub(super) fn take_leave(&mut self, w: u32, octets: &mut ArrayVec<u8, MAX_COMPOUND>) -> Brought
+        ensures new { Acts self.old self.new (left self.old.presence.latest w)
+            (out_with octets.new.items result.out) result.others_changed }
         ensures within { KeepsCapacity self.new.presence }
         ensures untouched { result.out ≡ None → octets.new ≡ octets.old }
     {

@@ -62,7 +62,7 @@ impl<T: MemberTable> Presence<T> {
         ensures within { KeepsCapacity self.new }
     {
         let moved = self.take_facts(now, size, compound);
-        self.recount(now);
+        self.recount();
         moved
     }
 

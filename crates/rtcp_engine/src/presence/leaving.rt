@@ -52,18 +52,18 @@ impl<T: MemberTable> Presence<T> {
         self.average.add(size as u32);
     }
 
-    /// Whether the BYE of a backoff with so many members is due at the moment `now`, by a random word for the
-    /// draw. If it is not, it is put off where its moment has come.
-    pub(crate) fn expire_backoff(&mut self, now: u64, w: u32, members: u32) -> bool
+    /// Whether the BYE of a backoff with so many members is due at the moment of the latest call, by a random word
+    /// for the draw. If it is not, it is put off where its moment has come.
+    pub(crate) fn expire_backoff(&mut self, w: u32, members: u32) -> bool
         requires some { 1 ≤ members }
         requires few { members ≤ 65535 }
         ensures due { (outcome : Outcome) (backoff : Backoff) → Waits self.old outcome backoff →
-            members ≡ leaving_count backoff → result ≡ is_bye_due self.old.setup now w backoff }
-        ensures new { DoesWaiting members self.old self.new (λ setup. after_wait setup now w) }
+            members ≡ leaving_count backoff → result ≡ is_bye_due self.old.setup self.old.latest w backoff }
+        ensures new { DoesWaiting members self.old self.new (λ setup. after_wait setup self.old.latest w) }
         ensures within { KeepsCapacity self.new }
     {
         let td = self.backoff_interval(members);
-        self.schedule.expire(now, td, w, members) == Verdict::Due
+        self.schedule.expire(self.latest, td, w, members) == Verdict::Due
     }
 
     /// The deterministic interval of a backoff with so many members.

@@ -28,51 +28,49 @@ use rtcp_wire::MAX_COMPOUND;
 const GOODBYE_TIME: u64 = 5_000_000;
 
 impl<T: MemberTable> Presence<T> {
-    /// Drops those who are silent for too long, and writes a report if one is due, with two random words: `w1`
-    /// for the draw that decides it, and `w2` for that of the next interval.
+    /// Drops those who are silent for too long at the moment of the latest call, and writes a report if one is due,
+    /// with two random words: `w1` for the draw that decides it, and `w2` for that of the next interval.
     pub(crate) fn tick(
         &mut self,
-        now: u64,
         w1: u32,
         w2: u32,
         octets: &mut ArrayVec<u8, MAX_COMPOUND>,
     ) -> Brought
-        requires order { self.old.latest ≡ now }
         requires reports { self.old.reports < self.old.calls }
         ensures report { (outcome : Outcome) → Agrees self.old outcome → out_with octets.new.items result.out
-            ≡ option_map report_out (report_due self.old.setup now w1 (checked self.old.setup now outcome)) }
-        ensures new { Does self.old self.new (λ setup. after_tick setup now w1 w2) }
-        ensures moved { Moves self.old result.others_changed (λ setup. after_tick setup now w1 w2) }
+            ≡ option_map report_out (report_due self.old.setup self.old.latest w1
+            (checked self.old.setup self.old.latest outcome)) }
+        ensures new { Does self.old self.new (λ setup. after_tick setup self.old.latest w1 w2) }
+        ensures moved { Moves self.old result.others_changed (λ setup. after_tick setup self.old.latest w1 w2) }
         ensures within { KeepsCapacity self.new }
         ensures untouched { result.out ≡ None → octets.new ≡ octets.old }
     {
-        let others_changed = self.check_members(now);
+        let others_changed = self.check_members();
         Brought {
-            out: self.report_if_due(now, w1, w2, octets),
+            out: self.report_if_due(w1, w2, octets),
             others_changed,
         }
     }
 
     /// Drops those who are silent for too long, and counts the members again. Returns whether that changed who of the
     /// others is a member or who sends.
-    fn check_members(&mut self, now: u64) -> bool
-        requires order { self.old.latest ≡ now }
-        ensures new { Does self.old self.new (λ setup. checked setup now) }
-        ensures moved { Moves self.old result (λ setup. checked setup now) }
+    fn check_members(&mut self) -> bool
+        ensures new { Does self.old self.new (λ setup. checked setup self.old.latest) }
+        ensures moved { Moves self.old result (λ setup. checked setup self.old.latest) }
         ensures reports { self.new.reports ≡ self.old.reports }
     {
-        let moved = self.drop_silent(now);
-        self.recount(now);
+        let moved = self.drop_silent();
+        self.recount();
         moved
     }
 
     /// Drops those who are silent for too long, the participant among the senders too.
-    fn drop_silent(&mut self, now: u64) -> bool
-        requires order { self.old.latest ≡ now }
-        ensures new { Does self.old self.new (λ setup. without_silent setup now) }
-        ensures moved { Moves self.old result (λ setup. without_silent setup now) }
+    fn drop_silent(&mut self) -> bool
+        ensures new { Does self.old self.new (λ setup. without_silent setup self.old.latest) }
+        ensures moved { Moves self.old result (λ setup. without_silent setup self.old.latest) }
         ensures reports { self.new.reports ≡ self.old.reports }
     {
+        let now = self.latest;
         let td = self.receiver_interval();
         let idle = now.saturating_sub(2 * td);
         let moved = check(
@@ -87,14 +85,13 @@ impl<T: MemberTable> Presence<T> {
     }
 
     /// Counts the members again, as some may have departed.
-    pub(super) fn recount(&mut self, now: u64)
-        requires order { self.old.latest ≡ now }
-        ensures new { Does self.old self.new (λ setup. with_recount setup now) }
+    pub(super) fn recount(&mut self)
+        ensures new { Does self.old self.new (λ setup. with_recount setup self.old.latest) }
         ensures reports { self.new.reports ≡ self.old.reports }
         ensures within { KeepsCapacity self.new }
     {
         let members = self.member_count();
-        self.schedule.departed(now, members);
+        self.schedule.departed(self.latest, members);
     }
 
     /// The deterministic interval of a participant that is no sender.
@@ -112,34 +109,33 @@ impl<T: MemberTable> Presence<T> {
     /// Writes a report if one is due, and draws the next interval; else puts it off, if its moment has come.
     fn report_if_due(
         &mut self,
-        now: u64,
         w1: u32,
         w2: u32,
         octets: &mut ArrayVec<u8, MAX_COMPOUND>,
     ) -> Option<OutKind>
-        requires order { self.old.latest ≡ now }
         requires reports { self.old.reports < self.old.calls }
         ensures report { (outcome : Outcome) → Agrees self.old outcome → out_with octets.new.items result
-            ≡ option_map report_out (report_due self.old.setup now w1 outcome) }
-        ensures new { Does self.old self.new (λ setup. after_check setup now w1 w2) }
+            ≡ option_map report_out (report_due self.old.setup self.old.latest w1 outcome) }
+        ensures new { Does self.old self.new (λ setup. after_check setup self.old.latest w1 w2) }
         ensures within { KeepsCapacity self.new }
         ensures untouched { result ≡ None → octets.new ≡ octets.old }
     {
-        if !self.try_report(now, w1) {
+        if !self.try_report(w1) {
             return None;
         }
-        self.send_report(now, w2, octets);
+        self.send_report(w2, octets);
         Some(OutKind::Report)
     }
 
     /// Whether a report is due. If its moment has come, it is put off until it is sent.
-    fn try_report(&mut self, now: u64, w1: u32) -> bool
+    fn try_report(&mut self, w1: u32) -> bool
         ensures due { (outcome : Outcome) → Agrees self.old outcome →
-            result ≡ is_report_due self.old.setup now w1 outcome }
-        ensures new { Does self.old self.new (λ setup. tried_at setup now w1) }
+            result ≡ is_report_due self.old.setup self.old.latest w1 outcome }
+        ensures new { Does self.old self.new (λ setup. tried_at setup self.old.latest w1) }
         ensures reports { self.new.reports ≡ self.old.reports }
         ensures within { KeepsCapacity self.new }
     {
+        let now = self.latest;
         // Before the next moment the interval decides nothing.
         if now < self.schedule.next() {
             return false;
@@ -150,35 +146,33 @@ impl<T: MemberTable> Presence<T> {
     }
 
     /// Writes the report, and draws the interval after it.
-    fn send_report(&mut self, now: u64, w2: u32, octets: &mut ArrayVec<u8, MAX_COMPOUND>)
-        requires order { self.old.latest ≡ now }
+    fn send_report(&mut self, w2: u32, octets: &mut ArrayVec<u8, MAX_COMPOUND>)
         requires reports { self.old.reports < self.old.calls }
         ensures report { (outcome : Outcome) → Agrees self.old outcome →
-            octets.new.items ≡ report_octets self.old.setup now outcome }
-        ensures new { Does self.old self.new (λ setup. reported setup now w2) }
+            octets.new.items ≡ report_octets self.old.setup self.old.latest outcome }
+        ensures new { Does self.old self.new (λ setup. reported setup self.old.latest w2) }
         ensures within { KeepsCapacity self.new }
     {
-        self.make_report(now, octets);
-        self.draw_next(now, w2);
+        self.make_report(octets);
+        self.draw_next(w2);
     }
 
     /// Draws the next interval.
-    fn draw_next(&mut self, now: u64, w2: u32)
-        requires order { self.old.latest ≡ now }
-        ensures new { Does self.old self.new (λ setup. drawn_anew setup now w2) }
+    fn draw_next(&mut self, w2: u32)
+        ensures new { Does self.old self.new (λ setup. drawn_anew setup self.old.latest w2) }
         ensures within { KeepsCapacity self.new }
     {
         let td = self.interval();
         let members = self.member_count();
-        self.schedule.sent(now, td, w2, members);
+        self.schedule.sent(self.latest, td, w2, members);
     }
 
     /// Writes the report: the next one goes on after its last source.
-    fn make_report(&mut self, now: u64, octets: &mut ArrayVec<u8, MAX_COMPOUND>)
+    fn make_report(&mut self, octets: &mut ArrayVec<u8, MAX_COMPOUND>)
         requires reports { self.old.reports < self.old.calls }
         ensures report { (outcome : Outcome) → Agrees self.old outcome →
-            octets.new.items ≡ report_octets self.old.setup now outcome }
-        ensures new { Does self.old self.new (λ setup. with_report setup now) }
+            octets.new.items ≡ report_octets self.old.setup self.old.latest outcome }
+        ensures new { Does self.old self.new (λ setup. with_report setup self.old.latest) }
     {
         let number = self.reports + 1;
         write_numbered(
@@ -187,7 +181,7 @@ impl<T: MemberTable> Presence<T> {
             &mut self.table,
             &mut self.cursor,
             number,
-            now,
+            self.latest,
             octets,
         );
         self.reports = number;

@@ -14,4 +14,4 @@ pub returns-clause-takes : goal.returns-clause-takes
 returns-clause-takes g c =
     let act = left c.args.now c.args.w in
     takes _ (plain_call c.args.self.now act (sym c.refusal.ensures.exact ∙ c.in_default.is) (λ session. refl) (λ session. refl))
-    (subst (λ (p : ParticipantValue). Acts p c.take_leave-brought.new.self act (out_with c.take_leave-brought.new.octets.items c.take_leave-brought.result.out) c.take_leave-brought.result.others_changed) c.take_call.ensures.new c.take_leave-brought.ensures.new) (c.told.ensures.exact c.take_leave-brought.new.octets.items) c.ranges.w.fits
+    (subst (λ (x : ParticipantValue). Acts x c.take_leave-brought.new.self (left x.presence.latest c.args.w) (out_with c.take_leave-brought.new.octets.items c.take_leave-brought.result.out) c.take_leave-brought.result.others_changed) c.take_call.ensures.new c.take_leave-brought.ensures.new) (c.told.ensures.exact c.take_leave-brought.new.octets.items) c.ranges.w.fits

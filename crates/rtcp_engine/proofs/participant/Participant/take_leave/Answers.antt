@@ -1,7 +1,6 @@
-use Rattle.std.proofs.Common.{ℕ, subst, ◌∙◌, refl, ap, sym}
-use Rattle.rtcp_engine.specs.Acts.{left}
-use Rattle.rtcp_engine.specs.States.{Acts, HasOthers, ParticipantValue}
-use Rattle.rtcp_engine.specs.Views.{out_with, phase_value}
+use Rattle.std.proofs.Common.{subst, ◌∙◌, refl, ap, sym}
+use Rattle.rtcp_engine.specs.States.{HasOthers, ParticipantValue}
+use Rattle.rtcp_engine.specs.Views.{phase_value}
 use Rattle.rtcp_engine.proofs.Acting.{acts_passing, acts_gone}
 use Rattle.rtcp_engine.proofs.participant.Participant.take_leave.Goals as goal
 
@@ -16,4 +15,4 @@ pub returns-in-Present-clause-new : goal.returns-in-Present-clause-new
 returns-in-Present-clause-new g c =
     let others = c.has_others-others_changed.result in
     let there : HasOthers c.args.self.now.presence others = subst (λ (p : ParticipantValue). HasOthers p.presence others) c.self.view_is c.has_others-others_changed.ensures in
-    subst (λ (t : ℕ). Acts c.args.self.now c.depart.new.self (left t c.args.w) (out_with c.depart.new.octets.items c.depart.result) others) c.requires.order (c.depart.ensures.new others there)
+    c.depart.ensures.new others there

@@ -1,13 +1,14 @@
 use Rattle.std.proofs.Common.{◌∙◌, refl, ap, sym}
+use Rattle.rtcp_engine.specs.Acts.{ticked}
 use Rattle.rtcp_engine.specs.States.{ParticipantValue}
 use Rattle.rtcp_engine.specs.Views.{phase_value}
-use Rattle.rtcp_engine.proofs.Acting.{acts_present, acts_gone, outside}
+use Rattle.rtcp_engine.proofs.Acting.{acts_present, acts_gone, outside_at}
 use Rattle.rtcp_engine.proofs.participant.Participant.take_tick.Goals as goal
 
 pub returns-in-Present-clause-new : goal.returns-in-Present-clause-new
 returns-in-Present-clause-new g c =
     let phase = ap phase_value c.in-Present.is in
-    outside c.self.view_is (acts_present phase phase refl c.tick.ensures.new (λ setup outcome. refl) c.tick.ensures.report c.tick.ensures.moved)
+    outside_at (λ (p : ParticipantValue). ticked p.presence.latest c.args.w1 c.args.w2) c.self.view_is (acts_present phase phase refl c.tick.ensures.new (λ setup outcome. refl) c.tick.ensures.report c.tick.ensures.moved)
 
 pub returns-in-Gone-clause-new : goal.returns-in-Gone-clause-new
 returns-in-Gone-clause-new g c = acts_gone (sym (ap (λ (p : ParticipantValue). p.phase) c.self.view_is) ∙ ap phase_value c.in-Gone.is)

@@ -15,7 +15,7 @@ pub returns-clause-takes : goal.returns-clause-takes
 returns-clause-takes g c =
     let act = ticked c.args.now c.args.w1 c.args.w2 in
     takes _ (plain_call c.args.self.now act (sym c.refusal.ensures.exact ∙ c.in_default.is) (λ session. refl) (λ session. refl))
-    (subst (λ (p : ParticipantValue). Acts p c.take_tick-brought.new.self act (out_with c.take_tick-brought.new.octets.items c.take_tick-brought.result.out) c.take_tick-brought.result.others_changed) c.take_call.ensures.new c.take_tick-brought.ensures.new) (c.told.ensures.exact c.take_tick-brought.new.octets.items) (c.ranges.w1.fits, c.ranges.w2.fits)
+    (subst (λ (x : ParticipantValue). Acts x c.take_tick-brought.new.self (ticked x.presence.latest c.args.w1 c.args.w2) (out_with c.take_tick-brought.new.octets.items c.take_tick-brought.result.out) c.take_tick-brought.result.others_changed) c.take_call.ensures.new c.take_tick-brought.ensures.new) (c.told.ensures.exact c.take_tick-brought.new.octets.items) (c.ranges.w1.fits, c.ranges.w2.fits)
 
 pub returns-clause-not_too_late : goal.returns-clause-not_too_late
 returns-clause-not_too_late g c history h late =

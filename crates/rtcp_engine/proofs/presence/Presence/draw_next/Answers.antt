@@ -1,8 +1,11 @@
-use Rattle.rtcp_timer.specs.Schedules.{transmitted}
+use Rattle.std.proofs.Common.{◌∙◌}
+use Rattle.rtcp_clock.specs.Intervals.{drawn_interval}
+use Rattle.rtcp_timer.specs.Schedules.{after, transmitted}
 use Rattle.rtcp_engine.proofs.Doing.{draws}
 use Rattle.rtcp_engine.proofs.presence.Presence.draw_next.Goals as goal
 
 pub returns-clause-new : goal.returns-clause-new
 returns-clause-new g c =
-    draws c.self.view_is c.sent.new.self (λ interval members. transmitted c.args.now interval members) c.args.w2 c.interval-td.result c.member_count-members.result
-    c.interval-td.ensures.exact c.member_count-members.ensures.exact c.sent.ensures.steps
+    draws c.self.view_is c.sent.new.self (λ interval members. transmitted c.args.self.now.latest interval members) c.args.w2 c.interval-td.result c.member_count-members.result
+    c.interval-td.ensures.exact c.member_count-members.ensures.exact
+    (c.sent.ensures.steps ∙ (λ i. after (transmitted (c.self.view_is i).latest (drawn_interval c.interval-td.result c.args.w2) c.member_count-members.result) c.self.inside.schedule))

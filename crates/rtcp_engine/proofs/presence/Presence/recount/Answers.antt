@@ -1,4 +1,4 @@
-use Rattle.std.proofs.Common.{ℕ, ◌∙◌, ap}
+use Rattle.std.proofs.Common.{◌∙◌}
 use Rattle.rtcp_timer.specs.Schedules.{after, recounted}
 use Rattle.rtcp_engine.specs.Outcomes.{member_count}
 use Rattle.rtcp_engine.proofs.Doing.{schedules}
@@ -6,5 +6,5 @@ use Rattle.rtcp_engine.proofs.presence.Presence.recount.Goals as goal
 
 pub returns-clause-new : goal.returns-clause-new
 returns-clause-new g c =
-    schedules c.self.view_is c.departed.new.self (λ setup outcome. recounted c.args.now (member_count setup outcome))
-    (λ outcome agrees. c.departed.ensures.steps ∙ ap (λ (m : ℕ). after (recounted c.args.now m) c.self.inside.schedule) (c.member_count-members.ensures.exact outcome agrees))
+    schedules c.self.view_is c.departed.new.self (λ setup outcome. recounted c.args.self.now.latest (member_count setup outcome))
+    (λ outcome agrees. c.departed.ensures.steps ∙ (λ i. after (recounted (c.self.view_is i).latest (c.member_count-members.ensures.exact outcome agrees i)) c.self.inside.schedule))

@@ -1,5 +1,6 @@
-use Rattle.rtcp_engine.proofs.Doing.{both}
+use Rattle.rtcp_engine.specs.Ticks.{drawn_anew}
+use Rattle.rtcp_engine.proofs.Doing.{both_now}
 use Rattle.rtcp_engine.proofs.presence.Presence.send_report.Goals as goal
 
 pub returns-clause-new : goal.returns-clause-new
-returns-clause-new g c = both c.make_report.ensures.new c.draw_next.ensures.new
+returns-clause-new g c = both_now (λ t setup. drawn_anew setup t c.args.w2) c.make_report.ensures.new c.draw_next.ensures.new
