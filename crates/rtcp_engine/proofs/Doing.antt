@@ -18,7 +18,7 @@ use Rattle.rtcp_engine.specs.Reporting.{report_octets}
 use Rattle.rtcp_engine.specs.Leaving.{Backoff, after_wait, backoff_from, is_bye_due, leaving_average, leaving_count, leaving_interval, leaving_load, leaving_timing, with_farewell_of}
 use Rattle.rtcp_engine.specs.Arrivals.{facts_of_media, media_fact, with_facts_of, with_media, with_packet}
 use Rattle.rtcp_engine.specs.Ticks.{horizons_of, with_check, without_silent, has_come, has_passed, is_report_due, put_off, tried_at, report_due, with_report, reported, after_check as after_check_at}
-use Rattle.rtcp_engine.specs.States.{State, Agrees, Does, DoesWaiting, StandsStill, Stays, Waits}
+use Rattle.rtcp_engine.specs.States.{State, Agrees, Does, DoesWaiting, KeepsCapacity, StandsStill, Stays, Waits}
 use Rattle.rtcp_engine.proofs.Agreeing.{load, facts_agree, media_agree, sizes_agree, rows_in, octets_in, octets_agree, sent_reports_agree}
 
 -- ---- Steps one after the other
@@ -30,6 +30,7 @@ both {a} {b} {c} {f} {g} first second = record {
     latest = second.stays.latest ∙ first.stays.latest;
     calls = second.stays.calls ∙ first.stays.calls;
   };
+  within = second.within;
   follows = λ outcome agrees. subst (λ (setup : Setup). Agrees c (g setup (f a.setup outcome))) first.stays.setup (second.follows (f a.setup outcome) (first.follows outcome agrees));
 }
 
@@ -79,10 +80,11 @@ happens {s} {outcome} a happening timing is = record {
 }
 
 -- what happens to the schedule, and to nothing else
-pub schedules : {s w : State} → s ≡ w → (timing : Timing) (happening : Setup → Outcome → Happening) → ((outcome : Outcome) → Agrees w outcome → timing ≡ after (happening w.setup outcome) s.timing)
+pub schedules : {s w : State} → s ≡ w → (timing : Timing) (happening : Setup → Outcome → Happening) → ((outcome : Outcome) → Agrees w outcome → timing ≡ after (happening w.setup outcome) s.timing) → KeepsCapacity s
     → Does w (with_timing timing s) (λ setup outcome. with_happening (happening setup outcome) outcome)
-schedules {s} {w} is timing happening steps = record {
+schedules {s} {w} is timing happening steps within = record {
   stays = stays_by is refl refl refl;
+  within = within;
   follows = λ outcome a. happens (seen is outcome a) (happening w.setup outcome) timing (steps outcome a);
 }
 
@@ -94,13 +96,14 @@ abbrev pub AreMembers : State → ℕ → Type 0
 AreMembers w members = (outcome : Outcome) → Agrees w outcome → members ≡ member_count w.setup outcome
 
 pub draws : {s w : State} → s ≡ w → (timing : Timing) (happening : ℕ → ℕ → Happening) (word td members : ℕ) → IsInterval w td → AreMembers w members
-    → timing ≡ after (happening (drawn_interval td word) members) s.timing
+    → timing ≡ after (happening (drawn_interval td word) members) s.timing → KeepsCapacity s
     → Does w (with_timing timing s) (λ setup outcome. with_happening (happening (drawn_interval (interval_at setup outcome) word) (member_count setup outcome)) outcome)
-draws {s} {w} is timing happening word td members interval counts steps =
+draws {s} {w} is timing happening word td members interval counts steps within =
     schedules is timing (λ setup outcome. happening (drawn_interval (interval_at setup outcome) word) (member_count setup outcome))
     (λ outcome a. steps
     ∙ ap (λ (d : ℕ). after (happening (drawn_interval d word) members) s.timing) (interval outcome a)
     ∙ ap (λ (m : ℕ). after (happening (drawn_interval (interval_at w.setup outcome) word) m) s.timing) (counts outcome a))
+    within
 
 -- ---- Whether a report is due
 
@@ -108,10 +111,11 @@ come_by : {s : State} {outcome : Outcome} → Agrees s outcome → (t : ℕ) →
 come_by {s} {outcome} a t = ap (λ (x : Timing). nat_le x.next t) (sym a.timing)
 
 pub tries : {s w : State} → s ≡ w → (timing : Timing) (t word td members : ℕ) → IsInterval w td → AreMembers w members
-    → (t < s.timing.next → timing ≡ s.timing) → (s.timing.next ≤ t → timing ≡ after (tried t (drawn_interval td word) members) s.timing)
+    → (t < s.timing.next → timing ≡ s.timing) → (s.timing.next ≤ t → timing ≡ after (tried t (drawn_interval td word) members) s.timing) → KeepsCapacity s
     → Does w (with_timing timing s) (λ setup. tried_at setup t word)
-tries {s} {w} is timing t word td members interval counts unchanged steps = record {
+tries {s} {w} is timing t word td members interval counts unchanged steps within = record {
   stays = stays_by is refl refl refl;
+  within = within;
   follows = λ outcome a.
       let come = come_by (seen is outcome a) t in
       let to : Bool → Outcome = λ b. if b then put_off w.setup t word outcome else outcome in
@@ -121,7 +125,7 @@ tries {s} {w} is timing t word td members interval counts unchanged steps = reco
             (subst (λ (x : Timing). Agrees (with_timing x s) outcome) (sym (unchanged early)) (seen is outcome a))
         | inr late ↦
             subst (λ (b : Bool). Agrees (with_timing timing s) (to b)) (sym (come ∙ le-leb s.timing.next t late))
-            ((draws is timing (λ interval many. tried t interval many) word td members interval counts (steps late)).follows outcome a)
+            ((draws is timing (λ interval many. tried t interval many) word td members interval counts (steps late) within).follows outcome a)
       ];
 }
 
@@ -176,20 +180,22 @@ abbrev pub IsReceiverInterval : State → ℕ → Type 0
 IsReceiverInterval w td = (outcome : Outcome) → Agrees w outcome → td ≡ receiver_interval_at w.setup outcome
 
 pub drops : {s w : State} → s ≡ w → (table : TableValue) (own : OwnValue) (t td : ℕ) → IsReceiverInterval w td → table ≡ after_check (horizons_of t td) s.table → Adds s.own own (check_passed (t - 2 * td))
-    → Does w (record s { table = table; own = own }) (λ setup. without_silent setup t)
-drops {s} {w} is table own t td interval table_is adds =
+    → KeepsCapacity (record s { table = table; own = own }) → Does w (record s { table = table; own = own }) (λ setup. without_silent setup t)
+drops {s} {w} is table own t td interval table_is adds within =
     let new : State = record s { table = table; own = own } in
     record {
       stays = stays_by is refl refl refl;
+      within = within;
       follows = λ outcome a. subst (λ (d : ℕ). Agrees new (with_check (horizons_of t d) outcome)) (interval outcome a)
           (subst (λ (x : TableValue). Agrees (record s { table = x; own = own }) (with_check (horizons_of t td) outcome)) (sym table_is) (checks_agree s outcome (horizons_of t td) own adds (seen is outcome a)));
     }
 
 -- ---- Sent packets
 
-pub sends : {s w : State} → s ≡ w → (own : OwnValue) (t timestamp octets : ℕ) → Adds s.own own (packet_sent t timestamp octets) → Does w (record s { own = own }) (λ setup. with_packet t timestamp octets)
-sends {s} {w} is own t timestamp octets adds = record {
+pub sends : {s w : State} → s ≡ w → (own : OwnValue) (t timestamp octets : ℕ) → Adds s.own own (packet_sent t timestamp octets) → KeepsCapacity s → Does w (record s { own = own }) (λ setup. with_packet t timestamp octets)
+sends {s} {w} is own t timestamp octets adds within = record {
   stays = stays_by is refl refl refl;
+  within = within;
   follows = λ outcome agrees.
       let a = seen is outcome agrees in
       record {
@@ -210,14 +216,14 @@ pub octets_of : {s w : State} → s ≡ w → (t : ℕ) (outcome : Outcome) → 
 octets_of {s} {w} is t outcome a = ap (octets_in t) is ∙ octets_agree w outcome t a
 
 pub makes : {s w : State} → s ≡ w → (t : ℕ) (table : TableValue) (average : ℕ) (own : OwnValue) (cursor : Option ℕ) → table ≡ after_blocks (rows_in t s) s.table → average ≡ moved_average s.average (length (octets_in t s))
-    → Adds s.own own report_sent → cursor ≡ last_reported s.cursor (rows_in t s)
+    → Adds s.own own report_sent → cursor ≡ last_reported s.cursor (rows_in t s) → KeepsCapacity (record s { table = table })
     → Does w (record s { table = table; average = average; own = own; cursor = cursor; reports = s.reports + 1 }) (λ setup. with_report setup t)
-makes {s} {w} is t table average own cursor table_is average_is adds cursor_is =
+makes {s} {w} is t table average own cursor table_is average_is adds cursor_is within =
     let new : State = record s { table = table; average = average; own = own; cursor = cursor; reports = s.reports + 1 } in
     let same : new ≡ record s { table = after_blocks (rows_in t s) s.table; average = moved_average s.average (length (octets_in t s)); own = own; cursor = last_reported s.cursor (rows_in t s); reports = s.reports + 1 } =
     λ i. record s { table = table_is i; average = average_is i; own = own; cursor = cursor_is i; reports = s.reports + 1 } in
     subst (λ (x : State). Does x new (λ setup. with_report setup t)) is
-    (record { stays = record { setup = refl; latest = refl; calls = refl }; follows = λ outcome a. subst (λ (x : State). Agrees x (with_report s.setup t outcome)) (sym same) (sent_reports_agree s outcome t own adds a) })
+    (record { stays = record { setup = refl; latest = refl; calls = refl }; within = within; follows = λ outcome a. subst (λ (x : State). Agrees x (with_report s.setup t outcome)) (sym same) (sent_reports_agree s outcome t own adds a) })
 
 -- a report is due, or none is, whatever the outcome is that the numbers agree with
 abbrev pub IsDueBy : State → (t word : ℕ) → Bool → Type 0
@@ -226,6 +232,7 @@ IsDueBy w t word is_due = (outcome : Outcome) → Agrees w outcome → is_due �
 pub puts_off : {w v : State} (t first_word second_word : ℕ) → IsDueBy w t first_word false → Does w v (λ setup. tried_at setup t first_word) → Does w v (λ setup. after_check_at setup t first_word second_word)
 puts_off {w} {v} t first_word second_word none before = record {
   stays = before.stays;
+  within = before.within;
   follows = λ outcome a. subst (Agrees v) (undue w.setup t first_word second_word outcome (has_come t outcome) (has_passed w.setup t first_word outcome) (sym (none outcome a))) (before.follows outcome a);
 }
 
@@ -235,6 +242,7 @@ reports_now {w} {v} {u} first_word second_word is_due before sent =
     let t = w.latest in
     let whole = both_now (λ t setup. reported setup t second_word) before sent in record {
       stays = whole.stays;
+      within = whole.within;
       follows = λ outcome a. due u w.setup t first_word second_word outcome (has_come t outcome) (has_passed w.setup t first_word outcome) (sym (is_due outcome a)) (whole.follows outcome a);
     }
 
@@ -253,20 +261,22 @@ hands_out {w} {v} word octets is_due before made outcome a =
 -- ---- Datagrams
 
 pub takes_facts : {s w : State} → s ≡ w → (t size : ℕ) (packets : List RtcpPacket) (table : TableValue) (average : ℕ) → table ≡ after_facts (facts_of packets) t s.table → average ≡ moved_average s.average size
-    → Does w (record s { table = table; average = average }) (λ setup. with_facts_of t size packets)
-takes_facts {s} {w} is t size packets table average table_is average_is = record {
+    → KeepsCapacity (record s { table = table }) → Does w (record s { table = table; average = average }) (λ setup. with_facts_of t size packets)
+takes_facts {s} {w} is t size packets table average table_is average_is within = record {
   stays = stays_by is refl refl refl;
+  within = within;
   follows = λ outcome a.
       let same : record s { table = table; average = average } ≡ record s { table = after_facts (facts_of packets) t s.table; average = moved_average s.average size } = λ i. record s { table = table_is i; average = average_is i } in
       subst (λ (x : State). Agrees x (with_facts_of t size packets outcome)) (sym same) (sizes_agree _ _ size (facts_agree s outcome (facts_of packets) t (seen is outcome a)));
 }
 
 pub takes_media : {s w : State} → s ≡ w → (t : ℕ) (head : RtpValue) (table : TableValue) → table ≡ after_facts (facts_of_media s.setup.ssrc head (counted s.table (media_fact head))) t s.table
-    → Does w (record s { table = table }) (λ setup. with_media setup t head)
-takes_media {s} {w} is t head table table_is =
+    → KeepsCapacity (record s { table = table }) → Does w (record s { table = table }) (λ setup. with_media setup t head)
+takes_media {s} {w} is t head table table_is within =
     subst (λ (x : State). Does x (record s { table = table }) (λ setup. with_media setup t head)) is
     (record {
       stays = record { setup = refl; latest = refl; calls = refl };
+      within = within;
       follows = λ outcome a. subst (λ (x : TableValue). Agrees (record s { table = x }) (with_media s.setup t head outcome)) (sym table_is) (media_agree s outcome t head a);
     })
 
@@ -289,10 +299,11 @@ bye_due_by {s} {w} is t word td members interval outcome backoff h count =
     ∙ ap (λ (d : ℕ). nat_le (leaving_timing backoff).next t && nat_le ((leaving_timing backoff).last + drawn_interval d word) t) (interval outcome backoff h count)
 
 pub waits_on : {s w : State} → s ≡ w → (timing : Timing) (t word td members : ℕ) → IsWaitingInterval w members td
-    → (t < s.timing.next → timing ≡ s.timing) → (s.timing.next ≤ t → timing ≡ after (tried t (drawn_interval td word) members) s.timing)
+    → (t < s.timing.next → timing ≡ s.timing) → (s.timing.next ≤ t → timing ≡ after (tried t (drawn_interval td word) members) s.timing) → KeepsCapacity s
     → DoesWaiting members w (with_timing timing s) (λ setup. after_wait setup t word)
-waits_on {s} {w} is timing t word td members interval unchanged steps = record {
+waits_on {s} {w} is timing t word td members interval unchanged steps within = record {
   stays = stays_by is refl refl refl;
+  within = within;
   follows = λ outcome backoff h count.
       let at = waits_there is outcome backoff h in
       let come = ap (λ (x : Timing). nat_le x.next t) (sym at.timing) in

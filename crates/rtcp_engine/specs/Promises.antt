@@ -26,8 +26,8 @@ pub record Spares {A : Type 0} (old : ParticipantValue) (answer : Result A Refus
   pub within : KeepsCapacity new.presence
   pub refused : OnErr answer (new ≡ old)
 
--- A datagram that is taken without room for a compound has none. One that is passed on comes from a peer that may change
--- the identifier, and was not taken.
+-- A datagram that is taken without room for a compound has none. One that is passed on comes from a peer that may
+-- change the identifier, and was not taken.
 pub record PassesOn (old : ParticipantValue) (peer : ℕ) (reply : Option (Result Told Refusal)) (new : ParticipantValue)
     : Type 0 where
   pub empty : IfSome reply (λ answer. kind_told answer ≡ None)

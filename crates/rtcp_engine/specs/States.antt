@@ -78,9 +78,15 @@ pub record Stays (old new : State) : Type 0 where
   pub latest : new.latest ≡ old.latest
   pub calls : new.calls ≡ old.calls
 
--- One step of a participant that takes part: what it does to an outcome it does to the table and the numbers.
+-- The table holds no more sources than it may.
+abbrev pub KeepsCapacity : State → Type 0
+KeepsCapacity state = map.len state.table.entries ≤ state.setup.capacity
+
+-- One step of a participant that takes part: what it does to an outcome it does to the table and the numbers, and the
+-- table stays within its capacity.
 pub record Does (old new : State) (step : Setup → Outcome → Outcome) : Type 0 where
   pub stays : Stays old new
+  pub within : KeepsCapacity new
   pub follows : (outcome : Outcome) → Agrees old outcome → Agrees new (step old.setup outcome)
 
 -- A participant says whether a step changes who of the others is a member, or who of them sends.
@@ -110,6 +116,7 @@ pub record Waits (state : State) (outcome : Outcome) (backoff : Backoff) : Type 
 -- One step of a participant that backs off, with so many members.
 pub record DoesWaiting (members : ℕ) (old new : State) (step : Setup → Backoff → Backoff) : Type 0 where
   pub stays : Stays old new
+  pub within : KeepsCapacity new
   pub follows : (outcome : Outcome) (backoff : Backoff) → Waits old outcome backoff →
       members ≡ leaving_count backoff → Waits new outcome (step old.setup backoff)
 
@@ -144,10 +151,6 @@ pub record IsSound (state : State) : Type 0 where
   pub calls : state.calls < 2 ^ 40
   pub timing : state.timing.last ≤ state.latest
   pub latest : state.latest ≤ 2 ^ 50
-
--- The table holds no more sources than it may.
-abbrev pub KeepsCapacity : State → Type 0
-KeepsCapacity state = map.len state.table.entries ≤ state.setup.capacity
 
 -- ---- The whole participant
 

@@ -22,7 +22,7 @@ pub(crate) fn member_count<T: MemberTable>(table: &T) -> u32
 
 /// Applies an RTP packet, and its contributing sources but for the participant itself, `own`, if it is counted. Returns
 /// whether that changed who is a member or who sends.
-// Inlined, as `Participant::take`.
+// Inlined, as `Participant::take_datagram`.
 #[inline(always)]
 pub(crate) fn apply_media<T: MemberTable>(
     table: &mut T,

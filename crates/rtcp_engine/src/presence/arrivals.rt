@@ -28,8 +28,7 @@ impl<T: MemberTable> Presence<T> {
 
     /// Takes a packet that the host sent.
     pub(crate) fn take_sent(&mut self, now: u64, rtp_ts: u32, octets: u32)
-        ensures new { Does self.old self.new (λ setup. with_packet now rtp_ts octets) }
-        ensures within { KeepsCapacity self.new }
+        ensures { Does self.old self.new (λ setup. with_packet now rtp_ts octets) }
     {
         self.own.sent(now, rtp_ts, octets);
     }
@@ -45,7 +44,6 @@ impl<T: MemberTable> Presence<T> {
         requires few { HasFew (self.old.calls - 1) self.old.table }
         ensures new { Does self.old self.new (λ setup. with_datagram setup now (datagram_of arrival.now)) }
         ensures moved { Moves self.old result (λ setup. with_datagram setup now (datagram_of arrival.now)) }
-        ensures within { KeepsCapacity self.new }
     {
         match arrival {
             Arrival::Rtcp(compound, size) => self.take_compound(now, *size, compound),
@@ -59,7 +57,6 @@ impl<T: MemberTable> Presence<T> {
         requires size { size ≤ 65535 }
         ensures new { Does self.old self.new (λ setup. with_compound setup now size compound.now) }
         ensures moved { Moves self.old result (λ setup. with_compound setup now size compound.now) }
-        ensures within { KeepsCapacity self.new }
     {
         let moved = self.take_facts(now, size, compound);
         self.recount();
@@ -78,14 +75,13 @@ impl<T: MemberTable> Presence<T> {
     }
 
     /// Takes an RTP packet, and its contributing sources if it is counted.
-    // Inlined, as `Participant::take`.
+    // Inlined, as `Participant::take_datagram`.
     #[inline(always)]
     fn take_media(&mut self, now: u64, head: &RtpHead<'_>) -> bool
         requires reports { self.old.reports < self.old.calls }
         requires few { HasFew (self.old.calls - 1) self.old.table }
         ensures new { Does self.old self.new (λ setup. with_media setup now head.now) }
         ensures moved { Moves self.old result (λ setup. with_media setup now head.now) }
-        ensures within { KeepsCapacity self.new }
     {
         apply_media(&mut self.table, head, self.config.ssrc, now)
     }

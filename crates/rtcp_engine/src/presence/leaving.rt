@@ -60,7 +60,6 @@ impl<T: MemberTable> Presence<T> {
         ensures due { (outcome : Outcome) (backoff : Backoff) → Waits self.old outcome backoff →
             members ≡ leaving_count backoff → result ≡ is_bye_due self.old.setup self.old.latest w backoff }
         ensures new { DoesWaiting members self.old self.new (λ setup. after_wait setup self.old.latest w) }
-        ensures within { KeepsCapacity self.new }
     {
         let td = self.backoff_interval(members);
         self.schedule.expire(self.latest, td, w, members) == Verdict::Due

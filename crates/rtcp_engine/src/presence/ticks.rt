@@ -7,7 +7,7 @@ ghost use Rattle.rtcp_report.specs.Sizes.{reported_rows, report_of};
 ghost use Rattle.rtcp_engine.specs.Setups.{IsUsable};
 ghost use Rattle.rtcp_engine.specs.Lives.{report_out};
 ghost use Rattle.rtcp_engine.specs.Views.{setup_of, out_with};
-ghost use Rattle.rtcp_engine.specs.States.{Agrees, Does, KeepsCapacity, Moves};
+ghost use Rattle.rtcp_engine.specs.States.{Agrees, Does, Moves};
 ghost use Rattle.rtcp_engine.specs.Outcomes.{Outcome, receiver_interval_at};
 ghost use Rattle.rtcp_engine.specs.Reporting.{report_octets, reporter_by};
 ghost use Rattle.rtcp_engine.specs.Ticks.{with_recount, without_silent, checked, is_report_due, report_due, with_report, drawn_anew, reported, tried_at, after_check, after_tick};
@@ -42,7 +42,6 @@ impl<T: MemberTable> Presence<T> {
             (checked self.old.setup self.old.latest outcome)) }
         ensures new { Does self.old self.new (λ setup. after_tick setup self.old.latest w1 w2) }
         ensures moved { Moves self.old result.others_changed (λ setup. after_tick setup self.old.latest w1 w2) }
-        ensures within { KeepsCapacity self.new }
         ensures untouched { result.out ≡ None → octets.new ≡ octets.old }
     {
         let others_changed = self.check_members();
@@ -88,7 +87,6 @@ impl<T: MemberTable> Presence<T> {
     pub(super) fn recount(&mut self)
         ensures new { Does self.old self.new (λ setup. with_recount setup self.old.latest) }
         ensures reports { self.new.reports ≡ self.old.reports }
-        ensures within { KeepsCapacity self.new }
     {
         let members = self.member_count();
         self.schedule.departed(self.latest, members);
@@ -117,7 +115,6 @@ impl<T: MemberTable> Presence<T> {
         ensures report { (outcome : Outcome) → Agrees self.old outcome → out_with octets.new.items result
             ≡ option_map report_out (report_due self.old.setup self.old.latest w1 outcome) }
         ensures new { Does self.old self.new (λ setup. after_check setup self.old.latest w1 w2) }
-        ensures within { KeepsCapacity self.new }
         ensures untouched { result ≡ None → octets.new ≡ octets.old }
     {
         if !self.try_report(w1) {
@@ -133,7 +130,6 @@ impl<T: MemberTable> Presence<T> {
             result ≡ is_report_due self.old.setup self.old.latest w1 outcome }
         ensures new { Does self.old self.new (λ setup. tried_at setup self.old.latest w1) }
         ensures reports { self.new.reports ≡ self.old.reports }
-        ensures within { KeepsCapacity self.new }
     {
         let now = self.latest;
         // Before the next moment the interval decides nothing.
@@ -151,7 +147,6 @@ impl<T: MemberTable> Presence<T> {
         ensures report { (outcome : Outcome) → Agrees self.old outcome →
             octets.new.items ≡ report_octets self.old.setup self.old.latest outcome }
         ensures new { Does self.old self.new (λ setup. reported setup self.old.latest w2) }
-        ensures within { KeepsCapacity self.new }
     {
         self.make_report(octets);
         self.draw_next(w2);
@@ -159,8 +154,7 @@ impl<T: MemberTable> Presence<T> {
 
     /// Draws the next interval.
     fn draw_next(&mut self, w2: u32)
-        ensures new { Does self.old self.new (λ setup. drawn_anew setup self.old.latest w2) }
-        ensures within { KeepsCapacity self.new }
+        ensures { Does self.old self.new (λ setup. drawn_anew setup self.old.latest w2) }
     {
         let td = self.interval();
         let members = self.member_count();

@@ -8,7 +8,7 @@ use Rattle.rtcp_engine.proofs.participant.Participant.take_sent.Goals as goal
 pub returns-in-Present-clause-new : goal.returns-in-Present-clause-new
 returns-in-Present-clause-new g c =
     let phase = ap phase_value c.in-Present.is in
-    outside c.self.view_is (acts_present phase phase refl c.take_sent.ensures.new (λ setup outcome. refl) (λ outcome agrees. refl) (λ outcome agrees. none_since _ _ outcome.trace))
+    outside c.self.view_is (acts_present phase phase refl c.take_sent.ensures (λ setup outcome. refl) (λ outcome agrees. refl) (λ outcome agrees. none_since _ _ outcome.trace))
 
 pub returns-in-BackingOff-clause-new : goal.returns-in-BackingOff-clause-new
 returns-in-BackingOff-clause-new g c =

@@ -25,7 +25,7 @@ returns-clause-new g c =
     c.check-moved.ensures.content ∙ (λ i. after_check (horizons_at (c.saturating_sub.ensures i) (c.saturating_sub-idle.ensures i) (c.saturating_sub-2.ensures i)) (g.T.MemberTable.content inside.table)) in
     does_at c.self.view_is (λ t setup. without_silent setup t)
     (drops c.self.view_is (g.T.MemberTable.content c.check-moved.new.table) c.check.new.self inside.latest c.receiver_interval-td.result c.receiver_interval-td.ensures.exact
-    table (subst (λ (idle : ℕ). Adds inside.own c.check.new.self (check_passed idle)) c.saturating_sub-idle.ensures c.check.ensures))
+    table (subst (λ (idle : ℕ). Adds inside.own c.check.new.self (check_passed idle)) c.saturating_sub-idle.ensures c.check.ensures) (invariant_of-self g c).room)
 
 pub returns-clause-moved : goal.returns-clause-moved
 returns-clause-moved g c =

@@ -18,4 +18,4 @@ pub returns-clause-new : goal.returns-clause-new
 returns-clause-new g c =
     waiting_at c.self.view_is (λ t setup. after_wait setup t c.args.w)
     (waits_on c.self.view_is c.expire.new.self c.self.inside.latest c.args.w c.backoff_interval-td.result c.args.members c.backoff_interval-td.ensures.exact
-    c.expire.ensures.unchanged c.expire.ensures.steps)
+    c.expire.ensures.unchanged c.expire.ensures.steps c.self.invariant.room)

@@ -35,4 +35,4 @@ returns-clause-new g c =
     let size = c.add.ensures.moves ∙ ap (moved_average c.self.inside.average) (c.len.ensures.value ∙ ap length c.write_numbered.ensures.octets) in
     does_at c.self.view_is (λ t setup. with_report setup t)
     (makes c.self.view_is c.self.inside.latest (g.T.MemberTable.content c.write_numbered.new.table) c.add.new.self c.reported.new.self c.write_numbered.new.cursor
-    c.write_numbered.ensures.content size c.reported.ensures c.write_numbered.ensures.cursor)
+    c.write_numbered.ensures.content size c.reported.ensures c.write_numbered.ensures.cursor (invariant_of-self g c).room)

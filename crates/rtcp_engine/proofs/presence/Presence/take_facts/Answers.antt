@@ -21,7 +21,7 @@ pub returns-clause-new : goal.returns-clause-new
 returns-clause-new g c =
     let content = g.T.MemberTable.content in
     takes_facts c.self.view_is c.args.now c.args.size c.args.compound.now (content c.apply_packets-moved.new.table) c.add.new.self
-    (c.apply_packets-moved.ensures.content ∙ ap (λ (packets : List RtcpPacket). after_facts (facts_of packets) c.args.now (content c.self.inside.table)) c.packets.ensures) c.add.ensures.moves
+    (c.apply_packets-moved.ensures.content ∙ ap (λ (packets : List RtcpPacket). after_facts (facts_of packets) c.args.now (content c.self.inside.table)) c.packets.ensures) c.add.ensures.moves (invariant_of-self g c).room
 
 pub returns-clause-moved : goal.returns-clause-moved
 returns-clause-moved g c =

@@ -16,10 +16,7 @@ invariant_of-self g c =
     kept c.self.invariant (content c.apply_media.new.table) inside.schedule inside.average inside.own inside.cursor inside.reports inside.latest inside.calls is_kept (no_call c.self.invariant)
 
 pub returns-clause-new : goal.returns-clause-new
-returns-clause-new g c = takes_media c.self.view_is c.args.now c.args.head.now (g.T.MemberTable.content c.apply_media.new.table) c.apply_media.ensures.content
+returns-clause-new g c = takes_media c.self.view_is c.args.now c.args.head.now (g.T.MemberTable.content c.apply_media.new.table) c.apply_media.ensures.content (invariant_of-self g c).room
 
 pub returns-clause-moved : goal.returns-clause-moved
 returns-clause-moved g c = moves_media c.self.view_is c.args.now c.args.head.now c.apply_media.result c.apply_media.ensures.moved
-
-pub returns-clause-within : goal.returns-clause-within
-returns-clause-within g c = (invariant_of-self g c).room

@@ -1,5 +1,5 @@
 use Rattle.rtcp_engine.proofs.Doing.{sends}
 use Rattle.rtcp_engine.proofs.presence.Presence.take_sent.Goals as goal
 
-pub returns-clause-new : goal.returns-clause-new
-returns-clause-new g c = sends c.self.view_is c.sent.new.self c.args.now c.args.rtp_ts c.args.octets c.sent.ensures
+pub returns : goal.returns
+returns g c = sends c.self.view_is c.sent.new.self c.args.now c.args.rtp_ts c.args.octets c.sent.ensures c.self.invariant.room

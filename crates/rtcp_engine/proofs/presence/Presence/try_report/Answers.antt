@@ -18,4 +18,4 @@ pub returns-clause-new : goal.returns-clause-new
 returns-clause-new g c =
     does_at c.self.view_is (λ t setup. tried_at setup t c.args.w1)
     (tries c.self.view_is c.expire.new.self c.self.inside.latest c.args.w1 c.interval-td.result c.member_count-members.result
-    c.interval-td.ensures.exact c.member_count-members.ensures.exact c.expire.ensures.unchanged c.expire.ensures.steps)
+    c.interval-td.ensures.exact c.member_count-members.ensures.exact c.expire.ensures.unchanged c.expire.ensures.steps c.self.invariant.room)
