@@ -2,6 +2,7 @@
 pub mod Handles
 pub mod Owned
 pub mod Answers
+pub mod Promises
 pub mod Configs
 pub mod Readings
 pub mod Parts

@@ -6,13 +6,12 @@ ghost use Rattle.rtcp_wire.specs.declared.rtp.fault.RtpFault.{RtpFault as HeadFa
 ghost use Rattle.rtcp_wire.specs.Values.{RtcpPacket};
 ghost use Rattle.rtcp_wire.specs.RtpHeads.{RtpValue};
 ghost use Rattle.rtcp_engine.specs.Acts.{rtcp_came, rtp_came, rtp_sent, ticked, left, IsReading, IsRtpReading};
-ghost use Rattle.rtcp_engine.specs.Answers.{answer_of, followed_by};
 ghost use Rattle.rtcp_engine.specs.Histories.{History};
 ghost use Rattle.rtcp_engine.specs.InTime.{IsOverdue};
-ghost use Rattle.rtcp_engine.specs.Spacing.{KeepsBounds};
 ghost use Rattle.rtcp_engine.specs.States.{StandsAt};
-ghost use Rattle.jalwedd_c.specs.Answers.{HandsNothing, HandsOut, IsBlank, Shows, status_of};
+ghost use Rattle.jalwedd_c.specs.Answers.{IsBlank};
 ghost use Rattle.jalwedd_c.specs.Handles.{KeepsWithin, LeadsTo};
+ghost use Rattle.jalwedd_c.specs.Promises.{Serves, Spares, TurnsAway};
 
 use crate::handle::Handle;
 use crate::session::Session;
@@ -40,24 +39,11 @@ pub extern "C" fn jalwedd_arrive_rtcp(
     step: &mut Step,
     octets: &mut [u8; 1472],
 ) -> u32
-    ensures status { (history : History) (reading : Result (List RtcpPacket) FirstFault) →
+    ensures serves { (history : History) (reading : Result (List RtcpPacket) FirstFault) →
         LeadsTo handle.old.owned.held history → IsReading datagram.now reading →
-        result ≡ status_of (answer_of history (rtcp_came now peer word datagram.now reading)) }
-    ensures handed { (history : History) (reading : Result (List RtcpPacket) FirstFault) →
-        LeadsTo handle.old.owned.held history → IsReading datagram.now reading →
-        HandsOut step.new octets.old octets.new (answer_of history (rtcp_came now peer word datagram.now reading)) }
-    ensures stands { (history : History) (reading : Result (List RtcpPacket) FirstFault) →
-        LeadsTo handle.old.owned.held history → IsReading datagram.now reading →
-        LeadsTo handle.new.owned.held (followed_by history (rtcp_came now peer word datagram.now reading)) }
-    ensures shows { (history : History) (reading : Result (List RtcpPacket) FirstFault) →
-        LeadsTo handle.old.owned.held history → IsReading datagram.now reading →
-        Shows step.new (followed_by history (rtcp_came now peer word datagram.now reading)) }
-    ensures bounded { (history : History) (reading : Result (List RtcpPacket) FirstFault) →
-        LeadsTo handle.old.owned.held history → IsReading datagram.now reading →
-        KeepsBounds (followed_by history (rtcp_came now peer word datagram.now reading)) }
-    ensures within { KeepsWithin handle.old.owned.held → KeepsWithin handle.new.owned.held }
-    ensures refused { result ≢ 0 → handle.new.owned.held ≡ handle.old.owned.held }
-    ensures empty { handle.old.owned.held ≡ None → (result ≡ 20) × IsBlank step.new × (octets.new ≡ octets.old) }
+        Serves history (rtcp_came now peer word datagram.now reading)
+        handle.new.owned.held result step.new octets.old octets.new }
+    ensures spares { Spares handle.old.owned.held handle.new.owned.held result step.new octets.old octets.new }
 {
     let Some(mut session) = handle.take(alloc) else {
         return empty(step);
@@ -83,21 +69,10 @@ fn own_rtcp(
     octets: &mut [u8; 1472],
 ) -> u32
     requires { handle.old.owned.held ≡ None }
-    ensures status { (history : History) (reading : Result (List RtcpPacket) FirstFault) →
+    ensures serves { (history : History) (reading : Result (List RtcpPacket) FirstFault) →
         StandsAt session.value.participant history → IsReading datagram.now reading →
-        result ≡ status_of (answer_of history (rtcp_came now peer word datagram.now reading)) }
-    ensures handed { (history : History) (reading : Result (List RtcpPacket) FirstFault) →
-        StandsAt session.value.participant history → IsReading datagram.now reading →
-        HandsOut step.new octets.old octets.new (answer_of history (rtcp_came now peer word datagram.now reading)) }
-    ensures stands { (history : History) (reading : Result (List RtcpPacket) FirstFault) →
-        StandsAt session.value.participant history → IsReading datagram.now reading →
-        LeadsTo handle.new.owned.held (followed_by history (rtcp_came now peer word datagram.now reading)) }
-    ensures shows { (history : History) (reading : Result (List RtcpPacket) FirstFault) →
-        StandsAt session.value.participant history → IsReading datagram.now reading →
-        Shows step.new (followed_by history (rtcp_came now peer word datagram.now reading)) }
-    ensures bounded { (history : History) (reading : Result (List RtcpPacket) FirstFault) →
-        StandsAt session.value.participant history → IsReading datagram.now reading →
-        KeepsBounds (followed_by history (rtcp_came now peer word datagram.now reading)) }
+        Serves history (rtcp_came now peer word datagram.now reading)
+        handle.new.owned.held result step.new octets.old octets.new }
     ensures within { KeepsWithin handle.new.owned.held }
     ensures refused { result ≢ 0 → handle.new.owned.held ≡ Some session.value }
 {
@@ -124,28 +99,13 @@ pub extern "C" fn jalwedd_arrive_rtp(
     step: &mut Step,
     octets: &mut [u8; 1472],
 ) -> u32
-    ensures status { (history : History) (reading : Result RtpValue HeadFault) → length datagram.now ≤ 65535 →
+    ensures serves { (history : History) (reading : Result RtpValue HeadFault) → length datagram.now ≤ 65535 →
         LeadsTo handle.old.owned.held history → IsRtpReading datagram.now reading →
-        result ≡ status_of (answer_of history (rtp_came now peer word reading)) }
-    ensures handed { (history : History) (reading : Result RtpValue HeadFault) → length datagram.now ≤ 65535 →
-        LeadsTo handle.old.owned.held history → IsRtpReading datagram.now reading →
-        HandsOut step.new octets.old octets.new (answer_of history (rtp_came now peer word reading)) }
-    ensures stands { (history : History) (reading : Result RtpValue HeadFault) → length datagram.now ≤ 65535 →
-        LeadsTo handle.old.owned.held history → IsRtpReading datagram.now reading →
-        LeadsTo handle.new.owned.held (followed_by history (rtp_came now peer word reading)) }
-    ensures shows { (history : History) (reading : Result RtpValue HeadFault) → length datagram.now ≤ 65535 →
-        LeadsTo handle.old.owned.held history → IsRtpReading datagram.now reading →
-        Shows step.new (followed_by history (rtp_came now peer word reading)) }
-    ensures bounded { (history : History) (reading : Result RtpValue HeadFault) → length datagram.now ≤ 65535 →
-        LeadsTo handle.old.owned.held history → IsRtpReading datagram.now reading →
-        KeepsBounds (followed_by history (rtp_came now peer word reading)) }
-    ensures too_long { (session : Session) → handle.old.owned.held ≡ Some session → 65535 < length datagram.now →
-        (result ≡ 23) × HandsNothing step.new × (octets.new ≡ octets.old) }
-    ensures still_shows { (history : History) → LeadsTo handle.old.owned.held history → 65535 < length datagram.now →
-        Shows step.new history }
-    ensures within { KeepsWithin handle.old.owned.held → KeepsWithin handle.new.owned.held }
-    ensures refused { result ≢ 0 → handle.new.owned.held ≡ handle.old.owned.held }
-    ensures empty { handle.old.owned.held ≡ None → (result ≡ 20) × IsBlank step.new × (octets.new ≡ octets.old) }
+        Serves history (rtp_came now peer word reading)
+        handle.new.owned.held result step.new octets.old octets.new }
+    ensures turns_away { 65535 < length datagram.now →
+        TurnsAway handle.old.owned.held result step.new octets.old octets.new }
+    ensures spares { Spares handle.old.owned.held handle.new.owned.held result step.new octets.old octets.new }
 {
     let Some(mut session) = handle.take(alloc) else {
         return empty(step);
@@ -174,21 +134,10 @@ fn own_rtp(
     octets: &mut [u8; 1472],
 ) -> u32
     requires { handle.old.owned.held ≡ None }
-    ensures status { (history : History) (reading : Result RtpValue HeadFault) →
+    ensures serves { (history : History) (reading : Result RtpValue HeadFault) →
         StandsAt session.value.participant history → IsRtpReading datagram.now reading →
-        result ≡ status_of (answer_of history (rtp_came now peer word reading)) }
-    ensures handed { (history : History) (reading : Result RtpValue HeadFault) →
-        StandsAt session.value.participant history → IsRtpReading datagram.now reading →
-        HandsOut step.new octets.old octets.new (answer_of history (rtp_came now peer word reading)) }
-    ensures stands { (history : History) (reading : Result RtpValue HeadFault) →
-        StandsAt session.value.participant history → IsRtpReading datagram.now reading →
-        LeadsTo handle.new.owned.held (followed_by history (rtp_came now peer word reading)) }
-    ensures shows { (history : History) (reading : Result RtpValue HeadFault) →
-        StandsAt session.value.participant history → IsRtpReading datagram.now reading →
-        Shows step.new (followed_by history (rtp_came now peer word reading)) }
-    ensures bounded { (history : History) (reading : Result RtpValue HeadFault) →
-        StandsAt session.value.participant history → IsRtpReading datagram.now reading →
-        KeepsBounds (followed_by history (rtp_came now peer word reading)) }
+        Serves history (rtp_came now peer word reading)
+        handle.new.owned.held result step.new octets.old octets.new }
     ensures within { KeepsWithin handle.new.owned.held }
     ensures refused { result ≢ 0 → handle.new.owned.held ≡ Some session.value }
 {
@@ -213,20 +162,11 @@ pub extern "C" fn jalwedd_sent_rtp(
     step: &mut Step,
     octets: &mut [u8; 1472],
 ) -> u32
-    ensures status { (history : History) → LeadsTo handle.old.owned.held history →
-        result ≡ status_of (answer_of history (rtp_sent now timestamp size)) }
-    ensures handed { (history : History) → LeadsTo handle.old.owned.held history →
-        HandsOut step.new octets.old octets.new (answer_of history (rtp_sent now timestamp size)) }
+    ensures serves { (history : History) → LeadsTo handle.old.owned.held history →
+        Serves history (rtp_sent now timestamp size)
+        handle.new.owned.held result step.new octets.old octets.new }
     ensures nothing { (step.new.kind ≡ 0) × (octets.new ≡ octets.old) }
-    ensures stands { (history : History) → LeadsTo handle.old.owned.held history →
-        LeadsTo handle.new.owned.held (followed_by history (rtp_sent now timestamp size)) }
-    ensures shows { (history : History) → LeadsTo handle.old.owned.held history →
-        Shows step.new (followed_by history (rtp_sent now timestamp size)) }
-    ensures bounded { (history : History) → LeadsTo handle.old.owned.held history →
-        KeepsBounds (followed_by history (rtp_sent now timestamp size)) }
-    ensures within { KeepsWithin handle.old.owned.held → KeepsWithin handle.new.owned.held }
-    ensures refused { result ≢ 0 → handle.new.owned.held ≡ handle.old.owned.held }
-    ensures empty { handle.old.owned.held ≡ None → (result ≡ 20) × IsBlank step.new × (octets.new ≡ octets.old) }
+    ensures spares { Spares handle.old.owned.held handle.new.owned.held result step.new octets.old octets.new }
 {
     let Some(mut session) = handle.take(alloc) else {
         return empty(step);
@@ -249,21 +189,12 @@ pub extern "C" fn jalwedd_tick(
     step: &mut Step,
     octets: &mut [u8; 1472],
 ) -> u32
-    ensures status { (history : History) → LeadsTo handle.old.owned.held history →
-        result ≡ status_of (answer_of history (ticked now first_word second_word)) }
-    ensures handed { (history : History) → LeadsTo handle.old.owned.held history →
-        HandsOut step.new octets.old octets.new (answer_of history (ticked now first_word second_word)) }
-    ensures stands { (history : History) → LeadsTo handle.old.owned.held history →
-        LeadsTo handle.new.owned.held (followed_by history (ticked now first_word second_word)) }
-    ensures shows { (history : History) → LeadsTo handle.old.owned.held history →
-        Shows step.new (followed_by history (ticked now first_word second_word)) }
-    ensures bounded { (history : History) → LeadsTo handle.old.owned.held history →
-        KeepsBounds (followed_by history (ticked now first_word second_word)) }
+    ensures serves { (history : History) → LeadsTo handle.old.owned.held history →
+        Serves history (ticked now first_word second_word)
+        handle.new.owned.held result step.new octets.old octets.new }
     ensures not_too_late { (history : History) → LeadsTo handle.old.owned.held history →
         IsOverdue history (ticked now first_word second_word) → result ≡ 0 → step.new.kind ≢ 0 }
-    ensures within { KeepsWithin handle.old.owned.held → KeepsWithin handle.new.owned.held }
-    ensures refused { result ≢ 0 → handle.new.owned.held ≡ handle.old.owned.held }
-    ensures empty { handle.old.owned.held ≡ None → (result ≡ 20) × IsBlank step.new × (octets.new ≡ octets.old) }
+    ensures spares { Spares handle.old.owned.held handle.new.owned.held result step.new octets.old octets.new }
 {
     let Some(mut session) = handle.take(alloc) else {
         return empty(step);
@@ -288,19 +219,10 @@ pub extern "C" fn jalwedd_leave(
     step: &mut Step,
     octets: &mut [u8; 1472],
 ) -> u32
-    ensures status { (history : History) → LeadsTo handle.old.owned.held history →
-        result ≡ status_of (answer_of history (left now word)) }
-    ensures handed { (history : History) → LeadsTo handle.old.owned.held history →
-        HandsOut step.new octets.old octets.new (answer_of history (left now word)) }
-    ensures stands { (history : History) → LeadsTo handle.old.owned.held history →
-        LeadsTo handle.new.owned.held (followed_by history (left now word)) }
-    ensures shows { (history : History) → LeadsTo handle.old.owned.held history →
-        Shows step.new (followed_by history (left now word)) }
-    ensures bounded { (history : History) → LeadsTo handle.old.owned.held history →
-        KeepsBounds (followed_by history (left now word)) }
-    ensures within { KeepsWithin handle.old.owned.held → KeepsWithin handle.new.owned.held }
-    ensures refused { result ≢ 0 → handle.new.owned.held ≡ handle.old.owned.held }
-    ensures empty { handle.old.owned.held ≡ None → (result ≡ 20) × IsBlank step.new × (octets.new ≡ octets.old) }
+    ensures serves { (history : History) → LeadsTo handle.old.owned.held history →
+        Serves history (left now word)
+        handle.new.owned.held result step.new octets.old octets.new }
+    ensures spares { Spares handle.old.owned.held handle.new.owned.held result step.new octets.old octets.new }
 {
     let Some(mut session) = handle.take(alloc) else {
         return empty(step);
