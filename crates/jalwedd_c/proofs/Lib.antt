@@ -3,6 +3,7 @@ pub mod Refusals
 pub mod Values
 mod Options
 mod Listing
+mod Locating
 mod Never
 mod Ranges
 mod Turns

@@ -1,13 +1,11 @@
 //! The packets of a datagram that applications define, one after the other.
 
-ghost use Rattle.std.specs.Prelude.{◌≡◌, ◌+◌, ◌≤◌, ℕ, List, Some, None, drop, length, slice_get};
-ghost use Rattle.rtcp_wire.specs.declared.fault.WireFault.{WireFault as FirstFault};
-ghost use Rattle.rtcp_wire.specs.Faults.{IsFirstFault};
+ghost use Rattle.std.specs.Prelude.{◌≡◌, ◌+◌, ◌≤◌, drop, length};
 ghost use Rattle.rtcp_wire.specs.Grammar.{IsAccepted, size_of};
 ghost use Rattle.rtcp_wire.specs.Placed.{GivesAt, IsFound};
-ghost use Rattle.rtcp_wire.specs.Values.{RtcpPacket};
 ghost use Rattle.rtcp_wire.specs.Views.{packet_value};
-ghost use Rattle.jalwedd_c.specs.Apps.{AppValue, SaysApp, ShowsApp, all_apps, packet_apps};
+ghost use Rattle.jalwedd_c.specs.Apps.{SaysApp, ShowsApp, all_apps, packet_apps};
+ghost use Rattle.jalwedd_c.specs.Parts.{Locates};
 
 use crate::status::{NO_COMPOUND, NO_PART, TAKEN};
 use rtcp_wire::{Application, Compound, PacketView};
@@ -37,12 +35,7 @@ pub struct AppPlace {
 /// Statuses: 0; 5 where the datagram is not a compound; 8 where it has no such packet.
 #[unsafe(no_mangle)]
 pub extern "C" fn jalwedd_app(datagram: &[u8], index: u32, app: &mut AppPlace) -> u32
-    ensures found { (packets : List RtcpPacket) (part : AppValue) → IsAccepted datagram.now packets →
-        slice_get (all_apps packets) index ≡ Some part → (result ≡ 0) × ShowsApp datagram.now app.new part }
-    ensures none { (packets : List RtcpPacket) → IsAccepted datagram.now packets →
-        slice_get (all_apps packets) index ≡ None → (result ≡ 8) × (app.new ≡ app.old) }
-    ensures refused { (first : FirstFault) → IsFirstFault datagram.now first →
-        (result ≡ 5) × (app.new ≡ app.old) }
+    ensures { Locates all_apps (ShowsApp datagram.now) datagram.now index result app.old app.new }
 {
     match Compound::read(datagram) {
         Ok(compound) => match app_in_packets(datagram, &compound, index) {

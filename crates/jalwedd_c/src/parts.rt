@@ -1,14 +1,11 @@
 //! The parts of a datagram, one after the other: senders, report blocks, SDES items and goodbyes.
 
-ghost use Rattle.std.specs.Prelude.{◌≡◌, ℕ, List, Option, Some, None, slice_get};
-ghost use Rattle.rtcp_wire.specs.declared.fault.WireFault.{WireFault as FirstFault};
+ghost use Rattle.std.specs.Prelude.{ℕ, List, Option};
 ghost use Rattle.rtcp_wire.specs.Contents.{all_blocks, all_goodbyes, all_items, all_senders};
-ghost use Rattle.rtcp_wire.specs.Faults.{IsFirstFault};
-ghost use Rattle.rtcp_wire.specs.Grammar.{IsAccepted};
 ghost use Rattle.rtcp_wire.specs.Placed.{PlacesGoodbye, PlacesItem};
-ghost use Rattle.rtcp_wire.specs.Values.{SenderValue, ItemValue, ReportBlock, RtcpPacket};
+ghost use Rattle.rtcp_wire.specs.Values.{ItemValue};
 ghost use Rattle.rtcp_wire.specs.Views.{sender_value};
-ghost use Rattle.jalwedd_c.specs.Parts.{ShowsGoodbye, ShowsItem, ShowsSender};
+ghost use Rattle.jalwedd_c.specs.Parts.{Locates, ShowsGoodbye, ShowsItem, ShowsSender};
 ghost use Rattle.jalwedd_c.specs.Readings.{ShowsBlock};
 
 use crate::reading::{Report, shown};
@@ -66,12 +63,7 @@ pub struct GoodbyePlace {
 /// Statuses: 0; 5 where the datagram is not a compound; 8 where it has no such report.
 #[unsafe(no_mangle)]
 pub extern "C" fn jalwedd_sender(datagram: &[u8], index: u32, sender: &mut SenderInfo) -> u32
-    ensures found { (packets : List RtcpPacket) (part : SenderValue) → IsAccepted datagram.now packets →
-        slice_get (all_senders packets) index ≡ Some part → (result ≡ 0) × ShowsSender sender.new part }
-    ensures none { (packets : List RtcpPacket) → IsAccepted datagram.now packets →
-        slice_get (all_senders packets) index ≡ None → (result ≡ 8) × (sender.new ≡ sender.old) }
-    ensures refused { (first : FirstFault) → IsFirstFault datagram.now first →
-        (result ≡ 5) × (sender.new ≡ sender.old) }
+    ensures { Locates all_senders ShowsSender datagram.now index result sender.old sender.new }
 {
     match Compound::read(datagram) {
         Ok(compound) => match compound.senders().nth(index as usize) {
@@ -91,12 +83,7 @@ pub extern "C" fn jalwedd_sender(datagram: &[u8], index: u32, sender: &mut Sende
 /// Statuses: 0; 5 where the datagram is not a compound; 8 where it has no such block.
 #[unsafe(no_mangle)]
 pub extern "C" fn jalwedd_block(datagram: &[u8], index: u32, report: &mut Report) -> u32
-    ensures found { (packets : List RtcpPacket) (part : ℕ × ReportBlock) → IsAccepted datagram.now packets →
-        slice_get (all_blocks packets) index ≡ Some part → (result ≡ 0) × ShowsBlock report.new part }
-    ensures none { (packets : List RtcpPacket) → IsAccepted datagram.now packets →
-        slice_get (all_blocks packets) index ≡ None → (result ≡ 8) × (report.new ≡ report.old) }
-    ensures refused { (first : FirstFault) → IsFirstFault datagram.now first →
-        (result ≡ 5) × (report.new ≡ report.old) }
+    ensures { Locates all_blocks ShowsBlock datagram.now index result report.old report.new }
 {
     match Compound::read(datagram) {
         Ok(compound) => {
@@ -119,12 +106,7 @@ pub extern "C" fn jalwedd_block(datagram: &[u8], index: u32, report: &mut Report
 /// Statuses: 0; 5 where the datagram is not a compound; 8 where it has no such item.
 #[unsafe(no_mangle)]
 pub extern "C" fn jalwedd_sdes_item(datagram: &[u8], index: u32, item: &mut ItemPlace) -> u32
-    ensures found { (packets : List RtcpPacket) (part : ℕ × ItemValue) → IsAccepted datagram.now packets →
-        slice_get (all_items packets) index ≡ Some part → (result ≡ 0) × ShowsItem datagram.now item.new part }
-    ensures none { (packets : List RtcpPacket) → IsAccepted datagram.now packets →
-        slice_get (all_items packets) index ≡ None → (result ≡ 8) × (item.new ≡ item.old) }
-    ensures refused { (first : FirstFault) → IsFirstFault datagram.now first →
-        (result ≡ 5) × (item.new ≡ item.old) }
+    ensures { Locates all_items (ShowsItem datagram.now) datagram.now index result item.old item.new }
 {
     match item_at(datagram, index as usize) {
         Ok(Some(placed)) => {
@@ -142,13 +124,7 @@ pub extern "C" fn jalwedd_sdes_item(datagram: &[u8], index: u32, item: &mut Item
 /// Statuses: 0; 5 where the datagram is not a compound; 8 where it has no such source.
 #[unsafe(no_mangle)]
 pub extern "C" fn jalwedd_goodbye(datagram: &[u8], index: u32, goodbye: &mut GoodbyePlace) -> u32
-    ensures found { (packets : List RtcpPacket) (part : ℕ × Option (List ℕ)) → IsAccepted datagram.now packets →
-        slice_get (all_goodbyes packets) index ≡ Some part →
-        (result ≡ 0) × ShowsGoodbye datagram.now goodbye.new part }
-    ensures none { (packets : List RtcpPacket) → IsAccepted datagram.now packets →
-        slice_get (all_goodbyes packets) index ≡ None → (result ≡ 8) × (goodbye.new ≡ goodbye.old) }
-    ensures refused { (first : FirstFault) → IsFirstFault datagram.now first →
-        (result ≡ 5) × (goodbye.new ≡ goodbye.old) }
+    ensures { Locates all_goodbyes (ShowsGoodbye datagram.now) datagram.now index result goodbye.old goodbye.new }
 {
     match goodbye_at(datagram, index as usize) {
         Ok(Some(placed)) => {

@@ -1,13 +1,14 @@
 //! What a datagram says: whether it is a compound, and what its reports say of one source.
 
-ghost use Rattle.std.specs.Prelude.{◌≡◌, ℕ, List, Some, None, slice_get};
+ghost use Rattle.std.specs.Prelude.{◌≡◌, List};
 ghost use Rattle.rtcp_clock.specs.Moments.{ntp_moment, time_of_trip};
 ghost use Rattle.rtcp_wire.specs.declared.fault.WireFault.{WireFault as FirstFault};
 ghost use Rattle.rtcp_wire.specs.About.{blocks_about};
 ghost use Rattle.rtcp_wire.specs.Faults.{IsFirstFault};
 ghost use Rattle.rtcp_wire.specs.Grammar.{IsAccepted};
-ghost use Rattle.rtcp_wire.specs.Values.{ReportBlock, RtcpPacket};
+ghost use Rattle.rtcp_wire.specs.Values.{RtcpPacket};
 ghost use Rattle.rtcp_wire.specs.Views.{block_value};
+ghost use Rattle.jalwedd_c.specs.Parts.{Locates};
 ghost use Rattle.jalwedd_c.specs.Readings.{ShowsBlock, ShowsFault, number_of};
 
 use crate::status::{NO_BLOCK, NO_COMPOUND, TAKEN};
@@ -73,12 +74,7 @@ pub extern "C" fn jalwedd_check(datagram: &[u8], fault: &mut Fault) -> u32
 /// Statuses: 0; 5 where the datagram is not a compound; 8 where it has no such block.
 #[unsafe(no_mangle)]
 pub extern "C" fn jalwedd_about(datagram: &[u8], ssrc: u32, index: u32, report: &mut Report) -> u32
-    ensures found { (packets : List RtcpPacket) (block : ℕ × ReportBlock) → IsAccepted datagram.now packets →
-        slice_get (blocks_about ssrc packets) index ≡ Some block → (result ≡ 0) × ShowsBlock report.new block }
-    ensures none { (packets : List RtcpPacket) → IsAccepted datagram.now packets →
-        slice_get (blocks_about ssrc packets) index ≡ None → (result ≡ 8) × (report.new ≡ report.old) }
-    ensures refused { (first : FirstFault) → IsFirstFault datagram.now first →
-        (result ≡ 5) × (report.new ≡ report.old) }
+    ensures { Locates (blocks_about ssrc) ShowsBlock datagram.now index result report.old report.new }
 {
     match Compound::read(datagram) {
         Ok(compound) => match compound.about(ssrc).nth(index as usize) {

@@ -1,32 +1,24 @@
--- The part at the index is that of the list of all.
-use Rattle.std.proofs.Common.{Some, None, refl, ap, ◌∙◌, subst, slice_get}
+-- The block at the index is that of the list of all.
+use Rattle.std.proofs.Common.{Some, None, refl, sym}
 use Rattle.std.proofs.lemmas.Iterator.Consumers.{nth_from_yields_List, YieldsList-from_first}
-use Rattle.rtcp_wire.specs.Contents.{all_blocks}
 use Rattle.rtcp_wire.specs.Views.{reported_value}
-use Rattle.jalwedd_c.specs.Readings.{ShowsBlock}
-use Rattle.jalwedd_c.proofs.Options.{some_same}
+use Rattle.jalwedd_c.proofs.Locating.{located, missing}
 use Rattle.jalwedd_c.proofs.parts.jalwedd_block.Goals as goal
 
-pub returns-in-Some-clause-found : goal.returns-in-Some-clause-found
-returns-in-Some-clause-found c packets part accepted at =
-    let first = nth_from_yields_List (Some (c.in-Some.reporter, c.in-Some.block)) _ c.args.index c.in-Some.ensures.ran (YieldsList-from_first reported_value (λ parts. parts) _ c.blocks-reported.ensures) in
-    let same = ap (λ packets. slice_get (all_blocks packets) c.args.index) (c.in-Ok.ensures.reads packets accepted) in
-    (refl, subst (ShowsBlock c.shown.result) (some_same (reported_value (c.in-Some.reporter, c.in-Some.block)) part (first ∙ same ∙ at)) c.shown.ensures)
+pub returns-in-Some : goal.returns-in-Some
+returns-in-Some c =
+    let yields = YieldsList-from_first reported_value (λ parts. parts) _ c.blocks-reported.ensures in
+    let first = nth_from_yields_List (Some (c.in-Some.reporter, c.in-Some.block)) _ c.args.index c.in-Some.ensures.ran yields in
+    located (reported_value (c.in-Some.reporter, c.in-Some.block)) (record {
+      reads = c.in-Ok.ensures.reads;
+      no_fault = λ fault is. cc (c.in-Ok.ensures.finds fault is);
+    }) (sym first) refl c.shown.ensures
 
-pub returns-in-Some-clause-none : goal.returns-in-Some-clause-none
-returns-in-Some-clause-none c packets accepted at =
-    let first = nth_from_yields_List (Some (c.in-Some.reporter, c.in-Some.block)) _ c.args.index c.in-Some.ensures.ran (YieldsList-from_first reported_value (λ parts. parts) _ c.blocks-reported.ensures) in
-    let same = ap (λ packets. slice_get (all_blocks packets) c.args.index) (c.in-Ok.ensures.reads packets accepted) in
-    absurd (cc (first ∙ same ∙ at))
-
-pub returns-in-Some-clause-refused : goal.returns-in-Some-clause-refused
-returns-in-Some-clause-refused c first is = absurd (cc (c.in-Ok.ensures.finds first is))
-
-pub returns-in-None-clause-found : goal.returns-in-None-clause-found
-returns-in-None-clause-found c packets part accepted at =
-    let first = nth_from_yields_List None _ c.args.index c.in-None.ensures.ran (YieldsList-from_first reported_value (λ parts. parts) _ c.blocks-reported.ensures) in
-    let same = ap (λ packets. slice_get (all_blocks packets) c.args.index) (c.in-Ok.ensures.reads packets accepted) in
-    absurd (cc (first ∙ same ∙ at))
-
-pub returns-in-None-clause-refused : goal.returns-in-None-clause-refused
-returns-in-None-clause-refused c first is = absurd (cc (c.in-Ok.ensures.finds first is))
+pub returns-in-None : goal.returns-in-None
+returns-in-None c =
+    let yields = YieldsList-from_first reported_value (λ parts. parts) _ c.blocks-reported.ensures in
+    let first = nth_from_yields_List None _ c.args.index c.in-None.ensures.ran yields in
+    missing (record {
+      reads = c.in-Ok.ensures.reads;
+      no_fault = λ fault is. cc (c.in-Ok.ensures.finds fault is);
+    }) (sym first) refl refl
