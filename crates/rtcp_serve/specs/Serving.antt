@@ -66,65 +66,25 @@ pub record Standing : Type 0 where
   pub stage : Stage
 
 abbrev pub at_stage : Stage → Standing → Standing
-at_stage stage s = record {
-  history = s.history;
-  told = s.told;
-  tellings = s.tellings;
-  words = s.words;
-  tally = s.tally;
-  turns = s.turns;
-  leaving = s.leaving;
-  stage = stage;
-}
+at_stage stage s = record s { stage = stage }
 
 abbrev pub with_tally : Tally → Standing → Standing
-with_tally tally s = record {
-  history = s.history;
-  told = s.told;
-  tellings = s.tellings;
-  words = s.words;
-  tally = tally;
-  turns = s.turns;
-  leaving = s.leaving;
-  stage = s.stage;
-}
+with_tally tally s = record s { tally = tally }
 
 abbrev pub with_words : Stream → Standing → Standing
-with_words words s = record {
-  history = s.history;
-  told = s.told;
-  tellings = s.tellings;
-  words = words;
-  tally = s.tally;
-  turns = s.turns;
-  leaving = s.leaving;
-  stage = s.stage;
-}
+with_words words s = record s { words = words }
 
 abbrev pub with_turns : (turns : ℕ) → (leaving : Bool) → Standing → Standing
-with_turns turns leaving s = record {
-  history = s.history;
-  told = s.told;
-  tellings = s.tellings;
-  words = s.words;
-  tally = s.tally;
-  turns = turns;
-  leaving = leaving;
-  stage = s.stage;
-}
+with_turns turns leaving s = record s { turns = turns; leaving = leaving }
 
 -- the participant is told an event, which is this act
 abbrev pub told_act : EventValue → Act → Standing → Standing
-told_act event act s = record {
-  history = followed_by s.history act;
-  told = act ∷ s.told;
-  tellings = telling event (answer_of s.history act) ∷ s.tellings;
-  words = s.words;
-  tally = s.tally;
-  turns = s.turns;
-  leaving = s.leaving;
-  stage = s.stage;
-}
+told_act event act s =
+    record s {
+      history = followed_by s.history act;
+      told = act ∷ s.told;
+      tellings = telling event (answer_of s.history act) ∷ s.tellings;
+    }
 
 -- ---- Answers
 

@@ -84,3 +84,17 @@ pub record IsLeaveDue (s : Standing) : Type 0 where
 -- what a session came to
 abbrev pub IsEnd : End → Standing → Type 0
 IsEnd end t = (t.stage ≡ ended end.cause) × (end ≡ end_of end.cause t.tally)
+
+-- A session over a link, from its start to its end: the calls of the link are those that a session makes, the
+-- participant and the words are where these leave them, the result says what they come to, and the link is told what
+-- the participant is told.
+pub record RunsSession
+    (reader : Reader) (total : ℕ) (start : Standing) (kept : ParticipantValue) (left : Stream) (result : End)
+    (before after : LinkValue) : Type 0 where
+  pub calls : List Call
+  pub reached : Standing
+  pub comes : Comes reader total calls start reached before after
+  pub participant : StandsAt kept reached.history
+  pub words : left ≡ reached.words
+  pub ends : IsEnd result reached
+  pub told : GrowsBy reached.tellings before.told after.told

@@ -38,64 +38,20 @@ no_calls = record {
 
 -- the greatest moment so far
 abbrev pub with_moment : (moment : ℕ) → Tally → Tally
-with_moment moment tally = record {
-  moment = max tally.moment moment;
-  failures = tally.failures;
-  received = tally.received;
-  refused = tally.refused;
-  sent = tally.sent;
-  send_failures = tally.send_failures;
-  recv_failures = tally.recv_failures;
-  bye = tally.bye;
-}
+with_moment moment tally = record tally { moment = max tally.moment moment }
 
 abbrev pub with_datagram : Tally → Tally
-with_datagram tally = record {
-  moment = tally.moment;
-  failures = 0;
-  received = tally.received + 1;
-  refused = tally.refused;
-  sent = tally.sent;
-  send_failures = tally.send_failures;
-  recv_failures = tally.recv_failures;
-  bye = tally.bye;
-}
+with_datagram tally = record tally { failures = 0; received = tally.received + 1 }
 
 abbrev pub with_silence : Tally → Tally
-with_silence tally = record {
-  moment = tally.moment;
-  failures = 0;
-  received = tally.received;
-  refused = tally.refused;
-  sent = tally.sent;
-  send_failures = tally.send_failures;
-  recv_failures = tally.recv_failures;
-  bye = tally.bye;
-}
+with_silence tally = record tally { failures = 0 }
 
 abbrev pub with_failed_receive : Tally → Tally
-with_failed_receive tally = record {
-  moment = tally.moment;
-  failures = tally.failures + 1;
-  received = tally.received;
-  refused = tally.refused;
-  sent = tally.sent;
-  send_failures = tally.send_failures;
-  recv_failures = tally.recv_failures + 1;
-  bye = tally.bye;
-}
+with_failed_receive tally =
+    record tally { failures = tally.failures + 1; recv_failures = tally.recv_failures + 1 }
 
 abbrev pub with_refused : (refused : ℕ) → Tally → Tally
-with_refused refused tally = record {
-  moment = tally.moment;
-  failures = tally.failures;
-  received = tally.received;
-  refused = refused;
-  sent = tally.sent;
-  send_failures = tally.send_failures;
-  recv_failures = tally.recv_failures;
-  bye = tally.bye;
-}
+with_refused refused tally = record tally { refused = refused }
 
 -- an arrival that is refused counts, unless a limit is met
 abbrev pub with_arrival : AnswerValue → Tally → Tally
@@ -108,16 +64,12 @@ is_leave_bye Report changed = false
 is_leave_bye Bye changed = not (is_some changed)
 
 abbrev pub with_send : OutKind → (changed : Option ℕ) → (failed : Bool) → Tally → Tally
-with_send kind changed failed tally = record {
-  moment = tally.moment;
-  failures = tally.failures;
-  received = tally.received;
-  refused = tally.refused;
-  sent = tally.sent + 1;
-  send_failures = tally.send_failures + one_if failed;
-  recv_failures = tally.recv_failures;
-  bye = tally.bye || is_leave_bye kind changed;
-}
+with_send kind changed failed tally =
+    record tally {
+      sent = tally.sent + 1;
+      send_failures = tally.send_failures + one_if failed;
+      bye = tally.bye || is_leave_bye kind changed;
+    }
 
 -- ---- Ends
 

@@ -1,11 +1,10 @@
 //! A session over a link.
 
-ghost use Rattle.std.specs.Prelude.{◌≡◌, ◌≤◌, ◌<◌, ◌^◌, List};
+ghost use Rattle.std.specs.Prelude.{◌≡◌, ◌≤◌, ◌<◌, ◌^◌};
 ghost use Rattle.rtcp_engine.specs.Histories.{History};
 ghost use Rattle.rtcp_engine.specs.States.{StandsAt};
-ghost use Rattle.rtcp_serve.specs.Links.{Call, GrowsBy};
 ghost use Rattle.rtcp_serve.specs.Serving.{IsReader, Reader, Standing, at_the_start, ended};
-ghost use Rattle.rtcp_serve.specs.Sessions.{Comes, EndsAs, IsEnd};
+ghost use Rattle.rtcp_serve.specs.Sessions.{EndsAs, RunsSession};
 
 mod tally;
 mod turns;
@@ -70,17 +69,11 @@ pub fn serve<L: Link, T: MemberTable, R: Rng>(
     requires receives { (L.value link.old).failed_receives < 2 ^ 63 }
     requires sends { (L.value link.old).failed_sends < 2 ^ 63 }
     // The calls of the link were those that a session makes, each the one that came next, up to its end. The
-    // participant stands where they left it, and the result says what they came to.
+    // participant stands where they left it, and the result says what they came to. In that session the link was told
+    // the events that the participant was told, in their order, each with its answer.
     ensures serves { (reader : Reader) (history : History) → IsReader reader → StandsAt participant.old history →
-        (calls : List Call) × (t : Standing) × Comes reader turns calls
-        (at_the_start history (R.stream rng.old) turns) t (L.value link.old) (L.value link.new)
-        × StandsAt participant.new t.history × (R.stream rng.new ≡ t.words) × IsEnd result t }
-    // In that session the link was told the events that the participant was told, in their order, each with its answer.
-    ensures told { (reader : Reader) (history : History) → IsReader reader → StandsAt participant.old history →
-        (calls : List Call) × (t : Standing) × Comes reader turns calls
-        (at_the_start history (R.stream rng.old) turns) t (L.value link.old) (L.value link.new)
-        × StandsAt participant.new t.history × (R.stream rng.new ≡ t.words) × IsEnd result t
-        × GrowsBy t.tellings (L.value link.old).told (L.value link.new).told }
+        RunsSession reader turns (at_the_start history (R.stream rng.old) turns) participant.new (R.stream rng.new)
+        result (L.value link.old) (L.value link.new) }
 {
     let mut tally = Tally::new();
     let returned = turns::session(link, participant, rng, &mut tally, turns, buf);

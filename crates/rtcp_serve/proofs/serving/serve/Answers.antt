@@ -9,34 +9,20 @@ use Rattle.rtcp_serve.proofs.serving.serve.Goals as goal
 pub returns : goal.returns
 returns g c = record {
   serves = λ reader history reads stands.
-      let (calls, t, comes, held, ends, tells) = c.session-returned.ensures.serves reader (at_the_start history _ c.args.turns) reads
-      (record { participant = stands; words = refl; tally = c.new-tally.ensures }) refl refl refl in
-      let cause = c.cause_of.ensures t ends in
-      let why = ap (λ (end : End). end.cause) c.end.ensures in (
-        calls,
-        t,
-        comes,
-        held.participant,
-        held.words,
-        (
-          cause ∙ ap ended (sym why),
-          c.end.ensures ∙ ap (end_of c.cause_of.result) held.tally ∙ ap (λ cause. end_of cause t.tally) (sym why),
-        ),
-      );
-  told = λ reader history reads stands.
-      let (calls, t, comes, held, ends, tells) = c.session-returned.ensures.serves reader (at_the_start history _ c.args.turns) reads
-      (record { participant = stands; words = refl; tally = c.new-tally.ensures }) refl refl refl in
-      let cause = c.cause_of.ensures t ends in
-      let why = ap (λ (end : End). end.cause) c.end.ensures in (
-        calls,
-        t,
-        comes,
-        held.participant,
-        held.words,
-        (
-          cause ∙ ap ended (sym why),
-          c.end.ensures ∙ ap (end_of c.cause_of.result) held.tally ∙ ap (λ cause. end_of cause t.tally) (sym why),
-        ),
-        tells.grows (g.L.Link.value c.args.link.now).told (grows_by_none (g.L.Link.value c.args.link.now).told),
-      );
+      let start = at_the_start history _ c.args.turns in
+      let (calls, t, comes, held, ends, tells) = c.session-returned.ensures.serves reader start reads
+          (record { participant = stands; words = refl; tally = c.new-tally.ensures }) refl refl refl in
+      let why = ap (λ (end : End). end.cause) c.end.ensures in
+      let cause = c.cause_of.ensures t ends ∙ ap ended (sym why) in
+      let counts = ap (end_of c.cause_of.result) held.tally ∙ ap (λ cause. end_of cause t.tally) (sym why) in
+      let link = (g.L.Link.value c.args.link.now).told in
+      record {
+        calls = calls;
+        reached = t;
+        comes = comes;
+        participant = held.participant;
+        words = held.words;
+        ends = (cause, c.end.ensures ∙ counts);
+        told = tells.grows link (grows_by_none link);
+      };
 }
