@@ -13,8 +13,8 @@ pub record Reads (datagram : List ℕ) (read : List RtcpPacket) : Type 0 where
   pub no_fault : (first : WireFault) → IsFirstFault datagram first → ⊥
 
 -- What stands at an index of the parts of the packets read stands there for any packets that the datagram has.
-same_part : {Part : Type 0} (parts : List RtcpPacket → List Part) {datagram : List ℕ} (index : ℕ) {read : List RtcpPacket}
-    {here there : Option Part} → Reads datagram read → slice_get (parts read) index ≡ here
+same_part : {Part : Type 0} (parts : List RtcpPacket → List Part) {datagram : List ℕ} (index : ℕ)
+    {read : List RtcpPacket} {here there : Option Part} → Reads datagram read → slice_get (parts read) index ≡ here
     → (packets : List RtcpPacket) → IsAccepted datagram packets → slice_get (parts packets) index ≡ there → here ≡ there
 same_part parts index is first packets accepted at =
     sym first ∙ ap (λ ps. slice_get (parts ps) index) (is.reads packets accepted) ∙ at

@@ -1,5 +1,5 @@
 -- What a call of a session promises to a host in C.
-use Rattle.std.specs.Prelude.{ℕ, ◌≡◌, ◌≢◌, List, Option, Some, None}
+use Rattle.std.specs.Prelude.{ℕ, ◌≡◌, ◌≢◌, ◌⊎◌, List, Option, Some, None}
 use Rattle.rtcp_engine.specs.Acts.{Act}
 use Rattle.rtcp_engine.specs.Answers.{answer_of, followed_by}
 use Rattle.rtcp_engine.specs.Histories.{History}
@@ -32,3 +32,29 @@ pub record TurnsAway (before : Option Session) (result : ℕ) (step : Step) (was
   pub too_long : (session : Session) → before ≡ Some session →
       (result ≡ 23) × HandsNothing step × (octets ≡ was)
   pub still_shows : (history : History) → LeadsTo before history → Shows step history
+
+-- A call asks for a number. It tells that of the history which the session stands at, and another where there is no
+-- session, and leaves what is held.
+pub record TellsOf
+    (told : History → ℕ) (otherwise : ℕ) (before after : Option Session) (result : ℕ) : Type 0 where
+  pub tells : (history : History) → LeadsTo before history → result ≡ told history
+  pub empty : before ≡ None → result ≡ otherwise
+  pub kept : after ≡ before
+
+-- A session begins in a handle. It stands at this history, which the step shows.
+pub record Begins (history : History) (after : Option Session) (step : Step) : Type 0 where
+  pub stands : LeadsTo after history
+  pub shows : Shows step history
+
+-- A session was to begin in an empty handle, by a configuration that is refused with a status, or is not. The status
+-- says so, or that memory was refused. The step is blank where none began, and the table of one is within its capacity.
+pub record AnswersVacant (refusal : Option ℕ) (after : Option Session) (result : ℕ) (step : Step) : Type 0 where
+  pub refused : (status : ℕ) → refusal ≡ Some status → result ≡ status
+  pub taken : refusal ≡ None → (result ≡ 0) ⊎ (result ≡ 22)
+  pub blank : result ≢ 0 → IsBlank step
+  pub within : KeepsWithin after
+
+-- A session was to begin where a handle holds one. The status says so, and the step shows where that one stands.
+pub record AnswersLive (before : Option Session) (result : ℕ) (step : Step) : Type 0 where
+  pub live : (session : Session) → before ≡ Some session → result ≡ 21
+  pub shows : (history : History) → LeadsTo before history → Shows step history

@@ -1,12 +1,12 @@
 //! The begin of a participant, and its end.
 
-ghost use Rattle.std.specs.Prelude.{◌≡◌, ◌≢◌, ◌⊎◌, ℕ, Some, None};
+ghost use Rattle.std.specs.Prelude.{◌≡◌, ◌≢◌, ◌⊎◌, Some, None};
 ghost use Rattle.rtcp_engine.specs.Histories.{History};
 ghost use Rattle.rtcp_engine.specs.States.{StandsAt};
 ghost use Rattle.rtcp_engine.specs.Taken.{begun};
-ghost use Rattle.jalwedd_c.specs.Answers.{HandsNothing, IsBlank, Shows};
+ghost use Rattle.jalwedd_c.specs.Answers.{HandsNothing, Shows};
 ghost use Rattle.jalwedd_c.specs.Configs.{refusal_of, setup_given};
-ghost use Rattle.jalwedd_c.specs.Handles.{KeepsWithin, LeadsTo};
+ghost use Rattle.jalwedd_c.specs.Promises.{AnswersLive, AnswersVacant, Begins};
 
 use crate::config::{Config, Item, blank, fill};
 use crate::handle::Handle;
@@ -36,17 +36,11 @@ pub extern "C" fn jalwedd_new(
     step: &mut Step,
 ) -> u32
     ensures begins { result ≡ 0 →
-        LeadsTo handle.new.owned.held (begun (setup_given config.now cname.now items.now) word) }
-    ensures shows { result ≡ 0 → Shows step.new (begun (setup_given config.now cname.now items.now) word) }
-    ensures shows_live { (history : History) → LeadsTo handle.old.owned.held history → Shows step.new history }
-    ensures blank { handle.old.owned.held ≡ None → result ≢ 0 → IsBlank step.new }
+        Begins (begun (setup_given config.now cname.now items.now) word) handle.new.owned.held step.new }
+    ensures vacant { handle.old.owned.held ≡ None →
+        AnswersVacant (refusal_of config.now cname.now items.now) handle.new.owned.held result step.new }
+    ensures live { AnswersLive handle.old.owned.held result step.new }
     ensures nothing_handed { HandsNothing step.new }
-    ensures within { handle.old.owned.held ≡ None → KeepsWithin handle.new.owned.held }
-    ensures refused { (status : ℕ) → handle.old.owned.held ≡ None →
-        refusal_of config.now cname.now items.now ≡ Some status → result ≡ status }
-    ensures taken { handle.old.owned.held ≡ None → refusal_of config.now cname.now items.now ≡ None →
-        (result ≡ 0) ⊎ (result ≡ 22) }
-    ensures live { (session : Session) → handle.old.owned.held ≡ Some session → result ≡ 21 }
     ensures kept { result ≢ 0 → handle.new.owned.held ≡ handle.old.owned.held }
 {
     if let Some(session) = handle.take(alloc) {

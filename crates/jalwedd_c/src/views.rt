@@ -6,6 +6,7 @@ ghost use Rattle.rtcp_engine.specs.Lives.{members_in_life, senders_in_life, entr
 ghost use Rattle.jalwedd_c.specs.Answers.{moment_shown};
 ghost use Rattle.rtcp_members.specs.Told.{StateValue};
 ghost use Rattle.jalwedd_c.specs.Handles.{LeadsTo};
+ghost use Rattle.jalwedd_c.specs.Promises.{TellsOf};
 ghost use Rattle.jalwedd_c.specs.Sources.{ShowsSource, after_of};
 
 use crate::handle::Handle;
@@ -17,10 +18,8 @@ use std::alloc::Global;
 /// and one for each BYE packet that came since (6.3.7). 0 once it has left, and for an empty handle.
 #[unsafe(no_mangle)]
 pub extern "C" fn jalwedd_members(alloc: Global, handle: &mut Handle) -> u32
-    ensures members { (history : History) → LeadsTo handle.old.owned.held history →
-        result ≡ members_in_life (setup_at history) (life_at history) }
-    ensures empty { handle.old.owned.held ≡ None → result ≡ 0 }
-    ensures kept { handle.new.owned.held ≡ handle.old.owned.held }
+    ensures { TellsOf (λ history. members_in_life (setup_at history) (life_at history)) 0
+        handle.old.owned.held handle.new.owned.held result }
 {
     handle.step(alloc).members
 }
@@ -28,10 +27,8 @@ pub extern "C" fn jalwedd_members(alloc: Global, handle: &mut Handle) -> u32
 /// The members that send RTP packets: 0 once the participant leaves, and for an empty handle.
 #[unsafe(no_mangle)]
 pub extern "C" fn jalwedd_senders(alloc: Global, handle: &mut Handle) -> u32
-    ensures senders { (history : History) → LeadsTo handle.old.owned.held history →
-        result ≡ senders_in_life (setup_at history) (life_at history) }
-    ensures empty { handle.old.owned.held ≡ None → result ≡ 0 }
-    ensures kept { handle.new.owned.held ≡ handle.old.owned.held }
+    ensures { TellsOf (λ history. senders_in_life (setup_at history) (life_at history)) 0
+        handle.old.owned.held handle.new.owned.held result }
 {
     handle.step(alloc).senders
 }
@@ -40,12 +37,10 @@ pub extern "C" fn jalwedd_senders(alloc: Global, handle: &mut Handle) -> u32
 /// and for an empty handle.
 #[unsafe(no_mangle)]
 pub extern "C" fn jalwedd_next(alloc: Global, handle: &mut Handle) -> u64
-    ensures next { (history : History) → LeadsTo handle.old.owned.held history →
-        result ≡ moment_shown (next_in_life (life_at history)) }
+    ensures next { TellsOf (λ history. moment_shown (next_in_life (life_at history))) (2 ^ 64 - 1)
+        handle.old.owned.held handle.new.owned.held result }
     ensures never { (history : History) → LeadsTo handle.old.owned.held history →
         (result ≡ 2 ^ 64 - 1) ↔ (next_in_life (life_at history) ≡ None) }
-    ensures empty { handle.old.owned.held ≡ None → result ≡ 2 ^ 64 - 1 }
-    ensures kept { handle.new.owned.held ≡ handle.old.owned.held }
 {
     handle.step(alloc).next
 }
@@ -53,10 +48,7 @@ pub extern "C" fn jalwedd_next(alloc: Global, handle: &mut Handle) -> u64
 /// The SSRC under which the participant takes part, or did last: 0 for an empty handle.
 #[unsafe(no_mangle)]
 pub extern "C" fn jalwedd_ssrc(alloc: Global, handle: &mut Handle) -> u32
-    ensures ssrc { (history : History) → LeadsTo handle.old.owned.held history →
-        result ≡ (setup_at history).ssrc }
-    ensures empty { handle.old.owned.held ≡ None → result ≡ 0 }
-    ensures kept { handle.new.owned.held ≡ handle.old.owned.held }
+    ensures { TellsOf (λ history. (setup_at history).ssrc) 0 handle.old.owned.held handle.new.owned.held result }
 {
     handle.step(alloc).ssrc
 }
@@ -66,10 +58,8 @@ pub extern "C" fn jalwedd_ssrc(alloc: Global, handle: &mut Handle) -> u32
 /// and admits no other source until one is dropped. 0 once the participant leaves, and for an empty handle.
 #[unsafe(no_mangle)]
 pub extern "C" fn jalwedd_entries(alloc: Global, handle: &mut Handle) -> u32
-    ensures entries { (history : History) → LeadsTo handle.old.owned.held history →
-        result ≡ entries_in_life (setup_at history) (life_at history) }
-    ensures empty { handle.old.owned.held ≡ None → result ≡ 0 }
-    ensures kept { handle.new.owned.held ≡ handle.old.owned.held }
+    ensures { TellsOf (λ history. entries_in_life (setup_at history) (life_at history)) 0
+        handle.old.owned.held handle.new.owned.held result }
 {
     handle.entries(alloc)
 }

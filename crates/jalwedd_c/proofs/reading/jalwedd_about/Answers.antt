@@ -8,7 +8,8 @@ use Rattle.jalwedd_c.proofs.reading.jalwedd_about.Goals as goal
 pub returns-in-Some : goal.returns-in-Some
 returns-in-Some c =
     let yields = YieldsList-from_first reported_value (λ parts. parts) _ c.about.ensures in
-    let first = nth_from_yields_List (Some (c.in-Some.reporter, c.in-Some.block)) _ c.args.index c.in-Some.ensures.ran yields in
+    let ran = c.in-Some.ensures.ran in
+    let first = nth_from_yields_List (Some (c.in-Some.reporter, c.in-Some.block)) _ c.args.index ran yields in
     located (reported_value (c.in-Some.reporter, c.in-Some.block)) (record {
       reads = c.in-Ok.ensures.reads;
       no_fault = λ fault is. cc (c.in-Ok.ensures.finds fault is);
