@@ -1,2 +1,2 @@
-mod ServeLemmas
-mod TotalLemmas
+mod LinkCalls
+mod SessionAccounts

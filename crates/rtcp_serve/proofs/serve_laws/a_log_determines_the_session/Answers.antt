@@ -1,5 +1,5 @@
 use Rattle.std.proofs.Common.{sym, ap, ◌∙◌}
-use Rattle.rtcp_serve.proofs.ServeLemmas.{one_growth}
+use Rattle.rtcp_serve.proofs.LinkCalls.{one_growth}
 use Rattle.rtcp_serve.specs.Serving.{at_the_start, going, after_calls}
 use Rattle.rtcp_serve.proofs.serve_laws.a_log_determines_the_session.Goals as goal
 

@@ -1,6 +1,6 @@
 use Rattle.std.proofs.Common.{◌++◌, sym, ap, ◌∙◌}
 use Rattle.rtcp_serve.specs.Handing.{given_in}
-use Rattle.rtcp_serve.proofs.TotalLemmas.{pending, session_comes}
+use Rattle.rtcp_serve.proofs.SessionAccounts.{pending, session_comes}
 use Rattle.rtcp_serve.proofs.serve_laws.compounds_go_out_once.Goals as goal
 
 pub returns-clause-handed : goal.returns-clause-handed

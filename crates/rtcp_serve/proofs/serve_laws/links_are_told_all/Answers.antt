@@ -1,4 +1,4 @@
-use Rattle.rtcp_serve.proofs.TotalLemmas.{session_comes}
+use Rattle.rtcp_serve.proofs.SessionAccounts.{session_comes}
 use Rattle.rtcp_serve.proofs.serve_laws.links_are_told_all.Goals as goal
 
 pub returns-clause-acts : goal.returns-clause-acts

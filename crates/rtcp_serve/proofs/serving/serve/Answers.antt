@@ -3,7 +3,7 @@ use Rattle.std.proofs.Common.{refl, sym, ap, ◌∙◌}
 use Rattle.rtcp_serve.specs.declared.serving.End.{End}
 use Rattle.rtcp_serve.specs.Tallies.{end_of}
 use Rattle.rtcp_serve.specs.Serving.{at_the_start, ended}
-use Rattle.rtcp_serve.proofs.ServeLemmas.{grows_by_none}
+use Rattle.rtcp_serve.proofs.LinkCalls.{grows_by_none}
 use Rattle.rtcp_serve.proofs.serving.serve.Goals as goal
 
 pub returns : goal.returns

@@ -4,7 +4,7 @@ use Rattle.rtcp_engine.specs.Views.{answer_value, out_value}
 use Rattle.rtcp_serve.specs.declared.serving.Cause.TheVariants.{Limit}
 use Rattle.rtcp_serve.specs.Tallies.{is_limit}
 use Rattle.rtcp_serve.specs.Serving.{ended, stage_to_send, stage_after_step}
-use Rattle.rtcp_serve.proofs.ServeLemmas.{moves_nowhere}
+use Rattle.rtcp_serve.proofs.LinkCalls.{moves_nowhere}
 use Rattle.rtcp_serve.proofs.serving.turns.hand_over.Goals as goal
 
 pub returns-in-None-clause-leads : goal.returns-in-None-clause-leads

@@ -5,7 +5,7 @@ use Rattle.rtcp_engine.specs.Views.{answer_value, event_value}
 use Rattle.rtcp_serve.specs.Links.{telling}
 use Rattle.rtcp_serve.specs.Serving.{after_port, ended}
 use Rattle.rtcp_serve.specs.Sessions.{Reaches, ReachesBy}
-use Rattle.rtcp_serve.proofs.ServeLemmas.{Stays, called_still, came_as, comes_either_way, datagram_room, datagram_told, grew_since, leads_on, leads_untold}
+use Rattle.rtcp_serve.proofs.LinkCalls.{Stays, called_still, came_as, comes_either_way, datagram_room, datagram_told, grew_since, leads_on, leads_untold}
 use Rattle.rtcp_serve.proofs.serving.turns.hear.Goals as goal
 
 pub returns-in_err-hand_over-in-Got-clause-leads : goal.returns-in_err-hand_over-in-Got-clause-leads

@@ -3,7 +3,7 @@ use Rattle.std.proofs.Common.{◌≡◌, ◌+◌, ◌*◌, ◌-◌, inl, inr, is
 use Rattle.std.proofs.lemmas.Result.{err_from_is_err_and}
 use Rattle.rtcp_serve.specs.Serving.{resting, ended}
 use Rattle.rtcp_serve.specs.Sessions.{HasTurn, Reaches, EndsTurns, next_at}
-use Rattle.rtcp_serve.proofs.ServeLemmas.{leads_nowhere, leads_on, less_room, none_left}
+use Rattle.rtcp_serve.proofs.LinkCalls.{leads_nowhere, leads_on, less_room, none_left}
 use Rattle.rtcp_serve.proofs.serving.turns.make_turns.Goals as goal
 
 pub turns-init : goal.turns-init

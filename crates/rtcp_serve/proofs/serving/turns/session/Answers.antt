@@ -4,7 +4,7 @@ use Rattle.std.proofs.lemmas.Result.{err_from_is_err_and}
 use Rattle.rtcp_serve.specs.declared.serving.Cause.TheVariants.{Done}
 use Rattle.rtcp_serve.specs.Serving.{at_stage, resting, ended}
 use Rattle.rtcp_serve.specs.Sessions.{EndsTurns, EndsAs, ReachesBy, IsLeaveDue, next_at}
-use Rattle.rtcp_serve.proofs.ServeLemmas.{less_room, none_left, going_under_way, gone_ends, turns_end, held_at, comes_then, comes_on, comes_alike, tells_on, turns_left, moves_on}
+use Rattle.rtcp_serve.proofs.LinkCalls.{less_room, none_left, going_under_way, gone_ends, turns_end, held_at, comes_then, comes_on, comes_alike, tells_on, turns_left, moves_on}
 use Rattle.rtcp_serve.proofs.serving.turns.session.Goals as goal
 
 pub returns-in_err-make_turns : goal.returns-in_err-make_turns

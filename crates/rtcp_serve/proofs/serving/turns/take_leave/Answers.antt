@@ -4,7 +4,7 @@ use Rattle.rtcp_serve.specs.declared.serving.Cause.TheVariants.{Done}
 use Rattle.rtcp_engine.specs.Acts.{leave_asked}
 use Rattle.rtcp_serve.specs.Links.{telling}
 use Rattle.rtcp_serve.specs.Serving.{resting, ended, stage_to_send}
-use Rattle.rtcp_serve.proofs.ServeLemmas.{Stays, leads_untold, leave_told, room_still, tells_on, tells_one, moves_after}
+use Rattle.rtcp_serve.proofs.LinkCalls.{Stays, leads_untold, leave_told, room_still, tells_on, tells_one, moves_after}
 use Rattle.rtcp_serve.proofs.serving.turns.take_leave.Goals as goal
 
 pub returns-clause-leads : goal.returns-clause-leads

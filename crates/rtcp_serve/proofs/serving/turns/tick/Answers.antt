@@ -6,7 +6,7 @@ use Rattle.rtcp_engine.specs.Views.{answer_value}
 use Rattle.rtcp_serve.specs.Links.{telling}
 use Rattle.rtcp_serve.specs.Serving.{resting, ended, stage_to_send}
 use Rattle.rtcp_serve.specs.Sessions.{Reaches, ReachesBy}
-use Rattle.rtcp_serve.proofs.ServeLemmas.{Stays, called_still, comes_either_way, grew_since, leads_on, leads_untold, room_still, tick_told}
+use Rattle.rtcp_serve.proofs.LinkCalls.{Stays, called_still, comes_either_way, grew_since, leads_on, leads_untold, room_still, tick_told}
 use Rattle.rtcp_serve.proofs.serving.turns.tick.Goals as goal
 
 pub returns-in_err-hand_over-clause-leads : goal.returns-in_err-hand_over-clause-leads

@@ -4,7 +4,7 @@ use Rattle.std.proofs.lemmas.Result.{err_from_is_err_and}
 use Rattle.rtcp_serve.specs.declared.link.Port.TheVariants.{Rtp as RtpPort}
 use Rattle.rtcp_serve.specs.Serving.{resting, hearing, deciding, ended}
 use Rattle.rtcp_serve.specs.Sessions.{Reaches}
-use Rattle.rtcp_serve.proofs.ServeLemmas.{leads_on, turn_clocked, less_room}
+use Rattle.rtcp_serve.proofs.LinkCalls.{leads_on, turn_clocked, less_room}
 use Rattle.rtcp_serve.proofs.serving.turns.turn.Goals as goal
 
 pub returns-in_err-hear-clause-leads : goal.returns-in_err-hear-clause-leads
