@@ -11,7 +11,7 @@ returns g c = record {
   serves = λ reader history reads stands.
       let start = at_the_start history _ c.args.turns in
       let (calls, t, comes, held, ends, tells) = c.session-returned.ensures.serves reader start reads
-          (record { participant = stands; words = refl; tally = c.new-tally.ensures }) refl refl refl in
+      (record { participant = stands; words = refl; tally = c.new-tally.ensures }) refl refl refl in
       let why = ap (λ (end : End). end.cause) c.end.ensures in
       let cause = c.cause_of.ensures t ends ∙ ap ended (sym why) in
       let counts = ap (end_of c.cause_of.result) held.tally ∙ ap (λ cause. end_of cause t.tally) (sym why) in
