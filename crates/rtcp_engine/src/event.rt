@@ -1,5 +1,16 @@
 //! What a host tells a participant, as a value.
 
+ghost use Rattle.std.specs.Prelude.{◌≡◌, None};
+ghost use Rattle.rtcp_engine.specs.Acts.{Act};
+ghost use Rattle.rtcp_engine.specs.Promises.{Spares, Takes};
+ghost use Rattle.rtcp_engine.specs.Views.{answer_value, kind_told, reply_value, IsActOf};
+
+use crate::participant::Participant;
+use crate::step::{Answer, Reply};
+use arrayvec::ArrayVec;
+use rtcp_members::MemberTable;
+use rtcp_wire::MAX_COMPOUND;
+
 /// A call of a participant, for [`run`](crate::run). Moments are in microseconds since the session began.
 #[derive(Clone, Copy, Debug)]
 pub enum Event<'a> {
@@ -50,4 +61,56 @@ pub enum Event<'a> {
         /// A random word, for the draw of a backoff.
         w: u32,
     },
+}
+
+impl<T: MemberTable> Participant<T> {
+    /// Makes the call that an event names.
+    ///
+    /// # Errors
+    ///
+    /// Those of the call. Then the participant is unchanged.
+    pub fn tell(&mut self, event: &Event<'_>) -> Answer
+        ensures takes { (act : Act) → IsActOf event.now act → Takes self.old act (answer_value result) self.new }
+        ensures spares { Spares self.old result self.new }
+    {
+        let mut octets = ArrayVec::new();
+        match self.tell_into(event, &mut octets) {
+            Ok(told) => Ok(told.step(octets)),
+            Err(refusal) => Err(refusal),
+        }
+    }
+
+    /// [`tell`](Participant::tell), where a compound replaces what stood in `octets`.
+    ///
+    /// # Errors
+    ///
+    /// Those of the call. Then the participant and `octets` are unchanged.
+    pub fn tell_into(&mut self, event: &Event<'_>, octets: &mut ArrayVec<u8, MAX_COMPOUND>) -> Reply
+        ensures takes { (act : Act) → IsActOf event.now act →
+            Takes self.old act (reply_value octets.new.items result) self.new }
+        ensures spares { Spares self.old result self.new }
+        ensures untouched { kind_told result ≡ None → octets.new ≡ octets.old }
+    {
+        match *event {
+            Event::ArriveRtcp {
+                now,
+                peer,
+                w,
+                bytes,
+            } => self.arrive_rtcp_into(now, peer, w, bytes, octets),
+            Event::ArriveRtp {
+                now,
+                peer,
+                w,
+                bytes,
+            } => self.arrive_rtp_into(now, peer, w, bytes, octets),
+            Event::SentRtp {
+                now,
+                rtp_ts,
+                octets: payload,
+            } => self.sent_rtp_told(now, rtp_ts, payload),
+            Event::Tick { now, w1, w2 } => self.tick_into(now, w1, w2, octets),
+            Event::Leave { now, w } => self.leave_into(now, w, octets),
+        }
+    }
 }

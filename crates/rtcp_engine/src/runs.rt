@@ -5,16 +5,14 @@ ghost use Rattle.rtcp_engine.specs.Acts.{Act};
 ghost use Rattle.rtcp_engine.specs.Outcomes.{one_if};
 ghost use Rattle.rtcp_engine.specs.Histories.{History};
 ghost use Rattle.rtcp_engine.specs.Answers.{answers_to, followed_by_all};
-ghost use Rattle.rtcp_engine.specs.Views.{answer_value, IsActOf, AreActsOf};
+ghost use Rattle.rtcp_engine.specs.Views.{AreActsOf};
 ghost use Rattle.rtcp_engine.specs.Spacing.{KeepsBounds};
 ghost use Rattle.rtcp_engine.specs.InTime.{AllInTime};
-ghost use Rattle.rtcp_engine.specs.Promises.{Spares, Takes};
 ghost use Rattle.rtcp_engine.specs.States.{KeepsCapacity, StandsAt};
 
 use crate::event::Event;
 use crate::participant::Participant;
 use crate::sink::Sink;
-use crate::step::Answer;
 use rtcp_members::MemberTable;
 
 /// What a run did.
@@ -77,7 +75,7 @@ pub fn run<T: MemberTable, S: Sink>(
 {
     let mut taken = 0;
     'events: for event in events {
-        let answer = tell(participant, event);
+        let answer = participant.tell(event);
         taken += 1;
         if sink.put(answer).is_err() {
             return Ran {
@@ -89,34 +87,5 @@ pub fn run<T: MemberTable, S: Sink>(
     Ran {
         taken,
         stopped: false,
-    }
-}
-
-/// Tells a participant one event.
-fn tell<T: MemberTable>(participant: &mut Participant<T>, event: &Event<'_>) -> Answer
-    ensures takes { (act : Act) → IsActOf event.now act →
-        Takes participant.old act (answer_value result) participant.new }
-    ensures spares { Spares participant.old result participant.new }
-{
-    match *event {
-        Event::ArriveRtcp {
-            now,
-            peer,
-            w,
-            bytes,
-        } => participant.arrive_rtcp(now, peer, w, bytes),
-        Event::ArriveRtp {
-            now,
-            peer,
-            w,
-            bytes,
-        } => participant.arrive_rtp(now, peer, w, bytes),
-        Event::SentRtp {
-            now,
-            rtp_ts,
-            octets,
-        } => participant.sent_rtp(now, rtp_ts, octets),
-        Event::Tick { now, w1, w2 } => participant.tick(now, w1, w2),
-        Event::Leave { now, w } => participant.leave(now, w),
     }
 }

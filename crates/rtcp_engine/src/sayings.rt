@@ -3,7 +3,7 @@
 
 ghost use Rattle.std.specs.Prelude.{◌≡◌, ◌==◌, ◌∷◌, [], false};
 ghost use Rattle.std.specs.List.{list_any};
-ghost use Rattle.rtcp_wire.specs.Facts.{facts_of, facts_of_chunk, facts_of_packet, is_cname, is_media, subject};
+ghost use Rattle.rtcp_wire.specs.Facts.{facts_of, facts_of_chunk, facts_of_packet, is_media, subject};
 ghost use Rattle.rtcp_wire.specs.Views.{packet_value};
 ghost use Rattle.rtcp_members.specs.Roles.{facts_move};
 ghost use Rattle.rtcp_members.specs.Tables.{after_facts};
@@ -12,9 +12,6 @@ ghost use Rattle.rtcp_engine.specs.Sayings.{facts_of_chunks, facts_of_goodbyes};
 use crate::table::apply_said;
 use rtcp_members::MemberTable;
 use rtcp_wire::{Chunk, Chunks, Fact, Ids, PacketView, Packets};
-
-/// The type of a CNAME (RFC 3550, 6.5.1).
-const CNAME: u8 = 1;
 
 // ---- What is said, applied to a table at one moment
 
@@ -69,18 +66,11 @@ fn apply_chunk<T: MemberTable>(table: &mut T, chunk: &Chunk<'_>, t: u64) -> bool
     ensures content { T.content table.new ≡ after_facts (facts_of_chunk chunk.now) t (T.content table.old) }
     ensures moved { result ≡ facts_move (facts_of_chunk chunk.now) t (T.content table.old) }
 {
-    if has_cname(chunk) {
+    if chunk.has_cname() {
         // Its name says that it is heard, too.
         return apply_one(table, Fact::Named(chunk.id()), t);
     }
     apply_one(table, Fact::Heard(chunk.id()), t)
-}
-
-/// Whether an item of the chunk is a CNAME.
-fn has_cname(chunk: &Chunk<'_>) -> bool
-    ensures { result ≡ list_any is_cname chunk.now.items }
-{
-    chunk.items().any(|item| item.kind == CNAME)
 }
 
 fn apply_goodbyes<T: MemberTable>(table: &mut T, ids: Ids<'_>, t: u64) -> bool

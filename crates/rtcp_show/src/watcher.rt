@@ -6,13 +6,11 @@ ghost use Rattle.std.specs.Net.Addr.{ipv4_bits};
 ghost use Rattle.std.specs.Net.Socket.{v4_ip, v4_port};
 ghost use Rattle.rtcp_engine.specs.Histories.{History};
 ghost use Rattle.rtcp_show.specs.Lines.{ShowsBoth, moment_of_event as moment_in};
-ghost use Rattle.rtcp_engine.specs.Acts.{Act};
-ghost use Rattle.rtcp_engine.specs.Promises.{Takes};
 ghost use Rattle.rtcp_engine.specs.Refused.{error_in};
 ghost use Rattle.rtcp_engine.specs.States.{StandsAt};
 ghost use Rattle.rtcp_engine.specs.Steps.{AnswerValue};
 ghost use Rattle.rtcp_engine.specs.Taken.{begun};
-ghost use Rattle.rtcp_engine.specs.Views.{IsActOf, answer_value, event_value, setup_of};
+ghost use Rattle.rtcp_engine.specs.Views.{answer_value, event_value, setup_of};
 
 use crate::copies::copy_of;
 use crate::lines::{moment_of, push_lines};
@@ -23,7 +21,7 @@ use rtcp_clock::{ntp_of, round_trip};
 use rtcp_engine::{Answer, Config, Event, Participant};
 use rtcp_members::{HeapTable, MemberTable};
 use rtcp_text::TextFault;
-use rtcp_wire::{Chunk, Compound, PacketView, SourceDescription};
+use rtcp_wire::{CNAME, Chunk, Compound, PacketView, SourceDescription};
 use std::alloc::{AllocError, Global};
 use std::io::Write;
 use std::mem;
@@ -31,9 +29,6 @@ use std::net::SocketAddrV4;
 
 /// Microseconds in a second.
 const SECOND: u64 = 1_000_000;
-
-/// The type of a CNAME item (RFC 3550, 6.5.1).
-const CNAME: u8 = 1;
 
 /// What a watcher knows of a session from its start.
 #[derive(Clone, Copy, Debug)]
@@ -142,7 +137,7 @@ impl<W: Write> Watcher<W> {
             × Appends (held_by W.contents self.old) (held_by W.contents self.new) (lines ++ those)) }
     {
         let shown = self.show_event(event, answer);
-        let _ = tell(&mut self.participant, event);
+        let _ = self.participant.tell(event);
         self.note(event, answer);
         let listed = self.show_sources(moment_of(event));
         match shown {
@@ -288,33 +283,5 @@ impl<W: Write> Watcher<W> {
             Ok(()) => Ok(()),
             Err(_) => Err(TextFault::Write),
         }
-    }
-}
-
-/// Tells a participant an event.
-fn tell<T: MemberTable>(participant: &mut Participant<T>, event: &Event<'_>) -> Answer
-    ensures { (act : Act) → IsActOf event.now act →
-        Takes participant.old act (answer_value result) participant.new }
-{
-    match *event {
-        Event::ArriveRtcp {
-            now,
-            peer,
-            w,
-            bytes,
-        } => participant.arrive_rtcp(now, peer, w, bytes),
-        Event::ArriveRtp {
-            now,
-            peer,
-            w,
-            bytes,
-        } => participant.arrive_rtp(now, peer, w, bytes),
-        Event::SentRtp {
-            now,
-            rtp_ts,
-            octets,
-        } => participant.sent_rtp(now, rtp_ts, octets),
-        Event::Tick { now, w1, w2 } => participant.tick(now, w1, w2),
-        Event::Leave { now, w } => participant.leave(now, w),
     }
 }

@@ -1,16 +1,13 @@
 //! The answer to a line of a session: what a participant answers to the event that the line says.
 
 ghost use Rattle.std.specs.Prelude.{◌≡◌};
-ghost use Rattle.rtcp_engine.specs.Acts.{Act};
-ghost use Rattle.rtcp_engine.specs.Promises.{Takes};
-ghost use Rattle.rtcp_engine.specs.Views.{reply_value, IsActOf};
 
 use crate::answerer::Answerer;
 use crate::event_line::{EventFault, read_event};
 use crate::fault::TextFault;
 use crate::text::push_reply;
 use arrayvec::ArrayVec;
-use rtcp_engine::{Event, Participant, Reply};
+use rtcp_engine::Participant;
 use rtcp_members::MemberTable;
 use rtcp_wire::MAX_COMPOUND;
 use std::alloc::{AllocError, Global};
@@ -55,42 +52,10 @@ impl<T: MemberTable + Drop> Answerer for Player<T> {
             }
             Err(EventFault::Memory) => return Err(TextFault::Memory),
         };
-        let reply = tell(&mut self.participant, &event, &mut self.compound);
+        let reply = self.participant.tell_into(&event, &mut self.compound);
         match push_reply(text, &reply, &self.compound) {
             Ok(()) => Ok(()),
             Err(AllocError) => Err(TextFault::Memory),
         }
-    }
-}
-
-/// Tells a participant an event. A compound to send then stands in `compound`.
-fn tell<T: MemberTable>(
-    participant: &mut Participant<T>,
-    event: &Event<'_>,
-    compound: &mut ArrayVec<u8, MAX_COMPOUND>,
-) -> Reply
-    ensures { (act : Act) → IsActOf event.now act →
-        Takes participant.old act (reply_value compound.new.items result) participant.new }
-{
-    match *event {
-        Event::ArriveRtcp {
-            now,
-            peer,
-            w,
-            bytes,
-        } => participant.arrive_rtcp_into(now, peer, w, bytes, compound),
-        Event::ArriveRtp {
-            now,
-            peer,
-            w,
-            bytes,
-        } => participant.arrive_rtp_into(now, peer, w, bytes, compound),
-        Event::SentRtp {
-            now,
-            rtp_ts,
-            octets,
-        } => participant.sent_rtp_told(now, rtp_ts, octets),
-        Event::Tick { now, w1, w2 } => participant.tick_into(now, w1, w2, compound),
-        Event::Leave { now, w } => participant.leave_into(now, w, compound),
     }
 }

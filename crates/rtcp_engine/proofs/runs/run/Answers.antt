@@ -13,7 +13,7 @@ pub returns-then-is_err-clause-stands : goal.returns-then-is_err-clause-stands
 returns-then-is_err-clause-stands g c history acts h are =
     let next = next_act c.args.events.now acts c.events.taken c.events.event-index c.events.invariant.count c.events-test.true are in
     let told = followed_by_all history (take c.events.taken acts) in
-    subst (λ (hs : History). StandsAt c.tell-answer.new.participant hs) (sym (ap (followed_by_all history) next.more ∙ followed_more history (take c.events.taken acts) next.act))
+    subst (λ (hs : History). StandsAt c.tell-answer.new.self hs) (sym (ap (followed_by_all history) next.more ∙ followed_more history (take c.events.taken acts) next.act))
     ((c.tell-answer.ensures.takes next.act (next.is_act _)).stands told (c.events.invariant.stands history acts h are))
 
 pub returns-then-is_err-clause-not_too_late : goal.returns-then-is_err-clause-not_too_late
@@ -52,6 +52,6 @@ events-preserved g c =
       stands = λ history acts h are.
           let next = next_act c.args.events.now acts c.events.taken c.events.event-index c.events.invariant.count c.events-test.true are in
           let told = followed_by_all history (take c.events.taken acts) in
-          subst (λ (hs : History). StandsAt c.tell-answer.new.participant hs) (sym (ap (followed_by_all history) next.more ∙ followed_more history (take c.events.taken acts) next.act))
+          subst (λ (hs : History). StandsAt c.tell-answer.new.self hs) (sym (ap (followed_by_all history) next.more ∙ followed_more history (take c.events.taken acts) next.act))
           ((c.tell-answer.ensures.takes next.act (next.is_act _)).stands told (c.events.invariant.stands history acts h are));
     }

@@ -8,7 +8,7 @@ pub returns-in-Ok-push_reply : goal.returns-in-Ok-push_reply
 returns-in-Ok-push_reply g c =
     let event = c.in-Ok.event in
     let found = act_exists (event_value event) in
-    let takes = c.tell-reply.ensures found.0 found.1 in (
+    let takes = c.tell_into-reply.ensures.takes found.0 found.1 in (
       event_value event,
       found.0,
       c.in-Ok.ensures.event,
