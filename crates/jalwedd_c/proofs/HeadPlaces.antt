@@ -23,7 +23,8 @@ last_of-append x o =
     ap (λ (i : ℕ). slice_index (x ++ o ∷ []) i) place ∙ get_or-append_seam x o [] 0
 
 -- Padding is as long as the last octet says.
-own_padding : (padded : Bool) (x y : List ℕ) → IsPaddingPart padded y → (if padded then last_of (x ++ y) else 0) ≡ length y
+own_padding : (padded : Bool) (x y : List ℕ) → IsPaddingPart padded y →
+    (if padded then last_of (x ++ y) else 0) ≡ length y
 own_padding true x y h =
     let whole : x ++ y ≡ (x ++ h.0) ++ (length h.0 + 1) ∷ [] =
     ap (λ (t : List ℕ). x ++ t) h.1 ∙ sym (append_assoc x h.0 ((length h.0 + 1) ∷ [])) in
@@ -40,8 +41,10 @@ module _ (octets : List ℕ) (head : RtpValue) (spelled : IsRtpHead octets head)
   unfolding unpadded
   regrouped =
       spelled.parts
-      ∙ ap (λ (t : List ℕ). spelled.fixed ++ (spelled.sources ++ t)) (sym (append_assoc spelled.extension head.payload spelled.padding))
-      ∙ ap (λ (t : List ℕ). spelled.fixed ++ t) (sym (append_assoc spelled.sources (spelled.extension ++ head.payload) spelled.padding))
+      ∙ ap (λ (t : List ℕ). spelled.fixed ++ (spelled.sources ++ t))
+      (sym (append_assoc spelled.extension head.payload spelled.padding))
+      ∙ ap (λ (t : List ℕ). spelled.fixed ++ t)
+      (sym (append_assoc spelled.sources (spelled.extension ++ head.payload) spelled.padding))
       ∙ sym (append_assoc spelled.fixed (spelled.sources ++ (spelled.extension ++ head.payload)) spelled.padding)
 
   -- The first octet is that of the fixed part.
@@ -49,7 +52,8 @@ module _ (octets : List ℕ) (head : RtpValue) (spelled : IsRtpHead octets head)
   same_bit =
       ap has_padding spelled.parts
       ∙ ap (λ (n : ℕ). n / 32 % 2 == 1)
-      (get_or_append_left spelled.fixed (spelled.sources ++ (spelled.extension ++ (head.payload ++ spelled.padding))) 0 0 (omega (arith, spelled.is_fixed.size)))
+      (get_or_append_left spelled.fixed (spelled.sources ++ (spelled.extension ++ (head.payload ++ spelled.padding))) 0
+      0 (omega (arith, spelled.is_fixed.size)))
 
   pub padding_size_is : padding_counted octets ≡ length spelled.padding
   padding_size_is =
@@ -57,7 +61,8 @@ module _ (octets : List ℕ) (head : RtpValue) (spelled : IsRtpHead octets head)
       ∙ own_padding (has_padding spelled.fixed) unpadded spelled.padding spelled.is_padding
 
   -- the sizes of the parts
-  pub sizes : length octets ≡ length spelled.fixed + (length spelled.sources + (length spelled.extension + (length head.payload + length spelled.padding)))
+  pub sizes : length octets ≡ length spelled.fixed
+      + (length spelled.sources + (length spelled.extension + (length head.payload + length spelled.padding)))
   sizes =
       omega (
         arith,
@@ -77,13 +82,20 @@ module _ (octets : List ℕ) (head : RtpValue) (spelled : IsRtpHead octets head)
   }
 
   -- The payload stands at any place that is as far as the parts before it are long.
-  pub payload_stands : (place : ℕ) → place ≡ length spelled.fixed + length spelled.sources + length spelled.extension → StandsIn place head.payload octets
+  pub payload_stands : (place : ℕ) → place ≡ length spelled.fixed + length spelled.sources + length spelled.extension →
+      StandsIn place head.payload octets
   payload_stands place is = record {
     before = spelled.fixed ++ (spelled.sources ++ spelled.extension);
     after = spelled.padding;
     parts =
         spelled.parts
-        ∙ ap (λ (t : List ℕ). spelled.fixed ++ t) (sym (append_assoc spelled.sources spelled.extension (head.payload ++ spelled.padding)))
+        ∙ ap (λ (t : List ℕ). spelled.fixed ++ t)
+        (sym (append_assoc spelled.sources spelled.extension (head.payload ++ spelled.padding)))
         ∙ sym (append_assoc spelled.fixed (spelled.sources ++ spelled.extension) (head.payload ++ spelled.padding));
-    counted = omega (arith, is, length-append spelled.fixed (spelled.sources ++ spelled.extension), length-append spelled.sources spelled.extension);
+    counted = omega (
+      arith,
+      is,
+      length-append spelled.fixed (spelled.sources ++ spelled.extension),
+      length-append spelled.sources spelled.extension,
+    );
   }

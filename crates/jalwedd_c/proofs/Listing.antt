@@ -12,11 +12,13 @@ yes_if : (b : Bool) (n : ℕ) → n ≡ one_if b → not (n == 0) ≡ b
 yes_if true n e = ap (λ (m : ℕ). not (m == 0)) e
 yes_if false n e = ap (λ (m : ℕ). not (m == 0)) e
 
-left_if : (left : Option ℕ) (n never : ℕ) → never ≡ 2 ^ 64 - 1 → n ≡ moment_shown left → IfSome left (λ moment. moment < 2 ^ 64 - 1) → not (n == never) ≡ is_some left
+left_if : (left : Option ℕ) (n never : ℕ) → never ≡ 2 ^ 64 - 1 → n ≡ moment_shown left →
+    IfSome left (λ moment. moment < 2 ^ 64 - 1) → not (n == never) ≡ is_some left
 left_if None n never big e h = grind (arith, nat_tests, big, e)
 left_if (Some moment) n never big e h = grind (arith, nat_tests, big, e, h)
 
-pub listed_as_known : (shown : Source) (state : StateValue) → IsShown shown state → IfSome state.left (λ moment. moment < 2 ^ 64 - 1) → listed_by shown ≡ listed_of state
+pub listed_as_known : (shown : Source) (state : StateValue) → IsShown shown state →
+    IfSome state.left (λ moment. moment < 2 ^ 64 - 1) → listed_by shown ≡ listed_of state
 listed_as_known shown state is before =
     let member = yes_if state.member shown.member is.member in
     let sender = yes_if state.sender shown.sender is.sender in

@@ -19,7 +19,8 @@ use Rattle.jalwedd_c.specs.Parts.{ShowsGoodbye, ShowsItem, ShowsReason}
 use Rattle.jalwedd_c.specs.Readings.{ShowsBlock}
 
 -- What holds of each part holds of the one at an index.
-at_index : {A : Type 0} (P : A → Type 0) (xs : List A) (index : ℕ) (x : A) → All P xs → slice_get xs index ≡ Some x → P x
+at_index : {A : Type 0} (P : A → Type 0) (xs : List A) (index : ℕ) (x : A) → All P xs → slice_get xs index ≡ Some x →
+    P x
 at_index P xs index x all is =
     subst P (get_or_from_slice_get xs index x x is) (all index x (slice_get_within xs index x is))
 
@@ -69,7 +70,8 @@ packet_fits (rr reporter blocks extension) can = All-nil AppFits
 packet_fits (sdes chunks) can = All-nil AppFits
 packet_fits (bye ids reason) can = All-nil AppFits
 packet_fits (app subtype source name content) can =
-    All-cons AppFits (record { ssrc = source; subtype = subtype; name = name; content = content }) [] can.parts (All-nil AppFits)
+    All-cons AppFits (record { ssrc = source; subtype = subtype; name = name; content = content }) [] can.parts
+    (All-nil AppFits)
 packet_fits (other kind count body) can = All-nil AppFits
 
 apps_fit : (ps : List RtcpPacket) → All IsWritable ps → All AppFits (all_apps ps)

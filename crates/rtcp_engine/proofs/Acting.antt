@@ -22,18 +22,24 @@ use Rattle.rtcp_engine.proofs.Standing.{refusal_is, refused_answer, taken_histor
 
 -- ---- Phases
 
-pub at_present : (p : ParticipantValue) → p.phase ≡ taking_part → (P : Life → Type 0) → ((outcome : Outcome) → Agrees p.presence outcome → P (present outcome)) → (life : Life) → IsAt p life → P life
+pub at_present : (p : ParticipantValue) → p.phase ≡ taking_part → (P : Life → Type 0) →
+    ((outcome : Outcome) → Agrees p.presence outcome → P (present outcome)) → (life : Life) → IsAt p life → P life
 at_present p phase P here (present outcome) at = here outcome at.1
-at_present p phase P here (backing_off outcome backoff) at = absurd (cc (sym (ap is_taking_part at.0) ∙ ap is_taking_part phase))
+at_present p phase P here (backing_off outcome backoff) at =
+    absurd (cc (sym (ap is_taking_part at.0) ∙ ap is_taking_part phase))
 at_present p phase P here (gone outcome) at = absurd (cc (sym (ap is_taking_part at) ∙ ap is_taking_part phase))
 
 pub at_backing_off : (p : ParticipantValue) → (members : ℕ) → p.phase ≡ leaving members → (P : Life → Type 0)
-    → ((outcome : Outcome) (backoff : Backoff) → Waits p.presence outcome backoff → members ≡ leaving_count backoff → P (backing_off outcome backoff)) → (life : Life) → IsAt p life → P life
-at_backing_off p members phase P here (present outcome) at = absurd (cc (sym (ap is_leaving at.0) ∙ ap is_leaving phase))
-at_backing_off p members phase P here (backing_off outcome backoff) at = here outcome backoff at.1 (sym (ap leaving_members phase) ∙ ap leaving_members at.0)
+    → ((outcome : Outcome) (backoff : Backoff) → Waits p.presence outcome backoff → members ≡ leaving_count backoff →
+    P (backing_off outcome backoff)) → (life : Life) → IsAt p life → P life
+at_backing_off p members phase P here (present outcome) at =
+    absurd (cc (sym (ap is_leaving at.0) ∙ ap is_leaving phase))
+at_backing_off p members phase P here (backing_off outcome backoff) at = here outcome backoff at.1
+    (sym (ap leaving_members phase) ∙ ap leaving_members at.0)
 at_backing_off p members phase P here (gone outcome) at = absurd (cc (sym (ap is_leaving at) ∙ ap is_leaving phase))
 
-pub at_gone : (p : ParticipantValue) → p.phase ≡ over → (P : Life → Type 0) → ((outcome : Outcome) → P (gone outcome)) → (life : Life) → IsAt p life → P life
+pub at_gone : (p : ParticipantValue) → p.phase ≡ over → (P : Life → Type 0) → ((outcome : Outcome) → P (gone outcome)) →
+    (life : Life) → IsAt p life → P life
 at_gone p phase P here (present outcome) at = absurd (cc (sym (ap is_taking_part at.0) ∙ ap is_taking_part phase))
 at_gone p phase P here (backing_off outcome backoff) at = absurd (cc (sym (ap is_leaving at.0) ∙ ap is_leaving phase))
 at_gone p phase P here (gone outcome) at = here outcome
@@ -42,20 +48,25 @@ pub inside_at : {p w : ParticipantValue} → p ≡ w → (life : Life) → IsAt 
 inside_at {p} {w} is life at = subst (λ (x : ParticipantValue). IsAt x life) (sym is) at
 
 -- what is known of the parts inside is known of those outside
-pub outside : {p w q : ParticipantValue} {act : Act} {out : Option OutValue} {moved : Bool} → p ≡ w → Acts p q act out moved → Acts w q act out moved
+pub outside : {p w q : ParticipantValue} {act : Act} {out : Option OutValue} {moved : Bool} → p ≡ w →
+    Acts p q act out moved → Acts w q act out moved
 outside {p} {w} {q} {act} {out} {moved} is acts = subst (λ (x : ParticipantValue). Acts x q act out moved) is acts
 
 -- the same of an act that tells the moment of the latest call
-pub outside_at : {p w q : ParticipantValue} {out : Option OutValue} {moved : Bool} (act : ParticipantValue → Act) → p ≡ w → Acts p q (act p) out moved → Acts w q (act w) out moved
+pub outside_at : {p w q : ParticipantValue} {out : Option OutValue} {moved : Bool} (act : ParticipantValue → Act) →
+    p ≡ w → Acts p q (act p) out moved → Acts w q (act w) out moved
 outside_at {p} {w} {q} {out} {moved} act is = subst (λ (x : ParticipantValue). Acts x q (act x) out moved) is
 
 pub same_stays : (s : State) → Stays s s
 same_stays s = record { setup = refl; latest = refl; calls = refl }
 
 -- what one does that takes part
-pub acts_from_present : {p q : ParticipantValue} {act : Act} {out : Option OutValue} {moved : Bool} → p.phase ≡ taking_part → Stays p.presence q.presence → q.changes ≡ p.changes
-    → ((outcome : Outcome) → Agrees p.presence outcome → IsAt q (while_present p.presence.setup act outcome)) → ((outcome : Outcome) → Agrees p.presence outcome → out ≡ out_while_present p.presence.setup act outcome)
-    → ((outcome : Outcome) → Agrees p.presence outcome → moved ≡ others_moved_into p.presence.setup outcome (while_present p.presence.setup act outcome)) → Acts p q act out moved
+pub acts_from_present : {p q : ParticipantValue} {act : Act} {out : Option OutValue} {moved : Bool} →
+    p.phase ≡ taking_part → Stays p.presence q.presence → q.changes ≡ p.changes
+    → ((outcome : Outcome) → Agrees p.presence outcome → IsAt q (while_present p.presence.setup act outcome)) →
+    ((outcome : Outcome) → Agrees p.presence outcome → out ≡ out_while_present p.presence.setup act outcome)
+    → ((outcome : Outcome) → Agrees p.presence outcome → moved ≡ others_moved_into p.presence.setup outcome
+    (while_present p.presence.setup act outcome)) → Acts p q act out moved
 acts_from_present {p} {q} {act} {out} {moved} phase stays changes lives outs others = record {
   stays = stays;
   changes = changes;
@@ -65,29 +76,43 @@ acts_from_present {p} {q} {act} {out} {moved} phase stays changes lives outs oth
 }
 
 -- what one that goes on taking part does, by its step
-pub acts_present : {p q : ParticipantValue} {act : Act} {out : Option OutValue} {moved : Bool} {step : Setup → Outcome → Outcome} → p.phase ≡ taking_part → q.phase ≡ taking_part → q.changes ≡ p.changes → Does p.presence q.presence step
-    → ((setup : Setup) (outcome : Outcome) → while_present setup act outcome ≡ present (step setup outcome)) → ((outcome : Outcome) → Agrees p.presence outcome → out ≡ out_while_present p.presence.setup act outcome) → Moves p.presence moved step → Acts p q act out moved
+pub acts_present : {p q : ParticipantValue} {act : Act} {out : Option OutValue} {moved : Bool} {step : Setup → Outcome →
+    Outcome} → p.phase ≡ taking_part → q.phase ≡ taking_part → q.changes ≡ p.changes → Does p.presence q.presence step
+    → ((setup : Setup) (outcome : Outcome) → while_present setup act outcome ≡ present (step setup outcome)) →
+    ((outcome : Outcome) → Agrees p.presence outcome → out ≡ out_while_present p.presence.setup act outcome) →
+    Moves p.presence moved step → Acts p q act out moved
 acts_present {p} {q} {act} {out} {moved} {step} phase new_phase changes does lives outs moves =
-    acts_from_present phase does.stays changes (λ outcome agrees. subst (IsAt q) (sym (lives p.presence.setup outcome)) (new_phase, does.follows outcome agrees)) outs
-    (λ outcome agrees. moves outcome agrees ∙ ap (others_moved_into p.presence.setup outcome) (sym (lives p.presence.setup outcome)))
+    acts_from_present phase does.stays changes (λ outcome agrees. subst (IsAt q) (sym (lives p.presence.setup outcome))
+    (new_phase, does.follows outcome agrees)) outs
+    (λ outcome agrees. moves outcome agrees ∙ ap (others_moved_into p.presence.setup outcome)
+    (sym (lives p.presence.setup outcome)))
 
 -- what one does that backs off
-pub acts_from_backoff : {p q : ParticipantValue} {act : Act} {out : Option OutValue} (members : ℕ) → p.phase ≡ leaving members → Stays p.presence q.presence → q.changes ≡ p.changes
-    → ((outcome : Outcome) (backoff : Backoff) → Waits p.presence outcome backoff → members ≡ leaving_count backoff → IsAt q (while_backing_off p.presence.setup act outcome backoff))
-    → ((outcome : Outcome) (backoff : Backoff) → Waits p.presence outcome backoff → members ≡ leaving_count backoff → out ≡ out_while_backing_off p.presence.setup act outcome backoff) → Acts p q act out false
+pub acts_from_backoff : {p q : ParticipantValue} {act : Act} {out : Option OutValue} (members : ℕ) →
+    p.phase ≡ leaving members → Stays p.presence q.presence → q.changes ≡ p.changes
+    → ((outcome : Outcome) (backoff : Backoff) → Waits p.presence outcome backoff → members ≡ leaving_count backoff →
+    IsAt q (while_backing_off p.presence.setup act outcome backoff))
+    → ((outcome : Outcome) (backoff : Backoff) → Waits p.presence outcome backoff → members ≡ leaving_count backoff →
+    out ≡ out_while_backing_off p.presence.setup act outcome backoff) → Acts p q act out false
 acts_from_backoff {p} {q} {act} {out} members phase stays changes lives outs = record {
   stays = stays;
   changes = changes;
   lives = at_backing_off p members phase (λ life. IsAt q (lived p.presence.setup act life)) lives;
   hands_out = at_backing_off p members phase (λ life. out ≡ out_by p.presence.setup act life) outs;
-  others = at_backing_off p members phase (λ life. false ≡ others_moved_by p.presence.setup act life) (λ outcome backoff waits count. refl);
+  others = at_backing_off p members phase (λ life. false ≡ others_moved_by p.presence.setup act life)
+      (λ outcome backoff waits count. refl);
 }
 
 -- what one that backs off passes by
-pub acts_passing : {p : ParticipantValue} {act : Act} (members : ℕ) → p.phase ≡ leaving members → ((setup : Setup) (outcome : Outcome) (backoff : Backoff) → while_backing_off setup act outcome backoff ≡ backing_off outcome backoff)
-    → ((setup : Setup) (outcome : Outcome) (backoff : Backoff) → out_while_backing_off setup act outcome backoff ≡ None) → Acts p p act None false
+pub acts_passing : {p : ParticipantValue} {act : Act} (members : ℕ) → p.phase ≡ leaving members →
+    ((setup : Setup) (outcome : Outcome) (backoff : Backoff) →
+    while_backing_off setup act outcome backoff ≡ backing_off outcome backoff)
+    → ((setup : Setup) (outcome : Outcome) (backoff : Backoff) → out_while_backing_off setup act outcome backoff ≡ None)
+    → Acts p p act None false
 acts_passing {p} {act} members phase lives outs =
-    acts_from_backoff members phase (same_stays p.presence) refl (λ outcome backoff waits count. subst (IsAt p) (sym (lives p.presence.setup outcome backoff)) (phase ∙ ap leaving count, waits))
+    acts_from_backoff members phase (same_stays p.presence) refl
+    (λ outcome backoff waits count. subst (IsAt p) (sym (lives p.presence.setup outcome backoff))
+    (phase ∙ ap leaving count, waits))
     (λ outcome backoff waits count. sym (outs p.presence.setup outcome backoff))
 
 pub acts_gone : {p : ParticipantValue} {act : Act} → p.phase ≡ over → Acts p p act None false
@@ -103,8 +128,21 @@ acts_gone {p} {act} phase = record {
 call_keeps : (moment : ℕ) (p : ParticipantValue) (life : Life) → IsAt p life → IsAt (called moment p) life
 call_keeps moment p (present outcome) at = (at.0, calls_agree p.presence outcome moment at.1)
 call_keeps moment p (backing_off outcome backoff) at =
-    let still = at.1.still in
-    (at.0, record { timing = at.1.timing; average = at.1.average; still = record { table = still.table; capacity = still.capacity; rate = still.rate; own = still.own; cursor = still.cursor; reports = still.reports } })
+    let still = at.1.still in (
+      at.0,
+      record {
+        timing = at.1.timing;
+        average = at.1.average;
+        still = record {
+          table = still.table;
+          capacity = still.capacity;
+          rate = still.rate;
+          own = still.own;
+          cursor = still.cursor;
+          reports = still.reports;
+        };
+      },
+    )
 call_keeps moment p (gone outcome) at = at
 
 -- ---- Histories
@@ -116,16 +154,24 @@ pub record Takes (h : History) (act : Act) (change : Option NewIdentifier) : Typ
 
 -- a step is the one that is answered wherever a participant is
 abbrev pub IsStepOf : ParticipantValue → Option OutValue → (others_changed : Bool) → StepValue → Type 0
-IsStepOf q out others_changed step = (life : Life) → IsAt q life → step ≡ step_into q.presence.setup out others_changed life
+IsStepOf q out others_changed step = (life : Life) → IsAt q life →
+    step ≡ step_into q.presence.setup out others_changed life
 
-pub acted_stands : {p mid q : ParticipantValue} {act : Act} {out : Option OutValue} {moved : Bool} (h : History) (change : Option NewIdentifier) → StandsAt p h → Takes h act change → HasWords act
-    → IsIn mid (changed_by change (session_at h)) → mid.presence.calls ≡ p.presence.calls → Acts (called (moment_of act) mid) q act out moved → StandsAt q (with_act h act)
+pub acted_stands : {p mid q : ParticipantValue} {act : Act} {out : Option OutValue} {moved : Bool} (h : History)
+    (change : Option NewIdentifier) → StandsAt p h → Takes h act change → HasWords act
+    → IsIn mid (changed_by change (session_at h)) → mid.presence.calls ≡ p.presence.calls →
+    Acts (called (moment_of act) mid) q act out moved → StandsAt q (with_act h act)
 acted_stands {p} {mid} {q} {act} {out} {moved} h change stands takes words at calls acts =
     let now = changed_by change (session_at h) in
     let lives = acts.lives now.life (call_keeps (moment_of act) mid now.life at.life) in
     record {
-      is_history = record { usable = stands.is_history.usable; word = stands.is_history.word; taken = (takes.taken, words, stands.is_history.taken) };
-      session = subst (λ (c : Option NewIdentifier). let s = changed_by c (session_at h) in IsIn q (record s { life = lived s.setup act s.life })) (sym takes.changes)
+      is_history = record {
+        usable = stands.is_history.usable;
+        word = stands.is_history.word;
+        taken = (takes.taken, words, stands.is_history.taken);
+      };
+      session = subst (λ (c : Option NewIdentifier). let s = changed_by c (session_at h) in
+          IsIn q (record s { life = lived s.setup act s.life })) (sym takes.changes)
           (record {
             setup = acts.stays.setup ∙ at.setup;
             changes = acts.changes ∙ at.changes;
@@ -135,32 +181,45 @@ acted_stands {p} {mid} {q} {act} {out} {moved} h change stands takes words at ca
       calls = acts.stays.calls ∙ ap (λ (n : ℕ). n + 1) (calls ∙ stands.calls) ∙ omega arith;
     }
 
-pub acted_step : {mid q : ParticipantValue} {act : Act} {out : Option OutValue} {moved : Bool} (h : History) (change : Option NewIdentifier) (bye : Option OutValue) (step : StepValue) → Takes h act change
-    → IsIn mid (changed_by change (session_at h)) → Acts (called (moment_of act) mid) q act out moved → StandsAt q (with_act h act) → bye ≡ bye_of_change change (session_at h)
-    → IsStepOf q (option_or bye out) moved step → record step { changed = option_map (λ (new : NewIdentifier). new.ssrc) change } ≡ step_by h act
+pub acted_step : {mid q : ParticipantValue} {act : Act} {out : Option OutValue} {moved : Bool} (h : History)
+    (change : Option NewIdentifier) (bye : Option OutValue) (step : StepValue) → Takes h act change
+    → IsIn mid (changed_by change (session_at h)) → Acts (called (moment_of act) mid) q act out moved →
+    StandsAt q (with_act h act) → bye ≡ bye_of_change change (session_at h)
+    → IsStepOf q (option_or bye out) moved step →
+    record step { changed = option_map (λ (new : NewIdentifier). new.ssrc) change } ≡ step_by h act
 acted_step {mid} {q} {act} {out} {moved} h change bye step takes at acts after byes is_step =
     let now = changed_by change (session_at h) in
     let next = session_at (with_act h act) in
     let number : NewIdentifier → ℕ = λ new. new.ssrc in
-    let outs = acts.hands_out now.life (call_keeps (moment_of act) mid now.life at.life) ∙ ap (λ (setup : Setup). out_by setup act now.life) at.setup in
-    let others = acts.others now.life (call_keeps (moment_of act) mid now.life at.life) ∙ ap (λ (setup : Setup). others_moved_by setup act now.life) at.setup in
-    let steps : step ≡ step_into next.setup (option_or (bye_of_change change (session_at h)) (out_by now.setup act now.life)) (others_moved_by now.setup act now.life) next.life =
-    is_step next.life after.session.life ∙ (λ i. step_into (after.session.setup i) (option_or (byes i) (outs i)) (others i) next.life) in
+    let outs = acts.hands_out now.life (call_keeps (moment_of act) mid now.life at.life)
+    ∙ ap (λ (setup : Setup). out_by setup act now.life) at.setup in
+    let others = acts.others now.life (call_keeps (moment_of act) mid now.life at.life)
+    ∙ ap (λ (setup : Setup). others_moved_by setup act now.life) at.setup in
+    let steps : step ≡ step_into next.setup
+    (option_or (bye_of_change change (session_at h)) (out_by now.setup act now.life))
+    (others_moved_by now.setup act now.life) next.life =
+    is_step next.life after.session.life
+    ∙ (λ i. step_into (after.session.setup i) (option_or (byes i) (outs i)) (others i) next.life) in
     (λ i. record (steps i) { changed = option_map number change })
     ∙ sym (ap (λ (c : Option NewIdentifier). let s = changed_by c (session_at h) in
-    record (step_into next.setup (option_or (bye_of_change c (session_at h)) (out_by s.setup act s.life)) (others_moved_by s.setup act s.life) next.life) { changed = option_map number c }) takes.changes)
+    record (step_into next.setup (option_or (bye_of_change c (session_at h)) (out_by s.setup act s.life))
+    (others_moved_by s.setup act s.life) next.life) { changed = option_map number c }) takes.changes)
 
 -- ---- What a call promises
 
-pub answered : (h : History) (act : Act) (step : StepValue) → refusal_after h act ≡ None → step ≡ step_by h act → Ok step ≡ answer_of h act
+pub answered : (h : History) (act : Act) (step : StepValue) → refusal_after h act ≡ None → step ≡ step_by h act →
+    Ok step ≡ answer_of h act
 answered h act step none is = ap Ok is ∙ sym (ap (λ (r : Option Refusal). answer_unless r (step_by h act)) none)
 
 -- an act that changes no identifier
-pub takes : {p q : ParticipantValue} {act : Act} {out : Option OutValue} {moved : Bool} (step : StepValue) → ((h : History) → StandsAt p h → Takes h act None) → Acts (called (moment_of act) p) q act out moved → IsStepOf q out moved step
+pub takes : {p q : ParticipantValue} {act : Act} {out : Option OutValue} {moved : Bool} (step : StepValue) →
+    ((h : History) → StandsAt p h → Takes h act None) → Acts (called (moment_of act) p) q act out moved →
+    IsStepOf q out moved step
     → HasWords act → Promised p act (Ok step) q
 takes {p} {q} {act} {out} {moved} step plainly acts is_step words = record {
   answer = λ h stands. answered h act step (plainly h stands).taken
-      ((λ i. record step { changed = unchanged h stands i }) ∙ acted_step h None None step (plainly h stands) stands.session acts (after h stands) refl is_step);
+      ((λ i. record step { changed = unchanged h stands i }) ∙ acted_step h None None step (plainly h stands)
+      stands.session acts (after h stands) refl is_step);
   stands = λ h stands. subst (StandsAt q) (taken_history h act (plainly h stands).taken) (after h stands);
   bounded = λ h stands. bounds_after h act words stands.is_history;
 }
@@ -169,22 +228,33 @@ takes {p} {q} {act} {out} {moved} step plainly acts is_step words = record {
     after h stands = acted_stands h None stands (plainly h stands) words stands.session refl acts
 
     unchanged : (h : History) → StandsAt p h → step.changed ≡ None
-    unchanged h stands = ap (λ (x : StepValue). x.changed) (is_step (life_at (with_act h act)) (after h stands).session.life)
+    unchanged h stands = ap (λ (x : StepValue). x.changed)
+        (is_step (life_at (with_act h act)) (after h stands).session.life)
 
-pub refuses : (p : ParticipantValue) (act : Act) (reason : Refusal) → ((h : History) → StandsAt p h → refusal_after h act ≡ Some reason) → HasWords act → Promised p act (Err reason) p
+pub refuses : (p : ParticipantValue) (act : Act) (reason : Refusal) →
+    ((h : History) → StandsAt p h → refusal_after h act ≡ Some reason) → HasWords act → Promised p act (Err reason) p
 refuses p act reason is words = record {
   answer = λ h stands. refused_answer h act reason (is h stands);
   stands = λ h stands. whole_refused p h act reason (is h stands) stands;
   bounded = λ h stands. bounds_after h act words stands.is_history;
 }
 
-pub call_refused_by : (p : ParticipantValue) (act : Act) (reason : Refusal) → refusal_by (moment_of act) p ≡ Some reason → (h : History) → StandsAt p h → refusal_after h act ≡ Some reason
-call_refused_by p act reason same h stands = refusal_is p h act (Some reason) (refusal_of_datagram (session_at h) act) stands same refl
+pub call_refused_by : (p : ParticipantValue) (act : Act) (reason : Refusal) →
+    refusal_by (moment_of act) p ≡ Some reason → (h : History) → StandsAt p h → refusal_after h act ≡ Some reason
+call_refused_by p act reason same h stands = refusal_is p h act (Some reason) (refusal_of_datagram (session_at h) act)
+    stands same refl
 
 -- a call of the host without a datagram
-pub plain_call : (p : ParticipantValue) (act : Act) → refusal_by (moment_of act) p ≡ None → ((session : Session) → refusal_of_datagram session act ≡ None) → ((session : Session) → change_by session act ≡ None) → (h : History) → StandsAt p h → Takes h act None
-plain_call p act none datagram unchanged h stands = record { taken = refusal_is p h act None None stands none (datagram (session_at h)); changes = unchanged (session_at h) }
+pub plain_call : (p : ParticipantValue) (act : Act) → refusal_by (moment_of act) p ≡ None →
+    ((session : Session) → refusal_of_datagram session act ≡ None) →
+    ((session : Session) → change_by session act ≡ None) → (h : History) → StandsAt p h → Takes h act None
+plain_call p act none datagram unchanged h stands =
+    record {
+      taken = refusal_is p h act None None stands none (datagram (session_at h));
+      changes = unchanged (session_at h);
+    }
 
 -- the same step, said otherwise
-pub retold : {p q : ParticipantValue} {act : Act} {one other : StepValue} → other ≡ one → Promised p act (Ok one) q → Promised p act (Ok other) q
+pub retold : {p q : ParticipantValue} {act : Act} {one other : StepValue} → other ≡ one → Promised p act (Ok one) q →
+    Promised p act (Ok other) q
 retold {p} {q} {act} same promised = subst (λ (step : StepValue). Promised p act (Ok step) q) (sym same) promised

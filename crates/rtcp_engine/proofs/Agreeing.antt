@@ -30,8 +30,10 @@ use Rattle.rtcp_engine.proofs.LawLemmas.{last_block_is_newest}
 
 -- ---- Counts and intervals
 
-pub others_agree : (s : State) (o : Outcome) → Agrees s o → members_in s.table ≡ members_at s.setup.capacity s.setup.rate o.trace
-others_agree s o a = tables.counts_agree-members s.table o.trace a.table ∙ (λ i. members_at (a.capacity i) (a.rate i) o.trace)
+pub others_agree : (s : State) (o : Outcome) → Agrees s o →
+    members_in s.table ≡ members_at s.setup.capacity s.setup.rate o.trace
+others_agree s o a = tables.counts_agree-members s.table o.trace a.table
+    ∙ (λ i. members_at (a.capacity i) (a.rate i) o.trace)
 
 pub members_agree : (s : State) (o : Outcome) → Agrees s o → 1 + members_in s.table ≡ member_count s.setup o
 members_agree s o a = ap (λ (n : ℕ). 1 + n) (others_agree s o a)
@@ -39,36 +41,58 @@ members_agree s o a = ap (λ (n : ℕ). 1 + n) (others_agree s o a)
 we_sent_agrees : (s : State) (o : Outcome) → Agrees s o → is_some s.own.sending ≡ is_some (sending_since o.own)
 we_sent_agrees s o a = ap (λ (own : OwnValue). is_some own.sending) a.own
 
-pub entries_agree : (s : State) (o : Outcome) → Agrees s o → finite.len s.table.entries ≡ present_among (names o.trace) (stay_of s.setup.capacity o.trace)
-entries_agree s o a = tables.counts_agree-entries s.table o.trace a.table ∙ ap (λ (c : ℕ). present_among (names o.trace) (stay_of c o.trace)) a.capacity
+pub entries_agree : (s : State) (o : Outcome) → Agrees s o → finite.len s.table.entries ≡ present_among (names o.trace)
+    (stay_of s.setup.capacity o.trace)
+entries_agree s o a = tables.counts_agree-entries s.table o.trace a.table
+    ∙ ap (λ (c : ℕ). present_among (names o.trace) (stay_of c o.trace)) a.capacity
 
-pub tells_agree : (s : State) (o : Outcome) → Agrees s o → (after : Option ℕ) (told : Option StateValue) → told ≡ state_above after s.table → TellsAbove after s.setup.capacity s.setup.rate o.trace told
+pub tells_agree : (s : State) (o : Outcome) → Agrees s o → (after : Option ℕ) (told : Option StateValue) →
+    told ≡ state_above after s.table → TellsAbove after s.setup.capacity s.setup.rate o.trace told
 tells_agree s o a after told is =
     subst (λ (r : ℕ). TellsAbove after s.setup.capacity r o.trace told) a.rate
     (subst (λ (c : ℕ). TellsAbove after c s.table.rate o.trace told) a.capacity
-    (subst (λ (t : Option StateValue). TellsAbove after s.table.capacity s.table.rate o.trace t) (sym is) (tables.told_follows_traces-told after s.table o.trace a.table)))
+    (subst (λ (t : Option StateValue). TellsAbove after s.table.capacity s.table.rate o.trace t) (sym is)
+    (tables.told_follows_traces-told after s.table o.trace a.table)))
 
-pub walks_agree : (s : State) (o : Outcome) → Agrees s o → (states : List StateValue) → states ≡ states_above None s.table → IsWalk None s.setup.capacity s.setup.rate o.trace states
+pub walks_agree : (s : State) (o : Outcome) → Agrees s o → (states : List StateValue) →
+    states ≡ states_above None s.table → IsWalk None s.setup.capacity s.setup.rate o.trace states
 walks_agree s o a states is =
     subst (λ (r : ℕ). IsWalk None s.setup.capacity r o.trace states) a.rate
     (subst (λ (c : ℕ). IsWalk None c s.table.rate o.trace states) a.capacity
-    (subst (λ (l : List StateValue). IsWalk None s.table.capacity s.table.rate o.trace l) (sym is) (tables.tables_tell_walks-walk None s.table o.trace a.table)))
+    (subst (λ (l : List StateValue). IsWalk None s.table.capacity s.table.rate o.trace l) (sym is)
+    (tables.tables_tell_walks-walk None s.table o.trace a.table)))
 
-pub senders_agree : (s : State) (o : Outcome) → Agrees s o → senders_in s.table + one_if (is_some s.own.sending) ≡ sender_count s.setup o
+pub senders_agree : (s : State) (o : Outcome) → Agrees s o → senders_in s.table + one_if (is_some s.own.sending)
+    ≡ sender_count s.setup o
 senders_agree s o a =
     let counts = tables.counts_agree-senders s.table o.trace a.table in
-    let table : senders_in s.table ≡ senders_at s.setup.capacity s.setup.rate o.trace = counts ∙ ap (λ (c : ℕ). senders_at c s.table.rate o.trace) a.capacity ∙ ap (λ (r : ℕ). senders_at s.setup.capacity r o.trace) a.rate in
-    ap (λ (n : ℕ). n + one_if (is_some s.own.sending)) table ∙ ap (λ (b : Bool). senders_at s.setup.capacity s.setup.rate o.trace + one_if b) (we_sent_agrees s o a)
+    let table : senders_in s.table ≡ senders_at s.setup.capacity s.setup.rate o.trace = counts
+    ∙ ap (λ (c : ℕ). senders_at c s.table.rate o.trace) a.capacity
+    ∙ ap (λ (r : ℕ). senders_at s.setup.capacity r o.trace) a.rate in
+    ap (λ (n : ℕ). n + one_if (is_some s.own.sending)) table
+    ∙ ap (λ (b : Bool). senders_at s.setup.capacity s.setup.rate o.trace + one_if b) (we_sent_agrees s o a)
 
 pub none_yet : (sent : List Report) → (length sent == 0) ≡ is_initial sent
 none_yet [] = refl
 none_yet (report ∷ earlier) = ne_eqb (length (report ∷ earlier)) 0 (λ h. absurd cc)
 
 abbrev pub load : (members senders : ℕ) (we_sent initial : Bool) (avg sender_bw receiver_bw : ℕ) → Load
-load members senders we_sent initial avg sender_bw receiver_bw = record { members = members; senders = senders; we_sent = we_sent; initial = initial; avg = avg; sender_bw = sender_bw; receiver_bw = receiver_bw }
+load members senders we_sent initial avg sender_bw receiver_bw =
+    record {
+      members = members;
+      senders = senders;
+      we_sent = we_sent;
+      initial = initial;
+      avg = avg;
+      sender_bw =
+          sender_bw;
+      receiver_bw = receiver_bw;
+    }
 
 -- what an interval depends on, by parts that agree
-pub loads_agree : {s : State} {o : Outcome} → Agrees s o → (members senders avg : ℕ) (we_sent : Bool) → members ≡ member_count s.setup o → senders ≡ sender_count s.setup o → we_sent ≡ is_some s.own.sending → avg ≡ s.average
+pub loads_agree : {s : State} {o : Outcome} → Agrees s o → (members senders avg : ℕ) (we_sent : Bool) →
+    members ≡ member_count s.setup o → senders ≡ sender_count s.setup o → we_sent ≡ is_some s.own.sending →
+    avg ≡ s.average
     → load members senders we_sent (s.reports == 0) avg s.setup.sender_bw s.setup.receiver_bw ≡ load_of s.setup o
 loads_agree {s} {o} a members senders avg we_sent m n sent average =
     let initial = ap (λ (r : ℕ). r == 0) a.reports ∙ none_yet o.reports in
@@ -79,12 +103,23 @@ loads_agree {s} {o} a members senders avg we_sent m n sent average =
 -- ---- Moves
 
 pub calls_agree : (s : State) (o : Outcome) (t : ℕ) → Agrees s o → Agrees (with_call t s) o
-calls_agree s o t a = record { table = a.table; capacity = a.capacity; rate = a.rate; timing = a.timing; average = a.average; own = a.own; cursor = a.cursor; reports = a.reports }
+calls_agree s o t a = record {
+  table = a.table;
+  capacity = a.capacity;
+  rate = a.rate;
+  timing = a.timing;
+  average = a.average;
+  own = a.own;
+  cursor = a.cursor;
+  reports = a.reports;
+}
 
 -- facts leave the source that was reported last
-facts_keep_cursor : (facts : List Fact) (t : ℕ) (trace : List TraceStep) → last_reported_in (with_facts facts t trace) ≡ last_reported_in trace
+facts_keep_cursor : (facts : List Fact) (t : ℕ) (trace : List TraceStep) →
+    last_reported_in (with_facts facts t trace) ≡ last_reported_in trace
 facts_keep_cursor [] t trace = refl
-facts_keep_cursor (fact ∷ facts) t trace = facts_keep_cursor facts t (Rattle.rtcp_members.specs.Traces.fact_came fact t ∷ trace)
+facts_keep_cursor (fact ∷ facts) t trace = facts_keep_cursor facts t
+    (Rattle.rtcp_members.specs.Traces.fact_came fact t ∷ trace)
 
 pub facts_agree : (s : State) (o : Outcome) (facts : List Fact) (t : ℕ) → Agrees s o →
     Agrees (record s { table = after_facts facts t s.table }) (record o { trace = with_facts facts t o.trace })
@@ -117,14 +152,19 @@ sizes_agree s o size a = record {
 -- ---- Arrivals
 
 pub media_agree : (s : State) (o : Outcome) (t : ℕ) (head : RtpValue) → Agrees s o →
-    Agrees (record s { table = after_facts (facts_of_media s.setup.ssrc head (counted s.table (media_fact head))) t s.table }) (with_media s.setup t head o)
+    Agrees (record s {
+      table = after_facts (facts_of_media s.setup.ssrc head (counted s.table (media_fact head))) t
+          s.table;
+    }) (with_media s.setup t head o)
 media_agree s o t head a =
     let counts = tables.counts_agree-counted s.table o.trace (media_fact head) a.table in
     let same : counted s.table (media_fact head) ≡ counted_at s.setup.capacity s.setup.rate o.trace (media_fact head) =
-    counts ∙ ap (λ (c : ℕ). counted_at c s.table.rate o.trace (media_fact head)) a.capacity ∙ ap (λ (r : ℕ). counted_at s.setup.capacity r o.trace (media_fact head)) a.rate in
+    counts ∙ ap (λ (c : ℕ). counted_at c s.table.rate o.trace (media_fact head)) a.capacity
+    ∙ ap (λ (r : ℕ). counted_at s.setup.capacity r o.trace (media_fact head)) a.rate in
     let facts : Bool → List Fact = facts_of_media s.setup.ssrc head in
     let is_counted = counted s.table (media_fact head) in
-    subst (λ (b : Bool). Agrees (record s { table = after_facts (facts is_counted) t s.table }) (record o { trace = with_facts (facts b) t o.trace })) same
+    subst (λ (b : Bool). Agrees (record s { table = after_facts (facts is_counted) t s.table })
+    (record o { trace = with_facts (facts b) t o.trace })) same
     (facts_agree s o (facts is_counted) t a)
 
 -- ---- Reports
@@ -142,7 +182,8 @@ octets_in t state = written_all (report_of (reporter_in t state) state.setup.lim
 reporters_agree : (s : State) (o : Outcome) (t : ℕ) → Agrees s o → reporter_in t s ≡ reporter_at s.setup t o
 reporters_agree s o t a = λ i. reporter_by s.setup (a.own i) (a.reports i + 1) t
 
-pending_agree : (s : State) (o : Outcome) → Agrees s o → pending s.cursor s.table ≡ pending_rows_at (last_reported_in o.trace) s.setup.capacity s.setup.rate o.trace
+pending_agree : (s : State) (o : Outcome) → Agrees s o →
+    pending s.cursor s.table ≡ pending_rows_at (last_reported_in o.trace) s.setup.capacity s.setup.rate o.trace
 pending_agree s o a =
     ap (λ (c : Option ℕ). pending c s.table) a.cursor
     ∙ tables.turns_follow_traces-rows (last_reported_in o.trace) s.table o.trace a.table
@@ -157,7 +198,8 @@ rows_agree s o t a =
 pub octets_agree : (s : State) (o : Outcome) (t : ℕ) → Agrees s o → octets_in t s ≡ report_octets s.setup t o
 octets_agree s o t a =
     ap (λ (r : Reporter). written_all (packets_with r (blocks_of t (rows_in t s)))) (reporters_agree s o t a)
-    ∙ ap (λ (rows : List EntryRow). written_all (packets_with (reporter_at s.setup t o) (blocks_of t rows))) (rows_agree s o t a)
+    ∙ ap (λ (rows : List EntryRow). written_all (packets_with (reporter_at s.setup t o) (blocks_of t rows)))
+    (rows_agree s o t a)
 
 pub sent_reports_agree : (s : State) (o : Outcome) (t : ℕ) (own : OwnValue) → Adds s.own own report_sent → Agrees s o →
     Agrees (record s {
@@ -171,13 +213,18 @@ sent_reports_agree s o t own adds a =
     let rows = rows_agree s o t a in
     let kept = tables.bounds_are_kept-blocks s.table (rows_in t s) in
     record {
-      table = subst (λ (rs : List EntryRow). IsTableAt (after_blocks (rows_in t s) s.table) (with_blocks rs o.trace)) rows
+      table = subst (λ (rs : List EntryRow). IsTableAt (after_blocks (rows_in t s) s.table) (with_blocks rs o.trace))
+          rows
           (reports.tables_follow_reports-stands (reporter_in t s) s.setup.limit s.cursor s.table o.trace a.table);
       capacity = kept.capacity ∙ a.capacity;
       rate = kept.rate ∙ a.rate;
       timing = a.timing;
-      average = ap (λ (n : ℕ). moved_average n (length (octets_in t s))) a.average ∙ ap (λ (octets : List ℕ). moved_average (Rattle.rtcp_engine.specs.Outcomes.average_size s.setup o) (length octets)) (octets_agree s o t a);
+      average = ap (λ (n : ℕ). moved_average n (length (octets_in t s))) a.average
+          ∙ ap (λ (octets : List ℕ). moved_average (Rattle.rtcp_engine.specs.Outcomes.average_size s.setup o)
+          (length octets)) (octets_agree s o t a);
       own = adds o.own a.own;
-      cursor = ap (λ (c : Option ℕ). last_reported c (rows_in t s)) a.cursor ∙ ap (last_reported (last_reported_in o.trace)) rows ∙ sym (last_block_is_newest (reported_at s.setup t o) o.trace);
+      cursor = ap (λ (c : Option ℕ). last_reported c (rows_in t s)) a.cursor
+          ∙ ap (last_reported (last_reported_in o.trace)) rows
+          ∙ sym (last_block_is_newest (reported_at s.setup t o) o.trace);
       reports = omega (arith, a.reports);
     }

@@ -25,22 +25,32 @@ no_fault (Rtcp compound size) = refl
 no_fault (Rtp head) = refl
 
 -- It is refused for its own identifier alone.
-own_alone : (session : Session) (t peer word : ℕ) (arrival : Arrival) (own may : Bool) → is_about session.setup.ssrc (datagram_of arrival) ≡ own → may_change (changing_peers session) peer ≡ may
+own_alone : (session : Session) (t peer word : ℕ) (arrival : Arrival) (own may : Bool) →
+    is_about session.setup.ssrc (datagram_of arrival) ≡ own → may_change (changing_peers session) peer ≡ may
     → refusal_of_datagram session (arrived t peer word (datagram_of arrival)) ≡ refusal_if (own && not may) OwnSsrc
-own_alone session t peer word arrival own may owns mays = λ i. option_or (no_fault arrival i) (refusal_if (owns i && not (mays i)) OwnSsrc)
+own_alone session t peer word arrival own may owns mays = λ i. option_or (no_fault arrival i)
+    (refusal_if (owns i && not (mays i)) OwnSsrc)
 
-pub refused_as_own : (p : ParticipantValue) (h : History) (t peer word : ℕ) (arrival : Arrival) → StandsAt p h → refusal_by t p ≡ None → is_about (session_at h).setup.ssrc (datagram_of arrival) ≡ true
-    → may_change (changing_peers (session_at h)) peer ≡ false → refusal_after h (arrived t peer word (datagram_of arrival)) ≡ Some OwnSsrc
+pub refused_as_own : (p : ParticipantValue) (h : History) (t peer word : ℕ) (arrival : Arrival) → StandsAt p h →
+    refusal_by t p ≡ None → is_about (session_at h).setup.ssrc (datagram_of arrival) ≡ true
+    → may_change (changing_peers (session_at h)) peer ≡ false →
+    refusal_after h (arrived t peer word (datagram_of arrival)) ≡ Some OwnSsrc
 refused_as_own p h t peer word arrival stands none own may =
-    refusal_is p h (arrived t peer word (datagram_of arrival)) None (Some OwnSsrc) stands none (own_alone (session_at h) t peer word arrival true false own may)
+    refusal_is p h (arrived t peer word (datagram_of arrival)) None (Some OwnSsrc) stands none
+    (own_alone (session_at h) t peer word arrival true false own may)
 
 -- one that is refused for its fault
-pub fault_refused : (p : ParticipantValue) (h : History) (t peer word : ℕ) (datagram : Datagram) (reason : Refusal) → StandsAt p h → refusal_by t p ≡ None → fault_in datagram ≡ Some reason → refusal_after h (arrived t peer word datagram) ≡ Some reason
+pub fault_refused : (p : ParticipantValue) (h : History) (t peer word : ℕ) (datagram : Datagram) (reason : Refusal) →
+    StandsAt p h → refusal_by t p ≡ None → fault_in datagram ≡ Some reason →
+    refusal_after h (arrived t peer word datagram) ≡ Some reason
 fault_refused p h t peer word datagram reason stands none fault =
-    let own = refusal_if (is_about (session_at h).setup.ssrc datagram && not (may_change (changing_peers (session_at h)) peer)) OwnSsrc in
-    refusal_is p h (arrived t peer word datagram) None (Some reason) stands none (ap (λ (r : Option Refusal). option_or r own) fault)
+    let own = refusal_if (is_about (session_at h).setup.ssrc datagram && not
+    (may_change (changing_peers (session_at h)) peer)) OwnSsrc in
+    refusal_is p h (arrived t peer word datagram) None (Some reason) stands none
+    (ap (λ (r : Option Refusal). option_or r own) fault)
 
-pub plain : (p : ParticipantValue) (h : History) (t peer word : ℕ) (arrival : Arrival) → StandsAt p h → refusal_by t p ≡ None → is_about (session_at h).setup.ssrc (datagram_of arrival) ≡ false
+pub plain : (p : ParticipantValue) (h : History) (t peer word : ℕ) (arrival : Arrival) → StandsAt p h →
+    refusal_by t p ≡ None → is_about (session_at h).setup.ssrc (datagram_of arrival) ≡ false
     → Takes h (arrived t peer word (datagram_of arrival)) None
 plain p h t peer word arrival stands none other =
     let session = session_at h in
@@ -48,37 +58,57 @@ plain p h t peer word arrival stands none other =
     let may = may_change (changing_peers session) peer in
     record {
       taken = refusal_is p h act None None stands none (own_alone session t peer word arrival false may other refl);
-      changes = ap (λ (own : Bool). if own then Some (record { peer = peer; ssrc = new_identifier word session (datagram_of arrival) }) else None) other;
+      changes = ap (λ (own : Bool). if own then Some
+          (record { peer = peer; ssrc = new_identifier word session (datagram_of arrival) }) else None) other;
     }
 
-pub changing : (p : ParticipantValue) (h : History) (t peer word ssrc : ℕ) (arrival : Arrival) → StandsAt p h → refusal_by t p ≡ None → is_about (session_at h).setup.ssrc (datagram_of arrival) ≡ true
-    → may_change (changing_peers (session_at h)) peer ≡ true → ssrc ≡ new_identifier word (session_at h) (datagram_of arrival) → Takes h (arrived t peer word (datagram_of arrival)) (Some (record { peer = peer; ssrc = ssrc }))
+pub changing : (p : ParticipantValue) (h : History) (t peer word ssrc : ℕ) (arrival : Arrival) → StandsAt p h →
+    refusal_by t p ≡ None → is_about (session_at h).setup.ssrc (datagram_of arrival) ≡ true
+    → may_change (changing_peers (session_at h)) peer ≡ true →
+    ssrc ≡ new_identifier word (session_at h) (datagram_of arrival) →
+    Takes h (arrived t peer word (datagram_of arrival)) (Some (record { peer = peer; ssrc = ssrc }))
 changing p h t peer word ssrc arrival stands none own may chosen =
     let session = session_at h in
     let change : ℕ → Option NewIdentifier = λ ssrc. Some (record { peer = peer; ssrc = ssrc }) in
     record {
-      taken = refusal_is p h (arrived t peer word (datagram_of arrival)) None None stands none (own_alone session t peer word arrival true true own may);
-      changes = ap (λ (own : Bool). if own then change (new_identifier word session (datagram_of arrival)) else None) own ∙ sym (ap change chosen);
+      taken = refusal_is p h (arrived t peer word (datagram_of arrival)) None None stands none
+          (own_alone session t peer word arrival true true own may);
+      changes = ap (λ (own : Bool). if own then change (new_identifier word session (datagram_of arrival)) else None)
+          own ∙ sym (ap change chosen);
     }
 
 -- what a datagram is about, and whose may change the identifier, as the history has it
-pub is_own : (p : ParticipantValue) (h : History) (datagram : Datagram) → StandsAt p h → is_about p.presence.setup.ssrc datagram ≡ true → is_about (session_at h).setup.ssrc datagram ≡ true
+pub is_own : (p : ParticipantValue) (h : History) (datagram : Datagram) → StandsAt p h →
+    is_about p.presence.setup.ssrc datagram ≡ true → is_about (session_at h).setup.ssrc datagram ≡ true
 is_own p h datagram stands own = sym (ap (λ (s : Setup). is_about s.ssrc datagram) stands.session.setup) ∙ own
 
-pub may_is : (p : ParticipantValue) (h : History) (peer : ℕ) → StandsAt p h → may_change (map (λ (change : Change). change.peer) p.changes) peer ≡ may_change (changing_peers (session_at h)) peer
-may_is p h peer stands = ap (λ (changes : List Change). may_change (map (λ (change : Change). change.peer) changes) peer) stands.session.changes
+pub may_is : (p : ParticipantValue) (h : History) (peer : ℕ) → StandsAt p h →
+    may_change (map (λ (change : Change). change.peer) p.changes) peer ≡ may_change (changing_peers (session_at h)) peer
+may_is p h peer stands = ap (λ (changes : List Change). may_change (map (λ (change : Change). change.peer) changes)
+    peer) stands.session.changes
 
 -- A datagram of the own identifier that changes it no more is refused.
-pub own_refused : (p : ParticipantValue) (t peer word : ℕ) (arrival : Arrival) → refusal_by t p ≡ None → is_about p.presence.setup.ssrc (datagram_of arrival) ≡ true → may_change (map (λ (change : Change). change.peer) p.changes) peer ≡ false
+pub own_refused : (p : ParticipantValue) (t peer word : ℕ) (arrival : Arrival) → refusal_by t p ≡ None →
+    is_about p.presence.setup.ssrc (datagram_of arrival) ≡ true →
+    may_change (map (λ (change : Change). change.peer) p.changes) peer ≡ false
     → (h : History) → StandsAt p h → refusal_after h (arrived t peer word (datagram_of arrival)) ≡ Some OwnSsrc
-own_refused p t peer word arrival none own may h stands = refused_as_own p h t peer word arrival stands none (is_own p h (datagram_of arrival) stands own) (sym (may_is p h peer stands) ∙ may)
+own_refused p t peer word arrival none own may h stands = refused_as_own p h t peer word arrival stands none
+    (is_own p h (datagram_of arrival) stands own) (sym (may_is p h peer stands) ∙ may)
 
 -- One that names the own identifier is refused, unless its peer may change that: then it is passed on.
 pub passed_or_refused : (p : ParticipantValue) (peer : ℕ) (reply : Option (Result Told Refusal))
-    → reply ≡ (if may_change (map (λ (change : Change). change.peer) p.changes) peer then None else Some (Err OwnSsrc)) → KeepsCapacity p.presence → PassesOn p peer reply p
+    → reply ≡ (if may_change (map (λ (change : Change). change.peer) p.changes) peer then None else Some (Err OwnSsrc))
+    → KeepsCapacity p.presence → PassesOn p peer reply p
 passed_or_refused p peer reply is within =
     let may = may_change (map (λ (change : Change). change.peer) p.changes) peer in
-    subst (λ (r : Option (Result Told Refusal)). PassesOn p peer r p) (sym is) (elim may as (λ b. may ≡ b → PassesOn p peer (if b then None else Some (Err OwnSsrc)) p) [
+    subst (λ (r : Option (Result Told Refusal)). PassesOn p peer r p) (sym is)
+    (elim may as (λ b. may ≡ b → PassesOn p peer (if b then None else Some (Err OwnSsrc)) p) [
       | true ↦ λ yes. record { empty = tt; changing = λ _. yes; untaken = λ _. refl; within = within; refused = tt }
-      | false ↦ λ no. record { empty = refl; changing = λ untaken. absurd cc; untaken = λ _. refl; within = within; refused = refl }
+      | false ↦ λ no. record {
+        empty = refl;
+        changing = λ untaken. absurd cc;
+        untaken = λ _. refl;
+        within = within;
+        refused = refl;
+      }
     ] refl)

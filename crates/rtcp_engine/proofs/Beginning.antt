@@ -18,31 +18,46 @@ use Rattle.rtcp_engine.specs.Taken.{begun}
 use Rattle.rtcp_engine.specs.States.{state_with, IsSound, StandsAt, newcomer}
 
 abbrev pub first_load : (average sender_bw receiver_bw : ℕ) → Load
-first_load average sender_bw receiver_bw = record { members = 1; senders = 0; we_sent = false; initial = true; avg = average; sender_bw = sender_bw; receiver_bw = receiver_bw }
+first_load average sender_bw receiver_bw = record {
+  members = 1;
+  senders = 0;
+  we_sent = false;
+  initial = true;
+  avg = average;
+  sender_bw = sender_bw;
+  receiver_bw = receiver_bw;
+}
 
 -- a table and numbers as they are before any act
-pub record IsStart (setup : Setup) (word : ℕ) (table : TableValue) (timing : Timing) (average : ℕ) (own : OwnValue) : Type 0 where
+pub record IsStart (setup : Setup) (word : ℕ) (table : TableValue) (timing : Timing) (average : ℕ) (own : OwnValue) :
+    Type 0 where
   pub is_table : table ≡ no_members setup.capacity setup.rate
   pub is_average : average ≡ average_of (first_size_of setup) []
-  pub is_timing : timing ≡ schedule_at (transmitted 0 (drawn_interval (interval_of (first_load average setup.sender_bw setup.receiver_bw)) word) 1 ∷ [])
+  pub is_timing : timing ≡ schedule_at
+      (transmitted 0 (drawn_interval (interval_of (first_load average setup.sender_bw setup.receiver_bw)) word) 1 ∷ [])
   pub is_own : own ≡ own_of []
 
-pub start_is_sound : (setup : Setup) (word : ℕ) (table : TableValue) (timing : Timing) (average : ℕ) (own : OwnValue) → IsUsable setup →
+pub start_is_sound : (setup : Setup) (word : ℕ) (table : TableValue) (timing : Timing) (average : ℕ) (own : OwnValue) →
+    IsUsable setup →
     IsStart setup word table timing average own → IsSound (state_with setup table timing average own None 0 0 0)
 start_is_sound setup word table timing average own usable start = record {
   usable = usable;
   capacity = ap (λ (t : TableValue). t.capacity) start.is_table;
   rate = ap (λ (t : TableValue). t.rate) start.is_table;
-  room = subst (λ (t : TableValue). Rattle.std.specs.FinMap.len t.entries ≤ setup.capacity) (sym start.is_table) (tables.capacity_is_kept-none setup.capacity setup.rate);
-  few = subst (Rattle.rtcp_members.specs.Tables.HasFew 0) (sym start.is_table) (tables.packets_are_few-none setup.capacity setup.rate);
+  room = subst (λ (t : TableValue). Rattle.std.specs.FinMap.len t.entries ≤ setup.capacity) (sym start.is_table)
+      (tables.capacity_is_kept-none setup.capacity setup.rate);
+  few = subst (Rattle.rtcp_members.specs.Tables.HasFew 0) (sym start.is_table)
+      (tables.packets_are_few-none setup.capacity setup.rate);
   reports = omega arith;
   calls = omega arith;
   timing = subst (λ (t : Timing). t.last ≤ 0) (sym start.is_timing) (omega arith);
   latest = omega arith;
 }
 
-pub start_stands : (setup : Setup) (word : ℕ) (table : TableValue) (timing : Timing) (average : ℕ) (own : OwnValue) → IsUsable setup → word < 2 ^ 32 →
-    IsStart setup word table timing average own → StandsAt (newcomer (state_with setup table timing average own None 0 0 0)) (begun setup word)
+pub start_stands : (setup : Setup) (word : ℕ) (table : TableValue) (timing : Timing) (average : ℕ) (own : OwnValue) →
+    IsUsable setup → word < 2 ^ 32 →
+    IsStart setup word table timing average own →
+    StandsAt (newcomer (state_with setup table timing average own None 0 0 0)) (begun setup word)
 start_stands setup word table timing average own usable word_fits start =
     let for_senders = setup.sender_bw in
     let for_others = setup.receiver_bw in
@@ -54,10 +69,13 @@ start_stands setup word table timing average own usable word_fits start =
         life = (
           refl,
           record {
-            table = subst (λ (t : TableValue). Rattle.rtcp_members.specs.Tables.StandsAt t []) (sym start.is_table) (tables.tables_follow_traces-none setup.capacity setup.rate);
+            table = subst (λ (t : TableValue). Rattle.rtcp_members.specs.Tables.StandsAt t []) (sym start.is_table)
+                (tables.tables_follow_traces-none setup.capacity setup.rate);
             capacity = ap (λ (t : TableValue). t.capacity) start.is_table;
             rate = ap (λ (t : TableValue). t.rate) start.is_table;
-            timing = start.is_timing ∙ ap (λ (a : ℕ). schedule_at (transmitted 0 (drawn_interval (interval_of (first_load a for_senders for_others)) word) 1 ∷ [])) start.is_average;
+            timing = start.is_timing ∙ ap (λ (a : ℕ). schedule_at
+                (transmitted 0 (drawn_interval (interval_of (first_load a for_senders for_others)) word) 1 ∷ []))
+                start.is_average;
             average = start.is_average;
             own = start.is_own;
             cursor = refl;
@@ -70,7 +88,9 @@ start_stands setup word table timing average own usable word_fits start =
     }
 
 -- the first compound's size, as its octets
-pub first_average : (setup : Setup) (size average : ℕ) → ((ssrc : ℕ) → let reporter : Reporter = record { ssrc = ssrc; sent = None; items = items_of setup.cname None } in size ≡ length (written_all (packets_with reporter []))) →
+pub first_average : (setup : Setup) (size average : ℕ) →
+    ((ssrc : ℕ) → let reporter : Reporter = record { ssrc = ssrc; sent = None; items = items_of setup.cname None } in
+    size ≡ length (written_all (packets_with reporter []))) →
     average ≡ average_of size [] → average ≡ average_of (first_size_of setup) []
 first_average setup size average exact is =
     let reporter : Reporter = record { ssrc = setup.ssrc; sent = None; items = items_of setup.cname None } in

@@ -23,13 +23,16 @@ same_out : (one other : StepValue) → taken one ≡ taken other → one.out ≡
 same_out one other same = cc
 
 -- a tick that comes late is answered by a compound, if it is taken
-pub sends_if_late : (history : History) (moment first_word second_word : ℕ) (octets : List ℕ) (result : Result Told Refusal) → HasWords (ticked moment first_word second_word) → IsHistory history
-    → reply_value octets result ≡ answer_of history (ticked moment first_word second_word) → IsOverdue history (ticked moment first_word second_word) → IfOk result (λ told. IsTrue (is_some told.out))
+pub sends_if_late : (history : History) (moment first_word second_word : ℕ) (octets : List ℕ)
+    (result : Result Told Refusal) → HasWords (ticked moment first_word second_word) → IsHistory history
+    → reply_value octets result ≡ answer_of history (ticked moment first_word second_word) →
+    IsOverdue history (ticked moment first_word second_word) → IfOk result (λ told. IsTrue (is_some told.out))
 sends_if_late history moment first_word second_word octets (Err refusal) words is answer late = tt
 sends_if_late history moment first_word second_word octets (Ok told) words is answer late =
     handed_out (refusal_after history (ticked moment first_word second_word)) refl answer
   where
-    some_before : (out : Option OutKind) (found : Option OutValue) → out_with octets out ≡ found → IsTrue (is_some found) → IsTrue (is_some out)
+    some_before : (out : Option OutKind) (found : Option OutValue) → out_with octets out ≡ found →
+        IsTrue (is_some found) → IsTrue (is_some out)
     some_before (Some out) found same some = refl
     some_before None found same some = absurd (none_is_no_some (ap is_some same ∙ some))
       where
@@ -37,11 +40,15 @@ sends_if_late history moment first_word second_word octets (Ok told) words is an
         none_is_no_some e = cc
 
     handed_out : (refusal : Option Refusal) → refusal_after history (ticked moment first_word second_word) ≡ refusal
-        → taken (told_value octets told) ≡ answer_unless refusal (step_by history (ticked moment first_word second_word)) → IsTrue (is_some told.out)
+        → taken (told_value octets told) ≡ answer_unless refusal
+        (step_by history (ticked moment first_word second_word)) → IsTrue (is_some told.out)
     handed_out None none same =
-        some_before told.out (brought_by (session_at history) (ticked moment first_word second_word)) (same_out (told_value octets told) (step_by history (ticked moment first_word second_word)) same)
+        some_before told.out (brought_by (session_at history) (ticked moment first_word second_word))
+        (same_out (told_value octets told) (step_by history (ticked moment first_word second_word)) same)
         (in_time_after history (ticked moment first_word second_word) is none words late)
     handed_out (Some refusal) some same = absurd cc
 
-pub bounds_after : (history : History) (act : Act) → HasWords act → IsHistory history → KeepsBounds (followed_by history act)
-bounds_after history act words is = sent_compounds_keep_apart (followed_by history act) (is_history_after history act words is)
+pub bounds_after : (history : History) (act : Act) → HasWords act → IsHistory history →
+    KeepsBounds (followed_by history act)
+bounds_after history act words is = sent_compounds_keep_apart (followed_by history act)
+    (is_history_after history act words is)

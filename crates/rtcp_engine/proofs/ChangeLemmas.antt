@@ -23,13 +23,15 @@ use Rattle.rtcp_engine.specs.States.{State, Agrees, StandsStill, Waits, Particip
 -- ---- Sizes
 
 -- A BYE is as long for any identifier.
-pub byes_are_of_one_size : (ssrc : ℕ) (setup : Setup) → length (bye_octets (with_ssrc ssrc setup)) ≡ length (bye_octets setup)
+pub byes_are_of_one_size : (ssrc : ℕ) (setup : Setup) → length (bye_octets (with_ssrc ssrc setup)) ≡ length
+    (bye_octets setup)
 byes_are_of_one_size ssrc setup = parts ssrc ∙ sym (parts setup.ssrc)
   where
     report : ℕ → List ℕ
     report id = written_all (packets_with (receiver_named id setup.cname) [])
 
-    parts : (id : ℕ) → length (bye_octets (with_ssrc id setup)) ≡ Rattle.rtcp_report.specs.Sizes.report_size (receiver_named setup.ssrc setup.cname) 0 + 8
+    parts : (id : ℕ) → length (bye_octets (with_ssrc id setup)) ≡ Rattle.rtcp_report.specs.Sizes.report_size
+        (receiver_named setup.ssrc setup.cname) 0 + 8
     parts id =
         ap length (flat_map-append written (packets_with (receiver_named id setup.cname) []) (goodbye id ∷ []))
         ∙ length-append (report id) (written_all (goodbye id ∷ []))
@@ -44,17 +46,21 @@ heard_agrees : (s : State) (own : List OwnStep) → s.own ≡ own_of own → s.o
 heard_agrees s own same = ap (λ (x : OwnValue). x.heard) same
 
 -- the average moves as the list of sizes grows
-sizes_by : (heard : Bool) (first size : ℕ) (sizes : List ℕ) → (if heard then moved_average (average_of first sizes) size else average_of first sizes) ≡ average_of first (if heard then size ∷ sizes else sizes)
+sizes_by : (heard : Bool) (first size : ℕ) (sizes : List ℕ) →
+    (if heard then moved_average (average_of first sizes) size else average_of first sizes) ≡ average_of first
+    (if heard then size ∷ sizes else sizes)
 sizes_by true first size sizes = refl
 sizes_by false first size sizes = refl
 
-pub changed_agrees : (s : State) (o : Outcome) (ssrc : ℕ) → Agrees s o → Agrees (after_change ssrc s) (with_change s.setup o)
+pub changed_agrees : (s : State) (o : Outcome) (ssrc : ℕ) → Agrees s o →
+    Agrees (after_change ssrc s) (with_change s.setup o)
 changed_agrees s o ssrc a = record {
   table = a.table;
   capacity = a.capacity;
   rate = a.rate;
   timing = a.timing;
-  average = ap (λ (heard : Bool). if heard then moved_average s.average (length (bye_octets s.setup)) else s.average) (heard_agrees s o.own a.own)
+  average = ap (λ (heard : Bool). if heard then moved_average s.average (length (bye_octets s.setup)) else s.average)
+      (heard_agrees s o.own a.own)
       ∙ ap (λ (n : ℕ). if has_sent o.own then moved_average n (length (bye_octets s.setup)) else n) a.average
       ∙ sizes_by (has_sent o.own) _ (length (bye_octets s.setup)) o.sizes;
   own = own_agrees s o.own a.own;
@@ -62,32 +68,49 @@ changed_agrees s o ssrc a = record {
   reports = a.reports;
 }
 
-changed_still : (s : State) (o : Outcome) (ssrc : ℕ) → StandsStill s o → StandsStill (after_change ssrc s) (counted_anew o)
-changed_still s o ssrc still = record { table = still.table; capacity = still.capacity; rate = still.rate; own = own_agrees s o.own still.own; cursor = still.cursor; reports = still.reports }
+changed_still : (s : State) (o : Outcome) (ssrc : ℕ) → StandsStill s o →
+    StandsStill (after_change ssrc s) (counted_anew o)
+changed_still s o ssrc still = record {
+  table = still.table;
+  capacity = still.capacity;
+  rate = still.rate;
+  own = own_agrees s o.own still.own;
+  cursor = still.cursor;
+  reports = still.reports;
+}
 
 -- ---- Backoffs
 
 abbrev with_bye : (heard : Bool) (size : ℕ) → Backoff → Backoff
-with_bye heard size backoff = if heard then record backoff { farewells = record { byes = 0; size = size } ∷ backoff.farewells } else backoff
+with_bye heard size backoff = if heard then record
+    backoff { farewells = record { byes = 0; size = size } ∷ backoff.farewells } else backoff
 
-bye_keeps_count : (heard : Bool) (size : ℕ) (backoff : Backoff) → leaving_count (with_bye heard size backoff) ≡ leaving_count backoff
+bye_keeps_count : (heard : Bool) (size : ℕ) (backoff : Backoff) →
+    leaving_count (with_bye heard size backoff) ≡ leaving_count backoff
 bye_keeps_count true size backoff = refl
 bye_keeps_count false size backoff = refl
 
-bye_keeps_timing : (heard : Bool) (size : ℕ) (backoff : Backoff) → leaving_timing (with_bye heard size backoff) ≡ leaving_timing backoff
+bye_keeps_timing : (heard : Bool) (size : ℕ) (backoff : Backoff) →
+    leaving_timing (with_bye heard size backoff) ≡ leaving_timing backoff
 bye_keeps_timing true size backoff = refl
 bye_keeps_timing false size backoff = refl
 
 bye_moves_average : (heard : Bool) (size : ℕ) (setup : Setup) (backoff : Backoff)
-    → (if heard then moved_average (leaving_average setup backoff.farewells) size else leaving_average setup backoff.farewells) ≡ leaving_average setup (with_bye heard size backoff).farewells
+    → (if heard then moved_average (leaving_average setup backoff.farewells) size else leaving_average setup
+    backoff.farewells) ≡ leaving_average setup (with_bye heard size backoff).farewells
 bye_moves_average true size setup backoff = refl
 bye_moves_average false size setup backoff = refl
 
-average_with_ssrc : (ssrc : ℕ) (setup : Setup) (farewells : List Farewell) → leaving_average (with_ssrc ssrc setup) farewells ≡ leaving_average setup farewells
-average_with_ssrc ssrc setup farewells = ap (λ (n : ℕ). average_of n (map (λ (farewell : Farewell). farewell.size) farewells)) (byes_are_of_one_size ssrc setup)
+average_with_ssrc : (ssrc : ℕ) (setup : Setup) (farewells : List Farewell) →
+    leaving_average (with_ssrc ssrc setup) farewells ≡ leaving_average setup farewells
+average_with_ssrc ssrc setup farewells =
+    ap (λ (n : ℕ). average_of n (map (λ (farewell : Farewell). farewell.size) farewells))
+    (byes_are_of_one_size ssrc setup)
 
-changed_average : (s : State) (o : Outcome) (backoff : Backoff) (ssrc : ℕ) → StandsStill s o → s.average ≡ leaving_average s.setup backoff.farewells
-    → (after_change ssrc s).average ≡ leaving_average (with_ssrc ssrc s.setup) (after_own_bye s.setup o backoff).farewells
+changed_average : (s : State) (o : Outcome) (backoff : Backoff) (ssrc : ℕ) → StandsStill s o →
+    s.average ≡ leaving_average s.setup backoff.farewells
+    → (after_change ssrc s).average ≡ leaving_average (with_ssrc ssrc s.setup)
+    (after_own_bye s.setup o backoff).farewells
 changed_average s o backoff ssrc still average =
     let size = length (bye_octets s.setup) in
     ap (λ (heard : Bool). if heard then moved_average s.average size else s.average) (heard_agrees s o.own still.own)
@@ -97,9 +120,13 @@ changed_average s o backoff ssrc still average =
 
 -- ---- Where it stands
 
-changed_is_at : (p q : ParticipantValue) (ssrc : ℕ) (life : Life) → IsAt p life → (p.phase ≡ over → ⊥) → q.presence ≡ after_change ssrc p.presence → q.phase ≡ p.phase → IsAt q (with_new_ssrc p.presence.setup life)
-changed_is_at p q ssrc (present outcome) at there same phase =
-    (phase ∙ at.0, subst (λ (s : State). Agrees s (with_change p.presence.setup outcome)) (sym same) (changed_agrees p.presence outcome ssrc at.1))
+changed_is_at : (p q : ParticipantValue) (ssrc : ℕ) (life : Life) → IsAt p life → (p.phase ≡ over → ⊥) →
+    q.presence ≡ after_change ssrc p.presence → q.phase ≡ p.phase → IsAt q (with_new_ssrc p.presence.setup life)
+changed_is_at p q ssrc (present outcome) at there same phase = (
+  phase ∙ at.0,
+  subst (λ (s : State). Agrees s (with_change p.presence.setup outcome)) (sym same)
+      (changed_agrees p.presence outcome ssrc at.1),
+)
 changed_is_at p q ssrc (backing_off outcome backoff) at there same phase =
     let heard = has_sent outcome.own in
     let size = length (bye_octets p.presence.setup) in
@@ -114,21 +141,26 @@ changed_is_at p q ssrc (backing_off outcome backoff) at there same phase =
     )
 changed_is_at p q ssrc (gone outcome) at there same phase = absurd (there at)
 
-pub changed_is_in : (p q : ParticipantValue) (session : Session) (new : NewIdentifier) → IsIn p session → (p.phase ≡ over → ⊥) → q.presence ≡ after_change new.ssrc p.presence → q.phase ≡ p.phase
-    → q.changes ≡ record { peer = new.peer; former = p.presence.setup.ssrc } ∷ p.changes → IsIn q (changed_to new session)
+pub changed_is_in : (p q : ParticipantValue) (session : Session) (new : NewIdentifier) → IsIn p session →
+    (p.phase ≡ over → ⊥) → q.presence ≡ after_change new.ssrc p.presence → q.phase ≡ p.phase
+    → q.changes ≡ record { peer = new.peer; former = p.presence.setup.ssrc } ∷ p.changes →
+    IsIn q (changed_to new session)
 changed_is_in p q session new is there same phase changes = record {
   setup = ap (λ (s : State). s.setup) same ∙ ap (with_ssrc new.ssrc) is.setup;
   changes = changes ∙ (λ i. record { peer = new.peer; former = (is.setup i).ssrc } ∷ is.changes i);
-  life = subst (λ (setup : Setup). IsAt q (with_new_ssrc setup session.life)) is.setup (changed_is_at p q new.ssrc session.life is.life there same phase);
+  life = subst (λ (setup : Setup). IsAt q (with_new_ssrc setup session.life)) is.setup
+      (changed_is_at p q new.ssrc session.life is.life there same phase);
 }
 
 -- ---- What it hands out
 
-bye_by : (heard : Bool) (octets : List ℕ) → option_map bye_out (if heard then Some octets else None) ≡ (if heard then Some (bye_out octets) else None)
+bye_by : (heard : Bool) (octets : List ℕ) → option_map bye_out (if heard then Some octets else None)
+    ≡ (if heard then Some (bye_out octets) else None)
 bye_by true octets = refl
 bye_by false octets = refl
 
-pub changed_out : (p : ParticipantValue) (setup : Setup) (life : Life) → IsAt p life → (p.phase ≡ over → ⊥) → p.presence.setup ≡ setup → option_map bye_out (own_bye_in p.presence) ≡ own_bye setup life
+pub changed_out : (p : ParticipantValue) (setup : Setup) (life : Life) → IsAt p life → (p.phase ≡ over → ⊥) →
+    p.presence.setup ≡ setup → option_map bye_out (own_bye_in p.presence) ≡ own_bye setup life
 changed_out p setup (present outcome) at there same =
     bye_by p.presence.own.heard (bye_octets p.presence.setup)
     ∙ (λ i. if heard_agrees p.presence outcome.own at.1.own i then Some (bye_out (bye_octets (same i))) else None)
@@ -140,9 +172,14 @@ changed_out p setup (gone outcome) at there same = absurd (there at)
 -- ---- Tables
 
 -- the table of a participant holds who is in the table of its session
-pub held_at : (p : ParticipantValue) (setup : Setup) (ssrc : ℕ) (life : Life) → IsAt p life → (p.phase ≡ over → ⊥) → p.presence.setup ≡ setup → is_some (finite.get p.presence.table.entries ssrc) ≡ is_in_table setup life ssrc
+pub held_at : (p : ParticipantValue) (setup : Setup) (ssrc : ℕ) (life : Life) → IsAt p life → (p.phase ≡ over → ⊥) →
+    p.presence.setup ≡ setup → is_some (finite.get p.presence.table.entries ssrc) ≡ is_in_table setup life ssrc
 held_at p setup ssrc (present outcome) at there same =
-    ap is_some (at.1.table ssrc) ∙ (λ i. is_some (entry_at ((at.1.capacity ∙ ap (λ (s : Setup). s.capacity) same) i) ((at.1.rate ∙ ap (λ (s : Setup). s.rate) same) i) outcome.trace ssrc))
+    ap is_some (at.1.table ssrc) ∙ (λ i. is_some
+    (entry_at ((at.1.capacity ∙ ap (λ (s : Setup). s.capacity) same) i)
+    ((at.1.rate ∙ ap (λ (s : Setup). s.rate) same) i) outcome.trace ssrc))
 held_at p setup ssrc (backing_off outcome backoff) at there same =
-    ap is_some (at.1.still.table ssrc) ∙ (λ i. is_some (entry_at ((at.1.still.capacity ∙ ap (λ (s : Setup). s.capacity) same) i) ((at.1.still.rate ∙ ap (λ (s : Setup). s.rate) same) i) outcome.trace ssrc))
+    ap is_some (at.1.still.table ssrc)
+    ∙ (λ i. is_some (entry_at ((at.1.still.capacity ∙ ap (λ (s : Setup). s.capacity) same) i)
+    ((at.1.still.rate ∙ ap (λ (s : Setup). s.rate) same) i) outcome.trace ssrc))
 held_at p setup ssrc (gone outcome) at there same = absurd (there at)

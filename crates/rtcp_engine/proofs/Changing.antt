@@ -11,12 +11,15 @@ use Rattle.rtcp_engine.specs.Histories.{session_of}
 
 -- ---- Setups
 
-ssrc_again : (setup : Setup) (session : Session) (change : Option NewIdentifier) → session.setup ≡ with_ssrc session.setup.ssrc setup → (changed_by change session).setup ≡ with_ssrc (changed_by change session).setup.ssrc setup
+ssrc_again : (setup : Setup) (session : Session) (change : Option NewIdentifier) →
+    session.setup ≡ with_ssrc session.setup.ssrc setup →
+    (changed_by change session).setup ≡ with_ssrc (changed_by change session).setup.ssrc setup
 ssrc_again setup session None same = same
 ssrc_again setup session (Some new) same = ap (with_ssrc new.ssrc) same
 
 -- The setup of a session is the one it began with, but for the identifier.
-pub same_but_ssrc : (setup : Setup) (word : ℕ) (acts : List Act) → (session_of setup word acts).setup ≡ with_ssrc (session_of setup word acts).setup.ssrc setup
+pub same_but_ssrc : (setup : Setup) (word : ℕ) (acts : List Act) →
+    (session_of setup word acts).setup ≡ with_ssrc (session_of setup word acts).setup.ssrc setup
 same_but_ssrc setup word [] = refl
 same_but_ssrc setup word (act ∷ earlier) =
     let before = session_of setup word earlier in
@@ -36,8 +39,10 @@ usable_with_ssrc ssrc setup u = record {
   extras = u.extras;
 }
 
-pub usable_in : (setup : Setup) (word : ℕ) (acts : List Act) → IsUsable setup → IsUsable (session_of setup word acts).setup
-usable_in setup word acts usable = subst IsUsable (sym (same_but_ssrc setup word acts)) (usable_with_ssrc _ setup usable)
+pub usable_in : (setup : Setup) (word : ℕ) (acts : List Act) → IsUsable setup →
+    IsUsable (session_of setup word acts).setup
+usable_in setup word acts usable = subst IsUsable (sym (same_but_ssrc setup word acts))
+    (usable_with_ssrc _ setup usable)
 
 -- ---- What is handed out
 
@@ -46,7 +51,8 @@ or_none {A} None = refl
 or_none {A} (Some x) = refl
 
 -- A datagram brings no compound but the one of its change.
-pub nothing_more : (session : Session) (act : Act) (new : NewIdentifier) → change_by session act ≡ Some new → (setup : Setup) (life : Life) → out_by setup act life ≡ None
+pub nothing_more : (session : Session) (act : Act) (new : NewIdentifier) → change_by session act ≡ Some new →
+    (setup : Setup) (life : Life) → out_by setup act life ≡ None
 nothing_more session (arrived moment peer word datagram) new is setup (present outcome) = refl
 nothing_more session (arrived moment peer word datagram) new is setup (backing_off outcome backoff) = refl
 nothing_more session (rtp_sent moment timestamp octets) new is setup life = absurd cc
@@ -54,7 +60,8 @@ nothing_more session (ticked moment first_word second_word) new is setup life = 
 nothing_more session (left moment word) new is setup life = absurd cc
 nothing_more session act new is setup (gone outcome) = refl
 
-pub bye_alone : (session : Session) (act : Act) (new : NewIdentifier) → change_by session act ≡ Some new → let now = changed_to new session in
+pub bye_alone : (session : Session) (act : Act) (new : NewIdentifier) → change_by session act ≡ Some new →
+    let now = changed_to new session in
     option_or (own_bye session.setup session.life) (out_by now.setup act now.life) ≡ own_bye session.setup session.life
 bye_alone session act new is =
     let now = changed_to new session in

@@ -40,7 +40,9 @@ neither None second none = (refl, none)
 neither (Some refusal) second none = absurd cc
 
 -- an act that is taken is refused neither as any act then nor for its datagram
-pub unrefused : (history : History) (act : Act) → refusal_after history act ≡ None → (call_refusal (moment_of act) (last_moment history.acts) (length history.acts) ≡ None) × (refusal_of_datagram (session_at history) act ≡ None)
+pub unrefused : (history : History) (act : Act) → refusal_after history act ≡ None →
+    (call_refusal (moment_of act) (last_moment history.acts) (length history.acts) ≡ None)
+    × (refusal_of_datagram (session_at history) act ≡ None)
 unrefused history act none = neither _ _ (none_before (life_at history) (refusal_of history act) none)
 
 -- ---- Few changes
@@ -50,12 +52,14 @@ may_if true true is none = refl
 may_if true false is none = absurd cc
 may_if false may is none = absurd cc
 
-few_if : (own : Bool) (new : NewIdentifier) (session : Session) → (own ≡ true → length session.changes < most_changes) → length session.changes ≤ most_changes
+few_if : (own : Bool) (new : NewIdentifier) (session : Session) → (own ≡ true → length session.changes < most_changes) →
+    length session.changes ≤ most_changes
     → length (changed_by (if own then Some new else None) session).changes ≤ most_changes
 few_if true new session room few = omega (arith, room refl)
 few_if false new session room few = few
 
-few_after : (session : Session) (act : Act) → refusal_of_datagram session act ≡ None → length session.changes ≤ most_changes → length (session_for session act).changes ≤ most_changes
+few_after : (session : Session) (act : Act) → refusal_of_datagram session act ≡ None →
+    length session.changes ≤ most_changes → length (session_for session act).changes ≤ most_changes
 few_after session (arrived moment peer word datagram) none few = few_if own _ session room few
   where
     own : Bool
@@ -67,16 +71,21 @@ few_after session (arrived moment peer word datagram) none few = few_if own _ se
     room : is_about session.setup.ssrc datagram ≡ true → length session.changes < most_changes
     room is =
         let allowed = may_if own may is (neither (fault_in datagram) (refusal_if (own && not may) OwnSsrc) none).1 in
-        let below = ltb-true (length (changing_peers session)) most_changes (and_parts (not (is_among (changing_peers session) peer)) (nat_lt (length (changing_peers session)) most_changes) allowed).1 in
+        let below = ltb-true (length (changing_peers session)) most_changes
+        (and_parts (not (is_among (changing_peers session) peer))
+        (nat_lt (length (changing_peers session)) most_changes) allowed).1 in
         omega (arith, below, length-map session.changes (λ (change : Change). change.peer))
 few_after session (rtp_sent moment timestamp octets) none few = few
 few_after session (ticked moment first_word second_word) none few = few
 few_after session (left moment word) none few = few
 
-pub few_listed : (setup : Setup) (word : ℕ) (acts : List Act) → AllTaken setup word acts → length (session_of setup word acts).changes ≤ most_changes
+pub few_listed : (setup : Setup) (word : ℕ) (acts : List Act) → AllTaken setup word acts →
+    length (session_of setup word acts).changes ≤ most_changes
 few_listed setup word [] taken = omega arith
 few_listed setup word (act ∷ earlier) taken =
-    few_after (session_of setup word earlier) act (unrefused (record { setup = setup; word = word; acts = earlier }) act taken.0).1 (few_listed setup word earlier taken.2)
+    few_after (session_of setup word earlier) act
+    (unrefused (record { setup = setup; word = word; acts = earlier }) act taken.0).1
+    (few_listed setup word earlier taken.2)
 
 -- ---- A change for a peer
 
@@ -85,17 +94,20 @@ allowed_is_other peers peer allowed = by_test (is_among peers peer) refl
   where
     by_test : (b : Bool) → is_among peers peer ≡ b → is_among peers peer ≡ false
     by_test false other = other
-    by_test true listed = absurd (false_is_true (sym (ap (λ (b : Bool). not b) listed) ∙ (and_parts (not (is_among peers peer)) (nat_lt (length peers) most_changes) allowed).0))
+    by_test true listed = absurd (false_is_true (sym (ap (λ (b : Bool). not b) listed)
+        ∙ (and_parts (not (is_among peers peer)) (nat_lt (length peers) most_changes) allowed).0))
       where
         false_is_true : false ≡ true → ⊥
         false_is_true e = cc
 
-apart_if : (own : Bool) (new : NewIdentifier) (session : Session) → (own ≡ true → is_among (changing_peers session) new.peer ≡ false) → AreApart (changing_peers session)
+apart_if : (own : Bool) (new : NewIdentifier) (session : Session) →
+    (own ≡ true → is_among (changing_peers session) new.peer ≡ false) → AreApart (changing_peers session)
     → AreApart (changing_peers (changed_by (if own then Some new else None) session))
 apart_if true new session other apart = (other refl, apart)
 apart_if false new session other apart = apart
 
-apart_after : (session : Session) (act : Act) → refusal_of_datagram session act ≡ None → AreApart (changing_peers session) → AreApart (changing_peers (session_for session act))
+apart_after : (session : Session) (act : Act) → refusal_of_datagram session act ≡ None →
+    AreApart (changing_peers session) → AreApart (changing_peers (session_for session act))
 apart_after session (arrived moment peer word datagram) none apart = apart_if own _ session other apart
   where
     own : Bool
@@ -105,26 +117,32 @@ apart_after session (arrived moment peer word datagram) none apart = apart_if ow
     may = may_change (changing_peers session) peer
 
     other : is_about session.setup.ssrc datagram ≡ true → is_among (changing_peers session) peer ≡ false
-    other is = allowed_is_other (changing_peers session) peer (may_if own may is (neither (fault_in datagram) (refusal_if (own && not may) OwnSsrc) none).1)
+    other is = allowed_is_other (changing_peers session) peer
+        (may_if own may is (neither (fault_in datagram) (refusal_if (own && not may) OwnSsrc) none).1)
 apart_after session (rtp_sent moment timestamp octets) none apart = apart
 apart_after session (ticked moment first_word second_word) none apart = apart
 apart_after session (left moment word) none apart = apart
 
-pub apart_listed : (setup : Setup) (word : ℕ) (acts : List Act) → AllTaken setup word acts → AreApart (changing_peers (session_of setup word acts))
+pub apart_listed : (setup : Setup) (word : ℕ) (acts : List Act) → AllTaken setup word acts →
+    AreApart (changing_peers (session_of setup word acts))
 apart_listed setup word [] taken = tt
 apart_listed setup word (act ∷ earlier) taken =
-    apart_after (session_of setup word earlier) act (unrefused (record { setup = setup; word = word; acts = earlier }) act taken.0).1 (apart_listed setup word earlier taken.2)
+    apart_after (session_of setup word earlier) act
+    (unrefused (record { setup = setup; word = word; acts = earlier }) act taken.0).1
+    (apart_listed setup word earlier taken.2)
 
 -- how many changes an act brings
 abbrev listed : (changes : Bool) → ℕ
 listed changes = cond changes 1 0
 
 -- An act sends a BYE of an old identifier only where it is a change.
-one_more : (kept : Bool) (sent : Sent) (others : List Sent) → length (cond kept (sent ∷ others) others) ≤ 1 + length others
+one_more : (kept : Bool) (sent : Sent) (others : List Sent) →
+    length (cond kept (sent ∷ others) others) ≤ 1 + length others
 one_more true sent others = omega arith
 one_more false sent others = omega arith
 
-no_more : (kept : Bool) (sent : Sent) (others : List Sent) → kept ≡ false → length (cond kept (sent ∷ others) others) ≤ 0 + length others
+no_more : (kept : Bool) (sent : Sent) (others : List Sent) → kept ≡ false →
+    length (cond kept (sent ∷ others) others) ≤ 0 + length others
 no_more true sent others none = absurd cc
 no_more false sent others none = omega arith
 
@@ -132,7 +150,9 @@ never_both : (b : Bool) → (b && false) ≡ false
 never_both true = refl
 never_both false = refl
 
-few_sent_with : (moment interval : ℕ) (changes : Bool) (out : Option OutValue) (sent : List Sent) → length (filter is_change_bye (sent_with moment interval changes out ++ sent)) ≤ listed changes + length (filter is_change_bye sent)
+few_sent_with : (moment interval : ℕ) (changes : Bool) (out : Option OutValue) (sent : List Sent) →
+    length (filter is_change_bye (sent_with moment interval changes out ++ sent)) ≤ listed changes + length
+    (filter is_change_bye sent)
 few_sent_with moment interval changes None sent = omega arith
 few_sent_with moment interval true (Some out) sent =
     let bye : Sent = record { moment = moment; interval = interval; out = out; changes = true } in
@@ -141,19 +161,23 @@ few_sent_with moment interval false (Some out) sent =
     let report : Sent = record { moment = moment; interval = interval; out = out; changes = false } in
     no_more (is_change_bye report) report (filter is_change_bye sent) (never_both (not (is_report report)))
 
-lists_by : (change : Option NewIdentifier) (session : Session) → listed (is_some change) + length session.changes ≡ length (changed_by change session).changes
+lists_by : (change : Option NewIdentifier) (session : Session) → listed (is_some change) + length session.changes
+    ≡ length (changed_by change session).changes
 lists_by None session = omega arith
 lists_by (Some new) session = omega arith
 
-changes_are_listed : (setup : Setup) (word : ℕ) (acts : List Act) → length (filter is_change_bye (sent_over setup word acts)) ≤ length (session_of setup word acts).changes
+changes_are_listed : (setup : Setup) (word : ℕ) (acts : List Act) →
+    length (filter is_change_bye (sent_over setup word acts)) ≤ length (session_of setup word acts).changes
 changes_are_listed setup word [] = omega arith
 changes_are_listed setup word (act ∷ earlier) =
     let session = session_of setup word earlier in
     let change = change_by session act in
-    let more = few_sent_with (moment_of act) (deciding_interval session act) (is_some change) (brought_by session act) (sent_over setup word earlier) in
+    let more = few_sent_with (moment_of act) (deciding_interval session act) (is_some change) (brought_by session act)
+    (sent_over setup word earlier) in
     omega (arith, more, lists_by change session, changes_are_listed setup word earlier)
 
-pub few_changes : (setup : Setup) (word : ℕ) (acts : List Act) → AllTaken setup word acts → length (filter is_change_bye (sent_over setup word acts)) ≤ most_changes
+pub few_changes : (setup : Setup) (word : ℕ) (acts : List Act) → AllTaken setup word acts →
+    length (filter is_change_bye (sent_over setup word acts)) ≤ most_changes
 few_changes setup word acts taken = omega (arith, changes_are_listed setup word acts, few_listed setup word acts taken)
 
 -- ---- A new identifier
@@ -168,15 +192,18 @@ length_run ssrc zero = refl
 length_run ssrc (suc count) = ap suc (length_run ((ssrc + 1) % 2 ^ 32) count)
 
 -- none of those that follow a number by less than 2^32 is that number
-others_follow : (first distance ssrc count : ℕ) → first < 2 ^ 32 → ssrc ≡ (first + distance) % 2 ^ 32 → 1 ≤ distance → distance + count ≤ 2 ^ 32
+others_follow : (first distance ssrc count : ℕ) → first < 2 ^ 32 → ssrc ≡ (first + distance) % 2 ^ 32 → 1 ≤ distance →
+    distance + count ≤ 2 ^ 32
     → AllByRecursion (λ other. (first == other) ≡ false) (run_from ssrc count)
 others_follow first distance ssrc zero fits is some few = tt
 others_follow first distance ssrc (suc count) fits is some few = (
   ne_eqb first ssrc (λ same. omega (arith, fits, is, some, few, same)),
-  others_follow first (distance + 1) ((ssrc + 1) % 2 ^ 32) count fits (omega (arith, is)) (omega arith) (omega (arith, few)),
+  others_follow first (distance + 1) ((ssrc + 1) % 2 ^ 32) count fits (omega (arith, is)) (omega arith)
+      (omega (arith, few)),
 )
 
-run_is_distinct : (ssrc count : ℕ) → ssrc < 2 ^ 32 → count ≤ 2 ^ 32 → IsDistinct (λ (a b : ℕ). a == b) (run_from ssrc count)
+run_is_distinct : (ssrc count : ℕ) → ssrc < 2 ^ 32 → count ≤ 2 ^ 32 →
+    IsDistinct (λ (a b : ℕ). a == b) (run_from ssrc count)
 unfolding IsDistinct
 run_is_distinct ssrc zero fits few = tt
 run_is_distinct ssrc (suc count) fits few = (
@@ -185,39 +212,59 @@ run_is_distinct ssrc (suc count) fits few = (
 )
 
 -- if what was chosen is taken, all that were tried are
-all_taken : (most : ℕ) (is_taken : ℕ → Bool) (ssrc : ℕ) → is_taken (first_free most is_taken ssrc) ≡ true → AllByRecursion (λ tried. is_taken tried ≡ true) (run_from ssrc (suc most))
+all_taken : (most : ℕ) (is_taken : ℕ → Bool) (ssrc : ℕ) → is_taken (first_free most is_taken ssrc) ≡ true →
+    AllByRecursion (λ tried. is_taken tried ≡ true) (run_from ssrc (suc most))
 all_taken zero is_taken ssrc taken = (taken, tt)
 all_taken (suc most) is_taken ssrc taken = by_test (is_taken ssrc) refl (all_taken most is_taken ((ssrc + 1) % 2 ^ 32))
   where
     false_is_true : false ≡ true → ⊥
     false_is_true e = cc
 
-    by_test : (b : Bool) → is_taken ssrc ≡ b → (is_taken (first_free most is_taken ((ssrc + 1) % 2 ^ 32)) ≡ true → AllByRecursion (λ tried. is_taken tried ≡ true) (run_from ((ssrc + 1) % 2 ^ 32) (suc most)))
+    by_test : (b : Bool) → is_taken ssrc ≡ b →
+        (is_taken (first_free most is_taken ((ssrc + 1) % 2 ^ 32)) ≡ true →
+        AllByRecursion (λ tried. is_taken tried ≡ true) (run_from ((ssrc + 1) % 2 ^ 32) (suc most)))
         → AllByRecursion (λ tried. is_taken tried ≡ true) (run_from ssrc (suc (suc most)))
-    by_test true is others = (is, others (sym (ap (λ (b : Bool). is_taken (if b then first_free most is_taken ((ssrc + 1) % 2 ^ 32) else ssrc)) is) ∙ taken))
-    by_test false is others = absurd (false_is_true (sym is ∙ sym (ap (λ (b : Bool). is_taken (if b then first_free most is_taken ((ssrc + 1) % 2 ^ 32) else ssrc)) is) ∙ taken))
+    by_test true is others = (
+      is,
+      others
+          (sym (ap (λ (b : Bool). is_taken (if b then first_free most is_taken ((ssrc + 1) % 2 ^ 32) else ssrc)) is)
+          ∙ taken),
+    )
+    by_test false is others = absurd
+        (false_is_true (sym is ∙ sym (ap
+        (λ (b : Bool). is_taken (if b then first_free most is_taken ((ssrc + 1) % 2 ^ 32) else ssrc)) is)
+        ∙ taken))
 
-member_is_such : (test : ℕ → Bool) (numbers : List ℕ) (number : ℕ) → AllByRecursion (λ other. test other ≡ true) numbers → is_member (λ (a b : ℕ). a == b) numbers number ≡ true → test number ≡ true
+member_is_such : (test : ℕ → Bool) (numbers : List ℕ) (number : ℕ) →
+    AllByRecursion (λ other. test other ≡ true) numbers → is_member (λ (a b : ℕ). a == b) numbers number ≡ true →
+    test number ≡ true
 member_is_such test [] number all is = absurd cc
-member_is_such test (other ∷ others) number all is = by_test (number == other) refl (member_is_such test others number all.1)
+member_is_such test (other ∷ others) number all is = by_test (number == other) refl
+    (member_is_such test others number all.1)
   where
-    by_test : (b : Bool) → (number == other) ≡ b → (is_member (λ (a b : ℕ). a == b) others number ≡ true → test number ≡ true) → test number ≡ true
+    by_test : (b : Bool) → (number == other) ≡ b →
+        (is_member (λ (a b : ℕ). a == b) others number ≡ true → test number ≡ true) → test number ≡ true
     by_test true same later = ap test (eqb-true number other same) ∙ all.0
-    by_test false apart later = later (sym (ap (λ (b : Bool). b || list_any (λ (y : ℕ). number == y) others) apart) ∙ is)
+    by_test false apart later = later (sym (ap (λ (b : Bool). b || list_any (λ (y : ℕ). number == y) others) apart)
+        ∙ is)
 
 number_equality : IsEquivalence (λ (a b : ℕ). a == b)
 number_equality = nat_eq_equiv
 
 -- Where fewer numbers are taken than are tried, what is chosen is not.
-pub chosen_is_free : (most : ℕ) (is_taken : ℕ → Bool) (ssrc : ℕ) (those : List ℕ) → ssrc < 2 ^ 32 → most < 2 ^ 32 → length those ≤ most
-    → ((number : ℕ) → is_taken number ≡ true → is_member (λ (a b : ℕ). a == b) those number ≡ true) → is_taken (first_free most is_taken ssrc) ≡ false
+pub chosen_is_free : (most : ℕ) (is_taken : ℕ → Bool) (ssrc : ℕ) (those : List ℕ) → ssrc < 2 ^ 32 → most < 2 ^ 32 →
+    length those ≤ most
+    → ((number : ℕ) → is_taken number ≡ true → is_member (λ (a b : ℕ). a == b) those number ≡ true) →
+    is_taken (first_free most is_taken ssrc) ≡ false
 chosen_is_free most is_taken ssrc those fits small few are = by_test (is_taken (first_free most is_taken ssrc)) refl
   where
-    by_test : (b : Bool) → is_taken (first_free most is_taken ssrc) ≡ b → is_taken (first_free most is_taken ssrc) ≡ false
+    by_test : (b : Bool) → is_taken (first_free most is_taken ssrc) ≡ b →
+        is_taken (first_free most is_taken ssrc) ≡ false
     by_test false free = free
     by_test true taken =
         let all = all_taken most is_taken ssrc taken in
-        let within = length-le_from_is_member number_equality (run_from ssrc (suc most)) those (run_is_distinct ssrc (suc most) fits (omega (arith, small)))
+        let within = length-le_from_is_member number_equality (run_from ssrc (suc most)) those
+        (run_is_distinct ssrc (suc most) fits (omega (arith, small)))
         (λ number tried. are number (member_is_such is_taken (run_from ssrc (suc most)) number all tried)) in
         absurd (omega (arith, within, few, length_run ssrc (suc most)))
 
@@ -240,7 +287,8 @@ few_held setup (gone outcome) = omega arith
 abbrev those_taken : Session → Datagram → List ℕ
 those_taken session datagram = identifiers session ++ (held_in session.setup session.life ++ named_by datagram)
 
-few_taken : (session : Session) (datagram : Datagram) → length session.changes ≤ most_changes → length (those_taken session datagram) ≤ most_taken session datagram
+few_taken : (session : Session) (datagram : Datagram) → length session.changes ≤ most_changes →
+    length (those_taken session datagram) ≤ most_taken session datagram
 few_taken session datagram few =
     let own = identifiers session in
     let held = held_in session.setup session.life in
@@ -258,52 +306,70 @@ among_left : (ones others : List ℕ) (number : ℕ) → is_among ones number �
 among_left [] others number is = absurd cc
 among_left (one ∷ ones) others number is = by_test (one == number) refl (among_left ones others number)
   where
-    by_test : (b : Bool) → (one == number) ≡ b → (is_among ones number ≡ true → is_among (ones ++ others) number ≡ true) → ((one == number) || is_among (ones ++ others) number) ≡ true
+    by_test : (b : Bool) → (one == number) ≡ b →
+        (is_among ones number ≡ true → is_among (ones ++ others) number ≡ true) →
+        ((one == number) || is_among (ones ++ others) number) ≡ true
     by_test true same later = ap (λ (b : Bool). b || is_among (ones ++ others) number) same
     by_test false apart later =
-        ap (λ (b : Bool). b || is_among (ones ++ others) number) apart ∙ later (sym (ap (λ (b : Bool). b || is_among ones number) apart) ∙ is)
+        ap (λ (b : Bool). b || is_among (ones ++ others) number) apart
+        ∙ later (sym (ap (λ (b : Bool). b || is_among ones number) apart) ∙ is)
 
-among_right : (ones others : List ℕ) (number : ℕ) → is_among others number ≡ true → is_among (ones ++ others) number ≡ true
+among_right : (ones others : List ℕ) (number : ℕ) → is_among others number ≡ true →
+    is_among (ones ++ others) number ≡ true
 among_right [] others number is = is
 among_right (one ∷ ones) others number is = or_right (one == number) _ (among_right ones others number is)
 
-held_is_among : (capacity : ℕ) (trace : List TraceStep) (named : List ℕ) (ssrc : ℕ) → is_some (stay_of capacity trace ssrc) ≡ true → is_among named ssrc ≡ true
+held_is_among : (capacity : ℕ) (trace : List TraceStep) (named : List ℕ) (ssrc : ℕ) →
+    is_some (stay_of capacity trace ssrc) ≡ true → is_among named ssrc ≡ true
     → is_among (filter (λ other. is_some (stay_of capacity trace other)) named) ssrc ≡ true
 held_is_among capacity trace [] ssrc there is = absurd cc
-held_is_among capacity trace (other ∷ others) ssrc there is = by_test (other == ssrc) refl (held_is_among capacity trace others ssrc there)
+held_is_among capacity trace (other ∷ others) ssrc there is = by_test (other == ssrc) refl
+    (held_is_among capacity trace others ssrc there)
   where
     rest : List ℕ
     rest = filter (λ other. is_some (stay_of capacity trace other)) others
 
-    by_test : (b : Bool) → (other == ssrc) ≡ b → (is_among others ssrc ≡ true → is_among (filter (λ other. is_some (stay_of capacity trace other)) others) ssrc ≡ true)
-        → is_among (cond (is_some (stay_of capacity trace other)) (other ∷ filter (λ other. is_some (stay_of capacity trace other)) others) (filter (λ other. is_some (stay_of capacity trace other)) others)) ssrc ≡ true
+    by_test : (b : Bool) → (other == ssrc) ≡ b →
+        (is_among others ssrc ≡ true → is_among (filter (λ other. is_some (stay_of capacity trace other)) others) ssrc
+        ≡ true)
+        → is_among (cond (is_some (stay_of capacity trace other))
+        (other ∷ filter (λ other. is_some (stay_of capacity trace other)) others)
+        (filter (λ other. is_some (stay_of capacity trace other)) others)) ssrc ≡ true
     by_test true same later =
-        let kept : is_some (stay_of capacity trace other) ≡ true = ap (λ (s : ℕ). is_some (stay_of capacity trace s)) (eqb-true other ssrc same) ∙ there in
-        ap (λ (b : Bool). is_among (cond b (other ∷ rest) rest) ssrc) kept ∙ ap (λ (b : Bool). b || is_among rest ssrc) same
+        let kept : is_some (stay_of capacity trace other) ≡ true = ap (λ (s : ℕ). is_some (stay_of capacity trace s))
+        (eqb-true other ssrc same) ∙ there in
+        ap (λ (b : Bool). is_among (cond b (other ∷ rest) rest) ssrc) kept
+        ∙ ap (λ (b : Bool). b || is_among rest ssrc) same
     by_test false apart later =
-        still (is_some (stay_of capacity trace other)) (later (sym (ap (λ (b : Bool). b || is_among others ssrc) apart) ∙ is))
+        still (is_some (stay_of capacity trace other))
+        (later (sym (ap (λ (b : Bool). b || is_among others ssrc) apart) ∙ is))
       where
         still : (b : Bool) → is_among rest ssrc ≡ true → is_among (cond b (other ∷ rest) rest) ssrc ≡ true
         still true is = or_right (other == ssrc) _ is
         still false is = is
 
-abbrev entry_is_stay : (capacity rate : ℕ) (trace : List TraceStep) (ssrc : ℕ) → is_some (entry_at capacity rate trace ssrc) ≡ is_some (stay_of capacity trace ssrc)
+abbrev entry_is_stay : (capacity rate : ℕ) (trace : List TraceStep) (ssrc : ℕ) →
+    is_some (entry_at capacity rate trace ssrc) ≡ is_some (stay_of capacity trace ssrc)
 entry_is_stay capacity rate trace ssrc = mapped (stay_of capacity trace ssrc)
   where
     mapped : (stay : Option (List TraceStep)) → is_some (option_map (entry_of rate ssrc) stay) ≡ is_some stay
     mapped None = refl
     mapped (Some stay) = refl
 
-in_table_is_held : (setup : Setup) (life : Life) (ssrc : ℕ) → is_in_table setup life ssrc ≡ true → is_among (held_in setup life) ssrc ≡ true
+in_table_is_held : (setup : Setup) (life : Life) (ssrc : ℕ) → is_in_table setup life ssrc ≡ true →
+    is_among (held_in setup life) ssrc ≡ true
 in_table_is_held setup (present outcome) ssrc is =
     let there = sym (entry_is_stay setup.capacity setup.rate outcome.trace ssrc) ∙ is in
-    held_is_among setup.capacity outcome.trace (names outcome.trace) ssrc there (present_were_named_and_fit-named setup.capacity outcome.trace ssrc there)
+    held_is_among setup.capacity outcome.trace (names outcome.trace) ssrc there
+    (present_were_named_and_fit-named setup.capacity outcome.trace ssrc there)
 in_table_is_held setup (backing_off outcome backoff) ssrc is =
     let there = sym (entry_is_stay setup.capacity setup.rate outcome.trace ssrc) ∙ is in
-    held_is_among setup.capacity outcome.trace (names outcome.trace) ssrc there (present_were_named_and_fit-named setup.capacity outcome.trace ssrc there)
+    held_is_among setup.capacity outcome.trace (names outcome.trace) ssrc there
+    (present_were_named_and_fit-named setup.capacity outcome.trace ssrc there)
 in_table_is_held setup (gone outcome) ssrc is = absurd cc
 
-taken_is_among : (session : Session) (datagram : Datagram) (ssrc : ℕ) → is_taken session datagram ssrc ≡ true → is_among (those_taken session datagram) ssrc ≡ true
+taken_is_among : (session : Session) (datagram : Datagram) (ssrc : ℕ) → is_taken session datagram ssrc ≡ true →
+    is_among (those_taken session datagram) ssrc ≡ true
 taken_is_among session datagram ssrc is = by_own (is_among own ssrc) refl
   where
     own : List ℕ
@@ -318,28 +384,42 @@ taken_is_among session datagram ssrc is = by_own (is_among own ssrc) refl
     table : Bool
     table = is_in_table session.setup session.life ssrc
 
-    by_table : (b : Bool) → is_in_table session.setup session.life ssrc ≡ b → (is_in_table session.setup session.life ssrc || is_among (named_by datagram) ssrc) ≡ true → is_among (held_in session.setup session.life ++ named_by datagram) ssrc ≡ true
+    by_table : (b : Bool) → is_in_table session.setup session.life ssrc ≡ b →
+        (is_in_table session.setup session.life ssrc || is_among (named_by datagram) ssrc) ≡ true →
+        is_among (held_in session.setup session.life ++ named_by datagram) ssrc ≡ true
     by_table true there either = among_left held others ssrc (in_table_is_held session.setup session.life ssrc there)
-    by_table false absent either = among_right held others ssrc (sym (ap (λ (b : Bool). b || is_among others ssrc) absent) ∙ either)
+    by_table false absent either = among_right held others ssrc
+        (sym (ap (λ (b : Bool). b || is_among others ssrc) absent) ∙ either)
 
     by_own : (b : Bool) → is_among (identifiers session) ssrc ≡ b → is_among (those_taken session datagram) ssrc ≡ true
     by_own true ours = among_left own (held ++ others) ssrc ours
-    by_own false other = among_right own (held ++ others) ssrc (by_table table refl (sym (ap (λ (b : Bool). b || (table || is_among others ssrc)) other) ∙ is))
+    by_own false other = among_right own (held ++ others) ssrc
+        (by_table table refl (sym (ap (λ (b : Bool). b || (table || is_among others ssrc)) other) ∙ is))
 
-among_is_member : (numbers : List ℕ) (number : ℕ) → is_among numbers number ≡ is_member (λ (a b : ℕ). a == b) numbers number
+among_is_member : (numbers : List ℕ) (number : ℕ) → is_among numbers number ≡ is_member (λ (a b : ℕ). a == b) numbers
+    number
 among_is_member numbers number = λ i. list_any (λ (other : ℕ). number_equality.symm other number i) numbers
 
 -- A new identifier is none of the participant's, none of the table's, and none that the datagram names.
-new_in_session : (session : Session) (datagram : Datagram) (word : ℕ) → session.setup.capacity ≤ 1024 → length session.changes ≤ most_changes → word < 2 ^ 32 → length (named_by datagram) < 2 ^ 31
+new_in_session : (session : Session) (datagram : Datagram) (word : ℕ) → session.setup.capacity ≤ 1024 →
+    length session.changes ≤ most_changes → word < 2 ^ 32 → length (named_by datagram) < 2 ^ 31
     → is_taken session datagram (new_identifier word session datagram) ≡ false
 new_in_session session datagram word small listed fits few =
-    chosen_is_free (most_taken session datagram) (is_taken session datagram) word (those_taken session datagram) fits (omega (arith, few, small)) (few_taken session datagram listed)
-    (λ number taken. sym (among_is_member (those_taken session datagram) number) ∙ taken_is_among session datagram number taken)
+    chosen_is_free (most_taken session datagram) (is_taken session datagram) word (those_taken session datagram) fits
+    (omega (arith, few, small)) (few_taken session datagram listed)
+    (λ number taken. sym (among_is_member (those_taken session datagram) number)
+    ∙ taken_is_among session datagram number taken)
 
-pub new_is_free : (history : History) (datagram : Datagram) (word : ℕ) → IsHistory history → word < 2 ^ 32 → length (named_by datagram) < 2 ^ 31 → is_taken (session_at history) datagram (new_identifier word (session_at history) datagram) ≡ false
+pub new_is_free : (history : History) (datagram : Datagram) (word : ℕ) → IsHistory history → word < 2 ^ 32 →
+    length (named_by datagram) < 2 ^ 31 →
+    is_taken (session_at history) datagram (new_identifier word (session_at history) datagram) ≡ false
 new_is_free history datagram word is fits few =
-    new_in_session (session_at history) datagram word (usable_in history.setup history.word history.acts is.usable).capacity.1 (few_listed history.setup history.word history.acts is.taken) fits few
+    new_in_session (session_at history) datagram word
+    (usable_in history.setup history.word history.acts is.usable).capacity.1
+    (few_listed history.setup history.word history.acts is.taken) fits few
 
 -- Fewer than 2^17 stand in the way, where a datagram names fewer than 2^16.
-pub few_are_taken : (history : History) (datagram : Datagram) → IsHistory history → length (named_by datagram) < 2 ^ 16 → most_taken (session_at history) datagram < 2 ^ 17
-few_are_taken history datagram is few = omega (arith, few, (usable_in history.setup history.word history.acts is.usable).capacity.1)
+pub few_are_taken : (history : History) (datagram : Datagram) → IsHistory history →
+    length (named_by datagram) < 2 ^ 16 → most_taken (session_at history) datagram < 2 ^ 17
+few_are_taken history datagram is few =
+    omega (arith, few, (usable_in history.setup history.word history.acts is.usable).capacity.1)

@@ -21,7 +21,8 @@ probation = refl
 -- 1 timed out, 2 left, 3 began to send, 4 stopped, 5 is on probation, 6 joined, 7 stays, and 8 joined and sends.
 all_kinds : changes
     (listed 1 Member ∷ listed 2 Sender ∷ listed 3 Member ∷ listed 4 Sender ∷ listed 6 Away ∷ listed 7 Member ∷ [])
-    (gone 2 ∷ listed 3 Sender ∷ listed 4 Member ∷ listed 5 Away ∷ listed 6 Member ∷ listed 7 Member ∷ listed 8 Sender ∷ [])
+    (gone 2 ∷ listed 3 Sender ∷ listed 4 Member ∷ listed 5 Away ∷ listed 6 Member ∷ listed 7 Member ∷ listed 8
+    Sender ∷ [])
     ≡ moved 1 Member Away ∷ record { ssrc = 2; was = Sender; is = Away; has_left = true } ∷ moved 3 Member Sender
     ∷ moved 4 Sender Member ∷ moved 6 Away Member ∷ moved 8 Away Sender ∷ []
 all_kinds = refl
@@ -34,5 +35,6 @@ held_and_dropped = refl
 equal : changes (listed 1 Member ∷ gone 2 ∷ []) (listed 1 Member ∷ gone 2 ∷ []) ≡ []
 equal = refl
 
-first_listing : changes [] (listed 1 Member ∷ gone 2 ∷ listed 9 Sender ∷ []) ≡ moved 1 Away Member ∷ moved 9 Away Sender ∷ []
+first_listing : changes [] (listed 1 Member ∷ gone 2 ∷ listed 9 Sender ∷ []) ≡ moved 1 Away Member ∷ moved 9 Away
+    Sender ∷ []
 first_listing = refl

@@ -23,7 +23,8 @@ use Rattle.rtcp_engine.proofs.Agreeing.{load, facts_agree, media_agree, sizes_ag
 
 -- ---- Steps one after the other
 
-pub both : {a b c : State} {f g : Setup → Outcome → Outcome} → Does a b f → Does b c g → Does a c (λ setup outcome. g setup (f setup outcome))
+pub both : {a b c : State} {f g : Setup → Outcome → Outcome} → Does a b f → Does b c g →
+    Does a c (λ setup outcome. g setup (f setup outcome))
 both {a} {b} {c} {f} {g} first second = record {
   stays = record {
     setup = second.stays.setup ∙ first.stays.setup;
@@ -31,26 +32,32 @@ both {a} {b} {c} {f} {g} first second = record {
     calls = second.stays.calls ∙ first.stays.calls;
   };
   within = second.within;
-  follows = λ outcome agrees. subst (λ (setup : Setup). Agrees c (g setup (f a.setup outcome))) first.stays.setup (second.follows (f a.setup outcome) (first.follows outcome agrees));
+  follows = λ outcome agrees. subst (λ (setup : Setup). Agrees c (g setup (f a.setup outcome))) first.stays.setup
+      (second.follows (f a.setup outcome) (first.follows outcome agrees));
 }
 
 -- the same, where the second step tells the moment of the latest call, which the first one leaves
-pub both_now : {a b c : State} {f : Setup → Outcome → Outcome} (g : (t : ℕ) → Setup → Outcome → Outcome) → Does a b f → Does b c (g b.latest) → Does a c (λ setup outcome. g a.latest setup (f setup outcome))
+pub both_now : {a b c : State} {f : Setup → Outcome → Outcome} (g : (t : ℕ) → Setup → Outcome → Outcome) → Does a b f →
+    Does b c (g b.latest) → Does a c (λ setup outcome. g a.latest setup (f setup outcome))
 both_now {a} {b} {c} {f} g first second = both first (subst (λ (t : ℕ). Does b c (g t)) first.stays.latest second)
 
 -- what is known at the moment of the latest call inside is known at that outside
 pub at_latest : {s w : State} → s ≡ w → (P : ℕ → Type 0) → P s.latest → P w.latest
 at_latest {s} {w} is P inside = subst (λ (x : State). P x.latest) is inside
 
-pub does_at : {s w v : State} → s ≡ w → (step : (t : ℕ) → Setup → Outcome → Outcome) → Does w v (step s.latest) → Does w v (step w.latest)
+pub does_at : {s w v : State} → s ≡ w → (step : (t : ℕ) → Setup → Outcome → Outcome) → Does w v (step s.latest) →
+    Does w v (step w.latest)
 does_at {s} {w} {v} is step = at_latest is (λ t. Does w v (step t))
 
 pub seen : {s w : State} → s ≡ w → (outcome : Outcome) → Agrees w outcome → Agrees s outcome
 seen {s} {w} is outcome agrees = subst (λ (x : State). Agrees x outcome) (sym is) agrees
 
 -- what is known of the numbers inside is known of those outside
-pub of_view : {A : Type 0} {s w : State} {a : A} → s ≡ w → (exact : Setup → Outcome → A) → ((outcome : Outcome) → Agrees s outcome → a ≡ exact s.setup outcome) → (outcome : Outcome) → Agrees w outcome → a ≡ exact w.setup outcome
-of_view {A} {s} {w} {a} is exact inside = subst (λ (x : State). (outcome : Outcome) → Agrees x outcome → a ≡ exact x.setup outcome) is inside
+pub of_view : {A : Type 0} {s w : State} {a : A} → s ≡ w → (exact : Setup → Outcome → A) →
+    ((outcome : Outcome) → Agrees s outcome → a ≡ exact s.setup outcome) → (outcome : Outcome) → Agrees w outcome →
+    a ≡ exact w.setup outcome
+of_view {A} {s} {w} {a} is exact inside = subst (λ (x : State). (outcome : Outcome) → Agrees x outcome →
+    a ≡ exact x.setup outcome) is inside
 
 pub stays_by : {s w v : State} → s ≡ w → v.setup ≡ s.setup → v.latest ≡ s.latest → v.calls ≡ s.calls → Stays w v
 stays_by {s} {w} {v} is setup latest calls = record {
@@ -67,7 +74,8 @@ with_timing timing s = record s { timing = timing }
 abbrev pub with_happening : Happening → Outcome → Outcome
 with_happening happening outcome = record outcome { happenings = happening ∷ outcome.happenings }
 
-happens : {s : State} {outcome : Outcome} → Agrees s outcome → (happening : Happening) (timing : Timing) → timing ≡ after happening s.timing → Agrees (with_timing timing s) (with_happening happening outcome)
+happens : {s : State} {outcome : Outcome} → Agrees s outcome → (happening : Happening) (timing : Timing) →
+    timing ≡ after happening s.timing → Agrees (with_timing timing s) (with_happening happening outcome)
 happens {s} {outcome} a happening timing is = record {
   table = a.table;
   capacity = a.capacity;
@@ -80,7 +88,8 @@ happens {s} {outcome} a happening timing is = record {
 }
 
 -- what happens to the schedule, and to nothing else
-pub schedules : {s w : State} → s ≡ w → (timing : Timing) (happening : Setup → Outcome → Happening) → ((outcome : Outcome) → Agrees w outcome → timing ≡ after (happening w.setup outcome) s.timing) → KeepsCapacity s
+pub schedules : {s w : State} → s ≡ w → (timing : Timing) (happening : Setup → Outcome → Happening) →
+    ((outcome : Outcome) → Agrees w outcome → timing ≡ after (happening w.setup outcome) s.timing) → KeepsCapacity s
     → Does w (with_timing timing s) (λ setup outcome. with_happening (happening setup outcome) outcome)
 schedules {s} {w} is timing happening steps within = record {
   stays = stays_by is refl refl refl;
@@ -95,14 +104,19 @@ IsInterval w td = (outcome : Outcome) → Agrees w outcome → td ≡ interval_a
 abbrev pub AreMembers : State → ℕ → Type 0
 AreMembers w members = (outcome : Outcome) → Agrees w outcome → members ≡ member_count w.setup outcome
 
-pub draws : {s w : State} → s ≡ w → (timing : Timing) (happening : ℕ → ℕ → Happening) (word td members : ℕ) → IsInterval w td → AreMembers w members
+pub draws : {s w : State} → s ≡ w → (timing : Timing) (happening : ℕ → ℕ → Happening) (word td members : ℕ) →
+    IsInterval w td → AreMembers w members
     → timing ≡ after (happening (drawn_interval td word) members) s.timing → KeepsCapacity s
-    → Does w (with_timing timing s) (λ setup outcome. with_happening (happening (drawn_interval (interval_at setup outcome) word) (member_count setup outcome)) outcome)
+    → Does w (with_timing timing s)
+    (λ setup outcome. with_happening
+    (happening (drawn_interval (interval_at setup outcome) word) (member_count setup outcome)) outcome)
 draws {s} {w} is timing happening word td members interval counts steps within =
-    schedules is timing (λ setup outcome. happening (drawn_interval (interval_at setup outcome) word) (member_count setup outcome))
+    schedules is timing (λ setup outcome. happening (drawn_interval (interval_at setup outcome) word)
+    (member_count setup outcome))
     (λ outcome a. steps
     ∙ ap (λ (d : ℕ). after (happening (drawn_interval d word) members) s.timing) (interval outcome a)
-    ∙ ap (λ (m : ℕ). after (happening (drawn_interval (interval_at w.setup outcome) word) m) s.timing) (counts outcome a))
+    ∙ ap (λ (m : ℕ). after (happening (drawn_interval (interval_at w.setup outcome) word) m) s.timing)
+    (counts outcome a))
     within
 
 -- ---- Whether a report is due
@@ -111,7 +125,8 @@ come_by : {s : State} {outcome : Outcome} → Agrees s outcome → (t : ℕ) →
 come_by {s} {outcome} a t = ap (λ (x : Timing). nat_le x.next t) (sym a.timing)
 
 pub tries : {s w : State} → s ≡ w → (timing : Timing) (t word td members : ℕ) → IsInterval w td → AreMembers w members
-    → (t < s.timing.next → timing ≡ s.timing) → (s.timing.next ≤ t → timing ≡ after (tried t (drawn_interval td word) members) s.timing) → KeepsCapacity s
+    → (t < s.timing.next → timing ≡ s.timing) →
+    (s.timing.next ≤ t → timing ≡ after (tried t (drawn_interval td word) members) s.timing) → KeepsCapacity s
     → Does w (with_timing timing s) (λ setup. tried_at setup t word)
 tries {s} {w} is timing t word td members interval counts unchanged steps within = record {
   stays = stays_by is refl refl refl;
@@ -125,27 +140,35 @@ tries {s} {w} is timing t word td members interval counts unchanged steps within
             (subst (λ (x : Timing). Agrees (with_timing x s) outcome) (sym (unchanged early)) (seen is outcome a))
         | inr late ↦
             subst (λ (b : Bool). Agrees (with_timing timing s) (to b)) (sym (come ∙ le-leb s.timing.next t late))
-            ((draws is timing (λ interval many. tried t interval many) word td members interval counts (steps late) within).follows outcome a)
+            ((draws is timing (λ interval many. tried t interval many) word td members interval counts (steps late)
+            within).follows outcome a)
       ];
 }
 
-pub due_by : {s w : State} → s ≡ w → (t word td : ℕ) → IsInterval w td → (outcome : Outcome) → Agrees w outcome → (nat_le s.timing.next t && nat_le (s.timing.last + drawn_interval td word) t) ≡ is_report_due w.setup t word outcome
+pub due_by : {s w : State} → s ≡ w → (t word td : ℕ) → IsInterval w td → (outcome : Outcome) → Agrees w outcome →
+    (nat_le s.timing.next t && nat_le (s.timing.last + drawn_interval td word) t) ≡ is_report_due w.setup t word outcome
 due_by {s} {w} is t word td interval outcome a =
-    ap (λ (x : Timing). nat_le x.next t && nat_le (x.last + drawn_interval td word) t) (ap (λ (x : State). x.timing) is ∙ a.timing)
-    ∙ ap (λ (d : ℕ). has_come t outcome && nat_le ((timing_of outcome).last + drawn_interval d word) t) (interval outcome a)
+    ap (λ (x : Timing). nat_le x.next t && nat_le (x.last + drawn_interval td word) t)
+    (ap (λ (x : State). x.timing) is ∙ a.timing)
+    ∙ ap (λ (d : ℕ). has_come t outcome && nat_le ((timing_of outcome).last + drawn_interval d word) t)
+    (interval outcome a)
 
 -- where no report is due, asking has made all of the tick
-undue : (setup : Setup) (t first_word second_word : ℕ) (outcome : Outcome) (come passed : Bool) → (come && passed) ≡ false
+undue : (setup : Setup) (t first_word second_word : ℕ) (outcome : Outcome) (come passed : Bool) →
+    (come && passed) ≡ false
     → (if come then put_off setup t first_word outcome else outcome)
-    ≡ (if come then (if passed then reported setup t second_word outcome else put_off setup t first_word outcome) else outcome)
+    ≡ (if come then (if passed then reported setup t second_word outcome else put_off setup t first_word outcome) else
+    outcome)
 undue setup t first_word second_word outcome true true h = absurd cc
 undue setup t first_word second_word outcome true false h = refl
 undue setup t first_word second_word outcome false passed h = refl
 
 -- a report leaves nothing of the schedule before it
-due : (s : State) (setup : Setup) (t first_word second_word : ℕ) (outcome : Outcome) (come passed : Bool) → (come && passed) ≡ true
+due : (s : State) (setup : Setup) (t first_word second_word : ℕ) (outcome : Outcome) (come passed : Bool) →
+    (come && passed) ≡ true
     → Agrees s (reported setup t second_word (if come then put_off setup t first_word outcome else outcome))
-    → Agrees s (if come then (if passed then reported setup t second_word outcome else put_off setup t first_word outcome) else outcome)
+    → Agrees s (if come then (if passed then reported setup t second_word outcome else put_off setup t first_word
+    outcome) else outcome)
 due s setup t first_word second_word outcome true true h a = record {
   table = a.table;
   capacity = a.capacity;
@@ -161,7 +184,8 @@ due s setup t first_word second_word outcome false passed h a = absurd cc
 
 -- ---- Checks
 
-checks_agree : (s : State) (outcome : Outcome) (horizons : Horizons) (own : OwnValue) → Adds s.own own (check_passed horizons.idle) → Agrees s outcome
+checks_agree : (s : State) (outcome : Outcome) (horizons : Horizons) (own : OwnValue) →
+    Adds s.own own (check_passed horizons.idle) → Agrees s outcome
     → Agrees (record s { table = after_check horizons s.table; own = own }) (with_check horizons outcome)
 checks_agree s outcome horizons own adds a =
     let kept = tables.bounds_are_kept-check s.table horizons in
@@ -179,20 +203,26 @@ checks_agree s outcome horizons own adds a =
 abbrev pub IsReceiverInterval : State → ℕ → Type 0
 IsReceiverInterval w td = (outcome : Outcome) → Agrees w outcome → td ≡ receiver_interval_at w.setup outcome
 
-pub drops : {s w : State} → s ≡ w → (table : TableValue) (own : OwnValue) (t td : ℕ) → IsReceiverInterval w td → table ≡ after_check (horizons_of t td) s.table → Adds s.own own (check_passed (t - 2 * td))
-    → KeepsCapacity (record s { table = table; own = own }) → Does w (record s { table = table; own = own }) (λ setup. without_silent setup t)
+pub drops : {s w : State} → s ≡ w → (table : TableValue) (own : OwnValue) (t td : ℕ) → IsReceiverInterval w td →
+    table ≡ after_check (horizons_of t td) s.table → Adds s.own own (check_passed (t - 2 * td))
+    → KeepsCapacity (record s { table = table; own = own }) →
+    Does w (record s { table = table; own = own }) (λ setup. without_silent setup t)
 drops {s} {w} is table own t td interval table_is adds within =
     let new : State = record s { table = table; own = own } in
     record {
       stays = stays_by is refl refl refl;
       within = within;
       follows = λ outcome a. subst (λ (d : ℕ). Agrees new (with_check (horizons_of t d) outcome)) (interval outcome a)
-          (subst (λ (x : TableValue). Agrees (record s { table = x; own = own }) (with_check (horizons_of t td) outcome)) (sym table_is) (checks_agree s outcome (horizons_of t td) own adds (seen is outcome a)));
+          (subst (λ (x : TableValue). Agrees (record s { table = x; own = own })
+          (with_check (horizons_of t td) outcome)) (sym table_is)
+          (checks_agree s outcome (horizons_of t td) own adds (seen is outcome a)));
     }
 
 -- ---- Sent packets
 
-pub sends : {s w : State} → s ≡ w → (own : OwnValue) (t timestamp octets : ℕ) → Adds s.own own (packet_sent t timestamp octets) → KeepsCapacity s → Does w (record s { own = own }) (λ setup. with_packet t timestamp octets)
+pub sends : {s w : State} → s ≡ w → (own : OwnValue) (t timestamp octets : ℕ) →
+    Adds s.own own (packet_sent t timestamp octets) → KeepsCapacity s →
+    Does w (record s { own = own }) (λ setup. with_packet t timestamp octets)
 sends {s} {w} is own t timestamp octets adds within = record {
   stays = stays_by is refl refl refl;
   within = within;
@@ -212,94 +242,154 @@ sends {s} {w} is own t timestamp octets adds within = record {
 
 -- ---- Reports
 
-pub octets_of : {s w : State} → s ≡ w → (t : ℕ) (outcome : Outcome) → Agrees w outcome → octets_in t s ≡ report_octets w.setup t outcome
+pub octets_of : {s w : State} → s ≡ w → (t : ℕ) (outcome : Outcome) → Agrees w outcome →
+    octets_in t s ≡ report_octets w.setup t outcome
 octets_of {s} {w} is t outcome a = ap (octets_in t) is ∙ octets_agree w outcome t a
 
-pub makes : {s w : State} → s ≡ w → (t : ℕ) (table : TableValue) (average : ℕ) (own : OwnValue) (cursor : Option ℕ) → table ≡ after_blocks (rows_in t s) s.table → average ≡ moved_average s.average (length (octets_in t s))
-    → Adds s.own own report_sent → cursor ≡ last_reported s.cursor (rows_in t s) → KeepsCapacity (record s { table = table })
-    → Does w (record s { table = table; average = average; own = own; cursor = cursor; reports = s.reports + 1 }) (λ setup. with_report setup t)
+pub makes : {s w : State} → s ≡ w → (t : ℕ) (table : TableValue) (average : ℕ) (own : OwnValue) (cursor : Option ℕ) →
+    table ≡ after_blocks (rows_in t s) s.table → average ≡ moved_average s.average (length (octets_in t s))
+    → Adds s.own own report_sent → cursor ≡ last_reported s.cursor (rows_in t s) →
+    KeepsCapacity (record s { table = table })
+    → Does w (record s { table = table; average = average; own = own; cursor = cursor; reports = s.reports + 1 })
+    (λ setup. with_report setup t)
 makes {s} {w} is t table average own cursor table_is average_is adds cursor_is within =
-    let new : State = record s { table = table; average = average; own = own; cursor = cursor; reports = s.reports + 1 } in
-    let same : new ≡ record s { table = after_blocks (rows_in t s) s.table; average = moved_average s.average (length (octets_in t s)); own = own; cursor = last_reported s.cursor (rows_in t s); reports = s.reports + 1 } =
-    λ i. record s { table = table_is i; average = average_is i; own = own; cursor = cursor_is i; reports = s.reports + 1 } in
+    let new : State = record s {
+      table = table;
+      average = average;
+      own = own;
+      cursor = cursor;
+      reports = s.reports + 1;
+    } in
+    let same : new ≡ record s {
+      table = after_blocks (rows_in t s) s.table;
+      average = moved_average s.average (length (octets_in t s));
+      own = own;
+      cursor = last_reported s.cursor (rows_in t s);
+      reports = s.reports + 1;
+    } =
+    λ i. record s {
+      table = table_is i;
+      average = average_is i;
+      own = own;
+      cursor = cursor_is i;
+      reports = s.reports + 1;
+    } in
     subst (λ (x : State). Does x new (λ setup. with_report setup t)) is
-    (record { stays = record { setup = refl; latest = refl; calls = refl }; within = within; follows = λ outcome a. subst (λ (x : State). Agrees x (with_report s.setup t outcome)) (sym same) (sent_reports_agree s outcome t own adds a) })
+    (record {
+      stays = record { setup = refl; latest = refl; calls = refl };
+      within = within;
+      follows = λ outcome a. subst (λ (x : State). Agrees x (with_report s.setup t outcome)) (sym same)
+          (sent_reports_agree s outcome t own adds a);
+    })
 
 -- a report is due, or none is, whatever the outcome is that the numbers agree with
 abbrev pub IsDueBy : State → (t word : ℕ) → Bool → Type 0
 IsDueBy w t word is_due = (outcome : Outcome) → Agrees w outcome → is_due ≡ is_report_due w.setup t word outcome
 
-pub puts_off : {w v : State} (t first_word second_word : ℕ) → IsDueBy w t first_word false → Does w v (λ setup. tried_at setup t first_word) → Does w v (λ setup. after_check_at setup t first_word second_word)
+pub puts_off : {w v : State} (t first_word second_word : ℕ) → IsDueBy w t first_word false →
+    Does w v (λ setup. tried_at setup t first_word) → Does w v (λ setup. after_check_at setup t first_word second_word)
 puts_off {w} {v} t first_word second_word none before = record {
   stays = before.stays;
   within = before.within;
-  follows = λ outcome a. subst (Agrees v) (undue w.setup t first_word second_word outcome (has_come t outcome) (has_passed w.setup t first_word outcome) (sym (none outcome a))) (before.follows outcome a);
+  follows = λ outcome a. subst (Agrees v)
+      (undue w.setup t first_word second_word outcome (has_come t outcome) (has_passed w.setup t first_word outcome)
+      (sym (none outcome a))) (before.follows outcome a);
 }
 
-pub reports_now : {w v u : State} (first_word second_word : ℕ) → IsDueBy w w.latest first_word true → Does w v (λ setup. tried_at setup w.latest first_word) → Does v u (λ setup. reported setup v.latest second_word)
+pub reports_now : {w v u : State} (first_word second_word : ℕ) → IsDueBy w w.latest first_word true →
+    Does w v (λ setup. tried_at setup w.latest first_word) → Does v u (λ setup. reported setup v.latest second_word)
     → Does w u (λ setup. after_check_at setup w.latest first_word second_word)
 reports_now {w} {v} {u} first_word second_word is_due before sent =
     let t = w.latest in
     let whole = both_now (λ t setup. reported setup t second_word) before sent in record {
       stays = whole.stays;
       within = whole.within;
-      follows = λ outcome a. due u w.setup t first_word second_word outcome (has_come t outcome) (has_passed w.setup t first_word outcome) (sym (is_due outcome a)) (whole.follows outcome a);
+      follows = λ outcome a. due u w.setup t first_word second_word outcome (has_come t outcome)
+          (has_passed w.setup t first_word outcome) (sym (is_due outcome a)) (whole.follows outcome a);
     }
 
-same_octets : (setup : Setup) (t word : ℕ) (outcome : Outcome) (come : Bool) → report_octets setup t (if come then put_off setup t word outcome else outcome) ≡ report_octets setup t outcome
+same_octets : (setup : Setup) (t word : ℕ) (outcome : Outcome) (come : Bool) →
+    report_octets setup t (if come then put_off setup t word outcome else outcome) ≡ report_octets setup t outcome
 same_octets setup t word outcome true = refl
 same_octets setup t word outcome false = refl
 
-pub hands_out : {w v : State} (word : ℕ) (octets : List ℕ) → IsDueBy w w.latest word true → Does w v (λ setup. tried_at setup w.latest word) → ((outcome : Outcome) → Agrees v outcome → octets ≡ report_octets v.setup v.latest outcome)
+pub hands_out : {w v : State} (word : ℕ) (octets : List ℕ) → IsDueBy w w.latest word true →
+    Does w v (λ setup. tried_at setup w.latest word) →
+    ((outcome : Outcome) → Agrees v outcome → octets ≡ report_octets v.setup v.latest outcome)
     → (outcome : Outcome) → Agrees w outcome → Some octets ≡ report_due w.setup w.latest word outcome
 hands_out {w} {v} word octets is_due before made outcome a =
     let t = w.latest in
     let tried_outcome = tried_at w.setup t word outcome in
-    ap Some (made tried_outcome (before.follows outcome a) ∙ (λ i. report_octets (before.stays.setup i) (before.stays.latest i) tried_outcome) ∙ same_octets w.setup t word outcome (has_come t outcome))
+    ap Some (made tried_outcome (before.follows outcome a)
+    ∙ (λ i. report_octets (before.stays.setup i) (before.stays.latest i) tried_outcome)
+    ∙ same_octets w.setup t word outcome (has_come t outcome))
     ∙ ap (λ (b : Bool). if b then Some (report_octets w.setup t outcome) else None) (is_due outcome a)
 
 -- ---- Datagrams
 
-pub takes_facts : {s w : State} → s ≡ w → (t size : ℕ) (packets : List RtcpPacket) (table : TableValue) (average : ℕ) → table ≡ after_facts (facts_of packets) t s.table → average ≡ moved_average s.average size
-    → KeepsCapacity (record s { table = table }) → Does w (record s { table = table; average = average }) (λ setup. with_facts_of t size packets)
+pub takes_facts : {s w : State} → s ≡ w → (t size : ℕ) (packets : List RtcpPacket) (table : TableValue) (average : ℕ) →
+    table ≡ after_facts (facts_of packets) t s.table → average ≡ moved_average s.average size
+    → KeepsCapacity (record s { table = table }) → Does w (record s { table = table; average = average })
+    (λ setup. with_facts_of t size packets)
 takes_facts {s} {w} is t size packets table average table_is average_is within = record {
   stays = stays_by is refl refl refl;
   within = within;
   follows = λ outcome a.
-      let same : record s { table = table; average = average } ≡ record s { table = after_facts (facts_of packets) t s.table; average = moved_average s.average size } = λ i. record s { table = table_is i; average = average_is i } in
-      subst (λ (x : State). Agrees x (with_facts_of t size packets outcome)) (sym same) (sizes_agree _ _ size (facts_agree s outcome (facts_of packets) t (seen is outcome a)));
+      let same : record s { table = table; average = average }
+      ≡ record s { table = after_facts (facts_of packets) t s.table; average = moved_average s.average size } =
+      λ i. record s { table = table_is i; average = average_is i } in
+      subst (λ (x : State). Agrees x (with_facts_of t size packets outcome)) (sym same)
+      (sizes_agree _ _ size (facts_agree s outcome (facts_of packets) t (seen is outcome a)));
 }
 
-pub takes_media : {s w : State} → s ≡ w → (t : ℕ) (head : RtpValue) (table : TableValue) → table ≡ after_facts (facts_of_media s.setup.ssrc head (counted s.table (media_fact head))) t s.table
-    → KeepsCapacity (record s { table = table }) → Does w (record s { table = table }) (λ setup. with_media setup t head)
+pub takes_media : {s w : State} → s ≡ w → (t : ℕ) (head : RtpValue) (table : TableValue) →
+    table ≡ after_facts (facts_of_media s.setup.ssrc head (counted s.table (media_fact head))) t s.table
+    → KeepsCapacity (record s { table = table }) →
+    Does w (record s { table = table }) (λ setup. with_media setup t head)
 takes_media {s} {w} is t head table table_is within =
     subst (λ (x : State). Does x (record s { table = table }) (λ setup. with_media setup t head)) is
     (record {
       stays = record { setup = refl; latest = refl; calls = refl };
       within = within;
-      follows = λ outcome a. subst (λ (x : TableValue). Agrees (record s { table = x }) (with_media s.setup t head outcome)) (sym table_is) (media_agree s outcome t head a);
+      follows = λ outcome a. subst (λ (x : TableValue). Agrees (record s { table = x })
+          (with_media s.setup t head outcome)) (sym table_is) (media_agree s outcome t head a);
     })
 
 -- ---- Backing off
 
 -- an interval is that of each backoff with so many members
 abbrev pub IsWaitingInterval : State → (members td : ℕ) → Type 0
-IsWaitingInterval w members td = (outcome : Outcome) (backoff : Backoff) → Waits w outcome backoff → members ≡ leaving_count backoff → td ≡ leaving_interval w.setup backoff
+IsWaitingInterval w members td = (outcome : Outcome) (backoff : Backoff) → Waits w outcome backoff →
+    members ≡ leaving_count backoff → td ≡ leaving_interval w.setup backoff
 
-pub waits_there : {s w : State} → s ≡ w → (outcome : Outcome) (backoff : Backoff) → Waits w outcome backoff → Waits s outcome backoff
+pub waits_there : {s w : State} → s ≡ w → (outcome : Outcome) (backoff : Backoff) → Waits w outcome backoff →
+    Waits s outcome backoff
 waits_there {s} {w} is outcome backoff h = subst (λ (x : State). Waits x outcome backoff) (sym is) h
 
-with_numbers : {s : State} {outcome : Outcome} (timing : Timing) (average : ℕ) → StandsStill s outcome → StandsStill (record s { timing = timing; average = average }) outcome
-with_numbers {s} {outcome} timing average still = record { table = still.table; capacity = still.capacity; rate = still.rate; own = still.own; cursor = still.cursor; reports = still.reports }
+with_numbers : {s : State} {outcome : Outcome} (timing : Timing) (average : ℕ) → StandsStill s outcome →
+    StandsStill (record s { timing = timing; average = average }) outcome
+with_numbers {s} {outcome} timing average still =
+    record {
+      table = still.table;
+      capacity = still.capacity;
+      rate = still.rate;
+      own = still.own;
+      cursor = still.cursor;
+      reports = still.reports;
+    }
 
-pub bye_due_by : {s w : State} → s ≡ w → (t word td members : ℕ) → IsWaitingInterval w members td → (outcome : Outcome) (backoff : Backoff) → Waits w outcome backoff → members ≡ leaving_count backoff
+pub bye_due_by : {s w : State} → s ≡ w → (t word td members : ℕ) → IsWaitingInterval w members td →
+    (outcome : Outcome) (backoff : Backoff) → Waits w outcome backoff → members ≡ leaving_count backoff
     → (nat_le s.timing.next t && nat_le (s.timing.last + drawn_interval td word) t) ≡ is_bye_due w.setup t word backoff
 bye_due_by {s} {w} is t word td members interval outcome backoff h count =
-    ap (λ (x : Timing). nat_le x.next t && nat_le (x.last + drawn_interval td word) t) (ap (λ (x : State). x.timing) is ∙ h.timing)
-    ∙ ap (λ (d : ℕ). nat_le (leaving_timing backoff).next t && nat_le ((leaving_timing backoff).last + drawn_interval d word) t) (interval outcome backoff h count)
+    ap (λ (x : Timing). nat_le x.next t && nat_le (x.last + drawn_interval td word) t)
+    (ap (λ (x : State). x.timing) is ∙ h.timing)
+    ∙ ap (λ (d : ℕ). nat_le (leaving_timing backoff).next t && nat_le
+    ((leaving_timing backoff).last + drawn_interval d word) t) (interval outcome backoff h count)
 
 pub waits_on : {s w : State} → s ≡ w → (timing : Timing) (t word td members : ℕ) → IsWaitingInterval w members td
-    → (t < s.timing.next → timing ≡ s.timing) → (s.timing.next ≤ t → timing ≡ after (tried t (drawn_interval td word) members) s.timing) → KeepsCapacity s
+    → (t < s.timing.next → timing ≡ s.timing) →
+    (s.timing.next ≤ t → timing ≡ after (tried t (drawn_interval td word) members) s.timing) → KeepsCapacity s
     → DoesWaiting members w (with_timing timing s) (λ setup. after_wait setup t word)
 waits_on {s} {w} is timing t word td members interval unchanged steps within = record {
   stays = stays_by is refl refl refl;
@@ -308,17 +398,25 @@ waits_on {s} {w} is timing t word td members interval unchanged steps within = r
       let at = waits_there is outcome backoff h in
       let come = ap (λ (x : Timing). nat_le x.next t) (sym at.timing) in
       let happening = tried t (drawn_interval (leaving_interval w.setup backoff) word) (leaving_count backoff) in
-      let to : Bool → Backoff = λ b. if b then record backoff { happenings = happening ∷ backoff.happenings } else backoff in
+      let to : Bool → Backoff = λ b. if b then record backoff { happenings = happening ∷ backoff.happenings } else
+      backoff in
       elim (cases_lt t s.timing.next) [
         | inl early ↦
-            subst (λ (b : Bool). Waits (with_timing timing s) outcome (to b)) (sym (come ∙ lt-leb s.timing.next t early))
-            (record { timing = unchanged early ∙ at.timing; average = at.average; still = with_numbers timing s.average at.still })
+            subst (λ (b : Bool). Waits (with_timing timing s) outcome (to b))
+            (sym (come ∙ lt-leb s.timing.next t early))
+            (record {
+              timing = unchanged early ∙ at.timing;
+              average = at.average;
+              still = with_numbers timing s.average at.still;
+            })
         | inr late ↦
             subst (λ (b : Bool). Waits (with_timing timing s) outcome (to b)) (sym (come ∙ le-leb s.timing.next t late))
             (record {
               timing = steps late
-                  ∙ ap (λ (d : ℕ). after (tried t (drawn_interval d word) members) s.timing) (interval outcome backoff h count)
-                  ∙ ap (λ (m : ℕ). after (tried t (drawn_interval (leaving_interval w.setup backoff) word) m) s.timing) count
+                  ∙ ap (λ (d : ℕ). after (tried t (drawn_interval d word) members) s.timing)
+                  (interval outcome backoff h count)
+                  ∙ ap (λ (m : ℕ). after (tried t (drawn_interval (leaving_interval w.setup backoff) word) m) s.timing)
+                  count
                   ∙ ap (after happening) at.timing;
               average = at.average;
               still = with_numbers timing s.average at.still;
@@ -326,10 +424,13 @@ waits_on {s} {w} is timing t word td members interval unchanged steps within = r
       ];
 }
 
-pub waiting_at : {s w v : State} {members : ℕ} → s ≡ w → (step : (t : ℕ) → Setup → Backoff → Backoff) → DoesWaiting members w v (step s.latest) → DoesWaiting members w v (step w.latest)
+pub waiting_at : {s w v : State} {members : ℕ} → s ≡ w → (step : (t : ℕ) → Setup → Backoff → Backoff) →
+    DoesWaiting members w v (step s.latest) → DoesWaiting members w v (step w.latest)
 waiting_at {s} {w} {v} {members} is step = at_latest is (λ t. DoesWaiting members w v (step t))
 
-pub hears : {s w : State} → s ≡ w → (average size : ℕ) → average ≡ moved_average s.average size → (outcome : Outcome) (backoff : Backoff) (byes : ℕ) → Waits w outcome backoff → Waits (record s { average = average }) outcome (with_farewell_of byes size backoff)
+pub hears : {s w : State} → s ≡ w → (average size : ℕ) → average ≡ moved_average s.average size →
+    (outcome : Outcome) (backoff : Backoff) (byes : ℕ) → Waits w outcome backoff →
+    Waits (record s { average = average }) outcome (with_farewell_of byes size backoff)
 hears {s} {w} is average size average_is outcome backoff byes h =
     let at = waits_there is outcome backoff h in
     record {
@@ -342,24 +443,52 @@ hears {s} {w} is average size average_is outcome backoff byes h =
 abbrev pub unstarted : (t : ℕ) → Outcome → Backoff
 unstarted t outcome = record { since = t; farewells = []; happenings = outcome.happenings }
 
-pub waits_first : {s w : State} → s ≡ w → (average t : ℕ) → average ≡ leaving_average s.setup [] → (outcome : Outcome) → Agrees w outcome → Waits (record s { average = average }) outcome (unstarted t outcome)
+pub waits_first : {s w : State} → s ≡ w → (average t : ℕ) → average ≡ leaving_average s.setup [] → (outcome : Outcome) →
+    Agrees w outcome → Waits (record s { average = average }) outcome (unstarted t outcome)
 waits_first {s} {w} is average t average_is outcome agrees =
     let a = seen is outcome agrees in
-    record { timing = a.timing; average = average_is; still = record { table = a.table; capacity = a.capacity; rate = a.rate; own = a.own; cursor = a.cursor; reports = a.reports } }
+    record {
+      timing = a.timing;
+      average = average_is;
+      still = record {
+        table = a.table;
+        capacity = a.capacity;
+        rate = a.rate;
+        own = a.own;
+        cursor = a.cursor;
+        reports = a.reports;
+      };
+    }
 
-pub backs_off : {s w : State} → s ≡ w → (average word td : ℕ) (timing : Timing) → average ≡ leaving_average s.setup [] → IsWaitingInterval (record s { average = average }) 1 td → timing ≡ after (transmitted s.latest (drawn_interval td word) 1) s.timing
-    → (outcome : Outcome) → Agrees w outcome → Waits (record s { average = average; timing = timing }) outcome (backoff_from w.setup w.latest word outcome)
+pub backs_off : {s w : State} → s ≡ w → (average word td : ℕ) (timing : Timing) → average ≡ leaving_average s.setup [] →
+    IsWaitingInterval (record s { average = average }) 1 td →
+    timing ≡ after (transmitted s.latest (drawn_interval td word) 1) s.timing
+    → (outcome : Outcome) → Agrees w outcome → Waits (record s { average = average; timing = timing }) outcome
+    (backoff_from w.setup w.latest word outcome)
 backs_off {s} {w} is average word td timing average_is interval steps =
     let new : State = record s { average = average; timing = timing } in
-    subst (λ (x : State). (outcome : Outcome) → Agrees x outcome → Waits new outcome (backoff_from x.setup x.latest word outcome)) is
+    subst (λ (x : State). (outcome : Outcome) → Agrees x outcome →
+    Waits new outcome (backoff_from x.setup x.latest word outcome)) is
     (λ outcome a. record {
-      timing = steps ∙ ap (λ (d : ℕ). after (transmitted s.latest (drawn_interval d word) 1) s.timing) (interval outcome (unstarted s.latest outcome) (waits_first {s = s} refl average s.latest average_is outcome a) refl);
+      timing = steps ∙ ap (λ (d : ℕ). after (transmitted s.latest (drawn_interval d word) 1) s.timing)
+          (interval outcome (unstarted s.latest outcome)
+          (waits_first {s = s} refl average s.latest average_is outcome a) refl);
       average = average_is;
-      still = record { table = a.table; capacity = a.capacity; rate = a.rate; own = a.own; cursor = a.cursor; reports = a.reports };
+      still = record {
+        table = a.table;
+        capacity = a.capacity;
+        rate = a.rate;
+        own = a.own;
+        cursor = a.cursor;
+        reports = a.reports;
+      };
     })
 
-pub waiting_load : {s w : State} → s ≡ w → (members avg : ℕ) → avg ≡ s.average → (outcome : Outcome) (backoff : Backoff) → Waits w outcome backoff
-    → load members 0 false true avg s.setup.sender_bw s.setup.receiver_bw ≡ leaving_load w.setup members backoff.farewells
+pub waiting_load : {s w : State} → s ≡ w → (members avg : ℕ) → avg ≡ s.average →
+    (outcome : Outcome) (backoff : Backoff) → Waits w outcome backoff
+    → load members 0 false true avg s.setup.sender_bw s.setup.receiver_bw ≡ leaving_load w.setup members
+    backoff.farewells
 waiting_load {s} {w} is members avg same outcome backoff h =
     let at = waits_there is outcome backoff h in
-    ap (λ (a : ℕ). load members 0 false true a s.setup.sender_bw s.setup.receiver_bw) (same ∙ at.average) ∙ ap (λ (x : State). leaving_load x.setup members backoff.farewells) is
+    ap (λ (a : ℕ). load members 0 false true a s.setup.sender_bw s.setup.receiver_bw) (same ∙ at.average)
+    ∙ ap (λ (x : State). leaving_load x.setup members backoff.farewells) is

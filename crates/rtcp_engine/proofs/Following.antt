@@ -15,12 +15,15 @@ use Rattle.rtcp_engine.specs.Refusals.{refusal_after}
 use Rattle.rtcp_engine.specs.Answers.{followed_by}
 use Rattle.rtcp_engine.specs.Taken.{HasWords, NamesFew, IsHistory}
 
-by_refusal : (history : History) (act : Act) (refusal : Option Refusal) → refusal_after history act ≡ refusal → HasWords act → IsHistory history
+by_refusal : (history : History) (act : Act) (refusal : Option Refusal) → refusal_after history act ≡ refusal →
+    HasWords act → IsHistory history
     → IsHistory (elim refusal [ None ↦ with_act history act | Some reason ↦ history ])
-by_refusal history act None none words is = record { usable = is.usable; word = is.word; taken = (none, words, is.taken) }
+by_refusal history act None none words is =
+    record { usable = is.usable; word = is.word; taken = (none, words, is.taken) }
 by_refusal history act (Some reason) some words is = is
 
-pub is_history_after : (history : History) (act : Act) → HasWords act → IsHistory history → IsHistory (followed_by history act)
+pub is_history_after : (history : History) (act : Act) → HasWords act → IsHistory history →
+    IsHistory (followed_by history act)
 is_history_after history act words is = by_refusal history act (refusal_after history act) refl words is
 
 -- ---- What octets name
@@ -29,16 +32,25 @@ subjects_counted : (facts : List Fact) → length (map subject facts) ≡ length
 subjects_counted [] = refl
 subjects_counted (fact ∷ facts) = ap suc (subjects_counted facts)
 
-pub few_named : (octets : List ℕ) (packets : List RtcpPacket) → IsAccepted octets packets → length (map subject (facts_of packets)) < 2 ^ 16
-few_named octets packets is = omega (arith, facts_are_few octets packets is, is.short, subjects_counted (facts_of packets))
+pub few_named : (octets : List ℕ) (packets : List RtcpPacket) → IsAccepted octets packets →
+    length (map subject (facts_of packets)) < 2 ^ 16
+few_named octets packets is = omega (
+  arith,
+  facts_are_few octets packets is,
+  is.short,
+  subjects_counted (facts_of packets),
+)
 
 pub few_in_head : (octets : List ℕ) (head : RtpValue) → IsRtpHead octets head → length (head.ssrc ∷ head.csrcs) < 2 ^ 16
 few_in_head octets head is = omega (arith, is.counted)
 
-pub reading_names_few : (octets : List ℕ) (size : ℕ) (reading : Result (List RtcpPacket) WireFault) → IsReading octets reading → NamesFew (rtcp size reading)
-reading_names_few octets size (Ok packets) is = omega (arith, facts_are_few octets packets is, is.short, subjects_counted (facts_of packets))
+pub reading_names_few : (octets : List ℕ) (size : ℕ) (reading : Result (List RtcpPacket) WireFault) →
+    IsReading octets reading → NamesFew (rtcp size reading)
+reading_names_few octets size (Ok packets) is =
+    omega (arith, facts_are_few octets packets is, is.short, subjects_counted (facts_of packets))
 reading_names_few octets size (Err fault) is = omega arith
 
-pub head_names_few : (octets : List ℕ) (reading : Result RtpValue RtpFault) → IsRtpReading octets reading → NamesFew (rtp reading)
+pub head_names_few : (octets : List ℕ) (reading : Result RtpValue RtpFault) → IsRtpReading octets reading →
+    NamesFew (rtp reading)
 head_names_few octets (Ok head) is = omega (arith, is.counted)
 head_names_few octets (Err fault) is = omega arith

@@ -54,42 +54,60 @@ blocks_go_on (row ∷ rows) trace = one_sooner (blocks_go_on rows (block_taken r
 
 -- ---- One that takes part
 
-report_goes_on : (setup : Setup) (t first_word second_word : ℕ) (outcome : Outcome) → GoesOn outcome.trace (after_check setup t first_word second_word outcome).trace
+report_goes_on : (setup : Setup) (t first_word second_word : ℕ) (outcome : Outcome) →
+    GoesOn outcome.trace (after_check setup t first_word second_word outcome).trace
 report_goes_on setup t first_word second_word outcome =
-    elim (has_come t outcome) as (λ b. GoesOn outcome.trace (if b then (if has_passed setup t first_word outcome then reported setup t second_word outcome else put_off setup t first_word outcome) else outcome).trace) [
+    elim (has_come t outcome) as (λ b. GoesOn outcome.trace
+    (if b then (if has_passed setup t first_word outcome then reported setup t second_word outcome else put_off
+    setup t first_word outcome) else outcome).trace) [
       | false ↦ goes_nowhere outcome.trace
-      | true ↦ elim (has_passed setup t first_word outcome) as (λ b. GoesOn outcome.trace (if b then reported setup t second_word outcome else put_off setup t first_word outcome).trace) [
-        | false ↦ goes_nowhere outcome.trace
-        | true ↦ blocks_go_on (reported_at setup t outcome) outcome.trace
-      ]
+      | true ↦ elim (has_passed setup t first_word outcome) as (λ b. GoesOn outcome.trace
+          (if b then reported setup t second_word outcome else put_off setup t first_word outcome).trace) [
+            | false ↦ goes_nowhere outcome.trace
+            | true ↦ blocks_go_on (reported_at setup t outcome) outcome.trace
+          ]
     ]
 
 goes_on : (setup : Setup) (act : Act) (outcome : Outcome) → GoesOn outcome.trace (after setup act outcome).trace
 goes_on setup (arrived t peer word (rtcp size (Ok packets))) outcome = facts_go_on (facts_of packets) t outcome.trace
 goes_on setup (arrived t peer word (rtcp size (Err fault))) outcome = goes_nowhere outcome.trace
 goes_on setup (arrived t peer word (rtp (Ok head))) outcome =
-    facts_go_on (facts_of_media setup.ssrc head (counted_at setup.capacity setup.rate outcome.trace (media_fact head))) t outcome.trace
+    facts_go_on (facts_of_media setup.ssrc head (counted_at setup.capacity setup.rate outcome.trace (media_fact head)))
+    t outcome.trace
 goes_on setup (arrived t peer word (rtp (Err fault))) outcome = goes_nowhere outcome.trace
 goes_on setup (rtp_sent t timestamp octets) outcome = goes_nowhere outcome.trace
-goes_on setup (ticked t first_word second_word) outcome = one_sooner (report_goes_on setup t first_word second_word (checked setup t outcome))
+goes_on setup (ticked t first_word second_word) outcome =
+    one_sooner (report_goes_on setup t first_word second_word (checked setup t outcome))
 goes_on setup (left t word) outcome = goes_nowhere outcome.trace
 
-kept_since : (setup : Setup) (before now : Outcome) → GoesOn before.trace now.trace → moved_since setup before now ≡ false → (ssrc : ℕ)
-    → IsSameRole (entry_at setup.capacity setup.rate before.trace ssrc) (entry_at setup.capacity setup.rate now.trace ssrc)
+kept_since : (setup : Setup) (before now : Outcome) → GoesOn before.trace now.trace →
+    moved_since setup before now ≡ false → (ssrc : ℕ)
+    → IsSameRole (entry_at setup.capacity setup.rate before.trace ssrc)
+    (entry_at setup.capacity setup.rate now.trace ssrc)
 kept_since setup before now on still ssrc =
-    subst (λ (trace : List TraceStep). IsSameRole (entry_at setup.capacity setup.rate trace ssrc) (entry_at setup.capacity setup.rate now.trace ssrc)) (ap (λ (n : ℕ). drop n now.trace) as_many ∙ on.rest)
-    (tables.roles_move_with_counts-within setup.capacity setup.rate (length now.trace - length before.trace) now.trace still ssrc)
+    subst (λ (trace : List TraceStep). IsSameRole (entry_at setup.capacity setup.rate trace ssrc)
+    (entry_at setup.capacity setup.rate now.trace ssrc)) (ap (λ (n : ℕ). drop n now.trace) as_many ∙ on.rest)
+    (tables.roles_move_with_counts-within setup.capacity setup.rate (length now.trace - length before.trace) now.trace
+    still ssrc)
   where
     as_many : length now.trace - length before.trace ≡ on.more
     as_many = omega (arith, on.longer)
 
 -- ---- Leaves
 
-nobody_left : (setup : Setup) (t word : ℕ) (outcome : Outcome) (ssrc : ℕ) → entry_in_life setup (left_at setup t word outcome) ssrc ≡ None
+nobody_left : (setup : Setup) (t word : ℕ) (outcome : Outcome) (ssrc : ℕ) →
+    entry_in_life setup (left_at setup t word outcome) ssrc ≡ None
 nobody_left setup t word outcome ssrc =
-    elim (is_unheard outcome) as (λ b. entry_in_life setup (if b then gone outcome else (if nat_le (member_count setup outcome) few_members then gone outcome else backing_off outcome (backoff_from setup t word outcome))) ssrc ≡ None) [
+    elim (is_unheard outcome) as (λ b. entry_in_life setup
+    (if b then gone outcome else (if nat_le (member_count setup outcome) few_members then gone outcome else
+    backing_off outcome (backoff_from setup t word outcome))) ssrc ≡ None) [
       | true ↦ refl
-      | false ↦ elim (nat_le (member_count setup outcome) few_members) as (λ b. entry_in_life setup (if b then gone outcome else backing_off outcome (backoff_from setup t word outcome)) ssrc ≡ None) [ true ↦ refl | false ↦ refl ]
+      | false ↦ elim (nat_le (member_count setup outcome) few_members) as (λ b. entry_in_life setup
+          (if b then gone outcome else backing_off outcome (backoff_from setup t word outcome)) ssrc ≡ None) [
+            | true ↦
+                refl
+            | false ↦ refl
+          ]
     ]
 
 no_others : (n : ℕ) → not (n == 0) ≡ false → n ≡ 0
@@ -98,26 +116,38 @@ no_others n e = grind (arith, nat_tests, e)
 same_backwards : (one other : Option EntryValue) → IsSameRole one other → IsSameRole other one
 same_backwards one other same = (sym same.0, sym same.1)
 
-kept_by_leave : (setup : Setup) (t word : ℕ) (outcome : Outcome) → others_moved_by setup (left t word) (present outcome) ≡ false → (ssrc : ℕ)
+kept_by_leave : (setup : Setup) (t word : ℕ) (outcome : Outcome) → others_moved_by setup (left t word) (present outcome)
+    ≡ false → (ssrc : ℕ)
     → IsSameRole (entry_in_life setup (present outcome) ssrc) (entry_in_life setup (left_at setup t word outcome) ssrc)
 kept_by_leave setup t word outcome still ssrc =
-    let none = no_others (members_at setup.capacity setup.rate outcome.trace) (leave_moves setup t word outcome ∙ still) in
-    subst (IsSameRole (entry_at setup.capacity setup.rate outcome.trace ssrc)) (sym (nobody_left setup t word outcome ssrc))
-    (same_backwards None (entry_at setup.capacity setup.rate outcome.trace ssrc) (tables.roles_move_with_counts-none setup.capacity setup.rate outcome.trace none ssrc))
+    let none = no_others (members_at setup.capacity setup.rate outcome.trace)
+    (leave_moves setup t word outcome ∙ still) in
+    subst (IsSameRole (entry_at setup.capacity setup.rate outcome.trace ssrc))
+    (sym (nobody_left setup t word outcome ssrc))
+    (same_backwards None (entry_at setup.capacity setup.rate outcome.trace ssrc)
+    (tables.roles_move_with_counts-none setup.capacity setup.rate outcome.trace none ssrc))
 
 -- ---- Lives
 
-still_waiting : (setup : Setup) (t word : ℕ) (outcome : Outcome) (backoff : Rattle.rtcp_engine.specs.Leaving.Backoff) (ssrc : ℕ)
+still_waiting : (setup : Setup) (t word : ℕ) (outcome : Outcome) (backoff : Rattle.rtcp_engine.specs.Leaving.Backoff)
+    (ssrc : ℕ)
     → entry_in_life setup (Rattle.rtcp_engine.specs.Leaving.after_waiting_tick setup t word outcome backoff) ssrc ≡ None
 still_waiting setup t word outcome backoff ssrc =
-    elim (is_bye_due setup t word backoff) as (λ b. entry_in_life setup (if b then gone outcome else backing_off outcome (after_wait setup t word backoff)) ssrc ≡ None) [ true ↦ refl | false ↦ refl ]
+    elim (is_bye_due setup t word backoff) as (λ b. entry_in_life setup
+    (if b then gone outcome else backing_off outcome (after_wait setup t word backoff)) ssrc ≡ None) [
+      | true ↦ refl
+      | false ↦ refl
+    ]
 
-kept_in : (setup : Setup) (act : Act) (life : Life) → others_moved_by setup act life ≡ false → (ssrc : ℕ) → IsSameRole (entry_in_life setup life ssrc) (entry_in_life setup (lived setup act life) ssrc)
+kept_in : (setup : Setup) (act : Act) (life : Life) → others_moved_by setup act life ≡ false → (ssrc : ℕ) →
+    IsSameRole (entry_in_life setup life ssrc) (entry_in_life setup (lived setup act life) ssrc)
 kept_in setup (arrived t peer word datagram) (present outcome) still ssrc =
-    kept_since setup outcome (after setup (arrived t peer word datagram) outcome) (goes_on setup (arrived t peer word datagram) outcome) still ssrc
+    kept_since setup outcome (after setup (arrived t peer word datagram) outcome)
+    (goes_on setup (arrived t peer word datagram) outcome) still ssrc
 kept_in setup (rtp_sent t timestamp octets) (present outcome) still ssrc = (refl, refl)
 kept_in setup (ticked t first_word second_word) (present outcome) still ssrc =
-    kept_since setup outcome (after_tick setup t first_word second_word outcome) (goes_on setup (ticked t first_word second_word) outcome) still ssrc
+    kept_since setup outcome (after_tick setup t first_word second_word outcome)
+    (goes_on setup (ticked t first_word second_word) outcome) still ssrc
 kept_in setup (left t word) (present outcome) still ssrc = kept_by_leave setup t word outcome still ssrc
 kept_in setup (arrived t peer word (rtcp size reading)) (backing_off outcome backoff) still ssrc = (refl, refl)
 kept_in setup (arrived t peer word (rtp reading)) (backing_off outcome backoff) still ssrc = (refl, refl)
@@ -128,20 +158,25 @@ kept_in setup (left t word) (backing_off outcome backoff) still ssrc = (refl, re
 kept_in setup act (gone outcome) still ssrc = (refl, refl)
 
 -- A change of identifier changes nothing of the others.
-same_in_change : (session : Session) (change : Option NewIdentifier) (ssrc : ℕ) → let now = changed_by change session in entry_in_life session.setup session.life ssrc ≡ entry_in_life now.setup now.life ssrc
+same_in_change : (session : Session) (change : Option NewIdentifier) (ssrc : ℕ) → let now = changed_by change session in
+    entry_in_life session.setup session.life ssrc ≡ entry_in_life now.setup now.life ssrc
 same_in_change session None ssrc = refl
 same_in_change session (Some new) ssrc = under session.setup new session.life
   where
     under : (setup : Setup) (new : NewIdentifier) (life : Life)
-        → entry_in_life setup life ssrc ≡ entry_in_life (Rattle.rtcp_engine.specs.Identities.with_ssrc new.ssrc setup) (Rattle.rtcp_engine.specs.Lives.with_new_ssrc setup life) ssrc
+        → entry_in_life setup life ssrc ≡ entry_in_life (Rattle.rtcp_engine.specs.Identities.with_ssrc new.ssrc setup)
+        (Rattle.rtcp_engine.specs.Lives.with_new_ssrc setup life) ssrc
     under setup new (present outcome) = refl
     under setup new (backing_off outcome backoff) = refl
     under setup new (gone outcome) = refl
 
 pub others_kept : (history : History) (act : Act) → (step_by history act).others_changed ≡ false → (ssrc : ℕ)
-    → let before = session_at history in let next = session_at (with_act history act) in IsSameRole (entry_in_life before.setup before.life ssrc) (entry_in_life next.setup next.life ssrc)
+    → let before = session_at history in let next = session_at (with_act history act) in
+    IsSameRole (entry_in_life before.setup before.life ssrc) (entry_in_life next.setup next.life ssrc)
 others_kept history act still ssrc =
     let before = session_at history in
     let now = session_for before act in
-    subst (λ (entry : Option EntryValue). IsSameRole entry (entry_in_life now.setup (lived now.setup act now.life) ssrc)) (sym (same_in_change before (change_by before act) ssrc))
+    subst (λ (entry : Option EntryValue). IsSameRole entry
+    (entry_in_life now.setup (lived now.setup act now.life) ssrc))
+    (sym (same_in_change before (change_by before act) ssrc))
     (kept_in now.setup act now.life still ssrc)

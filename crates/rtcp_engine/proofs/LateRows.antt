@@ -30,7 +30,8 @@ a_microsecond_sooner h = omega (arith, h.0)
 
 -- Of two members one leaves: the wait begins anew.
 abbrev fallen : List Act
-fallen = arrived 3026037 1 0 (rtcp 16 (Ok (rr 1 [] [] ∷ bye (1 ∷ []) None ∷ []))) ∷ ticked 1026037 0 4294967295 ∷ named_came 0 1 ∷ []
+fallen = arrived 3026037 1 0 (rtcp 16 (Ok (rr 1 [] [] ∷ bye (1 ∷ []) None ∷ []))) ∷ ticked 1026037 0
+    4294967295 ∷ named_came 0 1 ∷ []
 
 falls : last_fall setup 0 fallen ≡ 3026037
 falls = refl

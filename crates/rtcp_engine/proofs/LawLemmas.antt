@@ -40,7 +40,10 @@ pub use Rattle.rtcp_engine.proofs.Past.{walk_after as told_moments_have_passed-a
 -- ---- Readings
 
 pub one_reading-always : IsTotal IsReading
-one_reading-always octets = elim (wire.accepted_or_faulty-always_one octets) [ inl read ↦ (Ok read.0, read.1) | inr fault ↦ (Err fault.0, fault.1) ]
+one_reading-always octets = elim (wire.accepted_or_faulty-always_one octets) [
+  | inl read ↦ (Ok read.0, read.1)
+  | inr fault ↦ (Err fault.0, fault.1)
+]
 
 pub one_reading-once : IsUnique IsReading
 one_reading-once octets (Ok ps) (Ok qs) h k = ap Ok (wire.one_reading octets ps qs h k)
@@ -49,7 +52,10 @@ one_reading-once octets (Err fault) (Ok qs) h k = absurd (wire.accepted_or_fault
 one_reading-once octets (Err fault) (Err other) h k = ap Err (wire.one_fault octets fault other h k)
 
 pub one_reading-rtp_always : IsTotal IsRtpReading
-one_reading-rtp_always octets = elim (wire.packet_or_fault-always_one octets) [ inl read ↦ (Ok read.0, read.1) | inr fault ↦ (Err fault.0, fault.1) ]
+one_reading-rtp_always octets = elim (wire.packet_or_fault-always_one octets) [
+  | inl read ↦ (Ok read.0, read.1)
+  | inr fault ↦ (Err fault.0, fault.1)
+]
 
 pub one_reading-rtp_once : IsUnique IsRtpReading
 one_reading-rtp_once octets (Ok g) (Ok h) a b = ap Ok (wire.one_head octets g h a b)
@@ -67,12 +73,15 @@ usable_is_unrefused setup = (unrefused_of_usable setup, usable_of_unrefused setu
 -- ---- The own stream
 
 -- a check that leaves a sender
-kept : (sending : Option ℕ) (idle moment : ℕ) → (if is_before sending idle then None else sending) ≡ Some moment → (sending ≡ Some moment) × (idle ≤ moment)
+kept : (sending : Option ℕ) (idle moment : ℕ) → (if is_before sending idle then None else sending) ≡ Some moment →
+    (sending ≡ Some moment) × (idle ≤ moment)
 kept None idle moment h = absurd cc
 kept (Some at) idle moment h =
     elim (cases_lt at idle) [
-      | inl below ↦ absurd (none_is_some moment (sym (ap (λ (b : Bool). if b then None else Some at) (lt-ltb at idle below)) ∙ h))
-      | inr above ↦ (let same : Some at ≡ Some moment = sym (ap (λ (b : Bool). if b then None else Some at) (le-ltb at idle above)) ∙ h in
+      | inl below ↦ absurd (none_is_some moment
+          (sym (ap (λ (b : Bool). if b then None else Some at) (lt-ltb at idle below)) ∙ h))
+      | inr above ↦ (let same : Some at ≡ Some moment =
+          sym (ap (λ (b : Bool). if b then None else Some at) (le-ltb at idle above)) ∙ h in
           let moments : at ≡ moment = cc in
           (same, omega (arith, above, moments)))
     ]
@@ -84,19 +93,48 @@ sends_since : (own : List OwnStep) (moment : ℕ) → sending_since own ≡ Some
 sends_since [] moment h = absurd cc
 sends_since (packet_sent at timestamp octets ∷ earlier) moment h =
     let same : at ≡ moment = cc in
-    record { since = []; timestamp = timestamp; octets = octets; before = earlier; parts = ap (λ (m : ℕ). packet_sent m timestamp octets ∷ earlier) same; recent = tt }
+    record {
+      since = [];
+      timestamp = timestamp;
+      octets = octets;
+      before = earlier;
+      parts = ap (λ (m : ℕ). packet_sent m timestamp octets ∷ earlier) same;
+      recent = tt;
+    }
 sends_since (check_passed idle ∷ earlier) moment h =
     let both = kept (sending_since earlier) idle moment h in
     let rest = sends_since earlier moment both.0 in
-    record { since = check_passed idle ∷ rest.since; timestamp = rest.timestamp; octets = rest.octets; before = rest.before; parts = ap (λ (t : List OwnStep). check_passed idle ∷ t) rest.parts; recent = (both.1, rest.recent) }
+    record {
+      since = check_passed idle ∷ rest.since;
+      timestamp = rest.timestamp;
+      octets = rest.octets;
+      before = rest.before;
+      parts = ap (λ (t : List OwnStep). check_passed idle ∷ t) rest.parts;
+      recent = (both.1, rest.recent);
+    }
 sends_since (report_sent ∷ earlier) moment h =
     let rest = sends_since earlier moment h in
-    record { since = report_sent ∷ rest.since; timestamp = rest.timestamp; octets = rest.octets; before = rest.before; parts = ap (λ (t : List OwnStep). report_sent ∷ t) rest.parts; recent = rest.recent }
+    record {
+      since = report_sent ∷ rest.since;
+      timestamp = rest.timestamp;
+      octets = rest.octets;
+      before = rest.before;
+      parts = ap (λ (t : List OwnStep). report_sent ∷ t) rest.parts;
+      recent = rest.recent;
+    }
 sends_since (counts_anew ∷ earlier) moment h =
     let rest = sends_since earlier moment h in
-    record { since = counts_anew ∷ rest.since; timestamp = rest.timestamp; octets = rest.octets; before = rest.before; parts = ap (λ (t : List OwnStep). counts_anew ∷ t) rest.parts; recent = rest.recent }
+    record {
+      since = counts_anew ∷ rest.since;
+      timestamp = rest.timestamp;
+      octets = rest.octets;
+      before = rest.before;
+      parts = ap (λ (t : List OwnStep). counts_anew ∷ t) rest.parts;
+      recent = rest.recent;
+    }
 
-lasts : (since : List OwnStep) (moment timestamp octets : ℕ) (before : List OwnStep) → OutlastsChecks moment since → sending_since (since ++ packet_sent moment timestamp octets ∷ before) ≡ Some moment
+lasts : (since : List OwnStep) (moment timestamp octets : ℕ) (before : List OwnStep) → OutlastsChecks moment since →
+    sending_since (since ++ packet_sent moment timestamp octets ∷ before) ≡ Some moment
 lasts [] moment timestamp octets before h = refl
 lasts (packet_sent at other size ∷ since) moment timestamp octets before h = absurd h
 lasts (check_passed idle ∷ since) moment timestamp octets before h =
@@ -105,7 +143,8 @@ lasts (check_passed idle ∷ since) moment timestamp octets before h =
 lasts (report_sent ∷ since) moment timestamp octets before h = lasts since moment timestamp octets before h
 lasts (counts_anew ∷ since) moment timestamp octets before h = lasts since moment timestamp octets before h
 
-pub own_sending_lasts : (own : List OwnStep) (moment : ℕ) → (sending_since own ≡ Some moment) ↔ IsSendingSince own moment
+pub own_sending_lasts : (own : List OwnStep) (moment : ℕ) →
+    (sending_since own ≡ Some moment) ↔ IsSendingSince own moment
 own_sending_lasts own moment = (
   sends_since own moment,
   λ h. ap sending_since h.parts ∙ lasts h.since moment h.timestamp h.octets h.before h.recent,
@@ -119,17 +158,22 @@ is_some_map {A} {B} f (Some x) = refl
 
 handed_by : (history : History) (act : Act) (refusal : Option Refusal)
     → sent_at (elim refusal [ None ↦ with_act history act | Some reason ↦ history ])
-    ≡ handed_out (moment_of act) (deciding_interval (session_at history) act) (answer_unless refusal (step_by history act)) ++ sent_at history
+    ≡ handed_out (moment_of act) (deciding_interval (session_at history) act)
+    (answer_unless refusal (step_by history act)) ++ sent_at history
 handed_by history act None =
     let before = session_at history in
-    sym (ap (λ (changes : Bool). sent_with (moment_of act) (deciding_interval before act) changes (brought_by before act) ++ sent_at history) (is_some_map (λ (new : NewIdentifier). new.ssrc) (change_by before act)))
+    sym (ap (λ (changes : Bool). sent_with (moment_of act) (deciding_interval before act) changes
+    (brought_by before act) ++ sent_at history)
+    (is_some_map (λ (new : NewIdentifier). new.ssrc) (change_by before act)))
 handed_by history act (Some reason) = refl
 
 pub answers_hand_out_compounds : (history : History) (act : Act)
-    → sent_at (followed_by history act) ≡ handed_out (moment_of act) (deciding_interval (session_at history) act) (answer_of history act) ++ sent_at history
+    → sent_at (followed_by history act) ≡ handed_out (moment_of act) (deciding_interval (session_at history) act)
+    (answer_of history act) ++ sent_at history
 answers_hand_out_compounds history act = handed_by history act (refusal_after history act)
 
-pub sent_reports_are_counted : (history : History) → reports_of (life_at history) ≡ map counted_report (reports_in (sent_at history))
+pub sent_reports_are_counted : (history : History) → reports_of (life_at history) ≡ map counted_report
+    (reports_in (sent_at history))
 sent_reports_are_counted history = reports_counted history.setup history.word history.acts
 
 pub last_block_is_newest : (rows : List EntryRow) (trace : List TraceStep) →
@@ -142,9 +186,11 @@ last_block_is_newest (row ∷ rows) trace = last_block_is_newest rows (block_tak
 pub sends_in_time : (history : History) → IsHistory history → AllInTime history.setup history.word history.acts
 sends_in_time history is = all_in_time history.setup history.word history.acts is.usable is.word is.taken
 
-pub changes_touch_the_identifier_alone-bye : (session : Session) (act : Act) (new : NewIdentifier) → change_by session act ≡ Some new → brought_by session act ≡ own_bye session.setup session.life
+pub changes_touch_the_identifier_alone-bye : (session : Session) (act : Act) (new : NewIdentifier) →
+    change_by session act ≡ Some new → brought_by session act ≡ own_bye session.setup session.life
 changes_touch_the_identifier_alone-bye session act new is =
-    ap (λ (change : Option NewIdentifier). let now = changed_by change session in option_or (bye_of_change change session) (out_by now.setup act now.life)) is
+    ap (λ (change : Option NewIdentifier). let now = changed_by change session in
+    option_or (bye_of_change change session) (out_by now.setup act now.life)) is
     ∙ bye_alone session act new is
 
 -- ---- What is told of sources

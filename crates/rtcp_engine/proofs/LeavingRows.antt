@@ -13,15 +13,18 @@ silently_gone = Ok (step_with None 0 0 0 None None)
 
 -- an empty report, the CNAME and the BYE
 abbrev says_bye : AnswerValue
-says_bye = Ok (step_with (Some (record { kind = Bye; octets = empty_report ++ 129 ∷ 203 ∷ 0 ∷ 1 ∷ 0 ∷ 0 ∷ 0 ∷ 170 ∷ [] })) 0 0 0 None None)
+says_bye = Ok (step_with (Some
+    (record { kind = Bye; octets = empty_report ++ 129 ∷ 203 ∷ 0 ∷ 1 ∷ 0 ∷ 0 ∷ 0 ∷ 170 ∷ [] })) 0 0 0 None None)
 
 -- One that sent nothing leaves silently, and is asked in vain from then on. A tick alone sends nothing.
-unheard : answers_to start (ticked 0 0 0 ∷ left 0 0 ∷ ticked 0 0 0 ∷ left 0 0 ∷ arrived 0 1 0 (rtcp 8 (Ok (rr 7 [] [] ∷ []))) ∷ [])
+unheard : answers_to start (ticked 0 0 0 ∷ left 0 0 ∷ ticked 0 0 0 ∷ left 0 0 ∷ arrived 0 1 0
+    (rtcp 8 (Ok (rr 7 [] [] ∷ []))) ∷ [])
     ≡ ok 1 0 0 1026037 ∷ silently_gone ∷ Err Left ∷ Err Left ∷ Err Left ∷ []
 unheard = refl
 
 -- With few members the BYE goes out at once, after a report or an RTP packet.
-after_report : answers_to start (ticked 1026037 0 0 ∷ left 10000000 0 ∷ []) ≡ sends 1 0 0 3078111 empty_report ∷ says_bye ∷ []
+after_report : answers_to start (ticked 1026037 0 0 ∷ left 10000000 0 ∷ []) ≡ sends 1 0 0 3078111 empty_report
+    ∷ says_bye ∷ []
 after_report = refl
 
 after_packet : answers_to start (rtp_sent 0 0 0 ∷ left 0 0 ∷ []) ≡ ok 1 1 0 1026037 ∷ says_bye ∷ []
@@ -37,7 +40,11 @@ fifty : drop 50 (answers_to start (rtp_sent 0 0 0 ∷ named 49 ++ left 10000000 
 fifty = refl
 
 -- and with 51 it backs off: others' BYE packets count, and nothing else.
-fifty_one : drop 51 (answers_to start (rtp_sent 0 0 0 ∷ named 50 ++ left 10000000 0 ∷ arrived 10000000 1 0 (rtcp 16 (Ok (rr 1 [] [] ∷ bye (1 ∷ []) None ∷ [])))
-    ∷ left 10000000 4294967295 ∷ rtp_sent 10000000 0 0 ∷ named_came 10000000 99 ∷ ticked 11026036 0 0 ∷ ticked 11026037 0 0 ∷ ticked 11026037 0 0 ∷ []))
-    ≡ moved (ok 1 0 0 11026037) ∷ ok 2 0 0 11026037 ∷ ok 2 0 0 11026037 ∷ ok 2 0 0 11026037 ∷ ok 2 0 0 11026037 ∷ ok 2 0 0 11026037 ∷ says_bye ∷ Err Left ∷ []
+fifty_one : drop 51 (answers_to start
+    (rtp_sent 0 0 0 ∷ named 50 ++ left 10000000 0 ∷ arrived 10000000 1 0
+    (rtcp 16 (Ok (rr 1 [] [] ∷ bye (1 ∷ []) None ∷ [])))
+    ∷ left 10000000 4294967295 ∷ rtp_sent 10000000 0 0 ∷ named_came 10000000 99 ∷ ticked 11026036 0 0 ∷ ticked 11026037
+    0 0 ∷ ticked 11026037 0 0 ∷ []))
+    ≡ moved (ok 1 0 0 11026037) ∷ ok 2 0 0 11026037 ∷ ok 2 0 0 11026037 ∷ ok 2 0 0 11026037 ∷ ok 2 0 0 11026037 ∷ ok 2 0
+    0 11026037 ∷ says_bye ∷ Err Left ∷ []
 fifty_one = refl

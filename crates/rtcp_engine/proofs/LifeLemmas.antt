@@ -41,32 +41,44 @@ is_there t p none = not_over p.phase (call_refusal t p.presence.latest p.presenc
 
 -- ---- Farewells
 
-leaving_more : (members byes total new : ℕ) → members ≡ min 65535 (1 + total) → new ≡ min 65535 (members + min 65535 byes) → new ≡ min 65535 (1 + (byes + total))
+leaving_more : (members byes total new : ℕ) → members ≡ min 65535 (1 + total) →
+    new ≡ min 65535 (members + min 65535 byes) → new ≡ min 65535 (1 + (byes + total))
 leaving_more members byes total new count more = omega (arith, count, more)
 
-pub leaving_counts : (size n members new : ℕ) (b : Backoff) → members ≡ leaving_count b → new ≡ min 65535 (members + min 65535 n) → new ≡ leaving_count (with_farewell_of n size b)
+pub leaving_counts : (size n members new : ℕ) (b : Backoff) → members ≡ leaving_count b →
+    new ≡ min 65535 (members + min 65535 n) → new ≡ leaving_count (with_farewell_of n size b)
 leaving_counts size n members new b count more =
     leaving_more members n (sum_by (λ farewell. farewell.byes) b.farewells) new count more
-    ∙ ap (λ total. min 65535 (1 + total)) (sym (sum_by-cons (λ (farewell : Farewell). farewell.byes) (record { byes = n; size = size }) b.farewells))
+    ∙ ap (λ total. min 65535 (1 + total))
+    (sym (sum_by-cons (λ (farewell : Farewell). farewell.byes) (record { byes = n; size = size }) b.farewells))
 
 -- ---- Ticks of a backoff
 
-keeps_farewells : (come : Bool) (b : Backoff) (new : List Happening) → (if come then record b { happenings = new } else b).farewells ≡ b.farewells
+keeps_farewells : (come : Bool) (b : Backoff) (new : List Happening) →
+    (if come then record b { happenings = new } else b).farewells ≡ b.farewells
 keeps_farewells true b new = refl
 keeps_farewells false b new = refl
 
 wait_keeps_farewells : (setup : Setup) (t word : ℕ) (b : Backoff) → (after_wait setup t word b).farewells ≡ b.farewells
 wait_keeps_farewells setup t word b = keeps_farewells (nat_le (leaving_timing b).next t) b _
 
-pub wait_keeps_count : (setup : Setup) (t word : ℕ) (b : Backoff) → leaving_count (after_wait setup t word b) ≡ leaving_count b
-wait_keeps_count setup t word b = ap (λ (list : List Farewell). min 65535 (1 + sum_by (λ farewell. farewell.byes) list)) (wait_keeps_farewells setup t word b)
+pub wait_keeps_count : (setup : Setup) (t word : ℕ) (b : Backoff) →
+    leaving_count (after_wait setup t word b) ≡ leaving_count b
+wait_keeps_count setup t word b = ap (λ (list : List Farewell). min 65535 (1 + sum_by (λ farewell. farewell.byes) list))
+    (wait_keeps_farewells setup t word b)
 
 -- ---- Leaves
 
-pub left_lives : (setup : Setup) (t w : ℕ) (o : Outcome) (unheard few : Bool) → is_unheard o ≡ unheard → nat_le (member_count setup o) few_members ≡ few
-    → left_at setup t w o ≡ if unheard then gone o else (if few then gone o else backing_off o (backoff_from setup t w o))
-left_lives setup t w o unheard few is_unheard is_few = λ i. if is_unheard i then gone o else (if is_few i then gone o else backing_off o (backoff_from setup t w o))
+pub left_lives : (setup : Setup) (t w : ℕ) (o : Outcome) (unheard few : Bool) → is_unheard o ≡ unheard →
+    nat_le (member_count setup o) few_members ≡ few
+    → left_at setup t w o ≡ if unheard then gone o else
+    (if few then gone o else backing_off o (backoff_from setup t w o))
+left_lives setup t w o unheard few is_unheard is_few = λ i. if is_unheard i then gone o else
+    (if is_few i then gone o else backing_off o (backoff_from setup t w o))
 
-pub left_byes : (setup : Setup) (o : Outcome) (unheard few : Bool) → is_unheard o ≡ unheard → nat_le (member_count setup o) few_members ≡ few
-    → option_map bye_out (bye_at_once setup o) ≡ option_map bye_out (if unheard then None else (if few then Some (bye_octets setup) else None))
-left_byes setup o unheard few is_unheard is_few = λ i. option_map bye_out (if is_unheard i then None else (if is_few i then Some (bye_octets setup) else None))
+pub left_byes : (setup : Setup) (o : Outcome) (unheard few : Bool) → is_unheard o ≡ unheard →
+    nat_le (member_count setup o) few_members ≡ few
+    → option_map bye_out (bye_at_once setup o) ≡ option_map bye_out
+    (if unheard then None else (if few then Some (bye_octets setup) else None))
+left_byes setup o unheard few is_unheard is_few = λ i. option_map bye_out
+    (if is_unheard i then None else (if is_few i then Some (bye_octets setup) else None))

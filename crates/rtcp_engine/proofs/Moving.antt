@@ -24,9 +24,11 @@ use Rattle.rtcp_engine.proofs.Doing.{IsReceiverInterval, of_view, seen}
 
 -- ---- Traces
 
-length_with_facts : (facts : List Fact) (moment : ℕ) (trace : List TraceStep) → length (with_facts facts moment trace) ≡ length facts + length trace
+length_with_facts : (facts : List Fact) (moment : ℕ) (trace : List TraceStep) →
+    length (with_facts facts moment trace) ≡ length facts + length trace
 length_with_facts [] moment trace = omega arith
-length_with_facts (fact ∷ facts) moment trace = omega (arith, length_with_facts facts moment (fact_came fact moment ∷ trace))
+length_with_facts (fact ∷ facts) moment trace =
+    omega (arith, length_with_facts facts moment (fact_came fact moment ∷ trace))
 
 module _ (capacity rate : ℕ) where
   -- where no step is added
@@ -37,8 +39,10 @@ module _ (capacity rate : ℕ) where
       none_more = omega arith
 
   -- where one is
-  one_since : (step : TraceStep) (trace : List TraceStep) → step_moves capacity rate step trace ≡ moved_within capacity rate (length (step ∷ trace) - length trace) (step ∷ trace)
-  one_since step trace = sym (or_none (step_moves capacity rate step trace)) ∙ sym (ap (λ (n : ℕ). moved_within capacity rate n (step ∷ trace)) one_more)
+  one_since : (step : TraceStep) (trace : List TraceStep) → step_moves capacity rate step trace ≡ moved_within capacity
+      rate (length (step ∷ trace) - length trace) (step ∷ trace)
+  one_since step trace = sym (or_none (step_moves capacity rate step trace))
+      ∙ sym (ap (λ (n : ℕ). moved_within capacity rate n (step ∷ trace)) one_more)
     where
       one_more : length (step ∷ trace) - length trace ≡ suc 0
       one_more = omega arith
@@ -49,12 +53,14 @@ module _ (capacity rate : ℕ) where
 
   -- Blocks move nobody.
   blocks_since : (rows : List EntryRow) (before : ℕ) (trace : List TraceStep) → before ≤ length trace
-      → moved_within capacity rate (length (with_blocks rows trace) - before) (with_blocks rows trace) ≡ moved_within capacity rate (length trace - before) trace
+      → moved_within capacity rate (length (with_blocks rows trace) - before) (with_blocks rows trace) ≡ moved_within
+      capacity rate (length trace - before) trace
   blocks_since [] before trace within = refl
   blocks_since (row ∷ rows) before trace within =
       blocks_since rows before (block_taken row.0 ∷ trace) (omega (arith, within))
       ∙ ap (λ (n : ℕ). moved_within capacity rate n (block_taken row.0 ∷ trace)) one_more
-      ∙ ap (λ (b : Bool). b || moved_within capacity rate (length trace - before) trace) (tables.roles_move_with_counts-block capacity rate row.0 trace)
+      ∙ ap (λ (b : Bool). b || moved_within capacity rate (length trace - before) trace)
+      (tables.roles_move_with_counts-block capacity rate row.0 trace)
     where
       one_more : length (block_taken row.0 ∷ trace) - before ≡ suc (length trace - before)
       one_more = omega (arith, within)
@@ -62,7 +68,8 @@ module _ (capacity rate : ℕ) where
 -- ---- Arrivals
 
 facts_since : (s : State) (outcome : Outcome) (facts : List Fact) (t : ℕ) → Agrees s outcome
-    → facts_move facts t s.table ≡ moved_within s.setup.capacity s.setup.rate (length (with_facts facts t outcome.trace) - length outcome.trace) (with_facts facts t outcome.trace)
+    → facts_move facts t s.table ≡ moved_within s.setup.capacity s.setup.rate
+    (length (with_facts facts t outcome.trace) - length outcome.trace) (with_facts facts t outcome.trace)
 facts_since s outcome facts t a =
     tables.moves_follow_traces-facts facts t s.table outcome.trace a.table
     ∙ (λ i. moved_within (a.capacity i) (a.rate i) (sym as_many i) (with_facts facts t outcome.trace))
@@ -70,47 +77,64 @@ facts_since s outcome facts t a =
     as_many : length (with_facts facts t outcome.trace) - length outcome.trace ≡ length facts
     as_many = omega (arith, length_with_facts facts t outcome.trace)
 
-pub moves_facts : {s w : State} → s ≡ w → (t size : ℕ) (packets : List RtcpPacket) (moved : Bool) → moved ≡ facts_move (facts_of packets) t s.table → Moves w moved (λ setup. with_facts_of t size packets)
+pub moves_facts : {s w : State} → s ≡ w → (t size : ℕ) (packets : List RtcpPacket) (moved : Bool) →
+    moved ≡ facts_move (facts_of packets) t s.table → Moves w moved (λ setup. with_facts_of t size packets)
 moves_facts {s} {w} is t size packets moved moved_is =
-    of_view is (λ setup outcome. moved_since setup outcome (with_facts_of t size packets outcome)) (λ outcome a. moved_is ∙ facts_since s outcome (facts_of packets) t a)
+    of_view is (λ setup outcome. moved_since setup outcome (with_facts_of t size packets outcome))
+    (λ outcome a. moved_is ∙ facts_since s outcome (facts_of packets) t a)
 
-pub moves_media : {s w : State} → s ≡ w → (t : ℕ) (head : RtpValue) (moved : Bool) → moved ≡ facts_move (facts_of_media s.setup.ssrc head (counted s.table (media_fact head))) t s.table → Moves w moved (λ setup. with_media setup t head)
+pub moves_media : {s w : State} → s ≡ w → (t : ℕ) (head : RtpValue) (moved : Bool) →
+    moved ≡ facts_move (facts_of_media s.setup.ssrc head (counted s.table (media_fact head))) t s.table →
+    Moves w moved (λ setup. with_media setup t head)
 moves_media {s} {w} is t head moved moved_is =
     of_view is (λ setup outcome. moved_since setup outcome (with_media setup t head outcome)) (λ outcome a.
-    let same : counted s.table (media_fact head) ≡ counted_at s.setup.capacity s.setup.rate outcome.trace (media_fact head) =
-    tables.counts_agree-counted s.table outcome.trace (media_fact head) a.table ∙ (λ i. counted_at (a.capacity i) (a.rate i) outcome.trace (media_fact head)) in
+    let same : counted s.table (media_fact head) ≡ counted_at s.setup.capacity s.setup.rate outcome.trace
+    (media_fact head) =
+    tables.counts_agree-counted s.table outcome.trace (media_fact head) a.table
+    ∙ (λ i. counted_at (a.capacity i) (a.rate i) outcome.trace (media_fact head)) in
     moved_is ∙ ap (λ (b : Bool). facts_move (facts_of_media s.setup.ssrc head b) t s.table) same
-    ∙ facts_since s outcome (facts_of_media s.setup.ssrc head (counted_at s.setup.capacity s.setup.rate outcome.trace (media_fact head))) t a)
+    ∙ facts_since s outcome (facts_of_media s.setup.ssrc head
+    (counted_at s.setup.capacity s.setup.rate outcome.trace (media_fact head))) t a)
 
 -- ---- Ticks
 
 check_since : (s : State) (outcome : Outcome) (horizons : Horizons) → Agrees s outcome
-    → check_moves horizons s.table ≡ moved_within s.setup.capacity s.setup.rate (length (check_made horizons ∷ outcome.trace) - length outcome.trace) (check_made horizons ∷ outcome.trace)
+    → check_moves horizons s.table ≡ moved_within s.setup.capacity s.setup.rate
+    (length (check_made horizons ∷ outcome.trace) - length outcome.trace) (check_made horizons ∷ outcome.trace)
 check_since s outcome horizons a =
     tables.moves_follow_traces-check s.table outcome.trace horizons a.table
     ∙ (λ i. step_moves (a.capacity i) (a.rate i) (check_made horizons) outcome.trace)
     ∙ one_since s.setup.capacity s.setup.rate (check_made horizons) outcome.trace
 
-pub moves_check : {s w : State} → s ≡ w → (t td : ℕ) (moved : Bool) → IsReceiverInterval w td → moved ≡ check_moves (horizons_of t td) s.table → Moves w moved (λ setup. without_silent setup t)
+pub moves_check : {s w : State} → s ≡ w → (t td : ℕ) (moved : Bool) → IsReceiverInterval w td →
+    moved ≡ check_moves (horizons_of t td) s.table → Moves w moved (λ setup. without_silent setup t)
 moves_check {s} {w} is t td moved interval moved_is outcome agrees =
     moved_is
     ∙ ap (λ (d : ℕ). check_moves (horizons_of t d) s.table) (interval outcome agrees)
-    ∙ check_since s outcome (horizons_of t (Rattle.rtcp_engine.specs.Outcomes.receiver_interval_at w.setup outcome)) (seen is outcome agrees)
-    ∙ ap (λ (setup : Setup). moved_since setup outcome (without_silent w.setup t outcome)) (ap (λ (x : State). x.setup) is)
+    ∙ check_since s outcome (horizons_of t (Rattle.rtcp_engine.specs.Outcomes.receiver_interval_at w.setup outcome))
+    (seen is outcome agrees)
+    ∙ ap (λ (setup : Setup). moved_since setup outcome (without_silent w.setup t outcome))
+    (ap (λ (x : State). x.setup) is)
 
 -- A report after the check moves nobody.
-report_since : (setup : Setup) (t first_word second_word : ℕ) (before outcome : Outcome) → length before.trace ≤ length outcome.trace
+report_since : (setup : Setup) (t first_word second_word : ℕ) (before outcome : Outcome) →
+    length before.trace ≤ length outcome.trace
     → moved_since setup before outcome ≡ moved_since setup before (after_check setup t first_word second_word outcome)
 report_since setup t first_word second_word before outcome within =
-    elim (has_come t outcome) as (λ b. moved_since setup before outcome ≡ moved_since setup before (if b then (if has_passed setup t first_word outcome then reported setup t second_word outcome else put_off setup t first_word outcome) else outcome)) [
+    elim (has_come t outcome) as (λ b. moved_since setup before outcome ≡ moved_since setup before
+    (if b then (if has_passed setup t first_word outcome then reported setup t second_word outcome else put_off
+    setup t first_word outcome) else outcome)) [
       | false ↦ refl
-      | true ↦ elim (has_passed setup t first_word outcome) as (λ b. moved_since setup before outcome ≡ moved_since setup before (if b then reported setup t second_word outcome else put_off setup t first_word outcome)) [
-        | false ↦ refl
-        | true ↦ sym (blocks_since setup.capacity setup.rate (reported_at setup t outcome) (length before.trace) outcome.trace within)
-      ]
+      | true ↦ elim (has_passed setup t first_word outcome) as (λ b. moved_since setup before outcome ≡ moved_since
+          setup before (if b then reported setup t second_word outcome else put_off setup t first_word outcome)) [
+            | false ↦ refl
+            | true ↦ sym (blocks_since setup.capacity setup.rate (reported_at setup t outcome) (length before.trace)
+                outcome.trace within)
+          ]
     ]
 
-pub moves_tick : {s : State} (t first_word second_word : ℕ) (moved : Bool) → Moves s moved (λ setup. checked setup t) → Moves s moved (λ setup. after_tick setup t first_word second_word)
+pub moves_tick : {s : State} (t first_word second_word : ℕ) (moved : Bool) → Moves s moved (λ setup. checked setup t) →
+    Moves s moved (λ setup. after_tick setup t first_word second_word)
 moves_tick {s} t first_word second_word moved check outcome agrees =
     check outcome agrees ∙ report_since s.setup t first_word second_word outcome (checked s.setup t outcome) one_more
   where
@@ -121,12 +145,21 @@ moves_tick {s} t first_word second_word moved check outcome agrees =
 
 pub others_there : {s w : State} → s ≡ w → (others : Bool) → others ≡ not (members_in s.table == 0) → HasOthers w others
 others_there {s} {w} is others others_is =
-    of_view is (λ setup outcome. has_others setup outcome) (λ outcome a. others_is ∙ ap (λ (n : ℕ). not (n == 0)) (others_agree s outcome a))
+    of_view is (λ setup outcome. has_others setup outcome)
+    (λ outcome a. others_is ∙ ap (λ (n : ℕ). not (n == 0)) (others_agree s outcome a))
 
 -- Whatever becomes of one that leaves, it tells of nobody any more.
-pub leave_moves : (setup : Setup) (t word : ℕ) (outcome : Outcome) → has_others setup outcome ≡ others_moved_into setup outcome (left_at setup t word outcome)
+pub leave_moves : (setup : Setup) (t word : ℕ) (outcome : Outcome) →
+    has_others setup outcome ≡ others_moved_into setup outcome (left_at setup t word outcome)
 leave_moves setup t word outcome =
-    elim (is_unheard outcome) as (λ b. has_others setup outcome ≡ others_moved_into setup outcome (if b then gone outcome else (if nat_le (member_count setup outcome) few_members then gone outcome else backing_off outcome (backoff_from setup t word outcome)))) [
+    elim (is_unheard outcome) as (λ b. has_others setup outcome ≡ others_moved_into setup outcome
+    (if b then gone outcome else (if nat_le (member_count setup outcome) few_members then gone outcome else
+    backing_off outcome (backoff_from setup t word outcome)))) [
       | true ↦ refl
-      | false ↦ elim (nat_le (member_count setup outcome) few_members) as (λ b. has_others setup outcome ≡ others_moved_into setup outcome (if b then gone outcome else backing_off outcome (backoff_from setup t word outcome))) [ true ↦ refl | false ↦ refl ]
+      | false ↦ elim (nat_le (member_count setup outcome) few_members) as (λ b. has_others setup outcome
+          ≡ others_moved_into setup outcome
+          (if b then gone outcome else backing_off outcome (backoff_from setup t word outcome))) [
+            | true ↦ refl
+            | false ↦ refl
+          ]
     ]

@@ -37,7 +37,8 @@ use Rattle.rtcp_engine.proofs.Choosing.{unrefused}
 -- ---- Draws
 
 -- A draw is at least half its interval over 1.21828.
-half_passes : (from until interval word : ℕ) → word < 2 ^ 32 → from + drawn_interval interval word ≤ until → HalfPasses from until interval
+half_passes : (from until interval word : ℕ) → word < 2 ^ 32 → from + drawn_interval interval word ≤ until →
+    HalfPasses from until interval
 half_passes from until interval word fits passed =
     let least = (draw_within_bounds interval word fits).0 in
     omega (arith, least, passed)
@@ -125,30 +126,43 @@ short_if : (turn : Bool) (found : Option ItemValue) → IsShort found → IsShor
 short_if true found short = short
 short_if false found short = tt
 
-report_is_within : (setup : Setup) (t : ℕ) (outcome : Outcome) → IsUsable setup → length (report_octets setup t outcome) ≤ setup.limit
+report_is_within : (setup : Setup) (t : ℕ) (outcome : Outcome) → IsUsable setup →
+    length (report_octets setup t outcome) ≤ setup.limit
 report_is_within setup t outcome usable =
     let extra = short_if _ _ (short_read setup.extras _ usable.extras) in
-    let empty = compounds_are_small-empty setup.ssrc (sent_of setup.ntp_base setup.rate t (own_of outcome.own)) setup.cname (extra_item setup.extras (length outcome.reports + 1)) usable.cname.1 extra in
-    compounds_are_small-report (reporter_at setup t outcome) setup.limit t (pending_rows_at (last_reported_in outcome.trace) setup.capacity setup.rate outcome.trace)
+    let empty = compounds_are_small-empty setup.ssrc (sent_of setup.ntp_base setup.rate t (own_of outcome.own))
+    setup.cname (extra_item setup.extras (length outcome.reports + 1)) usable.cname.1 extra in
+    compounds_are_small-report (reporter_at setup t outcome) setup.limit t
+    (pending_rows_at (last_reported_in outcome.trace) setup.capacity setup.rate outcome.trace)
     (omega (arith, empty, usable.limit.0))
 
 bye_is_within : (setup : Setup) → IsUsable setup → length (bye_octets setup) ≤ setup.limit
-bye_is_within setup usable = omega (arith, compounds_are_small-bye setup.ssrc setup.cname usable.cname.1, usable.limit.0)
+bye_is_within setup usable = omega (
+  arith,
+  compounds_are_small-bye setup.ssrc setup.cname usable.cname.1,
+  usable.limit.0,
+)
 
 -- ---- Happenings
 
 later : {t : ℕ} {happenings : List Happening} → (u : ℕ) → t ≤ u → AreUpTo t happenings → AreUpTo u happenings
 later {t} {happenings} u order h = record { in_order = h.in_order; past = omega (arith, order, h.past) }
 
-one_more : {t : ℕ} {happenings : List Happening} → (happening : Happening) → t ≤ schedules.happening_moment happening → AreUpTo t happenings
+one_more : {t : ℕ} {happenings : List Happening} → (happening : Happening) → t ≤ schedules.happening_moment happening →
+    AreUpTo t happenings
     → AreUpTo (schedules.happening_moment happening) (happening ∷ happenings)
-one_more {t} {happenings} happening order h = record { in_order = (omega (arith, order, h.past), h.in_order); past = omega arith }
+one_more {t} {happenings} happening order h = record {
+  in_order = (omega (arith, order, h.past), h.in_order);
+  past = omega arith;
+}
 
 -- ---- Taking part
 
 -- an act that brings nothing, and is no leave
-passes : {limit t : ℕ} {leave : Option ℕ} {outcome : Outcome} {sent : List Sent} → (act : Act) (new : Outcome) → TakesPart limit t leave outcome sent
-    → leave_moment act ≡ None → AreUpTo (moment_of act) new.happenings → newest_transmission new.happenings ≡ newest_transmission outcome.happenings → new.reports ≡ outcome.reports
+passes : {limit t : ℕ} {leave : Option ℕ} {outcome : Outcome} {sent : List Sent} → (act : Act) (new : Outcome) →
+    TakesPart limit t leave outcome sent
+    → leave_moment act ≡ None → AreUpTo (moment_of act) new.happenings →
+    newest_transmission new.happenings ≡ newest_transmission outcome.happenings → new.reports ≡ outcome.reports
     → TakesPart limit (moment_of act) (option_or leave (leave_moment act)) new sent
 passes {limit} {t} {leave} {outcome} {sent} act new h stays up_to newest reports = record {
   up_to = up_to;
@@ -159,7 +173,8 @@ passes {limit} {t} {leave} {outcome} {sent} act new h stays up_to newest reports
 }
 
 -- a check that was made, in a tick
-checks : {limit t : ℕ} {leave : Option ℕ} {outcome : Outcome} {sent : List Sent} → (setup : Setup) (moment : ℕ) → t ≤ moment → TakesPart limit t leave outcome sent
+checks : {limit t : ℕ} {leave : Option ℕ} {outcome : Outcome} {sent : List Sent} → (setup : Setup) (moment : ℕ) →
+    t ≤ moment → TakesPart limit t leave outcome sent
     → TakesPart limit moment leave (checked setup moment outcome) sent
 checks {limit} {t} {leave} {outcome} {sent} setup moment order h = record {
   up_to = one_more (recounted moment _) order h.up_to;
@@ -170,26 +185,39 @@ checks {limit} {t} {leave} {outcome} {sent} setup moment order h = record {
 }
 
 -- a report that is due keeps its distance from the one before it
-next_report : (setup : Setup) (t word : ℕ) (leave : Option ℕ) (now : Outcome) (sent : List Sent) → IsUsable setup → word < 2 ^ 32 → TakesPart setup.limit t leave now sent
+next_report : (setup : Setup) (t word : ℕ) (leave : Option ℕ) (now : Outcome) (sent : List Sent) → IsUsable setup →
+    word < 2 ^ 32 → TakesPart setup.limit t leave now sent
     → IsDue (schedule_at now.happenings) t (drawn_interval (interval_at setup now) word)
-    → IsNext setup.limit (record { moment = t; interval = interval_at setup now; out = report_out (report_octets setup t now); changes = false }) (reports_in sent)
+    → IsNext setup.limit (record {
+      moment = t;
+      interval = interval_at setup now;
+      out = report_out (report_octets setup t now);
+      changes = false;
+    }) (reports_in sent)
 next_report setup t word leave now sent usable fits h due =
     let interval = interval_at setup now in
     let apart = never_due_too_soon now.happenings t (drawn_interval interval word) h.up_to.in_order due in
     record {
       kind = refl;
-      spaced = half_passes (newest_moment (reports_in sent)) t interval word fits (subst (λ (from : ℕ). from + drawn_interval interval word ≤ t) h.newest apart);
-      least = subst (λ (initial : Bool). minimum_of initial ≤ interval) h.initial (interval_has_minimum (load_of setup now));
+      spaced = half_passes (newest_moment (reports_in sent)) t interval word fits
+          (subst (λ (from : ℕ). from + drawn_interval interval word ≤ t) h.newest apart);
+      least = subst (λ (initial : Bool). minimum_of initial ≤ interval) h.initial
+          (interval_has_minimum (load_of setup now));
       fits = report_is_within setup t now usable;
     }
 
 true_is_false : true ≡ false → ⊥
 true_is_false e = cc
 
-tick_by : (setup : Setup) (t first_word second_word : ℕ) (leave : Option ℕ) (now : Outcome) (sent : List Sent) (come passed : Bool) → IsUsable setup → first_word < 2 ^ 32
-    → (come ≡ true → passed ≡ true → IsDue (schedule_at now.happenings) t (drawn_interval (interval_at setup now) first_word)) → TakesPart setup.limit t leave now sent
-    → TakesPart setup.limit t leave (if come then (if passed then reported setup t second_word now else put_off setup t first_word now) else now)
-    (sent_with t (interval_at setup now) false (option_map report_out (if come && passed then Some (report_octets setup t now) else None)) ++ sent)
+tick_by : (setup : Setup) (t first_word second_word : ℕ) (leave : Option ℕ) (now : Outcome) (sent : List Sent)
+    (come passed : Bool) → IsUsable setup → first_word < 2 ^ 32
+    → (come ≡ true → passed ≡ true →
+    IsDue (schedule_at now.happenings) t (drawn_interval (interval_at setup now) first_word)) →
+    TakesPart setup.limit t leave now sent
+    → TakesPart setup.limit t leave
+    (if come then (if passed then reported setup t second_word now else put_off setup t first_word now) else now)
+    (sent_with t (interval_at setup now) false
+    (option_map report_out (if come && passed then Some (report_octets setup t now) else None)) ++ sent)
 tick_by setup t first_word second_word leave now sent true true usable fits due h = record {
   up_to = one_more (transmitted t _ _) (omega arith) h.up_to;
   newest = refl;
@@ -212,21 +240,37 @@ tick_by setup t first_word second_word leave now sent true false usable fits due
 tick_by setup t first_word second_word leave now sent false passed usable fits due h = h
 
 -- the BYE with which a participant is gone
-last_bye : (setup : Setup) (leave : Option ℕ) (asked t interval : ℕ) → IsUsable setup → leave ≡ Some asked → (t ≡ asked) ⊎ (HalfPasses asked t interval × (asked + 1026037 ≤ t))
-    → IsLast setup.limit leave (record { moment = t; interval = interval; out = bye_out (bye_octets setup); changes = false })
+last_bye : (setup : Setup) (leave : Option ℕ) (asked t interval : ℕ) → IsUsable setup → leave ≡ Some asked →
+    (t ≡ asked) ⊎ (HalfPasses asked t interval × (asked + 1026037 ≤ t))
+    → IsLast setup.limit leave (record {
+      moment = t;
+      interval = interval;
+      out = bye_out (bye_octets setup);
+      changes = false;
+    })
 last_bye setup leave asked t interval usable is passed = record {
   kind = refl;
   leaves = refl;
-  late = subst (λ (l : Option ℕ). IsLate l (record { moment = t; interval = interval; out = bye_out (bye_octets setup); changes = false })) (sym is) passed;
+  late = subst (λ (l : Option ℕ). IsLate l
+      (record { moment = t; interval = interval; out = bye_out (bye_octets setup); changes = false }))
+      (sym is) passed;
   fits = bye_is_within setup usable;
 }
 
-leave_by : (setup : Setup) (t u word : ℕ) (leave : Option ℕ) (outcome : Outcome) (sent : List Sent) (unheard few : Bool) → IsUsable setup → t ≤ u → TakesPart setup.limit t leave outcome sent
-    → KeepsApart setup.limit u (option_or leave (Some u)) (if unheard then gone outcome else (if few then gone outcome else backing_off outcome (backoff_from setup u word outcome)))
-    (sent_with u 0 false (option_map bye_out (if unheard then None else (if few then Some (bye_octets setup) else None))) ++ sent)
+leave_by : (setup : Setup) (t u word : ℕ) (leave : Option ℕ) (outcome : Outcome) (sent : List Sent)
+    (unheard few : Bool) → IsUsable setup → t ≤ u → TakesPart setup.limit t leave outcome sent
+    → KeepsApart setup.limit u (option_or leave (Some u))
+    (if unheard then gone outcome else
+    (if few then gone outcome else backing_off outcome (backoff_from setup u word outcome)))
+    (sent_with u 0 false (option_map bye_out
+    (if unheard then None else (if few then Some (bye_octets setup) else None))) ++ sent)
 leave_by setup t u word leave outcome sent true few usable order h = inl h.kept
 leave_by setup t u word leave outcome sent false true usable order h =
-    inr (last_bye setup (option_or leave (Some u)) u u 0 usable (ap (λ (l : Option ℕ). option_or l (Some u)) h.stays) (inl refl), h.kept)
+    inr (
+      last_bye setup (option_or leave (Some u)) u u 0 usable (ap (λ (l : Option ℕ). option_or l (Some u)) h.stays)
+          (inl refl),
+      h.kept,
+    )
 leave_by setup t u word leave outcome sent false false usable order h = record {
   up_to = one_more (transmitted u _ 1) order h.up_to;
   newest = refl;
@@ -234,17 +278,22 @@ leave_by setup t u word leave outcome sent false false usable order h = record {
   kept = h.kept;
 }
 
-stays_on : {limit t : ℕ} {leave other : Option ℕ} {outcome : Outcome} {sent : List Sent} → leave ≡ other → TakesPart limit t leave outcome sent → TakesPart limit t other outcome sent
-stays_on {limit} {t} {leave} {other} {outcome} {sent} same h = subst (λ (l : Option ℕ). TakesPart limit t l outcome sent) same h
+stays_on : {limit t : ℕ} {leave other : Option ℕ} {outcome : Outcome} {sent : List Sent} → leave ≡ other →
+    TakesPart limit t leave outcome sent → TakesPart limit t other outcome sent
+stays_on {limit} {t} {leave} {other} {outcome} {sent} same h =
+    subst (λ (l : Option ℕ). TakesPart limit t l outcome sent) same h
 
 -- what an act brings that changes no identifier
 abbrev sent_alone : Setup → Act → Life → List Sent
 sent_alone setup act life = sent_with (moment_of act) (interval_by setup act life) false (out_by setup act life)
 
-still_present : (setup : Setup) (t : ℕ) (leave : Option ℕ) (act : Act) (outcome : Outcome) (sent : List Sent) → IsUsable setup → t ≤ moment_of act → HasWords act → TakesPart setup.limit t leave outcome sent
-    → KeepsApart setup.limit (moment_of act) (option_or leave (leave_moment act)) (while_present setup act outcome) (sent_alone setup act (present outcome) ++ sent)
+still_present : (setup : Setup) (t : ℕ) (leave : Option ℕ) (act : Act) (outcome : Outcome) (sent : List Sent) →
+    IsUsable setup → t ≤ moment_of act → HasWords act → TakesPart setup.limit t leave outcome sent
+    → KeepsApart setup.limit (moment_of act) (option_or leave (leave_moment act)) (while_present setup act outcome)
+    (sent_alone setup act (present outcome) ++ sent)
 still_present setup t leave (arrived moment peer drawn (rtcp size (Ok packets))) outcome sent usable order words h =
-    passes (arrived moment peer drawn (rtcp size (Ok packets))) _ h refl (one_more (recounted moment _) order h.up_to) refl refl
+    passes (arrived moment peer drawn (rtcp size (Ok packets))) _ h refl (one_more (recounted moment _) order h.up_to)
+    refl refl
 still_present setup t leave (arrived moment peer drawn (rtcp size (Err fault))) outcome sent usable order words h =
     passes (arrived moment peer drawn (rtcp size (Err fault))) outcome h refl (later moment order h.up_to) refl refl
 still_present setup t leave (arrived moment peer drawn (rtp (Ok head))) outcome sent usable order words h =
@@ -256,15 +305,20 @@ still_present setup t leave (rtp_sent moment timestamp octets) outcome sent usab
 still_present setup t leave (ticked moment first_word second_word) outcome sent usable order words h =
     let now = checked setup moment outcome in
     stays_on (h.stays ∙ sym (ap (λ (l : Option ℕ). option_or l None) h.stays))
-    (tick_by setup moment first_word second_word leave now sent (has_come moment now) (has_passed setup moment first_word now) usable words.0
-    (λ come passed. record { came = leb-true _ moment come; passed = leb-true _ moment passed }) (checks setup moment order h))
+    (tick_by setup moment first_word second_word leave now sent (has_come moment now)
+    (has_passed setup moment first_word now) usable words.0
+    (λ come passed. record { came = leb-true _ moment come; passed = leb-true _ moment passed })
+    (checks setup moment order h))
 still_present setup t leave (left moment word) outcome sent usable order words h =
-    leave_by setup t moment word leave outcome sent (is_unheard outcome) (nat_le (member_count setup outcome) few_members) usable order h
+    leave_by setup t moment word leave outcome sent (is_unheard outcome)
+    (nat_le (member_count setup outcome) few_members) usable order h
 
 -- ---- Backing off
 
-waits : {limit t : ℕ} {leave : Option ℕ} {backoff : Backoff} {sent : List Sent} → (act : Act) (new : Backoff) → BacksOff limit t leave backoff sent
-    → new.since ≡ backoff.since → AreUpTo (moment_of act) new.happenings → newest_transmission new.happenings ≡ newest_transmission backoff.happenings
+waits : {limit t : ℕ} {leave : Option ℕ} {backoff : Backoff} {sent : List Sent} → (act : Act) (new : Backoff) →
+    BacksOff limit t leave backoff sent
+    → new.since ≡ backoff.since → AreUpTo (moment_of act) new.happenings →
+    newest_transmission new.happenings ≡ newest_transmission backoff.happenings
     → BacksOff limit (moment_of act) (option_or leave (leave_moment act)) new sent
 waits {limit} {t} {leave} {backoff} {sent} act new h since up_to newest = record {
   up_to = up_to;
@@ -273,29 +327,46 @@ waits {limit} {t} {leave} {backoff} {sent} act new h since up_to newest = record
   kept = h.kept;
 }
 
-hears : {limit t : ℕ} {leave : Option ℕ} {backoff : Backoff} {sent : List Sent} → (act : Act) (none : Bool) (farewells : List Farewell) → t ≤ moment_of act → BacksOff limit t leave backoff sent
-    → BacksOff limit (moment_of act) (option_or leave (leave_moment act)) (if none then backoff else record backoff { farewells = farewells }) sent
-hears {limit} {t} {leave} {backoff} {sent} act true farewells order h = waits act backoff h refl (later (moment_of act) order h.up_to) refl
-hears {limit} {t} {leave} {backoff} {sent} act false farewells order h = waits act (record backoff { farewells = farewells }) h refl (later (moment_of act) order h.up_to) refl
+hears : {limit t : ℕ} {leave : Option ℕ} {backoff : Backoff} {sent : List Sent} →
+    (act : Act) (none : Bool) (farewells : List Farewell) → t ≤ moment_of act → BacksOff limit t leave backoff sent
+    → BacksOff limit (moment_of act) (option_or leave (leave_moment act))
+    (if none then backoff else record backoff { farewells = farewells }) sent
+hears {limit} {t} {leave} {backoff} {sent} act true farewells order h = waits act backoff h refl
+    (later (moment_of act) order h.up_to) refl
+hears {limit} {t} {leave} {backoff} {sent} act false farewells order h =
+    waits act (record backoff { farewells = farewells }) h refl (later (moment_of act) order h.up_to) refl
 
-waits_on : {limit t : ℕ} {leave : Option ℕ} {backoff : Backoff} {sent : List Sent} → (act : Act) (come : Bool) (interval members : ℕ) → t ≤ moment_of act → BacksOff limit t leave backoff sent
-    → BacksOff limit (moment_of act) (option_or leave (leave_moment act)) (if come then record backoff { happenings = tried (moment_of act) interval members ∷ backoff.happenings } else backoff) sent
+waits_on : {limit t : ℕ} {leave : Option ℕ} {backoff : Backoff} {sent : List Sent} →
+    (act : Act) (come : Bool) (interval members : ℕ) → t ≤ moment_of act → BacksOff limit t leave backoff sent
+    → BacksOff limit (moment_of act) (option_or leave (leave_moment act))
+    (if come then record backoff { happenings = tried (moment_of act) interval members ∷ backoff.happenings } else
+    backoff) sent
 waits_on {limit} {t} {leave} {backoff} {sent} act true interval members order h =
-    waits act (record backoff { happenings = tried (moment_of act) interval members ∷ backoff.happenings }) h refl (one_more (tried (moment_of act) interval members) order h.up_to) refl
-waits_on {limit} {t} {leave} {backoff} {sent} act false interval members order h = waits act backoff h refl (later (moment_of act) order h.up_to) refl
+    waits act (record backoff { happenings = tried (moment_of act) interval members ∷ backoff.happenings }) h refl
+    (one_more (tried (moment_of act) interval members) order h.up_to) refl
+waits_on {limit} {t} {leave} {backoff} {sent} act false interval members order h = waits act backoff h refl
+    (later (moment_of act) order h.up_to) refl
 
-bye_by : (setup : Setup) (t : ℕ) (leave : Option ℕ) (act : Act) (word : ℕ) (outcome : Outcome) (backoff : Backoff) (sent : List Sent) (due : Bool) → IsUsable setup → t ≤ moment_of act → word < 2 ^ 32
-    → (due ≡ true → IsDue (schedule_at backoff.happenings) (moment_of act) (drawn_interval (leaving_interval setup backoff) word)) → BacksOff setup.limit t leave backoff sent
-    → KeepsApart setup.limit (moment_of act) (option_or leave (leave_moment act)) (if due then gone outcome else backing_off outcome (after_wait setup (moment_of act) word backoff))
-    (sent_with (moment_of act) (leaving_interval setup backoff) false (if due then Some (bye_out (bye_octets setup)) else None) ++ sent)
+bye_by : (setup : Setup) (t : ℕ) (leave : Option ℕ) (act : Act) (word : ℕ) (outcome : Outcome) (backoff : Backoff)
+    (sent : List Sent) (due : Bool) → IsUsable setup → t ≤ moment_of act → word < 2 ^ 32
+    → (due ≡ true → IsDue (schedule_at backoff.happenings) (moment_of act)
+    (drawn_interval (leaving_interval setup backoff) word)) → BacksOff setup.limit t leave backoff sent
+    → KeepsApart setup.limit (moment_of act) (option_or leave (leave_moment act))
+    (if due then gone outcome else backing_off outcome (after_wait setup (moment_of act) word backoff))
+    (sent_with (moment_of act) (leaving_interval setup backoff) false
+    (if due then Some (bye_out (bye_octets setup)) else None) ++ sent)
 bye_by setup t leave act word outcome backoff sent true usable order fits due h =
     let moment = moment_of act in
     let interval = leaving_interval setup backoff in
-    let apart = never_due_too_soon backoff.happenings moment (drawn_interval interval word) h.up_to.in_order (due refl) in
-    let half = half_passes backoff.since moment interval word fits (subst (λ (from : ℕ). from + drawn_interval interval word ≤ moment) h.newest apart) in
-    let least : 2500000 ≤ interval = interval_has_minimum (leaving_load setup (leaving_count backoff) backoff.farewells) in
+    let apart = never_due_too_soon backoff.happenings moment (drawn_interval interval word) h.up_to.in_order
+    (due refl) in
+    let half = half_passes backoff.since moment interval word fits
+    (subst (λ (from : ℕ). from + drawn_interval interval word ≤ moment) h.newest apart) in
+    let least : 2500000 ≤ interval =
+    interval_has_minimum (leaving_load setup (leaving_count backoff) backoff.farewells) in
     inr (
-      last_bye setup (option_or leave (leave_moment act)) backoff.since moment interval usable (ap (λ (l : Option ℕ). option_or l (leave_moment act)) h.left_then)
+      last_bye setup (option_or leave (leave_moment act)) backoff.since moment interval usable
+          (ap (λ (l : Option ℕ). option_or l (leave_moment act)) h.left_then)
           (inr (half, omega (arith, half, least))),
       h.kept,
     )
@@ -303,24 +374,37 @@ bye_by setup t leave act word outcome backoff sent false usable order fits due h
     waits_on act (nat_le (leaving_timing backoff).next (moment_of act)) _ _ order h
 
 -- the BYE of an identifier that is given up counts as one that was heard, of nobody
-farewell_by : (setup : Setup) (t moment : ℕ) (leave : Option ℕ) (heard : Bool) (outcome : Outcome) (backoff : Backoff) (sent : List Sent) → t ≤ moment → BacksOff setup.limit t leave backoff sent
-    → BacksOff setup.limit moment leave (if heard then record backoff { farewells = record { byes = 0; size = length (bye_octets setup) } ∷ backoff.farewells } else backoff) sent
-farewell_by setup t moment leave true outcome backoff sent order h = record { up_to = later moment order h.up_to; newest = h.newest; left_then = h.left_then; kept = h.kept }
-farewell_by setup t moment leave false outcome backoff sent order h = record { up_to = later moment order h.up_to; newest = h.newest; left_then = h.left_then; kept = h.kept }
+farewell_by : (setup : Setup) (t moment : ℕ) (leave : Option ℕ) (heard : Bool) (outcome : Outcome) (backoff : Backoff)
+    (sent : List Sent) → t ≤ moment → BacksOff setup.limit t leave backoff sent
+    → BacksOff setup.limit moment leave
+    (if heard then record backoff {
+      farewells = record { byes = 0; size = length (bye_octets setup) }
+          ∷ backoff.farewells;
+    } else backoff) sent
+farewell_by setup t moment leave true outcome backoff sent order h =
+    record { up_to = later moment order h.up_to; newest = h.newest; left_then = h.left_then; kept = h.kept }
+farewell_by setup t moment leave false outcome backoff sent order h =
+    record { up_to = later moment order h.up_to; newest = h.newest; left_then = h.left_then; kept = h.kept }
 
-still_backing_off : (setup : Setup) (t : ℕ) (leave : Option ℕ) (act : Act) (outcome : Outcome) (backoff : Backoff) (sent : List Sent) → IsUsable setup → t ≤ moment_of act → HasWords act → BacksOff setup.limit t leave backoff sent
-    → KeepsApart setup.limit (moment_of act) (option_or leave (leave_moment act)) (while_backing_off setup act outcome backoff) (sent_alone setup act (backing_off outcome backoff) ++ sent)
-still_backing_off setup t leave (arrived moment peer drawn (rtcp size (Ok packets))) outcome backoff sent usable order words h =
+still_backing_off : (setup : Setup) (t : ℕ) (leave : Option ℕ) (act : Act) (outcome : Outcome) (backoff : Backoff)
+    (sent : List Sent) → IsUsable setup → t ≤ moment_of act → HasWords act → BacksOff setup.limit t leave backoff sent
+    → KeepsApart setup.limit (moment_of act) (option_or leave (leave_moment act))
+    (while_backing_off setup act outcome backoff) (sent_alone setup act (backing_off outcome backoff) ++ sent)
+still_backing_off setup t leave (arrived moment peer drawn (rtcp size (Ok packets))) outcome backoff sent usable order
+    words h =
     hears (arrived moment peer drawn (rtcp size (Ok packets))) (bye_count packets == 0) _ order h
-still_backing_off setup t leave (arrived moment peer drawn (rtcp size (Err fault))) outcome backoff sent usable order words h =
+still_backing_off setup t leave (arrived moment peer drawn (rtcp size (Err fault))) outcome backoff sent usable order
+    words h =
     waits (arrived moment peer drawn (rtcp size (Err fault))) backoff h refl (later moment order h.up_to) refl
 still_backing_off setup t leave (arrived moment peer drawn (rtp reading)) outcome backoff sent usable order words h =
     waits (arrived moment peer drawn (rtp reading)) backoff h refl (later moment order h.up_to) refl
 still_backing_off setup t leave (rtp_sent moment timestamp octets) outcome backoff sent usable order words h =
     waits (rtp_sent moment timestamp octets) backoff h refl (later moment order h.up_to) refl
 still_backing_off setup t leave (ticked moment first_word second_word) outcome backoff sent usable order words h =
-    bye_by setup t leave (ticked moment first_word second_word) first_word outcome backoff sent (is_bye_due setup moment first_word backoff) usable order words.0
-    (λ due. let parts = and_parts _ _ due in record { came = leb-true _ moment parts.0; passed = leb-true _ moment parts.1 }) h
+    bye_by setup t leave (ticked moment first_word second_word) first_word outcome backoff sent
+    (is_bye_due setup moment first_word backoff) usable order words.0
+    (λ due. let parts = and_parts _ _ due in
+    record { came = leb-true _ moment parts.0; passed = leb-true _ moment parts.1 }) h
 still_backing_off setup t leave (left moment word) outcome backoff sent usable order words h =
     waits (left moment word) backoff h refl (later moment order h.up_to) refl
 
@@ -330,17 +414,21 @@ still_backing_off setup t leave (left moment word) outcome backoff sent usable o
 abbrev change_sent : (setup : Setup) (moment : ℕ) (heard : Bool) → List Sent
 change_sent setup moment heard = sent_with moment 0 true (if heard then Some (bye_out (bye_octets setup)) else None)
 
-change_kept : (setup : Setup) (moment : ℕ) (heard : Bool) (sent : List Sent) → IsUsable setup → AreKept setup.limit sent → AreKept setup.limit (change_sent setup moment heard ++ sent)
+change_kept : (setup : Setup) (moment : ℕ) (heard : Bool) (sent : List Sent) → IsUsable setup →
+    AreKept setup.limit sent → AreKept setup.limit (change_sent setup moment heard ++ sent)
 change_kept setup moment true sent usable h =
     record { reports = h.reports; all = (record { kind = λ no. refl; fits = bye_is_within setup usable }, h.all) }
 change_kept setup moment false sent usable h = h
 
-change_reports : (setup : Setup) (moment : ℕ) (heard : Bool) (sent : List Sent) → reports_in (change_sent setup moment heard ++ sent) ≡ reports_in sent
+change_reports : (setup : Setup) (moment : ℕ) (heard : Bool) (sent : List Sent) →
+    reports_in (change_sent setup moment heard ++ sent) ≡ reports_in sent
 change_reports setup moment true sent = refl
 change_reports setup moment false sent = refl
 
-change_apart : (setup : Setup) (t moment : ℕ) (leave : Option ℕ) (life : Life) (sent : List Sent) → IsUsable setup → t ≤ moment → KeepsApart setup.limit t leave life sent
-    → KeepsApart setup.limit moment leave (with_new_ssrc setup life) (sent_with moment 0 true (own_bye setup life) ++ sent)
+change_apart : (setup : Setup) (t moment : ℕ) (leave : Option ℕ) (life : Life) (sent : List Sent) → IsUsable setup →
+    t ≤ moment → KeepsApart setup.limit t leave life sent
+    → KeepsApart setup.limit moment leave (with_new_ssrc setup life)
+    (sent_with moment 0 true (own_bye setup life) ++ sent)
 change_apart setup t moment leave (present outcome) sent usable order h = record {
   up_to = later moment order h.up_to;
   newest = h.newest ∙ sym (ap newest_moment (change_reports setup moment (has_sent outcome.own) sent));
@@ -350,51 +438,76 @@ change_apart setup t moment leave (present outcome) sent usable order h = record
 }
 change_apart setup t moment leave (backing_off outcome backoff) sent usable order h =
     let waited = farewell_by setup t moment leave (has_sent outcome.own) outcome backoff sent order h in
-    record { up_to = waited.up_to; newest = waited.newest; left_then = waited.left_then; kept = change_kept setup moment (has_sent outcome.own) sent usable h.kept }
+    record {
+      up_to = waited.up_to;
+      newest = waited.newest;
+      left_then = waited.left_then;
+      kept = change_kept setup moment (has_sent outcome.own) sent usable h.kept;
+    }
 change_apart setup t moment leave (gone outcome) sent usable order h = h
 
 -- ---- Sessions
 
-still_late : (leave : Option ℕ) (act : Act) (bye : Sent) → IsLate leave bye → IsLate (option_or leave (leave_moment act)) bye
+still_late : (leave : Option ℕ) (act : Act) (bye : Sent) → IsLate leave bye →
+    IsLate (option_or leave (leave_moment act)) bye
 still_late None act bye late = absurd late
 still_late (Some moment) act bye late = late
 
-still_ends : (limit : ℕ) (leave : Option ℕ) (act : Act) (sent : List Sent) → EndsSo limit leave sent → EndsSo limit (option_or leave (leave_moment act)) sent
+still_ends : (limit : ℕ) (leave : Option ℕ) (act : Act) (sent : List Sent) → EndsSo limit leave sent →
+    EndsSo limit (option_or leave (leave_moment act)) sent
 still_ends limit leave act [] h = absurd h
-still_ends limit leave act (bye ∷ earlier) h = (record { kind = h.0.kind; leaves = h.0.leaves; late = still_late leave act bye h.0.late; fits = h.0.fits }, h.1)
+still_ends limit leave act (bye ∷ earlier) h =
+    (record { kind = h.0.kind; leaves = h.0.leaves; late = still_late leave act bye h.0.late; fits = h.0.fits }, h.1)
 
-keeps_apart : (setup : Setup) (t : ℕ) (leave : Option ℕ) (act : Act) (life : Life) (sent : List Sent) → IsUsable setup → t ≤ moment_of act → HasWords act → KeepsApart setup.limit t leave life sent
-    → KeepsApart setup.limit (moment_of act) (option_or leave (leave_moment act)) (lived setup act life) (sent_alone setup act life ++ sent)
-keeps_apart setup t leave act (present outcome) sent usable order words h = still_present setup t leave act outcome sent usable order words h
-keeps_apart setup t leave act (backing_off outcome backoff) sent usable order words h = still_backing_off setup t leave act outcome backoff sent usable order words h
+keeps_apart : (setup : Setup) (t : ℕ) (leave : Option ℕ) (act : Act) (life : Life) (sent : List Sent) → IsUsable setup →
+    t ≤ moment_of act → HasWords act → KeepsApart setup.limit t leave life sent
+    → KeepsApart setup.limit (moment_of act) (option_or leave (leave_moment act)) (lived setup act life)
+    (sent_alone setup act life ++ sent)
+keeps_apart setup t leave act (present outcome) sent usable order words h = still_present setup t leave act outcome sent
+    usable order words h
+keeps_apart setup t leave act (backing_off outcome backoff) sent usable order words h =
+    still_backing_off setup t leave act outcome backoff sent usable order words h
 keeps_apart setup t leave act (gone outcome) sent usable order words (inl kept) = inl kept
-keeps_apart setup t leave act (gone outcome) sent usable order words (inr ends) = inr (still_ends setup.limit leave act sent ends)
+keeps_apart setup t leave act (gone outcome) sent usable order words (inr ends) =
+    inr (still_ends setup.limit leave act sent ends)
 
 -- one act, after the change that it brings
-step_apart : (session : Session) (t : ℕ) (leave : Option ℕ) (act : Act) (sent : List Sent) (change : Option NewIdentifier) → change_by session act ≡ change → IsUsable session.setup → t ≤ moment_of act → HasWords act
+step_apart : (session : Session) (t : ℕ) (leave : Option ℕ) (act : Act) (sent : List Sent)
+    (change : Option NewIdentifier) → change_by session act ≡ change → IsUsable session.setup → t ≤ moment_of act →
+    HasWords act
     → KeepsApart session.setup.limit t leave session.life sent → let now = changed_by change session in
     KeepsApart session.setup.limit (moment_of act) (option_or leave (leave_moment act)) (lived now.setup act now.life)
-    (sent_with (moment_of act) (if is_some change then 0 else interval_by session.setup act session.life) (is_some change) (option_or (bye_of_change change session) (out_by now.setup act now.life)) ++ sent)
-step_apart session t leave act sent None is usable order words h = keeps_apart session.setup t leave act session.life sent usable order words h
+    (sent_with (moment_of act) (if is_some change then 0 else interval_by session.setup act session.life)
+    (is_some change) (option_or (bye_of_change change session) (out_by now.setup act now.life)) ++ sent)
+step_apart session t leave act sent None is usable order words h = keeps_apart session.setup t leave act session.life
+    sent usable order words h
 step_apart session t leave act sent (Some new) is usable order words h =
     let now = changed_to new session in
     let moment = moment_of act in
     let before = sent_with moment 0 true (own_bye session.setup session.life) ++ sent in
-    let P : List Sent → Type 0 = KeepsApart session.setup.limit moment (option_or leave (leave_moment act)) (lived now.setup act now.life) in
-    let apart = keeps_apart now.setup moment leave act now.life before (usable_with_ssrc new.ssrc session.setup usable) (omega arith) words (change_apart session.setup t moment leave session.life sent usable order h) in
-    let alone : P before = subst (λ (out : Option OutValue). P (sent_with moment (interval_by now.setup act now.life) false out ++ before)) (nothing_more session act new is now.setup now.life) apart in
-    subst (λ (out : Option OutValue). P (sent_with moment 0 true out ++ sent)) (sym (bye_alone session act new is)) alone
+    let P : List Sent → Type 0 = KeepsApart session.setup.limit moment (option_or leave (leave_moment act))
+    (lived now.setup act now.life) in
+    let apart = keeps_apart now.setup moment leave act now.life before (usable_with_ssrc new.ssrc session.setup usable)
+    (omega arith) words (change_apart session.setup t moment leave session.life sent usable order h) in
+    let alone : P before = subst (λ (out : Option OutValue). P
+    (sent_with moment (interval_by now.setup act now.life) false out ++ before))
+    (nothing_more session act new is now.setup now.life) apart in
+    subst (λ (out : Option OutValue). P (sent_with moment 0 true out ++ sent)) (sym (bye_alone session act new is))
+    alone
 
 pub in_order : (back : Bool) (others : Option Refusal) → (if back then Some Backwards else others) ≡ None → back ≡ false
 in_order true others none = absurd cc
 in_order false others none = refl
 
 -- an act that is taken does not lie before the last one
-pub in_time : (history : History) (act : Act) → refusal_after history act ≡ None → last_moment history.acts ≤ moment_of act
-in_time history act none = ltb-false (moment_of act) (last_moment history.acts) (in_order (nat_lt (moment_of act) (last_moment history.acts)) _ (unrefused history act none).0)
+pub in_time : (history : History) (act : Act) → refusal_after history act ≡ None →
+    last_moment history.acts ≤ moment_of act
+in_time history act none = ltb-false (moment_of act) (last_moment history.acts)
+    (in_order (nat_lt (moment_of act) (last_moment history.acts)) _ (unrefused history act none).0)
 
 pub session_keeps_apart : (setup : Setup) (word : ℕ) (acts : List Act) → IsUsable setup → AllTaken setup word acts
-    → KeepsApart setup.limit (last_moment acts) (first_leave acts) (session_of setup word acts).life (sent_over setup word acts)
+    → KeepsApart setup.limit (last_moment acts) (first_leave acts) (session_of setup word acts).life
+    (sent_over setup word acts)
 session_keeps_apart setup word [] usable taken = record {
   up_to = record { in_order = (omega arith, tt); past = omega arith };
   newest = refl;
@@ -405,7 +518,10 @@ session_keeps_apart setup word [] usable taken = record {
 session_keeps_apart setup word (act ∷ earlier) usable taken =
     let before = session_of setup word earlier in
     let same = ap (λ (s : Setup). s.limit) (same_but_ssrc setup word earlier) in
-    let earlier_apart = subst (λ (limit : ℕ). KeepsApart limit (last_moment earlier) (first_leave earlier) before.life (sent_over setup word earlier)) (sym same) (session_keeps_apart setup word earlier usable taken.2) in
-    subst (λ (limit : ℕ). KeepsApart limit (moment_of act) (option_or (first_leave earlier) (leave_moment act)) (session_of setup word (act ∷ earlier)).life (sent_by before act ++ sent_over setup word earlier)) same
-    (step_apart before (last_moment earlier) (first_leave earlier) act (sent_over setup word earlier) (change_by before act) refl (usable_in setup word earlier usable)
+    let earlier_apart = subst (λ (limit : ℕ). KeepsApart limit (last_moment earlier) (first_leave earlier) before.life
+    (sent_over setup word earlier)) (sym same) (session_keeps_apart setup word earlier usable taken.2) in
+    subst (λ (limit : ℕ). KeepsApart limit (moment_of act) (option_or (first_leave earlier) (leave_moment act))
+    (session_of setup word (act ∷ earlier)).life (sent_by before act ++ sent_over setup word earlier)) same
+    (step_apart before (last_moment earlier) (first_leave earlier) act (sent_over setup word earlier)
+    (change_by before act) refl (usable_in setup word earlier usable)
     (in_time (record { setup = setup; word = word; acts = earlier }) act taken.0) taken.1 earlier_apart)

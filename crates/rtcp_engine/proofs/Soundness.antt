@@ -29,8 +29,10 @@ pub record IsInStep (transmission reports latest calls : ℕ) : Type 0 where
   pub fewer : reports ≤ calls
   pub few : calls < 2 ^ 40
 
-pub kept : {s : State} → IsSound s → (table : TableValue) (timing : Timing) (average : ℕ) (own : OwnValue) (cursor : Option ℕ) (reports latest calls : ℕ) →
-    IsKept s.table table calls → IsInStep timing.last reports latest calls → IsSound (state_with s.setup table timing average own cursor reports latest calls)
+pub kept : {s : State} → IsSound s → (table : TableValue) (timing : Timing) (average : ℕ) (own : OwnValue)
+    (cursor : Option ℕ) (reports latest calls : ℕ) →
+    IsKept s.table table calls → IsInStep timing.last reports latest calls →
+    IsSound (state_with s.setup table timing average own cursor reports latest calls)
 kept {s} sound table timing average own cursor reports latest calls is_kept in_step = record {
   usable = sound.usable;
   capacity = is_kept.bounds.capacity ∙ sound.capacity;
@@ -48,7 +50,8 @@ kept {s} sound table timing average own cursor reports latest calls is_kept in_s
 few_entries : {s : State} → IsSound s → finite.len s.table.entries ≤ s.table.capacity
 few_entries {s} sound = omega (arith, sound.room, sound.capacity)
 
-pub facts_kept : {s : State} → IsSound s → (facts : List Fact) (t : ℕ) → All (λ fact. is_media fact ≡ false) facts → IsKept s.table (after_facts facts t s.table) s.calls
+pub facts_kept : {s : State} → IsSound s → (facts : List Fact) (t : ℕ) → All (λ fact. is_media fact ≡ false) facts →
+    IsKept s.table (after_facts facts t s.table) s.calls
 facts_kept {s} sound facts t none = record {
   bounds = tables.bounds_are_kept-facts s.table facts t;
   room = tables.capacity_is_kept-facts s.table facts t (few_entries sound);
@@ -69,11 +72,13 @@ blocks_kept {s} sound rows = record {
   few = tables_follow_reports-packets s.calls rows s.table sound.few;
 }
 
-one_heard : (other : Bool) (csrc : ℕ) (facts : List Fact) → All (λ fact. is_media fact ≡ false) facts → All (λ fact. is_media fact ≡ false) (if other then Heard csrc ∷ facts else facts)
+one_heard : (other : Bool) (csrc : ℕ) (facts : List Fact) → All (λ fact. is_media fact ≡ false) facts →
+    All (λ fact. is_media fact ≡ false) (if other then Heard csrc ∷ facts else facts)
 one_heard true csrc facts none = All-cons (λ fact. is_media fact ≡ false) (Heard csrc) facts refl none
 one_heard false csrc facts none = none
 
-map_of_test : (other : Bool) (csrc : ℕ) (csrcs : List ℕ) → map Heard (if other then csrc ∷ csrcs else csrcs) ≡ (if other then Heard csrc ∷ map Heard csrcs else map Heard csrcs)
+map_of_test : (other : Bool) (csrc : ℕ) (csrcs : List ℕ) → map Heard (if other then csrc ∷ csrcs else csrcs)
+    ≡ (if other then Heard csrc ∷ map Heard csrcs else map Heard csrcs)
 map_of_test true csrc csrcs = refl
 map_of_test false csrc csrcs = refl
 
@@ -81,25 +86,31 @@ heard_facts : (own : ℕ) (csrcs : List ℕ) → All (λ fact. is_media fact ≡
 heard_facts own [] = All-nil (λ fact. is_media fact ≡ false)
 heard_facts own (csrc ∷ csrcs) =
     let other = not (csrc == own) in
-    subst (λ (facts : List Fact). All (λ fact. is_media fact ≡ false) facts) (sym (map_of_test other csrc (filter (λ ssrc. not (ssrc == own)) csrcs)))
+    subst (λ (facts : List Fact). All (λ fact. is_media fact ≡ false) facts)
+    (sym (map_of_test other csrc (filter (λ ssrc. not (ssrc == own)) csrcs)))
     (one_heard other csrc (facts_of_csrcs own csrcs) (heard_facts own csrcs))
 
-few_media : (own : ℕ) (head : RtpValue) (is_counted : Bool) (table : TableValue) (t packets : ℕ) → HasFew packets table →
-    HasFew (packets + 1) (after_facts (media_fact head ∷ (if is_counted then facts_of_csrcs own head.csrcs else [])) t table)
+few_media : (own : ℕ) (head : RtpValue) (is_counted : Bool) (table : TableValue) (t packets : ℕ) →
+    HasFew packets table →
+    HasFew (packets + 1) (after_facts (media_fact head ∷ (if is_counted then facts_of_csrcs own head.csrcs else [])) t
+    table)
 few_media own head true table t packets few =
-    tables.packets_are_few-facts (packets + 1) (after_fact (media_fact head) t table) (facts_of_csrcs own head.csrcs) t (heard_facts own head.csrcs)
+    tables.packets_are_few-facts (packets + 1) (after_fact (media_fact head) t table) (facts_of_csrcs own head.csrcs) t
+    (heard_facts own head.csrcs)
     (tables.packets_are_few-fact packets table (media_fact head) t few)
 few_media own head false table t packets few = tables.packets_are_few-fact packets table (media_fact head) t few
 
 -- a source has a packet more, but still no more than there were calls
 pub media_kept : {s : State} → IsSound s → 0 < s.calls → HasFew (s.calls - 1) s.table → (head : RtpValue) (t : ℕ) →
-    IsKept s.table (after_facts (facts_of_media s.setup.ssrc head (counted s.table (media_fact head))) t s.table) s.calls
+    IsKept s.table (after_facts (facts_of_media s.setup.ssrc head (counted s.table (media_fact head))) t s.table)
+    s.calls
 media_kept {s} sound some few head t =
     let facts = facts_of_media s.setup.ssrc head (counted s.table (media_fact head)) in
     record {
       bounds = tables.bounds_are_kept-facts s.table facts t;
       room = tables.capacity_is_kept-facts s.table facts t (few_entries sound);
-      few = tables.packets_are_few-more (s.calls - 1 + 1) s.calls (after_facts facts t s.table) (omega (arith, some)) (few_media s.setup.ssrc head (counted s.table (media_fact head)) s.table t (s.calls - 1) few);
+      few = tables.packets_are_few-more (s.calls - 1 + 1) s.calls (after_facts facts t s.table) (omega (arith, some))
+          (few_media s.setup.ssrc head (counted s.table (media_fact head)) s.table t (s.calls - 1) few);
     }
 
 -- ---- Schedules and calls

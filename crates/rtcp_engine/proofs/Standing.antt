@@ -12,26 +12,36 @@ use Rattle.rtcp_engine.specs.States.{PhaseValue, ParticipantValue, IsAt, StandsA
 
 -- ---- Refusals
 
-refusal_at : (p : ParticipantValue) (life : Life) → IsAt p life → (call datagram : Option Refusal) → refusal_in life (option_or call datagram) ≡ option_or (refusal_in_phase p.phase call) datagram
-refusal_at p (present outcome) at call datagram = sym (ap (λ (phase : PhaseValue). option_or (refusal_in_phase phase call) datagram) at.0)
-refusal_at p (backing_off outcome backoff) at call datagram = sym (ap (λ (phase : PhaseValue). option_or (refusal_in_phase phase call) datagram) at.0)
-refusal_at p (gone outcome) at call datagram = sym (ap (λ (phase : PhaseValue). option_or (refusal_in_phase phase call) datagram) at)
+refusal_at : (p : ParticipantValue) (life : Life) → IsAt p life → (call datagram : Option Refusal) →
+    refusal_in life (option_or call datagram) ≡ option_or (refusal_in_phase p.phase call) datagram
+refusal_at p (present outcome) at call datagram =
+    sym (ap (λ (phase : PhaseValue). option_or (refusal_in_phase phase call) datagram) at.0)
+refusal_at p (backing_off outcome backoff) at call datagram =
+    sym (ap (λ (phase : PhaseValue). option_or (refusal_in_phase phase call) datagram) at.0)
+refusal_at p (gone outcome) at call datagram =
+    sym (ap (λ (phase : PhaseValue). option_or (refusal_in_phase phase call) datagram) at)
 
 -- A participant refuses what its history refuses: as any call then, or for the datagram.
-pub refusal_is : (p : ParticipantValue) (h : History) (act : Act) (call datagram : Option Refusal) → StandsAt p h → refusal_by (moment_of act) p ≡ call → refusal_of_datagram (session_at h) act ≡ datagram → refusal_after h act ≡ option_or call datagram
+pub refusal_is : (p : ParticipantValue) (h : History) (act : Act) (call datagram : Option Refusal) → StandsAt p h →
+    refusal_by (moment_of act) p ≡ call → refusal_of_datagram (session_at h) act ≡ datagram →
+    refusal_after h act ≡ option_or call datagram
 refusal_is p h act call datagram stands calls datagrams =
     let own = refusal_of_datagram (session_at h) act in
     refusal_at p (life_at h) stands.session.life (call_refusal (moment_of act) (last_moment h.acts) (length h.acts)) own
-    ∙ (λ i. option_or (refusal_in_phase p.phase (call_refusal (moment_of act) (sym stands.latest i) (sym stands.calls i))) own)
+    ∙ (λ i. option_or (refusal_in_phase p.phase
+    (call_refusal (moment_of act) (sym stands.latest i) (sym stands.calls i))) own)
     ∙ (λ i. option_or (calls i) (datagrams i))
 
 -- ---- Answers
 
-pub refused_answer : (h : History) (act : Act) (reason : Refusal) → refusal_after h act ≡ Some reason → Err reason ≡ answer_of h act
+pub refused_answer : (h : History) (act : Act) (reason : Refusal) → refusal_after h act ≡ Some reason →
+    Err reason ≡ answer_of h act
 refused_answer h act reason is = sym (ap (λ (r : Option Refusal). answer_unless r (step_by h act)) is)
 
-pub whole_refused : (p : ParticipantValue) (h : History) (act : Act) (reason : Refusal) → refusal_after h act ≡ Some reason → StandsAt p h → StandsAt p (followed_by h act)
-whole_refused p h act reason is stands = subst (StandsAt p) (sym (ap (λ (r : Option Refusal). elim r [ None ↦ with_act h act | Some other ↦ h ]) is)) stands
+pub whole_refused : (p : ParticipantValue) (h : History) (act : Act) (reason : Refusal) →
+    refusal_after h act ≡ Some reason → StandsAt p h → StandsAt p (followed_by h act)
+whole_refused p h act reason is stands =
+    subst (StandsAt p) (sym (ap (λ (r : Option Refusal). elim r [ None ↦ with_act h act | Some other ↦ h ]) is)) stands
 
 pub taken_history : (h : History) (act : Act) → refusal_after h act ≡ None → with_act h act ≡ followed_by h act
 taken_history h act none = sym (ap (λ (r : Option Refusal). elim r [ None ↦ with_act h act | Some other ↦ h ]) none)

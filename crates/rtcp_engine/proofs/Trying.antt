@@ -14,17 +14,23 @@ tried_first most is_taken ssrc taken = if taken then first_free most is_taken (a
 abbrev pub AreTaken : (is_taken : ℕ → Bool) (ssrc places : ℕ) → Type 0
 AreTaken is_taken ssrc places = (place : ℕ) → place < places → is_taken (after ssrc place) ≡ true
 
-first_is_taken : (is_taken : ℕ → Bool) (ssrc places : ℕ) → ssrc < 2 ^ 32 → AreTaken is_taken ssrc (suc places) → is_taken ssrc ≡ true
+first_is_taken : (is_taken : ℕ → Bool) (ssrc places : ℕ) → ssrc < 2 ^ 32 → AreTaken is_taken ssrc (suc places) →
+    is_taken ssrc ≡ true
 first_is_taken is_taken ssrc places fits taken = sym (ap is_taken (omega (arith, fits))) ∙ taken 0 (omega arith)
 
-others_are_taken : (is_taken : ℕ → Bool) (ssrc places : ℕ) → AreTaken is_taken ssrc (suc places) → AreTaken is_taken (after ssrc 1) places
-others_are_taken is_taken ssrc places taken place within = ap is_taken (omega arith) ∙ taken (place + 1) (omega (arith, within))
+others_are_taken : (is_taken : ℕ → Bool) (ssrc places : ℕ) → AreTaken is_taken ssrc (suc places) →
+    AreTaken is_taken (after ssrc 1) places
+others_are_taken is_taken ssrc places taken place within = ap is_taken (omega arith)
+    ∙ taken (place + 1) (omega (arith, within))
 
 -- The first that is free, where what is chosen is free.
-pub first_is_chosen : (most : ℕ) (is_taken : ℕ → Bool) (ssrc places : ℕ) → ssrc < 2 ^ 32 → is_taken (first_free most is_taken ssrc) ≡ false → AreTaken is_taken ssrc places → is_taken (after ssrc places) ≡ false
+pub first_is_chosen : (most : ℕ) (is_taken : ℕ → Bool) (ssrc places : ℕ) → ssrc < 2 ^ 32 →
+    is_taken (first_free most is_taken ssrc) ≡ false → AreTaken is_taken ssrc places →
+    is_taken (after ssrc places) ≡ false
     → after ssrc places ≡ first_free most is_taken ssrc
 first_is_chosen zero is_taken ssrc zero fits free taken found = omega (arith, fits)
-first_is_chosen zero is_taken ssrc (suc places) fits free taken found = absurd (both (first_is_taken is_taken ssrc places fits taken) free)
+first_is_chosen zero is_taken ssrc (suc places) fits free taken found =
+    absurd (both (first_is_taken is_taken ssrc places fits taken) free)
   where
     both : is_taken ssrc ≡ true → is_taken ssrc ≡ false → ⊥
     both one other = absurd (cc (sym one ∙ other))
@@ -36,19 +42,23 @@ first_is_chosen (suc most) is_taken ssrc (suc places) fits free taken found =
     let next = ap (tried_first most is_taken ssrc) first in
     let place : after (after ssrc 1) places ≡ after ssrc (suc places) = omega arith in
     sym place
-    ∙ first_is_chosen most is_taken (after ssrc 1) places (omega arith) (sym (ap is_taken next) ∙ free) (others_are_taken is_taken ssrc places taken) (ap is_taken place ∙ found)
+    ∙ first_is_chosen most is_taken (after ssrc 1) places (omega arith) (sym (ap is_taken next) ∙ free)
+    (others_are_taken is_taken ssrc places taken) (ap is_taken place ∙ found)
     ∙ sym next
 
 -- Not all of more places than are tried are taken.
-pub some_is_free : (most : ℕ) (is_taken : ℕ → Bool) (ssrc places : ℕ) → ssrc < 2 ^ 32 → most < places → AreTaken is_taken ssrc places → is_taken (first_free most is_taken ssrc) ≡ true
+pub some_is_free : (most : ℕ) (is_taken : ℕ → Bool) (ssrc places : ℕ) → ssrc < 2 ^ 32 → most < places →
+    AreTaken is_taken ssrc places → is_taken (first_free most is_taken ssrc) ≡ true
 some_is_free most is_taken ssrc zero fits more taken = absurd (omega (arith, more))
 some_is_free zero is_taken ssrc (suc places) fits more taken = first_is_taken is_taken ssrc places fits taken
 some_is_free (suc most) is_taken ssrc (suc places) fits more taken =
     let first = first_is_taken is_taken ssrc places fits taken in
     ap is_taken (ap (tried_first most is_taken ssrc) first)
-    ∙ some_is_free most is_taken (after ssrc 1) places (omega arith) (omega (arith, more)) (others_are_taken is_taken ssrc places taken)
+    ∙ some_is_free most is_taken (after ssrc 1) places (omega arith) (omega (arith, more))
+    (others_are_taken is_taken ssrc places taken)
 
-pub one_more_taken : (is_taken : ℕ → Bool) (ssrc places : ℕ) → AreTaken is_taken ssrc places → is_taken (after ssrc places) ≡ true → AreTaken is_taken ssrc (places + 1)
+pub one_more_taken : (is_taken : ℕ → Bool) (ssrc places : ℕ) → AreTaken is_taken ssrc places →
+    is_taken (after ssrc places) ≡ true → AreTaken is_taken ssrc (places + 1)
 one_more_taken is_taken ssrc places taken last place within =
     elim (cases_lt place places) [
       | inl before ↦ taken place before
@@ -67,13 +77,20 @@ record ComesAfter (is_taken : ℕ → Bool) (ssrc number : ℕ) : Type 0 where
   pub taken : AreTaken is_taken ssrc places
 
 at_once : (is_taken : ℕ → Bool) (ssrc : ℕ) → ssrc < 2 ^ 32 → ComesAfter is_taken ssrc ssrc
-at_once is_taken ssrc fits = record { places = 0; here = omega (arith, fits); taken = λ place within. absurd (omega (arith, within)) }
+at_once is_taken ssrc fits = record {
+  places = 0;
+  here = omega (arith, fits);
+  taken = λ place within. absurd (omega (arith, within));
+}
 
-one_before : (is_taken : ℕ → Bool) (ssrc places : ℕ) → ssrc < 2 ^ 32 → is_taken ssrc ≡ true → AreTaken is_taken (after ssrc 1) places → AreTaken is_taken ssrc (places + 1)
+one_before : (is_taken : ℕ → Bool) (ssrc places : ℕ) → ssrc < 2 ^ 32 → is_taken ssrc ≡ true →
+    AreTaken is_taken (after ssrc 1) places → AreTaken is_taken ssrc (places + 1)
 one_before is_taken ssrc places fits first taken zero within = ap is_taken (omega (arith, fits)) ∙ first
-one_before is_taken ssrc places fits first taken (suc place) within = ap is_taken (omega arith) ∙ taken place (omega (arith, within))
+one_before is_taken ssrc places fits first taken (suc place) within = ap is_taken (omega arith)
+    ∙ taken place (omega (arith, within))
 
-chosen_after : (most : ℕ) (is_taken : ℕ → Bool) (ssrc : ℕ) → ssrc < 2 ^ 32 → ComesAfter is_taken ssrc (first_free most is_taken ssrc)
+chosen_after : (most : ℕ) (is_taken : ℕ → Bool) (ssrc : ℕ) → ssrc < 2 ^ 32 →
+    ComesAfter is_taken ssrc (first_free most is_taken ssrc)
 chosen_after zero is_taken ssrc fits = at_once is_taken ssrc fits
 chosen_after (suc most) is_taken ssrc fits =
     elim (is_taken ssrc) as (λ b. is_taken ssrc ≡ b → ComesAfter is_taken ssrc (tried_first most is_taken ssrc b)) [
@@ -81,10 +98,15 @@ chosen_after (suc most) is_taken ssrc fits =
       | true ↦ λ first.
           let later = chosen_after most is_taken (after ssrc 1) (omega arith) in
           let place : after (after ssrc 1) later.places ≡ after ssrc (later.places + 1) = omega arith in
-          record { places = later.places + 1; here = later.here ∙ place; taken = one_before is_taken ssrc later.places fits first later.taken }
+          record {
+            places = later.places + 1;
+            here = later.here ∙ place;
+            taken = one_before is_taken ssrc later.places fits first later.taken;
+          }
     ] refl
 
-pub chosen_is_first : (most : ℕ) (is_taken : ℕ → Bool) (ssrc : ℕ) → ssrc < 2 ^ 32 → is_taken (first_free most is_taken ssrc) ≡ false → IsFirstFree is_taken ssrc (first_free most is_taken ssrc)
+pub chosen_is_first : (most : ℕ) (is_taken : ℕ → Bool) (ssrc : ℕ) → ssrc < 2 ^ 32 →
+    is_taken (first_free most is_taken ssrc) ≡ false → IsFirstFree is_taken ssrc (first_free most is_taken ssrc)
 chosen_is_first most is_taken ssrc fits free =
     let at = chosen_after most is_taken ssrc fits in
     record { tries = at.places; here = at.here; free = free; sooner = at.taken }

@@ -11,7 +11,8 @@ use Rattle.rtcp_engine.specs.Setups.{Setup, is_within, IsWithin, is_extra_item, 
 use Rattle.rtcp_engine.specs.Refused.{are_extras, is_bandwidth, is_limit, error_in}
 
 -- a test that was passed
-passed : (test : Bool) (error : ConfigError) (others : Option ConfigError) → (if not test then Some error else others) ≡ None → (test ≡ true) × (others ≡ None)
+passed : (test : Bool) (error : ConfigError) (others : Option ConfigError) →
+    (if not test then Some error else others) ≡ None → (test ≡ true) × (others ≡ None)
 passed true error others h = (refl, h)
 passed false error others h = absurd cc
 
@@ -56,7 +57,8 @@ usable_of_unrefused setup h =
 
 -- ---- And the other way round
 
-passes : (test : Bool) (error : ConfigError) (others : Option ConfigError) → test ≡ true → others ≡ None → (if not test then Some error else others) ≡ None
+passes : (test : Bool) (error : ConfigError) (others : Option ConfigError) → test ≡ true → others ≡ None →
+    (if not test then Some error else others) ≡ None
 passes true error others is none = none
 passes false error others is none = absurd (false≢true is)
 
@@ -68,13 +70,18 @@ is_extra_of item h = both_true (is_within_of 2 8 item.kind h.0) (le-leb (length 
 
 are_extra_of : (items : List ItemValue) → All IsExtraItem items → list_all is_extra_item items ≡ true
 are_extra_of [] h = refl
-are_extra_of (item ∷ items) h = both_true (is_extra_of item (All-head IsExtraItem item items h)) (are_extra_of items (All-tail IsExtraItem item items h))
+are_extra_of (item ∷ items) h = both_true (is_extra_of item (All-head IsExtraItem item items h))
+    (are_extra_of items (All-tail IsExtraItem item items h))
 
 pub unrefused_of_usable : (setup : Setup) → IsUsable setup → error_in setup ≡ None
 unrefused_of_usable setup h =
     passes (is_within 1 255 (length setup.cname)) Cname _ (is_within_of 1 255 (length setup.cname) h.cname)
     (passes (is_within 1 1024 setup.capacity) Capacity _ (is_within_of 1 1024 setup.capacity h.capacity)
-    (passes (is_limit setup.limit) Limit _ (both_true (is_within_of 576 1472 setup.limit h.limit) (eq-eqb (setup.limit % 4) 0 h.words))
-    (passes (is_bandwidth setup.sender_bw && is_bandwidth setup.receiver_bw) Bandwidth _ (both_true (is_within_of 16 (2 ^ 30) setup.sender_bw h.for_senders) (is_within_of 16 (2 ^ 30) setup.receiver_bw h.for_others))
+    (passes (is_limit setup.limit) Limit _
+    (both_true (is_within_of 576 1472 setup.limit h.limit) (eq-eqb (setup.limit % 4) 0 h.words))
+    (passes (is_bandwidth setup.sender_bw && is_bandwidth setup.receiver_bw) Bandwidth _
+    (both_true (is_within_of 16 (2 ^ 30) setup.sender_bw h.for_senders)
+    (is_within_of 16 (2 ^ 30) setup.receiver_bw h.for_others))
     (passes (is_within 1 (2 ^ 20) setup.rate) Rate _ (is_within_of 1 (2 ^ 20) setup.rate h.rate)
-    (passes (are_extras setup.extras) Item None (both_true (le-leb (length setup.extras) 7 h.few_extras) (are_extra_of setup.extras h.extras)) refl)))))
+    (passes (are_extras setup.extras) Item None
+    (both_true (le-leb (length setup.extras) 7 h.few_extras) (are_extra_of setup.extras h.extras)) refl)))))

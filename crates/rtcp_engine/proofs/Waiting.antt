@@ -34,8 +34,10 @@ use Rattle.rtcp_engine.proofs.Sending.{AreUpTo, KeepsApart, in_time, session_kee
 -- ---- Draws
 
 -- A draw is at most the longest one from any interval that is as great.
-draw_fits : (interval greatest word : ℕ) → word < 2 ^ 32 → interval ≤ greatest → drawn_interval interval word ≤ longest_draw greatest
-draw_fits interval greatest word fits le = omega (arith, (draw_within_bounds interval word fits).1, longest_never_falls interval greatest le)
+draw_fits : (interval greatest word : ℕ) → word < 2 ^ 32 → interval ≤ greatest →
+    drawn_interval interval word ≤ longest_draw greatest
+draw_fits interval greatest word fits le =
+    omega (arith, (draw_within_bounds interval word fits).1, longest_never_falls interval greatest le)
 
 max_left : (a b : ℕ) → a ≤ max a b
 max_left a b = omega arith
@@ -48,22 +50,32 @@ max_least a b c one other = omega (arith, one, other)
 
 -- ---- Members
 
-csrcs_keep : (capacity rate moment : ℕ) (ssrcs : List ℕ) (trace : List TraceStep) → members_at capacity rate trace ≤ members_at capacity rate (with_facts (map Heard ssrcs) moment trace)
+csrcs_keep : (capacity rate moment : ℕ) (ssrcs : List ℕ) (trace : List TraceStep) →
+    members_at capacity rate trace ≤ members_at capacity rate (with_facts (map Heard ssrcs) moment trace)
 csrcs_keep capacity rate moment [] trace = omega arith
 csrcs_keep capacity rate moment (ssrc ∷ ssrcs) trace =
-    omega (arith, facts_keep_members capacity rate trace (Heard ssrc) moment refl, csrcs_keep capacity rate moment ssrcs (fact_came (Heard ssrc) moment ∷ trace))
+    omega (
+      arith,
+      facts_keep_members capacity rate trace (Heard ssrc) moment refl,
+      csrcs_keep capacity rate moment ssrcs
+          (fact_came (Heard ssrc) moment ∷ trace),
+    )
 
 csrcs_keep_if : (capacity rate moment : ℕ) (counted : Bool) (ssrcs : List ℕ) (trace : List TraceStep)
-    → members_at capacity rate trace ≤ members_at capacity rate (with_facts (if counted then map Heard ssrcs else []) moment trace)
+    → members_at capacity rate trace ≤ members_at capacity rate
+    (with_facts (if counted then map Heard ssrcs else []) moment trace)
 csrcs_keep_if capacity rate moment true ssrcs trace = csrcs_keep capacity rate moment ssrcs trace
 csrcs_keep_if capacity rate moment false ssrcs trace = omega arith
 
 -- An RTP packet that came never lowers the members.
-media_keeps : (setup : Setup) (moment : ℕ) (head : RtpValue) (outcome : Outcome) → member_count setup outcome ≤ member_count setup (with_media setup moment head outcome)
+media_keeps : (setup : Setup) (moment : ℕ) (head : RtpValue) (outcome : Outcome) →
+    member_count setup outcome ≤ member_count setup (with_media setup moment head outcome)
 media_keeps setup moment head outcome =
     let media = media_fact head in
     let kept = facts_keep_members setup.capacity setup.rate outcome.trace media moment refl in
-    let others = csrcs_keep_if setup.capacity setup.rate moment (counted_at setup.capacity setup.rate outcome.trace media) (filter (λ ssrc. not (ssrc == setup.ssrc)) head.csrcs) (fact_came media moment ∷ outcome.trace) in
+    let others = csrcs_keep_if setup.capacity setup.rate moment
+    (counted_at setup.capacity setup.rate outcome.trace media)
+    (filter (λ ssrc. not (ssrc == setup.ssrc)) head.csrcs) (fact_came media moment ∷ outcome.trace) in
     omega (arith, kept, others)
 
 -- ---- While the participant takes part
@@ -80,10 +92,12 @@ fell_by : (before after known departed fall t moment : ℕ) → known ≤ before
 fell_by before after known departed fall t moment few fell past order =
     elim (cases_lt after before) [
       | inl below ↦
-          subst (λ (b : Bool). (if nat_lt after known then moment else departed) ≤ (if b then moment else fall)) (sym (lt-ltb after before below))
+          subst (λ (b : Bool). (if nat_lt after known then moment else departed) ≤ (if b then moment else fall))
+          (sym (lt-ltb after before below))
           (at_most (nat_lt after known))
       | inr above ↦
-          subst (λ (b : Bool). (if b then moment else departed) ≤ (if nat_lt after before then moment else fall)) (sym (le-ltb after known (omega (arith, above, few))))
+          subst (λ (b : Bool). (if b then moment else departed) ≤ (if nat_lt after before then moment else fall))
+          (sym (le-ltb after known (omega (arith, above, few))))
           (subst (λ (b : Bool). departed ≤ (if b then moment else fall)) (sym (le-ltb after before above)) fell)
     ]
   where
@@ -100,51 +114,73 @@ fall_stays true fall t moment past order = omega (arith, past, order)
 fall_stays false fall t moment past order = omega arith
 
 -- the members are counted again, after what may have lowered them
-recounts : {setup : Setup} {fall greatest t : ℕ} {old : Outcome} → (moment : ℕ) (new : Outcome) → new.happenings ≡ old.happenings → t ≤ moment → Waits setup fall greatest t old
-    → Waits setup (if nat_lt (member_count setup new) (member_count setup old) then moment else fall) greatest moment (with_recount setup moment new)
+recounts : {setup : Setup} {fall greatest t : ℕ} {old : Outcome} → (moment : ℕ) (new : Outcome) →
+    new.happenings ≡ old.happenings → t ≤ moment → Waits setup fall greatest t old
+    → Waits setup (if nat_lt (member_count setup new) (member_count setup old) then moment else fall) greatest moment
+    (with_recount setup moment new)
 recounts {setup} {fall} {greatest} {t} {old} moment new same order h = record {
   known = omega arith;
   fell =
-      subst (λ (hs : List Happening). (if nat_lt (member_count setup new) (members_known hs) then moment else last_departure hs)
+      subst (λ (hs : List Happening).
+      (if nat_lt (member_count setup new) (members_known hs) then moment else last_departure hs)
       ≤ (if nat_lt (member_count setup new) (member_count setup old) then moment else fall)) (sym same)
-      (fell_by (member_count setup old) (member_count setup new) (members_known old.happenings) (last_departure old.happenings) fall t moment h.known h.fell h.past order);
+      (fell_by (member_count setup old) (member_count setup new) (members_known old.happenings)
+      (last_departure old.happenings) fall t moment h.known h.fell h.past order);
   drawn = subst (λ (hs : List Happening). greatest_draw hs ≤ longest_draw greatest) (sym same) h.drawn;
   past = fall_is_past (nat_lt (member_count setup new) (member_count setup old)) fall t moment h.past order;
 }
 
 -- an act that is no compound, tick or leave
-passes : {setup : Setup} {fall greatest t : ℕ} {old : Outcome} → (moment : ℕ) (fell : Bool) (new : Outcome) → new.happenings ≡ old.happenings → member_count setup old ≤ member_count setup new → t ≤ moment
+passes : {setup : Setup} {fall greatest t : ℕ} {old : Outcome} → (moment : ℕ) (fell : Bool) (new : Outcome) →
+    new.happenings ≡ old.happenings → member_count setup old ≤ member_count setup new → t ≤ moment
     → Waits setup fall greatest t old → Waits setup (if fell then moment else fall) greatest moment new
 passes {setup} {fall} {greatest} {t} {old} moment fell new same kept order h = record {
-  known = subst (λ (hs : List Happening). members_known hs ≤ member_count setup new) (sym same) (omega (arith, h.known, kept));
-  fell = subst (λ (hs : List Happening). last_departure hs ≤ (if fell then moment else fall)) (sym same) (omega (arith, h.fell, fall_stays fell fall t moment h.past order));
+  known = subst (λ (hs : List Happening). members_known hs ≤ member_count setup new) (sym same)
+      (omega (arith, h.known, kept));
+  fell = subst (λ (hs : List Happening). last_departure hs ≤ (if fell then moment else fall)) (sym same)
+      (omega (arith, h.fell, fall_stays fell fall t moment h.past order));
   drawn = subst (λ (hs : List Happening). greatest_draw hs ≤ longest_draw greatest) (sym same) h.drawn;
   past = fall_is_past fell fall t moment h.past order;
 }
 
 -- what a tick makes of it after its check
-ticks_by : {setup : Setup} {fall greatest : ℕ} → (t first_word second_word : ℕ) (now : Outcome) (come passed : Bool) → first_word < 2 ^ 32 → second_word < 2 ^ 32 → Waits setup fall greatest t now
-    → Waits setup fall (if come && passed then interval_at setup (with_report setup t now) else max (interval_at setup now) greatest) t
+ticks_by : {setup : Setup} {fall greatest : ℕ} → (t first_word second_word : ℕ) (now : Outcome) (come passed : Bool) →
+    first_word < 2 ^ 32 → second_word < 2 ^ 32 → Waits setup fall greatest t now
+    → Waits setup fall (if come && passed then interval_at setup (with_report setup t now) else max
+    (interval_at setup now) greatest) t
     (if come then (if passed then reported setup t second_word now else put_off setup t first_word now) else now)
 ticks_by {setup} {fall} {greatest} t first_word second_word now true true first second h = record {
   known = omega arith;
   fell = h.fell;
-  drawn = draw_fits (interval_at setup (with_report setup t now)) (interval_at setup (with_report setup t now)) second_word second (omega arith);
+  drawn = draw_fits (interval_at setup (with_report setup t now)) (interval_at setup (with_report setup t now))
+      second_word second (omega arith);
   past = h.past;
 }
 ticks_by {setup} {fall} {greatest} t first_word second_word now true false first second h = record {
   known = omega arith;
   fell = h.fell;
   drawn =
-      max_least (drawn_interval (interval_at setup now) first_word) (greatest_draw now.happenings) (longest_draw (max (interval_at setup now) greatest))
-      (draw_fits (interval_at setup now) (max (interval_at setup now) greatest) first_word first (max_left (interval_at setup now) greatest))
-      (omega (arith, h.drawn, longest_never_falls greatest (max (interval_at setup now) greatest) (max_right (interval_at setup now) greatest)));
+      max_least (drawn_interval (interval_at setup now) first_word) (greatest_draw now.happenings)
+      (longest_draw (max (interval_at setup now) greatest))
+      (draw_fits (interval_at setup now) (max (interval_at setup now) greatest) first_word first
+      (max_left (interval_at setup now) greatest))
+      (omega (
+        arith,
+        h.drawn,
+        longest_never_falls greatest (max (interval_at setup now) greatest)
+            (max_right (interval_at setup now) greatest),
+      ));
   past = h.past;
 }
 ticks_by {setup} {fall} {greatest} t first_word second_word now false passed first second h = record {
   known = h.known;
   fell = h.fell;
-  drawn = omega (arith, h.drawn, longest_never_falls greatest (max (interval_at setup now) greatest) (max_right (interval_at setup now) greatest));
+  drawn = omega (
+    arith,
+    h.drawn,
+    longest_never_falls greatest (max (interval_at setup now) greatest)
+        (max_right (interval_at setup now) greatest),
+  );
   past = h.past;
 }
 
@@ -159,41 +195,67 @@ KeepsTime setup fall greatest t (present outcome) = Waits setup fall greatest t 
 KeepsTime setup fall greatest t (backing_off outcome backoff) = WaitsToLeave greatest backoff
 KeepsTime setup fall greatest t (gone outcome) = Unit {0}
 
-leaves_by : {setup : Setup} {fall greatest t : ℕ} {outcome : Outcome} → (moment word new_fall : ℕ) (unheard few : Bool) → word < 2 ^ 32 → t ≤ moment → Waits setup fall greatest t outcome
-    → KeepsTime setup new_fall (interval_of (leaving_load setup 1 [])) moment (if unheard then gone outcome else (if few then gone outcome else backing_off outcome (backoff_from setup moment word outcome)))
+leaves_by : {setup : Setup} {fall greatest t : ℕ} {outcome : Outcome} →
+    (moment word new_fall : ℕ) (unheard few : Bool) → word < 2 ^ 32 → t ≤ moment → Waits setup fall greatest t outcome
+    → KeepsTime setup new_fall (interval_of (leaving_load setup 1 [])) moment
+    (if unheard then gone outcome else
+    (if few then gone outcome else backing_off outcome (backoff_from setup moment word outcome)))
 leaves_by {setup} {fall} {greatest} {t} {outcome} moment word new_fall true few fits order h = tt
 leaves_by {setup} {fall} {greatest} {t} {outcome} moment word new_fall false true fits order h = tt
 leaves_by {setup} {fall} {greatest} {t} {outcome} moment word new_fall false false fits order h = record {
   fell = omega (arith, h.fell, h.past, order);
-  drawn = draw_fits (interval_of (leaving_load setup 1 [])) (interval_of (leaving_load setup 1 [])) word fits (omega arith);
+  drawn = draw_fits (interval_of (leaving_load setup 1 [])) (interval_of (leaving_load setup 1 [])) word fits
+      (omega arith);
 }
 
-waits_on : {greatest : ℕ} → (setup : Setup) (moment word : ℕ) (backoff : Backoff) (come : Bool) → word < 2 ^ 32 → WaitsToLeave greatest backoff
+waits_on : {greatest : ℕ} → (setup : Setup) (moment word : ℕ) (backoff : Backoff) (come : Bool) → word < 2 ^ 32 →
+    WaitsToLeave greatest backoff
     → WaitsToLeave (max (leaving_interval setup backoff) greatest)
-    (if come then record backoff { happenings = tried moment (drawn_interval (leaving_interval setup backoff) word) (leaving_count backoff) ∷ backoff.happenings } else backoff)
+    (if come then record backoff {
+      happenings = tried moment (drawn_interval (leaving_interval setup backoff) word)
+          (leaving_count backoff) ∷ backoff.happenings;
+    } else backoff)
 waits_on {greatest} setup moment word backoff true fits h = record {
   fell = h.fell;
   drawn =
-      max_least (drawn_interval (leaving_interval setup backoff) word) (greatest_draw backoff.happenings) (longest_draw (max (leaving_interval setup backoff) greatest))
-      (draw_fits (leaving_interval setup backoff) (max (leaving_interval setup backoff) greatest) word fits (max_left (leaving_interval setup backoff) greatest))
-      (omega (arith, h.drawn, longest_never_falls greatest (max (leaving_interval setup backoff) greatest) (max_right (leaving_interval setup backoff) greatest)));
+      max_least (drawn_interval (leaving_interval setup backoff) word) (greatest_draw backoff.happenings)
+      (longest_draw (max (leaving_interval setup backoff) greatest))
+      (draw_fits (leaving_interval setup backoff) (max (leaving_interval setup backoff) greatest) word fits
+      (max_left (leaving_interval setup backoff) greatest))
+      (omega (
+        arith,
+        h.drawn,
+        longest_never_falls greatest (max (leaving_interval setup backoff) greatest)
+            (max_right (leaving_interval setup backoff) greatest),
+      ));
 }
 waits_on {greatest} setup moment word backoff false fits h = record {
   fell = h.fell;
-  drawn = omega (arith, h.drawn, longest_never_falls greatest (max (leaving_interval setup backoff) greatest) (max_right (leaving_interval setup backoff) greatest));
+  drawn = omega (
+    arith,
+    h.drawn,
+    longest_never_falls greatest (max (leaving_interval setup backoff) greatest)
+        (max_right (leaving_interval setup backoff) greatest),
+  );
 }
 
-waiting_tick : {greatest : ℕ} → (setup : Setup) (fall moment word : ℕ) (outcome : Outcome) (backoff : Backoff) (due : Bool) → word < 2 ^ 32 → WaitsToLeave greatest backoff
-    → KeepsTime setup fall (max (leaving_interval setup backoff) greatest) moment (if due then gone outcome else backing_off outcome (after_wait setup moment word backoff))
+waiting_tick : {greatest : ℕ} → (setup : Setup) (fall moment word : ℕ) (outcome : Outcome) (backoff : Backoff)
+    (due : Bool) → word < 2 ^ 32 → WaitsToLeave greatest backoff
+    → KeepsTime setup fall (max (leaving_interval setup backoff) greatest) moment
+    (if due then gone outcome else backing_off outcome (after_wait setup moment word backoff))
 waiting_tick {greatest} setup fall moment word outcome backoff true fits h = tt
-waiting_tick {greatest} setup fall moment word outcome backoff false fits h = waits_on setup moment word backoff (nat_le (leaving_timing backoff).next moment) fits h
+waiting_tick {greatest} setup fall moment word outcome backoff false fits h = waits_on setup moment word backoff
+    (nat_le (leaving_timing backoff).next moment) fits h
 
-hears : {greatest : ℕ} → (none : Bool) (backoff : Backoff) (farewells : List Farewell) → WaitsToLeave greatest backoff → WaitsToLeave greatest (if none then backoff else record backoff { farewells = farewells })
+hears : {greatest : ℕ} → (none : Bool) (backoff : Backoff) (farewells : List Farewell) → WaitsToLeave greatest backoff →
+    WaitsToLeave greatest (if none then backoff else record backoff { farewells = farewells })
 hears {greatest} true backoff farewells h = h
 hears {greatest} false backoff farewells h = record { fell = h.fell; drawn = h.drawn }
 
 hears_own : {greatest : ℕ} → (setup : Setup) (heard : Bool) (backoff : Backoff) → WaitsToLeave greatest backoff
-    → WaitsToLeave greatest (if heard then record backoff { farewells = record { byes = 0; size = length (bye_octets setup) } ∷ backoff.farewells } else backoff)
+    → WaitsToLeave greatest (if heard then record
+    backoff { farewells = record { byes = 0; size = length (bye_octets setup) } ∷ backoff.farewells } else
+    backoff)
 hears_own {greatest} setup true backoff h = record { fell = h.fell; drawn = h.drawn }
 hears_own {greatest} setup false backoff h = h
 
@@ -203,63 +265,89 @@ abbrev new_fall : Setup → Act → Life → (fall : ℕ) → ℕ
 new_fall setup act life fall = if is_fall setup act life then moment_of act else fall
 
 -- the check of a tick
-tick_checks : (setup : Setup) (fall greatest t moment first_word second_word : ℕ) (outcome : Outcome) → t ≤ moment → Waits setup fall greatest t outcome
-    → Waits setup (new_fall setup (ticked moment first_word second_word) (present outcome) fall) greatest moment (checked setup moment outcome)
+tick_checks : (setup : Setup) (fall greatest t moment first_word second_word : ℕ) (outcome : Outcome) → t ≤ moment →
+    Waits setup fall greatest t outcome
+    → Waits setup (new_fall setup (ticked moment first_word second_word) (present outcome) fall) greatest moment
+    (checked setup moment outcome)
 tick_checks setup fall greatest t moment first_word second_word outcome order h = recounts moment _ refl order h
 
-while_present_waits : (setup : Setup) (fall greatest t : ℕ) (act : Act) (outcome : Outcome) → t ≤ moment_of act → HasWords act → Waits setup fall greatest t outcome
-    → KeepsTime setup (new_fall setup act (present outcome) fall) (greatest_by setup act (present outcome) greatest) (moment_of act) (lived setup act (present outcome))
-while_present_waits setup fall greatest t (arrived moment peer drawn (rtcp size (Ok packets))) outcome order words h = recounts moment _ refl order h
+while_present_waits : (setup : Setup) (fall greatest t : ℕ) (act : Act) (outcome : Outcome) → t ≤ moment_of act →
+    HasWords act → Waits setup fall greatest t outcome
+    → KeepsTime setup (new_fall setup act (present outcome) fall) (greatest_by setup act (present outcome) greatest)
+    (moment_of act) (lived setup act (present outcome))
+while_present_waits setup fall greatest t (arrived moment peer drawn (rtcp size (Ok packets))) outcome order words h =
+    recounts moment _ refl order h
 while_present_waits setup fall greatest t (arrived moment peer drawn (rtcp size (Err fault))) outcome order words h =
-    passes moment (is_fall setup (arrived moment peer drawn (rtcp size (Err fault))) (present outcome)) outcome refl (omega arith) order h
+    passes moment (is_fall setup (arrived moment peer drawn (rtcp size (Err fault))) (present outcome)) outcome refl
+    (omega arith) order h
 while_present_waits setup fall greatest t (arrived moment peer drawn (rtp (Ok head))) outcome order words h =
-    passes moment (is_fall setup (arrived moment peer drawn (rtp (Ok head))) (present outcome)) (with_media setup moment head outcome) refl (media_keeps setup moment head outcome) order h
+    passes moment (is_fall setup (arrived moment peer drawn (rtp (Ok head))) (present outcome))
+    (with_media setup moment head outcome) refl (media_keeps setup moment head outcome) order h
 while_present_waits setup fall greatest t (arrived moment peer drawn (rtp (Err fault))) outcome order words h =
-    passes moment (is_fall setup (arrived moment peer drawn (rtp (Err fault))) (present outcome)) outcome refl (omega arith) order h
+    passes moment (is_fall setup (arrived moment peer drawn (rtp (Err fault))) (present outcome)) outcome refl
+    (omega arith) order h
 while_present_waits setup fall greatest t (rtp_sent moment timestamp octets) outcome order words h =
     passes moment (is_fall setup (rtp_sent moment timestamp octets) (present outcome)) _ refl (omega arith) order h
 while_present_waits setup fall greatest t (ticked moment first_word second_word) outcome order words h =
     let now = checked setup moment outcome in
-    ticks_by moment first_word second_word now (has_come moment now) (has_passed setup moment first_word now) words.0 words.1 (tick_checks setup fall greatest t moment first_word second_word outcome order h)
+    ticks_by moment first_word second_word now (has_come moment now) (has_passed setup moment first_word now) words.0
+    words.1 (tick_checks setup fall greatest t moment first_word second_word outcome order h)
 while_present_waits setup fall greatest t (left moment word) outcome order words h =
     leaves_by moment word _ (is_unheard outcome) (nat_le (member_count setup outcome) few_members) words order h
 
-while_backing_off_waits : (setup : Setup) (fall greatest t : ℕ) (act : Act) (outcome : Outcome) (backoff : Backoff) → HasWords act → WaitsToLeave greatest backoff
-    → KeepsTime setup fall (greatest_by setup act (backing_off outcome backoff) greatest) (moment_of act) (lived setup act (backing_off outcome backoff))
-while_backing_off_waits setup fall greatest t (arrived moment peer drawn (rtcp size (Ok packets))) outcome backoff words h = hears (bye_count packets == 0) backoff _ h
-while_backing_off_waits setup fall greatest t (arrived moment peer drawn (rtcp size (Err fault))) outcome backoff words h = h
+while_backing_off_waits : (setup : Setup) (fall greatest t : ℕ) (act : Act) (outcome : Outcome) (backoff : Backoff) →
+    HasWords act → WaitsToLeave greatest backoff
+    → KeepsTime setup fall (greatest_by setup act (backing_off outcome backoff) greatest) (moment_of act)
+    (lived setup act (backing_off outcome backoff))
+while_backing_off_waits setup fall greatest t (arrived moment peer drawn (rtcp size (Ok packets))) outcome backoff words
+    h = hears (bye_count packets == 0) backoff _ h
+while_backing_off_waits setup fall greatest t (arrived moment peer drawn (rtcp size (Err fault))) outcome backoff words
+    h = h
 while_backing_off_waits setup fall greatest t (arrived moment peer drawn (rtp reading)) outcome backoff words h = h
 while_backing_off_waits setup fall greatest t (rtp_sent moment timestamp octets) outcome backoff words h = h
 while_backing_off_waits setup fall greatest t (ticked moment first_word second_word) outcome backoff words h =
     waiting_tick setup fall moment first_word outcome backoff (is_bye_due setup moment first_word backoff) words.0 h
 while_backing_off_waits setup fall greatest t (left moment word) outcome backoff words h = h
 
-waits_after : (setup : Setup) (fall greatest t : ℕ) (act : Act) (life : Life) → t ≤ moment_of act → HasWords act → KeepsTime setup fall greatest t life
-    → KeepsTime setup (new_fall setup act life fall) (greatest_by setup act life greatest) (moment_of act) (lived setup act life)
-waits_after setup fall greatest t act (present outcome) order words h = while_present_waits setup fall greatest t act outcome order words h
-waits_after setup fall greatest t act (backing_off outcome backoff) order words h = while_backing_off_waits setup fall greatest t act outcome backoff words h
+waits_after : (setup : Setup) (fall greatest t : ℕ) (act : Act) (life : Life) → t ≤ moment_of act → HasWords act →
+    KeepsTime setup fall greatest t life
+    → KeepsTime setup (new_fall setup act life fall) (greatest_by setup act life greatest) (moment_of act)
+    (lived setup act life)
+waits_after setup fall greatest t act (present outcome) order words h = while_present_waits setup fall greatest t act
+    outcome order words h
+waits_after setup fall greatest t act (backing_off outcome backoff) order words h =
+    while_backing_off_waits setup fall greatest t act outcome backoff words h
 waits_after setup fall greatest t act (gone outcome) order words h = tt
 
 -- ---- Sessions
 
 -- A change of identifier makes no difference.
-name_keeps_time : (setup : Setup) (fall greatest t : ℕ) (life : Life) → KeepsTime setup fall greatest t life → KeepsTime setup fall greatest t (with_new_ssrc setup life)
-name_keeps_time setup fall greatest t (present outcome) h = record { known = h.known; fell = h.fell; drawn = h.drawn; past = h.past }
+name_keeps_time : (setup : Setup) (fall greatest t : ℕ) (life : Life) → KeepsTime setup fall greatest t life →
+    KeepsTime setup fall greatest t (with_new_ssrc setup life)
+name_keeps_time setup fall greatest t (present outcome) h =
+    record { known = h.known; fell = h.fell; drawn = h.drawn; past = h.past }
 name_keeps_time setup fall greatest t (backing_off outcome backoff) h = hears_own setup (has_sent outcome.own) backoff h
 name_keeps_time setup fall greatest t (gone outcome) h = tt
 
-keeps_with_ssrc : (setup : Setup) (ssrc fall greatest t : ℕ) (life : Life) → KeepsTime setup fall greatest t life → KeepsTime (with_ssrc ssrc setup) fall greatest t life
-keeps_with_ssrc setup ssrc fall greatest t (present outcome) h = record { known = h.known; fell = h.fell; drawn = h.drawn; past = h.past }
+keeps_with_ssrc : (setup : Setup) (ssrc fall greatest t : ℕ) (life : Life) → KeepsTime setup fall greatest t life →
+    KeepsTime (with_ssrc ssrc setup) fall greatest t life
+keeps_with_ssrc setup ssrc fall greatest t (present outcome) h =
+    record { known = h.known; fell = h.fell; drawn = h.drawn; past = h.past }
 keeps_with_ssrc setup ssrc fall greatest t (backing_off outcome backoff) h = h
 keeps_with_ssrc setup ssrc fall greatest t (gone outcome) h = tt
 
-change_keeps_time : (session : Session) (fall greatest t : ℕ) (change : Option NewIdentifier) → KeepsTime session.setup fall greatest t session.life → KeepsTime (changed_by change session).setup fall greatest t (changed_by change session).life
+change_keeps_time : (session : Session) (fall greatest t : ℕ) (change : Option NewIdentifier) →
+    KeepsTime session.setup fall greatest t session.life → KeepsTime (changed_by change session).setup fall greatest t
+    (changed_by change session).life
 change_keeps_time session fall greatest t None h = h
 change_keeps_time session fall greatest t (Some new) h =
-    keeps_with_ssrc session.setup new.ssrc fall greatest t (with_new_ssrc session.setup session.life) (name_keeps_time session.setup fall greatest t session.life h)
+    keeps_with_ssrc session.setup new.ssrc fall greatest t (with_new_ssrc session.setup session.life)
+    (name_keeps_time session.setup fall greatest t session.life h)
 
-pub session_keeps_time : (setup : Setup) (word : ℕ) (acts : List Act) → word < 2 ^ 32 → AllTaken setup word acts → let session = session_of setup word acts in
-    KeepsTime session.setup (last_fall setup word acts) (greatest_interval setup word acts) (last_moment acts) session.life
+pub session_keeps_time : (setup : Setup) (word : ℕ) (acts : List Act) → word < 2 ^ 32 → AllTaken setup word acts →
+    let session = session_of setup word acts in
+    KeepsTime session.setup (last_fall setup word acts) (greatest_interval setup word acts) (last_moment acts)
+    session.life
 session_keeps_time setup word [] fits taken = record {
   known = omega arith;
   fell = omega arith;
@@ -270,83 +358,112 @@ session_keeps_time setup word (act ∷ earlier) fits taken =
     let before = session_of setup word earlier in
     let change = change_by before act in
     let now = changed_by change before in
-    waits_after now.setup (last_fall setup word earlier) (greatest_interval setup word earlier) (last_moment earlier) act now.life
-    (in_time (record { setup = setup; word = word; acts = earlier }) act taken.0) taken.1 (change_keeps_time before _ _ _ change (session_keeps_time setup word earlier fits taken.2))
+    waits_after now.setup (last_fall setup word earlier) (greatest_interval setup word earlier) (last_moment earlier)
+    act now.life
+    (in_time (record { setup = setup; word = word; acts = earlier }) act taken.0) taken.1
+    (change_keeps_time before _ _ _ change (session_keeps_time setup word earlier fits taken.2))
 
 -- ---- Ticks that come late
 
 -- what is due is sent
-due_comes : (timing : Timing) (moment interval : ℕ) → IsDue timing moment interval → IsTrue (nat_le timing.next moment && nat_le (timing.last + interval) moment)
+due_comes : (timing : Timing) (moment interval : ℕ) → IsDue timing moment interval →
+    IsTrue (nat_le timing.next moment && nat_le (timing.last + interval) moment)
 due_comes timing moment interval due =
-    subst (λ (b : Bool). IsTrue (b && nat_le (timing.last + interval) moment)) (sym (le-leb timing.next moment due.came))
+    subst (λ (b : Bool). IsTrue (b && nat_le (timing.last + interval) moment))
+    (sym (le-leb timing.next moment due.came))
     (subst IsTrue (sym (le-leb (timing.last + interval) moment due.passed)) refl)
 
 some_if : {A : Type 0} → (b : Bool) (x : A) → IsTrue b → IsTrue (is_some (if b then Some x else None))
 some_if {A} true x h = refl
 some_if {A} false x h = absurd cc
 
-some_map : {A B : Type 0} → (f : A → B) (found : Option A) → IsTrue (is_some found) → IsTrue (is_some (option_map f found))
+some_map : {A B : Type 0} → (f : A → B) (found : Option A) → IsTrue (is_some found) →
+    IsTrue (is_some (option_map f found))
 some_map {A} {B} f (Some x) h = refl
 some_map {A} {B} f None h = absurd cc
 
 -- all that a schedule asks for has passed
-comes_due : (events : List Happening) (sent fall wait moment interval : ℕ) → IsInOrder events → newest_transmission events ≡ sent → last_departure events ≤ fall → interval ≤ wait → greatest_draw events ≤ wait
+comes_due : (events : List Happening) (sent fall wait moment interval : ℕ) → IsInOrder events →
+    newest_transmission events ≡ sent → last_departure events ≤ fall → interval ≤ wait → greatest_draw events ≤ wait
     → sent + wait ≤ moment → fall + wait ≤ moment → IsDue (schedule_at events) moment interval
 comes_due events sent fall wait moment interval in_order newest fell short drawn since_sent since_fall =
     let most = max_least interval (greatest_draw events) wait short drawn in
-    due_in_time events moment interval in_order (omega (arith, most, newest, since_sent)) (omega (arith, most, fell, since_fall))
+    due_in_time events moment interval in_order (omega (arith, most, newest, since_sent))
+    (omega (arith, most, fell, since_fall))
 
-report_in_time : (setup : Setup) (fall greatest t moment first_word second_word sent : ℕ) (outcome : Outcome) → first_word < 2 ^ 32 → t ≤ moment → AreUpTo t outcome.happenings
+report_in_time : (setup : Setup) (fall greatest t moment first_word second_word sent : ℕ) (outcome : Outcome) →
+    first_word < 2 ^ 32 → t ≤ moment → AreUpTo t outcome.happenings
     → newest_transmission outcome.happenings ≡ sent → Waits setup fall greatest t outcome
     → let now = checked setup moment outcome in let wait = longest_draw (max (interval_at setup now) greatest) in
-    sent + wait ≤ moment → new_fall setup (ticked moment first_word second_word) (present outcome) fall + wait ≤ moment → IsTrue (is_report_due setup moment first_word now)
-report_in_time setup fall greatest t moment first_word second_word sent outcome fits order up_to newest h since_sent since_fall =
+    sent + wait ≤ moment → new_fall setup (ticked moment first_word second_word) (present outcome) fall + wait
+    ≤ moment → IsTrue (is_report_due setup moment first_word now)
+report_in_time setup fall greatest t moment first_word second_word sent outcome fits order up_to newest h since_sent
+    since_fall =
     let now = checked setup moment outcome in
     let counted = tick_checks setup fall greatest t moment first_word second_word outcome order h in
     let most = max (interval_at setup now) greatest in
     due_comes (schedule_at now.happenings) moment (drawn_interval (interval_at setup now) first_word)
-    (comes_due now.happenings sent (new_fall setup (ticked moment first_word second_word) (present outcome) fall) (longest_draw most) moment (drawn_interval (interval_at setup now) first_word)
-    (omega (arith, order, up_to.past), up_to.in_order) newest counted.fell (draw_fits (interval_at setup now) most first_word fits (max_left (interval_at setup now) greatest))
-    (omega (arith, counted.drawn, longest_never_falls greatest most (max_right (interval_at setup now) greatest))) since_sent since_fall)
+    (comes_due now.happenings sent (new_fall setup (ticked moment first_word second_word) (present outcome) fall)
+    (longest_draw most) moment (drawn_interval (interval_at setup now) first_word)
+    (omega (arith, order, up_to.past), up_to.in_order) newest counted.fell
+    (draw_fits (interval_at setup now) most first_word fits (max_left (interval_at setup now) greatest))
+    (omega (arith, counted.drawn, longest_never_falls greatest most (max_right (interval_at setup now) greatest)))
+    since_sent since_fall)
 
-bye_in_time : (setup : Setup) (greatest t moment first_word : ℕ) (backoff : Backoff) → first_word < 2 ^ 32 → IsInOrder backoff.happenings → newest_transmission backoff.happenings ≡ backoff.since
-    → WaitsToLeave greatest backoff → backoff.since + longest_draw (max (leaving_interval setup backoff) greatest) ≤ moment → IsTrue (is_bye_due setup moment first_word backoff)
+bye_in_time : (setup : Setup) (greatest t moment first_word : ℕ) (backoff : Backoff) → first_word < 2 ^ 32 →
+    IsInOrder backoff.happenings → newest_transmission backoff.happenings ≡ backoff.since
+    → WaitsToLeave greatest backoff → backoff.since + longest_draw (max (leaving_interval setup backoff) greatest)
+    ≤ moment → IsTrue (is_bye_due setup moment first_word backoff)
 bye_in_time setup greatest t moment first_word backoff fits in_order newest h since =
     let interval = leaving_interval setup backoff in
     let most = max interval greatest in
     due_comes (schedule_at backoff.happenings) moment (drawn_interval interval first_word)
-    (comes_due backoff.happenings backoff.since backoff.since (longest_draw most) moment (drawn_interval interval first_word) in_order newest h.fell
-    (draw_fits interval most first_word fits (max_left interval greatest)) (omega (arith, h.drawn, longest_never_falls greatest most (max_right interval greatest))) since since)
+    (comes_due backoff.happenings backoff.since backoff.since (longest_draw most) moment
+    (drawn_interval interval first_word) in_order newest h.fell
+    (draw_fits interval most first_word fits (max_left interval greatest))
+    (omega (arith, h.drawn, longest_never_falls greatest most (max_right interval greatest))) since since)
 
 -- ---- Lives
 
-tick_in_time : (setup : Setup) (fall greatest t limit : ℕ) (leave : Option ℕ) (moment first_word second_word : ℕ) (sent : List Sent) (life : Life) → HasWords (ticked moment first_word second_word) → t ≤ moment
+tick_in_time : (setup : Setup) (fall greatest t limit : ℕ) (leave : Option ℕ) (moment first_word second_word : ℕ)
+    (sent : List Sent) (life : Life) → HasWords (ticked moment first_word second_word) → t ≤ moment
     → KeepsApart limit t leave life sent → KeepsTime setup fall greatest t life
-    → HasWaited (longest_draw (max (interval_by setup (ticked moment first_word second_word) life) greatest)) moment (new_fall setup (ticked moment first_word second_word) life fall) sent life
+    → HasWaited (longest_draw (max (interval_by setup (ticked moment first_word second_word) life) greatest)) moment
+    (new_fall setup (ticked moment first_word second_word) life fall) sent life
     → IsTrue (is_some (out_by setup (ticked moment first_word second_word) life))
-tick_in_time setup fall greatest t limit leave moment first_word second_word sent (present outcome) words order apart h late =
+tick_in_time setup fall greatest t limit leave moment first_word second_word sent (present outcome) words order apart h
+    late =
     let now = checked setup moment outcome in
-    let due = report_in_time setup fall greatest t moment first_word second_word (newest_moment (reports_in sent)) outcome words.0 order apart.up_to
+    let due = report_in_time setup fall greatest t moment first_word second_word (newest_moment (reports_in sent))
+    outcome words.0 order apart.up_to
     apart.newest h late.0 late.1 in
     some_map report_out _ (some_if (is_report_due setup moment first_word now) (report_octets setup moment now) due)
-tick_in_time setup fall greatest t limit leave moment first_word second_word sent (backing_off outcome backoff) words order apart h late =
+tick_in_time setup fall greatest t limit leave moment first_word second_word sent (backing_off outcome backoff) words
+    order apart h late =
     some_if (is_bye_due setup moment first_word backoff) (bye_out (bye_octets setup))
     (bye_in_time setup greatest t moment first_word backoff words.0 apart.up_to.in_order apart.newest h late)
-tick_in_time setup fall greatest t limit leave moment first_word second_word sent (gone outcome) words order apart h late = absurd late
+tick_in_time setup fall greatest t limit leave moment first_word second_word sent (gone outcome) words order apart h
+    late = absurd late
 
 -- after a history, and for an act that is taken
-pub in_time_after : (history : History) (act : Act) → IsHistory history → refusal_after history act ≡ None → HasWords act → IsInTime history act
+pub in_time_after : (history : History) (act : Act) → IsHistory history → refusal_after history act ≡ None →
+    HasWords act → IsInTime history act
 in_time_after history (arrived moment peer drawn datagram) is taken words = tt
 in_time_after history (rtp_sent moment timestamp octets) is taken words = tt
 in_time_after history (ticked moment first_word second_word) is taken words = λ late.
-    tick_in_time (setup_at history) (last_fall history.setup history.word history.acts) (greatest_interval history.setup history.word history.acts) (last_moment history.acts) history.setup.limit
-    (first_leave history.acts) moment first_word second_word (sent_at history) (life_at history) words (in_time history (ticked moment first_word second_word) taken)
-    (session_keeps_apart history.setup history.word history.acts is.usable is.taken) (session_keeps_time history.setup history.word history.acts is.word is.taken) late
+    tick_in_time (setup_at history) (last_fall history.setup history.word history.acts)
+    (greatest_interval history.setup history.word history.acts) (last_moment history.acts) history.setup.limit
+    (first_leave history.acts) moment first_word second_word (sent_at history) (life_at history) words
+    (in_time history (ticked moment first_word second_word) taken)
+    (session_keeps_apart history.setup history.word history.acts is.usable is.taken)
+    (session_keeps_time history.setup history.word history.acts is.word is.taken) late
 in_time_after history (left moment word) is taken words = tt
 
-pub all_in_time : (setup : Setup) (word : ℕ) (acts : List Act) → IsUsable setup → word < 2 ^ 32 → AllTaken setup word acts → AllInTime setup word acts
+pub all_in_time : (setup : Setup) (word : ℕ) (acts : List Act) → IsUsable setup → word < 2 ^ 32 →
+    AllTaken setup word acts → AllInTime setup word acts
 all_in_time setup word [] usable fits taken = tt
 all_in_time setup word (act ∷ earlier) usable fits taken = (
-  in_time_after (record { setup = setup; word = word; acts = earlier }) act (record { usable = usable; word = fits; taken = taken.2 }) taken.0 taken.1,
+  in_time_after (record { setup = setup; word = word; acts = earlier }) act
+      (record { usable = usable; word = fits; taken = taken.2 }) taken.0 taken.1,
   all_in_time setup word earlier usable fits taken.2,
 )

@@ -12,35 +12,75 @@ use Rattle.rtcp_engine.specs.States.{State, PhaseValue, taking_part, leaving, ov
 
 abbrev pub item_code : Coded ItemValue
 item_code =
-    code_by (ℕ × List ℕ) (coded× coded_ℕ (coded_list coded_ℕ)) (λ i. (i.kind, i.text)) (λ p. record { kind = p.0; text = p.1 }) (λ _. refl)
+    code_by (ℕ × List ℕ) (coded× coded_ℕ (coded_list coded_ℕ)) (λ i. (i.kind, i.text))
+    (λ p. record { kind = p.0; text = p.1 }) (λ _. refl)
 
 abbrev pub setup_code : Coded Setup
 setup_code =
-    code_by (ℕ × (List ℕ × (List ItemValue × (ℕ × (ℕ × (ℕ × (ℕ × (ℕ × ℕ)))))))) (coded× coded_ℕ (coded× (coded_list coded_ℕ) (coded× (coded_list item_code) (coded× coded_ℕ (coded× coded_ℕ (coded× coded_ℕ (coded× coded_ℕ (coded× coded_ℕ coded_ℕ))))))))
-    (λ s. (s.ssrc, (s.cname, (s.extras, (s.capacity, (s.limit, (s.sender_bw, (s.receiver_bw, (s.rate, s.ntp_base)))))))))
-    (λ p. record { ssrc = p.0; cname = p.1.0; extras = p.1.1.0; capacity = p.1.1.1.0; limit = p.1.1.1.1.0; sender_bw = p.1.1.1.1.1.0; receiver_bw = p.1.1.1.1.1.1.0; rate = p.1.1.1.1.1.1.1.0; ntp_base = p.1.1.1.1.1.1.1.1 })
+    code_by (ℕ × (List ℕ × (List ItemValue × (ℕ × (ℕ × (ℕ × (ℕ × (ℕ × ℕ))))))))
+    (coded× coded_ℕ (coded× (coded_list coded_ℕ)
+    (coded× (coded_list item_code)
+    (coded× coded_ℕ (coded× coded_ℕ (coded× coded_ℕ (coded× coded_ℕ (coded× coded_ℕ coded_ℕ))))))))
+    (λ s. (
+      s.ssrc,
+      (
+        s.cname,
+        (
+          s.extras,
+          (s.capacity, (s.limit, (s.sender_bw, (s.receiver_bw, (s.rate, s.ntp_base))))),
+        ),
+      ),
+    ))
+    (λ p. record {
+      ssrc = p.0;
+      cname = p.1.0;
+      extras = p.1.1.0;
+      capacity = p.1.1.1.0;
+      limit = p.1.1.1.1.0;
+      sender_bw =
+          p.1.1.1.1.1.0;
+      receiver_bw = p.1.1.1.1.1.1.0;
+      rate = p.1.1.1.1.1.1.1.0;
+      ntp_base = p.1.1.1.1.1.1.1.1;
+    })
     (λ _. refl)
 
 abbrev pub timing_code : Coded Timing
 timing_code =
-    code_by (ℕ × (ℕ × ℕ)) (coded× coded_ℕ (coded× coded_ℕ coded_ℕ)) (λ t. (t.last, (t.next, t.known))) (λ p. record { last = p.0; next = p.1.0; known = p.1.1 }) (λ _. refl)
+    code_by (ℕ × (ℕ × ℕ)) (coded× coded_ℕ (coded× coded_ℕ coded_ℕ)) (λ t. (t.last, (t.next, t.known)))
+    (λ p. record { last = p.0; next = p.1.0; known = p.1.1 }) (λ _. refl)
 
 abbrev pub packet_code : Coded PacketValue
 packet_code =
-    code_by (ℕ × ℕ) (coded× coded_ℕ coded_ℕ) (λ p. (p.moment, p.timestamp)) (λ p. record { moment = p.0; timestamp = p.1 }) (λ _. refl)
+    code_by (ℕ × ℕ) (coded× coded_ℕ coded_ℕ) (λ p. (p.moment, p.timestamp))
+    (λ p. record { moment = p.0; timestamp = p.1 }) (λ _. refl)
 
 abbrev pub own_code : Coded OwnValue
 own_code =
-    code_by (Option ℕ × (Option PacketValue × (ℕ × (ℕ × Bool)))) (coded× (coded_option coded_ℕ) (coded× (coded_option packet_code) (coded× coded_ℕ (coded× coded_ℕ coded_bool))))
+    code_by (Option ℕ × (Option PacketValue × (ℕ × (ℕ × Bool))))
+    (coded× (coded_option coded_ℕ) (coded× (coded_option packet_code) (coded× coded_ℕ (coded× coded_ℕ coded_bool))))
     (λ o. (o.sending, (o.newest, (o.packets, (o.octets, o.heard)))))
     (λ p. record { sending = p.0; newest = p.1.0; packets = p.1.1.0; octets = p.1.1.1.0; heard = p.1.1.1.1 })
     (λ _. refl)
 
 abbrev pub state_code : Coded State
 state_code =
-    code_by (Setup × (TableValue × (Timing × (ℕ × (OwnValue × (Option ℕ × (ℕ × (ℕ × ℕ)))))))) (coded× setup_code (coded× table_code (coded× timing_code (coded× coded_ℕ (coded× own_code (coded× (coded_option coded_ℕ) (coded× coded_ℕ (coded× coded_ℕ coded_ℕ))))))))
+    code_by (Setup × (TableValue × (Timing × (ℕ × (OwnValue × (Option ℕ × (ℕ × (ℕ × ℕ))))))))
+    (coded× setup_code (coded× table_code
+    (coded× timing_code (coded× coded_ℕ
+    (coded× own_code (coded× (coded_option coded_ℕ) (coded× coded_ℕ (coded× coded_ℕ coded_ℕ))))))))
     (λ s. (s.setup, (s.table, (s.timing, (s.average, (s.own, (s.cursor, (s.reports, (s.latest, s.calls)))))))))
-    (λ p. record { setup = p.0; table = p.1.0; timing = p.1.1.0; average = p.1.1.1.0; own = p.1.1.1.1.0; cursor = p.1.1.1.1.1.0; reports = p.1.1.1.1.1.1.0; latest = p.1.1.1.1.1.1.1.0; calls = p.1.1.1.1.1.1.1.1 })
+    (λ p. record {
+      setup = p.0;
+      table = p.1.0;
+      timing = p.1.1.0;
+      average = p.1.1.1.0;
+      own = p.1.1.1.1.0;
+      cursor = p.1.1.1.1.1.0;
+      reports = p.1.1.1.1.1.1.0;
+      latest = p.1.1.1.1.1.1.1.0;
+      calls = p.1.1.1.1.1.1.1.1;
+    })
     (λ _. refl)
 
 -- ---- The whole participant
@@ -65,8 +105,11 @@ phase_code = code_by (Option (Option ℕ)) (coded_option (coded_option coded_ℕ
 
 abbrev pub change_code : Coded Change
 change_code =
-    code_by (ℕ × ℕ) (coded× coded_ℕ coded_ℕ) (λ c. (c.peer, c.former)) (λ p. record { peer = p.0; former = p.1 }) (λ _. refl)
+    code_by (ℕ × ℕ) (coded× coded_ℕ coded_ℕ) (λ c. (c.peer, c.former)) (λ p. record { peer = p.0; former = p.1 })
+    (λ _. refl)
 
 abbrev pub participant_code : Coded ParticipantValue
 participant_code =
-    code_by (State × (PhaseValue × List Change)) (coded× state_code (coded× phase_code (coded_list change_code))) (λ p. (p.presence, (p.phase, p.changes))) (λ p. record { presence = p.0; phase = p.1.0; changes = p.1.1 }) (λ _. refl)
+    code_by (State × (PhaseValue × List Change)) (coded× state_code (coded× phase_code (coded_list change_code)))
+    (λ p. (p.presence, (p.phase, p.changes))) (λ p. record { presence = p.0; phase = p.1.0; changes = p.1.1 })
+    (λ _. refl)

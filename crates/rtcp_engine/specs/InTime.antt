@@ -68,7 +68,8 @@ greatest_interval setup word (act ∷ earlier) =
 
 -- ---- Overdue
 
--- how long a tick may come after what it waits for, and bring nothing: the longest draw from the greatest interval, that
+-- how long a tick may come after what it waits for, and bring nothing: the longest draw from the greatest interval,
+-- that
 -- of this tick included
 abbrev pub longest_wait : History → Act → ℕ
 longest_wait history act =

@@ -38,7 +38,8 @@ interval_by setup act (present outcome) = interval_while_present setup act outco
 interval_by setup act (backing_off outcome backoff) = leaving_interval setup backoff
 interval_by setup act (gone outcome) = 0
 
--- The deterministic interval that decides whether an act brings a compound (RFC 3550, 6.3.6, 6.3.7): 0 where it changes the
+-- The deterministic interval that decides whether an act brings a compound (RFC 3550, 6.3.6, 6.3.7): 0 where it changes
+-- the
 -- identifier.
 abbrev pub deciding_interval : Session → Act → ℕ
 deciding_interval session act =

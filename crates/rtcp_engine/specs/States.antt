@@ -38,7 +38,8 @@ pub record State : Type 0 where
   -- how many calls were taken
   pub calls : ℕ
 
-abbrev pub state_with : Setup → TableValue → Timing → (average : ℕ) → OwnValue → Option ℕ → (reports latest calls : ℕ) → State
+abbrev pub state_with : Setup → TableValue → Timing → (average : ℕ) → OwnValue → Option ℕ → (reports latest calls : ℕ) →
+    State
 state_with setup table timing average own cursor reports latest calls = record {
   setup = setup;
   table = table;

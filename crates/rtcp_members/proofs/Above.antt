@@ -24,10 +24,12 @@ use Rattle.rtcp_members.proofs.Turns.{found, found_above, found_middle, not_tied
 
 -- ---- The first row above
 
-passes_first : (test : EntryRow → Bool) (rows : List EntryRow) (row : EntryRow) (rest : List EntryRow) → filter test rows ≡ row ∷ rest → test row ≡ true
+passes_first : (test : EntryRow → Bool) (rows : List EntryRow) (row : EntryRow) (rest : List EntryRow) →
+    filter test rows ≡ row ∷ rest → test row ≡ true
 passes_first test [] row rest is = absurd cc
 passes_first test (r ∷ rows) row rest is =
-    elim (test r) as (λ b. test r ≡ b → cond b (r ∷ filter test rows) (filter test rows) ≡ row ∷ rest → test row ≡ true) [
+    elim (test r) as (λ b. test r ≡ b → cond b (r ∷ filter test rows) (filter test rows) ≡ row ∷ rest →
+    test row ≡ true) [
       | true ↦ λ passes same. let its : row ≡ r = cc in ap test its ∙ passes
       | false ↦ λ fails same. passes_first test rows row rest same
     ] refl is
@@ -39,7 +41,8 @@ record IsCut (table : TableValue) (row : EntryRow) (rest : List EntryRow) : Type
   below : AllBelow row.0 front
   above : AllAbove row.0 rest
 
-module _ (after : Option ℕ) (table : TableValue) (row : EntryRow) (rest : List EntryRow) (is : rows_above after table ≡ row ∷ rest) where
+module _ (after : Option ℕ) (table : TableValue) (row : EntryRow) (rest : List EntryRow)
+    (is : rows_above after table ≡ row ∷ rest) where
   is_cut : IsCut table row rest
   is_cut =
       let rows : List EntryRow = finite.entries table.entries in
@@ -53,7 +56,8 @@ module _ (after : Option ℕ) (table : TableValue) (row : EntryRow) (rest : List
 
   pub above_is_there : finite.get table.entries row.0 ≡ Some row.1
   above_is_there =
-      finite.get-entries table.entries row.0 ∙ ap (found row.0) is_cut.parts ∙ found_middle is_cut.front row rest is_cut.below
+      finite.get-entries table.entries row.0 ∙ ap (found row.0) is_cut.parts
+      ∙ found_middle is_cut.front row rest is_cut.below
 
   -- The others follow it.
   pub others_follow : rows_above (Some row.0) table ≡ rest
@@ -62,7 +66,8 @@ module _ (after : Option ℕ) (table : TableValue) (row : EntryRow) (rest : List
       let test : EntryRow → Bool = is_above (Some row.0) in
       ap (filter test) is_cut.parts
       ∙ filter-append test is_cut.front (row ∷ rest)
-      ∙ (λ i. filter_none test is_cut.front (fails_below row.0 is_cut.front is_cut.below) i ++ cond (itself i) (row ∷ filter test rest) (filter test rest))
+      ∙ (λ i. filter_none test is_cut.front (fails_below row.0 is_cut.front is_cut.below) i ++ cond (itself i)
+      (row ∷ filter test rest) (filter test rest))
       ∙ filter_all test rest (passes_above row.0 rest is_cut.above)
 
 -- ---- None before it
@@ -75,18 +80,24 @@ apart : (after : Option ℕ) (a b : ℕ) → is_after after a ≡ true → is_af
 apart None a b high low = absurd cc
 apart (Some last) a b high low = grind (arith, nat_tests)
 
-absent : (after : Option ℕ) (rows : List EntryRow) (ssrc : ℕ) → is_after after ssrc ≡ true → IsRising rows → IsBefore ssrc (filter (is_above after) rows) → found ssrc rows ≡ None
+absent : (after : Option ℕ) (rows : List EntryRow) (ssrc : ℕ) → is_after after ssrc ≡ true → IsRising rows →
+    IsBefore ssrc (filter (is_above after) rows) → found ssrc rows ≡ None
 absent after [] ssrc passes rising before = refl
 absent after (row ∷ rows) ssrc passes rising before =
-    elim (is_above after row) as (λ b. is_above after row ≡ b → IsBefore ssrc (cond b (row ∷ filter (is_above after) rows) (filter (is_above after) rows)) → found ssrc (row ∷ rows) ≡ None) [
+    elim (is_above after row) as (λ b. is_above after row ≡ b →
+    IsBefore ssrc (cond b (row ∷ filter (is_above after) rows) (filter (is_above after) rows)) →
+    found ssrc (row ∷ rows) ≡ None) [
       | true ↦ λ high less. found_above ssrc (row ∷ rows) (less, above_lower ssrc row.0 rows less rising.0)
       | false ↦ λ low less.
-          ap (λ b. cond b (Some row.1) (found ssrc rows)) (not_tied ssrc row.0 (apart after ssrc row.0 passes low)) ∙ absent after rows ssrc passes rising.1 less
+          ap (λ b. cond b (Some row.1) (found ssrc rows)) (not_tied ssrc row.0 (apart after ssrc row.0 passes low))
+          ∙ absent after rows ssrc passes rising.1 less
     ] refl before
 
-none_before : (after : Option ℕ) (table : TableValue) (rows : List EntryRow) → rows_above after table ≡ rows → (ssrc : ℕ) → is_after after ssrc ≡ true → IsBefore ssrc rows → finite.get table.entries ssrc ≡ None
+none_before : (after : Option ℕ) (table : TableValue) (rows : List EntryRow) → rows_above after table ≡ rows →
+    (ssrc : ℕ) → is_after after ssrc ≡ true → IsBefore ssrc rows → finite.get table.entries ssrc ≡ None
 none_before after table rows is ssrc passes before =
-    finite.get-entries table.entries ssrc ∙ absent after (finite.entries table.entries) ssrc passes (entries_rise table.entries) (subst (IsBefore ssrc) (sym is) before)
+    finite.get-entries table.entries ssrc ∙ absent after (finite.entries table.entries) ssrc passes
+    (entries_rise table.entries) (subst (IsBefore ssrc) (sym is) before)
 
 -- ---- By the trace
 
@@ -94,14 +105,17 @@ no_stay : (rate ssrc : ℕ) (stay : Option (List TraceStep)) → option_map (ent
 no_stay rate ssrc None is = refl
 no_stay rate ssrc (Some stay) is = absurd cc
 
-by_stay : (after : Option ℕ) (capacity rate : ℕ) (trace : List TraceStep) (row : EntryRow) (stay : Option (List TraceStep)) → is_after after row.0 ≡ true
+by_stay : (after : Option ℕ) (capacity rate : ℕ) (trace : List TraceStep) (row : EntryRow)
+    (stay : Option (List TraceStep)) → is_after after row.0 ≡ true
     → ((ssrc : ℕ) → is_after after ssrc ≡ true → ssrc < row.0 → stay_of capacity trace ssrc ≡ None)
-    → stay_of capacity trace row.0 ≡ stay → option_map (entry_of rate row.0) stay ≡ Some row.1 → IsNextTold after capacity rate trace (state_of row)
+    → stay_of capacity trace row.0 ≡ stay → option_map (entry_of rate row.0) stay ≡ Some row.1 →
+    IsNextTold after capacity rate trace (state_of row)
 by_stay after capacity rate trace row None above least present is = absurd cc
 by_stay after capacity rate trace row (Some stay) above least present is =
     let own : row.1 ≡ entry_of rate row.0 stay = cc in
     let received : reception_in row.1.source ≡ reception_over (given_of rate row.0 (before_mark row.0 stay)) =
-    ap (λ (e : EntryValue). reception_in e.source) own ∙ summary_suffices-reception (given_of rate row.0 (before_mark row.0 stay)) in
+    ap (λ (e : EntryValue). reception_in e.source) own
+    ∙ summary_suffices-reception (given_of rate row.0 (before_mark row.0 stay)) in
     record {
       above = above;
       least = least;
@@ -119,43 +133,55 @@ by_stay after capacity rate trace row (Some stay) above least present is =
       };
     }
 
-tells : (after : Option ℕ) (table : TableValue) (trace : List TraceStep) → StandsAt table trace → (rows : List EntryRow) → rows_above after table ≡ rows → TellsAbove after table.capacity table.rate trace (first_state rows)
+tells : (after : Option ℕ) (table : TableValue) (trace : List TraceStep) → StandsAt table trace →
+    (rows : List EntryRow) → rows_above after table ≡ rows → TellsAbove after table.capacity table.rate trace
+    (first_state rows)
 tells after table trace stands [] is =
     λ ssrc passes. no_stay table.rate ssrc _ (sym (stands ssrc) ∙ none_before after table [] is ssrc passes tt)
 tells after table trace stands (row ∷ rest) is =
-    by_stay after table.capacity table.rate trace row (stay_of table.capacity trace row.0) (above_after after table row rest is)
-    (λ ssrc passes less. no_stay table.rate ssrc _ (sym (stands ssrc) ∙ none_before after table (row ∷ rest) is ssrc passes less))
+    by_stay after table.capacity table.rate trace row (stay_of table.capacity trace row.0)
+    (above_after after table row rest is)
+    (λ ssrc passes less. no_stay table.rate ssrc _
+    (sym (stands ssrc) ∙ none_before after table (row ∷ rest) is ssrc passes less))
     refl (sym (stands row.0) ∙ above_is_there after table row rest is)
 
-pub tells_above : (after : Option ℕ) (table : TableValue) (trace : List TraceStep) → StandsAt table trace → TellsAbove after table.capacity table.rate trace (state_above after table)
+pub tells_above : (after : Option ℕ) (table : TableValue) (trace : List TraceStep) → StandsAt table trace →
+    TellsAbove after table.capacity table.rate trace (state_above after table)
 tells_above after table trace stands = tells after table trace stands (rows_above after table) refl
 
 -- The trace says what is told.
 module _ (after : Option ℕ) (capacity rate : ℕ) (trace : List TraceStep) where
-  not_lesser : (a b : StateValue) → IsNextTold after capacity rate trace a → IsNextTold after capacity rate trace b → a.ssrc < b.ssrc → ⊥
+  not_lesser : (a b : StateValue) → IsNextTold after capacity rate trace a → IsNextTold after capacity rate trace b →
+      a.ssrc < b.ssrc → ⊥
   not_lesser a b first second less =
       let here : stay_of capacity trace a.ssrc ≡ Some first.stay = first.present in
       let none : stay_of capacity trace a.ssrc ≡ None = second.least a.ssrc first.above less in
       absurd cc
 
-  same_next : (a b : StateValue) → IsNextTold after capacity rate trace a → IsNextTold after capacity rate trace b → a ≡ b
+  same_next : (a b : StateValue) → IsNextTold after capacity rate trace a → IsNextTold after capacity rate trace b →
+      a ≡ b
   same_next a b first second =
       let same : a.ssrc ≡ b.ssrc = elim (cases_lt a.ssrc b.ssrc) [
         | inl less ↦ absurd (not_lesser a b first second less)
-        | inr from ↦ elim (cases_lt b.ssrc a.ssrc) [ inl less ↦ absurd (not_lesser b a second first less) | inr other ↦ omega arith ]
+        | inr from ↦ elim (cases_lt b.ssrc a.ssrc) [
+          | inl less ↦ absurd (not_lesser b a second first less)
+          | inr other ↦ omega arith
+        ]
       ] in
       let here : stay_of capacity trace a.ssrc ≡ Some first.stay = first.present in
       let there : stay_of capacity trace b.ssrc ≡ Some second.stay = second.present in
       let stays : first.stay ≡ second.stay = cc in
       first.says ∙ (λ i. told_in_stay rate (same i) (stays i)) ∙ sym second.says
 
-  none_or_next : (state : StateValue) → ((ssrc : ℕ) → is_after after ssrc ≡ true → stay_of capacity trace ssrc ≡ None) → IsNextTold after capacity rate trace state → ⊥
+  none_or_next : (state : StateValue) → ((ssrc : ℕ) → is_after after ssrc ≡ true → stay_of capacity trace ssrc ≡ None) →
+      IsNextTold after capacity rate trace state → ⊥
   none_or_next state none next =
       let here : stay_of capacity trace state.ssrc ≡ Some next.stay = next.present in
       let nobody : stay_of capacity trace state.ssrc ≡ None = none state.ssrc next.above in
       absurd cc
 
-  pub told_once : (a b : Option StateValue) → TellsAbove after capacity rate trace a → TellsAbove after capacity rate trace b → a ≡ b
+  pub told_once : (a b : Option StateValue) → TellsAbove after capacity rate trace a →
+      TellsAbove after capacity rate trace b → a ≡ b
   told_once None None first second = refl
   told_once None (Some b) first second = absurd (none_or_next b first second)
   told_once (Some a) None first second = absurd (none_or_next a second first)
@@ -163,13 +189,17 @@ module _ (after : Option ℕ) (capacity rate : ℕ) (trace : List TraceStep) whe
 
 -- ---- A walk over all
 
-told_first : (after : Option ℕ) (table : TableValue) (rows : List EntryRow) → rows_above after table ≡ rows → (state : StateValue) → first_state rows ≡ Some state → map state_of rows ≡ state ∷ states_above (Some state.ssrc) table
+told_first : (after : Option ℕ) (table : TableValue) (rows : List EntryRow) → rows_above after table ≡ rows →
+    (state : StateValue) → first_state rows ≡ Some state →
+    map state_of rows ≡ state ∷ states_above (Some state.ssrc) table
 told_first after table [] is state e = absurd cc
 told_first after table (row ∷ rows) is state e =
     let same : state_of row ≡ state = cc in
-    (λ i. same i ∷ map state_of (sym (others_follow after table row rows is) i)) ∙ ap (λ (s : StateValue). state ∷ states_above (Some s.ssrc) table) same
+    (λ i. same i ∷ map state_of (sym (others_follow after table row rows is) i))
+    ∙ ap (λ (s : StateValue). state ∷ states_above (Some s.ssrc) table) same
 
-pub told_more : (after : Option ℕ) (table : TableValue) (state : StateValue) → state_above after table ≡ Some state → states_above after table ≡ state ∷ states_above (Some state.ssrc) table
+pub told_more : (after : Option ℕ) (table : TableValue) (state : StateValue) → state_above after table ≡ Some state →
+    states_above after table ≡ state ∷ states_above (Some state.ssrc) table
 told_more after table state e = told_first after table (rows_above after table) refl state e
 
 no_first : (rows : List EntryRow) → first_state rows ≡ None → map state_of rows ≡ []
@@ -179,11 +209,18 @@ no_first (row ∷ rows) e = absurd cc
 pub told_none : (after : Option ℕ) (table : TableValue) → state_above after table ≡ None → states_above after table ≡ []
 told_none after table e = no_first (rows_above after table) e
 
-walk_by : (after : Option ℕ) (table : TableValue) (trace : List TraceStep) → StandsAt table trace → (rows : List EntryRow) → rows_above after table ≡ rows → IsWalk after table.capacity table.rate trace (map state_of rows)
+walk_by : (after : Option ℕ) (table : TableValue) (trace : List TraceStep) → StandsAt table trace →
+    (rows : List EntryRow) → rows_above after table ≡ rows →
+    IsWalk after table.capacity table.rate trace (map state_of rows)
 walk_by after table trace stands [] is = tells after table trace stands [] is
-walk_by after table trace stands (row ∷ rows) is = (tells after table trace stands (row ∷ rows) is, walk_by (Some row.0) table trace stands rows (others_follow after table row rows is))
+walk_by after table trace stands (row ∷ rows) is = (
+  tells after table trace stands (row ∷ rows) is,
+  walk_by (Some row.0) table trace stands rows
+      (others_follow after table row rows is),
+)
 
-pub states_are_walk : (after : Option ℕ) (table : TableValue) (trace : List TraceStep) → StandsAt table trace → IsWalk after table.capacity table.rate trace (states_above after table)
+pub states_are_walk : (after : Option ℕ) (table : TableValue) (trace : List TraceStep) → StandsAt table trace →
+    IsWalk after table.capacity table.rate trace (states_above after table)
 states_are_walk after table trace stands = walk_by after table trace stands (rows_above after table) refl
 
 -- ---- Each once
@@ -198,38 +235,51 @@ times ssrc states = count_by (λ (state : StateValue). state.ssrc == ssrc) state
 abbrev one_if : Bool → ℕ
 one_if b = if b then 1 else 0
 
-counted_first : (ssrc : ℕ) (state : StateValue) (states : List StateValue) → times ssrc (state ∷ states) ≡ one_if (state.ssrc == ssrc) + times ssrc states
+counted_first : (ssrc : ℕ) (state : StateValue) (states : List StateValue) →
+    times ssrc (state ∷ states) ≡ one_if (state.ssrc == ssrc) + times ssrc states
 counted_first ssrc state states = sum_by-cons (λ (s : StateValue). cond (s.ssrc == ssrc) 1 0) state states
 
 module _ (capacity rate : ℕ) (trace : List TraceStep) (ssrc : ℕ) where
   abbrev here : Bool
   here = is_some (stay_of capacity trace ssrc)
 
-  none_here : (after : Option ℕ) → ((other : ℕ) → is_after after other ≡ true → stay_of capacity trace other ≡ None) → one_if (is_after after ssrc && here) ≡ 0
+  none_here : (after : Option ℕ) → ((other : ℕ) → is_after after other ≡ true → stay_of capacity trace other ≡ None) →
+      one_if (is_after after ssrc && here) ≡ 0
   none_here after none =
-      elim (is_after after ssrc) as (λ b. is_after after ssrc ≡ b → one_if (b && here) ≡ 0) [ true ↦ λ high. ap (λ o. one_if (is_some o)) (none ssrc high) | false ↦ λ low. refl ] refl
+      elim (is_after after ssrc) as (λ b. is_after after ssrc ≡ b →
+      one_if (b && here) ≡ 0) [
+        | true ↦ λ high. ap (λ o. one_if (is_some o)) (none ssrc high)
+        | false ↦ λ low. refl
+      ] refl
 
   -- by where the source stands beside the one that is told
-  one_by : (after : Option ℕ) (state : StateValue) → IsNextTold after capacity rate trace state → one_if (state.ssrc == ssrc) + one_if (nat_lt state.ssrc ssrc && here) ≡ one_if (is_after after ssrc && here)
+  one_by : (after : Option ℕ) (state : StateValue) → IsNextTold after capacity rate trace state →
+      one_if (state.ssrc == ssrc) + one_if (nat_lt state.ssrc ssrc && here) ≡ one_if (is_after after ssrc && here)
   one_by after state next =
       elim (cases_lt ssrc state.ssrc) [
         | inl less ↦
             let other : (state.ssrc == ssrc) ≡ false = grind (arith, nat_tests, less) in
             let below : nat_lt state.ssrc ssrc ≡ false = grind (arith, nat_tests, less) in
             (λ i. one_if (other i) + one_if (below i && here))
-            ∙ sym (elim (is_after after ssrc) as (λ b. is_after after ssrc ≡ b → one_if (b && here) ≡ 0) [ true ↦ λ high. ap (λ o. one_if (is_some o)) (next.least ssrc high less) | false ↦ λ low. refl ] refl)
+            ∙ sym (elim (is_after after ssrc) as (λ b. is_after after ssrc ≡ b →
+            one_if (b && here) ≡ 0) [
+              | true ↦ λ high. ap (λ o. one_if (is_some o)) (next.least ssrc high less)
+              | false ↦ λ low. refl
+            ] refl)
         | inr from ↦ elim (cases_lt state.ssrc ssrc) [
           | inl less ↦
               let other : (state.ssrc == ssrc) ≡ false = grind (arith, nat_tests, less) in
               let above : nat_lt state.ssrc ssrc ≡ true = grind (arith, nat_tests, less) in
               let high : is_after after ssrc ≡ true = higher after state.ssrc ssrc next.above less in
-              (λ i. one_if (other i) + one_if (above i && here)) ∙ no_more (one_if here) ∙ (λ i. one_if (sym high i && here))
+              (λ i. one_if (other i) + one_if (above i && here)) ∙ no_more (one_if here)
+              ∙ (λ i. one_if (sym high i && here))
           | inr until ↦
               let same : state.ssrc ≡ ssrc = omega arith in
               let itself : (state.ssrc == ssrc) ≡ true = grind (arith, nat_tests) in
               let level : nat_lt state.ssrc ssrc ≡ false = grind (arith, nat_tests) in
               let high : is_after after ssrc ≡ true = ap (is_after after) (sym same) ∙ next.above in
-              let present : here ≡ true = ap (λ s. is_some (stay_of capacity trace s)) (sym same) ∙ ap is_some next.present in
+              let present : here ≡ true = ap (λ s. is_some (stay_of capacity trace s)) (sym same)
+              ∙ ap is_some next.present in
               (λ i. one_if (itself i) + one_if (level i && here)) ∙ sym (λ i. one_if (high i && present i))
         ]
       ]
@@ -237,38 +287,53 @@ module _ (capacity rate : ℕ) (trace : List TraceStep) (ssrc : ℕ) where
       no_more : (n : ℕ) → 0 + n ≡ n
       no_more n = omega arith
 
-  pub walk_counts : (after : Option ℕ) (states : List StateValue) → IsWalk after capacity rate trace states → times ssrc states ≡ one_if (is_after after ssrc && here)
+  pub walk_counts : (after : Option ℕ) (states : List StateValue) → IsWalk after capacity rate trace states →
+      times ssrc states ≡ one_if (is_after after ssrc && here)
   walk_counts after [] walk = sym (none_here after walk)
   walk_counts after (state ∷ states) walk =
-      counted_first ssrc state states ∙ ap (λ n. one_if (state.ssrc == ssrc) + n) (walk_counts (Some state.ssrc) states walk.1) ∙ one_by after state walk.0
+      counted_first ssrc state states ∙ ap (λ n. one_if (state.ssrc == ssrc) + n)
+      (walk_counts (Some state.ssrc) states walk.1) ∙ one_by after state walk.0
 
-pub walk_rises : (after : Option ℕ) (capacity rate : ℕ) (trace : List TraceStep) (states : List StateValue) → IsWalk after capacity rate trace states → RiseAbove after states
+pub walk_rises : (after : Option ℕ) (capacity rate : ℕ) (trace : List TraceStep) (states : List StateValue) →
+    IsWalk after capacity rate trace states → RiseAbove after states
 walk_rises after capacity rate trace [] walk = tt
-walk_rises after capacity rate trace (state ∷ states) walk = (walk.0.above, walk_rises (Some state.ssrc) capacity rate trace states walk.1)
+walk_rises after capacity rate trace (state ∷ states) walk =
+    (walk.0.above, walk_rises (Some state.ssrc) capacity rate trace states walk.1)
 
 -- ---- By lists of entries
 
-pub told_of_sorted : (after : Option ℕ) (capacity rate : ℕ) (entries : List Entry) (n : ℕ) (table : TableValue) (told : Option StateValue) → table_of capacity rate entries ≡ table → sorted.IsRising entries
-    → filter (is_above after) (rows_of entries) ≡ rows_of (drop n entries) → told ≡ first_state (rows_of (drop n entries)) → told ≡ state_above after table
+pub told_of_sorted : (after : Option ℕ) (capacity rate : ℕ) (entries : List Entry) (n : ℕ) (table : TableValue)
+    (told : Option StateValue) → table_of capacity rate entries ≡ table → sorted.IsRising entries
+    → filter (is_above after) (rows_of entries) ≡ rows_of (drop n entries) →
+    told ≡ first_state (rows_of (drop n entries)) → told ≡ state_above after table
 told_of_sorted after capacity rate entries n table told is rising rest says =
-    says ∙ ap first_state (sym rest ∙ ap (filter (is_above after)) (sym (entries_of_rising entries rising))) ∙ ap (state_above after) is
+    says ∙ ap first_state (sym rest ∙ ap (filter (is_above after)) (sym (entries_of_rising entries rising)))
+    ∙ ap (state_above after) is
 
-state_of_first : (after : Option ℕ) (table : TableValue) (ssrc : ℕ) (rows : List EntryRow) → rows_above after table ≡ rows → Some ssrc ≡ first_ssrc rows → state_for ssrc (finite.get table.entries ssrc) ≡ first_state rows
+state_of_first : (after : Option ℕ) (table : TableValue) (ssrc : ℕ) (rows : List EntryRow) →
+    rows_above after table ≡ rows → Some ssrc ≡ first_ssrc rows →
+    state_for ssrc (finite.get table.entries ssrc) ≡ first_state rows
 state_of_first after table ssrc [] is e = absurd cc
 state_of_first after table ssrc (row ∷ rest) is e =
     let same : ssrc ≡ row.0 = cc in
-    ap (λ s. state_for s (finite.get table.entries s)) same ∙ ap (state_for row.0) (above_is_there after table row rest is)
+    ap (λ s. state_for s (finite.get table.entries s)) same
+    ∙ ap (state_for row.0) (above_is_there after table row rest is)
 
-module _ (after : Option ℕ) (capacity rate : ℕ) (entries : List Entry) (table : TableValue) (apart : IsApart (rows_of entries)) (is : table_of capacity rate entries ≡ table) where
-  first_found : (o : Option ℕ) → o ≡ least (is_above after) (rows_of entries) → o ≡ first_ssrc (rows_above after (table_of capacity rate entries))
+module _ (after : Option ℕ) (capacity rate : ℕ) (entries : List Entry) (table : TableValue)
+    (apart : IsApart (rows_of entries)) (is : table_of capacity rate entries ≡ table) where
+  first_found : (o : Option ℕ) → o ≡ least (is_above after) (rows_of entries) →
+      o ≡ first_ssrc (rows_above after (table_of capacity rate entries))
   first_found o finds = finds ∙ sym (first_is_least (is_above after) (rows_of entries) apart)
 
-  pub told_of_least : (ssrc : ℕ) (told : Option StateValue) → Some ssrc ≡ least (is_above after) (rows_of entries) → told ≡ state_for ssrc (finite.get (map_of entries) ssrc) → told ≡ state_above after table
+  pub told_of_least : (ssrc : ℕ) (told : Option StateValue) → Some ssrc ≡ least (is_above after) (rows_of entries) →
+      told ≡ state_for ssrc (finite.get (map_of entries) ssrc) → told ≡ state_above after table
   told_of_least ssrc told finds says =
       let here : TableValue = table_of capacity rate entries in
-      says ∙ state_of_first after here ssrc (rows_above after here) refl (first_found (Some ssrc) finds) ∙ ap (state_above after) is
+      says ∙ state_of_first after here ssrc (rows_above after here) refl (first_found (Some ssrc) finds)
+      ∙ ap (state_above after) is
 
   pub told_of_none : None ≡ least (is_above after) (rows_of entries) → None ≡ state_above after table
   told_of_none finds =
       let here : TableValue = table_of capacity rate entries in
-      ap first_state (sym (none_first (rows_above after here) (sym (first_found None finds)))) ∙ ap (state_above after) is
+      ap first_state (sym (none_first (rows_above after here) (sym (first_found None finds))))
+      ∙ ap (state_above after) is

@@ -14,26 +14,36 @@ use Rattle.rtcp_members.specs.Tables.{EntryMap, TableValue, KeepsBounds, changes
 
 -- ---- Capacity and rate
 
-kept_if : (b : Bool) (table : TableValue) (entries : EntryMap) → KeepsBounds table (if b then record table { entries = entries } else table)
+kept_if : (b : Bool) (table : TableValue) (entries : EntryMap) →
+    KeepsBounds table (if b then record table { entries = entries } else table)
 kept_if true table entries = record { capacity = refl; rate = refl }
 kept_if false table entries = record { capacity = refl; rate = refl }
 
 kept_twice : (old next last : TableValue) → KeepsBounds old next → KeepsBounds next last → KeepsBounds old last
-kept_twice old next last first second = record { capacity = second.capacity ∙ first.capacity; rate = second.rate ∙ first.rate }
+kept_twice old next last first second = record {
+  capacity = second.capacity ∙ first.capacity;
+  rate = second.rate
+      ∙ first.rate;
+}
 
-pub fact_keeps_bounds : (table : TableValue) (fact : Fact) (moment : ℕ) → KeepsBounds table (after_fact fact moment table)
+pub fact_keeps_bounds : (table : TableValue) (fact : Fact) (moment : ℕ) →
+    KeepsBounds table (after_fact fact moment table)
 fact_keeps_bounds table fact moment =
-    kept_if (changes (placed table fact)) table (map.insert table.entries (subject fact) (entry_after table.rate fact moment (entry_for table fact)))
+    kept_if (changes (placed table fact)) table
+    (map.insert table.entries (subject fact) (entry_after table.rate fact moment (entry_for table fact)))
 
-pub facts_keep_bounds : (facts : List Fact) (table : TableValue) (moment : ℕ) → KeepsBounds table (after_facts facts moment table)
+pub facts_keep_bounds : (facts : List Fact) (table : TableValue) (moment : ℕ) →
+    KeepsBounds table (after_facts facts moment table)
 facts_keep_bounds [] table moment = record { capacity = refl; rate = refl }
 facts_keep_bounds (fact ∷ facts) table moment =
-    kept_twice table (after_fact fact moment table) _ (fact_keeps_bounds table fact moment) (facts_keep_bounds facts (after_fact fact moment table) moment)
+    kept_twice table (after_fact fact moment table) _ (fact_keeps_bounds table fact moment)
+    (facts_keep_bounds facts (after_fact fact moment table) moment)
 
 pub check_keeps_bounds : (table : TableValue) (horizons : Horizons) → KeepsBounds table (after_check horizons table)
 check_keeps_bounds table horizons = record { capacity = refl; rate = refl }
 
-reported_keeps : (table : TableValue) (ssrc : ℕ) (entry : Option EntryValue) → KeepsBounds table (with_reported ssrc table entry)
+reported_keeps : (table : TableValue) (ssrc : ℕ) (entry : Option EntryValue) →
+    KeepsBounds table (with_reported ssrc table entry)
 reported_keeps table ssrc None = record { capacity = refl; rate = refl }
 reported_keeps table ssrc (Some entry) = record { capacity = refl; rate = refl }
 
@@ -43,45 +53,62 @@ block_keeps_bounds table ssrc = reported_keeps table ssrc (map.get table.entries
 pub blocks_keep_bounds : (rows : List EntryRow) (table : TableValue) → KeepsBounds table (after_blocks rows table)
 blocks_keep_bounds [] table = record { capacity = refl; rate = refl }
 blocks_keep_bounds (row ∷ rows) table =
-    kept_twice table (after_block row.0 table) _ (block_keeps_bounds table row.0) (blocks_keep_bounds rows (after_block row.0 table))
+    kept_twice table (after_block row.0 table) _ (block_keeps_bounds table row.0)
+    (blocks_keep_bounds rows (after_block row.0 table))
 
 -- ---- Facts
 
-len_if : (b : Bool) (table next : TableValue) → map.len (if b then next else table).entries ≡ cond b (map.len next.entries) (map.len table.entries)
+len_if : (b : Bool) (table next : TableValue) → map.len (if b then next else table).entries ≡ cond b
+    (map.len next.entries) (map.len table.entries)
 len_if true table next = refl
 len_if false table next = refl
 
 -- Where an entry is added there is room for it.
 len_after : (fact : Fact) (entry : Option EntryValue) (len capacity : ℕ) → len ≤ capacity
     → cond (changes (place_of fact entry (nat_lt len capacity))) (cond (is_some entry) len (len + 1)) len ≤ capacity
-len_after fact (Some entry) len capacity within = elim (changes (place_of fact (Some entry) (nat_lt len capacity))) as (λ b. cond b len len ≤ capacity) [ true ↦ within | false ↦ within ]
+len_after fact (Some entry) len capacity within =
+    elim (changes (place_of fact (Some entry) (nat_lt len capacity))) as (λ b. cond b len len ≤ capacity) [
+      | true ↦
+          within
+      | false ↦ within
+    ]
 len_after fact None len capacity within =
-    elim (is_gone fact) as (λ gone. cond (changes (if gone then Ignored else (if nat_lt len capacity then Added else NoRoom))) (len + 1) len ≤ capacity) [
+    elim (is_gone fact) as (λ gone. cond
+    (changes (if gone then Ignored else (if nat_lt len capacity then Added else NoRoom))) (len + 1) len
+    ≤ capacity) [
       | true ↦ within
-      | false ↦ elim (nat_lt len capacity) as (λ room. nat_lt len capacity ≡ room → cond (changes (if room then Added else NoRoom)) (len + 1) len ≤ capacity) [
-        | true ↦ λ room. omega (arith, ltb-true len capacity room)
-        | false ↦ λ _. within
-      ] refl
+      | false ↦ elim (nat_lt len capacity) as (λ room. nat_lt len capacity ≡ room →
+          cond (changes (if room then Added else NoRoom)) (len + 1) len ≤ capacity) [
+            | true ↦ λ room. omega (arith, ltb-true len capacity room)
+            | false ↦ λ _. within
+          ] refl
     ]
 
-pub fact_keeps_capacity : (table : TableValue) (fact : Fact) (moment : ℕ) → map.len table.entries ≤ table.capacity → map.len (after_fact fact moment table).entries ≤ table.capacity
+pub fact_keeps_capacity : (table : TableValue) (fact : Fact) (moment : ℕ) → map.len table.entries ≤ table.capacity →
+    map.len (after_fact fact moment table).entries ≤ table.capacity
 fact_keeps_capacity table fact moment within =
-    rw (len_if (changes (placed table fact)) table, map.len-insert nat_cmp_total table.entries (subject fact)) (len_after fact (map.get table.entries (subject fact)) (map.len table.entries) table.capacity within)
+    rw (len_if (changes (placed table fact)) table, map.len-insert nat_cmp_total table.entries (subject fact))
+    (len_after fact (map.get table.entries (subject fact)) (map.len table.entries) table.capacity within)
 
-pub facts_keep_capacity : (facts : List Fact) (table : TableValue) (moment : ℕ) → map.len table.entries ≤ table.capacity → map.len (after_facts facts moment table).entries ≤ table.capacity
+pub facts_keep_capacity : (facts : List Fact) (table : TableValue) (moment : ℕ) →
+    map.len table.entries ≤ table.capacity → map.len (after_facts facts moment table).entries ≤ table.capacity
 facts_keep_capacity [] table moment within = within
 facts_keep_capacity (fact ∷ facts) table moment within =
-    let same : (after_fact fact moment table).capacity ≡ table.capacity = (fact_keeps_bounds table fact moment).capacity in
-    let first : map.len (after_fact fact moment table).entries ≤ (after_fact fact moment table).capacity = omega (arith, same, fact_keeps_capacity table fact moment within) in
+    let same : (after_fact fact moment table).capacity ≡ table.capacity =
+    (fact_keeps_bounds table fact moment).capacity in
+    let first : map.len (after_fact fact moment table).entries ≤ (after_fact fact moment table).capacity =
+    omega (arith, same, fact_keeps_capacity table fact moment within) in
     omega (arith, same, facts_keep_capacity facts (after_fact fact moment table) moment first)
 
 -- ---- Checks
 
-length_updated : (step : EntryValue → Option EntryValue) (rows : List (ℕ × EntryValue)) → length (filter_map (updated_row step) rows) ≤ length rows
+length_updated : (step : EntryValue → Option EntryValue) (rows : List (ℕ × EntryValue)) →
+    length (filter_map (updated_row step) rows) ≤ length rows
 length_updated step [] = le_refl 0
 length_updated step (row ∷ rows) =
     let rest = length_updated step rows in
-    elim (step row.1) as (λ entry. length (cons_option (option_map (λ e. (row.0, e)) entry) (filter_map (updated_row step) rows)) ≤ suc (length rows)) [
+    elim (step row.1) as (λ entry. length
+    (cons_option (option_map (λ e. (row.0, e)) entry) (filter_map (updated_row step) rows)) ≤ suc (length rows)) [
       | None ↦ omega arith
       | Some e ↦ omega arith
     ]
@@ -91,13 +118,18 @@ len_from_rows [] = le_of_eq (map.len-empty nat_cmp EntryValue)
 len_from_rows (row ∷ rows) =
     let rest = len_from_rows rows in
     let entries : EntryMap = map.from_entries rows in
-    rw (map.len-insert nat_cmp_total entries row.0 row.1) (elim (map.contains_key entries row.0) as (λ b. cond b (map.len entries) (map.len entries + 1) ≤ suc (length rows)) [ true ↦ omega arith | false ↦ omega arith ])
+    rw (map.len-insert nat_cmp_total entries row.0 row.1)
+    (elim (map.contains_key entries row.0) as (λ b. cond b (map.len entries) (map.len entries + 1) ≤ suc
+    (length rows)) [ true ↦ omega arith | false ↦ omega arith ])
 
-pub len_updated : (step : EntryValue → Option EntryValue) (entries : EntryMap) → map.len (updated step entries) ≤ map.len entries
+pub len_updated : (step : EntryValue → Option EntryValue) (entries : EntryMap) →
+    map.len (updated step entries) ≤ map.len entries
 len_updated step entries =
-    rw (map.len-entries entries) (le_trans (len_from_rows (filter_map (updated_row step) (map.entries entries))) (length_updated step (map.entries entries)))
+    rw (map.len-entries entries) (le_trans (len_from_rows (filter_map (updated_row step) (map.entries entries)))
+    (length_updated step (map.entries entries)))
 
-pub check_keeps_capacity : (table : TableValue) (horizons : Horizons) → map.len table.entries ≤ table.capacity → map.len (after_check horizons table).entries ≤ table.capacity
+pub check_keeps_capacity : (table : TableValue) (horizons : Horizons) → map.len table.entries ≤ table.capacity →
+    map.len (after_check horizons table).entries ≤ table.capacity
 check_keeps_capacity table horizons within = le_trans (len_updated (entry_after_check horizons) table.entries) within
 
 -- ---- The empty table

@@ -20,68 +20,104 @@ use Rattle.rtcp_members.proofs.Listing.{get_rows}
 
 -- ---- One more
 
-none_of_both : {X : Type 0} (b : Bool) (x : X) (rest : Option X) → cond b (Some x) rest ≡ None → (b ≡ false) × (rest ≡ None)
+none_of_both : {X : Type 0} (b : Bool) (x : X) (rest : Option X) → cond b (Some x) rest ≡ None →
+    (b ≡ false) × (rest ≡ None)
 none_of_both true x rest e = absurd cc
 none_of_both false x rest e = (refl, e)
 
-apart_append : (rows : List (ℕ × EntryValue)) (key : ℕ) (value : EntryValue) → IsApart rows → finite.find nat_cmp key rows ≡ None → IsApart (rows ++ (key, value) ∷ [])
+apart_append : (rows : List (ℕ × EntryValue)) (key : ℕ) (value : EntryValue) → IsApart rows →
+    finite.find nat_cmp key rows ≡ None → IsApart (rows ++ (key, value) ∷ [])
 apart_append [] key value apart none = (refl, tt)
 apart_append (row ∷ rows) key value apart none =
     let parts = none_of_both (eq_by_cmp nat_cmp key row.0) row.1 (finite.find nat_cmp key rows) none in
-    let other : eq_by_cmp nat_cmp row.0 key ≡ false = (eq_by_cmp_equiv nat_cmp_total).symm row.0 key ∙ parts.0 in
-    (find-append nat_cmp nat_cmp_total rows key value row.0 parts.1 ∙ ap (λ b. cond b (Some value) (finite.find nat_cmp row.0 rows)) other ∙ apart.0, apart_append rows key value apart.1 parts.1)
+    let other : eq_by_cmp nat_cmp row.0 key ≡ false = (eq_by_cmp_equiv nat_cmp_total).symm row.0 key ∙ parts.0 in (
+      find-append nat_cmp nat_cmp_total rows key value row.0 parts.1
+          ∙ ap (λ b. cond b (Some value) (finite.find nat_cmp row.0 rows)) other ∙ apart.0,
+      apart_append rows key value apart.1 parts.1,
+    )
 
-pub apart_push : (entries : List Entry) (e : Entry) → IsApart (rows_of entries) → finite.get (map_of entries) e.ssrc ≡ None → IsApart (rows_of (entries ++ e ∷ []))
+pub apart_push : (entries : List Entry) (e : Entry) → IsApart (rows_of entries) →
+    finite.get (map_of entries) e.ssrc ≡ None → IsApart (rows_of (entries ++ e ∷ []))
 apart_push entries e apart none =
-    subst IsApart (sym (map-append row_of entries (e ∷ []))) (apart_append (rows_of entries) e.ssrc (entry_value e) apart (sym (get_rows entries e.ssrc) ∙ none))
+    subst IsApart (sym (map-append row_of entries (e ∷ [])))
+    (apart_append (rows_of entries) e.ssrc (entry_value e) apart (sym (get_rows entries e.ssrc) ∙ none))
 
-pub map_push : (entries : List Entry) (e : Entry) → finite.get (map_of entries) e.ssrc ≡ None → map_of (entries ++ e ∷ []) ≡ finite.insert (map_of entries) e.ssrc (entry_value e)
+pub map_push : (entries : List Entry) (e : Entry) → finite.get (map_of entries) e.ssrc ≡ None →
+    map_of (entries ++ e ∷ []) ≡ finite.insert (map_of entries) e.ssrc (entry_value e)
 map_push entries e none =
     ap finite.from_entries (map-append row_of entries (e ∷ []))
-    ∙ finite.from_entries_push nat_cmp_total nat_cmp-IsAntisymmetric (rows_of entries) e.ssrc (entry_value e) (sym (get_rows entries e.ssrc) ∙ none)
+    ∙ finite.from_entries_push nat_cmp_total nat_cmp-IsAntisymmetric (rows_of entries) e.ssrc (entry_value e)
+    (sym (get_rows entries e.ssrc) ∙ none)
 
 -- ---- A check
 
 -- an entry that stays, after a check
 abbrev kept : Horizons → EntryValue → EntryValue
-kept horizons entry = if is_some entry.mark then entry else record entry { sending = still_sending horizons entry.sending }
+kept horizons entry = if is_some entry.mark then entry else record
+    entry { sending = still_sending horizons entry.sending }
 
-lapsed_row : (horizons : Horizons) (e : Entry) → row_of (lapsed horizons.idle e) ≡ (e.ssrc, kept horizons (entry_value e))
+lapsed_row : (horizons : Horizons) (e : Entry) →
+    row_of (lapsed horizons.idle e) ≡ (e.ssrc, kept horizons (entry_value e))
 lapsed_row horizons e =
     let gone : Entry = record e { sends = false } in
-    elim (is_some (mark_in e)) as (λ marked. row_of (if not marked && is_before (sending_in e) horizons.idle then gone else e)
-    ≡ (e.ssrc, if marked then entry_value e else record (entry_value e) { sending = still_sending horizons (sending_in e) })) [
+    elim (is_some (mark_in e)) as (λ marked. row_of
+    (if not marked && is_before (sending_in e) horizons.idle then gone else e)
+    ≡ (
+      e.ssrc,
+      if marked then entry_value e else record
+          (entry_value e) { sending = still_sending horizons (sending_in e) },
+    )) [
       | true ↦ refl
-      | false ↦ elim (is_before (sending_in e) horizons.idle) as (λ idle. row_of (if idle then gone else e) ≡ (e.ssrc, record (entry_value e) { sending = (if idle then None else (sending_in e)) })) [ true ↦ refl | false ↦ refl ]
+      | false ↦ elim (is_before (sending_in e) horizons.idle) as (λ idle. row_of (if idle then gone else e)
+          ≡ (e.ssrc, record (entry_value e) { sending = (if idle then None else (sending_in e)) })) [
+            | true ↦ refl
+            | false ↦ refl
+          ]
     ]
 
 row_checked : (horizons : Horizons) (e : Entry) (rest : List Entry) (rows : List (ℕ × EntryValue)) → rows_of rest ≡ rows
-    → rows_of (cond (outlasts horizons e) (lapsed horizons.idle e ∷ rest) rest) ≡ cons_option (updated_row (entry_after_check horizons) (row_of e)) rows
+    → rows_of (cond (outlasts horizons e) (lapsed horizons.idle e ∷ rest) rest) ≡ cons_option
+    (updated_row (entry_after_check horizons) (row_of e)) rows
 row_checked horizons e rest rows same =
-    elim (is_removed horizons e.sighting (mark_in e)) as (λ removed. rows_of (cond (not removed) (lapsed horizons.idle e ∷ rest) rest)
-    ≡ cons_option (option_map (λ entry. (e.ssrc, entry)) (if removed then None else Some (kept horizons (entry_value e)))) rows) [
+    elim (is_removed horizons e.sighting (mark_in e)) as (λ removed. rows_of
+    (cond (not removed) (lapsed horizons.idle e ∷ rest) rest)
+    ≡ cons_option (option_map (λ entry. (e.ssrc, entry))
+    (if removed then None else Some (kept horizons (entry_value e)))) rows) [
       | true ↦ same
       | false ↦ λ i. lapsed_row horizons e i ∷ same i
     ]
 
-pub rows_checked : (horizons : Horizons) (entries : List Entry) → rows_of (retain_mut (outlasts horizons) (lapsed horizons.idle) entries) ≡ filter_map (updated_row (entry_after_check horizons)) (rows_of entries)
+pub rows_checked : (horizons : Horizons) (entries : List Entry) →
+    rows_of (retain_mut (outlasts horizons) (lapsed horizons.idle) entries) ≡ filter_map
+    (updated_row (entry_after_check horizons)) (rows_of entries)
 rows_checked horizons [] = refl
-rows_checked horizons (e ∷ entries) = row_checked horizons e (retain_mut (outlasts horizons) (lapsed horizons.idle) entries) (filter_map (updated_row (entry_after_check horizons)) (rows_of entries)) (rows_checked horizons entries)
+rows_checked horizons (e ∷ entries) =
+    row_checked horizons e (retain_mut (outlasts horizons) (lapsed horizons.idle) entries)
+    (filter_map (updated_row (entry_after_check horizons)) (rows_of entries)) (rows_checked horizons entries)
 
-apart_step : (step : EntryValue → Option EntryValue) (key : ℕ) (value : Option EntryValue) (rows : List (ℕ × EntryValue)) → finite.find nat_cmp key rows ≡ None → IsApart rows → IsApart (cons_option (option_map (λ entry. (key, entry)) value) rows)
+apart_step : (step : EntryValue → Option EntryValue) (key : ℕ) (value : Option EntryValue)
+    (rows : List (ℕ × EntryValue)) → finite.find nat_cmp key rows ≡ None → IsApart rows →
+    IsApart (cons_option (option_map (λ entry. (key, entry)) value) rows)
 apart_step step key None rows none apart = apart
 apart_step step key (Some value) rows none apart = (none, apart)
 
-apart_updated : (step : EntryValue → Option EntryValue) (rows : List (ℕ × EntryValue)) → IsApart rows → IsApart (filter_map (updated_row step) rows)
+apart_updated : (step : EntryValue → Option EntryValue) (rows : List (ℕ × EntryValue)) → IsApart rows →
+    IsApart (filter_map (updated_row step) rows)
 apart_updated step [] apart = tt
 apart_updated step (row ∷ rows) apart =
-    apart_step step row.0 (step row.1) (filter_map (updated_row step) rows) (find_updated step row.0 rows apart.1 ∙ ap (option_and_then step) apart.0) (apart_updated step rows apart.1)
+    apart_step step row.0 (step row.1) (filter_map (updated_row step) rows) (find_updated step row.0 rows apart.1
+    ∙ ap (option_and_then step) apart.0) (apart_updated step rows apart.1)
 
-pub apart_checked : (horizons : Horizons) (entries : List Entry) → IsApart (rows_of entries) → IsApart (rows_of (retain_mut (outlasts horizons) (lapsed horizons.idle) entries))
-apart_checked horizons entries apart = subst IsApart (sym (rows_checked horizons entries)) (apart_updated (entry_after_check horizons) (rows_of entries) apart)
+pub apart_checked : (horizons : Horizons) (entries : List Entry) → IsApart (rows_of entries) →
+    IsApart (rows_of (retain_mut (outlasts horizons) (lapsed horizons.idle) entries))
+apart_checked horizons entries apart = subst IsApart (sym (rows_checked horizons entries))
+    (apart_updated (entry_after_check horizons) (rows_of entries) apart)
 
-pub map_checked : (horizons : Horizons) (entries : List Entry) → IsApart (rows_of entries) → map_of (retain_mut (outlasts horizons) (lapsed horizons.idle) entries) ≡ updated (entry_after_check horizons) (map_of entries)
-map_checked horizons entries apart = ap finite.from_entries (rows_checked horizons entries) ∙ from_updated (entry_after_check horizons) (rows_of entries) apart
+pub map_checked : (horizons : Horizons) (entries : List Entry) → IsApart (rows_of entries) →
+    map_of (retain_mut (outlasts horizons) (lapsed horizons.idle) entries) ≡ updated (entry_after_check horizons)
+    (map_of entries)
+map_checked horizons entries apart = ap finite.from_entries (rows_checked horizons entries)
+    ∙ from_updated (entry_after_check horizons) (rows_of entries) apart
 
 -- A closure that is the same after each call, and returns and changes by functions, leaves what they say.
 pub retained : {X F : Type 0} (R : F → X → Bool → F → X → Type 0) (test : X → Bool) (change : X → X) (f : F)

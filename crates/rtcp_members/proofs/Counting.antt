@@ -29,9 +29,11 @@ one_or_none b = cond b 1 0
 pub same_passing : (f g : ℕ → Bool) → ((key : ℕ) → f key ≡ g key) → (keys : List ℕ) → passing f keys ≡ passing g keys
 same_passing f g same keys = λ i. passing (λ key. same key i) keys
 
-pub first_and_rest : {X : Type 0} (test : X → Bool) (x : X) (xs : List X) → passing test (x ∷ xs) ≡ one_or_none (test x) + passing test xs
+pub first_and_rest : {X : Type 0} (test : X → Bool) (x : X) (xs : List X) →
+    passing test (x ∷ xs) ≡ one_or_none (test x) + passing test xs
 unfolding one_or_none
-first_and_rest test x xs = elim (test x) as (λ b. length (cond b (x ∷ filter test xs) (filter test xs)) ≡ one_or_none b + passing test xs) [ true ↦ omega arith | false ↦ omega arith ]
+first_and_rest test x xs = elim (test x) as (λ b. length (cond b (x ∷ filter test xs) (filter test xs)) ≡ one_or_none
+    b + passing test xs) [ true ↦ omega arith | false ↦ omega arith ]
 
 none_pass : (keys : List ℕ) → passing (λ key. false) keys ≡ 0
 none_pass [] = refl
@@ -44,7 +46,8 @@ pub no_more : (n : ℕ) → one_or_none false + n ≡ n
 unfolding one_or_none
 no_more n = omega arith
 
-module _ (f g : ℕ → Bool) (here : ℕ) (value : Bool) (differs : (key : ℕ) → g key ≡ cond (key == here) value (f key)) where
+module _ (f g : ℕ → Bool) (here : ℕ) (value : Bool)
+    (differs : (key : ℕ) → g key ≡ cond (key == here) value (f key)) where
   at_other : (key : ℕ) → (key == here) ≡ false → g key ≡ f key
   at_other key apart = differs key ∙ ap (λ b. cond b value (f key)) apart
 
@@ -52,21 +55,26 @@ module _ (f g : ℕ → Bool) (here : ℕ) (value : Bool) (differs : (key : ℕ)
   same_elsewhere [] absent = refl
   same_elsewhere (key ∷ keys) absent =
       let parts = or_parts (key == here) _ absent in
-      first_and_rest g key keys ∙ (λ i. one_or_none (at_other key parts.0 i) + same_elsewhere keys parts.1 i) ∙ sym (first_and_rest f key keys)
+      first_and_rest g key keys ∙ (λ i. one_or_none (at_other key parts.0 i) + same_elsewhere keys parts.1 i)
+      ∙ sym (first_and_rest f key keys)
 
-  more_here : f here ≡ false → (key : ℕ) (keys : List ℕ) → has key keys ≡ false → (key == here) ≡ true → passing g (key ∷ keys) ≡ one_or_none value + passing f (key ∷ keys)
+  more_here : f here ≡ false → (key : ℕ) (keys : List ℕ) → has key keys ≡ false → (key == here) ≡ true →
+      passing g (key ∷ keys) ≡ one_or_none value + passing f (key ∷ keys)
   more_here fails key keys absent is_here =
       let same : key ≡ here = eqb-true key here is_here in
       let rest = same_elsewhere keys (ap (λ k. has k keys) (sym same) ∙ absent) in
       let passes : g key ≡ value = differs key ∙ ap (λ b. cond b value (f key)) is_here in
-      let none : passing f (key ∷ keys) ≡ passing f keys = first_and_rest f key keys ∙ ap (λ b. one_or_none b + passing f keys) (ap f same ∙ fails) ∙ no_more (passing f keys) in
+      let none : passing f (key ∷ keys) ≡ passing f keys = first_and_rest f key keys
+      ∙ ap (λ b. one_or_none b + passing f keys) (ap f same ∙ fails) ∙ no_more (passing f keys) in
       first_and_rest g key keys ∙ (λ i. one_or_none (passes i) + rest i) ∙ ap (λ n. one_or_none value + n) (sym none)
 
   -- Where g is f but at one key, at which f fails, it passes as many as f, and one more if it passes there.
-  pub one_more : f here ≡ false → (keys : List ℕ) → IsOnce keys → has here keys ≡ true → passing g keys ≡ one_or_none value + passing f keys
+  pub one_more : f here ≡ false → (keys : List ℕ) → IsOnce keys → has here keys ≡ true →
+      passing g keys ≡ one_or_none value + passing f keys
   one_more fails [] once present = absurd (true≢false (sym present))
   one_more fails (key ∷ keys) once present =
-      elim (key == here) as (λ b. (key == here) ≡ b → (b || has here keys) ≡ true → passing g (key ∷ keys) ≡ one_or_none value + passing f (key ∷ keys)) [
+      elim (key == here) as (λ b. (key == here) ≡ b → (b || has here keys) ≡ true →
+      passing g (key ∷ keys) ≡ one_or_none value + passing f (key ∷ keys)) [
         | true ↦ λ is_here _. more_here fails key keys once.0 is_here
         | false ↦ λ apart later.
             first_and_rest g key keys
@@ -82,34 +90,44 @@ abbrev pub HasKeys : List (ℕ × EntryValue) → List ℕ → Type 0
 HasKeys rows keys = (key : ℕ) → is_some (map.find nat_cmp key rows) ≡ true → has key keys ≡ true
 
 module _ (test : EntryValue → Bool) (row : ℕ × EntryValue) (rows : List (ℕ × EntryValue)) where
-  such_at : (key : ℕ) → is_such test (map.find nat_cmp key (row ∷ rows)) ≡ cond (key == row.0) (test row.1) (is_such test (map.find nat_cmp key rows))
+  such_at : (key : ℕ) → is_such test (map.find nat_cmp key (row ∷ rows)) ≡ cond (key == row.0) (test row.1)
+      (is_such test (map.find nat_cmp key rows))
   such_at key =
       ap (λ b. is_such test (cond b (Some row.1) (map.find nat_cmp key rows))) (unsigned_tied key row.0)
-      ∙ elim (key == row.0) as (λ b. is_such test (cond b (Some row.1) (map.find nat_cmp key rows)) ≡ cond b (test row.1) (is_such test (map.find nat_cmp key rows))) [ true ↦ refl | false ↦ refl ]
+      ∙ elim (key == row.0) as (λ b. is_such test (cond b (Some row.1) (map.find nat_cmp key rows)) ≡ cond b
+      (test row.1) (is_such test (map.find nat_cmp key rows))) [ true ↦ refl | false ↦ refl ]
 
   first_is_found : is_some (map.find nat_cmp row.0 (row ∷ rows)) ≡ true
-  first_is_found = ap (λ b. is_some (cond b (Some row.1) (map.find nat_cmp row.0 rows))) (unsigned_tied row.0 row.0 ∙ eq-eqb row.0 row.0 refl)
+  first_is_found = ap (λ b. is_some (cond b (Some row.1) (map.find nat_cmp row.0 rows)))
+      (unsigned_tied row.0 row.0 ∙ eq-eqb row.0 row.0 refl)
 
   keys_of_rest : (keys : List ℕ) → HasKeys (row ∷ rows) keys → HasKeys rows keys
   keys_of_rest keys has_keys key found =
-      has_keys key (elim (eq_by_cmp nat_cmp key row.0) as (λ b. is_some (cond b (Some row.1) (map.find nat_cmp key rows)) ≡ true) [ true ↦ refl | false ↦ found ])
+      has_keys key (elim (eq_by_cmp nat_cmp key row.0) as (λ b. is_some
+      (cond b (Some row.1) (map.find nat_cmp key rows)) ≡ true) [ true ↦ refl | false ↦ found ])
 
 -- As many rows pass a test as keys at which an entry is found that does.
-passing_rows : (test : EntryValue → Bool) (keys : List ℕ) → IsOnce keys → (rows : List (ℕ × EntryValue)) → IsApart rows → HasKeys rows keys
-    → passing (λ (row : ℕ × EntryValue). test row.1) rows ≡ passing (λ key. is_such test (map.find nat_cmp key rows)) keys
+passing_rows : (test : EntryValue → Bool) (keys : List ℕ) → IsOnce keys → (rows : List (ℕ × EntryValue)) →
+    IsApart rows → HasKeys rows keys
+    → passing (λ (row : ℕ × EntryValue). test row.1) rows ≡ passing (λ key. is_such test (map.find nat_cmp key rows))
+    keys
 passing_rows test keys once [] apart has_keys = sym (none_pass keys)
 passing_rows test keys once (row ∷ rows) apart has_keys =
     let rest = passing_rows test keys once rows apart.1 (keys_of_rest test row rows keys has_keys) in
     let before : ℕ → Bool = λ key. is_such test (map.find nat_cmp key rows) in
     let later : ℕ → Bool = λ key. is_such test (map.find nat_cmp key (row ∷ rows)) in
-    let more = one_more before later row.0 (test row.1) (such_at test row rows) (ap (is_such test) apart.0) keys once (has_keys row.0 (first_is_found test row rows)) in
+    let more = one_more before later row.0 (test row.1) (such_at test row rows) (ap (is_such test) apart.0) keys once
+    (has_keys row.0 (first_is_found test row rows)) in
     first_and_rest (λ (r : ℕ × EntryValue). test r.1) row rows ∙ ap (λ n. one_or_none (test row.1) + n) rest ∙ sym more
 
 -- The same of a map.
-pub passing_entries : (test : EntryValue → Bool) (keys : List ℕ) → IsOnce keys → (entries : EntryMap) → ((key : ℕ) → is_some (map.get entries key) ≡ true → has key keys ≡ true)
-    → passing (λ (row : ℕ × EntryValue). test row.1) (map.entries entries) ≡ passing (λ key. is_such test (map.get entries key)) keys
+pub passing_entries : (test : EntryValue → Bool) (keys : List ℕ) → IsOnce keys → (entries : EntryMap) →
+    ((key : ℕ) → is_some (map.get entries key) ≡ true → has key keys ≡ true)
+    → passing (λ (row : ℕ × EntryValue). test row.1) (map.entries entries) ≡ passing
+    (λ key. is_such test (map.get entries key)) keys
 passing_entries test keys once entries has_keys =
-    passing_rows test keys once (map.entries entries) (entries_are_apart entries) (λ key found. has_keys key (ap is_some (map.get-entries entries key) ∙ found))
+    passing_rows test keys once (map.entries entries) (entries_are_apart entries)
+    (λ key found. has_keys key (ap is_some (map.get-entries entries key) ∙ found))
     ∙ same_passing _ _ (λ key. ap (is_such test) (sym (map.get-entries entries key))) keys
 
 all_pass : {X : Type 0} (xs : List X) → passing (λ (x : X). true) xs ≡ length xs
@@ -121,7 +139,8 @@ such_is_some None = refl
 such_is_some (Some e) = refl
 
 -- A map is as long as there are keys with an entry.
-pub len_by_keys : (keys : List ℕ) → IsOnce keys → (entries : EntryMap) → ((key : ℕ) → is_some (map.get entries key) ≡ true → has key keys ≡ true)
+pub len_by_keys : (keys : List ℕ) → IsOnce keys → (entries : EntryMap) →
+    ((key : ℕ) → is_some (map.get entries key) ≡ true → has key keys ≡ true)
     → map.len entries ≡ passing (λ key. is_some (map.get entries key)) keys
 len_by_keys keys once entries has_keys =
     map.len-entries entries

@@ -9,37 +9,45 @@ use Rattle.rtcp_members.proofs.TraceTables.{table_stands}
 
 -- a block leaves present who is
 still_there : (capacity reported : ℕ) (earlier : List TraceStep) (ssrc : ℕ) (stay : Option (List TraceStep))
-    → is_some (stay_with capacity (block_taken reported) (names earlier) (stay_of capacity earlier) ssrc stay) ≡ is_some stay
+    → is_some (stay_with capacity (block_taken reported) (names earlier) (stay_of capacity earlier) ssrc stay)
+    ≡ is_some stay
 still_there capacity reported earlier ssrc None = refl
 still_there capacity reported earlier ssrc (Some stay) = refl
 
-pub present_fit : (capacity : ℕ) (trace : List TraceStep) → present_among (names trace) (stay_of capacity trace) ≤ capacity
+pub present_fit : (capacity : ℕ) (trace : List TraceStep) → present_among (names trace) (stay_of capacity trace)
+    ≤ capacity
 present_fit capacity [] = omega arith
 present_fit capacity (fact_came fact moment ∷ earlier) =
     let table = table_at capacity 1 earlier in
     let stands = table_stands capacity 1 earlier in
     let next = after_fact fact moment table in
-    let within = fact_keeps_capacity table fact moment (omega (arith, len_is_present table earlier stands, present_fit capacity earlier)) in
+    let within = fact_keeps_capacity table fact moment
+    (omega (arith, len_is_present table earlier stands, present_fit capacity earlier)) in
     let same = (fact_keeps_bounds table fact moment).capacity in
     omega (
       arith,
       within,
       len_is_present next (fact_came fact moment ∷ earlier) (fact_follows table earlier fact moment stands),
-      ap (λ (c : ℕ). present_among (names (fact_came fact moment ∷ earlier)) (stay_of c (fact_came fact moment ∷ earlier))) same,
+      ap (λ (c : ℕ). present_among (names (fact_came fact moment ∷ earlier))
+          (stay_of c (fact_came fact moment ∷ earlier))) same,
     )
 present_fit capacity (check_made horizons ∷ earlier) =
     let table = table_at capacity 1 earlier in
     let stands = table_stands capacity 1 earlier in
     let next = after_check horizons table in
-    let within = check_keeps_capacity table horizons (omega (arith, len_is_present table earlier stands, present_fit capacity earlier)) in
+    let within = check_keeps_capacity table horizons
+    (omega (arith, len_is_present table earlier stands, present_fit capacity earlier)) in
     let same = (check_keeps_bounds table horizons).capacity in
     omega (
       arith,
       within,
       len_is_present next (check_made horizons ∷ earlier) (check_follows table earlier horizons stands),
-      ap (λ (c : ℕ). present_among (names (check_made horizons ∷ earlier)) (stay_of c (check_made horizons ∷ earlier))) same,
+      ap (λ (c : ℕ). present_among (names (check_made horizons ∷ earlier)) (stay_of c (check_made horizons ∷ earlier)))
+          same,
     )
 present_fit capacity (block_taken reported ∷ earlier) =
-    let others : present_among (names earlier) (stay_of capacity (block_taken reported ∷ earlier)) ≡ present_among (names earlier) (stay_of capacity earlier) =
-    λ i. length (filter (λ (ssrc : ℕ). still_there capacity reported earlier ssrc (stay_of capacity earlier ssrc) i) (names earlier)) in
+    let others : present_among (names earlier) (stay_of capacity (block_taken reported ∷ earlier)) ≡ present_among
+    (names earlier) (stay_of capacity earlier) =
+    λ i. length (filter (λ (ssrc : ℕ). still_there capacity reported earlier ssrc (stay_of capacity earlier ssrc) i)
+    (names earlier)) in
     omega (arith, others, present_fit capacity earlier)

@@ -34,7 +34,12 @@ module _ (ssrc : ℕ) (entries next : List Entry) (at : ℕ) (change : EntryValu
   pub sorted_edited : (capacity members senders : ℕ) (counts : Counts) → IsSortedTable capacity members senders entries
       → AreCounts counts next → IsSortedTable capacity counts.members counts.senders next
   sorted_edited capacity members senders counts sorted counted = record {
-    ordered = record { rising = still_rising sorted.ordered.rising; its_members = counted.members; its_senders = counted.senders };
+    ordered = record {
+      rising = still_rising sorted.ordered.rising;
+      its_members = counted.members;
+      its_senders =
+          counted.senders;
+    };
     within = omega (arith, as_many, sorted.within);
     room = sorted.room;
   }

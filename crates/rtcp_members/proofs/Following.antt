@@ -29,7 +29,8 @@ module _ (table : TableValue) (trace : List TraceStep) (stands : StandsAt table 
 
   -- It has an entry for each source that is present.
   pub len_is_present : map.len table.entries ≡ present_among (names trace) (stay_of table.capacity trace)
-  len_is_present = len_by_keys (names trace) (names_are_once trace) table.entries entry_is_named ∙ same_passing _ _ entry_is_present (names trace)
+  len_is_present = len_by_keys (names trace) (names_are_once trace) table.entries entry_is_named
+      ∙ same_passing _ _ entry_is_present (names trace)
 
   -- As many of its entries pass a test as of what the trace says of its sources.
   pub count_agrees : (test : EntryValue → Bool) → count_in test table ≡ count_at test table.capacity table.rate trace
@@ -55,26 +56,36 @@ module _ (table : TableValue) (fact : Fact) (moment : ℕ) where
   same_bounds true = (refl, refl)
   same_bounds false = (refl, refl)
 
-  get_subject : (b : Bool) → map.get (written b).entries (subject fact) ≡ (if b then Some next else map.get table.entries (subject fact))
+  get_subject : (b : Bool) → map.get (written b).entries (subject fact)
+      ≡ (if b then Some next else map.get table.entries (subject fact))
   get_subject true =
       map.get-insert nat_cmp_total table.entries (subject fact) next (subject fact)
-      ∙ ap (λ b. cond b (Some next) (map.get table.entries (subject fact))) (unsigned_tied (subject fact) (subject fact) ∙ eq-eqb (subject fact) (subject fact) refl)
+      ∙ ap (λ b. cond b (Some next) (map.get table.entries (subject fact))) (unsigned_tied (subject fact) (subject fact)
+      ∙ eq-eqb (subject fact) (subject fact) refl)
   get_subject false = refl
 
-  get_other : (ssrc : ℕ) → (subject fact == ssrc) ≡ false → (b : Bool) → map.get (written b).entries ssrc ≡ map.get table.entries ssrc
+  get_other : (ssrc : ℕ) → (subject fact == ssrc) ≡ false → (b : Bool) →
+      map.get (written b).entries ssrc ≡ map.get table.entries ssrc
   get_other ssrc apart true =
       map.get-insert nat_cmp_total table.entries (subject fact) next ssrc
-      ∙ ap (λ b. cond b (Some next) (map.get table.entries ssrc)) (unsigned_tied ssrc (subject fact) ∙ ne_eqb ssrc (subject fact) (λ same. eqb-false (subject fact) ssrc apart (sym same)))
+      ∙ ap (λ b. cond b (Some next) (map.get table.entries ssrc))
+      (unsigned_tied ssrc (subject fact)
+      ∙ ne_eqb ssrc (subject fact) (λ same. eqb-false (subject fact) ssrc apart (sym same)))
   get_other ssrc apart false = refl
 
-  get_own : (ssrc : ℕ) → (subject fact == ssrc) ≡ true → map.get (after_fact fact moment table).entries ssrc ≡ kept_by table.rate fact moment (has_room table) (map.get table.entries ssrc)
+  get_own : (ssrc : ℕ) → (subject fact == ssrc) ≡ true → map.get (after_fact fact moment table).entries ssrc
+      ≡ kept_by table.rate fact moment (has_room table) (map.get table.entries ssrc)
   get_own ssrc own =
-      subst (λ s. map.get (after_fact fact moment table).entries s ≡ kept_by table.rate fact moment (has_room table) (map.get table.entries s)) (eqb-true (subject fact) ssrc own) (get_subject (changes (placed table fact)))
+      subst (λ s. map.get (after_fact fact moment table).entries s ≡ kept_by table.rate fact moment (has_room table)
+      (map.get table.entries s)) (eqb-true (subject fact) ssrc own) (get_subject (changes (placed table fact)))
 
 module _ (table : TableValue) (trace : List TraceStep) (fact : Fact) (moment : ℕ) (stands : StandsAt table trace) where
-  entry_follows : (ssrc : ℕ) → map.get (after_fact fact moment table).entries ssrc ≡ entry_at table.capacity table.rate (fact_came fact moment ∷ trace) ssrc
+  entry_follows : (ssrc : ℕ) → map.get (after_fact fact moment table).entries ssrc ≡ entry_at table.capacity table.rate
+      (fact_came fact moment ∷ trace) ssrc
   entry_follows ssrc =
-      elim (subject fact == ssrc) as (λ b. (subject fact == ssrc) ≡ b → map.get (after_fact fact moment table).entries ssrc ≡ entry_at table.capacity table.rate (fact_came fact moment ∷ trace) ssrc) [
+      elim (subject fact == ssrc) as (λ b. (subject fact == ssrc) ≡ b →
+      map.get (after_fact fact moment table).entries ssrc ≡ entry_at table.capacity table.rate
+      (fact_came fact moment ∷ trace) ssrc) [
         | true ↦ λ own. get_own table fact moment ssrc own
             ∙ (λ i. kept_by table.rate fact moment (room_is_there table trace stands i) (stands ssrc i))
             ∙ sym (own_entry_at table.capacity table.rate ssrc moment fact trace own)
@@ -88,13 +99,16 @@ module _ (table : TableValue) (trace : List TraceStep) (fact : Fact) (moment : �
       let same = same_bounds table fact moment (changes (placed table fact)) in
       entry_follows ssrc ∙ (λ i. entry_at (sym same.0 i) (sym same.1 i) (fact_came fact moment ∷ trace) ssrc)
 
-pub facts_follow : (facts : List Fact) (table : TableValue) (trace : List TraceStep) (moment : ℕ) → StandsAt table trace → StandsAt (after_facts facts moment table) (with_facts facts moment trace)
+pub facts_follow : (facts : List Fact) (table : TableValue) (trace : List TraceStep) (moment : ℕ) →
+    StandsAt table trace → StandsAt (after_facts facts moment table) (with_facts facts moment trace)
 facts_follow [] table trace moment stands = stands
-facts_follow (fact ∷ facts) table trace moment stands = facts_follow facts (after_fact fact moment table) (fact_came fact moment ∷ trace) moment (fact_follows table trace fact moment stands)
+facts_follow (fact ∷ facts) table trace moment stands = facts_follow facts (after_fact fact moment table)
+    (fact_came fact moment ∷ trace) moment (fact_follows table trace fact moment stands)
 
 -- ---- Checks
 
-pub check_follows : (table : TableValue) (trace : List TraceStep) (horizons : Horizons) → StandsAt table trace → StandsAt (after_check horizons table) (check_made horizons ∷ trace)
+pub check_follows : (table : TableValue) (trace : List TraceStep) (horizons : Horizons) → StandsAt table trace →
+    StandsAt (after_check horizons table) (check_made horizons ∷ trace)
 check_follows table trace horizons stands ssrc =
     get_updated (entry_after_check horizons) table.entries ssrc
     ∙ ap (option_and_then (entry_after_check horizons)) (stands ssrc)

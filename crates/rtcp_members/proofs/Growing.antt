@@ -20,24 +20,34 @@ use Rattle.rtcp_members.proofs.TraceTables.{tied}
 
 -- ---- Two tests
 
-pub more_pass : {X : Type 0} (f g : X → Bool) → ((x : X) → f x ≡ true → g x ≡ true) → (xs : List X) → passing f xs ≤ passing g xs
+pub more_pass : {X : Type 0} (f g : X → Bool) → ((x : X) → f x ≡ true → g x ≡ true) → (xs : List X) →
+    passing f xs ≤ passing g xs
 more_pass f g more [] = le_refl 0
 more_pass f g more (x ∷ xs) =
     let rest = more_pass f g more xs in
-    elim (f x) as (λ b. f x ≡ b → length (cond b (x ∷ filter f xs) (filter f xs)) ≤ length (cond (g x) (x ∷ filter g xs) (filter g xs))) [
-      | true ↦ λ is. subst (λ b. suc (length (filter f xs)) ≤ length (cond b (x ∷ filter g xs) (filter g xs))) (sym (more x is)) (omega (arith, rest))
-      | false ↦ λ is. elim (g x) as (λ b. length (filter f xs) ≤ length (cond b (x ∷ filter g xs) (filter g xs))) [ true ↦ omega (arith, rest) | false ↦ rest ]
+    elim (f x) as (λ b. f x ≡ b → length (cond b (x ∷ filter f xs) (filter f xs)) ≤ length
+    (cond (g x) (x ∷ filter g xs) (filter g xs))) [
+      | true ↦ λ is. subst (λ b. suc (length (filter f xs)) ≤ length (cond b (x ∷ filter g xs) (filter g xs)))
+          (sym (more x is)) (omega (arith, rest))
+      | false ↦ λ is. elim (g x) as (λ b. length (filter f xs) ≤ length
+          (cond b (x ∷ filter g xs) (filter g xs))) [ true ↦ omega (arith, rest) | false ↦ rest ]
     ] refl
 
 one_more_name : (test : ℕ → Bool) (x : ℕ) (xs : List ℕ) → passing test xs ≤ passing test (x ∷ xs)
-one_more_name test x xs = elim (test x) as (λ b. length (filter test xs) ≤ length (cond b (x ∷ filter test xs) (filter test xs))) [ true ↦ omega arith | false ↦ le_refl _ ]
+one_more_name test x xs = elim
+    (test x) as (λ b. length (filter test xs) ≤ length (cond b (x ∷ filter test xs) (filter test xs))) [
+      | true ↦
+          omega arith
+      | false ↦ le_refl _
+    ]
 
 -- ---- Members of a trace
 
 not_gone : (fact : Fact) (ssrc : ℕ) → is_gone fact ≡ false → is_gone fact ≡ true → ⊥
 not_gone fact ssrc stays gone = true≢false (sym gone ∙ stays)
 
-still_member : (rate moment : ℕ) (fact : Fact) (entry : EntryValue) → is_gone fact ≡ false → is_member entry ≡ true → is_member (entry_after rate fact moment entry) ≡ true
+still_member : (rate moment : ℕ) (fact : Fact) (entry : EntryValue) → is_gone fact ≡ false → is_member entry ≡ true →
+    is_member (entry_after rate fact moment entry) ≡ true
 still_member rate moment (Heard ssrc) entry stays member = member
 still_member rate moment (Told ssrc ntp rtp) entry stays member = member
 still_member rate moment (Named ssrc) entry stays member = (and_parts entry.valid _ member).1
@@ -50,22 +60,29 @@ unmarked : (mark : Option ℕ) → is_none mark ≡ true → is_some mark ≡ fa
 unmarked None h = refl
 unmarked (Some m) h = absurd cc
 
-kept_member : (rate moment : ℕ) (fact : Fact) (room : Bool) (entry : Option EntryValue) → is_gone fact ≡ false → is_such is_member entry ≡ true → is_such is_member (kept_by rate fact moment room entry) ≡ true
+kept_member : (rate moment : ℕ) (fact : Fact) (room : Bool) (entry : Option EntryValue) → is_gone fact ≡ false →
+    is_such is_member entry ≡ true → is_such is_member (kept_by rate fact moment room entry) ≡ true
 kept_member rate moment fact room None stays member = absurd (true≢false (sym member))
 kept_member rate moment fact room (Some entry) stays member =
     let parts = and_parts entry.valid _ member in
-    (λ i. is_such is_member (if changes (if unmarked entry.mark parts.1 i then Ignored else (if stays i then Left else Kept)) then Some (entry_after rate fact moment entry) else Some entry))
+    (λ i. is_such is_member (if changes
+    (if unmarked entry.mark parts.1 i then Ignored else (if stays i then Left else Kept)) then Some
+    (entry_after rate fact moment entry) else Some entry))
     ∙ still_member rate moment fact entry stays member
 
 module _ (capacity rate : ℕ) (trace : List TraceStep) (fact : Fact) (moment : ℕ) (stays : is_gone fact ≡ false) where
-  member_stays : (ssrc : ℕ) → is_such is_member (entry_at capacity rate trace ssrc) ≡ true → is_such is_member (entry_at capacity rate (fact_came fact moment ∷ trace) ssrc) ≡ true
+  member_stays : (ssrc : ℕ) → is_such is_member (entry_at capacity rate trace ssrc) ≡ true →
+      is_such is_member (entry_at capacity rate (fact_came fact moment ∷ trace) ssrc) ≡ true
   member_stays ssrc member =
-      elim (subject fact == ssrc) as (λ b. (subject fact == ssrc) ≡ b → is_such is_member (entry_at capacity rate (fact_came fact moment ∷ trace) ssrc) ≡ true) [
-        | true ↦ λ own. ap (is_such is_member) (own_entry_at capacity rate ssrc moment fact trace own) ∙ kept_member rate moment fact (room_at capacity trace) (entry_at capacity rate trace ssrc) stays member
+      elim (subject fact == ssrc) as (λ b. (subject fact == ssrc) ≡ b →
+      is_such is_member (entry_at capacity rate (fact_came fact moment ∷ trace) ssrc) ≡ true) [
+        | true ↦ λ own. ap (is_such is_member) (own_entry_at capacity rate ssrc moment fact trace own)
+            ∙ kept_member rate moment fact (room_at capacity trace) (entry_at capacity rate trace ssrc) stays member
         | false ↦ λ apart. ap (is_such is_member) (other_entry_at capacity rate ssrc moment fact trace apart) ∙ member
       ] refl
 
-  no_fewer_names : (test : ℕ → Bool) (known : Bool) → passing test (names trace) ≤ passing test (cond known (names trace) (subject fact ∷ names trace))
+  no_fewer_names : (test : ℕ → Bool) (known : Bool) →
+      passing test (names trace) ≤ passing test (cond known (names trace) (subject fact ∷ names trace))
   no_fewer_names test true = le_refl _
   no_fewer_names test false = one_more_name test (subject fact) (names trace)
 
@@ -73,8 +90,10 @@ module _ (capacity rate : ℕ) (trace : List TraceStep) (fact : Fact) (moment : 
   members_stay =
       let before : ℕ → Bool = λ ssrc. is_such is_member (entry_at capacity rate trace ssrc) in
       let next : ℕ → Bool = λ ssrc. is_such is_member (entry_at capacity rate (fact_came fact moment ∷ trace) ssrc) in
-      let more : passing before (names trace) ≤ passing next (names trace) = more_pass before next member_stays (names trace) in
-      let further : passing next (names trace) ≤ passing next (names (fact_came fact moment ∷ trace)) = no_fewer_names next (is_gone fact || has (subject fact) (names trace)) in
+      let more : passing before (names trace) ≤ passing next (names trace) = more_pass before next member_stays
+      (names trace) in
+      let further : passing next (names trace) ≤ passing next (names (fact_came fact moment ∷ trace)) =
+      no_fewer_names next (is_gone fact || has (subject fact) (names trace)) in
       omega (arith, more, further)
 
 -- ---- Counts of a table
@@ -83,16 +102,22 @@ sender_is_member : (entry : EntryValue) → is_sender entry ≡ true → is_memb
 sender_is_member entry sends = (and_parts (is_member entry) _ sends).0
 
 pub senders_are_members : (table : TableValue) → senders_in table ≤ members_in table
-senders_are_members table = more_pass (λ (row : ℕ × EntryValue). is_sender row.1) (λ row. is_member row.1) (λ row. sender_is_member row.1) (finite.entries table.entries)
+senders_are_members table = more_pass (λ (row : ℕ × EntryValue). is_sender row.1) (λ row. is_member row.1)
+    (λ row. sender_is_member row.1) (finite.entries table.entries)
 
 at_most_all : {X : Type 0} (test : X → Bool) (xs : List X) → passing test xs ≤ length xs
 at_most_all test [] = le_refl 0
 at_most_all test (x ∷ xs) =
     let rest = at_most_all test xs in
-    elim (test x) as (λ b. length (cond b (x ∷ filter test xs) (filter test xs)) ≤ suc (length xs)) [ true ↦ omega (arith, rest) | false ↦ omega (arith, rest) ]
+    elim (test x) as (λ b. length (cond b (x ∷ filter test xs) (filter test xs)) ≤ suc (length xs)) [
+      | true ↦
+          omega (arith, rest)
+      | false ↦ omega (arith, rest)
+    ]
 
 pub members_are_entries : (table : TableValue) → members_in table ≤ finite.len table.entries
-members_are_entries table = rw (finite.len-entries table.entries) (at_most_all (λ (row : ℕ × EntryValue). is_member row.1) (finite.entries table.entries))
+members_are_entries table = rw (finite.len-entries table.entries)
+    (at_most_all (λ (row : ℕ × EntryValue). is_member row.1) (finite.entries table.entries))
 
 -- ---- A check adds no sender
 
@@ -103,41 +128,59 @@ has_key : (key : ℕ) (rows : List (ℕ × EntryValue)) → has key (keys_of row
 has_key key [] = refl
 has_key key (row ∷ rows) =
     ap (λ b. (row.0 == key) || b) (has_key key rows)
-    ∙ elim (row.0 == key) as (λ b. (b || is_some (finite.find nat_cmp key rows)) ≡ is_some (cond b (Some row.1) (finite.find nat_cmp key rows))) [ true ↦ refl | false ↦ refl ]
+    ∙ elim (row.0 == key) as (λ b. (b || is_some (finite.find nat_cmp key rows)) ≡ is_some
+    (cond b (Some row.1) (finite.find nat_cmp key rows))) [ true ↦ refl | false ↦ refl ]
     ∙ ap (λ b. is_some (cond b (Some row.1) (finite.find nat_cmp key rows))) (sym (tied key row.0))
 
 keys_are_once : (rows : List (ℕ × EntryValue)) → IsApart rows → IsOnce (keys_of rows)
 keys_are_once [] apart = tt
 keys_are_once (row ∷ rows) apart = (has_key row.0 rows ∙ ap is_some apart.0, keys_are_once rows apart.1)
 
-was_there : (step : EntryValue → Option EntryValue) (entry : Option EntryValue) → is_some (option_and_then step entry) ≡ true → is_some entry ≡ true
+was_there : (step : EntryValue → Option EntryValue) (entry : Option EntryValue) →
+    is_some (option_and_then step entry) ≡ true → is_some entry ≡ true
 was_there step None found = found
 was_there step (Some e) found = refl
 
-pub checked_sender : (horizons : Horizons) (entry : Option EntryValue) → is_such is_sender (option_and_then (entry_after_check horizons) entry) ≡ true → is_such is_sender entry ≡ true
+pub checked_sender : (horizons : Horizons) (entry : Option EntryValue) →
+    is_such is_sender (option_and_then (entry_after_check horizons) entry) ≡ true → is_such is_sender entry ≡ true
 checked_sender horizons None sends = sends
 checked_sender horizons (Some entry) sends =
-    elim (is_removed horizons entry.sighting entry.mark) as (λ b. is_such is_sender (if b then None else Some (if is_some entry.mark then entry else record entry { sending = still_sending horizons entry.sending })) ≡ true → is_sender entry ≡ true) [
+    elim (is_removed horizons entry.sighting entry.mark) as (λ b. is_such is_sender
+    (if b then None else Some (if is_some entry.mark then entry else record
+    entry { sending = still_sending horizons entry.sending })) ≡ true → is_sender entry ≡ true) [
       | true ↦ λ h. absurd (true≢false (sym h))
-      | false ↦ elim (is_some entry.mark) as (λ b. is_sender (if b then entry else record entry { sending = still_sending horizons entry.sending }) ≡ true → is_sender entry ≡ true) [
-        | true ↦ λ h. h
-        | false ↦ λ h. let parts = and_parts (is_member entry) (is_some (still_sending horizons entry.sending)) h in λ i. parts.0 i && was_sending horizons entry.sending parts.1 i
-      ]
+      | false ↦ elim (is_some entry.mark) as (λ b. is_sender
+          (if b then entry else record entry { sending = still_sending horizons entry.sending }) ≡ true →
+          is_sender entry ≡ true) [
+            | true ↦ λ h. h
+            | false ↦ λ h. let parts = and_parts (is_member entry) (is_some (still_sending horizons entry.sending)) h in
+                λ i. parts.0 i && was_sending horizons entry.sending parts.1 i
+          ]
     ] sends
   where
-    was_sending : (horizons : Horizons) (sending : Option ℕ) → is_some (still_sending horizons sending) ≡ true → is_some sending ≡ true
+    was_sending : (horizons : Horizons) (sending : Option ℕ) → is_some (still_sending horizons sending) ≡ true →
+        is_some sending ≡ true
     was_sending horizons None h = h
     was_sending horizons (Some m) h = refl
 
-pub check_adds_no_sender : (table : TableValue) (horizons : Horizons) → senders_in (after_check horizons table) ≤ senders_in table
+pub check_adds_no_sender : (table : TableValue) (horizons : Horizons) →
+    senders_in (after_check horizons table) ≤ senders_in table
 check_adds_no_sender table horizons =
     let step = entry_after_check horizons in
     let keys = keys_of (finite.entries table.entries) in
     let once = keys_are_once (finite.entries table.entries) (entries_are_apart table.entries) in
-    let known = λ (key : ℕ) (found : is_some (finite.get table.entries key) ≡ true). has_key key (finite.entries table.entries) ∙ ap is_some (sym (finite.get-entries table.entries key)) ∙ found in
-    let still = λ (key : ℕ) (found : is_some (finite.get (updated step table.entries) key) ≡ true). known key (was_there step (finite.get table.entries key) (ap is_some (sym (get_updated step table.entries key)) ∙ found)) in
-    let before : senders_in table ≡ passing (λ key. is_such is_sender (finite.get table.entries key)) keys = passing_entries is_sender keys once table.entries known in
-    let next : senders_in (after_check horizons table) ≡ passing (λ key. is_such is_sender (finite.get (updated step table.entries) key)) keys = passing_entries is_sender keys once (updated step table.entries) still in
-    let fewer = more_pass (λ key. is_such is_sender (finite.get (updated step table.entries) key)) (λ key. is_such is_sender (finite.get table.entries key))
-    (λ key sends. checked_sender horizons (finite.get table.entries key) (ap (is_such is_sender) (sym (get_updated step table.entries key)) ∙ sends)) keys in
+    let known = λ (key : ℕ) (found : is_some (finite.get table.entries key) ≡ true). has_key key
+    (finite.entries table.entries) ∙ ap is_some (sym (finite.get-entries table.entries key)) ∙ found in
+    let still = λ (key : ℕ) (found : is_some (finite.get (updated step table.entries) key) ≡ true). known key
+    (was_there step (finite.get table.entries key) (ap is_some (sym (get_updated step table.entries key))
+    ∙ found)) in
+    let before : senders_in table ≡ passing (λ key. is_such is_sender (finite.get table.entries key)) keys =
+    passing_entries is_sender keys once table.entries known in
+    let next : senders_in (after_check horizons table) ≡ passing
+    (λ key. is_such is_sender (finite.get (updated step table.entries) key)) keys =
+    passing_entries is_sender keys once (updated step table.entries) still in
+    let fewer = more_pass (λ key. is_such is_sender (finite.get (updated step table.entries) key))
+    (λ key. is_such is_sender (finite.get table.entries key))
+    (λ key sends. checked_sender horizons (finite.get table.entries key)
+    (ap (is_such is_sender) (sym (get_updated step table.entries key)) ∙ sends)) keys in
     omega (arith, before, next, fewer)

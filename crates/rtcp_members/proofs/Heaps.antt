@@ -26,19 +26,35 @@ pub record IsHalving (slots : List Slot) (ssrc used at count : ℕ) : Type 0 whe
   pub near : high ≤ 2 * (at + count)
   pub within : 2 * (at + count) ≤ used + 1
 
-module _ (entries : List Entry) (slots : List Slot) (keyed : All (IsKeyed entries) slots) (rising : IsRising (picked entries slots)) (ssrc : ℕ) where
-  key : (k : ℕ) (d : Slot) (e : Entry) → k < length slots → (slice_index_or slots k d).ssrc ≡ (slice_index_or (picked entries slots) k e).ssrc
-  key k d e within = keyed k d within ∙ ap (λ (x : Entry). x.ssrc) (sym (get_or-map (entry_in entries) slots k d e within))
+module _ (entries : List Entry) (slots : List Slot) (keyed : All (IsKeyed entries) slots)
+    (rising : IsRising (picked entries slots)) (ssrc : ℕ) where
+  key : (k : ℕ) (d : Slot) (e : Entry) → k < length slots →
+      (slice_index_or slots k d).ssrc ≡ (slice_index_or (picked entries slots) k e).ssrc
+  key k d e within = keyed k d within
+      ∙ ap (λ (x : Entry). x.ssrc) (sym (get_or-map (entry_in entries) slots k d e within))
 
-  rise : (i j : ℕ) → i < j → j < length slots → (slice_index_or slots i no_slot).ssrc < (slice_index_or slots j no_slot).ssrc
+  rise : (i j : ℕ) → i < j → j < length slots →
+      (slice_index_or slots i no_slot).ssrc < (slice_index_or slots j no_slot).ssrc
   rise i j before within =
-      omega (arith, rises (picked entries slots) rising i j no_entry before (omega (arith, within, length-map slots (entry_in entries))), key i no_slot no_entry (omega (arith, before, within)), key j no_slot no_entry within)
+      omega (
+        arith,
+        rises (picked entries slots) rising i j no_entry before
+            (omega (arith, within, length-map slots (entry_in entries))),
+        key i no_slot no_entry (omega (arith, before, within)),
+        key j no_slot no_entry within,
+      )
 
   pub halved_at_first : IsHalved slots ssrc 0 (length slots)
-  halved_at_first = record { order = omega arith; until = omega arith; lesser = λ k early. absurd (omega (arith, early)); greater = λ k late within. absurd (omega (arith, late, within)) }
+  halved_at_first = record {
+    order = omega arith;
+    until = omega arith;
+    lesser = λ k early. absurd (omega (arith, early));
+    greater = λ k late within. absurd (omega (arith, late, within));
+  }
 
   -- What is seen before or from the source on lets the ends come nearer.
-  pub raised : (low high middle : ℕ) → IsHalved slots ssrc low high → middle < length slots → (slice_index_or slots middle no_slot).ssrc < ssrc → IsHalved slots ssrc middle high
+  pub raised : (low high middle : ℕ) → IsHalved slots ssrc low high → middle < length slots →
+      (slice_index_or slots middle no_slot).ssrc < ssrc → IsHalved slots ssrc middle high
   raised low high middle so within less = record {
     order = elim (cases_lt middle high) [
       | inl before ↦ omega (arith, before)
@@ -49,8 +65,10 @@ module _ (entries : List Entry) (slots : List Slot) (keyed : All (IsKeyed entrie
     greater = so.greater;
   }
 
-  pub lowered : (low high middle : ℕ) → IsHalved slots ssrc low high → low ≤ middle → middle < length slots → ssrc ≤ (slice_index_or slots middle no_slot).ssrc → IsHalved slots ssrc low middle
-  lowered low high middle so above within less = record { order = above; until = omega (arith, within); lesser = so.lesser; greater = greater }
+  pub lowered : (low high middle : ℕ) → IsHalved slots ssrc low high → low ≤ middle → middle < length slots →
+      ssrc ≤ (slice_index_or slots middle no_slot).ssrc → IsHalved slots ssrc low middle
+  lowered low high middle so above within less =
+      record { order = above; until = omega (arith, within); lesser = so.lesser; greater = greater }
     where
       greater : (k : ℕ) → middle ≤ k → k < length slots → ssrc ≤ (slice_index_or slots k no_slot).ssrc
       greater k late in_list = elim (cases_lt middle k) [
@@ -58,7 +76,8 @@ module _ (entries : List Entry) (slots : List Slot) (keyed : All (IsKeyed entrie
         | inr until ↦ subst (λ n. ssrc ≤ (slice_index_or slots n no_slot).ssrc) (omega (arith, late, until)) less
       ]
 
-  module _ (low high middle : ℕ) (so : IsHalved slots ssrc low high) (above : low ≤ middle) (below : middle < high) where
+  module _ (low high middle : ℕ) (so : IsHalved slots ssrc low high) (above : low ≤ middle)
+      (below : middle < high) where
     pub upper_half : (slice_index_or slots middle no_slot).ssrc < ssrc → IsHalved slots ssrc (middle + 1) high
     upper_half less = record { order = omega (arith, below); until = so.until; lesser = lesser; greater = so.greater }
       where
@@ -71,14 +90,21 @@ module _ (entries : List Entry) (slots : List Slot) (keyed : All (IsKeyed entrie
     pub lower_half : ssrc ≤ (slice_index_or slots middle no_slot).ssrc → IsHalved slots ssrc low middle
     lower_half = lowered low high middle so above (omega (arith, below, so.until))
 
-  pub slot_found : (at : ℕ) → at < length slots → (slice_index_or slots at no_slot).ssrc ≡ ssrc → IsRankOf ssrc (picked entries slots) at
+  pub slot_found : (at : ℕ) → at < length slots → (slice_index_or slots at no_slot).ssrc ≡ ssrc →
+      IsRankOf ssrc (picked entries slots) at
   slot_found at within same =
-      ssrc_found ssrc (picked entries slots) at (slice_index_or slots at no_slot).ssrc rising (omega (arith, within, length-map slots (entry_in entries))) (λ e. key at no_slot e within) same
+      ssrc_found ssrc (picked entries slots) at (slice_index_or slots at no_slot).ssrc rising
+      (omega (arith, within, length-map slots (entry_in entries))) (λ e. key at no_slot e within) same
 
-  pub gap_between : (at : ℕ) → at ≤ length slots → (0 < at → (slice_index_or slots (at - 1) no_slot).ssrc < ssrc) → (at < length slots → ssrc < (slice_index_or slots at no_slot).ssrc) → IsGapFor ssrc (picked entries slots) at
+  pub gap_between : (at : ℕ) → at ≤ length slots → (0 < at → (slice_index_or slots (at - 1) no_slot).ssrc < ssrc) →
+      (at < length slots → ssrc < (slice_index_or slots at no_slot).ssrc) → IsGapFor ssrc (picked entries slots) at
   gap_between at in_range last next =
       let as_many = length-map slots (entry_in entries) in
-      record { in_range = omega (arith, in_range, as_many); lesser = λ i e before. early i e before; greater = λ i e from below. late i e from (omega (arith, below, as_many)) }
+      record {
+        in_range = omega (arith, in_range, as_many);
+        lesser = λ i e before. early i e before;
+        greater = λ i e from below. late i e from (omega (arith, below, as_many));
+      }
     where
       early : (i : ℕ) (e : Entry) → i < at → (slice_index_or (picked entries slots) i e).ssrc < ssrc
       early i e before =
@@ -102,56 +128,83 @@ module _ (entries : List Entry) (slots : List Slot) (keyed : All (IsKeyed entrie
                 omega (arith, here, subst (λ n. ssrc < (slice_index_or slots n no_slot).ssrc) equal least)
           ]
 
-  pub none_between : (low high : ℕ) → IsHalved slots ssrc low high → high ≤ low → (low < length slots → (slice_index_or slots low no_slot).ssrc ≡ ssrc → ⊥) → IsGapFor ssrc (picked entries slots) low
+  pub none_between : (low high : ℕ) → IsHalved slots ssrc low high → high ≤ low →
+      (low < length slots → (slice_index_or slots low no_slot).ssrc ≡ ssrc → ⊥) →
+      IsGapFor ssrc (picked entries slots) low
   none_between low high so met other =
       let as_many = length-map slots (entry_in entries) in
       record {
         in_range = omega (arith, so.order, so.until, as_many);
-        lesser = λ i e before. omega (arith, key i no_slot e (omega (arith, before, so.order, so.until)), so.lesser i before);
+        lesser = λ i e before. omega (
+          arith,
+          key i no_slot e (omega (arith, before, so.order, so.until)),
+          so.lesser i before,
+        );
         greater = λ i e from below. past i e from (omega (arith, below, as_many));
       }
     where
       past : (i : ℕ) (e : Entry) → low ≤ i → i < length slots → ssrc < (slice_index_or (picked entries slots) i e).ssrc
       past i e from within = elim (cases_lt low i) [
-        | inl after ↦ omega (arith, key i no_slot e within, rise low i after within, so.greater low met (omega (arith, after, within)))
+        | inl after ↦ omega (
+          arith,
+          key i no_slot e within,
+          rise low i after within,
+          so.greater low met (omega (arith, after, within)),
+        )
         | inr until ↦
-            let differs : (slice_index_or slots i no_slot).ssrc ≡ ssrc → ⊥ = subst (λ n. n < length slots → (slice_index_or slots n no_slot).ssrc ≡ ssrc → ⊥) (omega (arith, from, until)) other within in
+            let differs : (slice_index_or slots i no_slot).ssrc ≡ ssrc →
+            ⊥ = subst (λ n. n < length slots → (slice_index_or slots n no_slot).ssrc ≡ ssrc → ⊥)
+            (omega (arith, from, until)) other within in
             omega (arith, key i no_slot e within, so.greater i (omega (arith, met, from)) within, differs)
       ]
 
 -- ---- An entry at a new place
 
-below_none : (slots : List Slot) (place : ℕ) → All (λ (slot : Slot). slot.place < place) slots → sum_by (has_place place) slots ≡ 0
+below_none : (slots : List Slot) (place : ℕ) → All (λ (slot : Slot). slot.place < place) slots →
+    sum_by (has_place place) slots ≡ 0
 below_none [] place below = refl
 below_none (slot ∷ slots) place below =
     let here : slot.place < place = All-head (λ (slot : Slot). slot.place < place) slot slots below in
     let differs : (slot.place == place) ≡ false = grind (arith, nat_tests, here) in
     let none : has_place place slot ≡ 0 = ap {B = ℕ} (λ b. cond b 1 0) differs in
-    omega (arith, sum_by-cons (has_place place) slot slots, none, below_none slots place (All-tail (λ (slot : Slot). slot.place < place) slot slots below))
+    omega (
+      arith,
+      sum_by-cons (has_place place) slot slots,
+      none,
+      below_none slots place (All-tail (λ (slot : Slot). slot.place < place) slot slots below),
+    )
 
-pub put_behind : (entries : List Entry) (slots : List Slot) (used : ℕ) (e : Entry) (next : List Entry) (place : ℕ) → IsHeap entries slots used → next ≡ entries ++ e ∷ [] → place ≡ length entries
+pub put_behind : (entries : List Entry) (slots : List Slot) (used : ℕ) (e : Entry) (next : List Entry) (place : ℕ) →
+    IsHeap entries slots used → next ≡ entries ++ e ∷ [] → place ≡ length entries
     → IsPut entries next slots slots used place e
 put_behind entries slots used e next place heap is at_end =
     let longer : length next ≡ length entries + 1 = ap length is ∙ length_push entries e in
     record {
-      same = λ k d within. ap (λ xs. entry_in xs (slice_index_or slots k d)) is ∙ get_or_append_left entries (e ∷ []) no_entry (slice_index_or slots k d).place (heap.places.within k d within);
+      same = λ k d within. ap (λ xs. entry_in xs (slice_index_or slots k d)) is
+          ∙ get_or_append_left entries (e ∷ []) no_entry (slice_index_or slots k d).place
+          (heap.places.within k d within);
       there = (λ i. slice_index_or (is i) (at_end i) no_entry) ∙ get_or_push entries e no_entry (length entries) refl;
       places = record {
-        within = All-weaker (λ (slot : Slot). slot.place < length entries) (λ (slot : Slot). slot.place < length next) (λ slot less. omega (arith, less, longer)) slots heap.places.within;
+        within = All-weaker (λ (slot : Slot). slot.place < length entries) (λ (slot : Slot). slot.place < length next)
+            (λ slot less. omega (arith, less, longer)) slots heap.places.within;
         apart = heap.places.apart;
       };
       within = omega (arith, longer, at_end);
-      free = below_none slots place (subst (λ n. All (λ (slot : Slot). slot.place < n) slots) (sym at_end) heap.places.within);
+      free = below_none slots place (subst (λ n. All (λ (slot : Slot). slot.place < n) slots) (sym at_end)
+          heap.places.within);
       in_use = heap.in_use;
       all = omega (arith, longer, heap.all);
       taken = refl;
     }
 
-away_from : (place : ℕ) (slots : List Slot) → sum_by (has_place place) slots ≡ 0 → All (λ (slot : Slot). slot.place ≡ place → ⊥) slots
+away_from : (place : ℕ) (slots : List Slot) → sum_by (has_place place) slots ≡ 0 →
+    All (λ (slot : Slot). slot.place ≡ place → ⊥) slots
 away_from place [] none = All-nil (λ (slot : Slot). slot.place ≡ place → ⊥)
 away_from place (slot ∷ slots) none =
-    let sum : sum_by (has_place place) (slot ∷ slots) ≡ has_place place slot + sum_by (has_place place) slots = sum_by-cons (has_place place) slot slots in
-    All-cons (λ (s : Slot). s.place ≡ place → ⊥) slot slots (λ same. here same (omega (arith, none, sum))) (away_from place slots (omega (arith, none, sum)))
+    let sum : sum_by (has_place place) (slot ∷ slots) ≡ has_place place slot + sum_by (has_place place) slots =
+    sum_by-cons (has_place place) slot slots in
+    All-cons (λ (s : Slot). s.place ≡ place → ⊥) slot slots (λ same. here same (omega (arith, none, sum)))
+    (away_from place slots (omega (arith, none, sum)))
   where
     here : slot.place ≡ place → has_place place slot ≡ 0 → ⊥
     here same zero =
@@ -159,74 +212,103 @@ away_from place (slot ∷ slots) none =
         let one : has_place place slot ≡ 1 = ap {B = ℕ} (λ b. cond b 1 0) equal in
         absurd (omega (arith, zero, one))
 
-pub put_free : (entries : List Entry) (slots front back : List Slot) (used : ℕ) (free : Slot) (e : Entry) → IsHeap entries slots used → slots ≡ front ++ free ∷ back → used ≤ length front
+pub put_free : (entries : List Entry) (slots front back : List Slot) (used : ℕ) (free : Slot) (e : Entry) →
+    IsHeap entries slots used → slots ≡ front ++ free ∷ back → used ≤ length front
     → IsPut entries (set entries free.place e) slots (front ++ back) used free.place e
 put_free entries slots front back used free e heap is fewer =
     let longer : length slots ≡ length front + suc (length back) = ap length is ∙ length-append front (free ∷ back) in
     let others : length (front ++ back) ≡ length front + length back = length-append front back in
     let itself : (free.place == free.place) ≡ true = grind (arith, nat_tests) in
     let one : has_place free.place free ≡ 1 = ap {B = ℕ} (λ b. cond b 1 0) itself in
-    let count : (p : ℕ) → sum_by (has_place p) slots ≡ sum_by (has_place p) (front ++ back) + has_place p free = λ p. counted p in
-    let none : sum_by (has_place free.place) (front ++ back) ≡ 0 = none_left (count free.place) one (heap.places.apart free.place) in
-    let within : All (λ (s : Slot). s.place < length entries) (front ++ free ∷ back) = subst (λ xs. All (λ (s : Slot). s.place < length entries) xs) is heap.places.within in
-    let read : slice_index_or (front ++ free ∷ back) (length front) no_slot ≡ free = get_or_at front free back no_slot (length front) refl in
-    let there : free.place < length entries = subst (λ (s : Slot). s.place < length entries) read (within (length front) no_slot (omega (arith, ap length is, longer))) in
+    let count : (p : ℕ) → sum_by (has_place p) slots ≡ sum_by (has_place p) (front ++ back) + has_place p free =
+    λ p. counted p in
+    let none : sum_by (has_place free.place) (front ++ back) ≡ 0 = none_left (count free.place) one
+    (heap.places.apart free.place) in
+    let within : All (λ (s : Slot). s.place < length entries) (front ++ free ∷ back) =
+    subst (λ xs. All (λ (s : Slot). s.place < length entries) xs) is heap.places.within in
+    let read : slice_index_or (front ++ free ∷ back) (length front) no_slot ≡ free = get_or_at front free back no_slot
+    (length front) refl in
+    let there : free.place < length entries = subst (λ (s : Slot). s.place < length entries) read
+    (within (length front) no_slot (omega (arith, ap length is, longer))) in
     let same_length : length (set entries free.place e) ≡ length entries = length-set entries free.place e in
     record {
-      same = All-weaker (λ (slot : Slot). slot.place ≡ free.place → ⊥) (λ (slot : Slot). entry_in (set entries free.place e) slot ≡ entry_in entries slot)
-          (λ slot unlike. get_or-set_other entries free.place slot.place e no_entry unlike) (front ++ back) (away_from free.place (front ++ back) none);
+      same = All-weaker (λ (slot : Slot). slot.place ≡ free.place → ⊥)
+          (λ (slot : Slot). entry_in (set entries free.place e) slot ≡ entry_in entries slot)
+          (λ slot unlike. get_or-set_other entries free.place slot.place e no_entry unlike) (front ++ back)
+          (away_from free.place (front ++ back) none);
       there = get_or-set_same entries free.place e no_entry there;
       places = record {
-        within = All-weaker (λ (s : Slot). s.place < length entries) (λ (s : Slot). s.place < length (set entries free.place e)) (λ slot less. omega (arith, less, same_length)) (front ++ back)
+        within = All-weaker (λ (s : Slot). s.place < length entries)
+            (λ (s : Slot). s.place < length (set entries free.place e)) (λ slot less. omega (arith, less, same_length))
+            (front ++ back)
             (All-append (λ (s : Slot). s.place < length entries) front back
-            (All-same (λ (s : Slot). s.place < length entries) front (take (length front) (front ++ free ∷ back)) (sym (take_at front (free ∷ back) (length front) refl)) (All-take (λ (s : Slot). s.place < length entries) (length front) (front ++ free ∷ back) within))
-            (All-same (λ (s : Slot). s.place < length entries) back (drop (suc (length front)) (front ++ free ∷ back)) (sym (behind front free back)) (All-drop (λ (s : Slot). s.place < length entries) (suc (length front)) (front ++ free ∷ back) within)));
+            (All-same (λ (s : Slot). s.place < length entries) front (take (length front) (front ++ free ∷ back))
+            (sym (take_at front (free ∷ back) (length front) refl))
+            (All-take (λ (s : Slot). s.place < length entries) (length front) (front ++ free ∷ back) within))
+            (All-same (λ (s : Slot). s.place < length entries) back (drop (suc (length front)) (front ++ free ∷ back))
+            (sym (behind front free back)) (All-drop (λ (s : Slot). s.place < length entries) (suc (length front))
+            (front ++ free ∷ back) within)));
         apart = λ p. fewer_there p (count p) (heap.places.apart p);
       };
       within = omega (arith, there, same_length);
       free = none;
       in_use = omega (arith, fewer, others);
       all = omega (arith, longer, others, heap.all, same_length);
-      taken = take-append-le used front back fewer ∙ sym (ap (take used) is ∙ take-append-le used front (free ∷ back) fewer);
+      taken = take-append-le used front back fewer
+          ∙ sym (ap (take used) is ∙ take-append-le used front (free ∷ back) fewer);
     }
   where
     counted : (p : ℕ) → sum_by (has_place p) slots ≡ sum_by (has_place p) (front ++ back) + has_place p free
     counted p =
-        let whole : sum_by (has_place p) slots ≡ sum_by (has_place p) front + sum_by (has_place p) (free ∷ back) = ap (sum_by (has_place p)) is ∙ sum_by-append (has_place p) front (free ∷ back) in
-        let rest : sum_by (has_place p) (free ∷ back) ≡ has_place p free + sum_by (has_place p) back = sum_by-cons (has_place p) free back in
-        let apart : sum_by (has_place p) (front ++ back) ≡ sum_by (has_place p) front + sum_by (has_place p) back = sum_by-append (has_place p) front back in
+        let whole : sum_by (has_place p) slots ≡ sum_by (has_place p) front + sum_by (has_place p) (free ∷ back) =
+        ap (sum_by (has_place p)) is ∙ sum_by-append (has_place p) front (free ∷ back) in
+        let rest : sum_by (has_place p) (free ∷ back) ≡ has_place p free + sum_by (has_place p) back =
+        sum_by-cons (has_place p) free back in
+        let apart : sum_by (has_place p) (front ++ back) ≡ sum_by (has_place p) front + sum_by (has_place p) back =
+        sum_by-append (has_place p) front back in
         omega (arith, whole, rest, apart)
 
-    fewer_there : (p : ℕ) → sum_by (has_place p) slots ≡ sum_by (has_place p) (front ++ back) + has_place p free → sum_by (has_place p) slots ≤ 1 → sum_by (has_place p) (front ++ back) ≤ 1
+    fewer_there : (p : ℕ) → sum_by (has_place p) slots ≡ sum_by (has_place p) (front ++ back) + has_place p free →
+        sum_by (has_place p) slots ≤ 1 → sum_by (has_place p) (front ++ back) ≤ 1
     fewer_there p count most = omega (arith, count, most)
 
-    none_left : sum_by (has_place free.place) slots ≡ sum_by (has_place free.place) (front ++ back) + has_place free.place free → has_place free.place free ≡ 1 → sum_by (has_place free.place) slots ≤ 1
+    none_left : sum_by (has_place free.place) slots ≡ sum_by (has_place free.place) (front ++ back) + has_place
+        free.place free → has_place free.place free ≡ 1 → sum_by (has_place free.place) slots ≤ 1
         → sum_by (has_place free.place) (front ++ back) ≡ 0
     none_left count one most = omega (arith, count, one, most)
 
 -- ---- Its slot
 
-module _ (entries next : List Entry) (old_slots slots : List Slot) (used at : ℕ) (slot : Slot) (e : Entry) (heap : IsHeap entries old_slots used) (put : IsPut entries next old_slots slots used slot.place e)
+module _ (entries next : List Entry) (old_slots slots : List Slot) (used at : ℕ) (slot : Slot) (e : Entry)
+    (heap : IsHeap entries old_slots used) (put : IsPut entries next old_slots slots used slot.place e)
     (its_ssrc : slot.ssrc ≡ e.ssrc) (in_range : at ≤ used) where
   cut : take (used + 1) (insert slots at slot) ≡ insert (take used slots) at slot
   cut = take_inserted slots used at slot in_range put.in_use
 
   as_before : picked next (take used slots) ≡ picked entries (take used old_slots)
   as_before =
-      picked_same entries next (take used slots) (All-take (λ (s : Slot). entry_in next s ≡ entry_in entries s) used slots put.same) ∙ ap (picked entries) put.taken
+      picked_same entries next (take used slots)
+      (All-take (λ (s : Slot). entry_in next s ≡ entry_in entries s) used slots put.same)
+      ∙ ap (picked entries) put.taken
 
-  pub items_inserted : picked next (take (used + 1) (insert slots at slot)) ≡ insert (picked entries (take used old_slots)) at e
+  pub items_inserted : picked next (take (used + 1) (insert slots at slot)) ≡ insert
+      (picked entries (take used old_slots)) at e
   items_inserted =
       ap (picked next) cut
       ∙ map-append (entry_in next) (take at (take used slots)) (slot ∷ drop at (take used slots))
-      ∙ (λ i. sym (take-map (entry_in next) at (take used slots)) i ++ put.there i ∷ sym (drop-map (entry_in next) at (take used slots)) i)
+      ∙ (λ i. sym (take-map (entry_in next) at (take used slots)) i ++ put.there i ∷ sym
+      (drop-map (entry_in next) at (take used slots)) i)
       ∙ ap (λ xs. take at xs ++ e ∷ drop at xs) as_before
 
   keyed_as_before : All (IsKeyed next) (take used slots)
   keyed_as_before k d within =
-      subst (λ xs. All (IsKeyed entries) xs) (sym put.taken) heap.keyed k d within ∙ ap (λ (x : Entry). x.ssrc) (sym (All-take (λ (s : Slot). entry_in next s ≡ entry_in entries s) used slots put.same k d within))
+      subst (λ xs. All (IsKeyed entries) xs) (sym put.taken) heap.keyed k d within
+      ∙ ap (λ (x : Entry). x.ssrc) (sym
+      (All-take (λ (s : Slot). entry_in next s ≡ entry_in entries s) used slots put.same k d within))
 
-  counts : (p : ℕ) → sum_by (has_place p) slots ≤ 1 → sum_by (has_place slot.place) slots ≡ 0 → sum_by (has_place p) (insert slots at slot) ≡ sum_by (has_place p) slots + has_place p slot → sum_by (has_place p) (insert slots at slot) ≤ 1
+  counts : (p : ℕ) → sum_by (has_place p) slots ≤ 1 → sum_by (has_place slot.place) slots ≡ 0 →
+      sum_by (has_place p) (insert slots at slot) ≡ sum_by (has_place p) slots + has_place p slot →
+      sum_by (has_place p) (insert slots at slot) ≤ 1
   counts p most none joined = elim (cases_eq slot.place p) [
     | inl same ↦
         let empty : sum_by (has_place p) slots ≡ 0 = ap (λ q. sum_by (has_place q) slots) (sym same) ∙ none in
@@ -247,14 +329,19 @@ module _ (entries next : List Entry) (old_slots slots : List Slot) (used at : �
       let within : at ≤ length slots = omega (arith, in_range, put.in_use) in
       record {
         places = record {
-          within = All-append (λ (s : Slot). s.place < length next) (take at slots) (slot ∷ drop at slots) (All-take (λ (s : Slot). s.place < length next) at slots put.places.within)
-              (All-cons (λ (s : Slot). s.place < length next) slot (drop at slots) put.within (All-drop (λ (s : Slot). s.place < length next) at slots put.places.within));
+          within = All-append (λ (s : Slot). s.place < length next) (take at slots) (slot ∷ drop at slots)
+              (All-take (λ (s : Slot). s.place < length next) at slots put.places.within)
+              (All-cons (λ (s : Slot). s.place < length next) slot (drop at slots) put.within
+              (All-drop (λ (s : Slot). s.place < length next) at slots put.places.within));
           apart = λ p. counts p (put.places.apart p) put.free (sum_by-insert (has_place p) slots at slot);
         };
         in_use = omega (arith, put.in_use, length-insert slots at slot within);
         all = length-insert slots at slot within ∙ put.all;
         keyed = All-same (IsKeyed next) (take (used + 1) (insert slots at slot)) (insert (take used slots) at slot) cut
-            (All-append (IsKeyed next) (take at (take used slots)) (slot ∷ drop at (take used slots)) (All-take (IsKeyed next) at (take used slots) keyed_as_before)
-            (All-cons (IsKeyed next) slot (drop at (take used slots)) (its_ssrc ∙ ap (λ (x : Entry). x.ssrc) (sym put.there)) (All-drop (IsKeyed next) at (take used slots) keyed_as_before)));
+            (All-append (IsKeyed next) (take at (take used slots)) (slot ∷ drop at (take used slots))
+            (All-take (IsKeyed next) at (take used slots) keyed_as_before)
+            (All-cons (IsKeyed next) slot (drop at (take used slots))
+            (its_ssrc ∙ ap (λ (x : Entry). x.ssrc) (sym put.there))
+            (All-drop (IsKeyed next) at (take used slots) keyed_as_before)));
         few = few;
       }

@@ -10,7 +10,8 @@ use Rattle.rtcp_members.specs.Entries.{EntryValue, entry_of, given_of}
 use Rattle.rtcp_members.specs.Pending.{block_at}
 use Rattle.rtcp_members.specs.Tables.{TableValue, StandsAt}
 
-pub held_as_stayed : (table : TableValue) (trace : List TraceStep) (ssrc : ℕ) → StandsAt table trace → is_some (finite.get table.entries ssrc) ≡ is_some (stay_of table.capacity trace ssrc)
+pub held_as_stayed : (table : TableValue) (trace : List TraceStep) (ssrc : ℕ) → StandsAt table trace →
+    is_some (finite.get table.entries ssrc) ≡ is_some (stay_of table.capacity trace ssrc)
 held_as_stayed table trace ssrc stands = ap is_some (stands ssrc) ∙ mapped (stay_of table.capacity trace ssrc)
   where
     mapped : (stay : Option (List TraceStep)) → is_some (option_map (entry_of table.rate ssrc) stay) ≡ is_some stay
@@ -20,12 +21,15 @@ held_as_stayed table trace ssrc stands = ap is_some (stands ssrc) ∙ mapped (st
 -- Without a mark the whole stay stands before it.
 whole_stay : (ssrc : ℕ) (stay : List TraceStep) → mark_of ssrc stay ≡ None → before_mark ssrc stay ≡ stay
 whole_stay ssrc [] none = refl
-whole_stay ssrc (step ∷ earlier) none = ap (λ (mark : Option ℕ). if is_some mark then before_mark ssrc earlier else step ∷ earlier) none
+whole_stay ssrc (step ∷ earlier) none =
+    ap (λ (mark : Option ℕ). if is_some mark then before_mark ssrc earlier else step ∷ earlier) none
 
-pub block_of_stay : (table : TableValue) (trace : List TraceStep) (ssrc t : ℕ) (stay : List TraceStep) → StandsAt table trace → stay_of table.capacity trace ssrc ≡ Some stay → mark_of ssrc stay ≡ None
+pub block_of_stay : (table : TableValue) (trace : List TraceStep) (ssrc t : ℕ) (stay : List TraceStep) →
+    StandsAt table trace → stay_of table.capacity trace ssrc ≡ Some stay → mark_of ssrc stay ≡ None
     → block_at ssrc t table ≡ block_over ssrc t (given_of table.rate ssrc stay)
 block_of_stay table trace ssrc t stay stands stays none =
-    let entry : Option EntryValue → Option ReportBlock = option_and_then (λ (entry : EntryValue). block_for ssrc t entry.source) in
+    let entry : Option EntryValue →
+    Option ReportBlock = option_and_then (λ (entry : EntryValue). block_for ssrc t entry.source) in
     ap entry (stands ssrc ∙ ap (option_map (entry_of table.rate ssrc)) stays)
     ∙ summary_suffices-block (given_of table.rate ssrc (before_mark ssrc stay)) ssrc t
     ∙ ap (λ (own : List TraceStep). block_over ssrc t (given_of table.rate ssrc own)) (whole_stay ssrc stay none)

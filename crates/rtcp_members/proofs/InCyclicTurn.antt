@@ -20,20 +20,24 @@ use Rattle.rtcp_members.proofs.Rising.{rises}
 -- ---- Cut in two
 
 -- Where the rows that pass a test are those from `n` on, the filters cut the list there.
-cut_at : (test : EntryRow → Bool) (entries : List Entry) (n : ℕ) → ((k : ℕ) (d : Entry) → k < n → k < length entries → test (row_of (slice_index_or entries k d)) ≡ false)
+cut_at : (test : EntryRow → Bool) (entries : List Entry) (n : ℕ) →
+    ((k : ℕ) (d : Entry) → k < n → k < length entries → test (row_of (slice_index_or entries k d)) ≡ false)
     → ((k : ℕ) (d : Entry) → n ≤ k → k < length entries → test (row_of (slice_index_or entries k d)) ≡ true)
-    → (filter test (rows_of entries) ≡ rows_of (drop n entries)) × (filter (λ (row : EntryRow). not (test row)) (rows_of entries) ≡ rows_of (take n entries))
+    → (filter test (rows_of entries) ≡ rows_of (drop n entries))
+    × (filter (λ (row : EntryRow). not (test row)) (rows_of entries) ≡ rows_of (take n entries))
 cut_at test [] zero before from = (refl, refl)
 cut_at test [] (suc n) before from = (refl, refl)
 cut_at test (x ∷ xs) zero before from =
     let here = from 0 x (omega arith) (omega arith) in
-    let rest = cut_at test xs zero (λ k d less within. absurd (omega arith)) (λ k d _ within. from (suc k) d (omega arith) (omega arith)) in (
+    let rest = cut_at test xs zero (λ k d less within. absurd (omega arith))
+    (λ k d _ within. from (suc k) d (omega arith) (omega arith)) in (
       λ i. cond (here i) (row_of x ∷ rest.0 i) (rest.0 i),
       λ i. cond (not (here i)) (row_of x ∷ rest.1 i) (rest.1 i),
     )
 cut_at test (x ∷ xs) (suc n) before from =
     let here = before 0 x (omega arith) (omega arith) in
-    let rest = cut_at test xs n (λ k d less within. before (suc k) d (omega arith) (omega arith)) (λ k d least within. from (suc k) d (omega arith) (omega arith)) in (
+    let rest = cut_at test xs n (λ k d less within. before (suc k) d (omega arith) (omega arith))
+    (λ k d least within. from (suc k) d (omega arith) (omega arith)) in (
       λ i. cond (here i) (row_of x ∷ rest.0 i) (rest.0 i),
       λ i. cond (not (here i)) (row_of x ∷ rest.1 i) (rest.1 i),
     )
@@ -46,17 +50,25 @@ more y a lt = grind (arith, nat_tests)
 
 -- The rows above a source without an entry begin where that would stand.
 pub cut_gap : (entries : List Entry) (a n : ℕ) (above : Option ℕ) → above ≡ Some a → IsGapFor a entries n
-    → (filter (is_above above) (rows_of entries) ≡ rows_of (drop n entries)) × (filter (λ (row : EntryRow). not (is_above above row)) (rows_of entries) ≡ rows_of (take n entries))
+    → (filter (is_above above) (rows_of entries) ≡ rows_of (drop n entries))
+    × (filter (λ (row : EntryRow). not (is_above above row)) (rows_of entries) ≡ rows_of (take n entries))
 cut_gap entries a n above is gap =
-    subst (λ o. (filter (is_above o) (rows_of entries) ≡ rows_of (drop n entries)) × (filter (λ (row : EntryRow). not (is_above o row)) (rows_of entries) ≡ rows_of (take n entries))) (sym is)
-    (cut_at (is_above (Some a)) entries n (λ k d before within. no_more _ a (omega (arith, gap.lesser k d before))) (λ k d from within. more _ a (gap.greater k d from within)))
+    subst (λ o. (filter (is_above o) (rows_of entries) ≡ rows_of (drop n entries))
+    × (filter (λ (row : EntryRow). not (is_above o row)) (rows_of entries) ≡ rows_of (take n entries))) (sym is)
+    (cut_at (is_above (Some a)) entries n (λ k d before within. no_more _ a (omega (arith, gap.lesser k d before)))
+    (λ k d from within. more _ a (gap.greater k d from within)))
 
 -- The rows above a source begin after its entry.
-pub cut_after : (entries : List Entry) (a at : ℕ) (above : Option ℕ) → above ≡ Some a → IsRising entries → IsRankOf a entries at
-    → (filter (is_above above) (rows_of entries) ≡ rows_of (drop (at + 1) entries)) × (filter (λ (row : EntryRow). not (is_above above row)) (rows_of entries) ≡ rows_of (take (at + 1) entries))
+pub cut_after : (entries : List Entry) (a at : ℕ) (above : Option ℕ) → above ≡ Some a → IsRising entries →
+    IsRankOf a entries at
+    → (filter (is_above above) (rows_of entries) ≡ rows_of (drop (at + 1) entries))
+    × (filter (λ (row : EntryRow). not (is_above above row)) (rows_of entries) ≡ rows_of (take (at + 1) entries))
 cut_after entries a at above is rising place =
-    subst (λ o. (filter (is_above o) (rows_of entries) ≡ rows_of (drop (at + 1) entries)) × (filter (λ (row : EntryRow). not (is_above o row)) (rows_of entries) ≡ rows_of (take (at + 1) entries))) (sym is)
-    (cut_at (is_above (Some a)) entries (at + 1) (λ k d before within. no_more _ a (up_to k d before)) (λ k d from within. more _ a (from_then k d from within)))
+    subst (λ o. (filter (is_above o) (rows_of entries) ≡ rows_of (drop (at + 1) entries))
+    × (filter (λ (row : EntryRow). not (is_above o row)) (rows_of entries) ≡ rows_of (take (at + 1) entries)))
+    (sym is)
+    (cut_at (is_above (Some a)) entries (at + 1) (λ k d before within. no_more _ a (up_to k d before))
+    (λ k d from within. more _ a (from_then k d from within)))
   where
     here : (d : Entry) → (slice_index_or entries at d).ssrc ≡ a
     here d = ap (λ (e : Entry). e.ssrc) (read_there a entries at d place) ∙ place.its_ssrc
@@ -76,31 +88,41 @@ cut_after entries a at above is rising place =
     from_then k d from within = omega (arith, rises entries rising at k d (omega arith) within, here d)
 
 pub cut_nowhere : (entries : List Entry) (above : Option ℕ) → above ≡ None
-    → (filter (is_above above) (rows_of entries) ≡ rows_of entries) × (filter (λ (row : EntryRow). not (is_above above row)) (rows_of entries) ≡ [])
+    → (filter (is_above above) (rows_of entries) ≡ rows_of entries)
+    × (filter (λ (row : EntryRow). not (is_above above row)) (rows_of entries) ≡ [])
 cut_nowhere entries above is =
-    subst (λ o. (filter (is_above o) (rows_of entries) ≡ rows_of entries) × (filter (λ (row : EntryRow). not (is_above o row)) (rows_of entries) ≡ [])) (sym is)
+    subst (λ o. (filter (is_above o) (rows_of entries) ≡ rows_of entries)
+    × (filter (λ (row : EntryRow). not (is_above o row)) (rows_of entries) ≡ [])) (sym is)
     (cut_at (is_above None) entries 0 (λ k d before within. absurd (omega arith)) (λ k d from within. refl))
 
 -- ---- In turn
 
 pub entries_of_rising : (entries : List Entry) → IsRising entries → finite.entries (map_of entries) ≡ rows_of entries
 entries_of_rising entries rising =
-    same_entries nat_cmp nat_cmp_total nat_cmp-IsAntisymmetric (finite.entries (map_of entries)) (rows_of entries) (finite.entries_sorted (map_of entries)) rising
+    same_entries nat_cmp nat_cmp_total nat_cmp-IsAntisymmetric (finite.entries (map_of entries)) (rows_of entries)
+    (finite.entries_sorted (map_of entries)) rising
     (λ q. sym (finite.get-entries (map_of entries) q) ∙ get_rows entries q)
 
-no_due_rows : (entries : List Entry) → tally_of is_due entries ≡ 0 → filter (λ (row : EntryRow). is_due row.1) (rows_of entries) ≡ []
+no_due_rows : (entries : List Entry) → tally_of is_due entries ≡ 0 →
+    filter (λ (row : EntryRow). is_due row.1) (rows_of entries) ≡ []
 no_due_rows [] none = refl
 no_due_rows (e ∷ entries) none =
-    elim (is_due (entry_value e)) as (λ b. length (if b then e ∷ filter (λ (x : Entry). is_due (entry_value x)) entries else filter (λ (x : Entry). is_due (entry_value x)) entries) ≡ 0
-    → (if b then row_of e ∷ filter (λ (row : EntryRow). is_due row.1) (rows_of entries) else filter (λ (row : EntryRow). is_due row.1) (rows_of entries)) ≡ []) [
+    elim (is_due (entry_value e)) as (λ b. length
+    (if b then e ∷ filter (λ (x : Entry). is_due (entry_value x)) entries else filter
+    (λ (x : Entry). is_due (entry_value x)) entries) ≡ 0
+    → (if b then row_of e ∷ filter (λ (row : EntryRow). is_due row.1) (rows_of entries) else filter
+    (λ (row : EntryRow). is_due row.1) (rows_of entries)) ≡ []) [
       | true ↦ λ none. absurd (omega (arith, none))
       | false ↦ λ none. no_due_rows entries none
     ] none
 
 -- Where no entry is due, no source is pending.
-pub none_pending : (last : Option ℕ) (capacity rate : ℕ) (entries : List Entry) (table : TableValue) → table_of capacity rate entries ≡ table → IsRising entries → tally_of is_due entries ≡ 0 → None ≡ first_ssrc (pending last table)
+pub none_pending : (last : Option ℕ) (capacity rate : ℕ) (entries : List Entry) (table : TableValue) →
+    table_of capacity rate entries ≡ table → IsRising entries → tally_of is_due entries ≡ 0 →
+    None ≡ first_ssrc (pending last table)
 none_pending last capacity rate entries table is rising none =
-    let rows : due_rows table ≡ [] = ap due_rows (sym is) ∙ ap (filter (λ (row : EntryRow). is_due row.1)) (entries_of_rising entries rising) ∙ no_due_rows entries none in
+    let rows : due_rows table ≡ [] = ap due_rows (sym is) ∙ ap (filter (λ (row : EntryRow). is_due row.1))
+    (entries_of_rising entries rising) ∙ no_due_rows entries none in
     sym (ap (λ (rows : List EntryRow). first_ssrc (in_turn last rows)) rows)
 
 either_way : (a b : Bool) → (a && b) ≡ (b && a)
@@ -110,14 +132,19 @@ either_way false true = refl
 either_way false false = refl
 
 filter_in_turn : (p q : EntryRow → Bool) (rows : List EntryRow) → filter q (filter p rows) ≡ filter p (filter q rows)
-filter_in_turn p q rows = filter_twice p q rows ∙ (λ i. filter (λ row. either_way (p row) (q row) i) rows) ∙ sym (filter_twice q p rows)
+filter_in_turn p q rows = filter_twice p q rows ∙ (λ i. filter (λ row. either_way (p row) (q row) i) rows)
+    ∙ sym (filter_twice q p rows)
 
-first_of_both : (xs ys : List EntryRow) (first : Option ℕ) → first ≡ first_ssrc xs → (if is_some first then first else first_ssrc ys) ≡ first_ssrc (xs ++ ys)
+first_of_both : (xs ys : List EntryRow) (first : Option ℕ) → first ≡ first_ssrc xs →
+    (if is_some first then first else first_ssrc ys) ≡ first_ssrc (xs ++ ys)
 first_of_both xs ys (Some ssrc) is = sym (some_first xs ys ssrc is)
 first_of_both xs ys None is = ap (λ rows. first_ssrc (rows ++ ys)) (sym (none_first xs (sym is)))
 
-module _ (last : Option ℕ) (capacity rate : ℕ) (entries : List Entry) (n : ℕ) (table : TableValue) (is : table_of capacity rate entries ≡ table) (rising : IsRising entries)
-    (rest : filter (is_above last) (rows_of entries) ≡ rows_of (drop n entries)) (before : filter (λ (row : EntryRow). not (is_above last row)) (rows_of entries) ≡ rows_of (take n entries)) where
+module _ (last : Option ℕ) (capacity rate : ℕ) (entries : List Entry) (n : ℕ) (table : TableValue)
+    (is : table_of capacity rate entries ≡ table) (rising : IsRising entries)
+    (rest : filter (is_above last) (rows_of entries) ≡ rows_of (drop n entries))
+    (before : filter (λ (row : EntryRow). not (is_above last row)) (rows_of entries) ≡ rows_of
+    (take n entries)) where
   abbrev due_of : List Entry → List EntryRow
   due_of xs = filter (λ (row : EntryRow). is_due row.1) (rows_of xs)
 
@@ -125,10 +152,15 @@ module _ (last : Option ℕ) (capacity rate : ℕ) (entries : List Entry) (n : �
   pending_in =
       let due = λ (row : EntryRow). is_due row.1 in
       (λ i. filter due (sym rest i) ++ filter due (sym before i))
-      ∙ (λ i. filter_in_turn (is_above last) due (rows_of entries) i ++ filter_in_turn (λ (row : EntryRow). not (is_above last row)) due (rows_of entries) i)
-      ∙ ap (λ rows. filter (is_above last) (filter due rows) ++ filter (λ (row : EntryRow). not (is_above last row)) (filter due rows)) (sym (entries_of_rising entries rising))
+      ∙ (λ i. filter_in_turn (is_above last) due (rows_of entries) i ++ filter_in_turn
+      (λ (row : EntryRow). not (is_above last row)) due (rows_of entries) i)
+      ∙ ap (λ rows. filter (is_above last) (filter due rows) ++ filter (λ (row : EntryRow). not (is_above last row))
+      (filter due rows)) (sym (entries_of_rising entries rising))
       ∙ ap (pending last) is
 
-  pub first_pending : (first second : Option ℕ) → first ≡ first_ssrc (due_of (drop n entries)) → second ≡ first_ssrc (due_of (take n entries)) → (if is_some first then first else second) ≡ first_ssrc (pending last table)
+  pub first_pending : (first second : Option ℕ) → first ≡ first_ssrc (due_of (drop n entries)) →
+      second ≡ first_ssrc (due_of (take n entries)) → (if is_some first then first else second) ≡ first_ssrc
+      (pending last table)
   first_pending first second finds finds_before =
-      ap (λ o. if is_some first then first else o) finds_before ∙ first_of_both (due_of (drop n entries)) (due_of (take n entries)) first finds ∙ ap first_ssrc pending_in
+      ap (λ o. if is_some first then first else o) finds_before ∙ first_of_both (due_of (drop n entries))
+      (due_of (take n entries)) first finds ∙ ap first_ssrc pending_in

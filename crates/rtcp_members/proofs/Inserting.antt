@@ -18,7 +18,8 @@ use Rattle.rtcp_members.proofs.Listing.{get_rows}
 use Rattle.rtcp_members.proofs.Rising.{put_in_gap, rising_insert}
 use Rattle.rtcp_members.proofs.Weights.{tally_insert}
 
-map_in_gap : (entries : List Entry) (at : ℕ) (e : Entry) → IsGapFor e.ssrc entries at → map_of (insert entries at e) ≡ finite.insert (map_of entries) e.ssrc (entry_value e)
+map_in_gap : (entries : List Entry) (at : ℕ) (e : Entry) → IsGapFor e.ssrc entries at →
+    map_of (insert entries at e) ≡ finite.insert (map_of entries) e.ssrc (entry_value e)
 map_in_gap entries at e gap =
     finite.same_map nat_cmp_total nat_cmp-IsAntisymmetric _ _ (λ q. get_rows (insert entries at e) q
     ∙ ap (finite.find nat_cmp q) (put_in_gap entries at e gap)
@@ -26,17 +27,24 @@ map_in_gap entries at e gap =
     ∙ ap (cond (eq_by_cmp nat_cmp q e.ssrc) (Some (entry_value e))) (sym (get_rows entries q))
     ∙ sym (finite.get-insert nat_cmp_total (map_of entries) e.ssrc (entry_value e) q))
 
-gap_of : (ssrc : ℕ) (entries : List Entry) (at : ℕ) (e : Entry) → IsGapFor ssrc entries at → e.ssrc ≡ ssrc → IsGapFor e.ssrc entries at
+gap_of : (ssrc : ℕ) (entries : List Entry) (at : ℕ) (e : Entry) → IsGapFor ssrc entries at → e.ssrc ≡ ssrc →
+    IsGapFor e.ssrc entries at
 gap_of ssrc entries at e gap is = subst (λ s. IsGapFor s entries at) (sym is) gap
 
-pub map_inserted : (rate : ℕ) (entries : List Entry) (at : ℕ) (fact : Fact) (t : ℕ) (e : Entry) → IsGapFor (subject fact) entries at → e.ssrc ≡ subject fact → entry_value e ≡ entry_after rate fact t new_entry
+pub map_inserted : (rate : ℕ) (entries : List Entry) (at : ℕ) (fact : Fact) (t : ℕ) (e : Entry) →
+    IsGapFor (subject fact) entries at → e.ssrc ≡ subject fact → entry_value e ≡ entry_after rate fact t new_entry
     → map_of (insert entries at e) ≡ finite.insert (map_of entries) (subject fact) (entry_after rate fact t new_entry)
 map_inserted rate entries at fact t e gap its_ssrc its_value =
-    map_in_gap entries at e (gap_of (subject fact) entries at e gap its_ssrc) ∙ (λ i. finite.insert (map_of entries) (its_ssrc i) (its_value i))
+    map_in_gap entries at e (gap_of (subject fact) entries at e gap its_ssrc)
+    ∙ (λ i. finite.insert (map_of entries) (its_ssrc i) (its_value i))
 
-pub sorted_insert : (capacity members senders next_members next_senders : ℕ) (entries : List Entry) (at : ℕ) (e : Entry) (ssrc : ℕ) → IsSortedTable capacity members senders entries → IsGapFor ssrc entries at → e.ssrc ≡ ssrc
-    → length entries < capacity → next_members ≡ weight_of is_member e + members → next_senders ≡ weight_of is_sender e + senders → IsSortedTable capacity next_members next_senders (insert entries at e)
-sorted_insert capacity members senders next_members next_senders entries at e ssrc sorted gap its_ssrc room members_joined senders_joined =
+pub sorted_insert : (capacity members senders next_members next_senders : ℕ) (entries : List Entry) (at : ℕ) (e : Entry)
+    (ssrc : ℕ) → IsSortedTable capacity members senders entries → IsGapFor ssrc entries at → e.ssrc ≡ ssrc
+    → length entries < capacity → next_members ≡ weight_of is_member e + members →
+    next_senders ≡ weight_of is_sender e + senders → IsSortedTable capacity next_members next_senders
+    (insert entries at e)
+sorted_insert capacity members senders next_members next_senders entries at e ssrc sorted gap its_ssrc room
+    members_joined senders_joined =
     record {
       ordered = record {
         rising = rising_insert entries at e sorted.ordered.rising (gap_of ssrc entries at e gap its_ssrc);

@@ -1,4 +1,5 @@
--- The laws of this crate as lemmas, for the proofs of the crates above: each has the name of its law, and of the clause where the law has
+-- The laws of this crate as lemmas, for the proofs of the crates above: each has the name of its law, and of the clause
+-- where the law has
 -- several. Nothing here names a representation.
 use Rattle.std.proofs.Common.{◌≡◌, ◌&&◌, ◌≤◌, ap, sym, refl, rules, is_some, false, All, IsTrue, ℕ, List, [], ◌∷◌, Option, Some, None}
 use Rattle.std.specs.FinMap as finite
@@ -67,7 +68,8 @@ pub use Rattle.rtcp_members.proofs.Roles.{check_moved as moves_follow_traces-che
 
 -- ---- Tables and traces
 
-pub tables_follow_traces-facts : (table : TableValue) (trace : List TraceStep) (facts : List Fact) (moment : ℕ) → StandsAt table trace →
+pub tables_follow_traces-facts : (table : TableValue) (trace : List TraceStep) (facts : List Fact) (moment : ℕ) →
+    StandsAt table trace →
     StandsAt (after_facts facts moment table) (with_facts facts moment trace)
 tables_follow_traces-facts = λ table trace facts moment. facts_follow facts table trace moment
 
@@ -79,13 +81,15 @@ pub counts_agree-senders : (table : TableValue) (trace : List TraceStep) → Sta
     senders_in table ≡ senders_at table.capacity table.rate trace
 counts_agree-senders = λ table trace stands. count_agrees table trace stands is_sender
 
-pub bounds_are_kept-facts : (table : TableValue) (facts : List Fact) (moment : ℕ) → KeepsBounds table (after_facts facts moment table)
+pub bounds_are_kept-facts : (table : TableValue) (facts : List Fact) (moment : ℕ) →
+    KeepsBounds table (after_facts facts moment table)
 bounds_are_kept-facts = λ table facts moment. facts_keep_bounds facts table moment
 
 pub bounds_are_kept-blocks : (table : TableValue) (rows : List EntryRow) → KeepsBounds table (after_blocks rows table)
 bounds_are_kept-blocks = λ table rows. blocks_keep_bounds rows table
 
-pub capacity_is_kept-facts : (table : TableValue) (facts : List Fact) (moment : ℕ) → finite.len table.entries ≤ table.capacity →
+pub capacity_is_kept-facts : (table : TableValue) (facts : List Fact) (moment : ℕ) →
+    finite.len table.entries ≤ table.capacity →
     finite.len (after_facts facts moment table).entries ≤ table.capacity
 capacity_is_kept-facts = λ table facts moment. facts_keep_capacity facts table moment
 
@@ -93,7 +97,8 @@ pub capacity_is_kept-blocks : (table : TableValue) (rows : List EntryRow) → fi
     finite.len (after_blocks rows table).entries ≤ table.capacity
 capacity_is_kept-blocks = λ table rows. blocks_keep_capacity rows table
 
-pub packets_are_few-facts : (packets : ℕ) (table : TableValue) (facts : List Fact) (moment : ℕ) → All (λ fact. is_media fact ≡ false) facts →
+pub packets_are_few-facts : (packets : ℕ) (table : TableValue) (facts : List Fact) (moment : ℕ) →
+    All (λ fact. is_media fact ≡ false) facts →
     HasFew packets table → HasFew packets (after_facts facts moment table)
 packets_are_few-facts = λ packets table facts moment. few_facts packets facts table moment
 
@@ -101,7 +106,8 @@ packets_are_few-facts = λ packets table facts moment. few_facts packets facts t
 
 -- ---- Turns
 
-pub first_is_due-due : (last : Option ℕ) (table : TableValue) (row : EntryRow) (rest : List EntryRow) → pending last table ≡ row ∷ rest →
+pub first_is_due-due : (last : Option ℕ) (table : TableValue) (row : EntryRow) (rest : List EntryRow) →
+    pending last table ≡ row ∷ rest →
     IsTrue (is_due_at row.0 table)
 first_is_due-due = λ last table row rest is. search (rules, due_row last table row rest is)
 
@@ -109,7 +115,8 @@ first_is_due-due = λ last table row rest is. search (rules, due_row last table 
 
 -- ---- Who is a member, and who sends
 
-pub roles_move_with_counts-none : (capacity rate : ℕ) (trace : List TraceStep) → members_at capacity rate trace ≡ 0 → (ssrc : ℕ) → IsSameRole None (entry_at capacity rate trace ssrc)
+pub roles_move_with_counts-none : (capacity rate : ℕ) (trace : List TraceStep) → members_at capacity rate trace ≡ 0 →
+    (ssrc : ℕ) → IsSameRole None (entry_at capacity rate trace ssrc)
 roles_move_with_counts-none = λ capacity rate trace none ssrc.
     let no_member = nobody_passes is_member capacity rate trace none ssrc in
     (sym no_member, sym (no_sender (entry_at capacity rate trace ssrc) no_member))
@@ -118,14 +125,19 @@ roles_move_with_counts-none = λ capacity rate trace none ssrc.
     no_sender None none = refl
     no_sender (Some entry) none = ap (λ b. b && is_some entry.sending) none
 
-pub heard_by_what_it_says-named : (ssrc t : ℕ) (table : TableValue) → after_facts (Heard ssrc ∷ Named ssrc ∷ []) t table ≡ after_facts (Named ssrc ∷ []) t table
+pub heard_by_what_it_says-named : (ssrc t : ℕ) (table : TableValue) → after_facts (Heard ssrc ∷ Named ssrc ∷ []) t table
+    ≡ after_facts (Named ssrc ∷ []) t table
 heard_by_what_it_says-named ssrc t table = once_said (Named ssrc) ssrc t table refl refl (λ e. refl)
 
-pub heard_by_what_it_says-named_moves : (ssrc t : ℕ) (table : TableValue) → facts_move (Heard ssrc ∷ Named ssrc ∷ []) t table ≡ facts_move (Named ssrc ∷ []) t table
+pub heard_by_what_it_says-named_moves : (ssrc t : ℕ) (table : TableValue) →
+    facts_move (Heard ssrc ∷ Named ssrc ∷ []) t table ≡ facts_move (Named ssrc ∷ []) t table
 heard_by_what_it_says-named_moves ssrc t table = once_moved (Named ssrc) ssrc t table refl refl (λ e. refl)
 
-pub heard_by_what_it_says-told : (ssrc ntp rtp t : ℕ) (table : TableValue) → after_facts (Heard ssrc ∷ Told ssrc ntp rtp ∷ []) t table ≡ after_facts (Told ssrc ntp rtp ∷ []) t table
+pub heard_by_what_it_says-told : (ssrc ntp rtp t : ℕ) (table : TableValue) →
+    after_facts (Heard ssrc ∷ Told ssrc ntp rtp ∷ []) t table ≡ after_facts (Told ssrc ntp rtp ∷ []) t table
 heard_by_what_it_says-told ssrc ntp rtp t table = once_said (Told ssrc ntp rtp) ssrc t table refl refl (λ e. refl)
 
-pub heard_by_what_it_says-told_moves : (ssrc ntp rtp t : ℕ) (table : TableValue) → facts_move (Heard ssrc ∷ Told ssrc ntp rtp ∷ []) t table ≡ facts_move (Told ssrc ntp rtp ∷ []) t table
-heard_by_what_it_says-told_moves ssrc ntp rtp t table = once_moved (Told ssrc ntp rtp) ssrc t table refl refl (λ e. refl)
+pub heard_by_what_it_says-told_moves : (ssrc ntp rtp t : ℕ) (table : TableValue) →
+    facts_move (Heard ssrc ∷ Told ssrc ntp rtp ∷ []) t table ≡ facts_move (Told ssrc ntp rtp ∷ []) t table
+heard_by_what_it_says-told_moves ssrc ntp rtp t table = once_moved (Told ssrc ntp rtp) ssrc t table refl refl
+    (λ e. refl)

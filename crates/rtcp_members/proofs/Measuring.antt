@@ -12,15 +12,20 @@ use Rattle.rtcp_members.specs.Standing.{StandsBy, AllStandBy, IsNoLater}
 use Rattle.rtcp_members.proofs.Standing.{all_lower, stands}
 use Rattle.rtcp_members.proofs.Tallies.{one_more}
 
-tally_push : (test : EntryValue → Bool) (entries : List Entry) (e : Entry) → tally_of test (entries ++ e ∷ []) ≡ weight_of test e + tally_of test entries
+tally_push : (test : EntryValue → Bool) (entries : List Entry) (e : Entry) →
+    tally_of test (entries ++ e ∷ []) ≡ weight_of test e + tally_of test entries
 tally_push test entries e =
     let passes : Entry → Bool = λ x. test (entry_value x) in
-    let split : tally_of test (entries ++ e ∷ []) ≡ tally_of test entries + tally_of test (e ∷ []) = ap length (filter-append passes entries (e ∷ [])) ∙ length-append (filter passes entries) (filter passes (e ∷ [])) in
+    let split : tally_of test (entries ++ e ∷ []) ≡ tally_of test entries + tally_of test (e ∷ []) =
+    ap length (filter-append passes entries (e ∷ [])) ∙ length-append (filter passes entries)
+    (filter passes (e ∷ [])) in
     omega (arith, split, one_more test e [])
 
 -- One more that stays stands by bounds that are no later.
-pub all_more : (bounds lower : Bounds) (entries : List Entry) (e : Entry) → AllStandBy bounds entries → IsNoLater lower bounds → StandsBy lower (entry_value e) → AllStandBy lower (entries ++ e ∷ [])
-all_more bounds lower entries e all later its = All-append (stands lower) entries (e ∷ []) (all_lower lower bounds later entries all) (All-cons (stands lower) e [] its (All-nil (stands lower)))
+pub all_more : (bounds lower : Bounds) (entries : List Entry) (e : Entry) → AllStandBy bounds entries →
+    IsNoLater lower bounds → StandsBy lower (entry_value e) → AllStandBy lower (entries ++ e ∷ [])
+all_more bounds lower entries e all later its = All-append (stands lower) entries (e ∷ [])
+    (all_lower lower bounds later entries all) (All-cons (stands lower) e [] its (All-nil (stands lower)))
 
 -- ---- Counts of what stays and of what is left
 
@@ -30,7 +35,8 @@ pub record AreShared (counts : Counts) (front back : List Entry) : Type 0 where
   pub due : counts.due ≡ tally_of is_due front + tally_of is_due back
 
 pub share_dropped : (counts next : Counts) (front back : List Entry) (e : Entry) → AreShared counts front (e ∷ back)
-    → counts.members ≡ weight_of is_member e + next.members → counts.senders ≡ weight_of is_sender e + next.senders → counts.due ≡ weight_of is_due e + next.due → AreShared next front back
+    → counts.members ≡ weight_of is_member e + next.members → counts.senders ≡ weight_of is_sender e + next.senders →
+    counts.due ≡ weight_of is_due e + next.due → AreShared next front back
 share_dropped counts next front back e so members senders due =
     record {
       members = omega (arith, members, so.members, one_more is_member e back);
@@ -38,9 +44,12 @@ share_dropped counts next front back e so members senders due =
       due = omega (arith, due, so.due, one_more is_due e back);
     }
 
-pub share_kept : (counts next : Counts) (front back : List Entry) (e changed : Entry) → AreShared counts front (e ∷ back)
-    → next.members + weight_of is_member e ≡ counts.members + weight_of is_member changed → next.senders + weight_of is_sender e ≡ counts.senders + weight_of is_sender changed
-    → next.due + weight_of is_due e ≡ counts.due + weight_of is_due changed → AreShared next (front ++ changed ∷ []) back
+pub share_kept : (counts next : Counts) (front back : List Entry) (e changed : Entry) →
+    AreShared counts front (e ∷ back)
+    → next.members + weight_of is_member e ≡ counts.members + weight_of is_member changed →
+    next.senders + weight_of is_sender e ≡ counts.senders + weight_of is_sender changed
+    → next.due + weight_of is_due e ≡ counts.due + weight_of is_due changed →
+    AreShared next (front ++ changed ∷ []) back
 share_kept counts next front back e changed so members senders due =
     record {
       members = omega (arith, members, so.members, one_more is_member e back, tally_push is_member front changed);
@@ -49,5 +58,11 @@ share_kept counts next front back e changed so members senders due =
     }
 
 -- One that is left is counted.
-pub share_has : (counts : Counts) (front back : List Entry) (e : Entry) → AreShared counts front (e ∷ back) → (weight_of is_member e ≤ counts.members) × (weight_of is_sender e ≤ counts.senders) × (weight_of is_due e ≤ counts.due)
-share_has counts front back e so = (omega (arith, so.members, one_more is_member e back), omega (arith, so.senders, one_more is_sender e back), omega (arith, so.due, one_more is_due e back))
+pub share_has : (counts : Counts) (front back : List Entry) (e : Entry) → AreShared counts front (e ∷ back) →
+    (weight_of is_member e ≤ counts.members) × (weight_of is_sender e ≤ counts.senders)
+    × (weight_of is_due e ≤ counts.due)
+share_has counts front back e so = (
+  omega (arith, so.members, one_more is_member e back),
+  omega (arith, so.senders, one_more is_sender e back),
+  omega (arith, so.due, one_more is_due e back),
+)

@@ -11,7 +11,8 @@ use Rattle.rtcp_members.proofs.Counting.{has, IsOnce}
 
 once_with : (fact : Fact) (named : List ℕ) → IsOnce named → IsOnce (with_name fact named)
 once_with fact named once =
-    elim (is_gone fact || has (subject fact) named) as (λ b. (is_gone fact || has (subject fact) named) ≡ b → IsOnce (cond b named (subject fact ∷ named))) [
+    elim (is_gone fact || has (subject fact) named) as (λ b. (is_gone fact || has (subject fact) named) ≡ b →
+    IsOnce (cond b named (subject fact ∷ named))) [
       | true ↦ λ _. once
       | false ↦ λ new. ((or_parts (is_gone fact) _ new).1, once)
     ] refl
@@ -22,11 +23,13 @@ names_are_once (fact_came fact moment ∷ trace) = once_with fact (names trace) 
 names_are_once (check_made horizons ∷ trace) = names_are_once trace
 names_are_once (block_taken ssrc ∷ trace) = names_are_once trace
 
-named_with : (fact : Fact) (ssrc : ℕ) (named : List ℕ) → is_gone fact ≡ false → (subject fact == ssrc) ≡ true → has ssrc (with_name fact named) ≡ true
+named_with : (fact : Fact) (ssrc : ℕ) (named : List ℕ) → is_gone fact ≡ false → (subject fact == ssrc) ≡ true →
+    has ssrc (with_name fact named) ≡ true
 named_with fact ssrc named stays is_it =
     let same : subject fact ≡ ssrc = eqb-true (subject fact) ssrc is_it in
     ap (λ b. has ssrc (cond (b || has (subject fact) named) named (subject fact ∷ named))) stays
-    ∙ elim (has (subject fact) named) as (λ b. has (subject fact) named ≡ b → has ssrc (cond b named (subject fact ∷ named)) ≡ true) [
+    ∙ elim (has (subject fact) named) as (λ b. has (subject fact) named ≡ b →
+    has ssrc (cond b named (subject fact ∷ named)) ≡ true) [
       | true ↦ λ known. ap (λ s. has s named) (sym same) ∙ known
       | false ↦ λ _. or_left (subject fact == ssrc) _ is_it
     ] refl
@@ -38,14 +41,16 @@ still_with fact ssrc named known =
       | false ↦ or_right (subject fact == ssrc) _ known
     ]
 
-naming_is_named : (step : TraceStep) (trace : List TraceStep) (ssrc : ℕ) → is_naming ssrc step ≡ true → has ssrc (names (step ∷ trace)) ≡ true
+naming_is_named : (step : TraceStep) (trace : List TraceStep) (ssrc : ℕ) → is_naming ssrc step ≡ true →
+    has ssrc (names (step ∷ trace)) ≡ true
 naming_is_named (fact_came fact moment) trace ssrc naming =
     let parts = and_parts (not (is_gone fact)) (subject fact == ssrc) naming in
     named_with fact ssrc (names trace) (not-true (is_gone fact) parts.0) parts.1
 naming_is_named (check_made horizons) trace ssrc naming = absurd (true≢false (sym naming))
 naming_is_named (block_taken other) trace ssrc naming = absurd (true≢false (sym naming))
 
-pub still_named : (step : TraceStep) (trace : List TraceStep) (ssrc : ℕ) → has ssrc (names trace) ≡ true → has ssrc (names (step ∷ trace)) ≡ true
+pub still_named : (step : TraceStep) (trace : List TraceStep) (ssrc : ℕ) → has ssrc (names trace) ≡ true →
+    has ssrc (names (step ∷ trace)) ≡ true
 still_named (fact_came fact moment) trace ssrc known = still_with fact ssrc (names trace) known
 still_named (check_made horizons) trace ssrc known = known
 still_named (block_taken other) trace ssrc known = known
@@ -61,20 +66,24 @@ abbrev pub room_at : (capacity : ℕ) → List TraceStep → Bool
 room_at capacity trace = nat_lt (present_among (names trace) (stay_of capacity trace)) capacity
 
 module _ (capacity : ℕ) (step : TraceStep) (trace : List TraceStep) (ssrc : ℕ) where
-  named_where_admitted : is_some (admitted (is_naming ssrc step) (room_at capacity trace) step) ≡ true → has ssrc (names (step ∷ trace)) ≡ true
+  named_where_admitted : is_some (admitted (is_naming ssrc step) (room_at capacity trace) step) ≡ true →
+      has ssrc (names (step ∷ trace)) ≡ true
   named_where_admitted =
-      elim (is_naming ssrc step) as (λ b. is_naming ssrc step ≡ b → is_some (admitted b (room_at capacity trace) step) ≡ true → has ssrc (names (step ∷ trace)) ≡ true) [
+      elim (is_naming ssrc step) as (λ b. is_naming ssrc step ≡ b → is_some (admitted b (room_at capacity trace) step)
+      ≡ true → has ssrc (names (step ∷ trace)) ≡ true) [
         | true ↦ λ naming _. naming_is_named step trace ssrc naming
         | false ↦ λ _ found. absurd (true≢false (sym found))
       ] refl
 
   named_after : (stay : Option (List TraceStep)) → (is_some stay ≡ true → has ssrc (names trace) ≡ true)
-      → is_some (stay_with capacity step (names trace) (stay_of capacity trace) ssrc stay) ≡ true → has ssrc (names (step ∷ trace)) ≡ true
+      → is_some (stay_with capacity step (names trace) (stay_of capacity trace) ssrc stay) ≡ true →
+      has ssrc (names (step ∷ trace)) ≡ true
   named_after None known found = named_where_admitted found
   named_after (Some stay) known found = still_named step trace ssrc (known refl)
 
 -- Who is present was named.
-pub present_is_named : (capacity : ℕ) (trace : List TraceStep) (ssrc : ℕ) → is_some (stay_of capacity trace ssrc) ≡ true → has ssrc (names trace) ≡ true
+pub present_is_named : (capacity : ℕ) (trace : List TraceStep) (ssrc : ℕ) →
+    is_some (stay_of capacity trace ssrc) ≡ true → has ssrc (names trace) ≡ true
 present_is_named capacity [] ssrc found = absurd (true≢false (sym found))
 present_is_named capacity (step ∷ trace) ssrc found =
     named_after capacity step trace ssrc (stay_of capacity trace ssrc) (present_is_named capacity trace ssrc) found

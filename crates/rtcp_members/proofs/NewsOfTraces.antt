@@ -39,7 +39,8 @@ either_way false b c = refl
 has_put : (q x : ℕ) (ys : List ℕ) → has q (put_rising x ys) ≡ ((x == q) || has q ys)
 has_put q x [] = refl
 has_put q x (y ∷ ys) =
-    elim (nat_lt x y) as (λ b. has q (if b then x ∷ y ∷ ys else y ∷ put_rising x ys) ≡ ((x == q) || ((y == q) || has q ys))) [
+    elim (nat_lt x y) as (λ b. has q (if b then x ∷ y ∷ ys else y ∷ put_rising x ys)
+    ≡ ((x == q) || ((y == q) || has q ys))) [
       | true ↦ refl
       | false ↦ ap (λ b. (y == q) || b) (has_put q x ys) ∙ either_way (y == q) (x == q) (has q ys)
     ]
@@ -66,7 +67,8 @@ rising_put x (y ∷ ys) new are =
     let parts = or_parts (y == x) _ new in
     elim (nat_lt x y) as (λ b. nat_lt x y ≡ b → AreRising (if b then x ∷ y ∷ ys else y ∷ put_rising x ys)) [
       | true ↦ λ is. let less : x < y = grind (arith, nat_tests, is) in ((less, above_more x y ys less are.0), are)
-      | false ↦ λ is. let less : y < x = grind (arith, nat_tests, is, parts.0) in (above_put y x ys less are.0, rising_put x ys parts.1 are.1)
+      | false ↦ λ is. let less : y < x = grind (arith, nat_tests, is, parts.0) in
+          (above_put y x ys less are.0, rising_put x ys parts.1 are.1)
     ] refl
 
 are_rising : (xs : List ℕ) → IsOnce xs → AreRising (rising xs)
@@ -90,7 +92,8 @@ module _ (entry : ℕ → Option EntryValue) where
   below_rows x [] above = tt
   below_rows x (y ∷ ys) above =
       let rest = below_rows x ys above.1 in
-      elim (entry y) as (λ (o : Option EntryValue). T (below_all nat_cmp x (cons_option (option_map (λ e. (y, e)) o) (rows ys)))) [
+      elim (entry y) as (λ (o : Option EntryValue). T
+      (below_all nat_cmp x (cons_option (option_map (λ e. (y, e)) o) (rows ys)))) [
         | None ↦ rest
         | Some e ↦ both (is_lt (nat_cmp x y)) _ (is_less x y above.0) rest
       ]
@@ -99,45 +102,66 @@ module _ (entry : ℕ → Option EntryValue) where
   sorted_rows [] are = tt
   sorted_rows (x ∷ xs) are =
       let rest = sorted_rows xs are.1 in
-      elim (entry x) as (λ (o : Option EntryValue). T (finite.is_sorted nat_cmp (cons_option (option_map (λ e. (x, e)) o) (rows xs)))) [
+      elim (entry x) as (λ (o : Option EntryValue). T
+      (finite.is_sorted nat_cmp (cons_option (option_map (λ e. (x, e)) o) (rows xs)))) [
         | None ↦ rest
         | Some e ↦ both (below_all nat_cmp x (rows xs)) _ (below_rows x xs are.0) rest
       ]
 
   -- a test of entries, and a test of SSRCs
-  rows_passing : (test : EntryValue → Bool) (such : ℕ → Bool) → ((x : ℕ) → is_such test (entry x) ≡ such x) → (xs : List ℕ) → filter (λ (row : EntryRow). test row.1) (rows xs) ≡ rows (filter such xs)
+  rows_passing : (test : EntryValue → Bool) (such : ℕ → Bool) → ((x : ℕ) → is_such test (entry x) ≡ such x) →
+      (xs : List ℕ) → filter (λ (row : EntryRow). test row.1) (rows xs) ≡ rows (filter such xs)
   rows_passing test such same [] = refl
   rows_passing test such same (x ∷ xs) =
       let rest = rows_passing test such same xs in
-      elim (entry x) as (λ (o : Option EntryValue). entry x ≡ o → is_such test o ≡ such x → filter (λ (row : EntryRow). test row.1) (cons_option (option_map (λ e. (x, e)) o) (rows xs)) ≡ rows (cond (such x) (x ∷ filter such xs) (filter such xs))) [
+      elim (entry x) as (λ (o : Option EntryValue). entry x ≡ o → is_such test o ≡ such x →
+      filter (λ (row : EntryRow). test row.1) (cons_option (option_map (λ e. (x, e)) o) (rows xs)) ≡ rows
+      (cond (such x) (x ∷ filter such xs) (filter such xs))) [
         | None ↦ λ is fails. rest ∙ ap (λ b. rows (cond b (x ∷ filter such xs) (filter such xs))) fails
-        | Some e ↦ λ is passes. elim (such x) as (λ b. test e ≡ b → cond (test e) ((x, e) ∷ filter (λ (row : EntryRow). test row.1) (rows xs)) (filter (λ (row : EntryRow). test row.1) (rows xs)) ≡ rows (cond b (x ∷ filter such xs) (filter such xs))) [
-          | true ↦ λ h. ap (λ b. cond b ((x, e) ∷ filter (λ (row : EntryRow). test row.1) (rows xs)) (filter (λ (row : EntryRow). test row.1) (rows xs))) h
-              ∙ ap (λ (t : List EntryRow). (x, e) ∷ t) rest ∙ ap (λ (o : Option EntryValue). cons_option (option_map (λ e. (x, e)) o) (rows (filter such xs))) (sym is)
-          | false ↦ λ h. ap (λ b. cond b ((x, e) ∷ filter (λ (row : EntryRow). test row.1) (rows xs)) (filter (λ (row : EntryRow). test row.1) (rows xs))) h ∙ rest
-        ] passes
+        | Some e ↦ λ is passes. elim (such x) as (λ b. test e ≡ b →
+            cond (test e) ((x, e) ∷ filter (λ (row : EntryRow). test row.1) (rows xs))
+            (filter (λ (row : EntryRow). test row.1) (rows xs)) ≡ rows
+            (cond b (x ∷ filter such xs) (filter such xs))) [
+              | true ↦ λ h. ap (λ b. cond b ((x, e) ∷ filter (λ (row : EntryRow). test row.1) (rows xs))
+                  (filter (λ (row : EntryRow). test row.1) (rows xs))) h
+                  ∙ ap (λ (t : List EntryRow). (x, e) ∷ t) rest
+                  ∙ ap (λ (o : Option EntryValue). cons_option (option_map (λ e. (x, e)) o) (rows (filter such xs)))
+                  (sym is)
+              | false ↦ λ h. ap (λ b. cond b ((x, e) ∷ filter (λ (row : EntryRow). test row.1) (rows xs))
+                  (filter (λ (row : EntryRow). test row.1) (rows xs))) h ∙ rest
+            ] passes
       ] refl (same x)
 
-  rows_of_ssrcs : (such : ℕ → Bool) (xs : List ℕ) → filter (λ (row : EntryRow). such row.0) (rows xs) ≡ rows (filter such xs)
+  rows_of_ssrcs : (such : ℕ → Bool) (xs : List ℕ) → filter (λ (row : EntryRow). such row.0) (rows xs) ≡ rows
+      (filter such xs)
   rows_of_ssrcs such [] = refl
   rows_of_ssrcs such (x ∷ xs) =
       let rest = rows_of_ssrcs such xs in
-      elim (entry x) as (λ (o : Option EntryValue). entry x ≡ o → filter (λ (row : EntryRow). such row.0) (cons_option (option_map (λ e. (x, e)) o) (rows xs)) ≡ rows (cond (such x) (x ∷ filter such xs) (filter such xs))) [
-        | None ↦ λ is. rest ∙ elim (such x) as (λ b. rows (filter such xs) ≡ rows (cond b (x ∷ filter such xs) (filter such xs))) [
-          | true ↦ ap (λ (o : Option EntryValue). cons_option (option_map (λ e. (x, e)) o) (rows (filter such xs))) (sym is)
-          | false ↦ refl
-        ]
-        | Some e ↦ λ is. elim (such x) as (λ b. cond b ((x, e) ∷ filter (λ (row : EntryRow). such row.0) (rows xs)) (filter (λ (row : EntryRow). such row.0) (rows xs)) ≡ rows (cond b (x ∷ filter such xs) (filter such xs))) [
-          | true ↦ ap (λ (t : List EntryRow). (x, e) ∷ t) rest ∙ ap (λ (o : Option EntryValue). cons_option (option_map (λ e. (x, e)) o) (rows (filter such xs))) (sym is)
-          | false ↦ rest
-        ]
+      elim (entry x) as (λ (o : Option EntryValue). entry x ≡ o →
+      filter (λ (row : EntryRow). such row.0) (cons_option (option_map (λ e. (x, e)) o) (rows xs)) ≡ rows
+      (cond (such x) (x ∷ filter such xs) (filter such xs))) [
+        | None ↦ λ is. rest ∙ elim (such x) as (λ b. rows (filter such xs) ≡ rows
+            (cond b (x ∷ filter such xs) (filter such xs))) [
+              | true ↦ ap (λ (o : Option EntryValue). cons_option (option_map (λ e. (x, e)) o) (rows (filter such xs)))
+                  (sym is)
+              | false ↦ refl
+            ]
+        | Some e ↦ λ is. elim (such x) as (λ b. cond b ((x, e) ∷ filter (λ (row : EntryRow). such row.0) (rows xs))
+            (filter (λ (row : EntryRow). such row.0) (rows xs)) ≡ rows
+            (cond b (x ∷ filter such xs) (filter such xs))) [
+              | true ↦ ap (λ (t : List EntryRow). (x, e) ∷ t) rest
+                  ∙ ap (λ (o : Option EntryValue). cons_option (option_map (λ e. (x, e)) o) (rows (filter such xs)))
+                  (sym is)
+              | false ↦ rest
+            ]
       ] refl
 
   rows_joined : (xs ys : List ℕ) → rows xs ++ rows ys ≡ rows (xs ++ ys)
   rows_joined [] ys = refl
   rows_joined (x ∷ xs) ys =
       let rest = rows_joined xs ys in
-      elim (entry x) as (λ (o : Option EntryValue). cons_option (option_map (λ e. (x, e)) o) (rows xs) ++ rows ys ≡ cons_option (option_map (λ e. (x, e)) o) (rows (xs ++ ys))) [
+      elim (entry x) as (λ (o : Option EntryValue). cons_option (option_map (λ e. (x, e)) o) (rows xs) ++ rows ys
+      ≡ cons_option (option_map (λ e. (x, e)) o) (rows (xs ++ ys))) [
         | None ↦ rest
         | Some e ↦ ap (λ (t : List EntryRow). (x, e) ∷ t) rest
       ]
@@ -151,22 +175,31 @@ module _ (entry : ℕ → Option EntryValue) where
   ssrcs_of_rows [] all = refl
   ssrcs_of_rows (x ∷ xs) all =
       let rest = ssrcs_of_rows xs all.1 in
-      elim (entry x) as (λ (o : Option EntryValue). is_some o ≡ true → map (λ (row : EntryRow). row.0) (cons_option (option_map (λ e. (x, e)) o) (rows xs)) ≡ x ∷ xs) [
+      elim (entry x) as (λ (o : Option EntryValue). is_some o ≡ true →
+      map (λ (row : EntryRow). row.0) (cons_option (option_map (λ e. (x, e)) o) (rows xs)) ≡ x ∷ xs) [
         | None ↦ λ h. absurd cc
         | Some e ↦ λ h. ap (λ (t : List ℕ). x ∷ t) rest
       ] all.0
 
-  have_passing : (such : ℕ → Bool) → ((x : ℕ) → such x ≡ true → is_some (entry x) ≡ true) → (xs : List ℕ) → AllHave (filter such xs)
+  have_passing : (such : ℕ → Bool) → ((x : ℕ) → such x ≡ true → is_some (entry x) ≡ true) → (xs : List ℕ) →
+      AllHave (filter such xs)
   have_passing such some [] = tt
   have_passing such some (x ∷ xs) =
       let rest = have_passing such some xs in
-      elim (such x) as (λ b. such x ≡ b → AllHave (cond b (x ∷ filter such xs) (filter such xs))) [ true ↦ λ is. (some x is, rest) | false ↦ λ _. rest ] refl
+      elim (such x) as (λ b. such x ≡ b → AllHave (cond b (x ∷ filter such xs) (filter such xs))) [
+        | true ↦
+            λ is. (some x is, rest)
+        | false ↦ λ _. rest
+      ] refl
 
   have_filtered : (test : ℕ → Bool) (xs : List ℕ) → AllHave xs → AllHave (filter test xs)
   have_filtered test [] all = tt
   have_filtered test (x ∷ xs) all =
       let rest = have_filtered test xs all.1 in
-      elim (test x) as (λ b. AllHave (cond b (x ∷ filter test xs) (filter test xs))) [ true ↦ (all.0, rest) | false ↦ rest ]
+      elim (test x) as (λ b. AllHave (cond b (x ∷ filter test xs) (filter test xs))) [
+        | true ↦ (all.0, rest)
+        | false ↦ rest
+      ]
 
   have_joined : (xs ys : List ℕ) → AllHave xs → AllHave ys → AllHave (xs ++ ys)
   have_joined [] ys of_xs of_ys = of_ys
@@ -183,7 +216,8 @@ module _ (table : TableValue) (trace : List TraceStep) (stands : StandsAt table 
 
   present_is_ordered : (ssrc : ℕ) → is_some (entry ssrc) ≡ true → has ssrc ordered ≡ true
   present_is_ordered ssrc some =
-      has_rising ssrc (names trace) ∙ present_is_named table.capacity trace ssrc (sym (is_some_mapped (entry_of table.rate ssrc) (stay_of table.capacity trace ssrc)) ∙ some)
+      has_rising ssrc (names trace) ∙ present_is_named table.capacity trace ssrc
+      (sym (is_some_mapped (entry_of table.rate ssrc) (stay_of table.capacity trace ssrc)) ∙ some)
 
   are_sorted : T (finite.is_sorted nat_cmp (rows entry ordered))
   are_sorted = sorted_rows entry ordered (are_rising (names trace) (names_are_once trace))
@@ -201,13 +235,15 @@ module _ (table : TableValue) (trace : List TraceStep) (stands : StandsAt table 
   entries_in_order : finite.entries table.entries ≡ rows entry ordered
   unfolding ordered_map
   entries_in_order =
-      ap finite.entries (finite.same_map nat_cmp_total nat_cmp-IsAntisymmetric table.entries ordered_map (λ ssrc. stands ssrc ∙ sym (found_in_order ssrc)))
+      ap finite.entries (finite.same_map nat_cmp_total nat_cmp-IsAntisymmetric table.entries ordered_map
+      (λ ssrc. stands ssrc ∙ sym (found_in_order ssrc)))
       ∙ finite.entries-from_sorted nat_cmp (rows entry ordered) are_sorted
 
 -- ---- News, by stays
 
 module _ (rate ssrc : ℕ) where
-  unmarked_news : (stay : List TraceStep) (mark : Option ℕ) → mark_of ssrc stay ≡ mark → is_due (entry_of rate ssrc stay) ≡ (is_none (mark_of ssrc stay) && has_news_since (given_of rate ssrc stay))
+  unmarked_news : (stay : List TraceStep) (mark : Option ℕ) → mark_of ssrc stay ≡ mark →
+      is_due (entry_of rate ssrc stay) ≡ (is_none (mark_of ssrc stay) && has_news_since (given_of rate ssrc stay))
   unmarked_news stay None unmarked =
       ap is_due (entry_unmarked rate ssrc stay unmarked)
       ∙ summary_suffices-news (given_of rate ssrc stay)
@@ -216,11 +252,13 @@ module _ (rate ssrc : ℕ) where
       ap (λ m. is_due (entry_with rate ssrc (before_mark ssrc stay) m)) marked
       ∙ ap (λ m. is_none m && has_news_since (given_of rate ssrc stay)) (sym marked)
 
-  due_in : (stay : Option (List TraceStep)) → is_such is_due (option_map (entry_of rate ssrc) stay) ≡ is_due_in rate ssrc stay
+  due_in : (stay : Option (List TraceStep)) → is_such is_due (option_map (entry_of rate ssrc) stay) ≡ is_due_in rate
+      ssrc stay
   due_in None = refl
   due_in (Some stay) = unmarked_news stay (mark_of ssrc stay) refl
 
-pub due_at_trace : (capacity rate : ℕ) (trace : List TraceStep) (ssrc : ℕ) → is_such is_due (entry_at capacity rate trace ssrc) ≡ is_due_by capacity rate trace ssrc
+pub due_at_trace : (capacity rate : ℕ) (trace : List TraceStep) (ssrc : ℕ) →
+    is_such is_due (entry_at capacity rate trace ssrc) ≡ is_due_by capacity rate trace ssrc
 due_at_trace capacity rate trace ssrc = due_in rate ssrc (stay_of capacity trace ssrc)
 
 -- ---- Turns
@@ -235,22 +273,30 @@ module _ (last : Option ℕ) (table : TableValue) (trace : List TraceStep) (stan
   due_are_news : due_rows table ≡ rows entries news
   due_are_news =
       ap (λ (t : List EntryRow). filter (λ (row : EntryRow). is_due row.1) t) (entries_in_order table trace stands)
-      ∙ rows_passing entries is_due (is_due_by table.capacity table.rate trace) (due_at_trace table.capacity table.rate trace) (rising (names trace))
+      ∙ rows_passing entries is_due (is_due_by table.capacity table.rate trace)
+      (due_at_trace table.capacity table.rate trace) (rising (names trace))
 
   pub pending_is_traced : pending last table ≡ pending_rows_at last table.capacity table.rate trace
   pending_is_traced =
-      (λ i. filter (λ (row : EntryRow). is_after last row.0) (due_are_news i) ++ filter (λ (row : EntryRow). not (is_after last row.0)) (due_are_news i))
-      ∙ (λ i. rows_of_ssrcs entries (is_after last) news i ++ rows_of_ssrcs entries (λ ssrc. not (is_after last ssrc)) news i)
+      (λ i. filter (λ (row : EntryRow). is_after last row.0) (due_are_news i) ++ filter
+      (λ (row : EntryRow). not (is_after last row.0)) (due_are_news i))
+      ∙ (λ i. rows_of_ssrcs entries (is_after last) news i ++ rows_of_ssrcs entries (λ ssrc. not (is_after last ssrc))
+      news i)
       ∙ rows_joined entries (filter (is_after last) news) (filter (λ ssrc. not (is_after last ssrc)) news)
 
-such_is_there : (test : EntryValue → Bool) (entry : Option EntryValue) → is_such test entry ≡ true → is_some entry ≡ true
+such_is_there : (test : EntryValue → Bool) (entry : Option EntryValue) → is_such test entry ≡ true →
+    is_some entry ≡ true
 such_is_there test None h = absurd cc
 such_is_there test (Some e) h = refl
 
 -- Each source that is pending has an entry, so the rows are those of all of them.
-pub pending_have_rows : (last : Option ℕ) (capacity rate : ℕ) (trace : List TraceStep) → map (λ (row : EntryRow). row.0) (pending_rows_at last capacity rate trace) ≡ pending_at last capacity rate trace
+pub pending_have_rows : (last : Option ℕ) (capacity rate : ℕ) (trace : List TraceStep) →
+    map (λ (row : EntryRow). row.0) (pending_rows_at last capacity rate trace) ≡ pending_at last capacity rate trace
 pending_have_rows last capacity rate trace =
     let entry : ℕ → Option EntryValue = entry_at capacity rate trace in
-    let all = have_passing entry (is_due_by capacity rate trace) (λ ssrc news. such_is_there is_due (entry ssrc) (due_at_trace capacity rate trace ssrc ∙ news)) (rising (names trace)) in
+    let all = have_passing entry (is_due_by capacity rate trace)
+    (λ ssrc news. such_is_there is_due (entry ssrc) (due_at_trace capacity rate trace ssrc ∙ news))
+    (rising (names trace)) in
     ssrcs_of_rows entry (pending_at last capacity rate trace)
-    (have_joined entry _ _ (have_filtered entry (is_after last) _ all) (have_filtered entry (λ ssrc. not (is_after last ssrc)) _ all))
+    (have_joined entry _ _ (have_filtered entry (is_after last) _ all)
+    (have_filtered entry (λ ssrc. not (is_after last ssrc)) _ all))

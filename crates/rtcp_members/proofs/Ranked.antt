@@ -39,28 +39,36 @@ other place =
     ap {B = ℕ} (λ b. cond b 1 0) differ
 
 -- Two slots have different places.
-pub places_differ : (slots : List Slot) (i j : ℕ) → ((place : ℕ) → count_by (λ (slot : Slot). slot.place == place) slots ≤ 1) → (j ≡ i → ⊥) → i < length slots → j < length slots → place_at slots j ≡ place_at slots i → ⊥
+pub places_differ : (slots : List Slot) (i j : ℕ) →
+    ((place : ℕ) → count_by (λ (slot : Slot). slot.place == place) slots ≤ 1) → (j ≡ i → ⊥) → i < length slots →
+    j < length slots → place_at slots j ≡ place_at slots i → ⊥
 places_differ slots i j apart unlike below_i below_j same =
     let p : ℕ = place_at slots i in
     let elsewhere : Slot = record { ssrc = 0; place = suc p } in
     let rest : List Slot = set slots i elsewhere in
     let in_rest : j < length rest = omega (arith, length-set slots i elsewhere) in
-    let first : sum_by (has_place p) rest + has_place p (slice_index_or slots i no_slot) ≡ sum_by (has_place p) slots + has_place p elsewhere = sum_by-set (has_place p) slots i elsewhere no_slot below_i in
-    let second : sum_by (has_place p) (set rest j elsewhere) + has_place p (slice_index_or rest j no_slot) ≡ sum_by (has_place p) rest + has_place p elsewhere = sum_by-set (has_place p) rest j elsewhere no_slot in_rest in
+    let first : sum_by (has_place p) rest + has_place p (slice_index_or slots i no_slot) ≡ sum_by (has_place p)
+    slots + has_place p elsewhere = sum_by-set (has_place p) slots i elsewhere no_slot below_i in
+    let second : sum_by (has_place p) (set rest j elsewhere) + has_place p (slice_index_or rest j no_slot) ≡ sum_by
+    (has_place p) rest + has_place p elsewhere = sum_by-set (has_place p) rest j elsewhere no_slot in_rest in
     let at_i : has_place p (slice_index_or slots i no_slot) ≡ 1 = itself p in
     let away : has_place p elsewhere ≡ 0 = other p in
     let at_j : has_place p (slice_index_or rest j no_slot) ≡ 1 =
-    ap (has_place p) (get_or-set_other slots i j elsewhere no_slot unlike) ∙ ap {B = ℕ} (λ q. cond (q == p) 1 0) same ∙ itself p in
+    ap (has_place p) (get_or-set_other slots i j elsewhere no_slot unlike) ∙ ap {B = ℕ} (λ q. cond (q == p) 1 0) same
+    ∙ itself p in
     let most : sum_by (has_place p) slots ≤ 1 = apart p in
     absurd (omega (arith, first, second, at_i, away, at_j, most))
 
 -- What is read where nothing was written is as it was.
-pub picked_same : (entries next : List Entry) (slots : List Slot) → All (λ (slot : Slot). entry_in next slot ≡ entry_in entries slot) slots → picked next slots ≡ picked entries slots
+pub picked_same : (entries next : List Entry) (slots : List Slot) →
+    All (λ (slot : Slot). entry_in next slot ≡ entry_in entries slot) slots → picked next slots ≡ picked entries slots
 picked_same entries next [] all = refl
 picked_same entries next (slot ∷ slots) all =
-    λ i. All-head (λ (slot : Slot). entry_in next slot ≡ entry_in entries slot) slot slots all i ∷ picked_same entries next slots (All-tail (λ (slot : Slot). entry_in next slot ≡ entry_in entries slot) slot slots all) i
+    λ i. All-head (λ (slot : Slot). entry_in next slot ≡ entry_in entries slot) slot slots all i ∷ picked_same entries
+    next slots (All-tail (λ (slot : Slot). entry_in next slot ≡ entry_in entries slot) slot slots all) i
 
-module _ (entries : List Entry) (slots : List Slot) (used at : ℕ) (places : ArePlaces entries slots) (in_use : used ≤ length slots) (stands : at < length (picked entries (take used slots))) where
+module _ (entries : List Entry) (slots : List Slot) (used at : ℕ) (places : ArePlaces entries slots)
+    (in_use : used ≤ length slots) (stands : at < length (picked entries (take used slots))) where
   as_many : length (picked entries (take used slots)) ≡ used
   as_many = length-map (take used slots) (entry_in entries) ∙ length-take-le used slots in_use
 
@@ -74,11 +82,13 @@ module _ (entries : List Entry) (slots : List Slot) (used at : ℕ) (places : Ar
   pub slot_at : slice_index_or (take used slots) at no_slot ≡ slice_index_or slots at no_slot
   slot_at = get_or-take used slots at no_slot below
 
-  pub read_at : (d : Entry) → slice_index_or entries (place_at slots at) d ≡ slice_index_or (picked entries (take used slots)) at d
+  pub read_at : (d : Entry) → slice_index_or entries (place_at slots at) d ≡ slice_index_or
+      (picked entries (take used slots)) at d
   read_at d =
       get_or_default entries (place_at slots at) d no_entry place_within
       ∙ ap (entry_in entries) (sym slot_at)
-      ∙ sym (get_or-map (entry_in entries) (take used slots) at no_slot d (omega (arith, below, length-take-le used slots in_use)))
+      ∙ sym (get_or-map (entry_in entries) (take used slots) at no_slot d
+      (omega (arith, below, length-take-le used slots in_use)))
 
   module _ (e : Entry) where
     abbrev next : List Entry
@@ -87,41 +97,64 @@ module _ (entries : List Entry) (slots : List Slot) (used at : ℕ) (places : Ar
     here : entry_in next (slice_index_or slots at no_slot) ≡ e
     here = get_or-set_same entries (place_at slots at) e no_entry place_within
 
-    elsewhere_same : (k : ℕ) → (k ≡ at → ⊥) → k < used → entry_in next (slice_index_or slots k no_slot) ≡ entry_in entries (slice_index_or slots k no_slot)
+    elsewhere_same : (k : ℕ) → (k ≡ at → ⊥) → k < used →
+        entry_in next (slice_index_or slots k no_slot) ≡ entry_in entries (slice_index_or slots k no_slot)
     elsewhere_same k unlike less =
-        get_or-set_other entries (place_at slots at) (place_at slots k) e no_entry (places_differ slots at k places.apart unlike (omega (arith, below, in_use)) (omega (arith, less, in_use)))
+        get_or-set_other entries (place_at slots at) (place_at slots k) e no_entry
+        (places_differ slots at k places.apart unlike (omega (arith, below, in_use)) (omega (arith, less, in_use)))
 
     pub set_picked : picked next (take used slots) ≡ set (picked entries (take used slots)) at e
     set_picked =
         same_lists (picked next (take used slots)) (set (picked entries (take used slots)) at e)
-        (length-map (take used slots) (entry_in next) ∙ sym (length-set (picked entries (take used slots)) at e ∙ length-map (take used slots) (entry_in entries)))
-        (λ k d within. by_rank k d (omega (arith, within, length-map (take used slots) (entry_in next), length-take-le used slots in_use)))
+        (length-map (take used slots) (entry_in next)
+        ∙ sym (length-set (picked entries (take used slots)) at e
+        ∙ length-map (take used slots) (entry_in entries)))
+        (λ k d within. by_rank k d (omega (
+          arith,
+          within,
+          length-map (take used slots) (entry_in next),
+          length-take-le used slots in_use,
+        )))
       where
-        left : (k : ℕ) (d : Entry) → k < used → slice_index_or (picked next (take used slots)) k d ≡ entry_in next (slice_index_or slots k no_slot)
+        left : (k : ℕ) (d : Entry) → k < used → slice_index_or (picked next (take used slots)) k d ≡ entry_in next
+            (slice_index_or slots k no_slot)
         left k d less =
-            get_or-map (entry_in next) (take used slots) k no_slot d (omega (arith, less, length-take-le used slots in_use)) ∙ ap (entry_in next) (get_or-take used slots k no_slot less)
+            get_or-map (entry_in next) (take used slots) k no_slot d
+            (omega (arith, less, length-take-le used slots in_use))
+            ∙ ap (entry_in next) (get_or-take used slots k no_slot less)
 
-        right : (k : ℕ) (d : Entry) → k < used → slice_index_or (picked entries (take used slots)) k d ≡ entry_in entries (slice_index_or slots k no_slot)
+        right : (k : ℕ) (d : Entry) → k < used → slice_index_or (picked entries (take used slots)) k d
+            ≡ entry_in entries (slice_index_or slots k no_slot)
         right k d less =
-            get_or-map (entry_in entries) (take used slots) k no_slot d (omega (arith, less, length-take-le used slots in_use)) ∙ ap (entry_in entries) (get_or-take used slots k no_slot less)
+            get_or-map (entry_in entries) (take used slots) k no_slot d
+            (omega (arith, less, length-take-le used slots in_use))
+            ∙ ap (entry_in entries) (get_or-take used slots k no_slot less)
 
-        by_rank : (k : ℕ) (d : Entry) → k < used → slice_index_or (picked next (take used slots)) k d ≡ slice_index_or (set (picked entries (take used slots)) at e) k d
+        by_rank : (k : ℕ) (d : Entry) → k < used → slice_index_or (picked next (take used slots)) k d ≡ slice_index_or
+            (set (picked entries (take used slots)) at e) k d
         by_rank k d less = elim (cases_eq k at) [
           | inl same ↦ left k d less ∙ ap (λ n. entry_in next (slice_index_or slots n no_slot)) same ∙ here
-              ∙ sym (get_or-set_same (picked entries (take used slots)) at e d stands) ∙ ap (λ n. slice_index_or (set (picked entries (take used slots)) at e) n d) (sym same)
-          | inr unlike ↦ left k d less ∙ elsewhere_same k unlike less ∙ sym (right k d less) ∙ sym (get_or-set_other (picked entries (take used slots)) at k e d unlike)
+              ∙ sym (get_or-set_same (picked entries (take used slots)) at e d stands)
+              ∙ ap (λ n. slice_index_or (set (picked entries (take used slots)) at e) n d) (sym same)
+          | inr unlike ↦ left k d less ∙ elsewhere_same k unlike less ∙ sym (right k d less)
+              ∙ sym (get_or-set_other (picked entries (take used slots)) at k e d unlike)
         ]
 
-    pub keyed_at : All (IsKeyed entries) (take used slots) → (d : Entry) → e.ssrc ≡ (slice_index_or (picked entries (take used slots)) at d).ssrc → All (IsKeyed next) (take used slots)
-    keyed_at keyed d same = All-from_get_or (IsKeyed next) (take used slots) no_slot (λ k within. by_rank k (omega (arith, within, length-take-le used slots in_use)))
+    pub keyed_at : All (IsKeyed entries) (take used slots) → (d : Entry) →
+        e.ssrc ≡ (slice_index_or (picked entries (take used slots)) at d).ssrc → All (IsKeyed next) (take used slots)
+    keyed_at keyed d same = All-from_get_or (IsKeyed next) (take used slots) no_slot
+        (λ k within. by_rank k (omega (arith, within, length-take-le used slots in_use)))
       where
-        was : (k : ℕ) → k < used → (slice_index_or slots k no_slot).ssrc ≡ (entry_in entries (slice_index_or slots k no_slot)).ssrc
-        was k less = subst (IsKeyed entries) (get_or-take used slots k no_slot less) (keyed k no_slot (omega (arith, less, length-take-le used slots in_use)))
+        was : (k : ℕ) → k < used → (slice_index_or slots k no_slot).ssrc
+            ≡ (entry_in entries (slice_index_or slots k no_slot)).ssrc
+        was k less = subst (IsKeyed entries) (get_or-take used slots k no_slot less)
+            (keyed k no_slot (omega (arith, less, length-take-le used slots in_use)))
 
         is : (k : ℕ) → k < used → IsKeyed next (slice_index_or slots k no_slot)
         is k less = elim (cases_eq k at) [
           | inl equal ↦ was k less ∙ ap (λ n. (entry_in entries (slice_index_or slots n no_slot)).ssrc) equal
-              ∙ ap (λ (x : Entry). x.ssrc) (get_or_default entries (place_at slots at) no_entry d place_within ∙ read_at d) ∙ sym same ∙ ap (λ (x : Entry). x.ssrc) (sym here)
+              ∙ ap (λ (x : Entry). x.ssrc) (get_or_default entries (place_at slots at) no_entry d place_within
+              ∙ read_at d) ∙ sym same ∙ ap (λ (x : Entry). x.ssrc) (sym here)
               ∙ ap (λ n. (entry_in next (slice_index_or slots n no_slot)).ssrc) (sym equal)
           | inr unlike ↦ was k less ∙ ap (λ (x : Entry). x.ssrc) (sym (elsewhere_same k unlike less))
         ]
@@ -132,7 +165,8 @@ module _ (entries : List Entry) (slots : List Slot) (used at : ℕ) (places : Ar
     pub places_at : ArePlaces next slots
     places_at =
         record {
-          within = All-weaker (λ (slot : Slot). slot.place < length entries) (λ (slot : Slot). slot.place < length next) (λ slot less. omega (arith, less, length-set entries (place_at slots at) e)) slots places.within;
+          within = All-weaker (λ (slot : Slot). slot.place < length entries) (λ (slot : Slot). slot.place < length next)
+              (λ slot less. omega (arith, less, length-set entries (place_at slots at) e)) slots places.within;
           apart = places.apart;
         }
 
@@ -166,7 +200,13 @@ module _ {cells : List Cell} {used at : ℕ} {slot : Slot} {cell : Cell} (so : I
       (arith, so.early, heap.in_use, length_slots cells)))
 
   pub in_cells : slot.place < length cells
-  in_cells = omega (arith, its_place, place_within (entries_in cells) (slots_in cells) used at heap.places heap.in_use stands, length-map cells (λ (c : Cell). c.entry))
+  in_cells = omega (
+    arith,
+    its_place,
+    place_within (entries_in cells) (slots_in cells) used at heap.places heap.in_use
+        stands,
+    length-map cells (λ (c : Cell). c.entry),
+  )
 
   -- What is read there is the entry of the rank.
   pub read_ranked : (d : Entry) → cell.entry ≡ slice_index_or (in_order cells used) at d
@@ -230,12 +270,24 @@ module _ {cells : List Cell} {used at : ℕ} {slot : Slot} {cell : Cell} (so : I
     pub changed_ranked : (change : EntryValue → EntryValue) → entry_value e ≡ change (entry_value cell.entry)
         → IsChanged change (in_order cells used) (in_order after used) at
     changed_ranked change value =
-        record { entry = e; items = written_ranked; ssrc = its_ssrc; value = λ d. value ∙ ap (λ (x : Entry). change (entry_value x)) (read_ranked d) }
+        record {
+          entry = e;
+          items = written_ranked;
+          ssrc = its_ssrc;
+          value = λ d. value
+              ∙ ap (λ (x : Entry). change (entry_value x)) (read_ranked d);
+        }
 
     one_recounted : (test : EntryValue → Bool) (old new : ℕ) → old ≡ tally_of test (in_order cells used)
         → new + weight_of test cell.entry ≡ old + weight_of test e → new ≡ tally_of test (in_order after used)
     one_recounted test old new was moved =
-        omega (arith, was, moved, tally_set test (in_order cells used) at cell.entry e got, ap (tally_of test) written_ranked)
+        omega (
+          arith,
+          was,
+          moved,
+          tally_set test (in_order cells used) at cell.entry e got,
+          ap (tally_of test) written_ranked,
+        )
 
     pub recounted_ranked : (counts next : Counts) → AreCounts counts (in_order cells used)
         → next.members + weight_of is_member cell.entry ≡ counts.members + weight_of is_member e

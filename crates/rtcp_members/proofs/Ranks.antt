@@ -9,28 +9,36 @@ use Rattle.rtcp_members.specs.Told.{state_of, first_state}
 use Rattle.rtcp_members.specs.ListViews.{entry_value, row_of, rows_of, tally_of, weight_of}
 
 -- one entry more is counted
-pub tally_rank : (test : EntryValue → Bool) (xs : List Entry) (i : ℕ) (d x : Entry) → i < length xs → x ≡ slice_index_or xs i d → tally_of test (take (i + 1) xs) ≡ weight_of test x + tally_of test (take i xs)
+pub tally_rank : (test : EntryValue → Bool) (xs : List Entry) (i : ℕ) (d x : Entry) → i < length xs →
+    x ≡ slice_index_or xs i d → tally_of test (take (i + 1) xs) ≡ weight_of test x + tally_of test (take i xs)
 tally_rank test xs i d x within is =
     let more = length-filter_more (λ (e : Entry). test (entry_value e)) xs i d within in
     let its : weight_of test x ≡ weight_of test (slice_index_or xs i d) = ap (weight_of test) is in
     omega (arith, more, its)
 
 -- what is told at a rank is told of the first row there
-pub told_rank : (xs : List Entry) (i : ℕ) (d x : Entry) → i < length xs → x ≡ slice_index_or xs i d → Some (state_of (row_of x)) ≡ first_state (rows_of (drop i xs))
-told_rank xs i d x within is = ap (λ y. Some (state_of (row_of y))) is ∙ sym (ap (λ ys. first_state (rows_of ys)) (drop_more xs i d within))
+pub told_rank : (xs : List Entry) (i : ℕ) (d x : Entry) → i < length xs → x ≡ slice_index_or xs i d →
+    Some (state_of (row_of x)) ≡ first_state (rows_of (drop i xs))
+told_rank xs i d x within is = ap (λ y. Some (state_of (row_of y))) is
+    ∙ sym (ap (λ ys. first_state (rows_of ys)) (drop_more xs i d within))
 
 abbrev pub due_rows_of : List Entry → List EntryRow
 due_rows_of xs = filter (λ (row : EntryRow). is_due row.1) (rows_of xs)
 
-due_head : (x : Entry) (xs : List Entry) (b : Bool) → is_due (entry_value x) ≡ b → due_rows_of (x ∷ xs) ≡ cond b (row_of x ∷ due_rows_of xs) (due_rows_of xs)
+due_head : (x : Entry) (xs : List Entry) (b : Bool) → is_due (entry_value x) ≡ b →
+    due_rows_of (x ∷ xs) ≡ cond b (row_of x ∷ due_rows_of xs) (due_rows_of xs)
 due_head x xs b is = ap (λ c. cond c (row_of x ∷ due_rows_of xs) (due_rows_of xs)) is
 
 -- the first of which a block is due, where it is that of this rank
-pub due_rank : (xs : List Entry) (i : ℕ) (d x : Entry) → i < length xs → x ≡ slice_index_or xs i d → is_due (entry_value x) ≡ true → Some x.ssrc ≡ first_ssrc (due_rows_of (drop i xs))
+pub due_rank : (xs : List Entry) (i : ℕ) (d x : Entry) → i < length xs → x ≡ slice_index_or xs i d →
+    is_due (entry_value x) ≡ true → Some x.ssrc ≡ first_ssrc (due_rows_of (drop i xs))
 due_rank xs i d x within is due =
-    sym (ap (λ ys. first_ssrc (due_rows_of ys)) (drop_more xs i d within ∙ ap (λ y. y ∷ drop (i + 1) xs) (sym is)) ∙ ap first_ssrc (due_head x (drop (i + 1) xs) true due))
+    sym (ap (λ ys. first_ssrc (due_rows_of ys)) (drop_more xs i d within ∙ ap (λ y. y ∷ drop (i + 1) xs) (sym is))
+    ∙ ap first_ssrc (due_head x (drop (i + 1) xs) true due))
 
 -- and where it is not
-pub idle_rank : (xs : List Entry) (i : ℕ) (d x : Entry) → i < length xs → x ≡ slice_index_or xs i d → is_due (entry_value x) ≡ false → first_ssrc (due_rows_of (drop (i + 1) xs)) ≡ first_ssrc (due_rows_of (drop i xs))
+pub idle_rank : (xs : List Entry) (i : ℕ) (d x : Entry) → i < length xs → x ≡ slice_index_or xs i d →
+    is_due (entry_value x) ≡ false → first_ssrc (due_rows_of (drop (i + 1) xs)) ≡ first_ssrc (due_rows_of (drop i xs))
 idle_rank xs i d x within is idle =
-    sym (ap (λ ys. first_ssrc (due_rows_of ys)) (drop_more xs i d within ∙ ap (λ y. y ∷ drop (i + 1) xs) (sym is)) ∙ ap first_ssrc (due_head x (drop (i + 1) xs) false idle))
+    sym (ap (λ ys. first_ssrc (due_rows_of ys)) (drop_more xs i d within ∙ ap (λ y. y ∷ drop (i + 1) xs) (sym is))
+    ∙ ap first_ssrc (due_head x (drop (i + 1) xs) false idle))

@@ -40,7 +40,8 @@ not_as_many n e = absurd (omega arith)
 swapped_test : (key here : ℕ) → (key == here) ≡ false → (here == key) ≡ false
 swapped_test key here e = grind (arith, nat_tests, e)
 
-turned : (f g : ℕ → Bool) (here : ℕ) (value : Bool) → ((key : ℕ) → (here == key) ≡ false → g key ≡ f key) → g here ≡ value → (key : ℕ) → g key ≡ cond (key == here) value (f key)
+turned : (f g : ℕ → Bool) (here : ℕ) (value : Bool) → ((key : ℕ) → (here == key) ≡ false → g key ≡ f key) →
+    g here ≡ value → (key : ℕ) → g key ≡ cond (key == here) value (f key)
 turned f g here value others is key =
     elim (key == here) as (λ b. (key == here) ≡ b → g key ≡ cond b value (f key)) [
       | true ↦ λ same. ap g (eqb-true key here same) ∙ is
@@ -49,20 +50,25 @@ turned f g here value others is key =
 
 -- Where one key alone may move, as many pass only if it does not.
 
-one_moved : (f g : ℕ → Bool) (here : ℕ) → ((key : ℕ) → (here == key) ≡ false → g key ≡ f key) → (keys : List ℕ) → IsOnce keys → has here keys ≡ true → passing g keys ≡ passing f keys → g here ≡ f here
+one_moved : (f g : ℕ → Bool) (here : ℕ) → ((key : ℕ) → (here == key) ≡ false → g key ≡ f key) → (keys : List ℕ) →
+    IsOnce keys → has here keys ≡ true → passing g keys ≡ passing f keys → g here ≡ f here
 one_moved f g here others keys once present as_many =
     elim (f here) as (λ b. f here ≡ b → g here ≡ b) [
       | false ↦ λ fails. elim (g here) as (λ b. g here ≡ b → b ≡ false) [
         | false ↦ λ _. refl
-        | true ↦ λ passes. absurd (not_as_many (passing f keys) (sym as_many ∙ one_more f g here true (turned f g here true others passes) fails keys once present))
+        | true ↦ λ passes. absurd (not_as_many (passing f keys)
+            (sym as_many ∙ one_more f g here true (turned f g here true others passes) fails keys once present))
       ] refl
       | true ↦ λ passes. elim (g here) as (λ b. g here ≡ b → b ≡ true) [
         | true ↦ λ _. refl
-        | false ↦ λ fails. absurd (not_as_many (passing g keys) (as_many ∙ one_more g f here true (turned g f here true (λ key other. sym (others key other)) passes) fails keys once present))
+        | false ↦ λ fails. absurd (not_as_many (passing g keys)
+            (as_many ∙ one_more g f here true (turned g f here true (λ key other. sym (others key other)) passes)
+            fails keys once present))
       ] refl
     ] refl
 
-first_too : (a b : Bool) → (b ≡ true → a ≡ true) → (n m : ℕ) → n ≤ m → one_or_none b + n ≡ one_or_none a + m → (b ≡ a) × (n ≡ m)
+first_too : (a b : Bool) → (b ≡ true → a ≡ true) → (n m : ℕ) → n ≤ m → one_or_none b + n ≡ one_or_none a + m →
+    (b ≡ a) × (n ≡ m)
 unfolding one_or_none
 first_too true true more n m less e = (refl, omega arith)
 first_too true false more n m less e = absurd (omega arith)
@@ -70,11 +76,13 @@ first_too false true more n m less e = absurd (true≢false (sym (more refl)))
 first_too false false more n m less e = (refl, omega arith)
 
 -- Where none may pass that did not, as many pass only if each does that did.
-none_fails : (f g : ℕ → Bool) → ((key : ℕ) → g key ≡ true → f key ≡ true) → (keys : List ℕ) → passing g keys ≡ passing f keys → (key : ℕ) → has key keys ≡ true → g key ≡ f key
+none_fails : (f g : ℕ → Bool) → ((key : ℕ) → g key ≡ true → f key ≡ true) → (keys : List ℕ) →
+    passing g keys ≡ passing f keys → (key : ℕ) → has key keys ≡ true → g key ≡ f key
 none_fails f g fewer [] as_many key present = absurd (true≢false (sym present))
 none_fails f g fewer (first ∷ rest) as_many key present =
     let less : passing g rest ≤ passing f rest = more_pass g f fewer rest in
-    let sums : one_or_none (g first) + passing g rest ≡ one_or_none (f first) + passing f rest = sym (first_and_rest g first rest) ∙ as_many ∙ first_and_rest f first rest in
+    let sums : one_or_none (g first) + passing g rest ≡ one_or_none (f first) + passing f rest =
+    sym (first_and_rest g first rest) ∙ as_many ∙ first_and_rest f first rest in
     let both = first_too (f first) (g first) (fewer first) (passing g rest) (passing f rest) less sums in
     elim (first == key) as (λ b. (first == key) ≡ b → (b || has key rest) ≡ true → g key ≡ f key) [
       | true ↦ λ same _. ap g (sym (eqb-true first key same)) ∙ both.0 ∙ ap f (eqb-true first key same)
@@ -82,7 +90,8 @@ none_fails f g fewer (first ∷ rest) as_many key present =
     ] refl present
 
 -- one that is not named later was not named before
-unnamed_before : (step : TraceStep) (trace : List TraceStep) (ssrc : ℕ) → has ssrc (names (step ∷ trace)) ≡ false → has ssrc (names trace) ≡ false
+unnamed_before : (step : TraceStep) (trace : List TraceStep) (ssrc : ℕ) → has ssrc (names (step ∷ trace)) ≡ false →
+    has ssrc (names trace) ≡ false
 unnamed_before step trace ssrc unnamed =
     elim (has ssrc (names trace)) as (λ b. has ssrc (names trace) ≡ b → b ≡ false) [
       | true ↦ λ named. absurd (true≢false (sym (still_named step trace ssrc named) ∙ unnamed))
@@ -97,30 +106,40 @@ module _ (test : EntryValue → Bool) (capacity rate : ℕ) where
 
   not_here : (trace : List TraceStep) (ssrc : ℕ) → has ssrc (names trace) ≡ false → passes trace ssrc ≡ false
   not_here trace ssrc unnamed =
-      elim (stay_of capacity trace ssrc) as (λ stay. (is_some stay ≡ true → has ssrc (names trace) ≡ true) → is_such test (option_map (entry_of rate ssrc) stay) ≡ false) [
+      elim (stay_of capacity trace ssrc) as (λ stay. (is_some stay ≡ true → has ssrc (names trace) ≡ true) →
+      is_such test (option_map (entry_of rate ssrc) stay) ≡ false) [
         | None ↦ λ _. refl
         | Some stay ↦ λ named. absurd (true≢false (sym (named refl) ∙ unnamed))
       ] (present_is_named capacity trace ssrc)
 
-  with_one_more : (fact : Fact) (trace : List TraceStep) (known : Bool) → (known ≡ false → has (subject fact) (names trace) ≡ false) → passing (passes trace) (cond known (names trace) (subject fact ∷ names trace)) ≡ passing (passes trace) (names trace)
+  with_one_more : (fact : Fact) (trace : List TraceStep) (known : Bool) →
+      (known ≡ false → has (subject fact) (names trace) ≡ false) →
+      passing (passes trace) (cond known (names trace) (subject fact ∷ names trace)) ≡ passing (passes trace)
+      (names trace)
   with_one_more fact trace true new = refl
   with_one_more fact trace false new =
       first_and_rest (passes trace) (subject fact) (names trace)
       ∙ ap (λ b. one_or_none b + passing (passes trace) (names trace)) (not_here trace (subject fact) (new refl))
       ∙ no_more (passing (passes trace) (names trace))
 
-  by_later_names : (step : TraceStep) (trace : List TraceStep) → passing (passes trace) (names (step ∷ trace)) ≡ count_at test capacity rate trace
-  by_later_names (fact_came fact moment) trace = with_one_more fact trace (is_gone fact || has (subject fact) (names trace)) (λ new. (or_parts (is_gone fact) _ new).1)
+  by_later_names : (step : TraceStep) (trace : List TraceStep) →
+      passing (passes trace) (names (step ∷ trace)) ≡ count_at test capacity rate trace
+  by_later_names (fact_came fact moment) trace = with_one_more fact trace
+      (is_gone fact || has (subject fact) (names trace)) (λ new. (or_parts (is_gone fact) _ new).1)
   by_later_names (check_made horizons) trace = refl
   by_later_names (block_taken other) trace = refl
 
   -- Where nobody changes, the count stays.
-  count_stays : (step : TraceStep) (trace : List TraceStep) → ((ssrc : ℕ) → passes trace ssrc ≡ passes (step ∷ trace) ssrc) → count_at test capacity rate (step ∷ trace) ≡ count_at test capacity rate trace
+  count_stays : (step : TraceStep) (trace : List TraceStep) →
+      ((ssrc : ℕ) → passes trace ssrc ≡ passes (step ∷ trace) ssrc) →
+      count_at test capacity rate (step ∷ trace) ≡ count_at test capacity rate trace
   count_stays step trace same =
-      same_passing (passes (step ∷ trace)) (passes trace) (λ ssrc. sym (same ssrc)) (names (step ∷ trace)) ∙ by_later_names step trace
+      same_passing (passes (step ∷ trace)) (passes trace) (λ ssrc. sym (same ssrc)) (names (step ∷ trace))
+      ∙ by_later_names step trace
 
   -- Where nobody counts, nobody passes.
-  pub nobody_passes : (trace : List TraceStep) → count_at test capacity rate trace ≡ 0 → (ssrc : ℕ) → passes trace ssrc ≡ false
+  pub nobody_passes : (trace : List TraceStep) → count_at test capacity rate trace ≡ 0 → (ssrc : ℕ) →
+      passes trace ssrc ≡ false
   nobody_passes trace none ssrc =
       elim (has ssrc (names trace)) as (λ b. has ssrc (names trace) ≡ b → passes trace ssrc ≡ false) [
         | true ↦ λ named. none_in (passes trace) (names trace) none ssrc named
@@ -128,15 +147,20 @@ module _ (test : EntryValue → Bool) (capacity rate : ℕ) where
       ] refl
 
   -- one that none of the two traces names
-  neither : (step : TraceStep) (trace : List TraceStep) (ssrc : ℕ) → has ssrc (names (step ∷ trace)) ≡ false → has ssrc (names trace) ≡ false → passes trace ssrc ≡ passes (step ∷ trace) ssrc
+  neither : (step : TraceStep) (trace : List TraceStep) (ssrc : ℕ) → has ssrc (names (step ∷ trace)) ≡ false →
+      has ssrc (names trace) ≡ false → passes trace ssrc ≡ passes (step ∷ trace) ssrc
   neither step trace ssrc later earlier = not_here trace ssrc earlier ∙ sym (not_here (step ∷ trace) ssrc later)
 
   -- Where the count stays, nobody changes.
-  fact_keeps : (fact : Fact) (moment : ℕ) (trace : List TraceStep) → count_at test capacity rate (fact_came fact moment ∷ trace) ≡ count_at test capacity rate trace → (ssrc : ℕ) → passes trace ssrc ≡ passes (fact_came fact moment ∷ trace) ssrc
+  fact_keeps : (fact : Fact) (moment : ℕ) (trace : List TraceStep) →
+      count_at test capacity rate (fact_came fact moment ∷ trace) ≡ count_at test capacity rate trace → (ssrc : ℕ) →
+      passes trace ssrc ≡ passes (fact_came fact moment ∷ trace) ssrc
   fact_keeps fact moment trace count ssrc =
-      elim (subject fact == ssrc) as (λ b. (subject fact == ssrc) ≡ b → passes trace ssrc ≡ passes (fact_came fact moment ∷ trace) ssrc) [
+      elim (subject fact == ssrc) as (λ b. (subject fact == ssrc) ≡ b →
+      passes trace ssrc ≡ passes (fact_came fact moment ∷ trace) ssrc) [
         | false ↦ λ apart. sym (others ssrc apart)
-        | true ↦ λ own. ap (passes trace) (sym (eqb-true (subject fact) ssrc own)) ∙ here ∙ ap (passes (fact_came fact moment ∷ trace)) (eqb-true (subject fact) ssrc own)
+        | true ↦ λ own. ap (passes trace) (sym (eqb-true (subject fact) ssrc own)) ∙ here
+            ∙ ap (passes (fact_came fact moment ∷ trace)) (eqb-true (subject fact) ssrc own)
       ] refl
     where
       others : (key : ℕ) → (subject fact == key) ≡ false → passes (fact_came fact moment ∷ trace) key ≡ passes trace key
@@ -144,35 +168,55 @@ module _ (test : EntryValue → Bool) (capacity rate : ℕ) where
 
       here : passes trace (subject fact) ≡ passes (fact_came fact moment ∷ trace) (subject fact)
       here =
-          elim (has (subject fact) (names (fact_came fact moment ∷ trace))) as (λ b. has (subject fact) (names (fact_came fact moment ∷ trace)) ≡ b → passes trace (subject fact) ≡ passes (fact_came fact moment ∷ trace) (subject fact)) [
-            | true ↦ λ named. sym (one_moved (passes trace) (passes (fact_came fact moment ∷ trace)) (subject fact) others (names (fact_came fact moment ∷ trace)) (names_are_once (fact_came fact moment ∷ trace)) named (count ∙ sym (by_later_names (fact_came fact moment) trace)))
-            | false ↦ λ unnamed. neither (fact_came fact moment) trace (subject fact) unnamed (unnamed_before (fact_came fact moment) trace (subject fact) unnamed)
+          elim (has (subject fact) (names (fact_came fact moment ∷ trace))) as (λ b. has (subject fact)
+          (names (fact_came fact moment ∷ trace)) ≡ b →
+          passes trace (subject fact) ≡ passes (fact_came fact moment ∷ trace) (subject fact)) [
+            | true ↦ λ named. sym (one_moved (passes trace) (passes (fact_came fact moment ∷ trace)) (subject fact)
+                others (names (fact_came fact moment ∷ trace)) (names_are_once (fact_came fact moment ∷ trace)) named
+                (count ∙ sym (by_later_names (fact_came fact moment) trace)))
+            | false ↦ λ unnamed. neither (fact_came fact moment) trace (subject fact) unnamed
+                (unnamed_before (fact_came fact moment) trace (subject fact) unnamed)
           ] refl
 
-  check_keeps : (horizons : Horizons) (trace : List TraceStep) → ((ssrc : ℕ) → passes (check_made horizons ∷ trace) ssrc ≡ true → passes trace ssrc ≡ true) → count_at test capacity rate (check_made horizons ∷ trace) ≡ count_at test capacity rate trace → (ssrc : ℕ)
+  check_keeps : (horizons : Horizons) (trace : List TraceStep) →
+      ((ssrc : ℕ) → passes (check_made horizons ∷ trace) ssrc ≡ true → passes trace ssrc ≡ true) →
+      count_at test capacity rate (check_made horizons ∷ trace) ≡ count_at test capacity rate trace → (ssrc : ℕ)
       → passes trace ssrc ≡ passes (check_made horizons ∷ trace) ssrc
   check_keeps horizons trace fewer count ssrc =
-      elim (has ssrc (names trace)) as (λ b. has ssrc (names trace) ≡ b → passes trace ssrc ≡ passes (check_made horizons ∷ trace) ssrc) [
-        | true ↦ λ named. sym (none_fails (passes trace) (passes (check_made horizons ∷ trace)) fewer (names trace) count ssrc named)
+      elim (has ssrc (names trace)) as (λ b. has ssrc (names trace) ≡ b →
+      passes trace ssrc ≡ passes (check_made horizons ∷ trace) ssrc) [
+        | true ↦ λ named. sym (none_fails (passes trace) (passes (check_made horizons ∷ trace)) fewer (names trace)
+            count ssrc named)
         | false ↦ λ unnamed. neither (check_made horizons) trace ssrc unnamed unnamed
       ] refl
 
-checked_member : (horizons : Horizons) (entry : Option EntryValue) → is_such is_member (option_and_then (entry_after_check horizons) entry) ≡ true → is_such is_member entry ≡ true
+checked_member : (horizons : Horizons) (entry : Option EntryValue) →
+    is_such is_member (option_and_then (entry_after_check horizons) entry) ≡ true → is_such is_member entry ≡ true
 checked_member horizons None member = member
 checked_member horizons (Some entry) member =
-    elim (is_removed horizons entry.sighting entry.mark) as (λ b. is_such is_member (if b then None else Some (if is_some entry.mark then entry else record entry { sending = still_sending horizons entry.sending })) ≡ true → is_member entry ≡ true) [
+    elim (is_removed horizons entry.sighting entry.mark) as (λ b. is_such is_member
+    (if b then None else Some (if is_some entry.mark then entry else record
+    entry { sending = still_sending horizons entry.sending })) ≡ true → is_member entry ≡ true) [
       | true ↦ λ h. absurd (true≢false (sym h))
-      | false ↦ elim (is_some entry.mark) as (λ b. is_member (if b then entry else record entry { sending = still_sending horizons entry.sending }) ≡ true → is_member entry ≡ true) [ true ↦ λ h. h | false ↦ λ h. h ]
+      | false ↦ elim (is_some entry.mark) as (λ b. is_member
+          (if b then entry else record entry { sending = still_sending horizons entry.sending }) ≡ true →
+          is_member entry ≡ true) [ true ↦ λ h. h | false ↦ λ h. h ]
     ] member
 
 -- ---- Blocks
 
-block_keeps_role : (test : EntryValue → Bool) → ((e : EntryValue) → test (reported_if e) ≡ test e) → (capacity rate reported : ℕ) (trace : List TraceStep) (ssrc : ℕ)
-    → is_such test (entry_at capacity rate trace ssrc) ≡ is_such test (entry_at capacity rate (block_taken reported ∷ trace) ssrc)
+block_keeps_role : (test : EntryValue → Bool) → ((e : EntryValue) → test (reported_if e) ≡ test e) →
+    (capacity rate reported : ℕ) (trace : List TraceStep) (ssrc : ℕ)
+    → is_such test (entry_at capacity rate trace ssrc) ≡ is_such test
+    (entry_at capacity rate (block_taken reported ∷ trace) ssrc)
 block_keeps_role test stays capacity rate reported trace ssrc =
-    elim (reported == ssrc) as (λ b. (reported == ssrc) ≡ b → is_such test (entry_at capacity rate trace ssrc) ≡ is_such test (entry_at capacity rate (block_taken reported ∷ trace) ssrc)) [
-      | true ↦ λ own. sym (ap (is_such test) (own_stay capacity rate ssrc reported trace own (stay_of capacity trace ssrc)) ∙ mapped (entry_at capacity rate trace ssrc))
-      | false ↦ λ apart. sym (ap (is_such test) (other_stay capacity rate ssrc reported trace apart (stay_of capacity trace ssrc)))
+    elim (reported == ssrc) as (λ b. (reported == ssrc) ≡ b → is_such test (entry_at capacity rate trace ssrc)
+    ≡ is_such test (entry_at capacity rate (block_taken reported ∷ trace) ssrc)) [
+      | true ↦ λ own. sym (ap (is_such test)
+          (own_stay capacity rate ssrc reported trace own (stay_of capacity trace ssrc))
+          ∙ mapped (entry_at capacity rate trace ssrc))
+      | false ↦ λ apart. sym (ap (is_such test)
+          (other_stay capacity rate ssrc reported trace apart (stay_of capacity trace ssrc)))
     ] refl
   where
     mapped : (entry : Option EntryValue) → is_such test (option_map reported_if entry) ≡ is_such test entry
@@ -180,10 +224,18 @@ block_keeps_role test stays capacity rate reported trace ssrc =
     mapped (Some e) = stays e
 
 reported_member : (e : EntryValue) → is_member (reported_if e) ≡ is_member e
-reported_member e = elim (is_some e.mark) as (λ b. is_member (if b then e else reported_entry e) ≡ is_member e) [ true ↦ refl | false ↦ refl ]
+reported_member e = elim (is_some e.mark) as (λ b. is_member (if b then e else reported_entry e) ≡ is_member e) [
+  | true ↦
+      refl
+  | false ↦ refl
+]
 
 reported_sender : (e : EntryValue) → is_sender (reported_if e) ≡ is_sender e
-reported_sender e = elim (is_some e.mark) as (λ b. is_sender (if b then e else reported_entry e) ≡ is_sender e) [ true ↦ refl | false ↦ refl ]
+reported_sender e = elim (is_some e.mark) as (λ b. is_sender (if b then e else reported_entry e) ≡ is_sender e) [
+  | true ↦
+      refl
+  | false ↦ refl
+]
 
 -- ---- One step
 
@@ -195,33 +247,55 @@ module _ (capacity rate : ℕ) where
   entry trace ssrc = entry_at capacity rate trace ssrc
 
   -- Where everyone has the same role after a step, it does not move.
-  pub same_roles_stay : (step : TraceStep) (trace : List TraceStep) → ((ssrc : ℕ) → IsSameRole (entry trace ssrc) (entry (step ∷ trace) ssrc)) → step_moves capacity rate step trace ≡ false
+  pub same_roles_stay : (step : TraceStep) (trace : List TraceStep) →
+      ((ssrc : ℕ) → IsSameRole (entry trace ssrc) (entry (step ∷ trace) ssrc)) →
+      step_moves capacity rate step trace ≡ false
   same_roles_stay step trace same =
-      let members : members_at capacity rate (step ∷ trace) ≡ members_at capacity rate trace = count_stays is_member capacity rate step trace (λ ssrc. (same ssrc).0) in
-      let senders : senders_at capacity rate (step ∷ trace) ≡ senders_at capacity rate trace = count_stays is_sender capacity rate step trace (λ ssrc. (same ssrc).1) in
-      (λ i. not ((members i == members_at capacity rate trace) && (senders i == senders_at capacity rate trace))) ∙ none_moves (members_at capacity rate trace) (senders_at capacity rate trace)
+      let members : members_at capacity rate (step ∷ trace) ≡ members_at capacity rate trace =
+      count_stays is_member capacity rate step trace (λ ssrc. (same ssrc).0) in
+      let senders : senders_at capacity rate (step ∷ trace) ≡ senders_at capacity rate trace =
+      count_stays is_sender capacity rate step trace (λ ssrc. (same ssrc).1) in
+      (λ i. not ((members i == members_at capacity rate trace) && (senders i == senders_at capacity rate trace)))
+      ∙ none_moves (members_at capacity rate trace) (senders_at capacity rate trace)
     where
       none_moves : (n m : ℕ) → not ((n == n) && (m == m)) ≡ false
       none_moves n m = grind (arith, nat_tests)
 
   -- Where a step does not move, everyone has the same role after it.
-  pub step_keeps : (step : TraceStep) (trace : List TraceStep) → step_moves capacity rate step trace ≡ false → (ssrc : ℕ) → IsSameRole (entry trace ssrc) (entry (step ∷ trace) ssrc)
+  pub step_keeps : (step : TraceStep) (trace : List TraceStep) → step_moves capacity rate step trace ≡ false →
+      (ssrc : ℕ) → IsSameRole (entry trace ssrc) (entry (step ∷ trace) ssrc)
   step_keeps (fact_came fact moment) trace still ssrc =
       let step = fact_came fact moment in
-      let counts = both_equal (members_at capacity rate (step ∷ trace)) (members_at capacity rate trace) (senders_at capacity rate (step ∷ trace)) (senders_at capacity rate trace) still in
-      (fact_keeps is_member capacity rate fact moment trace counts.0 ssrc, fact_keeps is_sender capacity rate fact moment trace counts.1 ssrc)
+      let counts = both_equal (members_at capacity rate (step ∷ trace)) (members_at capacity rate trace)
+      (senders_at capacity rate (step ∷ trace)) (senders_at capacity rate trace) still in (
+        fact_keeps is_member capacity rate fact moment trace counts.0 ssrc,
+        fact_keeps is_sender capacity rate fact moment trace counts.1 ssrc,
+      )
   step_keeps (check_made horizons) trace still ssrc =
       let step = check_made horizons in
-      let counts = both_equal (members_at capacity rate (step ∷ trace)) (members_at capacity rate trace) (senders_at capacity rate (step ∷ trace)) (senders_at capacity rate trace) still in (
-        check_keeps is_member capacity rate horizons trace (λ other is. checked_member horizons (entry trace other) (ap (is_such is_member) (sym (checked_entry_at capacity rate other horizons trace)) ∙ is)) counts.0 ssrc,
-        check_keeps is_sender capacity rate horizons trace (λ other is. checked_sender horizons (entry trace other) (ap (is_such is_sender) (sym (checked_entry_at capacity rate other horizons trace)) ∙ is)) counts.1 ssrc,
+      let counts = both_equal (members_at capacity rate (step ∷ trace)) (members_at capacity rate trace)
+      (senders_at capacity rate (step ∷ trace)) (senders_at capacity rate trace) still in (
+        check_keeps is_member capacity rate horizons trace
+            (λ other is. checked_member horizons (entry trace other)
+            (ap (is_such is_member) (sym (checked_entry_at capacity rate other horizons trace)) ∙ is)) counts.0 ssrc,
+        check_keeps is_sender capacity rate horizons trace
+            (λ other is. checked_sender horizons (entry trace other)
+            (ap (is_such is_sender) (sym (checked_entry_at capacity rate other horizons trace)) ∙ is)) counts.1 ssrc,
       )
-  step_keeps (block_taken reported) trace still ssrc = (block_keeps_role is_member reported_member capacity rate reported trace ssrc, block_keeps_role is_sender reported_sender capacity rate reported trace ssrc)
+  step_keeps (block_taken reported) trace still ssrc = (
+    block_keeps_role is_member reported_member capacity rate reported trace ssrc,
+    block_keeps_role is_sender reported_sender capacity rate reported trace ssrc,
+  )
 
   -- A block moves nobody.
-  pub block_moves_none : (reported : ℕ) (trace : List TraceStep) → step_moves capacity rate (block_taken reported) trace ≡ false
+  pub block_moves_none : (reported : ℕ) (trace : List TraceStep) → step_moves capacity rate (block_taken reported) trace
+      ≡ false
   block_moves_none reported trace =
-      same_roles_stay (block_taken reported) trace (λ ssrc. (block_keeps_role is_member reported_member capacity rate reported trace ssrc, block_keeps_role is_sender reported_sender capacity rate reported trace ssrc))
+      same_roles_stay (block_taken reported) trace
+      (λ ssrc. (
+        block_keeps_role is_member reported_member capacity rate reported trace ssrc,
+        block_keeps_role is_sender reported_sender capacity rate reported trace ssrc,
+      ))
 
   -- ---- Some steps
 
@@ -233,12 +307,15 @@ module _ (capacity rate : ℕ) where
   either_second true b e = absurd cc
   either_second false b e = e
 
-  pub steps_keep : (steps : ℕ) (trace : List TraceStep) → moved_within capacity rate steps trace ≡ false → (ssrc : ℕ) → IsSameRole (entry (drop steps trace) ssrc) (entry trace ssrc)
+  pub steps_keep : (steps : ℕ) (trace : List TraceStep) → moved_within capacity rate steps trace ≡ false → (ssrc : ℕ) →
+      IsSameRole (entry (drop steps trace) ssrc) (entry trace ssrc)
   steps_keep zero trace still ssrc = (refl, refl)
   steps_keep (suc steps) [] still ssrc = (refl, refl)
   steps_keep (suc steps) (step ∷ earlier) still ssrc =
-      let first = either_first (step_moves capacity rate step earlier) (moved_within capacity rate steps earlier) still in
-      let rest = either_second (step_moves capacity rate step earlier) (moved_within capacity rate steps earlier) still in
+      let first = either_first (step_moves capacity rate step earlier) (moved_within capacity rate steps earlier)
+      still in
+      let rest = either_second (step_moves capacity rate step earlier) (moved_within capacity rate steps earlier)
+      still in
       let before = steps_keep steps earlier rest ssrc in
       let last = step_keeps step earlier first ssrc in
       (before.0 ∙ last.0, before.1 ∙ last.1)

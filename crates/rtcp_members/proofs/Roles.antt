@@ -14,24 +14,31 @@ later_first true false c = refl
 later_first false true c = refl
 later_first false false c = refl
 
-module _ (before after : TableValue) (step : TraceStep) (trace : List TraceStep) (keeps : KeepsBounds before after) (stands : StandsAt before trace) (next : StandsAt after (step ∷ trace)) where
+module _ (before after : TableValue) (step : TraceStep) (trace : List TraceStep) (keeps : KeepsBounds before after)
+    (stands : StandsAt before trace) (next : StandsAt after (step ∷ trace)) where
   members_then : members_in after ≡ members_at before.capacity before.rate (step ∷ trace)
-  members_then = count_agrees after (step ∷ trace) next is_member ∙ (λ i. members_at (keeps.capacity i) (keeps.rate i) (step ∷ trace))
+  members_then = count_agrees after (step ∷ trace) next is_member
+      ∙ (λ i. members_at (keeps.capacity i) (keeps.rate i) (step ∷ trace))
 
   senders_then : senders_in after ≡ senders_at before.capacity before.rate (step ∷ trace)
-  senders_then = count_agrees after (step ∷ trace) next is_sender ∙ (λ i. senders_at (keeps.capacity i) (keeps.rate i) (step ∷ trace))
+  senders_then = count_agrees after (step ∷ trace) next is_sender
+      ∙ (λ i. senders_at (keeps.capacity i) (keeps.rate i) (step ∷ trace))
 
   -- one step
   pub step_agrees : counts_differ before after ≡ step_moves before.capacity before.rate step trace
-  step_agrees = λ i. not ((members_then i == count_agrees before trace stands is_member i) && (senders_then i == count_agrees before trace stands is_sender i))
+  step_agrees = λ i. not ((members_then i == count_agrees before trace stands is_member i)
+      && (senders_then i == count_agrees before trace stands is_sender i))
 
 none_first : (n : ℕ) → 0 + n ≡ n
 none_first n = omega arith
 
 -- Facts and the steps before them.
-pub facts_moved : (facts : List Fact) (moment steps : ℕ) (table : TableValue) (trace : List TraceStep) → StandsAt table trace
-    → moved_within table.capacity table.rate (length facts + steps) (with_facts facts moment trace) ≡ (facts_move facts moment table || moved_within table.capacity table.rate steps trace)
-facts_moved [] moment steps table trace stands = ap (λ n. moved_within table.capacity table.rate n trace) (none_first steps)
+pub facts_moved : (facts : List Fact) (moment steps : ℕ) (table : TableValue) (trace : List TraceStep) →
+    StandsAt table trace
+    → moved_within table.capacity table.rate (length facts + steps) (with_facts facts moment trace)
+    ≡ (facts_move facts moment table || moved_within table.capacity table.rate steps trace)
+facts_moved [] moment steps table trace stands = ap (λ n. moved_within table.capacity table.rate n trace)
+    (none_first steps)
 facts_moved (fact ∷ facts) moment steps table trace stands =
     let next = after_fact fact moment table in
     let step = fact_came fact moment in
@@ -41,16 +48,21 @@ facts_moved (fact ∷ facts) moment steps table trace stands =
     let rest = facts_moved facts moment (suc steps) next (step ∷ trace) follows in
     let moved = facts_move facts moment next in
     ap (λ n. moved_within table.capacity table.rate n (with_facts facts moment (step ∷ trace))) one_later
-    ∙ (λ i. moved_within (sym keeps.capacity i) (sym keeps.rate i) (length facts + suc steps) (with_facts facts moment (step ∷ trace)))
+    ∙ (λ i. moved_within (sym keeps.capacity i) (sym keeps.rate i) (length facts + suc steps)
+    (with_facts facts moment (step ∷ trace)))
     ∙ rest
     ∙ (λ i. moved || moved_within (keeps.capacity i) (keeps.rate i) (suc steps) (step ∷ trace))
-    ∙ ap (λ b. moved || (b || moved_within table.capacity table.rate steps trace)) (sym (step_agrees table next step trace keeps stands follows))
+    ∙ ap (λ b. moved || (b || moved_within table.capacity table.rate steps trace))
+    (sym (step_agrees table next step trace keeps stands follows))
     ∙ later_first moved (counts_differ table next) (moved_within table.capacity table.rate steps trace)
 
-pub facts_alone_moved : (facts : List Fact) (moment : ℕ) (table : TableValue) (trace : List TraceStep) → StandsAt table trace
-    → facts_move facts moment table ≡ moved_within table.capacity table.rate (length facts) (with_facts facts moment trace)
+pub facts_alone_moved : (facts : List Fact) (moment : ℕ) (table : TableValue) (trace : List TraceStep) →
+    StandsAt table trace
+    → facts_move facts moment table ≡ moved_within table.capacity table.rate (length facts)
+    (with_facts facts moment trace)
 facts_alone_moved facts moment table trace stands =
-    sym (ap (λ n. moved_within table.capacity table.rate n (with_facts facts moment trace)) (none_more (length facts)) ∙ facts_moved facts moment 0 table trace stands ∙ or_none (facts_move facts moment table))
+    sym (ap (λ n. moved_within table.capacity table.rate n (with_facts facts moment trace)) (none_more (length facts))
+    ∙ facts_moved facts moment 0 table trace stands ∙ or_none (facts_move facts moment table))
   where
     none_more : (n : ℕ) → n ≡ n + 0
     none_more n = omega arith
@@ -62,4 +74,5 @@ facts_alone_moved facts moment table trace stands =
 pub check_moved : (table : TableValue) (trace : List TraceStep) (horizons : Horizons) → StandsAt table trace
     → check_moves horizons table ≡ step_moves table.capacity table.rate (check_made horizons) trace
 check_moved table trace horizons stands =
-    step_agrees table (after_check horizons table) (check_made horizons) trace (check_keeps_bounds table horizons) stands (check_follows table trace horizons stands)
+    step_agrees table (after_check horizons table) (check_made horizons) trace (check_keeps_bounds table horizons)
+    stands (check_follows table trace horizons stands)

@@ -21,7 +21,8 @@ use Rattle.rtcp_members.specs.Standing.{MarkStandsBy, StandsBy, AllStandBy, IsUp
 
 -- ---- Lower bounds
 
-mark_lower : (b c : Bounds) → IsNoLater b c → (mark sending : Option ℕ) → MarkStandsBy c mark sending → MarkStandsBy b mark sending
+mark_lower : (b c : Bounds) → IsNoLater b c → (mark sending : Option ℕ) → MarkStandsBy c mark sending →
+    MarkStandsBy b mark sending
 mark_lower b c lower None None h = tt
 mark_lower b c lower None (Some sent) h = omega (arith, lower.idle, h)
 mark_lower b c lower (Some mark) sending h = omega (arith, lower.gone, h)
@@ -30,25 +31,31 @@ stands_lower : (b c : Bounds) → IsNoLater b c → (e : EntryValue) → StandsB
 stands_lower b c lower e h = (omega (arith, lower.silent, h.0), mark_lower b c lower e.mark e.sending h.1)
 
 pub all_lower : (b c : Bounds) → IsNoLater b c → (entries : List Entry) → AllStandBy c entries → AllStandBy b entries
-all_lower b c lower entries all = All-weaker (λ (e : Entry). StandsBy c (entry_value e)) (λ (e : Entry). StandsBy b (entry_value e)) (λ e h. stands_lower b c lower (entry_value e) h) entries all
+all_lower b c lower entries all = All-weaker (λ (e : Entry). StandsBy c (entry_value e))
+    (λ (e : Entry). StandsBy b (entry_value e)) (λ e h. stands_lower b c lower (entry_value e) h) entries all
 
 -- ---- A fact
 
-by_counted : (b : Bounds) (counted : Bool) (t : ℕ) (sending : Option ℕ) → b.idle ≤ t → MarkStandsBy b None sending → MarkStandsBy b None (if counted then Some t else sending)
+by_counted : (b : Bounds) (counted : Bool) (t : ℕ) (sending : Option ℕ) → b.idle ≤ t → MarkStandsBy b None sending →
+    MarkStandsBy b None (if counted then Some t else sending)
 by_counted b true t sending up h = up
 by_counted b false t sending up h = h
 
-after_by : (b : Bounds) (rate : ℕ) (fact : Fact) (t : ℕ) (valid : Bool) (mark : Option ℕ) (sighting : ℕ) (sending : Option ℕ) (source : SourceValue) → IsUpTo b fact t →
+after_by : (b : Bounds) (rate : ℕ) (fact : Fact) (t : ℕ) (valid : Bool) (mark : Option ℕ) (sighting : ℕ)
+    (sending : Option ℕ) (source : SourceValue) → IsUpTo b fact t →
     (b.silent ≤ sighting) × MarkStandsBy b mark sending →
-    StandsBy b (entry_with_fact rate fact t (record { valid = valid; mark = mark; sighting = sighting; sending = sending; source = source }))
+    StandsBy b (entry_with_fact rate fact t
+    (record { valid = valid; mark = mark; sighting = sighting; sending = sending; source = source }))
 after_by b rate fact t valid (Some mark) sighting sending source up h = h
 after_by b rate (Heard ssrc) t valid None sighting sending source up h = (up, h.1)
 after_by b rate (Told ssrc ntp rtp) t valid None sighting sending source up h = (up, h.1)
 after_by b rate (Named ssrc) t valid None sighting sending source up h = (up, h.1)
 after_by b rate (Gone ssrc) t valid None sighting sending source up h = (h.0, up)
-after_by b rate (Media ssrc seq timestamp octets) t valid None sighting sending source up h = (up.0, by_counted b _ t sending up.1 h.1)
+after_by b rate (Media ssrc seq timestamp octets) t valid None sighting sending source up h =
+    (up.0, by_counted b _ t sending up.1 h.1)
 
-pub stands_after : (b : Bounds) (rate : ℕ) (fact : Fact) (t : ℕ) (e : EntryValue) → IsUpTo b fact t → StandsBy b e → StandsBy b (entry_with_fact rate fact t e)
+pub stands_after : (b : Bounds) (rate : ℕ) (fact : Fact) (t : ℕ) (e : EntryValue) → IsUpTo b fact t → StandsBy b e →
+    StandsBy b (entry_with_fact rate fact t e)
 stands_after b rate fact t e up h = after_by b rate fact t e.valid e.mark e.sighting e.sending e.source up h
 
 -- ---- Lists
@@ -56,29 +63,38 @@ stands_after b rate fact t e up h = after_by b rate fact t e.valid e.mark e.sigh
 abbrev pub stands : Bounds → Entry → Type 0
 stands b e = StandsBy b (entry_value e)
 
-pub all_set : (b : Bounds) (entries : List Entry) (at : ℕ) (e : Entry) → AllStandBy b entries → StandsBy b (entry_value e) → AllStandBy b (set entries at e)
+pub all_set : (b : Bounds) (entries : List Entry) (at : ℕ) (e : Entry) → AllStandBy b entries →
+    StandsBy b (entry_value e) → AllStandBy b (set entries at e)
 all_set b entries at e all its = All-set (stands b) entries at e its all
 
-there : (b : Bounds) (entries : List Entry) (at : ℕ) (e : Entry) → slice_get entries at ≡ Some e → AllStandBy b entries → stands b e
+there : (b : Bounds) (entries : List Entry) (at : ℕ) (e : Entry) → slice_get entries at ≡ Some e →
+    AllStandBy b entries → stands b e
 there b [] at e is all = absurd cc
 there b (x ∷ entries) zero e is all =
     let same : x ≡ e = cc in
     subst (stands b) same (All-head (stands b) x entries all)
 there b (x ∷ entries) (suc at) e is all = there b entries at e is (All-tail (stands b) x entries all)
 
-pub stands_there : (b : Bounds) (entries : List Entry) (at : ℕ) (d : Entry) (ssrc : ℕ) → IsRankOf ssrc entries at → AllStandBy b entries → StandsBy b (entry_value (slice_index_or entries at d))
-stands_there b entries at d ssrc place all = subst (stands b) (sym (read_there ssrc entries at d place)) (there b entries at place.entry place.stands all)
+pub stands_there : (b : Bounds) (entries : List Entry) (at : ℕ) (d : Entry) (ssrc : ℕ) → IsRankOf ssrc entries at →
+    AllStandBy b entries → StandsBy b (entry_value (slice_index_or entries at d))
+stands_there b entries at d ssrc place all = subst (stands b) (sym (read_there ssrc entries at d place))
+    (there b entries at place.entry place.stands all)
 
 -- ---- A check
 
-left_by : (b : Bounds) (silent idle gone : ℕ) → silent ≤ b.silent → idle ≤ b.idle → gone ≤ b.gone → (mark sending : Option ℕ) (sighting : ℕ) → b.silent ≤ sighting → MarkStandsBy b mark sending →
+left_by : (b : Bounds) (silent idle gone : ℕ) → silent ≤ b.silent → idle ≤ b.idle → gone ≤ b.gone →
+    (mark sending : Option ℕ) (sighting : ℕ) → b.silent ≤ sighting → MarkStandsBy b mark sending →
     (not (is_none mark && is_before sending idle) && not (nat_lt sighting silent || is_before mark gone)) ≡ true
-left_by b silent idle gone s i g None None sighting seen h = λ j. not (le-ltb sighting silent (omega (arith, s, seen)) j || false)
-left_by b silent idle gone s i g None (Some sent) sighting seen h = λ j. not (le-ltb sent idle (omega (arith, i, h)) j) && not (le-ltb sighting silent (omega (arith, s, seen)) j || false)
-left_by b silent idle gone s i g (Some mark) sending sighting seen h = λ j. not (le-ltb sighting silent (omega (arith, s, seen)) j || le-ltb mark gone (omega (arith, g, h)) j)
+left_by b silent idle gone s i g None None sighting seen h =
+    λ j. not (le-ltb sighting silent (omega (arith, s, seen)) j || false)
+left_by b silent idle gone s i g None (Some sent) sighting seen h = λ j. not (le-ltb sent idle (omega (arith, i, h)) j)
+    && not (le-ltb sighting silent (omega (arith, s, seen)) j || false)
+left_by b silent idle gone s i g (Some mark) sending sighting seen h =
+    λ j. not (le-ltb sighting silent (omega (arith, s, seen)) j || le-ltb mark gone (omega (arith, g, h)) j)
 
 -- A check whose horizons do not pass the bounds changes nothing.
-pub all_left : (b : Bounds) (silent idle gone : ℕ) → (silent ≤ b.silent) × (idle ≤ b.idle) × (gone ≤ b.gone) → (entries : List Entry) → AllStandBy b entries → list_all (is_left (horizons_at silent idle gone)) entries ≡ true
+pub all_left : (b : Bounds) (silent idle gone : ℕ) → (silent ≤ b.silent) × (idle ≤ b.idle) × (gone ≤ b.gone) →
+    (entries : List Entry) → AllStandBy b entries → list_all (is_left (horizons_at silent idle gone)) entries ≡ true
 all_left b silent idle gone within [] all = refl
 all_left b silent idle gone within (e ∷ entries) all =
     let its = All-head (stands b) e entries all in
@@ -87,11 +103,17 @@ all_left b silent idle gone within (e ∷ entries) all =
     λ j. one j && rest j
 
 -- One entry more is covered by bounds that are no later.
-pub all_covered : (b c : Bounds) → IsNoLater b c → (entries : List Entry) (at : ℕ) (d : Entry) → at < length entries → AllStandBy c (take at entries) → StandsBy b (entry_value (slice_index_or entries at d)) → AllStandBy b (take (at + 1) entries)
-all_covered b c lower entries at d within all its = All-more (stands b) entries at d within (all_lower b c lower (take at entries) all) its
+pub all_covered : (b c : Bounds) → IsNoLater b c → (entries : List Entry) (at : ℕ) (d : Entry) → at < length entries →
+    AllStandBy c (take at entries) → StandsBy b (entry_value (slice_index_or entries at d)) →
+    AllStandBy b (take (at + 1) entries)
+all_covered b c lower entries at d within all its = All-more (stands b) entries at d within
+    (all_lower b c lower (take at entries) all) its
 
 -- Those that are picked stand by the bounds by which all stand.
-pub all_picked : (b : Bounds) (entries : List Entry) (slots : List Slot) → All (λ (slot : Slot). slot.place < length entries) slots → AllStandBy b entries → AllStandBy b (picked entries slots)
+pub all_picked : (b : Bounds) (entries : List Entry) (slots : List Slot) →
+    All (λ (slot : Slot). slot.place < length entries) slots → AllStandBy b entries →
+    AllStandBy b (picked entries slots)
 all_picked b entries slots within all k d below =
     let early : k < length slots = omega (arith, below, length-map slots (entry_in entries)) in
-    subst (stands b) (sym (get_or-map (entry_in entries) slots k no_slot d early)) (all (slice_index_or slots k no_slot).place no_entry (within k no_slot early))
+    subst (stands b) (sym (get_or-map (entry_in entries) slots k no_slot d early))
+    (all (slice_index_or slots k no_slot).place no_entry (within k no_slot early))

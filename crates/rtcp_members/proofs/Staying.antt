@@ -28,24 +28,30 @@ entry_with rate ssrc own marked =
 
 -- what a stay without a mark says with one step more
 abbrev pub moved_entry : (rate ssrc : ℕ) → TraceStep → (stay : List TraceStep) → EntryValue
-moved_entry rate ssrc step stay = entry_with rate ssrc (if is_some (mark_at ssrc step None) then stay else step ∷ stay) (mark_at ssrc step None)
+moved_entry rate ssrc step stay = entry_with rate ssrc (if is_some (mark_at ssrc step None) then stay else step ∷ stay)
+    (mark_at ssrc step None)
 
 before_none : (ssrc : ℕ) (stay : List TraceStep) → mark_of ssrc stay ≡ None → before_mark ssrc stay ≡ stay
 before_none ssrc [] unmarked = refl
 before_none ssrc (step ∷ stay) unmarked = ap (λ m. if is_some m then before_mark ssrc stay else step ∷ stay) unmarked
 
-pub entry_unmarked : (rate ssrc : ℕ) (stay : List TraceStep) → mark_of ssrc stay ≡ None → entry_of rate ssrc stay ≡ entry_with rate ssrc stay None
+pub entry_unmarked : (rate ssrc : ℕ) (stay : List TraceStep) → mark_of ssrc stay ≡ None →
+    entry_of rate ssrc stay ≡ entry_with rate ssrc stay None
 entry_unmarked rate ssrc stay unmarked = λ i. entry_with rate ssrc (before_none ssrc stay unmarked i) (unmarked i)
 
 module _ (rate ssrc : ℕ) (step : TraceStep) (stay : List TraceStep) where
   -- With a mark no step changes anything.
-  pub entry_marked : (mark : ℕ) → mark_of ssrc stay ≡ Some mark → entry_of rate ssrc (step ∷ stay) ≡ entry_of rate ssrc stay
+  pub entry_marked : (mark : ℕ) → mark_of ssrc stay ≡ Some mark →
+      entry_of rate ssrc (step ∷ stay) ≡ entry_of rate ssrc stay
   entry_marked mark marked =
-      ap (λ m. entry_with rate ssrc (if is_some (mark_at ssrc step m) then before_mark ssrc stay else step ∷ stay) (mark_at ssrc step m)) marked
+      ap (λ m. entry_with rate ssrc (if is_some (mark_at ssrc step m) then before_mark ssrc stay else step ∷ stay)
+      (mark_at ssrc step m)) marked
       ∙ ap (entry_with rate ssrc (before_mark ssrc stay)) (sym marked)
 
   pub entry_moves : mark_of ssrc stay ≡ None → entry_of rate ssrc (step ∷ stay) ≡ moved_entry rate ssrc step stay
-  entry_moves unmarked = λ i. entry_with rate ssrc (if is_some (mark_at ssrc step (unmarked i)) then before_none ssrc stay unmarked i else step ∷ stay) (mark_at ssrc step (unmarked i))
+  entry_moves unmarked = λ i. entry_with rate ssrc
+      (if is_some (mark_at ssrc step (unmarked i)) then before_none ssrc stay unmarked i else step ∷ stay)
+      (mark_at ssrc step (unmarked i))
 
 -- ---- Facts
 
@@ -58,10 +64,12 @@ own_fact rate ssrc moment (Named other) stay own = rw own refl
 own_fact rate ssrc moment (Gone other) stay own = rw own refl
 own_fact rate ssrc moment (Media other seq timestamp octets) stay own =
     let given = given_of rate ssrc stay in
-    let taken : taken_in (run_of given) seq ≡ taken_by (summary_of given) seq = sym (summary_suffices-taken given seq) in
+    let taken : taken_in (run_of given) seq ≡ taken_by (summary_of given) seq =
+    sym (summary_suffices-taken given seq) in
     let arrival = media_units moment rate in
     let moved : summary_of (packet_came seq timestamp arrival octets ∷ given)
-    ≡ after_packet seq timestamp arrival octets (summary_of given) = summary_moves-packet seq timestamp arrival octets given in
+    ≡ after_packet seq timestamp arrival octets (summary_of given) = summary_moves-packet seq timestamp arrival octets
+    given in
     rw own (λ i. record {
       valid = is_counted (taken i) || is_valid rate ssrc stay;
       mark = None;
@@ -88,10 +96,13 @@ checked horizons entry = record entry { sending = still_sending horizons entry.s
 -- A check that does not remove a source changes at most whether it sends, and nothing where it has a mark.
 pub check_moves_entry : (rate ssrc : ℕ) (horizons : Horizons) (stay : List TraceStep)
     → let entry = entry_of rate ssrc stay in
-    entry_of rate ssrc (check_made horizons ∷ stay) ≡ (if is_some (mark_of ssrc stay) then entry else checked horizons entry)
+    entry_of rate ssrc (check_made horizons ∷ stay)
+    ≡ (if is_some (mark_of ssrc stay) then entry else checked horizons entry)
 check_moves_entry rate ssrc horizons stay =
     let entry = entry_of rate ssrc stay in
-    elim (mark_of ssrc stay) as (λ m. mark_of ssrc stay ≡ m → entry_of rate ssrc (check_made horizons ∷ stay) ≡ (if is_some m then entry else checked horizons entry)) [
-      | None ↦ λ unmarked. entry_moves rate ssrc (check_made horizons) stay unmarked ∙ ap (checked horizons) (sym (entry_unmarked rate ssrc stay unmarked))
+    elim (mark_of ssrc stay) as (λ m. mark_of ssrc stay ≡ m → entry_of rate ssrc (check_made horizons ∷ stay)
+    ≡ (if is_some m then entry else checked horizons entry)) [
+      | None ↦ λ unmarked. entry_moves rate ssrc (check_made horizons) stay unmarked
+          ∙ ap (checked horizons) (sym (entry_unmarked rate ssrc stay unmarked))
       | Some mark ↦ λ marked. entry_marked rate ssrc (check_made horizons) stay mark marked
     ] refl

@@ -27,11 +27,13 @@ pub tied : (q ssrc : ℕ) → eq_by_cmp nat_cmp q ssrc ≡ (ssrc == q)
 tied q ssrc = (eq_by_cmp_equiv nat_cmp_total).symm q ssrc ∙ unsigned_tied ssrc q
 
 module _ (q ssrc : ℕ) (rows : List (ℕ × EntryValue)) where
-  past_other : (ssrc == q) ≡ false → (entry : Option EntryValue) → map.find nat_cmp q (cons_option (option_map (λ e. (ssrc, e)) entry) rows) ≡ map.find nat_cmp q rows
+  past_other : (ssrc == q) ≡ false → (entry : Option EntryValue) →
+      map.find nat_cmp q (cons_option (option_map (λ e. (ssrc, e)) entry) rows) ≡ map.find nat_cmp q rows
   past_other apart None = refl
   past_other apart (Some entry) = ap (λ b. cond b (Some entry) (map.find nat_cmp q rows)) (tied q ssrc ∙ apart)
 
-  at_own : (ssrc == q) ≡ true → (entry : Option EntryValue) → (entry ≡ None → map.find nat_cmp q rows ≡ None) → map.find nat_cmp q (cons_option (option_map (λ e. (ssrc, e)) entry) rows) ≡ entry
+  at_own : (ssrc == q) ≡ true → (entry : Option EntryValue) → (entry ≡ None → map.find nat_cmp q rows ≡ None) →
+      map.find nat_cmp q (cons_option (option_map (λ e. (ssrc, e)) entry) rows) ≡ entry
   at_own same None rest = rest refl
   at_own same (Some entry) rest = ap (λ b. cond b (Some entry) (map.find nat_cmp q rows)) (tied q ssrc ∙ same)
 
@@ -40,20 +42,24 @@ either_none true entry none = none
 either_none false entry none = refl
 
 -- what a key finds among the rows of some names
-pub found_by : (entry : ℕ → Option EntryValue) (named : List ℕ) (q : ℕ) → map.find nat_cmp q (filter_map (row_by entry) named) ≡ (if has q named then entry q else None)
+pub found_by : (entry : ℕ → Option EntryValue) (named : List ℕ) (q : ℕ) →
+    map.find nat_cmp q (filter_map (row_by entry) named) ≡ (if has q named then entry q else None)
 found_by entry [] q = refl
 found_by entry (ssrc ∷ named) q =
     let rows = filter_map (row_by entry) named in
-    elim (ssrc == q) as (λ b. (ssrc == q) ≡ b → map.find nat_cmp q (filter_map (row_by entry) (ssrc ∷ named)) ≡ (if b || has q named then entry q else None)) [
+    elim (ssrc == q) as (λ b. (ssrc == q) ≡ b → map.find nat_cmp q (filter_map (row_by entry) (ssrc ∷ named))
+    ≡ (if b || has q named then entry q else None)) [
       | true ↦ λ same.
           let own : entry ssrc ≡ entry q = ap entry (eqb-true ssrc q same) in
-          at_own q ssrc rows same (entry ssrc) (λ none. found_by entry named q ∙ either_none (has q named) (entry q) (sym own ∙ none)) ∙ own
+          at_own q ssrc rows same (entry ssrc)
+          (λ none. found_by entry named q ∙ either_none (has q named) (entry q) (sym own ∙ none)) ∙ own
       | false ↦ λ apart. past_other q ssrc rows apart (entry ssrc) ∙ found_by entry named q
     ] refl
 
 -- ---- The table of a trace
 
-pub entry_if_named : (b : Bool) (entry : Option EntryValue) → (is_some entry ≡ true → b ≡ true) → (if b then entry else None) ≡ entry
+pub entry_if_named : (b : Bool) (entry : Option EntryValue) → (is_some entry ≡ true → b ≡ true) →
+    (if b then entry else None) ≡ entry
 entry_if_named true entry named = refl
 entry_if_named false None named = refl
 entry_if_named false (Some entry) named = absurd (not_named (named refl))
@@ -64,10 +70,14 @@ table_stands capacity rate trace ssrc =
     let entry : ℕ → Option EntryValue = entry_at capacity rate trace in
     map.get-from_entries nat_cmp_total (filter_map (row_by entry) (names trace)) ssrc
     ∙ found_by entry (names trace) ssrc
-    ∙ entry_if_named (has ssrc (names trace)) (entry ssrc) (λ some. present_is_named capacity trace ssrc (sym (is_some_mapped (entry_of rate ssrc) (stay_of capacity trace ssrc)) ∙ some))
+    ∙ entry_if_named (has ssrc (names trace)) (entry ssrc)
+    (λ some. present_is_named capacity trace ssrc
+    (sym (is_some_mapped (entry_of rate ssrc) (stay_of capacity trace ssrc)) ∙ some))
 
 -- No other does.
-pub only_table : (table : TableValue) (trace : List TraceStep) → StandsAt table trace → table ≡ table_at table.capacity table.rate trace
+pub only_table : (table : TableValue) (trace : List TraceStep) → StandsAt table trace →
+    table ≡ table_at table.capacity table.rate trace
 only_table table trace stands =
     ap (λ m. record table { entries = m })
-    (map.same_map nat_cmp_total nat_cmp-IsAntisymmetric table.entries (table_at table.capacity table.rate trace).entries (λ q. stands q ∙ sym (table_stands table.capacity table.rate trace q)))
+    (map.same_map nat_cmp_total nat_cmp-IsAntisymmetric table.entries (table_at table.capacity table.rate trace).entries
+    (λ q. stands q ∙ sym (table_stands table.capacity table.rate trace q)))

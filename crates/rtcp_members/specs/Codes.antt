@@ -12,7 +12,16 @@ run_code =
     code_by (ℕ × (ℕ × (ℕ × (ℕ × (ℕ × (ℕ × (ℕ × ℕ)))))))
     (coded× coded_ℕ (coded× coded_ℕ (coded× coded_ℕ (coded× coded_ℕ
     (coded× coded_ℕ (coded× coded_ℕ (coded× coded_ℕ coded_ℕ)))))))
-    (λ r. (r.first, (r.greatest, (r.received, (r.expected_before, (r.received_before, (r.transit, (r.jitter, r.octets))))))))
+    (λ r. (
+      r.first,
+      (
+        r.greatest,
+        (
+          r.received,
+          (r.expected_before, (r.received_before, (r.transit, (r.jitter, r.octets)))),
+        ),
+      ),
+    ))
     (λ p. record {
       first = p.0;
       greatest = p.1.0;
@@ -33,7 +42,8 @@ told_code =
 
 abbrev pub last_block_code : Coded LastBlockValue
 last_block_code =
-    code_by (ℕ × ℕ) (coded× coded_ℕ coded_ℕ) (λ b. (b.fraction, b.highest)) (λ p. record { fraction = p.0; highest = p.1 })
+    code_by (ℕ × ℕ) (coded× coded_ℕ coded_ℕ) (λ b. (b.fraction, b.highest))
+    (λ p. record { fraction = p.0; highest = p.1 })
     (λ _. refl)
 
 abbrev pub source_code : Coded SourceValue
@@ -47,7 +57,8 @@ source_code =
 
 abbrev pub entry_code : Coded EntryValue
 entry_code =
-    code_by (Bool × (Option ℕ × (ℕ × (Option ℕ × SourceValue)))) (coded× coded_bool (coded× (coded_option coded_ℕ) (coded× coded_ℕ (coded× (coded_option coded_ℕ) source_code))))
+    code_by (Bool × (Option ℕ × (ℕ × (Option ℕ × SourceValue))))
+    (coded× coded_bool (coded× (coded_option coded_ℕ) (coded× coded_ℕ (coded× (coded_option coded_ℕ) source_code))))
     (λ e. (e.valid, (e.mark, (e.sighting, (e.sending, e.source)))))
     (λ p. record { valid = p.0; mark = p.1.0; sighting = p.1.1.0; sending = p.1.1.1.0; source = p.1.1.1.1 })
     (λ _. refl)

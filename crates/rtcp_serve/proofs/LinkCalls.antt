@@ -22,30 +22,40 @@ pub grows_by_none : {A : Type 0} (log : Option (List A)) → GrowsBy [] log log
 grows_by_none None = tt {0}
 grows_by_none (Some calls) = (calls, refl, refl)
 
-grows_on : {A : Type 0} (calls more : List A) (x y z : Option (List A)) → GrowsBy calls x y → GrowsBy more y z → GrowsBy (more ++ calls) x z
+grows_on : {A : Type 0} (calls more : List A) (x y z : Option (List A)) → GrowsBy calls x y → GrowsBy more y z →
+    GrowsBy (more ++ calls) x z
 grows_on calls more x y None first second = tt {0}
 grows_on calls more x y (Some log) first (earlier, is, joined) =
     let (start, began, grew) = subst (GrowsBy calls x) is first in
     (start, began, joined ∙ ap (λ l. more ++ l) grew ∙ sym (append_assoc more calls start))
 
 -- A log that is told says which calls it grew by.
-pub one_growth : (calls others : List Call) (x y : Option (List Call)) (log : List Call) → y ≡ Some log → GrowsBy calls x y → GrowsBy others x y → calls ≡ others
+pub one_growth : (calls others : List Call) (x y : Option (List Call)) (log : List Call) → y ≡ Some log →
+    GrowsBy calls x y → GrowsBy others x y → calls ≡ others
 one_growth calls others x y log told one other =
     let (start, began, grew) = subst (GrowsBy calls x) told one in
     let (start', began', grew') = subst (GrowsBy others x) told other in
     let same : start ≡ start' = cc (began, began') in
     append_cancel_right calls others start (sym grew ∙ grew' ∙ ap (λ e. others ++ e) (sym same))
 
-how_many_joined : (test : Call → Bool) (more calls : List Call) → how_many test (more ++ calls) ≡ how_many test more + how_many test calls
-how_many_joined test more calls = ap length (filter-append test more calls) ∙ length-append (filter test more) (filter test calls)
+how_many_joined : (test : Call → Bool) (more calls : List Call) →
+    how_many test (more ++ calls) ≡ how_many test more + how_many test calls
+how_many_joined test more calls = ap length (filter-append test more calls)
+    ∙ length-append (filter test more) (filter test calls)
 
 pub no_calls_made : (v : LinkValue) → WereCalled [] v v
 no_calls_made v = record { log = grows_by_none v.log; failed_receives = omega (arith); failed_sends = omega (arith) }
 
-called_on : (calls more : List Call) (x y z : LinkValue) → WereCalled calls x y → WereCalled more y z → WereCalled (more ++ calls) x z
+called_on : (calls more : List Call) (x y z : LinkValue) → WereCalled calls x y → WereCalled more y z →
+    WereCalled (more ++ calls) x z
 called_on calls more x y z first second = record {
   log = grows_on calls more x.log y.log z.log first.log second.log;
-  failed_receives = omega (arith, how_many_joined is_failed_receive more calls, first.failed_receives, second.failed_receives);
+  failed_receives = omega (
+    arith,
+    how_many_joined is_failed_receive more calls,
+    first.failed_receives,
+    second.failed_receives,
+  );
   failed_sends = omega (arith, how_many_joined is_failed_send more calls, first.failed_sends, second.failed_sends);
 }
 
@@ -87,7 +97,8 @@ room_still more tally y z stays room = record {
 joined_calls : (reader : Reader) (total : ℕ) (s : Standing) (more calls : List Call)
     → after_calls reader total s (more ++ calls) ≡ after_calls reader total (after_calls reader total s calls) more
 joined_calls reader total s [] calls = refl
-joined_calls reader total s (call ∷ more) calls = ap (λ t. after_call reader call (going total t)) (joined_calls reader total s more calls)
+joined_calls reader total s (call ∷ more) calls = ap (λ t. after_call reader call (going total t))
+    (joined_calls reader total s more calls)
 
 joined_fit : (reader : Reader) (total : ℕ) (s : Standing) (more calls : List Call) → AllFit reader total s calls
     → AllFit reader total (after_calls reader total s calls) more → AllFit reader total s (more ++ calls)
@@ -103,8 +114,10 @@ moves_nowhere reader total s v = record { fit = tt {0}; reached = refl; called =
 pub moves_on : (reader : Reader) (total : ℕ) (calls more : List Call) (s t u : Standing) (x y z : LinkValue)
     → Moves reader total calls s t x y → Moves reader total more t u y z → Moves reader total (more ++ calls) s u x z
 moves_on reader total calls more s t u x y z first second = record {
-  fit = joined_fit reader total s more calls first.fit (subst (λ t. AllFit reader total t more) first.reached second.fit);
-  reached = second.reached ∙ ap (λ t. after_calls reader total t more) first.reached ∙ sym (joined_calls reader total s more calls);
+  fit = joined_fit reader total s more calls first.fit
+      (subst (λ t. AllFit reader total t more) first.reached second.fit);
+  reached = second.reached ∙ ap (λ t. after_calls reader total t more) first.reached
+      ∙ sym (joined_calls reader total s more calls);
   called = called_on calls more x y z first.called second.called;
 }
 
@@ -114,7 +127,8 @@ moves_after reader total calls s t x y z stays moves =
     record { fit = moves.fit; reached = moves.reached; called = called_after calls x y z stays moves.called }
 
 -- one call, where a session goes on from s as t
-moves_by : (reader : Reader) (total : ℕ) (call : Call) (s t : Standing) (x y : LinkValue) → going total s ≡ t → Fits call t.stage
+moves_by : (reader : Reader) (total : ℕ) (call : Call) (s t : Standing) (x y : LinkValue) → going total s ≡ t →
+    Fits call t.stage
     → WereCalled (call ∷ []) x y → Moves reader total (call ∷ []) s (after_call reader call t) x y
 moves_by reader total call s t x y goes fits called = record {
   fit = (tt {0}, subst (λ t. Fits call t.stage) (sym goes) fits);
@@ -127,7 +141,8 @@ moves_by reader total call s t x y goes fits called = record {
 -- nothing is told
 tells_none : (s t : Standing) (x y : LinkValue) → t.tellings ≡ s.tellings → y.told ≡ x.told → Tells s t x y
 tells_none s t x y same kept = record {
-  grows = λ start grown. subst (GrowsBy t.tellings start) (sym kept) (subst (λ tellings. GrowsBy tellings start x.told) (sym same) grown);
+  grows = λ start grown. subst (GrowsBy t.tellings start) (sym kept)
+      (subst (λ tellings. GrowsBy tellings start x.told) (sym same) grown);
 }
 
 -- the same growth from an earlier link, which had been told as much
@@ -163,7 +178,8 @@ leads_on reader total calls more s t u x y z first second = record {
 }
 
 -- one call that tells the participant nothing
-leads_by : (reader : Reader) (total : ℕ) (call : Call) (s t : Standing) (x y : LinkValue) → going total s ≡ t → Fits call t.stage
+leads_by : (reader : Reader) (total : ℕ) (call : Call) (s t : Standing) (x y : LinkValue) → going total s ≡ t →
+    Fits call t.stage
     → (after_call reader call t).tellings ≡ s.tellings → WereCalled (call ∷ []) x y → y.told ≡ x.told
     → Leads reader total (call ∷ []) s (after_call reader call t) x y
 leads_by reader total call s t x y goes fits none called kept = record {
@@ -189,7 +205,8 @@ goes_on next s deciding under_way = refl
 goes_on next s (sending out changed after) under_way = refl
 goes_on next s (ended cause) under_way = refl
 
-pub going_under_way : (total : ℕ) (s : Standing) (stage : Stage) → s.stage ≡ stage → IsUnderWay stage → going total s ≡ s
+pub going_under_way : (total : ℕ) (s : Standing) (stage : Stage) → s.stage ≡ stage → IsUnderWay stage →
+    going total s ≡ s
 going_under_way total s stage is under_way = goes_on _ s s.stage (subst IsUnderWay (sym is) under_way)
 
 pub comes_either_way : (next : Stage) (taken : Bool) (s : Standing) → ReachesBy next next (Ok taken) s → s.stage ≡ next
@@ -203,7 +220,8 @@ abbrev pub AreDrawn : (words : Stream) (first second : ℕ) (rest : Stream) → 
 AreDrawn words first second rest = (mid : Stream) × ((first, mid) ≡ next_u32 words) × ((second, rest) ≡ next_u32 mid)
 
 -- The clock is read, and the participant told that time has passed.
-pub tick_told : (reader : Reader) (total moment : ℕ) (s : Standing) (before after : ParticipantValue) (words rest : Stream) (first second : ℕ)
+pub tick_told : (reader : Reader) (total moment : ℕ) (s : Standing) (before after : ParticipantValue)
+    (words rest : Stream) (first second : ℕ)
     (counted told : Tally) (answer : AnswerValue) (x y : LinkValue) → Holds s before words counted → s.stage ≡ deciding
     → WereCalled (clock_read moment ∷ []) x y → told ≡ with_moment moment counted → AreDrawn words first second rest
     → answer ≡ answer_of s.history (ticked told.moment first second)
@@ -212,20 +230,25 @@ pub tick_told : (reader : Reader) (total moment : ℕ) (s : Standing) (before af
     → (t : Standing) × Leads reader total (clock_read moment ∷ []) s t x y × Holds t after rest told
     × (t.stage ≡ stage_to_send resting resting (answer_of s.history (ticked told.moment first second)))
     × (t.turns ≡ s.turns) × (t.leaving ≡ s.leaving)
-tick_told reader total moment s before after words rest first second counted told answer x y holds is called counts (mid, one, two) answers stands grew =
+tick_told reader total moment s before after words rest first second counted told answer x y holds is called counts
+    (mid, one, two) answers stands grew =
     let u = with_tally (with_moment moment s.tally) s in
     let t = ticked_with (first, mid) (second, rest) u in
     let same : told ≡ with_moment moment s.tally = counts ∙ ap (with_moment moment) holds.tally in
     let drawn : next_u32 s.words ≡ (first, mid) = ap next_u32 (sym holds.words) ∙ sym one in
-    let ticks : ticked_now u ≡ t = ap (λ p. ticked_with p (next_u32 p.1) u) drawn ∙ ap (λ q. ticked_with (first, mid) q u) (sym two) in
+    let ticks : ticked_now u ≡ t = ap (λ p. ticked_with p (next_u32 p.1) u) drawn
+    ∙ ap (λ q. ticked_with (first, mid) q u) (sym two) in
     let reached : after_call reader (clock_read moment) s ≡ t = ap (λ stage. after_clock moment stage s) is ∙ ticks in
     let fits : Fits (clock_read moment) s.stage = subst ReadsClock (sym is) (tt {0}) in
-    let moves = moves_by reader total (clock_read moment) s s x y (going_under_way total s deciding is (tt {0})) fits called in
-    let same_act : ticked told.moment first second ≡ ticked (with_moment moment s.tally).moment first second = ap (λ c. ticked c.moment first second) same in
+    let moves = moves_by reader total (clock_read moment) s s x y (going_under_way total s deciding is (tt {0})) fits
+    called in
+    let same_act : ticked told.moment first second ≡ ticked (with_moment moment s.tally).moment first second =
+    ap (λ c. ticked c.moment first second) same in
     let same_telling : telling (time_passed told.moment first second) answer
     ≡ telling (time_passed u.tally.moment first second) (answer_of s.history (ticked u.tally.moment first second)) =
     ap (λ a. telling (time_passed told.moment first second) a) answers
-    ∙ ap (λ c. telling (time_passed c.moment first second) (answer_of s.history (ticked c.moment first second))) same in (
+    ∙ ap (λ c. telling (time_passed c.moment first second) (answer_of s.history (ticked c.moment first second)))
+    same in (
       t,
       record {
         moves = subst (λ t. Moves reader total (clock_read moment ∷ []) s t x y) reached moves;
@@ -247,14 +270,17 @@ turn_there : (left : ℕ) (next : Option ℕ) (otherwise s : Standing) → IsTru
 turn_there left None otherwise s there = absurd cc
 turn_there left (Some moment) otherwise s there = refl
 
-turn_begins : (total left : ℕ) (s : Standing) → HasTurn left s → going total s ≡ at_stage beginning (with_turns left s.leaving s)
+turn_begins : (total left : ℕ) (s : Standing) → HasTurn left s →
+    going total s ≡ at_stage beginning (with_turns left s.leaving s)
 turn_begins total left s has = ap (λ stage. rested (turn_or (after_turns total s) s) stage s) has.resting
     ∙ ap (λ turns. turn_by (next_at s) turns (after_turns total s) s) has.turns
     ∙ turn_there left (next_at s) (after_turns total s) s has.there
 
 -- A turn begins with the clock.
-pub turn_clocked : (reader : Reader) (total left moment : ℕ) (s : Standing) (kept : ParticipantValue) (words : Stream) (counted told : Tally) (x y : LinkValue)
-    → Holds s kept words counted → HasTurn left s → WereCalled (clock_read moment ∷ []) x y → y.told ≡ x.told → told ≡ with_moment moment counted
+pub turn_clocked : (reader : Reader) (total left moment : ℕ) (s : Standing) (kept : ParticipantValue) (words : Stream)
+    (counted told : Tally) (x y : LinkValue)
+    → Holds s kept words counted → HasTurn left s → WereCalled (clock_read moment ∷ []) x y → y.told ≡ x.told →
+    told ≡ with_moment moment counted
     → (t : Standing) × Leads reader total (clock_read moment ∷ []) s t x y × Holds t kept words told
     × (t.stage ≡ hearing RtcpPort) × (t.turns ≡ left) × (t.leaving ≡ s.leaving)
 turn_clocked reader total left moment s kept words counted told x y holds has called still counts =
@@ -272,43 +298,56 @@ turn_clocked reader total left moment s kept words counted told x y holds has ca
     )
 
 -- Then a port is listened to.
-port_listened : (reader : Reader) (total : ℕ) (port : Port) (what : Heard) (s : Standing) (x y : LinkValue) → s.stage ≡ hearing port
-    → WereCalled (port_heard port 20000 what ∷ []) x y → Moves reader total (port_heard port 20000 what ∷ []) s (heard_at reader port what s) x y
+port_listened : (reader : Reader) (total : ℕ) (port : Port) (what : Heard) (s : Standing) (x y : LinkValue) →
+    s.stage ≡ hearing port
+    → WereCalled (port_heard port 20000 what ∷ []) x y → Moves reader total (port_heard port 20000 what ∷ []) s
+    (heard_at reader port what s) x y
 port_listened reader total port what s x y is called =
     moves_by reader total (port_heard port 20000 what) s s x y (going_under_way total s (hearing port) is (tt {0}))
     (subst (Hears port 20000) (sym is) (refl, refl)) called
 
 -- the octets of a datagram, under another name
 pub came_as : (port : Port) (wait peer : ℕ) (octets given : List ℕ) (x y : LinkValue) → octets ≡ given
-    → WereCalled (port_heard port wait (datagram peer given) ∷ []) x y → WereCalled (port_heard port wait (datagram peer octets) ∷ []) x y
-came_as port wait peer octets given x y same called = subst (λ o. WereCalled (port_heard port wait (datagram peer o) ∷ []) x y) (sym same) called
+    → WereCalled (port_heard port wait (datagram peer given) ∷ []) x y →
+    WereCalled (port_heard port wait (datagram peer octets) ∷ []) x y
+came_as port wait peer octets given x y same called =
+    subst (λ o. WereCalled (port_heard port wait (datagram peer o) ∷ []) x y) (sym same) called
 
 -- A datagram came, a word is drawn, and the participant is told.
-pub datagram_told : (reader : Reader) (total : ℕ) (port : Port) (peer : ℕ) (octets : List ℕ) (s : Standing) (before after : ParticipantValue)
-    (words rest : Stream) (word : ℕ) (counted mid told : Tally) (event : EventValue) (answer : AnswerValue) (x y : LinkValue) → Holds s before words counted
-    → s.stage ≡ hearing port → WereCalled (port_heard port 20000 (datagram peer octets) ∷ []) x y → (word, rest) ≡ next_u32 words
+pub datagram_told : (reader : Reader) (total : ℕ) (port : Port) (peer : ℕ) (octets : List ℕ) (s : Standing)
+    (before after : ParticipantValue)
+    (words rest : Stream) (word : ℕ) (counted mid told : Tally) (event : EventValue) (answer : AnswerValue)
+    (x y : LinkValue) → Holds s before words counted
+    → s.stage ≡ hearing port → WereCalled (port_heard port 20000 (datagram peer octets) ∷ []) x y →
+    (word, rest) ≡ next_u32 words
     → mid ≡ with_datagram counted → told ≡ with_arrival answer mid → event ≡ event_at port mid.moment peer word octets
     → answer ≡ answer_of s.history (arrival_at reader port mid.moment peer word octets)
     → StandsAt after (followed_by s.history (arrival_at reader port mid.moment peer word octets))
     → GrowsBy (telling event answer ∷ []) x.told y.told
-    → (t : Standing) × Leads reader total (port_heard port 20000 (datagram peer octets) ∷ []) s t x y × Holds t after rest told
-    × (t.stage ≡ stage_to_send (after_port port) (after_port port) answer) × (t.turns ≡ s.turns) × (t.leaving ≡ s.leaving)
-datagram_told reader total port peer octets s before after words rest word counted mid told event answer x y holds is called drawn counts tells event_is answers stands grew =
+    → (t : Standing) × Leads reader total (port_heard port 20000 (datagram peer octets) ∷ []) s t x y
+    × Holds t after rest told
+    × (t.stage ≡ stage_to_send (after_port port) (after_port port) answer) × (t.turns ≡ s.turns)
+    × (t.leaving ≡ s.leaving)
+datagram_told reader total port peer octets s before after words rest word counted mid told event answer x y holds is
+    called drawn counts tells event_is answers stands grew =
     let act_by : ℕ → Act = λ w. arrival_at reader port s.tally.moment peer w octets in
     let event_by : ℕ → EventValue = λ w. event_at port s.tally.moment peer w octets in
     let t = came_with event_by act_by (after_port port) (word, rest) s in
     let same : mid ≡ with_datagram s.tally = counts ∙ ap with_datagram holds.tally in
-    let same_act : arrival_at reader port mid.moment peer word octets ≡ act_by word = ap (λ c. arrival_at reader port c.moment peer word octets) same in
+    let same_act : arrival_at reader port mid.moment peer word octets ≡ act_by word =
+    ap (λ c. arrival_at reader port c.moment peer word octets) same in
     let same_event : event ≡ event_by word = event_is ∙ ap (λ c. event_at port c.moment peer word octets) same in
     let draws : next_u32 s.words ≡ (word, rest) = ap next_u32 (sym holds.words) ∙ sym drawn in
-    let reached : heard_at reader port (datagram peer octets) s ≡ t = ap (λ p. came_with event_by act_by (after_port port) p s) draws in
+    let reached : heard_at reader port (datagram peer octets) s ≡ t =
+    ap (λ p. came_with event_by act_by (after_port port) p s) draws in
     let answered : answer ≡ answer_of s.history (act_by word) = answers ∙ ap (answer_of s.history) same_act in
     let same_telling : telling event answer ≡ telling (event_by word) (answer_of s.history (act_by word)) =
     ap (λ e. telling e answer) same_event ∙ ap (telling (event_by word)) answered in
     let moves = port_listened reader total port (datagram peer octets) s x y is called in (
       t,
       record {
-        moves = subst (λ t. Moves reader total (port_heard port 20000 (datagram peer octets) ∷ []) s t x y) reached moves;
+        moves = subst (λ t. Moves reader total (port_heard port 20000 (datagram peer octets) ∷ []) s t x y) reached
+            moves;
         tells = tells_one _ s t x y (ap (λ one. one ∷ s.tellings) (sym same_telling)) grew;
       },
       record {
@@ -332,28 +371,34 @@ turns_left s there (inr zero) = zero
 
 -- ---- What comes next
 
-goes_alike : (reader : Reader) (total : ℕ) (s u : Standing) (calls : List Call) → going total s ≡ going total u → AllFit reader total u calls
-    → AllFit reader total s calls × (going total (after_calls reader total s calls) ≡ going total (after_calls reader total u calls))
+goes_alike : (reader : Reader) (total : ℕ) (s u : Standing) (calls : List Call) → going total s ≡ going total u →
+    AllFit reader total u calls
+    → AllFit reader total s calls × (going total (after_calls reader total s calls) ≡ going total
+    (after_calls reader total u calls))
 goes_alike reader total s u [] same fit = (tt {0}, same)
 goes_alike reader total s u (call ∷ earlier) same (fit, fits) =
     let (fit', same') = goes_alike reader total s u earlier same fit in
     ((fit', subst (λ t. Fits call t.stage) (sym same') fits), ap (λ t. going total (after_call reader call t)) same')
 
-pub comes_alike : (reader : Reader) (total : ℕ) (calls : List Call) (s u t : Standing) (x y : LinkValue) → going total s ≡ going total u
+pub comes_alike : (reader : Reader) (total : ℕ) (calls : List Call) (s u t : Standing) (x y : LinkValue) →
+    going total s ≡ going total u
     → Comes reader total calls u t x y → Comes reader total calls s t x y
 comes_alike reader total calls s u t x y same comes =
     let (fit, reached) = goes_alike reader total s u calls same comes.fit in
     record { fit = fit; reached = comes.reached ∙ sym reached; called = comes.called }
 
-pub comes_then : (reader : Reader) (total : ℕ) (calls : List Call) (s t v : Standing) (x y : LinkValue) → Moves reader total calls s t x y
+pub comes_then : (reader : Reader) (total : ℕ) (calls : List Call) (s t v : Standing) (x y : LinkValue) →
+    Moves reader total calls s t x y
     → v ≡ going total t → Comes reader total calls s v x y
 comes_then reader total calls s t v x y moves next =
     record { fit = moves.fit; reached = next ∙ ap (going total) moves.reached; called = moves.called }
 
-pub comes_on : (reader : Reader) (total : ℕ) (calls more : List Call) (s t v : Standing) (x y z : LinkValue) → Moves reader total calls s t x y
+pub comes_on : (reader : Reader) (total : ℕ) (calls more : List Call) (s t v : Standing) (x y z : LinkValue) →
+    Moves reader total calls s t x y
     → Comes reader total more t v y z → Comes reader total (more ++ calls) s v x z
 comes_on reader total calls more s t v x y z moves comes = record {
-  fit = joined_fit reader total s more calls moves.fit (subst (λ t. AllFit reader total t more) moves.reached comes.fit);
+  fit = joined_fit reader total s more calls moves.fit
+      (subst (λ t. AllFit reader total t more) moves.reached comes.fit);
   reached = comes.reached ∙ ap (λ t. going total (after_calls reader total t more)) moves.reached
       ∙ ap (going total) (sym (joined_calls reader total s more calls));
   called = called_on calls more x y z moves.called comes.called;
@@ -362,26 +407,34 @@ comes_on reader total calls more s t v x y z moves comes = record {
 -- ---- The leave
 
 -- where no turn is left
-leave_there : (next : Option ℕ) (otherwise s : Standing) → IsTrue (is_some next) → turn_by next 0 otherwise s ≡ otherwise
+leave_there : (next : Option ℕ) (otherwise s : Standing) → IsTrue (is_some next) →
+    turn_by next 0 otherwise s ≡ otherwise
 leave_there None otherwise s there = absurd cc
 leave_there (Some moment) otherwise s there = refl
 
-leave_comes : (total : ℕ) (s : Standing) → IsLeaveDue s → going total s ≡ going total (left_with total (next_u32 s.words) s)
+leave_comes : (total : ℕ) (s : Standing) → IsLeaveDue s →
+    going total s ≡ going total (left_with total (next_u32 s.words) s)
 leave_comes total s due = ap (λ stage. rested (turn_or (after_turns total s) s) stage s) due.resting
     ∙ ap (λ turns. turn_by (next_at s) turns (after_turns total s) s) due.turns
     ∙ leave_there (next_at s) (after_turns total s) s due.there
-    ∙ ap (λ leaving. if leaving then at_stage (ended Done) s else gone_on (left_with total (next_u32 s.words) s)) due.leaving
+    ∙ ap (λ leaving. if leaving then at_stage (ended Done) s else gone_on (left_with total (next_u32 s.words) s))
+    due.leaving
 
 -- A word is drawn, and the participant told to leave.
-pub leave_told : (total : ℕ) (s : Standing) (before after : ParticipantValue) (words rest : Stream) (word : ℕ) (counted : Tally)
-    → Holds s before words counted → IsLeaveDue s → (word, rest) ≡ next_u32 words → StandsAt after (followed_by s.history (asked_to_leave counted.moment word))
+pub leave_told : (total : ℕ) (s : Standing) (before after : ParticipantValue) (words rest : Stream) (word : ℕ)
+    (counted : Tally)
+    → Holds s before words counted → IsLeaveDue s → (word, rest) ≡ next_u32 words →
+    StandsAt after (followed_by s.history (asked_to_leave counted.moment word))
     → (u : Standing) × (going total s ≡ going total u) × Holds u after rest counted
-    × (u.stage ≡ stage_to_send resting (ended Done) (answer_of s.history (asked_to_leave counted.moment word))) × (u.turns ≡ total) × (u.leaving ≡ true)
-    × (u.tellings ≡ telling (leave_asked counted.moment word) (answer_of s.history (asked_to_leave counted.moment word)) ∷ s.tellings)
+    × (u.stage ≡ stage_to_send resting (ended Done) (answer_of s.history (asked_to_leave counted.moment word)))
+    × (u.turns ≡ total) × (u.leaving ≡ true)
+    × (u.tellings ≡ telling (leave_asked counted.moment word) (answer_of s.history (asked_to_leave counted.moment word))
+    ∷ s.tellings)
 leave_told total s before after words rest word counted holds due drawn stands =
     let same : next_u32 s.words ≡ (word, rest) = ap next_u32 (sym holds.words) ∙ sym drawn in
     let u = left_with total (word, rest) s in
-    let same_act : asked_to_leave counted.moment word ≡ asked_to_leave s.tally.moment word = ap (λ c. asked_to_leave c.moment word) holds.tally in (
+    let same_act : asked_to_leave counted.moment word ≡ asked_to_leave s.tally.moment word =
+    ap (λ c. asked_to_leave c.moment word) holds.tally in (
       u,
       leave_comes total s due ∙ ap (λ p. going total (left_with total p s)) same,
       record {
@@ -392,27 +445,33 @@ leave_told total s before after words rest word counted holds due drawn stands =
       ap (λ act. stage_to_send resting (ended Done) (answer_of s.history act)) (sym same_act),
       refl,
       refl,
-      ap (λ c. telling (leave_asked c.moment word) (answer_of s.history (asked_to_leave c.moment word)) ∷ s.tellings) (sym holds.tally),
+      ap (λ c. telling (leave_asked c.moment word) (answer_of s.history (asked_to_leave c.moment word)) ∷ s.tellings)
+          (sym holds.tally),
     )
 
 -- ---- The end
 
 -- Where turns have ended, what comes next is the end, unless the leave is due.
-ends_gone : (total : ℕ) (s : Standing) (next : Option ℕ) → next ≡ None → turn_by next s.turns (after_turns total s) s ≡ at_stage (ended Done) s
+ends_gone : (total : ℕ) (s : Standing) (next : Option ℕ) → next ≡ None →
+    turn_by next s.turns (after_turns total s) s ≡ at_stage (ended Done) s
 ends_gone total s next none = ap (λ next. turn_by next s.turns (after_turns total s) s) none
 
-pub gone_ends : (total : ℕ) (s : Standing) → s.stage ≡ resting → next_at s ≡ None → going total s ≡ at_stage (ended Done) s
-gone_ends total s rests none = ap (λ stage. rested (turn_or (after_turns total s) s) stage s) rests ∙ ends_gone total s (next_at s) none
+pub gone_ends : (total : ℕ) (s : Standing) → s.stage ≡ resting → next_at s ≡ None →
+    going total s ≡ at_stage (ended Done) s
+gone_ends total s rests none = ap (λ stage. rested (turn_or (after_turns total s) s) stage s) rests
+    ∙ ends_gone total s (next_at s) none
 
 last_ends : (next : Option ℕ) (turns : ℕ) (otherwise s : Standing) → turns ≡ 0 → otherwise ≡ at_stage (ended Done) s
     → turn_by next turns otherwise s ≡ at_stage (ended Done) s
 last_ends None turns otherwise s none same = refl
 last_ends (Some moment) turns otherwise s none same = ap (λ turns. turn_by (Some moment) turns otherwise s) none ∙ same
 
-pub left_ends : (total : ℕ) (s : Standing) → s.stage ≡ resting → s.turns ≡ 0 → s.leaving ≡ true → going total s ≡ at_stage (ended Done) s
+pub left_ends : (total : ℕ) (s : Standing) → s.stage ≡ resting → s.turns ≡ 0 → s.leaving ≡ true →
+    going total s ≡ at_stage (ended Done) s
 left_ends total s rests none leaving = ap (λ stage. rested (turn_or (after_turns total s) s) stage s) rests
     ∙ last_ends (next_at s) s.turns (after_turns total s) s none
-    (ap (λ leaving. if leaving then at_stage (ended Done) s else gone_on (left_with total (next_u32 s.words) s)) leaving)
+    (ap (λ leaving. if leaving then at_stage (ended Done) s else gone_on (left_with total (next_u32 s.words) s))
+    leaving)
 
 pub turns_end : (total : ℕ) (s : Standing) → s.stage ≡ resting → (next_at s ≡ None) ⊎ (s.turns ≡ 0) → s.leaving ≡ true
     → going total s ≡ at_stage (ended Done) s
@@ -420,13 +479,19 @@ turns_end total s rests (inl none) leaving = gone_ends total s rests none
 turns_end total s rests (inr none) leaving = left_ends total s rests none leaving
 
 -- what is kept does not depend on the stage
-pub held_at : (stage : Stage) (s : Standing) (kept : ParticipantValue) (words : Stream) (counted : Tally) → Holds s kept words counted
+pub held_at : (stage : Stage) (s : Standing) (kept : ParticipantValue) (words : Stream) (counted : Tally) →
+    Holds s kept words counted
     → Holds (at_stage stage s) kept words counted
-held_at stage s kept words counted holds = record { participant = holds.participant; words = holds.words; tally = holds.tally }
+held_at stage s kept words counted holds = record {
+  participant = holds.participant;
+  words = holds.words;
+  tally = holds.tally;
+}
 
 -- ---- Room
 
-pub less_room : (most least : ℕ) (tally : Tally) (link : LinkValue) → least ≤ most → HasRoom most tally link → HasRoom least tally link
+pub less_room : (most least : ℕ) (tally : Tally) (link : LinkValue) → least ≤ most → HasRoom most tally link →
+    HasRoom least tally link
 less_room most least tally link le room = record {
   received = omega (arith, le, room.received);
   refused = omega (arith, le, room.refused);
@@ -437,7 +502,8 @@ less_room most least tally link le room = record {
   failed_sends = omega (arith, le, room.failed_sends);
 }
 
-limit_room : (limit : Bool) (more : ℕ) (tally : Tally) (link : LinkValue) → tally.refused + 1 + more < 2 ^ 64 → HasRoom more tally link
+limit_room : (limit : Bool) (more : ℕ) (tally : Tally) (link : LinkValue) → tally.refused + 1 + more < 2 ^ 64 →
+    HasRoom more tally link
     → HasRoom more (if limit then tally else with_refused (tally.refused + 1) tally) link
 limit_room true more tally link one_more room = room
 limit_room false more tally link one_more room = record {
@@ -450,18 +516,21 @@ limit_room false more tally link one_more room = record {
   failed_sends = room.failed_sends;
 }
 
-arrival_room : (answer : AnswerValue) (more : ℕ) (tally : Tally) (link : LinkValue) → tally.refused + 1 + more < 2 ^ 64 → HasRoom more tally link
+arrival_room : (answer : AnswerValue) (more : ℕ) (tally : Tally) (link : LinkValue) →
+    tally.refused + 1 + more < 2 ^ 64 → HasRoom more tally link
     → HasRoom more (with_arrival answer tally) link
 arrival_room (Ok step) more tally link one_more room = room
 arrival_room (Err refusal) more tally link one_more room = limit_room (is_limit refusal) more tally link one_more room
 
 -- The room that is left once a datagram was counted, and the answer to it.
-pub datagram_room : (more : ℕ) (port : Port) (wait peer : ℕ) (octets : List ℕ) (answer : AnswerValue) (counted mid told : Tally) (x y : LinkValue)
+pub datagram_room : (more : ℕ) (port : Port) (wait peer : ℕ) (octets : List ℕ) (answer : AnswerValue)
+    (counted mid told : Tally) (x y : LinkValue)
     → HasRoom (more + 2) counted x → mid ≡ with_datagram counted → told ≡ with_arrival answer mid
     → WereCalled (port_heard port wait (datagram peer octets) ∷ []) x y → HasRoom (more + 1) told y
 datagram_room more port wait peer octets answer counted mid told x y room counts tells called =
     let same : told ≡ with_arrival answer (with_datagram counted) = tells ∙ ap (with_arrival answer) counts in
-    subst (λ t. HasRoom (more + 1) t y) (sym same) (arrival_room answer (more + 1) (with_datagram counted) y (omega (arith, room.refused)) (record {
+    subst (λ t. HasRoom (more + 1) t y) (sym same)
+    (arrival_room answer (more + 1) (with_datagram counted) y (omega (arith, room.refused)) (record {
       received = omega (arith, room.received);
       refused = omega (arith, room.refused);
       sent = omega (arith, room.sent);

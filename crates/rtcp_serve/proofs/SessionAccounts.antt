@@ -40,7 +40,8 @@ pub record Accounts (reader : Reader) (start : History) (s : Standing) (sent : L
 abbrev pub HasNone : Stage → Type 0
 HasNone stage = pending stage ≡ []
 
-restaged : (reader : Reader) (start : History) (s : Standing) (stage : Stage) (sent : List (List ℕ)) → Accounts reader start s sent → HasNone s.stage → HasNone stage
+restaged : (reader : Reader) (start : History) (s : Standing) (stage : Stage) (sent : List (List ℕ)) →
+    Accounts reader start s sent → HasNone s.stage → HasNone stage
     → Accounts reader start (at_stage stage s) sent
 restaged reader start s stage sent accounts none now = record {
   history = accounts.history;
@@ -50,21 +51,26 @@ restaged reader start s stage sent accounts none now = record {
 }
 
 -- An act is told, and what its answer hands out is pending.
-told_accounts : (reader : Reader) (start : History) (s t : Standing) (event : EventValue) (act : Act) (stage : Stage) (sent : List (List ℕ)) → Accounts reader start s sent → HasNone s.stage
-    → t.history ≡ followed_by s.history act → t.told ≡ act ∷ s.told → t.stage ≡ stage → pending stage ≡ handed_by (answer_of s.history act)
+told_accounts : (reader : Reader) (start : History) (s t : Standing) (event : EventValue) (act : Act) (stage : Stage)
+    (sent : List (List ℕ)) → Accounts reader start s sent → HasNone s.stage
+    → t.history ≡ followed_by s.history act → t.told ≡ act ∷ s.told → t.stage ≡ stage →
+    pending stage ≡ handed_by (answer_of s.history act)
     → t.tellings ≡ telling event (answer_of s.history act) ∷ s.tellings → act_in reader event ≡ act
     → Accounts reader start t sent
 told_accounts reader start s t event act stage sent accounts none history told at same tells is = record {
   history = history ∙ ap (λ h. followed_by h act) accounts.history ∙ ap (history_after start) (sym told);
-  handed = ap (handed_out start) told ∙ ap (λ h. handed_by (answer_of h act) ++ handed_out start s.told) (sym accounts.history)
+  handed = ap (handed_out start) told ∙ ap (λ h. handed_by (answer_of h act) ++ handed_out start s.told)
+      (sym accounts.history)
       ∙ ap (λ l. handed_by (answer_of s.history act) ++ l) (accounts.handed ∙ ap (λ p. p ++ sent) none)
       ∙ ap (λ p. p ++ sent) (sym same ∙ ap pending (sym at));
-  acts = ap (acts_in reader) tells ∙ ap (λ a. a ∷ acts_in reader s.tellings) is ∙ ap (λ l. act ∷ l) accounts.acts ∙ sym told;
+  acts = ap (acts_in reader) tells ∙ ap (λ a. a ∷ acts_in reader s.tellings) is ∙ ap (λ l. act ∷ l) accounts.acts
+      ∙ sym told;
   answers = ap answers_in tells ∙ ap (λ l. answer_of s.history act ∷ l) accounts.answers
       ∙ ap (λ h. answer_of h act ∷ answers_given start s.told) accounts.history ∙ ap (answers_given start) (sym told);
 }
 
-step_pends : (next : Stage) (changed : Option ℕ) (out : Option OutValue) → HasNone next → pending (stage_after_step next changed out) ≡ octets_of out
+step_pends : (next : Stage) (changed : Option ℕ) (out : Option OutValue) → HasNone next →
+    pending (stage_after_step next changed out) ≡ octets_of out
 step_pends next changed None none = none
 step_pends next changed (Some out) none = ap (λ p. p ++ out.octets ∷ []) none
 
@@ -73,7 +79,8 @@ refusal_pends refused true none = refl
 refusal_pends refused false none = none
 
 -- What an answer hands out is pending.
-answer_pends : (next refused : Stage) (answer : AnswerValue) → HasNone next → HasNone refused → pending (stage_to_send next refused answer) ≡ handed_by answer
+answer_pends : (next refused : Stage) (answer : AnswerValue) → HasNone next → HasNone refused →
+    pending (stage_to_send next refused answer) ≡ handed_by answer
 answer_pends next refused (Ok step) none refuses = step_pends next step.changed step.out none
 answer_pends next refused (Err refusal) none refuses = refusal_pends refused (is_limit refusal) refuses
 
@@ -82,18 +89,23 @@ answer_pends next refused (Err refusal) none refuses = refusal_pends refused (is
 none_at : (stage : Stage) (s : Standing) → s.stage ≡ stage → HasNone stage → HasNone s.stage
 none_at stage s is none = ap pending is ∙ none
 
-asked_accounts : (reader : Reader) (start : History) (refused : Stage) (event : EventValue) (act : Act) (s : Standing) (sent : List (List ℕ)) → Accounts reader start s sent → HasNone s.stage
+asked_accounts : (reader : Reader) (start : History) (refused : Stage) (event : EventValue) (act : Act) (s : Standing)
+    (sent : List (List ℕ)) → Accounts reader start s sent → HasNone s.stage
     → HasNone refused → act_in reader event ≡ act → Accounts reader start (asked refused event act s) sent
 asked_accounts reader start refused event act s sent accounts none refuses is =
-    told_accounts reader start s (asked refused event act s) event act _ sent accounts none refl refl refl (answer_pends resting refused (answer_of s.history act) refl refuses) refl is
+    told_accounts reader start s (asked refused event act s) event act _ sent accounts none refl refl refl
+    (answer_pends resting refused (answer_of s.history act) refl refuses) refl is
 
-arrived_accounts : (reader : Reader) (start : History) (next : Stage) (event : EventValue) (act : Act) (s : Standing) (sent : List (List ℕ)) → Accounts reader start s sent → HasNone s.stage
+arrived_accounts : (reader : Reader) (start : History) (next : Stage) (event : EventValue) (act : Act) (s : Standing)
+    (sent : List (List ℕ)) → Accounts reader start s sent → HasNone s.stage
     → HasNone next → act_in reader event ≡ act → Accounts reader start (arrived next event act s) sent
 arrived_accounts reader start next event act s sent accounts none comes is =
-    told_accounts reader start s (arrived next event act s) event act _ sent accounts none refl refl refl (answer_pends next next (answer_of s.history act) comes comes) refl is
+    told_accounts reader start s (arrived next event act s) event act _ sent accounts none refl refl refl
+    (answer_pends next next (answer_of s.history act) comes comes) refl is
 
 -- counts, words and turns change nothing of it
-counted_accounts : (reader : Reader) (start : History) (s t : Standing) (sent : List (List ℕ)) → Accounts reader start s sent → t.history ≡ s.history → t.told ≡ s.told
+counted_accounts : (reader : Reader) (start : History) (s t : Standing) (sent : List (List ℕ)) →
+    Accounts reader start s sent → t.history ≡ s.history → t.told ≡ s.told
     → t.stage ≡ s.stage → t.tellings ≡ s.tellings → Accounts reader start t sent
 counted_accounts reader start s t sent accounts history told stage tells = record {
   history = history ∙ accounts.history ∙ ap (history_after start) (sym told);
@@ -102,14 +114,17 @@ counted_accounts reader start s t sent accounts history told stage tells = recor
   answers = ap answers_in tells ∙ accounts.answers ∙ ap (answers_given start) (sym told);
 }
 
-clock_accounts : (reader : Reader) (start : History) (moment : ℕ) (stage : Stage) (s : Standing) (sent : List (List ℕ)) → s.stage ≡ stage → ReadsClock stage
+clock_accounts : (reader : Reader) (start : History) (moment : ℕ) (stage : Stage) (s : Standing)
+    (sent : List (List ℕ)) → s.stage ≡ stage → ReadsClock stage
     → Accounts reader start s sent → Accounts reader start (after_clock moment stage s) sent
 clock_accounts reader start moment resting s sent is fits accounts = absurd fits
 clock_accounts reader start moment beginning s sent is fits accounts =
-    restaged reader start (with_tally _ s) (hearing RtcpPort) sent (counted_accounts reader start s _ sent accounts refl refl refl refl) (none_at beginning s is refl) refl
+    restaged reader start (with_tally _ s) (hearing RtcpPort) sent
+    (counted_accounts reader start s _ sent accounts refl refl refl refl) (none_at beginning s is refl) refl
 clock_accounts reader start moment (hearing port) s sent is fits accounts = absurd fits
 clock_accounts reader start moment deciding s sent is fits accounts =
-    asked_accounts reader start resting _ _ _ sent (counted_accounts reader start s _ sent accounts refl refl refl refl) (none_at deciding s is refl) refl refl
+    asked_accounts reader start resting _ _ _ sent (counted_accounts reader start s _ sent accounts refl refl refl refl)
+    (none_at deciding s is refl) refl refl
 clock_accounts reader start moment (sending out changed next) s sent is fits accounts = absurd fits
 clock_accounts reader start moment (ended cause) s sent is fits accounts = absurd fits
 
@@ -127,15 +142,19 @@ port_pends : (port : Port) → HasNone (after_port port)
 port_pends RtcpPort = refl
 port_pends RtpPort = refl
 
-heard_accounts : (reader : Reader) (start : History) (port : Port) (what : Heard) (s : Standing) (sent : List (List ℕ)) → HasNone s.stage
+heard_accounts : (reader : Reader) (start : History) (port : Port) (what : Heard) (s : Standing)
+    (sent : List (List ℕ)) → HasNone s.stage
     → Accounts reader start s sent → Accounts reader start (heard_at reader port what s) sent
 heard_accounts reader start port (datagram peer octets) s sent none accounts =
-    arrived_accounts reader start (after_port port) _ _ _ sent (counted_accounts reader start s _ sent accounts refl refl refl refl) none (port_pends port)
+    arrived_accounts reader start (after_port port) _ _ _ sent
+    (counted_accounts reader start s _ sent accounts refl refl refl refl) none (port_pends port)
     (arrival_reads reader port _ _ _ _)
 heard_accounts reader start port silence s sent none accounts =
-    restaged reader start _ (after_port port) sent (counted_accounts reader start s _ sent accounts refl refl refl refl) none (port_pends port)
+    restaged reader start _ (after_port port) sent (counted_accounts reader start s _ sent accounts refl refl refl refl)
+    none (port_pends port)
 heard_accounts reader start port failure s sent none accounts =
-    restaged reader start _ _ sent (counted_accounts reader start s _ sent accounts refl refl refl refl) none (failed_stage (after_port port) _ (port_pends port))
+    restaged reader start _ _ sent (counted_accounts reader start s _ sent accounts refl refl refl refl) none
+    (failed_stage (after_port port) _ (port_pends port))
 
 -- a port is listened to only where nothing is pending
 hears_none : (port : Port) (wait : ℕ) (stage : Stage) → Hears port wait stage → HasNone stage
@@ -146,8 +165,10 @@ hears_none port wait deciding fits = refl
 hears_none port wait (sending out changed next) fits = absurd fits
 hears_none port wait (ended cause) fits = refl
 
-sent_accounts : (reader : Reader) (start : History) (octets : List ℕ) (failed : Bool) (stage : Stage) (s : Standing) (sent : List (List ℕ)) → s.stage ≡ stage
-    → Sends octets stage → Accounts reader start s sent → Accounts reader start (after_sending failed stage s) (octets ∷ sent)
+sent_accounts : (reader : Reader) (start : History) (octets : List ℕ) (failed : Bool) (stage : Stage) (s : Standing)
+    (sent : List (List ℕ)) → s.stage ≡ stage
+    → Sends octets stage → Accounts reader start s sent → Accounts reader start (after_sending failed stage s)
+    (octets ∷ sent)
 sent_accounts reader start octets failed resting s sent is fits accounts = absurd fits
 sent_accounts reader start octets failed beginning s sent is fits accounts = absurd fits
 sent_accounts reader start octets failed (hearing port) s sent is fits accounts = absurd fits
@@ -161,16 +182,20 @@ sent_accounts reader start octets failed (sending out changed next) s sent is fi
 }
 sent_accounts reader start octets failed (ended cause) s sent is fits accounts = absurd fits
 
-call_accounts : (reader : Reader) (start : History) (call : Call) (s : Standing) (sent : List (List ℕ)) → Fits call s.stage
+call_accounts : (reader : Reader) (start : History) (call : Call) (s : Standing) (sent : List (List ℕ)) →
+    Fits call s.stage
     → Accounts reader start s sent → Accounts reader start (after_call reader call s) (given call ++ sent)
-call_accounts reader start (clock_read moment) s sent fits accounts = clock_accounts reader start moment s.stage s sent refl fits accounts
+call_accounts reader start (clock_read moment) s sent fits accounts = clock_accounts reader start moment s.stage s sent
+    refl fits accounts
 call_accounts reader start (port_heard port wait what) s sent fits accounts =
     heard_accounts reader start port what s sent (hears_none port wait s.stage fits) accounts
-call_accounts reader start (compound_sent octets failed) s sent fits accounts = sent_accounts reader start octets failed s.stage s sent refl fits accounts
+call_accounts reader start (compound_sent octets failed) s sent fits accounts = sent_accounts reader start octets failed
+    s.stage s sent refl fits accounts
 
 -- ---- What comes next
 
-rested_accounts : (reader : Reader) (start : History) (next s : Standing) (stage : Stage) (sent : List (List ℕ)) → (stage ≡ resting → Accounts reader start next sent)
+rested_accounts : (reader : Reader) (start : History) (next s : Standing) (stage : Stage) (sent : List (List ℕ)) →
+    (stage ≡ resting → Accounts reader start next sent)
     → Accounts reader start s sent → Accounts reader start (rested next stage s) sent
 rested_accounts reader start next s resting sent comes accounts = comes refl
 rested_accounts reader start next s beginning sent comes accounts = accounts
@@ -179,25 +204,38 @@ rested_accounts reader start next s deciding sent comes accounts = accounts
 rested_accounts reader start next s (sending out changed after) sent comes accounts = accounts
 rested_accounts reader start next s (ended cause) sent comes accounts = accounts
 
-turn_accounts : (reader : Reader) (start : History) (next : Option ℕ) (turns : ℕ) (otherwise s : Standing) (sent : List (List ℕ)) → HasNone s.stage
-    → Accounts reader start otherwise sent → Accounts reader start s sent → Accounts reader start (turn_by next turns otherwise s) sent
-turn_accounts reader start None turns otherwise s sent none last accounts = restaged reader start s (ended Done) sent accounts none refl
+turn_accounts : (reader : Reader) (start : History) (next : Option ℕ) (turns : ℕ) (otherwise s : Standing)
+    (sent : List (List ℕ)) → HasNone s.stage
+    → Accounts reader start otherwise sent → Accounts reader start s sent →
+    Accounts reader start (turn_by next turns otherwise s) sent
+turn_accounts reader start None turns otherwise s sent none last accounts = restaged reader start s (ended Done) sent
+    accounts none refl
 turn_accounts reader start (Some moment) zero otherwise s sent none last accounts = last
 turn_accounts reader start (Some moment) (suc turns) otherwise s sent none last accounts =
-    restaged reader start (with_turns turns s.leaving s) beginning sent (counted_accounts reader start s _ sent accounts refl refl refl refl) none refl
+    restaged reader start (with_turns turns s.leaving s) beginning sent
+    (counted_accounts reader start s _ sent accounts refl refl refl refl) none refl
 
-gone_on_accounts : (reader : Reader) (start : History) (s : Standing) (sent : List (List ℕ)) → Accounts reader start s sent → Accounts reader start (gone_on s) sent
+gone_on_accounts : (reader : Reader) (start : History) (s : Standing) (sent : List (List ℕ)) →
+    Accounts reader start s sent → Accounts reader start (gone_on s) sent
 gone_on_accounts reader start s sent accounts = rested_accounts reader start _ s s.stage sent (λ rests.
     turn_accounts reader start (next_in_life (life_at s.history)) s.turns _ s sent (none_at resting s rests refl)
     (restaged reader start s (ended Done) sent accounts (none_at resting s rests refl) refl) accounts) accounts
 
-last_accounts : (reader : Reader) (start : History) (total : ℕ) (leaving : Bool) (s : Standing) (sent : List (List ℕ)) → HasNone s.stage → Accounts reader start s sent
-    → Accounts reader start (if leaving then at_stage (ended Done) s else gone_on (left_with total (next_u32 s.words) s)) sent
-last_accounts reader start total true s sent none accounts = restaged reader start s (ended Done) sent accounts none refl
-last_accounts reader start total false s sent none accounts = gone_on_accounts reader start (left_with total (next_u32 s.words) s) sent
-    (asked_accounts reader start (ended Done) (leave_asked s.tally.moment (next_u32 s.words).0) (asked_to_leave s.tally.moment (next_u32 s.words).0) (with_turns total true (with_words (next_u32 s.words).1 s)) sent (counted_accounts reader start s _ sent accounts refl refl refl refl) none refl refl)
+last_accounts : (reader : Reader) (start : History) (total : ℕ) (leaving : Bool) (s : Standing) (sent : List (List ℕ)) →
+    HasNone s.stage → Accounts reader start s sent
+    → Accounts reader start (if leaving then at_stage (ended Done) s else gone_on
+    (left_with total (next_u32 s.words) s)) sent
+last_accounts reader start total true s sent none accounts = restaged reader start s (ended Done) sent accounts none
+    refl
+last_accounts reader start total false s sent none accounts = gone_on_accounts reader start
+    (left_with total (next_u32 s.words) s) sent
+    (asked_accounts reader start (ended Done) (leave_asked s.tally.moment (next_u32 s.words).0)
+    (asked_to_leave s.tally.moment (next_u32 s.words).0)
+    (with_turns total true (with_words (next_u32 s.words).1 s)) sent
+    (counted_accounts reader start s _ sent accounts refl refl refl refl) none refl refl)
 
-going_accounts : (reader : Reader) (start : History) (total : ℕ) (s : Standing) (sent : List (List ℕ)) → Accounts reader start s sent → Accounts reader start (going total s) sent
+going_accounts : (reader : Reader) (start : History) (total : ℕ) (s : Standing) (sent : List (List ℕ)) →
+    Accounts reader start s sent → Accounts reader start (going total s) sent
 going_accounts reader start total s sent accounts = rested_accounts reader start _ s s.stage sent (λ rests.
     turn_accounts reader start (next_in_life (life_at s.history)) s.turns _ s sent (none_at resting s rests refl)
     (last_accounts reader start total s.leaving s sent (none_at resting s rests refl) accounts) accounts) accounts
@@ -212,7 +250,8 @@ session_accounts reader start words total (call ∷ earlier) (fit, fits) =
     call_accounts reader start call _ (given_in earlier) fits
     (going_accounts reader start total _ (given_in earlier) (session_accounts reader start words total earlier fit))
 
-pub session_comes : (reader : Reader) (start : History) (words : Stream) (total : ℕ) (calls : List Call) (t : Standing) (x y : LinkValue)
+pub session_comes : (reader : Reader) (start : History) (words : Stream) (total : ℕ) (calls : List Call) (t : Standing)
+    (x y : LinkValue)
     → Comes reader total calls (at_the_start start words total) t x y → Accounts reader start t (given_in calls)
 session_comes reader start words total calls t x y comes =
     subst (λ t. Accounts reader start t (given_in calls)) (sym comes.reached)
@@ -235,7 +274,8 @@ rested_counts next s deciding same = refl
 rested_counts next s (sending out changed after) same = refl
 rested_counts next s (ended cause) same = refl
 
-turn_counts : (next : Option ℕ) (turns : ℕ) (otherwise s : Standing) → otherwise.tally ≡ s.tally → (turn_by next turns otherwise s).tally ≡ s.tally
+turn_counts : (next : Option ℕ) (turns : ℕ) (otherwise s : Standing) → otherwise.tally ≡ s.tally →
+    (turn_by next turns otherwise s).tally ≡ s.tally
 turn_counts None turns otherwise s same = refl
 turn_counts (Some moment) zero otherwise s same = same
 turn_counts (Some moment) (suc turns) otherwise s same = refl
@@ -249,7 +289,8 @@ last_counts total true s = refl
 last_counts total false s = gone_on_counts (left_with total (next_u32 s.words) s)
 
 going_counts : (total : ℕ) (s : Standing) → (going total s).tally ≡ s.tally
-going_counts total s = rested_counts _ s s.stage (turn_counts (next_in_life (life_at s.history)) s.turns _ s (last_counts total s.leaving s))
+going_counts total s = rested_counts _ s s.stage
+    (turn_counts (next_in_life (life_at s.history)) s.turns _ s (last_counts total s.leaving s))
 
 -- one more of some calls
 moved : (a b : ℕ) → a ≡ b → a + 1 ≡ suc b
@@ -257,35 +298,95 @@ moved a b same = omega (arith, same)
 
 clock_counts : (moment : ℕ) (stage : Stage) (s : Standing) (calls : List Call) → AreTotals s.tally calls
     → AreTotals (after_clock moment stage s).tally (clock_read moment ∷ calls)
-clock_counts moment resting s calls totals = record { received = totals.received; recv_failures = totals.recv_failures; sent = totals.sent; send_failures = totals.send_failures }
-clock_counts moment beginning s calls totals = record { received = totals.received; recv_failures = totals.recv_failures; sent = totals.sent; send_failures = totals.send_failures }
-clock_counts moment (hearing port) s calls totals = record { received = totals.received; recv_failures = totals.recv_failures; sent = totals.sent; send_failures = totals.send_failures }
-clock_counts moment deciding s calls totals = record { received = totals.received; recv_failures = totals.recv_failures; sent = totals.sent; send_failures = totals.send_failures }
-clock_counts moment (sending out changed next) s calls totals = record { received = totals.received; recv_failures = totals.recv_failures; sent = totals.sent; send_failures = totals.send_failures }
-clock_counts moment (ended cause) s calls totals = record { received = totals.received; recv_failures = totals.recv_failures; sent = totals.sent; send_failures = totals.send_failures }
+clock_counts moment resting s calls totals = record {
+  received = totals.received;
+  recv_failures = totals.recv_failures;
+  sent = totals.sent;
+  send_failures = totals.send_failures;
+}
+clock_counts moment beginning s calls totals =
+    record {
+      received = totals.received;
+      recv_failures = totals.recv_failures;
+      sent = totals.sent;
+      send_failures =
+          totals.send_failures;
+    }
+clock_counts moment (hearing port) s calls totals =
+    record {
+      received = totals.received;
+      recv_failures = totals.recv_failures;
+      sent = totals.sent;
+      send_failures =
+          totals.send_failures;
+    }
+clock_counts moment deciding s calls totals = record {
+  received = totals.received;
+  recv_failures = totals.recv_failures;
+  sent = totals.sent;
+  send_failures = totals.send_failures;
+}
+clock_counts moment (sending out changed next) s calls totals =
+    record {
+      received = totals.received;
+      recv_failures = totals.recv_failures;
+      sent = totals.sent;
+      send_failures =
+          totals.send_failures;
+    }
+clock_counts moment (ended cause) s calls totals =
+    record {
+      received = totals.received;
+      recv_failures = totals.recv_failures;
+      sent = totals.sent;
+      send_failures =
+          totals.send_failures;
+    }
 
 limit_counts : (limit : Bool) (tally : Tally) (calls : List Call) → AreTotals tally calls
     → AreTotals (if limit then tally else with_refused (tally.refused + 1) tally) calls
 limit_counts true tally calls totals = totals
-limit_counts false tally calls totals = record { received = totals.received; recv_failures = totals.recv_failures; sent = totals.sent; send_failures = totals.send_failures }
-
--- an answer to an arrival moves no count but that of the refused
-arrival_counts : (answer : AnswerValue) (tally : Tally) (calls : List Call) → AreTotals tally calls → AreTotals (with_arrival answer tally) calls
-arrival_counts (Ok step) tally calls totals = totals
-arrival_counts (Err refusal) tally calls totals = limit_counts (is_limit refusal) tally calls totals
-
-heard_counts : (reader : Reader) (port : Port) (wait : ℕ) (what : Heard) (s : Standing) (calls : List Call) → AreTotals s.tally calls
-    → AreTotals (heard_at reader port what s).tally (port_heard port wait what ∷ calls)
-heard_counts reader port wait (datagram peer octets) s calls totals = arrival_counts _ (with_datagram s.tally) _ (record {
-  received = moved _ _ totals.received;
+limit_counts false tally calls totals = record {
+  received = totals.received;
   recv_failures = totals.recv_failures;
   sent = totals.sent;
   send_failures = totals.send_failures;
-})
-heard_counts reader port wait silence s calls totals = record { received = totals.received; recv_failures = totals.recv_failures; sent = totals.sent; send_failures = totals.send_failures }
-heard_counts reader port wait failure s calls totals = record { received = totals.received; recv_failures = moved _ _ totals.recv_failures; sent = totals.sent; send_failures = totals.send_failures }
+}
 
-sending_counts : (octets : List ℕ) (failed : Bool) (stage : Stage) (s : Standing) (calls : List Call) → Sends octets stage → AreTotals s.tally calls
+-- an answer to an arrival moves no count but that of the refused
+arrival_counts : (answer : AnswerValue) (tally : Tally) (calls : List Call) → AreTotals tally calls →
+    AreTotals (with_arrival answer tally) calls
+arrival_counts (Ok step) tally calls totals = totals
+arrival_counts (Err refusal) tally calls totals = limit_counts (is_limit refusal) tally calls totals
+
+heard_counts : (reader : Reader) (port : Port) (wait : ℕ) (what : Heard) (s : Standing) (calls : List Call) →
+    AreTotals s.tally calls
+    → AreTotals (heard_at reader port what s).tally (port_heard port wait what ∷ calls)
+heard_counts reader port wait (datagram peer octets) s calls totals = arrival_counts _ (with_datagram s.tally) _
+    (record {
+      received = moved _ _ totals.received;
+      recv_failures = totals.recv_failures;
+      sent = totals.sent;
+      send_failures = totals.send_failures;
+    })
+heard_counts reader port wait silence s calls totals =
+    record {
+      received = totals.received;
+      recv_failures = totals.recv_failures;
+      sent = totals.sent;
+      send_failures =
+          totals.send_failures;
+    }
+heard_counts reader port wait failure s calls totals =
+    record {
+      received = totals.received;
+      recv_failures = moved _ _ totals.recv_failures;
+      sent = totals.sent;
+      send_failures = totals.send_failures;
+    }
+
+sending_counts : (octets : List ℕ) (failed : Bool) (stage : Stage) (s : Standing) (calls : List Call) →
+    Sends octets stage → AreTotals s.tally calls
     → AreTotals (after_sending failed stage s).tally (compound_sent octets failed ∷ calls)
 sending_counts octets failed resting s calls fits totals = absurd fits
 sending_counts octets failed beginning s calls fits totals = absurd fits
@@ -305,23 +406,30 @@ sending_counts octets false (sending out changed next) s calls fits totals = rec
 }
 sending_counts octets failed (ended cause) s calls fits totals = absurd fits
 
-call_counts : (reader : Reader) (call : Call) (s : Standing) (calls : List Call) → Fits call s.stage → AreTotals s.tally calls
+call_counts : (reader : Reader) (call : Call) (s : Standing) (calls : List Call) → Fits call s.stage →
+    AreTotals s.tally calls
     → AreTotals (after_call reader call s).tally (call ∷ calls)
 call_counts reader (clock_read moment) s calls fits totals = clock_counts moment s.stage s calls totals
 call_counts reader (port_heard port wait what) s calls fits totals = heard_counts reader port wait what s calls totals
-call_counts reader (compound_sent octets failed) s calls fits totals = sending_counts octets failed s.stage s calls fits totals
+call_counts reader (compound_sent octets failed) s calls fits totals = sending_counts octets failed s.stage s calls fits
+    totals
 
-session_counts : (reader : Reader) (total : ℕ) (s : Standing) (calls : List Call) → AreTotals s.tally [] → AllFit reader total s calls
+session_counts : (reader : Reader) (total : ℕ) (s : Standing) (calls : List Call) → AreTotals s.tally [] →
+    AllFit reader total s calls
     → AreTotals (after_calls reader total s calls).tally calls
 session_counts reader total s [] totals fit = totals
 session_counts reader total s (call ∷ earlier) totals (fit, fits) =
     let u = after_calls reader total s earlier in
     call_counts reader call (going total u) earlier fits
-    (subst (λ tally. AreTotals tally earlier) (sym (going_counts total u)) (session_counts reader total s earlier totals fit))
+    (subst (λ tally. AreTotals tally earlier) (sym (going_counts total u))
+    (session_counts reader total s earlier totals fit))
 
-pub session_totals : (reader : Reader) (start : History) (words : Stream) (total : ℕ) (calls : List Call) (t : Standing) (x y : LinkValue)
+pub session_totals : (reader : Reader) (start : History) (words : Stream) (total : ℕ) (calls : List Call) (t : Standing)
+    (x y : LinkValue)
     → Comes reader total calls (at_the_start start words total) t x y → AreTotals t.tally calls
 session_totals reader start words total calls t x y comes =
     let s = at_the_start start words total in
-    subst (λ tally. AreTotals tally calls) (sym (ap (λ t. t.tally) comes.reached ∙ going_counts total (after_calls reader total s calls)))
-    (session_counts reader total s calls (record { received = refl; recv_failures = refl; sent = refl; send_failures = refl }) comes.fit)
+    subst (λ tally. AreTotals tally calls)
+    (sym (ap (λ t. t.tally) comes.reached ∙ going_counts total (after_calls reader total s calls)))
+    (session_counts reader total s calls
+    (record { received = refl; recv_failures = refl; sent = refl; send_failures = refl }) comes.fit)

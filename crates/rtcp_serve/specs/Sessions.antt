@@ -69,7 +69,8 @@ pub record Leads (reader : Reader) (total : ℕ) (calls : List Call) (s t : Stan
   pub tells : Tells s t before after
 
 -- Calls of a link, each the one that came next, led from one standing to another and on to what comes next.
-pub record Comes (reader : Reader) (total : ℕ) (calls : List Call) (s t : Standing) (before after : LinkValue) : Type 0 where
+pub record Comes (reader : Reader) (total : ℕ) (calls : List Call) (s t : Standing) (before after : LinkValue) : Type
+    0 where
   pub fit : AllFit reader total s calls
   pub reached : t ≡ going total (after_calls reader total s calls)
   pub called : WereCalled calls before after

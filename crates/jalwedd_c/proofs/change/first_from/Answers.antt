@@ -11,4 +11,5 @@ pub returns : goal.returns
 returns c =
     sym (option_map_id c.find.result)
     ∙ find_from_yields_List (λ (change : Change). nat_le c.args.from change.ssrc) _ _ c.find.result c.find.ensures.ran
-    (YieldsList-from_first (λ (change : Change). change) (λ changes. changes) _ c.of.ensures) (λ x b q k. search (rules, tests))
+    (YieldsList-from_first (λ (change : Change). change) (λ changes. changes) _ c.of.ensures)
+    (λ x b q k. search (rules, tests))

@@ -7,7 +7,9 @@ use Rattle.jalwedd_c.proofs.head.jalwedd_rtp_head.Goals as goal
 pub returns-in-Ok-clause-read : goal.returns-in-Ok-clause-read
 returns-in-Ok-clause-read c = λ value spelled fits. (
   refl,
-  subst (λ (head : RtpValue). (spelled : IsRtpHead c.args.datagram.now head) → ShowsHead c.args.datagram.now head spelled c.head_place.result) (c.in-Ok.ensures.reads value spelled) c.head_place.ensures spelled,
+  subst (λ (head : RtpValue). (spelled : IsRtpHead c.args.datagram.now head) →
+      ShowsHead c.args.datagram.now head spelled c.head_place.result) (c.in-Ok.ensures.reads value spelled)
+      c.head_place.ensures spelled,
 )
 
 pub returns-in-Err-clause-read : goal.returns-in-Err-clause-read

@@ -6,4 +6,5 @@ use Rattle.rtcp_engine.proofs.config.are_extras.Given as goal
 
 -- those that are left decide
 abbrev pub invariant-items : goal.invariant-items
-invariant-items l = list_all is_extra_item (map item_value (drop l.item-index l.items)) ≡ list_all is_extra_item (map item_value l.items)
+invariant-items l = list_all is_extra_item (map item_value (drop l.item-index l.items)) ≡ list_all is_extra_item
+    (map item_value l.items)

@@ -11,8 +11,11 @@ returns c =
     let items = c.args.items.now in
     let values = map item_value items in
     let turn = c.args.number / 3 - 1 in
-    let some : 0 < length items = omega (arith, eqb-false (length items) 0 (sym c.is_empty.ensures ∙ c.if-is_empty.false)) in
-    ap (option_map item_value) (sym (slice_get_read items (length items) (turn % length items) c.index-items-turn.result refl (mod-lt turn some) c.index-items-turn.is))
+    let some : 0 < length items = omega
+    (arith, eqb-false (length items) 0 (sym c.is_empty.ensures ∙ c.if-is_empty.false)) in
+    ap (option_map item_value) (sym (slice_get_read items (length items) (turn % length items) c.index-items-turn.result
+    refl (mod-lt turn some) c.index-items-turn.is))
     ∙ sym (slice_get-map item_value items (turn % length items))
     ∙ ap (λ (n : ℕ). slice_get values (turn % n)) (sym (length-map items item_value))
-    ∙ sym (ap (λ (b : Bool). if b then slice_get values (turn % length values) else None) (eq-eqb (c.args.number % 3) 0 c.if-number-ne0.false))
+    ∙ sym (ap (λ (b : Bool). if b then slice_get values (turn % length values) else None)
+    (eq-eqb (c.args.number % 3) 0 c.if-number-ne0.false))

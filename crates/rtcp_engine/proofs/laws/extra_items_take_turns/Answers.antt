@@ -8,7 +8,8 @@ returns-clause-third c items turn some =
     let third : 3 * (turn + 1) % 3 ≡ 0 = omega arith in
     let at : 3 * (turn + 1) / 3 - 1 ≡ turn = omega arith in
     let one : ℕ → Option ItemValue = λ place. slice_get items (place % length items) in
-    ap (λ (b : Bool). if b then one (3 * (turn + 1) / 3 - 1) else None) (eq-eqb (3 * (turn + 1) % 3) 0 third) ∙ ap one at
+    ap (λ (b : Bool). if b then one (3 * (turn + 1) / 3 - 1) else None) (eq-eqb (3 * (turn + 1) % 3) 0 third)
+    ∙ ap one at
 
 pub returns-clause-others : goal.returns-clause-others
 returns-clause-others c items number not_third = rw (ne_eqb (number % 3) 0 not_third) refl

@@ -10,4 +10,5 @@ returns-clause-free c history datagram word is fits few = new_is_free history da
 pub returns-clause-first : goal.returns-clause-first
 returns-clause-first c history datagram word is fits few =
     let session = session_at history in
-    chosen_is_first (most_taken session datagram) (is_taken session datagram) word fits (new_is_free history datagram word is fits few)
+    chosen_is_first (most_taken session datagram) (is_taken session datagram) word fits
+    (new_is_free history datagram word is fits few)

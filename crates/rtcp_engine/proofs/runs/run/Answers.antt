@@ -11,22 +11,28 @@ use Rattle.rtcp_engine.proofs.runs.run.Goals as goal
 
 pub returns-then-is_err-clause-stands : goal.returns-then-is_err-clause-stands
 returns-then-is_err-clause-stands g c history acts h are =
-    let next = next_act c.args.events.now acts c.events.taken c.events.event-index c.events.invariant.count c.events-test.true are in
+    let next = next_act c.args.events.now acts c.events.taken c.events.event-index c.events.invariant.count
+    c.events-test.true are in
     let told = followed_by_all history (take c.events.taken acts) in
-    subst (λ (hs : History). StandsAt c.tell-answer.new.self hs) (sym (ap (followed_by_all history) next.more ∙ followed_more history (take c.events.taken acts) next.act))
+    subst (λ (hs : History). StandsAt c.tell-answer.new.self hs)
+    (sym (ap (followed_by_all history) next.more ∙ followed_more history (take c.events.taken acts) next.act))
     ((c.tell-answer.ensures.takes next.act (next.is_act _)).stands told (c.events.invariant.stands history acts h are))
 
 pub returns-then-is_err-clause-not_too_late : goal.returns-then-is_err-clause-not_too_late
-returns-then-is_err-clause-not_too_late g c history acts h are = sends_in_time _ (returns-then-is_err-clause-stands g c history acts h are).is_history
+returns-then-is_err-clause-not_too_late g c history acts h are =
+    sends_in_time _ (returns-then-is_err-clause-stands g c history acts h are).is_history
 
 pub returns-then-is_err-clause-bounded : goal.returns-then-is_err-clause-bounded
-returns-then-is_err-clause-bounded g c history acts h are = sent_compounds_keep_apart _ (returns-then-is_err-clause-stands g c history acts h are).is_history
+returns-then-is_err-clause-bounded g c history acts h are = sent_compounds_keep_apart _
+    (returns-then-is_err-clause-stands g c history acts h are).is_history
 
 pub returns-clause-not_too_late : goal.returns-clause-not_too_late
-returns-clause-not_too_late g c history acts h are = sends_in_time _ (c.events.invariant.stands history acts h are).is_history
+returns-clause-not_too_late g c history acts h are =
+    sends_in_time _ (c.events.invariant.stands history acts h are).is_history
 
 pub returns-clause-bounded : goal.returns-clause-bounded
-returns-clause-bounded g c history acts h are = sent_compounds_keep_apart _ (c.events.invariant.stands history acts h are).is_history
+returns-clause-bounded g c history acts h are = sent_compounds_keep_apart _
+    (c.events.invariant.stands history acts h are).is_history
 
 pub events-preserved : goal.events-preserved
 events-preserved g c =
@@ -39,19 +45,26 @@ events-preserved g c =
           ∙ omega (arith, c.events.invariant.handed);
       within = λ before. c.tell-answer.ensures.spares.within;
       told = λ history acts h are.
-          let next = next_act c.args.events.now acts c.events.taken c.events.event-index c.events.invariant.count c.events-test.true are in
+          let next = next_act c.args.events.now acts c.events.taken c.events.event-index c.events.invariant.count
+          c.events-test.true are in
           let told = followed_by_all history (take c.events.taken acts) in
           let before = answers_to history (take c.events.taken acts) in
-          let one = (c.tell-answer.ensures.takes next.act (next.is_act _)).answer told (c.events.invariant.stands history acts h are) in
+          let one = (c.tell-answer.ensures.takes next.act (next.is_act _)).answer told
+          (c.events.invariant.stands history acts h are) in
           let start = g.S.Sink.content c.args.sink.now in
           of_no_error c.put.result none c.put.ensures.taken
-          ∙ ap (λ (answers : List AnswerValue). answers ++ answer_value c.tell-answer.result ∷ []) (c.events.invariant.told history acts h are)
+          ∙ ap (λ (answers : List AnswerValue). answers ++ answer_value c.tell-answer.result ∷ [])
+          (c.events.invariant.told history acts h are)
           ∙ ap (λ (answer : AnswerValue). (start ++ before) ++ answer ∷ []) one
           ∙ append_assoc start before (answer_of told next.act ∷ [])
-          ∙ sym (ap (λ (answers : List AnswerValue). start ++ answers) (ap (answers_to history) next.more ∙ answers_more history (take c.events.taken acts) next.act));
+          ∙ sym (ap (λ (answers : List AnswerValue). start ++ answers)
+          (ap (answers_to history) next.more ∙ answers_more history (take c.events.taken acts) next.act));
       stands = λ history acts h are.
-          let next = next_act c.args.events.now acts c.events.taken c.events.event-index c.events.invariant.count c.events-test.true are in
+          let next = next_act c.args.events.now acts c.events.taken c.events.event-index c.events.invariant.count
+          c.events-test.true are in
           let told = followed_by_all history (take c.events.taken acts) in
-          subst (λ (hs : History). StandsAt c.tell-answer.new.self hs) (sym (ap (followed_by_all history) next.more ∙ followed_more history (take c.events.taken acts) next.act))
-          ((c.tell-answer.ensures.takes next.act (next.is_act _)).stands told (c.events.invariant.stands history acts h are));
+          subst (λ (hs : History). StandsAt c.tell-answer.new.self hs)
+          (sym (ap (followed_by_all history) next.more ∙ followed_more history (take c.events.taken acts) next.act))
+          ((c.tell-answer.ensures.takes next.act (next.is_act _)).stands told
+          (c.events.invariant.stands history acts h are));
     }

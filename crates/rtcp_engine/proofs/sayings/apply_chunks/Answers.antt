@@ -14,6 +14,8 @@ chunks-preserved g c =
     let effect = c.apply_chunk-by_this in
     let parts = ap facts_of_chunks c.in-Some.ensures.steps in
     record {
-      rest = part_applied one rest left c.args.t before (content effect.new.table) _ effect.ensures.content parts c.chunks.invariant.rest;
-      moves = part_moved c.chunks.moved effect.result _ one rest left c.args.t before (content effect.new.table) effect.ensures.moved effect.ensures.content parts c.chunks.invariant.moves;
+      rest = part_applied one rest left c.args.t before (content effect.new.table) _ effect.ensures.content parts
+          c.chunks.invariant.rest;
+      moves = part_moved c.chunks.moved effect.result _ one rest left c.args.t before (content effect.new.table)
+          effect.ensures.moved effect.ensures.content parts c.chunks.invariant.moves;
     }

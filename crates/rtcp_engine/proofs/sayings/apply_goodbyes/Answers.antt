@@ -14,6 +14,8 @@ ids-preserved g c =
     let effect = c.apply_one-by_this in
     let parts = ap facts_of_goodbyes c.in-Some.ensures.steps in
     record {
-      rest = part_applied one rest left c.args.t before (content effect.new.table) _ effect.ensures.content parts c.ids.invariant.rest;
-      moves = part_moved c.ids.moved effect.result _ one rest left c.args.t before (content effect.new.table) effect.ensures.moved effect.ensures.content parts c.ids.invariant.moves;
+      rest = part_applied one rest left c.args.t before (content effect.new.table) _ effect.ensures.content parts
+          c.ids.invariant.rest;
+      moves = part_moved c.ids.moved effect.result _ one rest left c.args.t before (content effect.new.table)
+          effect.ensures.moved effect.ensures.content parts c.ids.invariant.moves;
     }

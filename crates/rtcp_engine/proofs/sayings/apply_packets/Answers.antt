@@ -14,6 +14,8 @@ packets-preserved g c =
     let effect = c.apply_packet-by_this in
     let parts = ap facts_of c.in-Some.ensures.steps in
     record {
-      rest = part_applied one rest left c.args.t before (content effect.new.table) _ effect.ensures.content parts c.packets.invariant.rest;
-      moves = part_moved c.packets.moved effect.result _ one rest left c.args.t before (content effect.new.table) effect.ensures.moved effect.ensures.content parts c.packets.invariant.moves;
+      rest = part_applied one rest left c.args.t before (content effect.new.table) _ effect.ensures.content parts
+          c.packets.invariant.rest;
+      moves = part_moved c.packets.moved effect.result _ one rest left c.args.t before (content effect.new.table)
+          effect.ensures.moved effect.ensures.content parts c.packets.invariant.moves;
     }

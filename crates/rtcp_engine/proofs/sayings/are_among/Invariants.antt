@@ -6,4 +6,5 @@ use Rattle.rtcp_engine.proofs.sayings.are_among.Given as goal
 
 -- what is left tells it as all does
 abbrev pub invariant-ids : goal.invariant-ids
-invariant-ids l = list_any (λ fact. subject fact == l.ssrc) (facts_of_goodbyes l.id-iterator) ≡ list_any (λ fact. subject fact == l.ssrc) (facts_of_goodbyes l.fn.ids)
+invariant-ids l = list_any (λ fact. subject fact == l.ssrc) (facts_of_goodbyes l.id-iterator) ≡ list_any
+    (λ fact. subject fact == l.ssrc) (facts_of_goodbyes l.fn.ids)

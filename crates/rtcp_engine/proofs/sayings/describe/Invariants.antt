@@ -6,4 +6,5 @@ use Rattle.rtcp_engine.proofs.sayings.describe.Given as goal
 
 -- what is left tells it as all does
 abbrev pub invariant-chunks : goal.invariant-chunks
-invariant-chunks l = list_any (λ fact. subject fact == l.ssrc) (facts_of_chunks l.chunk-iterator) ≡ list_any (λ fact. subject fact == l.ssrc) (facts_of_chunks l.fn.chunks)
+invariant-chunks l = list_any (λ fact. subject fact == l.ssrc) (facts_of_chunks l.chunk-iterator) ≡ list_any
+    (λ fact. subject fact == l.ssrc) (facts_of_chunks l.fn.chunks)

@@ -5,14 +5,18 @@ use Rattle.rtcp_members.proofs.cells.set_slot.Goals as goal
 
 pub returns-then-rank-eq0-clause-slots : goal.returns-then-rank-eq0-clause-slots
 returns-then-rank-eq0-clause-slots c =
-    even_written c.args.cells.now (c.args.rank / 2) c.args.rank c.index-cells-rank.result c.args.slot (omega (arith, c.if-rank-eq0.true))
+    even_written c.args.cells.now (c.args.rank / 2) c.args.rank c.index-cells-rank.result c.args.slot
+    (omega (arith, c.if-rank-eq0.true))
 
 pub returns-then-rank-eq0-clause-entries : goal.returns-then-rank-eq0-clause-entries
-returns-then-rank-eq0-clause-entries c = entries_same c.args.cells.now (c.args.rank / 2) c.index-cells-rank.result _ refl
+returns-then-rank-eq0-clause-entries c = entries_same c.args.cells.now (c.args.rank / 2) c.index-cells-rank.result _
+    refl
 
 pub returns-else-rank-eq0-clause-slots : goal.returns-else-rank-eq0-clause-slots
 returns-else-rank-eq0-clause-slots c =
-    odd_written c.args.cells.now (c.args.rank / 2) c.args.rank c.index-cells-rank.result c.args.slot (omega (arith, c.if-rank-eq0.false))
+    odd_written c.args.cells.now (c.args.rank / 2) c.args.rank c.index-cells-rank.result c.args.slot
+    (omega (arith, c.if-rank-eq0.false))
 
 pub returns-else-rank-eq0-clause-entries : goal.returns-else-rank-eq0-clause-entries
-returns-else-rank-eq0-clause-entries c = entries_same c.args.cells.now (c.args.rank / 2) c.index-cells-rank.result _ refl
+returns-else-rank-eq0-clause-entries c = entries_same c.args.cells.now (c.args.rank / 2) c.index-cells-rank.result _
+    refl

@@ -14,5 +14,7 @@ returns-clause-slots c =
     let within : c.args.rank < length old = omega (arith, count, c.requires.rank, c.requires.until) in
     let next : 2 * (c.args.rank / 2 + 1) ≡ c.args.rank + 1 = omega (arith, c.if-rank-eq0.false) in
     c.shift_cells-2.ensures.slots
-    ∙ (λ i. take (2 * c.args.until) (insert (c.set_slot.ensures.slots i) (next i) (c.slot_at-pushed.ensures i)) ++ drop (2 * c.args.until) (c.set_slot.ensures.slots i))
-    ∙ (λ i. take (2 * c.args.until) (pushed_on old c.args.rank c.args.slot within i) ++ drop-set-lt (2 * c.args.until) old c.args.rank c.args.slot c.requires.rank i)
+    ∙ (λ i. take (2 * c.args.until) (insert (c.set_slot.ensures.slots i) (next i) (c.slot_at-pushed.ensures i)) ++ drop
+    (2 * c.args.until) (c.set_slot.ensures.slots i))
+    ∙ (λ i. take (2 * c.args.until) (pushed_on old c.args.rank c.args.slot within i) ++ drop-set-lt (2 * c.args.until)
+    old c.args.rank c.args.slot c.requires.rank i)

@@ -7,8 +7,12 @@ use Rattle.rtcp_members.proofs.cells.slot_at.Goals as goal
 
 pub returns-then-rank-eq0 : goal.returns-then-rank-eq0
 returns-then-rank-eq0 c =
-    ap (λ (x : Cell). x.even) c.index-cells-rank.is ∙ sym (even_read c.args.cells.now (c.args.rank / 2) c.args.rank c.index-cells-rank.result no_slot (omega (arith, c.if-rank-eq0.true)) (omega (arith, c.requires)))
+    ap (λ (x : Cell). x.even) c.index-cells-rank.is
+    ∙ sym (even_read c.args.cells.now (c.args.rank / 2) c.args.rank c.index-cells-rank.result no_slot
+    (omega (arith, c.if-rank-eq0.true)) (omega (arith, c.requires)))
 
 pub returns-else-rank-eq0 : goal.returns-else-rank-eq0
 returns-else-rank-eq0 c =
-    ap (λ (x : Cell). x.odd) c.index-cells-rank.is ∙ sym (odd_read c.args.cells.now (c.args.rank / 2) c.args.rank c.index-cells-rank.result no_slot (omega (arith, c.if-rank-eq0.false)) (omega (arith, c.requires)))
+    ap (λ (x : Cell). x.odd) c.index-cells-rank.is
+    ∙ sym (odd_read c.args.cells.now (c.args.rank / 2) c.args.rank c.index-cells-rank.result no_slot
+    (omega (arith, c.if-rank-eq0.false)) (omega (arith, c.requires)))

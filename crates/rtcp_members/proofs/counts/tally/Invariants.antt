@@ -6,4 +6,7 @@ use Rattle.rtcp_members.proofs.counts.tally.Given as goal
 
 abbrev pub invariant-entries : goal.invariant-entries
 invariant-entries l =
-    record { members : l.counts.members ≡ tally_of is_member (take l.entry-index l.entries); senders : l.counts.senders ≡ tally_of is_sender (take l.entry-index l.entries) }
+    record {
+      members : l.counts.members ≡ tally_of is_member (take l.entry-index l.entries);
+      senders : l.counts.senders ≡ tally_of is_sender (take l.entry-index l.entries);
+    }

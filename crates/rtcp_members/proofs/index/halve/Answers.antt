@@ -12,7 +12,8 @@ module _ (cells : List Cell) (used : ℕ) (ssrc : ℕ) (indexed : IsIndexed cell
   as_long : length (take used (slots_in cells)) ≡ used
   as_long = length-take-le used (slots_in cells) indexed.heap.in_use
 
-  pub begun : (count : ℕ) → used ≤ 2 * count → 2 * count ≤ used + 1 → IsHalving (take used (slots_in cells)) ssrc used 0 count
+  pub begun : (count : ℕ) → used ≤ 2 * count → 2 * count ≤ used + 1 →
+      IsHalving (take used (slots_in cells)) ssrc used 0 count
   begun count all most = record {
     high = length (take used (slots_in cells));
     halved = halved_at_first (entries_in cells) (take used (slots_in cells)) indexed.heap.keyed indexed.rising ssrc;
@@ -20,7 +21,8 @@ module _ (cells : List Cell) (used : ℕ) (ssrc : ℕ) (indexed : IsIndexed cell
     within = omega (arith, most);
   }
 
-  module _ (at count half : ℕ) (cell : Cell) (so : IsHalving (take used (slots_in cells)) ssrc used at count) (some : 0 < half) (lesser : half ≤ count - half) (read : cell ≡ slice_index_or cells (at + half) cell) where
+  module _ (at count half : ℕ) (cell : Cell) (so : IsHalving (take used (slots_in cells)) ssrc used at count)
+      (some : 0 < half) (lesser : half ≤ count - half) (read : cell ≡ slice_index_or cells (at + half) cell) where
     below : 2 * (at + half) < used
     below = omega (arith, so.within, some, lesser)
 
@@ -30,7 +32,8 @@ module _ (cells : List Cell) (used : ℕ) (ssrc : ℕ) (indexed : IsIndexed cell
     pub upper : cell.even.ssrc < ssrc → IsHalving (take used (slots_in cells)) ssrc used (at + half) (count - half)
     upper less = record {
       high = so.high;
-      halved = raised (entries_in cells) (take used (slots_in cells)) indexed.heap.keyed indexed.rising ssrc (2 * at) so.high (2 * (at + half)) so.halved (omega (arith, below, as_long)) (omega (arith, even_here, less));
+      halved = raised (entries_in cells) (take used (slots_in cells)) indexed.heap.keyed indexed.rising ssrc
+          (2 * at) so.high (2 * (at + half)) so.halved (omega (arith, below, as_long)) (omega (arith, even_here, less));
       near = omega (arith, so.near, lesser);
       within = omega (arith, so.within, lesser);
     }
@@ -38,13 +41,16 @@ module _ (cells : List Cell) (used : ℕ) (ssrc : ℕ) (indexed : IsIndexed cell
     pub lower : ssrc ≤ cell.even.ssrc → IsHalving (take used (slots_in cells)) ssrc used at (count - half)
     lower least = record {
       high = 2 * (at + half);
-      halved = lowered (entries_in cells) (take used (slots_in cells)) indexed.heap.keyed indexed.rising ssrc (2 * at) so.high (2 * (at + half)) so.halved (omega arith) (omega (arith, below, as_long)) (omega (arith, even_here, least));
+      halved = lowered (entries_in cells) (take used (slots_in cells)) indexed.heap.keyed indexed.rising ssrc
+          (2 * at) so.high (2 * (at + half)) so.halved (omega arith) (omega (arith, below, as_long))
+          (omega (arith, even_here, least));
       near = omega (arith, lesser);
       within = omega (arith, so.within);
     }
 
 pub cells-init : goal.cells-init
-cells-init c = begun c.args.cells.now c.args.used c.args.ssrc c.requires c.div_ceil-count.result (omega (arith, c.div_ceil-count.ensures)) (omega (arith, c.div_ceil-count.ensures))
+cells-init c = begun c.args.cells.now c.args.used c.args.ssrc c.requires c.div_ceil-count.result
+    (omega (arith, c.div_ceil-count.ensures)) (omega (arith, c.div_ceil-count.ensures))
 
 pub cells-preserved : goal.cells-preserved
 cells-preserved c =
@@ -59,7 +65,9 @@ cells-preserved c =
     let lesser : half ≤ left = omega arith in
     elim (cases_lt cell.even.ssrc c.args.ssrc) [
       | inl less ↦ subst next (omega arith ∙ sym (ap (λ bit. at + half * bit) (c.one_if_before.ensures.before less)))
-          (upper cells used c.args.ssrc c.requires at c.cells.count half cell c.cells.invariant some lesser (read_again cells (at + half) c.index-cells-at.result) less)
+          (upper cells used c.args.ssrc c.requires at c.cells.count half cell c.cells.invariant some lesser
+          (read_again cells (at + half) c.index-cells-at.result) less)
       | inr from ↦ subst next (omega arith ∙ sym (ap (λ bit. at + half * bit) (c.one_if_before.ensures.after from)))
-          (lower cells used c.args.ssrc c.requires at c.cells.count half cell c.cells.invariant some lesser (read_again cells (at + half) c.index-cells-at.result) from)
+          (lower cells used c.args.ssrc c.requires at c.cells.count half cell c.cells.invariant some lesser
+          (read_again cells (at + half) c.index-cells-at.result) from)
     ]

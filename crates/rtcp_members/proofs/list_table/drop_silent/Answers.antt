@@ -6,4 +6,6 @@ use Rattle.rtcp_members.proofs.Changing.{retained}
 use Rattle.rtcp_members.proofs.list_table.drop_silent.Goals as goal
 
 pub returns : goal.returns
-returns c = retained _ (outlasts (horizons_at c.args.silent c.args.idle c.args.gone)) (lapsed c.args.idle) _ (λ x b g y called. (search rules, search rules, search rules)) c.args.entries.now.items c.retain.new.self.items c.retain.ensures.filtered
+returns c = retained _ (outlasts (horizons_at c.args.silent c.args.idle c.args.gone)) (lapsed c.args.idle) _
+    (λ x b g y called. (search rules, search rules, search rules)) c.args.entries.now.items c.retain.new.self.items
+    c.retain.ensures.filtered

@@ -6,4 +6,5 @@ use Rattle.rtcp_members.specs.Least.{least, lesser_of}
 use Rattle.rtcp_members.proofs.list_table.least_above.Given as goal
 
 abbrev pub invariant-entries : goal.invariant-entries
-invariant-entries l = lesser_of l.found (least (is_above l.above) (rows_of (drop l.entry-index l.entries))) ≡ least (is_above l.above) (rows_of l.entries)
+invariant-entries l = lesser_of l.found (least (is_above l.above) (rows_of (drop l.entry-index l.entries))) ≡ least
+    (is_above l.above) (rows_of l.entries)

@@ -7,4 +7,5 @@ pub entries-init : goal.entries-init
 entries-init c = get_rows c.args.entries.now c.args.ssrc
 
 pub returns-then-entries-at : goal.returns-then-entries-at
-returns-then-entries-at c = place_found c.args.ssrc c.args.entries.now c.entries.at c.index-entries-at.result (search rules) (search rules) (search rules) c.entries.invariant
+returns-then-entries-at c = place_found c.args.ssrc c.args.entries.now c.entries.at c.index-entries-at.result
+    (search rules) (search rules) (search rules) c.entries.invariant

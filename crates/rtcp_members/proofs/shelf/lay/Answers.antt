@@ -40,12 +40,24 @@ returns-clause-put g c =
     ∙ ap (λ xs. set (entries_in xs) free.place c.args.entry) lent in
     let pairs_now : pairs_in next ≡ pairs_in cells = c.set_entry.ensures.slots ∙ ap pairs_in lent in
     let same_length : length next ≡ length cells =
-    omega (arith, length-map next (λ (x : Cell). x.entry), ap length entries_now, length-set entries free.place c.args.entry, length-map cells (λ (x : Cell). x.entry)) in
+    omega (
+      arith,
+      length-map next (λ (x : Cell). x.entry),
+      ap length entries_now,
+      length-set entries free.place c.args.entry,
+      length-map cells (λ (x : Cell). x.entry),
+    ) in
     let whole : g.B.Blocks.cells (g.B.Blocks.with_cells c.args.cells.now next) ≡ next = g.met.B.Blocks.written
     c.args.cells.now next same_length in
     let count : length c.as_slice-count.result.now ≡ length cells = ap (λ
     (xs : List Cell). length xs) c.as_slice-count.ensures.cells in
-    let fewer : used < length cells = omega (arith, c.requires.sound.in_use, c.if-used-count.false, count, length_slots cells) in
+    let fewer : used < length cells = omega (
+      arith,
+      c.requires.sound.in_use,
+      c.if-used-count.false,
+      count,
+      length_slots cells,
+    ) in
     let rank : ℕ = c.min.result - 1 in
     let its : free ≡ slice_index_or (pairs_in cells) rank no_slot = c.slot_at-place.ensures
     ∙ ap (λ xs. slice_index_or (pairs_in xs) rank no_slot) c.as_slice.ensures.cells in
@@ -64,4 +76,12 @@ returns-clause-put g c =
     same_length ∙ spared))
     (put_free entries (slots_in cells) (take rank (slots_in cells)) (drop (rank + 1)
     (slots_in cells)) used free c.args.entry c.requires.sound is
-    (omega (arith, length-take-le rank (slots_in cells) (omega (arith, fewer, count, length_slots cells, c.min.ensures)), fewer, count, c.requires.end, c.min.ensures)))))
+    (omega (
+      arith,
+      length-take-le rank (slots_in cells)
+          (omega (arith, fewer, count, length_slots cells, c.min.ensures)),
+      fewer,
+      count,
+      c.requires.end,
+      c.min.ensures,
+    )))))

@@ -22,10 +22,16 @@ returns-then-ssrc_at-above-clause-before g c =
 -- ---- Where the source is found
 
 pub overflow_add-result-in-Ok : goal.overflow_add-result-in-Ok
-overflow_add-result-in-Ok g c = omega (arith, slice_get_within c.args.entries.now.items c.in-Ok.at c.in-Ok.ensures.entry c.in-Ok.ensures.stands, c.requires.few)
+overflow_add-result-in-Ok g c =
+    omega (
+      arith,
+      slice_get_within c.args.entries.now.items c.in-Ok.at c.in-Ok.ensures.entry c.in-Ok.ensures.stands,
+      c.requires.few,
+    )
 
 pub returns-in-Ok-clause-bound : goal.returns-in-Ok-clause-bound
-returns-in-Ok-clause-bound g c = omega (arith, slice_get_within c.args.entries.now.items c.in-Ok.at c.in-Ok.ensures.entry c.in-Ok.ensures.stands)
+returns-in-Ok-clause-bound g c =
+    omega (arith, slice_get_within c.args.entries.now.items c.in-Ok.at c.in-Ok.ensures.entry c.in-Ok.ensures.stands)
 
 pub returns-in-Ok-clause-rest : goal.returns-in-Ok-clause-rest
 returns-in-Ok-clause-rest g c = (cut_after c.args.entries.now.items c.in-Some.above c.in-Ok.at c.args.above

@@ -5,7 +5,8 @@ use Rattle.rtcp_members.proofs.LawLemmas.{turns_follow_traces-rows, turns_follow
 use Rattle.rtcp_members.proofs.turn_laws.turns_follow_traces.Goals as goal
 
 pub returns-clause-sources : goal.returns-clause-sources
-returns-clause-sources c = λ last table trace stands. ap (map (λ (row : EntryRow). row.0)) (pending_is_traced last table trace stands) ∙ pending_have_rows last table.capacity table.rate trace
+returns-clause-sources c = λ last table trace stands. ap (map (λ (row : EntryRow). row.0))
+    (pending_is_traced last table trace stands) ∙ pending_have_rows last table.capacity table.rate trace
 
 pub returns-clause-rows : goal.returns-clause-rows
 returns-clause-rows c = turns_follow_traces-rows

@@ -5,7 +5,8 @@ use Rattle.rtcp_serve.proofs.serve_laws.compounds_go_out_once.Goals as goal
 
 pub returns-clause-handed : goal.returns-clause-handed
 returns-clause-handed c = λ reader history words turns calls t before after cause comes ends.
-    sym ((session_comes reader history words turns calls t before after comes).handed ∙ ap (λ stage. pending stage ++ given_in calls) ends)
+    sym ((session_comes reader history words turns calls t before after comes).handed
+    ∙ ap (λ stage. pending stage ++ given_in calls) ends)
 
 pub returns-clause-history : goal.returns-clause-history
 returns-clause-history c = λ reader history words turns calls t before after comes.

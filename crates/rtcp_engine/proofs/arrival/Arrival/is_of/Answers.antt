@@ -11,5 +11,6 @@ use Rattle.rtcp_engine.proofs.arrival.Arrival.is_of.Goals as goal
 pub returns-in-Rtcp : goal.returns-in-Rtcp
 returns-in-Rtcp c =
     c.speak_of.ensures
-    ∙ ap (λ (packets : List RtcpPacket). list_any (λ (fact : Fact). subject fact == c.args.ssrc) (facts_of packets)) c.packets.ensures
+    ∙ ap (λ (packets : List RtcpPacket). list_any (λ (fact : Fact). subject fact == c.args.ssrc) (facts_of packets))
+    c.packets.ensures
     ∙ sym (ap (λ (arrival : Arrival). is_about c.args.ssrc (datagram_of arrival)) c.in-Rtcp.is)

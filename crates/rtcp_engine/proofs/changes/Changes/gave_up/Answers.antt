@@ -7,5 +7,6 @@ use Rattle.rtcp_engine.proofs.changes.Changes.gave_up.Goals as goal
 
 pub returns : goal.returns
 returns c =
-    any_from_yields_List (λ (change : Change). change.former == c.args.ssrc) _ _ _ c.any.ensures.ran (YieldsList-from_slice c.args.self.now.list.items cc) (λ x b q k. search (rules, tests))
+    any_from_yields_List (λ (change : Change). change.former == c.args.ssrc) _ _ _ c.any.ensures.ran
+    (YieldsList-from_slice c.args.self.now.list.items cc) (λ x b q k. search (rules, tests))
     ∙ among_map (λ (change : Change). change.former) c.args.self.now.list.items c.args.ssrc

@@ -14,20 +14,30 @@ use Rattle.rtcp_engine.proofs.participant.Participant.arrive_rtcp_into.Goals as 
 pub returns-in-Some-clause-takes : goal.returns-in-Some-clause-takes
 returns-in-Some-clause-takes g c reading is =
     let act = rtcp_came c.args.now c.args.peer c.args.w c.args.bytes.now reading in
-    refuses c.args.self.now act c.in-Some.refusal (call_refused_by c.args.self.now act c.in-Some.refusal (sym c.refusal.ensures.exact ∙ c.in-Some.is)) c.ranges.w.fits
+    refuses c.args.self.now act c.in-Some.refusal
+    (call_refused_by c.args.self.now act c.in-Some.refusal (sym c.refusal.ensures.exact ∙ c.in-Some.is))
+    c.ranges.w.fits
 
 pub returns-in-Err-clause-takes : goal.returns-in-Err-clause-takes
 returns-in-Err-clause-takes g c reading is =
     let p = c.args.self.now in
     let reason = Wire c.in-Err.fault in
     let datagram = rtcp (length c.args.bytes.now) (Err c.in-Err.fault) in
-    subst (λ (r : Result (List RtcpPacket) WireFault). Takes p (rtcp_came c.args.now c.args.peer c.args.w c.args.bytes.now r) (Err reason) p) (one_reading-once c.args.bytes.now (Err c.in-Err.fault) reading (c.in-Err.ensures.refused c.in-Err.fault refl) is)
-    (refuses p (arrived c.args.now c.args.peer c.args.w datagram) reason (λ h stands. fault_refused p h c.args.now c.args.peer c.args.w datagram reason stands (sym c.refusal.ensures.exact ∙ c.in_default.is) refl) c.ranges.w.fits)
+    subst (λ (r : Result (List RtcpPacket) WireFault). Takes p
+    (rtcp_came c.args.now c.args.peer c.args.w c.args.bytes.now r) (Err reason) p)
+    (one_reading-once c.args.bytes.now (Err c.in-Err.fault) reading (c.in-Err.ensures.refused c.in-Err.fault refl)
+    is)
+    (refuses p (arrived c.args.now c.args.peer c.args.w datagram) reason
+    (λ h stands. fault_refused p h c.args.now c.args.peer c.args.w datagram reason stands
+    (sym c.refusal.ensures.exact ∙ c.in_default.is) refl) c.ranges.w.fits)
 
 pub arrive-requires-clause-few : goal.arrive-requires-clause-few
 arrive-requires-clause-few g c = few_named c.args.bytes.now c.in-Ok.compound c.in-Ok.ensures.accepted
 
 pub returns-clause-takes : goal.returns-clause-takes
 returns-clause-takes g c reading is =
-    subst (λ (r : Result (List RtcpPacket) WireFault). Takes c.args.self.now (rtcp_came c.args.now c.args.peer c.args.w c.args.bytes.now r) (reply_value c.arrive.new.octets.items c.arrive.result) c.arrive.new.self) (one_reading-once c.args.bytes.now (Ok c.in-Ok.compound) reading c.in-Ok.ensures.accepted is)
+    subst (λ (r : Result (List RtcpPacket) WireFault). Takes c.args.self.now
+    (rtcp_came c.args.now c.args.peer c.args.w c.args.bytes.now r)
+    (reply_value c.arrive.new.octets.items c.arrive.result) c.arrive.new.self)
+    (one_reading-once c.args.bytes.now (Ok c.in-Ok.compound) reading c.in-Ok.ensures.accepted is)
     c.arrive.ensures.takes

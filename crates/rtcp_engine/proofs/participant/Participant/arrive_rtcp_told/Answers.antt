@@ -15,21 +15,32 @@ use Rattle.rtcp_engine.proofs.participant.Participant.arrive_rtcp_told.Goals as 
 pub returns-in-Some-clause-takes : goal.returns-in-Some-clause-takes
 returns-in-Some-clause-takes g c w room reading fits is =
     let act = rtcp_came c.args.now c.args.peer w c.args.bytes.now reading in
-    refuses c.args.self.now act c.in-Some.refusal (call_refused_by c.args.self.now act c.in-Some.refusal (sym c.refusal.ensures.exact ∙ c.in-Some.is)) fits
+    refuses c.args.self.now act c.in-Some.refusal
+    (call_refused_by c.args.self.now act c.in-Some.refusal (sym c.refusal.ensures.exact ∙ c.in-Some.is)) fits
 
 pub returns-in-Err-clause-takes : goal.returns-in-Err-clause-takes
 returns-in-Err-clause-takes g c w room reading fits is =
     let p = c.args.self.now in
     let reason = Wire c.in-Err.fault in
     let datagram = rtcp (length c.args.bytes.now) (Err c.in-Err.fault) in
-    subst (λ (r : Result (List RtcpPacket) WireFault). Takes p (rtcp_came c.args.now c.args.peer w c.args.bytes.now r) (Err reason) p) (one_reading-once c.args.bytes.now (Err c.in-Err.fault) reading (c.in-Err.ensures.refused c.in-Err.fault refl) is)
-    (refuses p (arrived c.args.now c.args.peer w datagram) reason (λ h stands. fault_refused p h c.args.now c.args.peer w datagram reason stands (sym c.refusal.ensures.exact ∙ c.in_default.is) refl) fits)
+    subst (λ (r : Result (List RtcpPacket) WireFault). Takes p (rtcp_came c.args.now c.args.peer w c.args.bytes.now r)
+    (Err reason) p) (one_reading-once c.args.bytes.now (Err c.in-Err.fault) reading
+    (c.in-Err.ensures.refused c.in-Err.fault refl) is)
+    (refuses p (arrived c.args.now c.args.peer w datagram) reason
+    (λ h stands. fault_refused p h c.args.now c.args.peer w datagram reason stands
+    (sym c.refusal.ensures.exact ∙ c.in_default.is) refl) fits)
 
 pub returns-clause-takes : goal.returns-clause-takes
 returns-clause-takes g c w room reading fits is =
-    subst (λ (r : Result (List RtcpPacket) WireFault). IfSome c.arrive_told.result (λ reply. Takes c.args.self.now (rtcp_came c.args.now c.args.peer w c.args.bytes.now r) (reply_value room reply) c.arrive_told.new.self)) (one_reading-once c.args.bytes.now (Ok c.in-Ok.compound) reading c.in-Ok.ensures.accepted is)
+    subst (λ (r : Result (List RtcpPacket) WireFault). IfSome c.arrive_told.result
+    (λ reply. Takes c.args.self.now (rtcp_came c.args.now c.args.peer w c.args.bytes.now r)
+    (reply_value room reply) c.arrive_told.new.self))
+    (one_reading-once c.args.bytes.now (Ok c.in-Ok.compound) reading c.in-Ok.ensures.accepted is)
     (c.arrive_told.ensures.takes w room fits)
 
 pub returns-clause-own : goal.returns-clause-own
 returns-clause-own g c reading is none =
-    subst (λ (r : Result (List RtcpPacket) WireFault). is_about c.args.self.now.presence.setup.ssrc (rtcp (length c.args.bytes.now) r) ≡ true) (one_reading-once c.args.bytes.now (Ok c.in-Ok.compound) reading c.in-Ok.ensures.accepted is) (c.arrive_told.ensures.own none)
+    subst (λ (r : Result (List RtcpPacket) WireFault). is_about c.args.self.now.presence.setup.ssrc
+    (rtcp (length c.args.bytes.now) r) ≡ true)
+    (one_reading-once c.args.bytes.now (Ok c.in-Ok.compound) reading c.in-Ok.ensures.accepted is)
+    (c.arrive_told.ensures.own none)

@@ -19,11 +19,15 @@ returns-then-is_named_by-clause-takes g c w room fits =
     let act = arrived c.args.now c.args.peer w (datagram_of arrival) in
     let own = sym c.is_named_by.ensures ∙ c.if-is_named_by.true in
     let may = may_change (map (λ (change : Change). change.peer) p.changes) c.args.peer in
-    let taken : Option (Result Told Refusal) → Type 0 = λ result. IfSome result (λ reply. Takes p act (reply_value room reply) p) in
-    subst taken (sym c.own_refusal.ensures) (elim may as (λ b. may ≡ b → taken (if b then None else Some (Err OwnSsrc))) [
+    let taken : Option (Result Told Refusal) →
+    Type 0 = λ result. IfSome result (λ reply. Takes p act (reply_value room reply) p) in
+    subst taken (sym c.own_refusal.ensures)
+    (elim may as (λ b. may ≡ b → taken (if b then None else Some (Err OwnSsrc))) [
       | true ↦ λ _. tt
-      | false ↦ λ no. refuses p act OwnSsrc (own_refused p c.args.now c.args.peer w arrival c.requires.admitted own no) fits
+      | false ↦ λ no. refuses p act OwnSsrc (own_refused p c.args.now c.args.peer w arrival c.requires.admitted own no)
+          fits
     ] refl)
 
 pub returns-then-is_named_by-clause-passes : goal.returns-then-is_named_by-clause-passes
-returns-then-is_named_by-clause-passes g c = passed_or_refused c.args.self.now c.args.peer c.own_refusal.result c.own_refusal.ensures c.requires.within
+returns-then-is_named_by-clause-passes g c = passed_or_refused c.args.self.now c.args.peer c.own_refusal.result
+    c.own_refusal.ensures c.requires.within

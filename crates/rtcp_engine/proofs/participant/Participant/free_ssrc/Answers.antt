@@ -10,20 +10,25 @@ pub returns-then-not-is_taken : goal.returns-then-not-is_taken
 returns-then-not-is_taken g c history h there =
     let session = session_at history in
     let datagram = datagram_of c.args.arrival.now in
-    first_is_chosen (most_taken session datagram) (is_taken session datagram) c.args.w c.tries.offset c.ranges.w.fits (new_is_free history datagram c.args.w h.is_history c.ranges.w.fits (omega (arith, c.requires.few)))
+    first_is_chosen (most_taken session datagram) (is_taken session datagram) c.args.w c.tries.offset c.ranges.w.fits
+    (new_is_free history datagram c.args.w h.is_history c.ranges.w.fits (omega (arith, c.requires.few)))
     (c.tries.invariant history h there) (sym (c.is_taken.ensures session h.session there) ∙ c.if-not-is_taken.true)
 
 pub tries-preserved : goal.tries-preserved
 tries-preserved g c history h there place within =
     let session = session_at history in
-    one_more_taken (is_taken session (datagram_of c.args.arrival.now)) c.args.w c.tries.offset (c.tries.invariant history h there) (sym (c.is_taken.ensures session h.session there) ∙ c.if-not-is_taken.false) place within
+    one_more_taken (is_taken session (datagram_of c.args.arrival.now)) c.args.w c.tries.offset
+    (c.tries.invariant history h there) (sym (c.is_taken.ensures session h.session there) ∙ c.if-not-is_taken.false)
+    place within
 
 pub returns : goal.returns
 returns g c history h there =
     let session = session_at history in
     let datagram = datagram_of c.args.arrival.now in
     let free = new_is_free history datagram c.args.w h.is_history c.ranges.w.fits (omega (arith, c.requires.few)) in
-    let taken = some_is_free (most_taken session datagram) (is_taken session datagram) c.args.w c.tries.offset c.ranges.w.fits (omega (arith, few_are_taken history datagram h.is_history c.requires.few, c.tries-test.false)) (c.tries.invariant history h there) in
+    let taken = some_is_free (most_taken session datagram) (is_taken session datagram) c.args.w c.tries.offset
+    c.ranges.w.fits (omega (arith, few_are_taken history datagram h.is_history c.requires.few, c.tries-test.false))
+    (c.tries.invariant history h there) in
     absurd (both (is_taken session datagram (new_identifier c.args.w session datagram)) taken free)
   where
     both : (b : Bool) → b ≡ true → b ≡ false → ⊥

@@ -9,4 +9,5 @@ use Rattle.rtcp_engine.proofs.participant.Participant.free_ssrc.Given as goal
 abbrev pub invariant-tries : goal.invariant-tries
 invariant-tries g l =
     (history : History) → StandsAt l.fn.self history → (l.fn.self.phase ≡ over → ⊥) →
-    (place : ℕ) → place < l.offset → is_taken (session_at history) (datagram_of l.fn.arrival) ((l.fn.w + place) % 2 ^ 32) ≡ true
+    (place : ℕ) → place < l.offset → is_taken (session_at history) (datagram_of l.fn.arrival)
+    ((l.fn.w + place) % 2 ^ 32) ≡ true

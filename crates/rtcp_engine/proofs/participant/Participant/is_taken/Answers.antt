@@ -23,9 +23,11 @@ returns-then-knows g c session h there =
     let named = is_among (named_by (datagram_of c.args.arrival.now)) c.args.ssrc in
     let held = λ (s : State). is_some (finite.get s.table.entries c.args.ssrc) in
     let value : c.if-is_own.value ≡ (own || table) = elim c.if-is_own.branch [
-      | then-is_own w ↦ one_of c.if-is_own.value own table (sym (c.is_own.ensures session h) ∙ w.if-is_own.true) (w.value-is ∙ w.if-is_own.true)
+      | then-is_own w ↦ one_of c.if-is_own.value own table (sym (c.is_own.ensures session h) ∙ w.if-is_own.true)
+          (w.value-is ∙ w.if-is_own.true)
       | else-is_own w ↦ other_of c.if-is_own.value own table (sym (c.is_own.ensures session h) ∙ w.if-is_own.false)
-          (w.value-is ∙ w.knows.ensures ∙ ap (λ (x : ParticipantValue). held x.presence) c.self.view_is ∙ held_at p session.setup c.args.ssrc session.life h.life there h.setup)
+          (w.value-is ∙ w.knows.ensures ∙ ap (λ (x : ParticipantValue). held x.presence) c.self.view_is
+          ∙ held_at p session.setup c.args.ssrc session.life h.life there h.setup)
     ] in
     c.if-knows.true ∙ sym (ap (λ (b : Bool). b || named) (sym value ∙ c.if-knows.true)) ∙ or_assoc own table named
 
@@ -37,8 +39,10 @@ returns-else-knows g c session h there =
     let named = is_among (named_by (datagram_of c.args.arrival.now)) c.args.ssrc in
     let held = λ (s : State). is_some (finite.get s.table.entries c.args.ssrc) in
     let value : c.if-is_own.value ≡ (own || table) = elim c.if-is_own.branch [
-      | then-is_own w ↦ one_of c.if-is_own.value own table (sym (c.is_own.ensures session h) ∙ w.if-is_own.true) (w.value-is ∙ w.if-is_own.true)
+      | then-is_own w ↦ one_of c.if-is_own.value own table (sym (c.is_own.ensures session h) ∙ w.if-is_own.true)
+          (w.value-is ∙ w.if-is_own.true)
       | else-is_own w ↦ other_of c.if-is_own.value own table (sym (c.is_own.ensures session h) ∙ w.if-is_own.false)
-          (w.value-is ∙ w.knows.ensures ∙ ap (λ (x : ParticipantValue). held x.presence) c.self.view_is ∙ held_at p session.setup c.args.ssrc session.life h.life there h.setup)
+          (w.value-is ∙ w.knows.ensures ∙ ap (λ (x : ParticipantValue). held x.presence) c.self.view_is
+          ∙ held_at p session.setup c.args.ssrc session.life h.life there h.setup)
     ] in
     c.names.ensures ∙ sym (ap (λ (b : Bool). b || named) (sym value ∙ c.if-knows.false)) ∙ or_assoc own table named

@@ -9,8 +9,11 @@ use Rattle.rtcp_engine.proofs.participant.Participant.take_datagram.Goals as goa
 pub returns-in-Present-clause-new : goal.returns-in-Present-clause-new
 returns-in-Present-clause-new g c peer word =
     let phase = ap phase_value c.in-Present.is in
-    outside c.self.view_is (acts_present phase phase refl c.take_datagram.ensures.new (λ setup outcome. refl) (λ outcome agrees. refl) c.take_datagram.ensures.moved)
+    outside c.self.view_is (acts_present phase phase refl c.take_datagram.ensures.new (λ setup outcome. refl)
+    (λ outcome agrees. refl) c.take_datagram.ensures.moved)
 
 pub returns-in-Rtcp-clause-new : goal.returns-in-Rtcp-clause-new
 returns-in-Rtcp-clause-new g c peer word =
-    subst (λ (arrival : Arrival). Acts c.args.self.now c.count_farewell.new.self (arrived c.args.now peer word (datagram_of arrival)) None false) (sym c.in-Rtcp.is) (c.count_farewell.ensures.new c.args.now peer word)
+    subst (λ (arrival : Arrival). Acts c.args.self.now c.count_farewell.new.self
+    (arrived c.args.now peer word (datagram_of arrival)) None false) (sym c.in-Rtcp.is)
+    (c.count_farewell.ensures.new c.args.now peer word)

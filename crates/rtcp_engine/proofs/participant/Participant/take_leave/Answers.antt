@@ -6,13 +6,17 @@ use Rattle.rtcp_engine.proofs.participant.Participant.take_leave.Goals as goal
 
 pub returns-in-BackingOff-clause-new : goal.returns-in-BackingOff-clause-new
 returns-in-BackingOff-clause-new g c =
-    acts_passing _ (sym (ap (λ (p : ParticipantValue). p.phase) c.self.view_is) ∙ ap phase_value c.in-BackingOff.is) (λ setup outcome backoff. refl) (λ setup outcome backoff. refl)
+    acts_passing _ (sym (ap (λ (p : ParticipantValue). p.phase) c.self.view_is) ∙ ap phase_value c.in-BackingOff.is)
+    (λ setup outcome backoff. refl) (λ setup outcome backoff. refl)
 
 pub returns-in-Gone-clause-new : goal.returns-in-Gone-clause-new
-returns-in-Gone-clause-new g c = acts_gone (sym (ap (λ (p : ParticipantValue). p.phase) c.self.view_is) ∙ ap phase_value c.in-Gone.is)
+returns-in-Gone-clause-new g c = acts_gone (sym (ap (λ (p : ParticipantValue). p.phase) c.self.view_is)
+    ∙ ap phase_value c.in-Gone.is)
 
 pub returns-in-Present-clause-new : goal.returns-in-Present-clause-new
 returns-in-Present-clause-new g c =
     let others = c.has_others-others_changed.result in
-    let there : HasOthers c.args.self.now.presence others = subst (λ (p : ParticipantValue). HasOthers p.presence others) c.self.view_is c.has_others-others_changed.ensures in
+    let there : HasOthers c.args.self.now.presence others =
+    subst (λ (p : ParticipantValue). HasOthers p.presence others) c.self.view_is
+    c.has_others-others_changed.ensures in
     c.depart.ensures.new others there

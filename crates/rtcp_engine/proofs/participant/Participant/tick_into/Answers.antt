@@ -9,14 +9,21 @@ use Rattle.rtcp_engine.proofs.participant.Participant.tick_into.Goals as goal
 pub returns-in-Some-clause-takes : goal.returns-in-Some-clause-takes
 returns-in-Some-clause-takes g c =
     let act = ticked c.args.now c.args.w1 c.args.w2 in
-    refuses c.args.self.now act c.in-Some.refusal (call_refused_by c.args.self.now act c.in-Some.refusal (sym c.refusal.ensures.exact ∙ c.in-Some.is)) (c.ranges.w1.fits, c.ranges.w2.fits)
+    refuses c.args.self.now act c.in-Some.refusal
+    (call_refused_by c.args.self.now act c.in-Some.refusal (sym c.refusal.ensures.exact ∙ c.in-Some.is))
+    (c.ranges.w1.fits, c.ranges.w2.fits)
 
 pub returns-clause-takes : goal.returns-clause-takes
 returns-clause-takes g c =
     let act = ticked c.args.now c.args.w1 c.args.w2 in
-    takes _ (plain_call c.args.self.now act (sym c.refusal.ensures.exact ∙ c.in_default.is) (λ session. refl) (λ session. refl))
-    (subst (λ (x : ParticipantValue). Acts x c.take_tick-brought.new.self (ticked x.presence.latest c.args.w1 c.args.w2) (out_with c.take_tick-brought.new.octets.items c.take_tick-brought.result.out) c.take_tick-brought.result.others_changed) c.take_call.ensures.new c.take_tick-brought.ensures.new) (c.told.ensures.exact c.take_tick-brought.new.octets.items) (c.ranges.w1.fits, c.ranges.w2.fits)
+    takes _ (plain_call c.args.self.now act (sym c.refusal.ensures.exact ∙ c.in_default.is) (λ session. refl)
+    (λ session. refl))
+    (subst (λ (x : ParticipantValue). Acts x c.take_tick-brought.new.self (ticked x.presence.latest c.args.w1 c.args.w2)
+    (out_with c.take_tick-brought.new.octets.items c.take_tick-brought.result.out)
+    c.take_tick-brought.result.others_changed) c.take_call.ensures.new c.take_tick-brought.ensures.new)
+    (c.told.ensures.exact c.take_tick-brought.new.octets.items) (c.ranges.w1.fits, c.ranges.w2.fits)
 
 pub returns-clause-not_too_late : goal.returns-clause-not_too_late
 returns-clause-not_too_late g c history h late =
-    sends_if_late history c.args.now c.args.w1 c.args.w2 c.take_tick-brought.new.octets.items (Ok c.told.result) (c.ranges.w1.fits, c.ranges.w2.fits) h.is_history ((returns-clause-takes g c).answer history h) late
+    sends_if_late history c.args.now c.args.w1 c.args.w2 c.take_tick-brought.new.octets.items (Ok c.told.result)
+    (c.ranges.w1.fits, c.ranges.w2.fits) h.is_history ((returns-clause-takes g c).answer history h) late

@@ -11,7 +11,11 @@ use Rattle.rtcp_engine.proofs.participant.Participant.told.Goals as goal
 pub returns-in-Present-clause-exact : goal.returns-in-Present-clause-exact
 returns-in-Present-clause-exact g c octets life at =
     let s = c.self.inside.presence in
-    let p : ParticipantValue = record { presence = s; phase = phase_value c.self.inside.phase; changes = c.self.inside.changes.list.items } in
+    let p : ParticipantValue = record {
+      presence = s;
+      phase = phase_value c.self.inside.phase;
+      changes = c.self.inside.changes.list.items;
+    } in
     let brought = c.args.brought in
     let out = out_with octets brought.out in
     let told = told_value octets (record {
@@ -33,4 +37,5 @@ returns-in-Present-clause-exact g c octets life at =
       changed = None;
       others_changed = brought.others_changed;
     }) life (inside_at c.self.view_is life at)
-    ∙ ap (λ (setup : Setup). step_into setup out brought.others_changed life) (ap (λ (p : ParticipantValue). p.presence.setup) c.self.view_is)
+    ∙ ap (λ (setup : Setup). step_into setup out brought.others_changed life)
+    (ap (λ (p : ParticipantValue). p.presence.setup) c.self.view_is)

@@ -13,23 +13,39 @@ pub returns-then-not-expire_backoff-clause-new : goal.returns-then-not-expire_ba
 returns-then-not-expire_backoff-clause-new g c w2 =
     let phase = ap (λ (p : ParticipantValue). p.phase) c.self.view_is ∙ c.requires.phase in
     let setup = c.self.inside.presence.setup in
-    let q : ParticipantValue = record { presence = c.expire_backoff.new.self; phase = Rattle.rtcp_engine.specs.Views.phase_value c.self.inside.phase; changes = c.self.inside.changes.list.items } in
-    outside_at (λ (p : ParticipantValue). ticked p.presence.latest c.args.w1 w2) c.self.view_is (acts_from_backoff c.args.members phase c.expire_backoff.ensures.new.stays refl
+    let q : ParticipantValue = record {
+      presence = c.expire_backoff.new.self;
+      phase = Rattle.rtcp_engine.specs.Views.phase_value c.self.inside.phase;
+      changes = c.self.inside.changes.list.items;
+    } in
+    outside_at (λ (p : ParticipantValue). ticked p.presence.latest c.args.w1 w2) c.self.view_is
+    (acts_from_backoff c.args.members phase c.expire_backoff.ensures.new.stays refl
     (λ outcome backoff waits count.
     let due = sym (c.expire_backoff.ensures.due outcome backoff waits count) ∙ c.if-not-expire_backoff.true in
-    subst (λ (b : Bool). IsAt q (if b then gone outcome else backing_off outcome (after_wait setup c.self.inside.presence.latest c.args.w1 backoff))) (sym due)
-    (phase ∙ ap leaving (count ∙ sym (wait_keeps_count setup c.self.inside.presence.latest c.args.w1 backoff)), c.expire_backoff.ensures.new.follows outcome backoff waits count))
-    (λ outcome backoff waits count. ap (λ (b : Bool). if b then Some (bye_out (bye_octets setup)) else None) (sym c.if-not-expire_backoff.true ∙ c.expire_backoff.ensures.due outcome backoff waits count)))
+    subst (λ (b : Bool). IsAt q (if b then gone outcome else backing_off outcome
+    (after_wait setup c.self.inside.presence.latest c.args.w1 backoff))) (sym due) (
+      phase ∙ ap leaving (count ∙ sym (wait_keeps_count setup c.self.inside.presence.latest c.args.w1 backoff)),
+      c.expire_backoff.ensures.new.follows outcome backoff waits count,
+    ))
+    (λ outcome backoff waits count. ap (λ (b : Bool). if b then Some (bye_out (bye_octets setup)) else None)
+    (sym c.if-not-expire_backoff.true ∙ c.expire_backoff.ensures.due outcome backoff waits count)))
 
 pub returns-clause-new : goal.returns-clause-new
 returns-clause-new g c w2 =
     let phase = ap (λ (p : ParticipantValue). p.phase) c.self.view_is ∙ c.requires.phase in
     let setup = c.self.inside.presence.setup in
-    let q : ParticipantValue = record { presence = c.expire_backoff.new.self; phase = Rattle.rtcp_engine.specs.States.over; changes = c.self.inside.changes.list.items } in
-    outside_at (λ (p : ParticipantValue). ticked p.presence.latest c.args.w1 w2) c.self.view_is (acts_from_backoff c.args.members phase c.expire_backoff.ensures.new.stays refl
+    let q : ParticipantValue = record {
+      presence = c.expire_backoff.new.self;
+      phase = Rattle.rtcp_engine.specs.States.over;
+      changes = c.self.inside.changes.list.items;
+    } in
+    outside_at (λ (p : ParticipantValue). ticked p.presence.latest c.args.w1 w2) c.self.view_is
+    (acts_from_backoff c.args.members phase c.expire_backoff.ensures.new.stays refl
     (λ outcome backoff waits count.
     let due = sym (c.expire_backoff.ensures.due outcome backoff waits count) ∙ c.if-not-expire_backoff.false in
-    subst (λ (b : Bool). IsAt q (if b then gone outcome else backing_off outcome (after_wait setup c.self.inside.presence.latest c.args.w1 backoff))) (sym due) refl)
+    subst (λ (b : Bool). IsAt q (if b then gone outcome else backing_off outcome
+    (after_wait setup c.self.inside.presence.latest c.args.w1 backoff))) (sym due) refl)
     (λ outcome backoff waits count.
     c.bye.ensures ∙ ap (λ (st : Setup). Some (bye_out (bye_octets st))) c.expire_backoff.ensures.new.stays.setup
-    ∙ ap (λ (b : Bool). if b then Some (bye_out (bye_octets setup)) else None) (sym c.if-not-expire_backoff.false ∙ c.expire_backoff.ensures.due outcome backoff waits count)))
+    ∙ ap (λ (b : Bool). if b then Some (bye_out (bye_octets setup)) else None)
+    (sym c.if-not-expire_backoff.false ∙ c.expire_backoff.ensures.due outcome backoff waits count)))

@@ -15,20 +15,30 @@ invariant_of-self g c =
     let inside = c.self.inside in
     let content = g.T.MemberTable.content in
     let horizons = horizons_at c.saturating_sub.result c.saturating_sub-idle.result c.saturating_sub-2.result in
-    let is_kept = subst (λ (table : TableValue). IsKept (content inside.table) table inside.calls) (sym c.check-moved.ensures.content) (check_kept c.self.invariant horizons) in
-    kept c.self.invariant (content c.check-moved.new.table) inside.schedule inside.average c.check.new.self inside.cursor inside.reports inside.latest inside.calls is_kept (no_call c.self.invariant)
+    let is_kept = subst (λ (table : TableValue). IsKept (content inside.table) table inside.calls)
+    (sym c.check-moved.ensures.content) (check_kept c.self.invariant horizons) in
+    kept c.self.invariant (content c.check-moved.new.table) inside.schedule inside.average c.check.new.self
+    inside.cursor inside.reports inside.latest inside.calls is_kept (no_call c.self.invariant)
 
 pub returns-clause-new : goal.returns-clause-new
 returns-clause-new g c =
     let inside = c.self.inside in
-    let table : g.T.MemberTable.content c.check-moved.new.table ≡ after_check (horizons_of inside.latest c.receiver_interval-td.result) (g.T.MemberTable.content inside.table) =
-    c.check-moved.ensures.content ∙ (λ i. after_check (horizons_at (c.saturating_sub.ensures i) (c.saturating_sub-idle.ensures i) (c.saturating_sub-2.ensures i)) (g.T.MemberTable.content inside.table)) in
+    let table : g.T.MemberTable.content c.check-moved.new.table ≡ after_check
+    (horizons_of inside.latest c.receiver_interval-td.result) (g.T.MemberTable.content inside.table) =
+    c.check-moved.ensures.content ∙ (λ i. after_check
+    (horizons_at (c.saturating_sub.ensures i) (c.saturating_sub-idle.ensures i) (c.saturating_sub-2.ensures i))
+    (g.T.MemberTable.content inside.table)) in
     does_at c.self.view_is (λ t setup. without_silent setup t)
-    (drops c.self.view_is (g.T.MemberTable.content c.check-moved.new.table) c.check.new.self inside.latest c.receiver_interval-td.result c.receiver_interval-td.ensures.exact
-    table (subst (λ (idle : ℕ). Adds inside.own c.check.new.self (check_passed idle)) c.saturating_sub-idle.ensures c.check.ensures) (invariant_of-self g c).room)
+    (drops c.self.view_is (g.T.MemberTable.content c.check-moved.new.table) c.check.new.self inside.latest
+    c.receiver_interval-td.result c.receiver_interval-td.ensures.exact
+    table (subst (λ (idle : ℕ). Adds inside.own c.check.new.self (check_passed idle)) c.saturating_sub-idle.ensures
+    c.check.ensures) (invariant_of-self g c).room)
 
 pub returns-clause-moved : goal.returns-clause-moved
 returns-clause-moved g c =
     at_latest c.self.view_is (λ t. Moves c.args.self.now c.check-moved.result (λ setup. without_silent setup t))
-    (moves_check c.self.view_is c.self.inside.latest c.receiver_interval-td.result c.check-moved.result c.receiver_interval-td.ensures.exact
-    (c.check-moved.ensures.moved ∙ (λ i. check_moves (horizons_at (c.saturating_sub.ensures i) (c.saturating_sub-idle.ensures i) (c.saturating_sub-2.ensures i)) (g.T.MemberTable.content c.self.inside.table))))
+    (moves_check c.self.view_is c.self.inside.latest c.receiver_interval-td.result c.check-moved.result
+    c.receiver_interval-td.ensures.exact
+    (c.check-moved.ensures.moved ∙ (λ i. check_moves
+    (horizons_at (c.saturating_sub.ensures i) (c.saturating_sub-idle.ensures i) (c.saturating_sub-2.ensures i))
+    (g.T.MemberTable.content c.self.inside.table))))

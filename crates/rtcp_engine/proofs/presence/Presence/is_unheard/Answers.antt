@@ -4,4 +4,5 @@ use Rattle.rtcp_engine.proofs.Doing.{seen}
 use Rattle.rtcp_engine.proofs.presence.Presence.is_unheard.Goals as goal
 
 pub returns : goal.returns
-returns g c outcome agrees = ap not (c.is_heard.ensures ∙ ap (λ (own : OwnValue). own.heard) (seen c.self.view_is outcome agrees).own)
+returns g c outcome agrees = ap not
+    (c.is_heard.ensures ∙ ap (λ (own : OwnValue). own.heard) (seen c.self.view_is outcome agrees).own)

@@ -14,16 +14,25 @@ pub invariant_of-self : goal.invariant_of-self
 invariant_of-self g c =
     let content = g.T.MemberTable.content in
     let inside = c.self.inside in
-    let rows = reported_rows (reporter_by (setup_of inside.config) inside.own (inside.reports + 1) inside.latest) inside.config.limit inside.cursor (content inside.table) in
-    let is_kept = subst (λ (table : TableValue). IsKept (content inside.table) table inside.calls) (sym c.write_numbered.ensures.content) (blocks_kept c.self.invariant rows) in
-    let fewer : inside.reports + 1 ≤ inside.calls = omega (arith, c.requires.reports, ap (λ (s : State). s.reports) c.self.view_is, ap (λ (s : State). s.calls) c.self.view_is) in
+    let rows = reported_rows (reporter_by (setup_of inside.config) inside.own (inside.reports + 1) inside.latest)
+    inside.config.limit inside.cursor (content inside.table) in
+    let is_kept = subst (λ (table : TableValue). IsKept (content inside.table) table inside.calls)
+    (sym c.write_numbered.ensures.content) (blocks_kept c.self.invariant rows) in
+    let fewer : inside.reports + 1 ≤ inside.calls =
+    omega (
+      arith,
+      c.requires.reports,
+      ap (λ (s : State). s.reports) c.self.view_is,
+      ap (λ (s : State). s.calls) c.self.view_is,
+    ) in
     let in_step : IsInStep inside.schedule.last (inside.reports + 1) inside.latest inside.calls = record {
       is_past = c.self.invariant.timing;
       in_range = c.self.invariant.latest;
       fewer = fewer;
       few = c.self.invariant.calls;
     } in
-    kept c.self.invariant (content c.write_numbered.new.table) inside.schedule c.add.new.self c.reported.new.self c.write_numbered.new.cursor (inside.reports + 1) inside.latest inside.calls is_kept in_step
+    kept c.self.invariant (content c.write_numbered.new.table) inside.schedule c.add.new.self c.reported.new.self
+    c.write_numbered.new.cursor (inside.reports + 1) inside.latest inside.calls is_kept in_step
 
 pub returns-clause-report : goal.returns-clause-report
 returns-clause-report g c outcome agrees =
@@ -32,7 +41,10 @@ returns-clause-report g c outcome agrees =
 
 pub returns-clause-new : goal.returns-clause-new
 returns-clause-new g c =
-    let size = c.add.ensures.moves ∙ ap (moved_average c.self.inside.average) (c.len.ensures.value ∙ ap length c.write_numbered.ensures.octets) in
+    let size = c.add.ensures.moves ∙ ap (moved_average c.self.inside.average)
+    (c.len.ensures.value ∙ ap length c.write_numbered.ensures.octets) in
     does_at c.self.view_is (λ t setup. with_report setup t)
-    (makes c.self.view_is c.self.inside.latest (g.T.MemberTable.content c.write_numbered.new.table) c.add.new.self c.reported.new.self c.write_numbered.new.cursor
-    c.write_numbered.ensures.content size c.reported.ensures c.write_numbered.ensures.cursor (invariant_of-self g c).room)
+    (makes c.self.view_is c.self.inside.latest (g.T.MemberTable.content c.write_numbered.new.table) c.add.new.self
+    c.reported.new.self c.write_numbered.new.cursor
+    c.write_numbered.ensures.content size c.reported.ensures c.write_numbered.ensures.cursor
+    (invariant_of-self g c).room)

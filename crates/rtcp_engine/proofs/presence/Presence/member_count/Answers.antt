@@ -7,4 +7,6 @@ pub member_count-requires : goal.member_count-requires
 member_count-requires g c = omega (arith, c.self.invariant.room, c.self.invariant.usable.capacity.1)
 
 pub returns-clause-exact : goal.returns-clause-exact
-returns-clause-exact g c = of_view c.self.view_is (λ setup outcome. Rattle.rtcp_engine.specs.Outcomes.member_count setup outcome) (λ outcome agrees. c.member_count.ensures.exact ∙ members_agree _ outcome agrees)
+returns-clause-exact g c = of_view c.self.view_is
+    (λ setup outcome. Rattle.rtcp_engine.specs.Outcomes.member_count setup outcome)
+    (λ outcome agrees. c.member_count.ensures.exact ∙ members_agree _ outcome agrees)

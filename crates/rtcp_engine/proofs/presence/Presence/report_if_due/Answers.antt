@@ -5,12 +5,15 @@ use Rattle.rtcp_engine.proofs.presence.Presence.report_if_due.Goals as goal
 
 pub returns-then-not-try_report-clause-new : goal.returns-then-not-try_report-clause-new
 returns-then-not-try_report-clause-new g c =
-    puts_off c.args.self.now.latest c.args.w1 c.args.w2 (λ outcome agrees. sym c.if-not-try_report.true ∙ c.try_report.ensures.due outcome agrees) c.try_report.ensures.new
+    puts_off c.args.self.now.latest c.args.w1 c.args.w2 (λ outcome agrees. sym c.if-not-try_report.true
+    ∙ c.try_report.ensures.due outcome agrees) c.try_report.ensures.new
 
 pub returns-clause-report : goal.returns-clause-report
 returns-clause-report g c outcome agrees =
-    ap (option_map report_out) (hands_out c.args.w1 c.send_report.new.octets.items (λ o a. sym c.if-not-try_report.false ∙ c.try_report.ensures.due o a) c.try_report.ensures.new c.send_report.ensures.report outcome agrees)
+    ap (option_map report_out) (hands_out c.args.w1 c.send_report.new.octets.items (λ o a. sym c.if-not-try_report.false
+    ∙ c.try_report.ensures.due o a) c.try_report.ensures.new c.send_report.ensures.report outcome agrees)
 
 pub returns-clause-new : goal.returns-clause-new
 returns-clause-new g c =
-    reports_now c.args.w1 c.args.w2 (λ outcome agrees. sym c.if-not-try_report.false ∙ c.try_report.ensures.due outcome agrees) c.try_report.ensures.new c.send_report.ensures.new
+    reports_now c.args.w1 c.args.w2 (λ outcome agrees. sym c.if-not-try_report.false
+    ∙ c.try_report.ensures.due outcome agrees) c.try_report.ensures.new c.send_report.ensures.new

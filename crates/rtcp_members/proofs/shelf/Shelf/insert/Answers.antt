@@ -24,7 +24,12 @@ module _ (old cells shifted : List Cell) (used at until place : ℕ) (entry : En
   slot = record { ssrc = entry.ssrc; place = place }
 
   below_used : at ≤ used
-  below_used = omega (arith, gap.in_range, length-map (take used (slots_in old)) (entry_in (entries_in old)), length-take-le used (slots_in old) indexed.heap.in_use)
+  below_used = omega (
+    arith,
+    gap.in_range,
+    length-map (take used (slots_in old)) (entry_in (entries_in old)),
+    length-take-le used (slots_in old) indexed.heap.in_use,
+  )
 
   fits : used < length cells
   fits = omega (arith, put.in_use, put.all, length-map cells (λ (x : Cell). x.entry))
@@ -64,7 +69,13 @@ returns-clause-items g c =
     let items = ap (λ (v : ShelfValue). v.items) c.self.view_is in
     let gap = subst (λ (entries : List Entry). IsGapFor c.args.entry.ssrc entries c.args.gap)
     (sym items) c.requires.gap in
-    let few : length cells ≤ 1024 = omega (arith, ap (λ (xs : List Cell). length xs) lent, c.as_mut_slice.ensures.fits, c.lay-place.ensures.room, c.self.invariant.few) in
+    let few : length cells ≤ 1024 = omega (
+      arith,
+      ap (λ (xs : List Cell). length xs) lent,
+      c.as_mut_slice.ensures.fits,
+      c.lay-place.ensures.room,
+      c.self.invariant.few,
+    ) in
     let slots = c.shift.ensures.slots ∙ ap (λ xs. take (2 * until) (insert (pairs_in xs) c.args.gap slot) ++ drop
     (2 * until) (pairs_in xs)) lent in
     let entries = c.shift.ensures.entries ∙ ap entries_in lent in
@@ -87,7 +98,13 @@ invariant_of-self g c =
     let items = ap (λ (v : ShelfValue). v.items) c.self.view_is in
     let gap = subst (λ (entries : List Entry). IsGapFor c.args.entry.ssrc entries c.args.gap)
     (sym items) c.requires.gap in
-    let few : length cells ≤ 1024 = omega (arith, ap (λ (xs : List Cell). length xs) lent, c.as_mut_slice.ensures.fits, c.lay-place.ensures.room, c.self.invariant.few) in
+    let few : length cells ≤ 1024 = omega (
+      arith,
+      ap (λ (xs : List Cell). length xs) lent,
+      c.as_mut_slice.ensures.fits,
+      c.lay-place.ensures.room,
+      c.self.invariant.few,
+    ) in
     let slots = c.shift.ensures.slots ∙ ap (λ xs. take (2 * until) (insert (pairs_in xs) c.args.gap slot) ++ drop
     (2 * until) (pairs_in xs)) lent in
     let entries = c.shift.ensures.entries ∙ ap entries_in lent in
@@ -97,5 +114,10 @@ invariant_of-self g c =
       index = subst (λ xs. IsIndexed xs (used + 1)) (sym whole)
           (still_indexed before cells shifted used c.args.gap until c.lay-place.result c.args.entry
           c.self.invariant.index c.lay-place.ensures.put gap refl few slots entries);
-      few = omega (arith, c.self.invariant.few, c.lay-place.ensures.room, g.met.B.Blocks.kept c.lay-place.new.cells shifted);
+      few = omega (
+        arith,
+        c.self.invariant.few,
+        c.lay-place.ensures.room,
+        g.met.B.Blocks.kept c.lay-place.new.cells shifted,
+      );
     }

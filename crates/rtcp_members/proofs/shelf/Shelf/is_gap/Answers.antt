@@ -38,8 +38,11 @@ returns-then-rank-self-2 g c =
     c.as_slice-cells.ensures.cells in_range in
     let last : 0 < c.args.rank → (slice_index_or (take used (slots_in cells))
     (c.args.rank - 1) no_slot).ssrc < c.args.ssrc = elim c.else-rank-gt0.branch [
-      | else-rank-gt0-via-then-rank-gt0+else-ssrc-slot_at w ↦ λ some. omega
-          (arith, read w.slot_at.result (c.args.rank - 1) (omega (arith, some, in_range)) w.slot_at.ensures, w.if-ssrc-slot_at.false)
+      | else-rank-gt0-via-then-rank-gt0+else-ssrc-slot_at w ↦ λ some. omega (
+        arith,
+        read w.slot_at.result (c.args.rank - 1) (omega (arith, some, in_range)) w.slot_at.ensures,
+        w.if-ssrc-slot_at.false,
+      )
       | else-rank-gt0-via-else-rank-gt0 w ↦ λ some. absurd (omega (arith, some, w.if-rank-gt0.false))
     ] in
     λ true. subst (λ (entries : List Entry). IsGapFor c.args.ssrc entries c.args.rank) (ap (λ
@@ -56,12 +59,19 @@ returns-else-rank-self-2 g c =
     c.as_slice-cells.ensures.cells in_range in
     let last : 0 < c.args.rank → (slice_index_or (take used (slots_in cells))
     (c.args.rank - 1) no_slot).ssrc < c.args.ssrc = elim c.else-rank-gt0.branch [
-      | else-rank-gt0-via-then-rank-gt0+else-ssrc-slot_at w ↦ λ some. omega
-          (arith, read w.slot_at.result (c.args.rank - 1) (omega (arith, some, in_range)) w.slot_at.ensures, w.if-ssrc-slot_at.false)
+      | else-rank-gt0-via-then-rank-gt0+else-ssrc-slot_at w ↦ λ some. omega (
+        arith,
+        read w.slot_at.result (c.args.rank - 1) (omega (arith, some, in_range)) w.slot_at.ensures,
+        w.if-ssrc-slot_at.false,
+      )
       | else-rank-gt0-via-else-rank-gt0 w ↦ λ some. absurd (omega (arith, some, w.if-rank-gt0.false))
     ] in
     λ less. subst (λ (entries : List Entry). IsGapFor c.args.ssrc entries c.args.rank) (ap (λ
     (v : ShelfValue). v.items) c.self.view_is)
     (gap cells c.as_slice-cells.result.now used c.args.ssrc c.args.rank c.self.invariant.index
     c.as_slice-cells.ensures.cells in_range last
-    (λ early. omega (arith, read c.slot_at-else-rank-self-2.result c.args.rank early c.slot_at-else-rank-self-2.ensures, ltb-true c.args.ssrc c.slot_at-else-rank-self-2.result.ssrc less)))
+    (λ early. omega (
+      arith,
+      read c.slot_at-else-rank-self-2.result c.args.rank early c.slot_at-else-rank-self-2.ensures,
+      ltb-true c.args.ssrc c.slot_at-else-rank-self-2.result.ssrc less,
+    )))

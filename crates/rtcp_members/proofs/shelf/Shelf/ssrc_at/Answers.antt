@@ -18,7 +18,13 @@ returns g c =
     let heap = c.self.invariant.index.heap in
     let items = ap (λ (v : ShelfValue). v.items) c.self.view_is in
     let as_long : length (take used (slots_in cells)) ≡ used = length-take-le used (slots_in cells) heap.in_use in
-    let early : c.args.at < used = omega (arith, c.requires, ap (λ (xs : List Entry). length xs) items, as_long, length-map (take used (slots_in cells)) (entry_in (entries_in cells))) in
+    let early : c.args.at < used = omega (
+      arith,
+      c.requires,
+      ap (λ (xs : List Entry). length xs) items,
+      as_long,
+      length-map (take used (slots_in cells)) (entry_in (entries_in cells)),
+    ) in
     let its = ap (λ (s : Slot). s.ssrc) (c.slot_at.ensures ∙ ap (λ xs. slice_index_or
     (pairs_in xs) c.args.at no_slot) c.as_slice.ensures.cells ∙ used_read cells used c.args.at heap.in_use early) in
     subst (λ (entries : List Entry). IsRankOf c.slot_at.result.ssrc entries c.args.at) items

@@ -78,10 +78,20 @@ invariant_of-self g c =
         ordered = subst (IsOrdered counts.members counts.senders) (sym made.items)
             (ordered_reported c.args.ssrc items at no_entry place made.entry counts.members counts.senders
             c.self.invariant.sorted.ordered (made.ssrc no_entry) (made.value no_entry));
-        within = omega (arith, as_many c.args.ssrc items next at reported_entry place made, c.self.invariant.sorted.within);
+        within = omega (
+          arith,
+          as_many c.args.ssrc items next at reported_entry place made,
+          c.self.invariant.sorted.within,
+        );
         room = c.self.invariant.sorted.room;
       };
-      its_due = omega (arith, c.self.invariant.its_due, due_reported c.args.ssrc items at no_entry place made.entry due (made.value no_entry), ap (tally_of is_due) made.items);
+      its_due = omega (
+        arith,
+        c.self.invariant.its_due,
+        due_reported c.args.ssrc items at no_entry place made.entry due
+            (made.value no_entry),
+        ap (tally_of is_due) made.items,
+      );
       roomy = omega (arith, c.self.invariant.roomy, c.report.ensures.room);
       standing = stand_edited c.args.ssrc items next at reported_entry place made c.self.inside.bounds
           (λ value stands. stands) c.self.invariant.standing;

@@ -10,4 +10,7 @@ pub invariant_of-self : goal.invariant_of-self
 invariant_of-self g c =
     let start = g.T.MemberTable.content c.args.self.now.table in
     let rows = reported_rows (reporter_of c.args.sender.now c.args.extra) c.args.limit c.args.self.now.cursor start in
-    record { few = subst (HasFew c.args.self.now.facts) (sym c.report-octets.ensures.content) (tables_follow_reports-packets c.args.self.now.facts rows start c.args.self.now.few) }
+    record {
+      few = subst (HasFew c.args.self.now.facts) (sym c.report-octets.ensures.content)
+          (tables_follow_reports-packets c.args.self.now.facts rows start c.args.self.now.few);
+    }

@@ -8,10 +8,12 @@ use Rattle.rtcp_serve.proofs.serving.turns.make_turns.Given as goal
 abbrev pub invariant-turns : goal.invariant-turns
 invariant-turns g l = record {
   row : l.tally.failures < 64;
-  room : (more : ℕ) → HasRoom (more + l.counter * 5) l.fn.tally (g.L.Link.value l.fn.link) → HasRoom more l.tally (g.L.Link.value l.link);
+  room : (more : ℕ) → HasRoom (more + l.counter * 5) l.fn.tally (g.L.Link.value l.fn.link) →
+      HasRoom more l.tally (g.L.Link.value l.link);
   leads : (reader : Reader) (total : ℕ) (s : Standing) → IsReader reader →
       Holds s l.fn.participant (g.R.Rng.stream l.fn.rng) l.fn.tally → s.stage ≡ resting → s.turns ≡ l.turns →
-      (calls : List Call) × (t : Standing) × Leads reader total calls s t (g.L.Link.value l.fn.link) (g.L.Link.value l.link)
+      (calls : List Call) × (t : Standing) × Leads reader total calls s t (g.L.Link.value l.fn.link)
+      (g.L.Link.value l.link)
       × Holds t l.participant (g.R.Rng.stream l.rng) l.tally × (t.stage ≡ resting) × (t.turns + l.counter ≡ l.turns)
       × (t.leaving ≡ s.leaving);
 }

@@ -9,6 +9,13 @@ pub invariant_of-self : goal.invariant_of-self
 invariant_of-self g c =
     let facts = c.args.self.now.facts in
     let next = after_fact c.args.fact c.args.t (g.T.MemberTable.content c.args.self.now.table) in
-    let counted = packets_are_few-fact facts (g.T.MemberTable.content c.args.self.now.table) c.args.fact c.args.t c.args.self.now.few in
-    let one = elim (is_media c.args.fact) as (λ b. (if b then facts + 1 else facts) ≤ facts + 1) [ true ↦ omega arith | false ↦ omega arith ] in
-    record { few = subst (HasFew (facts + 1)) (sym c.apply-applied.ensures.content) (packets_are_few-more _ (facts + 1) next one counted) }
+    let counted = packets_are_few-fact facts (g.T.MemberTable.content c.args.self.now.table) c.args.fact c.args.t
+    c.args.self.now.few in
+    let one = elim (is_media c.args.fact) as (λ b. (if b then facts + 1 else facts) ≤ facts + 1) [
+      | true ↦ omega arith
+      | false ↦ omega arith
+    ] in
+    record {
+      few = subst (HasFew (facts + 1)) (sym c.apply-applied.ensures.content)
+          (packets_are_few-more _ (facts + 1) next one counted);
+    }

@@ -6,8 +6,13 @@ use Rattle.rtcp_members.proofs.LawLemmas.{packets_are_few-block}
 use Rattle.rtcp_members_tests.proofs.members.session.Session.block.Goals as goal
 
 pub block_of-requires : goal.block_of-requires
-block_of-requires g c = first_is_due-answered c.args.after (g.T.MemberTable.content c.args.self.now.table) c.in_ok-ssrc.ssrc (search rules)
+block_of-requires g c = first_is_due-answered c.args.after (g.T.MemberTable.content c.args.self.now.table)
+    c.in_ok-ssrc.ssrc (search rules)
 
 pub invariant_of-self : goal.invariant_of-self
 invariant_of-self g c =
-    record { few = subst (HasFew c.args.self.now.facts) (sym c.block_of.ensures.content) (packets_are_few-block c.args.self.now.facts (g.T.MemberTable.content c.args.self.now.table) c.in_ok-ssrc.ssrc c.args.self.now.few) }
+    record {
+      few = subst (HasFew c.args.self.now.facts) (sym c.block_of.ensures.content)
+          (packets_are_few-block c.args.self.now.facts (g.T.MemberTable.content c.args.self.now.table) c.in_ok-ssrc.ssrc
+          c.args.self.now.few);
+    }

@@ -7,4 +7,8 @@ use Rattle.rtcp_members_tests.proofs.members.session.Session.check.Goals as goal
 
 pub invariant_of-self : goal.invariant_of-self
 invariant_of-self g c =
-    record { few = subst (HasFew c.args.self.now.facts) (sym c.check.ensures.content) (packets_are_few-check c.args.self.now.facts (g.T.MemberTable.content c.args.self.now.table) (horizons_at c.args.silent c.args.«data» c.args.gone) c.args.self.now.few) }
+    record {
+      few = subst (HasFew c.args.self.now.facts) (sym c.check.ensures.content)
+          (packets_are_few-check c.args.self.now.facts (g.T.MemberTable.content c.args.self.now.table)
+          (horizons_at c.args.silent c.args.«data» c.args.gone) c.args.self.now.few);
+    }
