@@ -16,8 +16,8 @@ use Rattle.rtcp_engine.specs.Refusals.{fault_in, refusal_after, refusal_if, refu
 use Rattle.rtcp_engine.specs.Setups.{Setup}
 use Rattle.rtcp_engine.specs.States.{KeepsCapacity, ParticipantValue, StandsAt, refusal_by}
 use Rattle.rtcp_engine.specs.Views.{datagram_of}
-use Rattle.rtcp_engine.proofs.Acting.{Takes}
-use Rattle.rtcp_engine.proofs.Standing.{refusal_is}
+use Rattle.rtcp_engine.proofs.ActLemmas.{Takes}
+use Rattle.rtcp_engine.proofs.AnswerLemmas.{refusal_is}
 
 -- one that was read has no fault
 no_fault : (arrival : Arrival) → fault_in (datagram_of arrival) ≡ None

@@ -21,7 +21,7 @@ use Rattle.rtcp_engine.specs.Outcomes.{Outcome, member_count}
 use Rattle.rtcp_engine.specs.Reporting.{reported_at}
 use Rattle.rtcp_engine.specs.Setups.{Setup}
 use Rattle.rtcp_engine.specs.Ticks.{after_check, after_tick, checked, has_come, has_passed, put_off, reported}
-use Rattle.rtcp_engine.proofs.Moving.{leave_moves}
+use Rattle.rtcp_engine.proofs.RolesChanged.{leave_moves}
 
 -- ---- Traces that go on
 

@@ -26,7 +26,7 @@ use Rattle.rtcp_engine.specs.Reporting.{reported_at}
 use Rattle.rtcp_engine.specs.Setups.{Setup}
 use Rattle.rtcp_engine.specs.Taken.{AllTaken, IsHistory}
 use Rattle.rtcp_engine.specs.Ticks.{after_check, checked, has_come, has_passed, put_off, reported}
-use Rattle.rtcp_engine.proofs.Choosing.{unrefused}
+use Rattle.rtcp_engine.proofs.NewIdentifiers.{unrefused}
 use Rattle.rtcp_engine.proofs.Sending.{in_time}
 
 -- ---- One that takes part

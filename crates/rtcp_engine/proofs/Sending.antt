@@ -32,7 +32,7 @@ use Rattle.rtcp_engine.specs.Lives.{while_present, while_backing_off, lived, bye
 use Rattle.rtcp_engine.specs.Sent.{Sent, interval_by, is_report, reports_in, sent_by, sent_over, sent_with}
 use Rattle.rtcp_engine.specs.Spacing.{HalfPasses, newest_moment, leave_moment, first_leave, IsLate}
 use Rattle.rtcp_engine.proofs.Changing.{bye_alone, nothing_more, same_but_ssrc, usable_in, usable_with_ssrc}
-use Rattle.rtcp_engine.proofs.Choosing.{unrefused}
+use Rattle.rtcp_engine.proofs.NewIdentifiers.{unrefused}
 
 -- ---- Draws
 

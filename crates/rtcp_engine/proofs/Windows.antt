@@ -12,7 +12,7 @@ use Rattle.rtcp_engine.specs.Sent.{Sent, is_report, reports_in, sent_at}
 use Rattle.rtcp_engine.specs.Histories.{History, last_moment, life_at}
 use Rattle.rtcp_engine.specs.Taken.{IsHistory}
 use Rattle.rtcp_engine.specs.Spacing.{newest_moment, AreSpaced, is_between, first_leave, is_last_bye, EndsWithBye, LiesAfter, AllFit, KeepsBounds}
-use Rattle.rtcp_engine.proofs.Choosing.{few_changes}
+use Rattle.rtcp_engine.proofs.NewIdentifiers.{few_changes}
 use Rattle.rtcp_engine.proofs.Sending.{none_sent, AllStay, AreReports, EndsSo, IsLast, KeepsApart, Stays, TakesPart, BacksOff, session_keeps_apart}
 
 -- ---- Reports alone

@@ -15,7 +15,7 @@ use Rattle.rtcp_members.specs.SortedViews.{IsRising, IsSortedTable}
 use Rattle.rtcp_members.specs.Standing.{AllStandBy, AreCounts, IsUpTo, StandsBy}
 use Rattle.rtcp_members.proofs.Applying.{read_there, table_applied}
 use Rattle.rtcp_members.proofs.Rising.{rising_apart, rising_set}
-use Rattle.rtcp_members.proofs.Standing.{all_set, stands_after, stands_there}
+use Rattle.rtcp_members.proofs.BoundLemmas.{all_set, stands_after, stands_there}
 
 module _ (ssrc : ℕ) (entries next : List Entry) (at : ℕ) (change : EntryValue
     → EntryValue) (place : IsRankOf ssrc entries at) (made : IsChanged change entries next at) where

@@ -12,7 +12,7 @@ use Rattle.rtcp_members.specs.Tables.{TableValue, StandsAt, no_members, changes,
 use Rattle.rtcp_members.proofs.Updated.{get_updated}
 use Rattle.rtcp_members.proofs.Counting.{has, same_passing, passing_entries, len_by_keys}
 use Rattle.rtcp_members.proofs.Naming.{room_at, names_are_once, present_is_named}
-use Rattle.rtcp_members.proofs.Moving.{kept_by, own_entry_at, other_entry_at, checked_entry_at}
+use Rattle.rtcp_members.proofs.TraceStepLemmas.{kept_by, own_entry_at, other_entry_at, checked_entry_at}
 
 -- ---- Counts
 

@@ -15,7 +15,7 @@ use Rattle.rtcp_members.specs.Tables.{TableValue, IsApart, changes, entry_after,
 use Rattle.rtcp_members.proofs.Counting.{has, IsOnce, passing, passing_entries}
 use Rattle.rtcp_members.proofs.Updated.{get_updated, entries_are_apart}
 use Rattle.rtcp_members.proofs.Naming.{room_at}
-use Rattle.rtcp_members.proofs.Moving.{kept_by, own_entry_at, other_entry_at}
+use Rattle.rtcp_members.proofs.TraceStepLemmas.{kept_by, own_entry_at, other_entry_at}
 use Rattle.rtcp_members.proofs.TraceTables.{tied}
 
 -- ---- Two tests

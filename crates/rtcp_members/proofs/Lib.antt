@@ -4,7 +4,7 @@ mod Naming
 mod Capacity
 mod Staying
 mod Measuring
-mod Moving
+mod TraceStepLemmas
 mod Following
 mod Packets
 mod Listing
@@ -26,7 +26,7 @@ mod Rising
 mod Searching
 mod Weights
 mod Placing
-mod Standing
+mod BoundLemmas
 mod Inserting
 mod Ranks
 mod Heaps

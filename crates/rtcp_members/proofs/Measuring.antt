@@ -9,7 +9,7 @@ use Rattle.rtcp_members.specs.Entries.{EntryValue, is_member, is_sender}
 use Rattle.rtcp_members.specs.Pending.{is_due}
 use Rattle.rtcp_members.specs.ListViews.{entry_value, tally_of, weight_of}
 use Rattle.rtcp_members.specs.Standing.{StandsBy, AllStandBy, IsNoLater}
-use Rattle.rtcp_members.proofs.Standing.{all_lower, stands}
+use Rattle.rtcp_members.proofs.BoundLemmas.{all_lower, stands}
 use Rattle.rtcp_members.proofs.Tallies.{one_more}
 
 tally_push : (test : EntryValue → Bool) (entries : List Entry) (e : Entry) →

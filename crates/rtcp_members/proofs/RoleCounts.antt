@@ -12,7 +12,7 @@ use Rattle.rtcp_members.specs.Pending.{reported_entry}
 use Rattle.rtcp_members.specs.Roles.{IsSameRole, step_moves, moved_within}
 use Rattle.rtcp_members.proofs.Counting.{has, IsOnce, passing, same_passing, first_and_rest, one_or_none, one_more, no_more}
 use Rattle.rtcp_members.proofs.Naming.{names_are_once, present_is_named, still_named}
-use Rattle.rtcp_members.proofs.Moving.{other_entry_at, checked_entry_at}
+use Rattle.rtcp_members.proofs.TraceStepLemmas.{other_entry_at, checked_entry_at}
 use Rattle.rtcp_members.proofs.Growing.{more_pass, checked_sender}
 use Rattle.rtcp_members.proofs.Blocking.{reported_if, own_stay, other_stay}
 

@@ -1,4 +1,4 @@
-use Rattle.rtcp_engine.proofs.Choosing.{few_listed, apart_listed}
+use Rattle.rtcp_engine.proofs.NewIdentifiers.{few_listed, apart_listed}
 use Rattle.rtcp_engine.proofs.laws.changes_are_few.Goals as goal
 
 pub returns-clause-few : goal.returns-clause-few

@@ -4,7 +4,7 @@ use Rattle.rtcp_engine.specs.Changes.{is_about}
 use Rattle.rtcp_engine.specs.Setups.{Setup}
 use Rattle.rtcp_engine.specs.States.{Acts, ParticipantValue}
 use Rattle.rtcp_engine.specs.Views.{datagram_of}
-use Rattle.rtcp_engine.proofs.Acting.{takes}
+use Rattle.rtcp_engine.proofs.ActLemmas.{takes}
 use Rattle.rtcp_engine.proofs.Arriving.{plain}
 use Rattle.rtcp_engine.proofs.participant.Participant.arrive_as_other.Goals as goal
 

@@ -9,12 +9,12 @@ use Rattle.rtcp_engine.specs.Lives.{step_into}
 use Rattle.rtcp_engine.specs.States.{Acts, IsIn, ParticipantValue, StandsAt}
 use Rattle.rtcp_engine.specs.Steps.{OutValue}
 use Rattle.rtcp_engine.specs.Views.{datagram_of, out_with, told_value}
-use Rattle.rtcp_engine.proofs.Acting.{Takes, acted_stands, acted_step, answered, refuses}
+use Rattle.rtcp_engine.proofs.ActLemmas.{Takes, acted_stands, acted_step, answered, refuses}
 use Rattle.rtcp_engine.proofs.Arriving.{changing, is_own, may_is, refused_as_own}
 use Rattle.rtcp_engine.proofs.Bounded.{bounds_after}
 use Rattle.rtcp_engine.proofs.Changing.{or_none}
 use Rattle.rtcp_engine.proofs.LifeLemmas.{is_there}
-use Rattle.rtcp_engine.proofs.Standing.{taken_history}
+use Rattle.rtcp_engine.proofs.AnswerLemmas.{taken_history}
 use Rattle.rtcp_engine.proofs.participant.Participant.arrive_as_own.Goals as goal
 
 pub returns-then-not-allows-clause-takes : goal.returns-then-not-allows-clause-takes

@@ -5,7 +5,7 @@ use Rattle.rtcp_engine.specs.declared.refusal.Refusal.TheVariants.{Wire}
 use Rattle.rtcp_engine.specs.Acts.{arrived, rtcp, rtcp_came}
 use Rattle.rtcp_engine.specs.Promises.{Takes}
 use Rattle.rtcp_engine.specs.Views.{reply_value}
-use Rattle.rtcp_engine.proofs.Acting.{call_refused_by, refuses}
+use Rattle.rtcp_engine.proofs.ActLemmas.{call_refused_by, refuses}
 use Rattle.rtcp_engine.proofs.Arriving.{fault_refused}
 use Rattle.rtcp_engine.proofs.Following.{few_named}
 use Rattle.rtcp_engine.proofs.LawLemmas.{one_reading-once}

@@ -1,5 +1,5 @@
 -- The step is what was told, with the compound of the room.
-use Rattle.rtcp_engine.proofs.Acting.{retold}
+use Rattle.rtcp_engine.proofs.ActLemmas.{retold}
 use Rattle.rtcp_engine.proofs.participant.Participant.arrive_rtp.Goals as goal
 
 pub returns-in-Ok-clause-takes : goal.returns-in-Ok-clause-takes

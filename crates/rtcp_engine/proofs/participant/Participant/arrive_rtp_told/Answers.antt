@@ -7,7 +7,7 @@ use Rattle.rtcp_engine.specs.Changes.{is_about}
 use Rattle.rtcp_engine.specs.Acts.{arrived, rtp, rtp_came}
 use Rattle.rtcp_engine.specs.Promises.{Takes}
 use Rattle.rtcp_engine.specs.Views.{reply_value}
-use Rattle.rtcp_engine.proofs.Acting.{call_refused_by, refuses}
+use Rattle.rtcp_engine.proofs.ActLemmas.{call_refused_by, refuses}
 use Rattle.rtcp_engine.proofs.Arriving.{fault_refused}
 use Rattle.rtcp_engine.proofs.LawLemmas.{one_reading-rtp_once}
 use Rattle.rtcp_engine.proofs.participant.Participant.arrive_rtp_told.Goals as goal

@@ -8,7 +8,7 @@ use Rattle.rtcp_engine.specs.Identities.{may_change}
 use Rattle.rtcp_engine.specs.Acts.{arrived}
 use Rattle.rtcp_engine.specs.Promises.{Takes}
 use Rattle.rtcp_engine.specs.Views.{datagram_of, reply_value}
-use Rattle.rtcp_engine.proofs.Acting.{refuses}
+use Rattle.rtcp_engine.proofs.ActLemmas.{refuses}
 use Rattle.rtcp_engine.proofs.Arriving.{own_refused, passed_or_refused}
 use Rattle.rtcp_engine.proofs.participant.Participant.arrive_told.Goals as goal
 

@@ -3,7 +3,7 @@ use Rattle.std.proofs.lemmas.Bool.{ne_eqb}
 use Rattle.rtcp_wire.specs.Values.{RtcpPacket}
 use Rattle.rtcp_engine.specs.Leaving.{backing_off, bye_count, with_farewell_of}
 use Rattle.rtcp_engine.specs.States.{ParticipantValue, IsAt, leaving}
-use Rattle.rtcp_engine.proofs.Acting.{acts_from_backoff, outside, same_stays}
+use Rattle.rtcp_engine.proofs.ActLemmas.{acts_from_backoff, outside, same_stays}
 use Rattle.rtcp_engine.proofs.LifeLemmas.{leaving_counts}
 use Rattle.rtcp_engine.proofs.participant.Participant.count_farewell.Goals as goal
 

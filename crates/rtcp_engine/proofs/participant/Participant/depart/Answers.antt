@@ -5,8 +5,8 @@ use Rattle.rtcp_engine.specs.Leaving.{left_at}
 use Rattle.rtcp_engine.specs.Lives.{others_moved_into}
 use Rattle.rtcp_engine.specs.Outcomes.{Outcome, member_count}
 use Rattle.rtcp_engine.specs.States.{ParticipantValue, Acts, Agrees, HasOthers, IsAt, leaving, over}
-use Rattle.rtcp_engine.proofs.Acting.{acts_from_present, same_stays}
-use Rattle.rtcp_engine.proofs.Moving.{leave_moves}
+use Rattle.rtcp_engine.proofs.ActLemmas.{acts_from_present, same_stays}
+use Rattle.rtcp_engine.proofs.RolesChanged.{leave_moves}
 use Rattle.rtcp_engine.proofs.LifeLemmas.{left_lives, left_byes}
 use Rattle.rtcp_engine.proofs.participant.Participant.depart.Goals as goal
 

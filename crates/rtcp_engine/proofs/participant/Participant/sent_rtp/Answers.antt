@@ -1,6 +1,6 @@
 -- The step is what was told, with the compound of the room.
 use Rattle.std.proofs.Common.{[]}
-use Rattle.rtcp_engine.proofs.Acting.{retold}
+use Rattle.rtcp_engine.proofs.ActLemmas.{retold}
 use Rattle.rtcp_engine.proofs.participant.Participant.sent_rtp.Goals as goal
 
 pub returns-in-Ok-clause-takes : goal.returns-in-Ok-clause-takes

@@ -1,7 +1,7 @@
 use Rattle.std.proofs.Common.{false, None, ◌∙◌, refl, sym, subst}
 use Rattle.rtcp_engine.specs.Acts.{rtp_sent}
 use Rattle.rtcp_engine.specs.States.{Acts, ParticipantValue}
-use Rattle.rtcp_engine.proofs.Acting.{call_refused_by, plain_call, refuses, takes}
+use Rattle.rtcp_engine.proofs.ActLemmas.{call_refused_by, plain_call, refuses, takes}
 use Rattle.rtcp_engine.proofs.participant.Participant.sent_rtp_told.Goals as goal
 
 pub returns-in-Some-clause-takes : goal.returns-in-Some-clause-takes

@@ -3,7 +3,7 @@ use Rattle.rtcp_engine.specs.declared.arrival.Arrival.{Arrival}
 use Rattle.rtcp_engine.specs.Acts.{arrived}
 use Rattle.rtcp_engine.specs.States.{Acts}
 use Rattle.rtcp_engine.specs.Views.{datagram_of, phase_value}
-use Rattle.rtcp_engine.proofs.Acting.{acts_present, outside}
+use Rattle.rtcp_engine.proofs.ActLemmas.{acts_present, outside}
 use Rattle.rtcp_engine.proofs.participant.Participant.take_datagram.Goals as goal
 
 pub returns-in-Present-clause-new : goal.returns-in-Present-clause-new

@@ -1,7 +1,7 @@
 use Rattle.std.proofs.Common.{subst, ◌∙◌, refl, ap, sym}
 use Rattle.rtcp_engine.specs.States.{HasOthers, ParticipantValue}
 use Rattle.rtcp_engine.specs.Views.{phase_value}
-use Rattle.rtcp_engine.proofs.Acting.{acts_passing, acts_gone}
+use Rattle.rtcp_engine.proofs.ActLemmas.{acts_passing, acts_gone}
 use Rattle.rtcp_engine.proofs.participant.Participant.take_leave.Goals as goal
 
 pub returns-in-BackingOff-clause-new : goal.returns-in-BackingOff-clause-new

@@ -1,8 +1,8 @@
 use Rattle.std.proofs.Common.{◌∙◌, refl, ap, sym}
 use Rattle.rtcp_engine.specs.States.{ParticipantValue}
 use Rattle.rtcp_engine.specs.Views.{phase_value}
-use Rattle.rtcp_engine.proofs.Acting.{acts_present, acts_passing, acts_gone, outside}
-use Rattle.rtcp_engine.proofs.Moving.{none_since}
+use Rattle.rtcp_engine.proofs.ActLemmas.{acts_present, acts_passing, acts_gone, outside}
+use Rattle.rtcp_engine.proofs.RolesChanged.{none_since}
 use Rattle.rtcp_engine.proofs.participant.Participant.take_sent.Goals as goal
 
 pub returns-in-Present-clause-new : goal.returns-in-Present-clause-new

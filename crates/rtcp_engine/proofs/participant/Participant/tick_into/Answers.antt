@@ -2,7 +2,7 @@ use Rattle.std.proofs.Common.{Ok, ◌∙◌, refl, sym, subst}
 use Rattle.rtcp_engine.specs.Acts.{ticked}
 use Rattle.rtcp_engine.specs.States.{Acts, ParticipantValue}
 use Rattle.rtcp_engine.specs.Views.{out_with}
-use Rattle.rtcp_engine.proofs.Acting.{call_refused_by, plain_call, refuses, takes}
+use Rattle.rtcp_engine.proofs.ActLemmas.{call_refused_by, plain_call, refuses, takes}
 use Rattle.rtcp_engine.proofs.Bounded.{sends_if_late}
 use Rattle.rtcp_engine.proofs.participant.Participant.tick_into.Goals as goal
 

@@ -4,7 +4,7 @@ use Rattle.rtcp_engine.specs.Lives.{step_into}
 use Rattle.rtcp_engine.specs.Setups.{Setup}
 use Rattle.rtcp_engine.specs.States.{ParticipantValue}
 use Rattle.rtcp_engine.specs.Views.{out_with, phase_value, told_value}
-use Rattle.rtcp_engine.proofs.Acting.{at_present, inside_at}
+use Rattle.rtcp_engine.proofs.ActLemmas.{at_present, inside_at}
 use Rattle.rtcp_engine.proofs.Agreeing.{entries_agree}
 use Rattle.rtcp_engine.proofs.participant.Participant.told.Goals as goal
 

@@ -5,7 +5,7 @@ use Rattle.rtcp_engine.specs.Lives.{bye_out}
 use Rattle.rtcp_engine.specs.Reporting.{bye_octets}
 use Rattle.rtcp_engine.specs.Setups.{Setup}
 use Rattle.rtcp_engine.specs.States.{ParticipantValue, IsAt, leaving}
-use Rattle.rtcp_engine.proofs.Acting.{acts_from_backoff, outside_at}
+use Rattle.rtcp_engine.proofs.ActLemmas.{acts_from_backoff, outside_at}
 use Rattle.rtcp_engine.proofs.LifeLemmas.{wait_keeps_count}
 use Rattle.rtcp_engine.proofs.participant.Participant.try_bye.Goals as goal
 

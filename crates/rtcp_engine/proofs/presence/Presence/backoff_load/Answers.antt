@@ -1,4 +1,4 @@
-use Rattle.rtcp_engine.proofs.Doing.{waiting_load}
+use Rattle.rtcp_engine.proofs.StepLemmas.{waiting_load}
 use Rattle.rtcp_engine.proofs.presence.Presence.backoff_load.Goals as goal
 
 pub returns-clause-exact : goal.returns-clause-exact

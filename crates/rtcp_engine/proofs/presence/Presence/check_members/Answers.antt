@@ -1,5 +1,5 @@
 use Rattle.rtcp_engine.specs.Ticks.{with_recount}
-use Rattle.rtcp_engine.proofs.Doing.{both_now}
+use Rattle.rtcp_engine.proofs.StepLemmas.{both_now}
 use Rattle.rtcp_engine.proofs.presence.Presence.check_members.Goals as goal
 
 pub returns-clause-new : goal.returns-clause-new

@@ -1,7 +1,7 @@
 use Rattle.std.proofs.Common.{◌∙◌}
 use Rattle.rtcp_clock.specs.Intervals.{drawn_interval}
 use Rattle.rtcp_timer.specs.Schedules.{after, transmitted}
-use Rattle.rtcp_engine.proofs.Doing.{draws}
+use Rattle.rtcp_engine.proofs.StepLemmas.{draws}
 use Rattle.rtcp_engine.proofs.presence.Presence.draw_next.Goals as goal
 
 pub returns : goal.returns

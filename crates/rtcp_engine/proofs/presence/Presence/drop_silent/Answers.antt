@@ -5,8 +5,8 @@ use Rattle.rtcp_engine.specs.OwnStreams.{Adds, check_passed}
 use Rattle.rtcp_engine.specs.States.{Moves}
 use Rattle.rtcp_engine.specs.Ticks.{horizons_of, without_silent}
 use Rattle.rtcp_engine.proofs.Soundness.{IsKept, check_kept, no_call, kept}
-use Rattle.rtcp_engine.proofs.Doing.{at_latest, does_at, drops}
-use Rattle.rtcp_engine.proofs.Moving.{moves_check}
+use Rattle.rtcp_engine.proofs.StepLemmas.{at_latest, does_at, drops}
+use Rattle.rtcp_engine.proofs.RolesChanged.{moves_check}
 use Rattle.rtcp_members.specs.Roles.{check_moves}
 use Rattle.rtcp_engine.proofs.presence.Presence.drop_silent.Goals as goal
 

@@ -1,5 +1,5 @@
 use Rattle.std.proofs.Common.{ℕ, ◌==◌, not, ap}
-use Rattle.rtcp_engine.proofs.Moving.{others_there}
+use Rattle.rtcp_engine.proofs.RolesChanged.{others_there}
 use Rattle.rtcp_engine.proofs.presence.Presence.has_others.Goals as goal
 
 pub returns : goal.returns

@@ -1,4 +1,4 @@
-use Rattle.rtcp_engine.proofs.Doing.{hears}
+use Rattle.rtcp_engine.proofs.StepLemmas.{hears}
 use Rattle.rtcp_engine.proofs.presence.Presence.hear_farewell.Goals as goal
 
 pub returns-clause-waits : goal.returns-clause-waits

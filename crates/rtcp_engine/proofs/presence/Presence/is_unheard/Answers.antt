@@ -1,6 +1,6 @@
 use Rattle.std.proofs.Common.{not, ◌∙◌, ap}
 use Rattle.rtcp_engine.specs.OwnStreams.{OwnValue}
-use Rattle.rtcp_engine.proofs.Doing.{seen}
+use Rattle.rtcp_engine.proofs.StepLemmas.{seen}
 use Rattle.rtcp_engine.proofs.presence.Presence.is_unheard.Goals as goal
 
 pub returns : goal.returns

@@ -3,7 +3,7 @@ use Rattle.rtcp_engine.specs.Setups.{Setup}
 use Rattle.rtcp_engine.specs.Outcomes.{load_of}
 use Rattle.rtcp_engine.specs.States.{State}
 use Rattle.rtcp_engine.proofs.Agreeing.{loads_agree}
-use Rattle.rtcp_engine.proofs.Doing.{seen}
+use Rattle.rtcp_engine.proofs.StepLemmas.{seen}
 use Rattle.rtcp_engine.proofs.presence.Presence.load.Goals as goal
 
 pub returns-clause-exact : goal.returns-clause-exact

@@ -6,7 +6,7 @@ use Rattle.rtcp_engine.specs.Views.{setup_of}
 use Rattle.rtcp_engine.specs.States.{State}
 use Rattle.rtcp_engine.specs.Reporting.{report_octets, reporter_by}
 use Rattle.rtcp_engine.specs.Ticks.{with_report}
-use Rattle.rtcp_engine.proofs.Doing.{at_latest, does_at, makes, octets_of}
+use Rattle.rtcp_engine.proofs.StepLemmas.{at_latest, does_at, makes, octets_of}
 use Rattle.rtcp_engine.proofs.Soundness.{IsKept, IsInStep, blocks_kept, kept}
 use Rattle.rtcp_engine.proofs.presence.Presence.make_report.Goals as goal
 

@@ -1,6 +1,6 @@
 use Rattle.std.proofs.Common.{◌∙◌, arith}
 use Rattle.rtcp_engine.proofs.Agreeing.{members_agree}
-use Rattle.rtcp_engine.proofs.Doing.{of_view}
+use Rattle.rtcp_engine.proofs.StepLemmas.{of_view}
 use Rattle.rtcp_engine.proofs.presence.Presence.member_count.Goals as goal
 
 pub member_count-requires : goal.member_count-requires

@@ -1,6 +1,6 @@
 use Rattle.std.proofs.Common.{◌∙◌, ap, sym, option_map}
 use Rattle.rtcp_engine.specs.Lives.{report_out}
-use Rattle.rtcp_engine.proofs.Doing.{puts_off, reports_now, hands_out}
+use Rattle.rtcp_engine.proofs.StepLemmas.{puts_off, reports_now, hands_out}
 use Rattle.rtcp_engine.proofs.presence.Presence.report_if_due.Goals as goal
 
 pub returns-then-not-try_report-clause-new : goal.returns-then-not-try_report-clause-new

@@ -2,7 +2,7 @@ use Rattle.std.proofs.Common.{ℕ, ◌+◌, ◌∙◌, ap, arith}
 use Rattle.rtcp_members.specs.Tables.{senders_in}
 use Rattle.rtcp_members.proofs.LawLemmas.{counts_are_ordered-senders, counts_are_ordered-members}
 use Rattle.rtcp_engine.proofs.Agreeing.{senders_agree}
-use Rattle.rtcp_engine.proofs.Doing.{of_view}
+use Rattle.rtcp_engine.proofs.StepLemmas.{of_view}
 use Rattle.rtcp_engine.proofs.presence.Presence.sender_count.Goals as goal
 
 pub overflow_add-result : goal.overflow_add-result

@@ -4,8 +4,8 @@ use Rattle.rtcp_wire.specs.Values.{RtcpPacket}
 use Rattle.rtcp_wire.proofs.LawLemmas.{compounds_give_no_media}
 use Rattle.rtcp_members.specs.Tables.{TableValue, after_facts}
 use Rattle.rtcp_members.specs.Roles.{facts_move}
-use Rattle.rtcp_engine.proofs.Doing.{takes_facts}
-use Rattle.rtcp_engine.proofs.Moving.{moves_facts}
+use Rattle.rtcp_engine.proofs.StepLemmas.{takes_facts}
+use Rattle.rtcp_engine.proofs.RolesChanged.{moves_facts}
 use Rattle.rtcp_engine.proofs.Soundness.{IsKept, facts_kept, no_call, kept}
 use Rattle.rtcp_engine.proofs.presence.Presence.take_facts.Goals as goal
 

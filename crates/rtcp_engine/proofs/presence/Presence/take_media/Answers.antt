@@ -1,8 +1,8 @@
 use Rattle.std.proofs.Common.{◌-◌, ◌<◌, arith, sym, subst, ap}
 use Rattle.rtcp_members.specs.Tables.{TableValue, HasFew}
 use Rattle.rtcp_engine.specs.States.{State}
-use Rattle.rtcp_engine.proofs.Doing.{takes_media}
-use Rattle.rtcp_engine.proofs.Moving.{moves_media}
+use Rattle.rtcp_engine.proofs.StepLemmas.{takes_media}
+use Rattle.rtcp_engine.proofs.RolesChanged.{moves_media}
 use Rattle.rtcp_engine.proofs.Soundness.{IsKept, media_kept, no_call, kept}
 use Rattle.rtcp_engine.proofs.presence.Presence.take_media.Goals as goal
 

@@ -1,4 +1,4 @@
-use Rattle.rtcp_engine.proofs.Doing.{sends}
+use Rattle.rtcp_engine.proofs.StepLemmas.{sends}
 use Rattle.rtcp_engine.proofs.presence.Presence.take_sent.Goals as goal
 
 pub returns : goal.returns

@@ -7,7 +7,7 @@ use Rattle.rtcp_members.specs.Tables.{after_check}
 use Rattle.rtcp_members.proofs.Rising.{rising_apart}
 use Rattle.rtcp_members.proofs.Tallies.{fewer_checked, fewer_senders_checked, table_checked}
 use Rattle.rtcp_members.proofs.Checking.{none_dropped, no_sender_dropped, table_left, entries_dropped, senders_dropped, rising_checked, sorted_checked}
-use Rattle.rtcp_members.proofs.Standing.{all_left}
+use Rattle.rtcp_members.proofs.BoundLemmas.{all_left}
 use Rattle.rtcp_members.proofs.sorted_table.Sorted.sweep.Goals as goal
 
 -- ---- Where each entry is left as it is

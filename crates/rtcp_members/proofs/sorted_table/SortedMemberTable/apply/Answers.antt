@@ -8,7 +8,7 @@ use Rattle.rtcp_members.specs.SortedViews.{IsGapFor, IsSortedTable}
 use Rattle.rtcp_members.specs.Tables.{TableValue, after_fact, counted, counted_of, entry_with_fact, placed}
 use Rattle.rtcp_members.proofs.Applying.{counted_applied, place_applied}
 use Rattle.rtcp_members.proofs.Edits.{sorted_edited, table_edited, stand_with_fact}
-use Rattle.rtcp_members.proofs.Standing.{all_lower}
+use Rattle.rtcp_members.proofs.BoundLemmas.{all_lower}
 use Rattle.rtcp_members.proofs.Searching.{none_in_gap}
 use Rattle.rtcp_members.proofs.sorted_table.SortedMemberTable.apply.Goals as goal
 

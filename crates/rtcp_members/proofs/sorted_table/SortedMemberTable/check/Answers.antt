@@ -1,7 +1,7 @@
 -- A check that the bounds rule out changes nothing.
 use Rattle.rtcp_members.specs.Traces.{horizons_at}
 use Rattle.rtcp_members.proofs.Checking.{none_dropped, no_sender_dropped, table_left}
-use Rattle.rtcp_members.proofs.Standing.{all_left}
+use Rattle.rtcp_members.proofs.BoundLemmas.{all_left}
 use Rattle.rtcp_members.proofs.sorted_table.SortedMemberTable.check.Goals as goal
 
 pub returns-then-reach-clause-entries : goal.returns-then-reach-clause-entries

@@ -18,7 +18,7 @@ use Rattle.rtcp_engine.specs.Taken.{HasWords}
 use Rattle.rtcp_engine.proofs.Agreeing.{calls_agree}
 use Rattle.rtcp_engine.proofs.Bounded.{bounds_after}
 use Rattle.rtcp_engine.proofs.LifeLemmas.{is_taking_part, is_leaving, leaving_members}
-use Rattle.rtcp_engine.proofs.Standing.{refusal_is, refused_answer, taken_history, whole_refused}
+use Rattle.rtcp_engine.proofs.AnswerLemmas.{refusal_is, refused_answer, taken_history, whole_refused}
 
 -- ---- Phases
 

@@ -20,7 +20,7 @@ use Rattle.rtcp_engine.specs.Setups.{Setup}
 use Rattle.rtcp_engine.specs.States.{State, Agrees, HasOthers, Moves}
 use Rattle.rtcp_engine.specs.Ticks.{after_check, after_tick, checked, has_come, has_passed, horizons_of, put_off, reported, without_silent}
 use Rattle.rtcp_engine.proofs.Agreeing.{others_agree}
-use Rattle.rtcp_engine.proofs.Doing.{IsReceiverInterval, of_view, seen}
+use Rattle.rtcp_engine.proofs.StepLemmas.{IsReceiverInterval, of_view, seen}
 
 -- ---- Traces
 
