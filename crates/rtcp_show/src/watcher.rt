@@ -6,11 +6,13 @@ ghost use Rattle.std.specs.Net.Addr.{ipv4_bits};
 ghost use Rattle.std.specs.Net.Socket.{v4_ip, v4_port};
 ghost use Rattle.rtcp_engine.specs.Histories.{History};
 ghost use Rattle.rtcp_show.specs.Lines.{ShowsBoth, moment_of_event as moment_in};
+ghost use Rattle.rtcp_engine.specs.Acts.{Act};
+ghost use Rattle.rtcp_engine.specs.Promises.{Takes};
 ghost use Rattle.rtcp_engine.specs.Refused.{error_in};
 ghost use Rattle.rtcp_engine.specs.States.{StandsAt};
 ghost use Rattle.rtcp_engine.specs.Steps.{AnswerValue};
 ghost use Rattle.rtcp_engine.specs.Taken.{begun};
-ghost use Rattle.rtcp_engine.specs.Views.{answer_value, event_value, setup_of};
+ghost use Rattle.rtcp_engine.specs.Views.{IsActOf, answer_value, event_value, setup_of};
 
 use crate::copies::copy_of;
 use crate::lines::{moment_of, push_lines};
