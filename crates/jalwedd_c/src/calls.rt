@@ -24,8 +24,8 @@ use std::alloc::Global;
 pub(crate) const LONGEST: usize = 65_535;
 
 /// An RTCP datagram came at the moment `now`, in microseconds since the session began, with the octets that UDP
-/// carried, at most 65,535. `peer` is a number for where it came from, which two peers do not share, and `word` a random
-/// word for a new SSRC (RFC 3550, 8.2).
+/// carried, at most 65,535. `peer` is a number for where it came from, which two peers do not share, and `word` a
+/// random word for a new SSRC (RFC 3550, 8.2).
 ///
 /// Statuses: 0; 1 to 5 and 7, by the first of E1 to E5 and E7 that applies; 20 where the handle is empty.
 #[unsafe(no_mangle)]
@@ -86,8 +86,8 @@ fn own_rtcp(
 /// An RTP datagram came, with the octets that UDP carried: as `jalwedd_arrive_rtcp`. Of one of more than 65,535 octets
 /// none is read, so that a host may give a size of -1 for what it did not receive.
 ///
-/// Statuses: 0; 20 where the handle is empty; else 23 where the datagram has more than 65,535 octets; else 1 to 4, 6 and
-/// 7, by the first of E1 to E4, E6 and E7 that applies.
+/// Statuses: 0; 20 where the handle is empty; else 23 where the datagram has more than 65,535 octets; else 1 to 4, 6
+/// and 7, by the first of E1 to E4, E6 and E7 that applies.
 #[unsafe(no_mangle)]
 pub extern "C" fn jalwedd_arrive_rtp(
     alloc: Global,

@@ -14,8 +14,8 @@ use crate::source::Source;
 use crate::status::{NO_SOURCE, TAKEN};
 use std::alloc::Global;
 
-/// The members of the session, the participant included (RFC 3550, 6.2.1). In the backoff after a leave, the participant
-/// and one for each BYE packet that came since (6.3.7). 0 once it has left, and for an empty handle.
+/// The members of the session, the participant included (RFC 3550, 6.2.1). In the backoff after a leave, the
+/// participant and one for each BYE packet that came since (6.3.7). 0 once it has left, and for an empty handle.
 #[unsafe(no_mangle)]
 pub extern "C" fn jalwedd_members(alloc: Global, handle: &mut Handle) -> u32
     ensures { TellsOf (λ history. members_in_life (setup_at history) (life_at history)) 0
@@ -54,8 +54,8 @@ pub extern "C" fn jalwedd_ssrc(alloc: Global, handle: &mut Handle) -> u32
 }
 
 /// How many entries the participant's table holds: members, sources that are not yet valid, and those that left and are
-/// held for a while. If this equals the configuration's `capacity` the table is full, as under a flood of invented SSRCs,
-/// and admits no other source until one is dropped. 0 once the participant leaves, and for an empty handle.
+/// held for a while. If this equals the configuration's `capacity` the table is full, as under a flood of invented
+/// SSRCs, and admits no other source until one is dropped. 0 once the participant leaves, and for an empty handle.
 #[unsafe(no_mangle)]
 pub extern "C" fn jalwedd_entries(alloc: Global, handle: &mut Handle) -> u32
     ensures { TellsOf (λ history. entries_in_life (setup_at history) (life_at history)) 0
@@ -64,9 +64,9 @@ pub extern "C" fn jalwedd_entries(alloc: Global, handle: &mut Handle) -> u32
     handle.entries(alloc)
 }
 
-/// Gives what is known about the source of least SSRC from `from` on: among members, sources that are not yet valid, and
-/// those that left and are held for a while, but not the participant itself. Begin with 0, and go on with that SSRC plus
-/// 1, until the status is not 0: then each source was given once. `source` is left as it is where there is none.
+/// Gives what is known about the source of least SSRC from `from` on: among members, sources that are not yet valid,
+/// and those that left and are held for a while, but not the participant itself. Begin with 0, and go on with that SSRC
+/// plus 1, until the status is not 0: then each source was given once. `source` is left as it is where there is none.
 ///
 /// Statuses: 0; 9 where there is no such source, once the participant leaves, and for an empty handle.
 #[unsafe(no_mangle)]

@@ -288,10 +288,10 @@ impl<T: MemberTable> Participant<T> {
 
     /// Leaves the session at the moment `now`, with a random word for the draw of a backoff (RFC 3550, 6.3.7).
     ///
-    /// One that sent neither a report nor an RTP packet under its present SSRC leaves silently. Else, with at
-    /// most 50 members, the BYE goes out at once. With more the participant backs off, so that not all who leave say so at once: go on
-    /// with `tick` at `next` until that is `None`. The BYE comes from one of these ticks. A leave in a backoff
-    /// changes nothing of it.
+    /// One that sent neither a report nor an RTP packet under its present SSRC leaves silently. Else, with at most 50
+    /// members, the BYE goes out at once. With more the participant backs off, so that not all who leave say so at
+    /// once: go on with `tick` at `next` until that is `None`. The BYE comes from one of these ticks. A leave in a
+    /// backoff changes nothing of it.
     ///
     /// # Errors
     ///

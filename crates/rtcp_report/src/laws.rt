@@ -35,7 +35,6 @@ pub fn size_is_that_of_the_octets()
 
 /// A report keeps to its limit, where one without blocks does. One without blocks has at most 552 octets, where
 /// no text has more than 255, and the compound with a BYE at most 284.
-#[tactic(auto, using(crate::proofs::Fitting::report_fits, crate::proofs::Fitting::empty_is_small, crate::proofs::Fitting::bye_is_small))]
 pub fn compounds_are_small()
     ensures report { (reporter : Reporter) (limit t : ℕ) (rows : List EntryRow) →
         report_size reporter 0 ≤ limit →

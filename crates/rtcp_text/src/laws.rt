@@ -32,7 +32,6 @@ pub fn one_session_text()
 /// The line of an event is one line, which is read as that event, and `replay` takes it: a datagram of UDP has at most
 /// 65,535 octets. Whatever a line is read as can be written so. So a record, a line for each event, is read as just
 /// these events.
-#[tactic(auto, using(crate::proofs::EventTextLemmas::read_back, crate::proofs::EventTextLemmas::one_line, crate::proofs::EventTextLemmas::short_line, crate::proofs::EventTextLemmas::callable, crate::proofs::EventTextLemmas::record_read))]
 pub fn events_are_read_back()
     ensures read { (event : EventValue) → IsCallable event → event_in (event_text event) ≡ Ok event }
     ensures line { (event : EventValue) → IsCallable event → HasNoLineFeed (event_text event) }
