@@ -1,0 +1,76 @@
+"""The peers of compare/peers: the Debian packages that give them, and the commands that make each of them send mu-law
+audio of 20 milliseconds a packet and receive the player's."""
+import os
+import re
+import shutil
+import signal
+import subprocess
+
+from relay import HOST
+
+SDP = f"""v=0
+o=- 0 0 IN IP4 {HOST}
+s=-
+c=IN IP4 {HOST}
+t=0 0
+m=audio %d RTP/AVP 0
+"""
+
+
+class Peer:
+    name, title, packages, asks, version_in = "", "", [], [], r"(\d[\w.+-]*)"
+    stop = signal.SIGINT
+    only_if_asked = False
+    shows_cname = False  # whether it can be seen from outside which CNAME it has of us
+    options = {}  # of its processes
+
+    def version(self):
+        """Its version, or None if it is not installed."""
+        if shutil.which(self.asks[0]) is None:
+            return None
+        told = subprocess.run(self.asks, capture_output=True, text=True)
+        found = re.search(self.version_in, told.stdout)
+        return found[1] if told.returncode == 0 and found else None
+
+    def build(self, source, room):
+        """Builds what it needs."""
+
+    def commands(self, session):
+        """The commands of its programs."""
+        raise NotImplementedError
+
+
+class GStreamer(Peer):
+    name, title, asks = "gstreamer", "GStreamer's rtpbin", ["gst-launch-1.0", "--version"]
+    packages = ["gstreamer1.0-tools", "gstreamer1.0-plugins-base", "gstreamer1.0-plugins-good"]
+    version_in = r"GStreamer ([\d.]+)"
+    shows_cname = True
+    options = {"env": os.environ | {"GST_DEBUG": "rtpsession:5", "GST_DEBUG_NO_COLOR": "1"}}
+
+    def commands(self, session):
+        yield f"""gst-launch-1.0 -e rtpbin name=bin
+            audiotestsrc is-live=true samplesperbuffer=160 ! audio/x-raw,rate=8000,channels=1 ! mulawenc ! rtppcmupay
+                ! bin.send_rtp_sink_0
+            bin.send_rtp_src_0 ! udpsink host={HOST} port={session.remote} sync=false
+            bin.send_rtcp_src_0 ! udpsink host={HOST} port={session.remote + 1} sync=false async=false
+            udpsrc address={HOST} port={session.local}
+                caps=application/x-rtp,media=audio,clock-rate=8000,encoding-name=PCMU ! bin.recv_rtp_sink_0
+            udpsrc address={HOST} port={session.local + 1} ! bin.recv_rtcp_sink_0
+            bin. ! rtppcmudepay ! fakesink async=false""".split()
+
+
+class FFmpeg(Peer):
+    """A program that sends and another one that receives, each with an SSRC of its own."""
+    name, title, packages, asks = "ffmpeg", "FFmpeg", ["ffmpeg"], ["ffmpeg", "-version"]
+    version_in = r"version ([\d.]+)"
+
+    def commands(self, session):
+        yield [*"ffmpeg -hide_banner -loglevel warning -re -f lavfi -i".split(),
+               "sine=frequency=440:sample_rate=8000:samples_per_frame=160", *"-c:a pcm_mulaw -ac 1 -f rtp".split(),
+               f"rtp://{HOST}:{session.remote}?rtcpport={session.remote + 1}&localrtpport={session.spare}"
+               f"&localrtcpport={session.spare + 1}"]
+        yield [*"ffmpeg -hide_banner -loglevel warning -protocol_whitelist file,udp,rtp".split(),
+               *"-sdp_flags rtcp_to_source -i".split(), session.file("sdp", SDP % session.local), "-f", "null", "-"]
+
+
+PEERS = [GStreamer(), FFmpeg()]
