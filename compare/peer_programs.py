@@ -33,7 +33,7 @@ class Peer:
         return found[1] if told.returncode == 0 and found else None
 
     def build(self, source, room):
-        """Builds what it needs."""
+        """Builds its program, if it has one in `source`, in `room`."""
 
     def commands(self, session):
         """The commands of its programs."""
@@ -48,9 +48,10 @@ class GStreamer(Peer):
     options = {"env": os.environ | {"GST_DEBUG": "rtpsession:5", "GST_DEBUG_NO_COLOR": "1"}}
 
     def commands(self, session):
-        yield f"""gst-launch-1.0 -e rtpbin name=bin
-            audiotestsrc is-live=true samplesperbuffer=160 ! audio/x-raw,rate=8000,channels=1 ! mulawenc ! rtppcmupay
-                ! bin.send_rtp_sink_0
+        packets = 50 * (session.seconds - 1)  # its BYE comes at the end of the audio, not at that of the program
+        yield f"""gst-launch-1.0 rtpbin name=bin
+            audiotestsrc is-live=true samplesperbuffer=160 num-buffers={packets} ! audio/x-raw,rate=8000,channels=1
+                ! mulawenc ! rtppcmupay ! bin.send_rtp_sink_0
             bin.send_rtp_src_0 ! udpsink host={HOST} port={session.remote} sync=false
             bin.send_rtcp_src_0 ! udpsink host={HOST} port={session.remote + 1} sync=false async=false
             udpsrc address={HOST} port={session.local}
@@ -73,4 +74,26 @@ class FFmpeg(Peer):
                *"-sdp_flags rtcp_to_source -i".split(), session.file("sdp", SDP % session.local), "-f", "null", "-"]
 
 
-PEERS = [GStreamer(), FFmpeg()]
+class Program(Peer):
+    """A small program of this folder over a library, built with what pkg-config tells of it."""
+    library, compiler, shows_cname = "", ["cc", "-std=gnu11"], True
+
+    @property
+    def asks(self):
+        return ["pkg-config", "--modversion", self.library]
+
+    def build(self, source, room):
+        flags = subprocess.check_output(["pkg-config", "--cflags", "--libs", self.library], text=True).split()
+        suffix = "c" if self.compiler[0] == "cc" else "cpp"
+        subprocess.run([*self.compiler, "-O1", "-Wall", "-Wextra", source / f"peer_{self.name}.{suffix}", *flags,
+                        "-o", room / f"peer_{self.name}"], check=True)
+
+    def commands(self, session):
+        yield [session.room / f"peer_{self.name}", session.local, session.remote]
+
+
+class Ortp(Program):
+    name, title, packages, library = "ortp", "oRTP", ["libortp-dev"], "ortp"
+
+
+PEERS = [Ortp(), GStreamer(), FFmpeg()]

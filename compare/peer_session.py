@@ -15,8 +15,8 @@ GRACE, MOST_LEAVING = 4, 2  # seconds between both sides' ends, in which the pla
 class Session:
     """All that one session of a peer leaves: what the relay saw, and what the programs printed."""
 
-    def __init__(self, peer, version, number, seed, room):
-        self.peer, self.version, self.seed, self.room = peer, version, seed, Path(room)
+    def __init__(self, peer, version, number, seconds, seed, room):
+        self.peer, self.version, self.seconds, self.seed, self.room = peer, version, seconds, seed, Path(room)
         self.name = f"{peer.name}-{'straight' if seed is None else 'relay'}"
         base = FIRST_PORT + PORTS * number
         self.to = {PLAYER: base, SECOND: base + 2, PEER: base + 4}
@@ -44,14 +44,14 @@ class Session:
 
     # ---- From begin to end
 
-    def run(self, seconds):
+    def run(self):
         players = {who: self.start(program, [self.room / program, str(self.to[who]), str(self.to[who]),
                                              str(self.at[who])])
                    for who, program in ((PLAYER, "player"), (SECOND, "player-without"))}
         self.relay.run_until(time.monotonic() + 0.2)
         peers = [self.start(f"peer{number}", command, **self.peer.options)
                  for number, command in enumerate(self.peer.commands(self))]
-        self.relay.run_until(time.monotonic() + seconds)
+        self.relay.run_until(time.monotonic() + self.seconds)
         for process in peers:
             process.send_signal(self.peer.stop)
         self.relay.run_until(time.monotonic() + GRACE)
