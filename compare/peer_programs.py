@@ -96,4 +96,13 @@ class Ortp(Program):
     name, title, packages, library = "ortp", "oRTP", ["libortp-dev"], "ortp"
 
 
-PEERS = [Ortp(), GStreamer(), FFmpeg()]
+class CcRtp(Program):
+    name, title, packages, library = "ccrtp", "ccRTP", ["libccrtp-dev"], "libccrtp"
+    compiler = ["c++", "-std=c++17"]
+
+
+class Libre(Program):
+    name, title, packages, library = "libre", "libre", ["libre-dev"], "libre"
+
+
+PEERS = [Ortp(), CcRtp(), Libre(), GStreamer(), FFmpeg()]
