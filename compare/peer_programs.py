@@ -5,7 +5,10 @@ import re
 import shutil
 import signal
 import subprocess
+import sys
+from pathlib import Path
 
+from peer_relay import PLAYER
 from relay import HOST
 
 SDP = f"""v=0
@@ -20,7 +23,6 @@ m=audio %d RTP/AVP 0
 class Peer:
     name, title, packages, asks, version_in = "", "", [], [], r"(\d[\w.+-]*)"
     stop = signal.SIGINT
-    only_if_asked = False
     shows_cname = False  # whether it can be seen from outside which CNAME it has of us
     options = {}  # of its processes
 
@@ -105,4 +107,23 @@ class Libre(Program):
     name, title, packages, library = "libre", "libre", ["libre-dev"], "libre"
 
 
+class Known(Peer):
+    """compare/peer_known.py, whose figures are known: for `compare/peers --check`."""
+
+    def __init__(self, name, *options, around=False, again=False):
+        self.name, self.title, self.words, self.around, self.again = name, name, options, around, again
+
+    def commands(self, session):
+        words = [sys.executable, Path(__file__).parent / "peer_known.py", session.local, session.remote, *self.words]
+        if self.around:
+            words += ["--around", session.to[PLAYER]]
+        if self.again:
+            words += ["--again", session.at[PLAYER] + 1]
+        yield words
+
+
+KNOWN = [Known("known", "--skip", "5", "--refused", "--bye", "BYE-SDES"),
+         Known("known-off", "--off", "1", "--bye", "RR-SDES-BYE"),
+         Known("known-around", "--skip", "5", around=True),
+         Known("known-again", again=True)]
 PEERS = [Ortp(), CcRtp(), Libre(), GStreamer(), FFmpeg()]

@@ -6,7 +6,7 @@ import relay
 from peer_relay import PEER, PLAYER, SECOND
 from peer_session import CNAME
 
-COLUMNS = ["Peer", "Session", "Its RTCP datagrams", "It sees", "Losses it tells of our stream",
+COLUMNS = ["Peer", "Session", "Its datagrams", "It sees", "Losses it tells of our stream",
            "Losses we tell of its stream", "Its BYE", "Our intervals", "Its intervals"]
 LEAST_INTERVAL = 2.052_074  # seconds: half of 5, over 1.21828 (RFC 3550, 6.3.1)
 MARGIN = 0.01  # seconds between the tick that makes a report and the kernel's taking it
@@ -47,7 +47,7 @@ class Row:
 
     def cells(self):
         session = self.session
-        return [f"{session.peer.title} {session.version}", "straight" if session.seed is None else "relay",
+        return [f"{session.peer.title} {session.version}".strip(), "straight" if session.seed is None else "relay",
                 self.datagrams(), self.sees(), self.losses_told(), self.our_losses(), self.goodbye(),
                 self.our_intervals(), self.intervals(self.heard[PEER])]
 
@@ -55,7 +55,9 @@ class Row:
         taken = [heard for heard in self.heard[PEER] if heard.text.startswith("ok ")]
         refused = collections.Counter(heard.text.split(" at ")[0] for heard in self.heard[PEER]
                                       if not heard.text.startswith("ok "))
-        return ", ".join([f"{len(taken)} taken", *(f"{count} refused: {why}" for why, count in refused.items())])
+        no_rtp = {why: count for (sender, why), count in self.session.relay.no_rtp.items() if sender == PEER}
+        return ", ".join([f"{len(taken)} taken", *(f"{count} refused: {why}" for why, count in refused.items()),
+                          *(f"{count} of RTP refused: {why}" for why, count in no_rtp.items())])
 
     # ---- Losses
 
@@ -109,10 +111,10 @@ class Row:
     # ---- Intervals
 
     def gaps(self, heard):
-        """The times between two reports of one source, without its last compound, the BYE."""
+        """The times between two compounds of one source, without its BYE."""
         moments = collections.defaultdict(list)
         for one in heard:
-            if len(one.octets) >= 8 and one.octets[1] in (200, 201) and leaver(one.octets) is None:
+            if one.text.startswith("ok ") and leaver(one.octets) is None:
                 moments[number_at(one.octets, 4)].append(one.moment)
         return [later - before for each in moments.values() for before, later in zip(each, each[1:])]
 
@@ -126,9 +128,8 @@ class Row:
         return self.intervals(self.heard[PLAYER] + self.heard[SECOND])
 
 
-def show(sessions):
+def show(rows):
     """Prints the table, and gives the status."""
-    rows = [Row(session) for session in sessions]
     print("| " + " | ".join(COLUMNS) + " |")
     print("|" + "---|" * len(COLUMNS))
     for row in rows:

@@ -1,0 +1,66 @@
+"""Holds the table of compare/peers against what compare/peer_known.py says that it did."""
+import re
+
+import peer_table
+from peer_relay import PEER, PLAYER
+
+# 2 of F3: one of them is the BYE
+REFUSED = ", 1 refused: F2 Version, 2 refused: F3 FirstType, 1 refused: F5 Length, 1 of RTP refused: G2 Version"
+BYES = {"known": "BYE SDES: dropped; without report_before stays", "known-off": "RR SDES BYE: dropped"}
+LATE = 0.3  # seconds that a report of the peer may be late by
+
+
+def figures(session):
+    """How many reports the peer sent, how many packets it skipped, and the losses that it counted."""
+    reports, skipped, told = re.search(r"reports (\d+) skipped (\d+) told \[(.*)\]", session.printed()).groups()
+    return int(reports), int(skipped), [int(count) for count in told.split(", ")]
+
+
+def cells_wanted(name, reports, told):
+    """The cells that are known, by the names of their columns."""
+    taken = reports + (name == "known-off")  # with its BYE
+    blocks = f"of {len(told)} blocks, up to {told[-1]}"
+    return {"Its datagrams": f"{taken} taken" + (REFUSED if name == "known" else ""), "It sees": "SSRC",
+            "Losses it tells of our stream":
+                f"0 {blocks}; +1 in {len(told)}" if name == "known-off" else f"{len(told)} {blocks}",
+            "Its BYE": BYES.get(name, "none")}
+
+
+def intervals_wrong(name, cells):
+    ours, theirs = (float(re.match(r"[\d.]+", cells[column])[0]) for column in ("Our intervals", "Its intervals"))
+    return not 3 - LATE < theirs < 3.01 or (ours < 1) != (name == "known-again")
+
+
+def losses_wrong(row, cell, skipped):
+    """What we report is what the peer skipped and the relay dropped, unless the skipped packets went around the
+    relay."""
+    told, count, most, rest = re.fullmatch(r"(\d+) of (\d+) blocks, up to (\d+)(.*)", cell).groups()
+    if row.session.peer.name == "known-around":
+        return told == count or f"; -{skipped} in " not in rest
+    missing = sum(skipped + stream.dropped + stream.held for (who, _), stream in row.streams.items() if who == PEER)
+    return told != count or rest or not skipped <= int(most) <= missing
+
+
+def faults(row):
+    """Where a row is not what is known."""
+    session, name, cells = row.session, row.session.peer.name, dict(zip(peer_table.COLUMNS, row.cells()))
+    reports, skipped, told = figures(session)
+    for column, wanted in cells_wanted(name, reports, told).items():
+        if cells[column] != wanted:
+            yield f"{column}: {cells[column]}, not {wanted}"
+    if intervals_wrong(name, cells):
+        yield f"intervals: {cells['Our intervals']} and {cells['Its intervals']}"
+    if losses_wrong(row, cells["Losses we tell of its stream"], skipped):
+        yield f"losses: {cells['Losses we tell of its stream']}"
+    dropped = {who: stream.dropped for (who, _), stream in row.streams.items()}
+    if any((count > 0) != (session.seed is not None) for count in dropped.values()):
+        yield f"dropped: {dropped}"
+    if row.differs != (name in ("known-around", "known-again")):
+        yield f"status: {row.differs}"
+
+
+def check(rows):
+    """Prints what is wrong, and gives the status."""
+    wrong = [f"{row.session.name}: {fault}" for row in rows for fault in faults(row)]
+    print("\n".join(wrong) or f"the {len(rows)} rows are what is known of these peers")
+    return 1 if wrong else 0
