@@ -6,6 +6,7 @@ import shutil
 import signal
 import subprocess
 import sys
+import wave
 from pathlib import Path
 
 from peer_relay import PLAYER
@@ -30,7 +31,7 @@ class Peer:
         """Its version, or None if it is not installed."""
         if shutil.which(self.asks[0]) is None:
             return None
-        told = subprocess.run(self.asks, capture_output=True, text=True)
+        told = subprocess.run(self.asks, capture_output=True, text=True, **self.options)
         found = re.search(self.version_in, told.stdout)
         return found[1] if told.returncode == 0 and found else None
 
@@ -107,6 +108,25 @@ class Libre(Program):
     name, title, packages, library = "libre", "libre", ["libre-dev"], "libre"
 
 
+class Vlc(Peer):
+    """A program that sends and another one that receives. It does not run as root."""
+    name, title, packages, asks = "vlc", "VLC", ["vlc-bin", "vlc-plugin-base"], ["vlc", "--version"]
+    version_in = r"VLC version ([\d.]+)"
+    as_other = {"user": "nobody", "group": "nogroup", "extra_groups": []} if os.geteuid() == 0 else {}
+    options = {"env": os.environ | {"HOME": "/tmp"}, **as_other}
+
+    def commands(self, session):
+        silence = session.room / f"{session.name}.wav"
+        with wave.open(str(silence), "wb") as made:
+            made.setparams((1, 2, 8_000, 0, "NONE", "not compressed"))
+            made.writeframes(bytes(2 * 8_000 * (session.seconds + 5)))
+        session.room.chmod(0o755)
+        vlc = "vlc -I dummy --no-video --aout adummy".split()
+        yield [*vlc, "--mtu", "172", silence, "--sout",
+               f"#transcode{{acodec=ulaw,channels=1,samplerate=8000}}:rtp{{dst={HOST},port={session.remote}}}"]
+        yield [*vlc, f"rtp://{HOST}:{session.local}"]
+
+
 class Known(Peer):
     """compare/peer_known.py, whose figures are known: for `compare/peers --check`."""
 
@@ -126,4 +146,4 @@ KNOWN = [Known("known", "--skip", "5", "--refused", "--bye", "BYE-SDES"),
          Known("known-off", "--off", "1", "--bye", "RR-SDES-BYE"),
          Known("known-around", "--skip", "5", around=True),
          Known("known-again", again=True)]
-PEERS = [Ortp(), CcRtp(), Libre(), GStreamer(), FFmpeg()]
+PEERS = [Ortp(), CcRtp(), Libre(), GStreamer(), FFmpeg(), Vlc()]
