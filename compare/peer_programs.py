@@ -21,6 +21,26 @@ m=audio %d RTP/AVP 0
 """
 
 
+BARESIP = """sip_listen %s
+rtp_ports %d-%d
+audio_source aufile,%s
+module_path %s
+module g711.so
+module aufile.so
+module_tmp account.so
+module_app menu.so
+"""
+
+
+def silence(session):
+    """A file that has more silence than the session lasts."""
+    path = session.room / f"{session.name}.wav"
+    with wave.open(str(path), "wb") as made:
+        made.setparams((1, 2, 8_000, 0, "NONE", "not compressed"))
+        made.writeframes(bytes(2 * 8_000 * (session.seconds + 5)))
+    return path
+
+
 class Peer:
     name, title, packages, asks, version_in = "", "", [], [], r"(\d[\w.+-]*)"
     stop = signal.SIGINT
@@ -33,7 +53,7 @@ class Peer:
             return None
         told = subprocess.run(self.asks, capture_output=True, text=True, **self.options)
         found = re.search(self.version_in, told.stdout)
-        return found[1] if told.returncode == 0 and found else None
+        return found[1] if found else None
 
     def build(self, source, room):
         """Builds its program, if it has one in `source`, in `room`."""
@@ -116,15 +136,29 @@ class Vlc(Peer):
     options = {"env": os.environ | {"HOME": "/tmp"}, **as_other}
 
     def commands(self, session):
-        silence = session.room / f"{session.name}.wav"
-        with wave.open(str(silence), "wb") as made:
-            made.setparams((1, 2, 8_000, 0, "NONE", "not compressed"))
-            made.writeframes(bytes(2 * 8_000 * (session.seconds + 5)))
         session.room.chmod(0o755)
         vlc = "vlc -I dummy --no-video --aout adummy".split()
-        yield [*vlc, "--mtu", "172", silence, "--sout",
+        yield [*vlc, "--mtu", "172", silence(session), "--sout",
                f"#transcode{{acodec=ulaw,channels=1,samplerate=8000}}:rtp{{dst={HOST},port={session.remote}}}"]
         yield [*vlc, f"rtp://{HOST}:{session.local}"]
+
+
+class Baresip(Peer):
+    """A telephone that answers each call, and compare/peer_call.py, which calls it."""
+    name, title, packages, asks = "baresip", "baresip", ["baresip-core"], ["baresip", "-h"]
+    version_in = r"v([\d.]+)"
+
+    def commands(self, session):
+        folder, sip = session.room / f"{session.name}-folder", session.spare
+        folder.mkdir(exist_ok=True)
+        modules = next(Path("/usr/lib").glob("**/baresip/modules"))
+        (folder / "config").write_text(BARESIP % (f"{HOST}:{sip}", session.local, session.local + 2, silence(session),
+                                                  modules))
+        (folder / "accounts").write_text(f"<sip:peer@{HOST}:{sip};transport=udp>;regint=0;answermode=auto"
+                                         ";audio_codecs=PCMU\n")
+        (folder / "contacts").write_text("")
+        yield ["baresip", "-f", folder]
+        yield [sys.executable, Path(__file__).parent / "peer_call.py", sip, session.remote]
 
 
 class Known(Peer):
@@ -146,4 +180,4 @@ KNOWN = [Known("known", "--skip", "5", "--refused", "--bye", "BYE-SDES"),
          Known("known-off", "--off", "1", "--bye", "RR-SDES-BYE"),
          Known("known-around", "--skip", "5", around=True),
          Known("known-again", again=True)]
-PEERS = [Ortp(), CcRtp(), Libre(), GStreamer(), FFmpeg(), Vlc()]
+PEERS = [Ortp(), CcRtp(), Libre(), Baresip(), GStreamer(), FFmpeg(), Vlc()]
