@@ -5,22 +5,22 @@ import peer_table
 from peer_relay import PEER, PLAYER
 
 # 2 of F3: one of them is the BYE
-REFUSED = ", 1 refused: F2 Version, 2 refused: F3 FirstType, 1 refused: F5 Length, 1 of RTP refused: G2 Version"
-BYES = {"known": "BYE SDES: dropped; without report_before stays", "known-off": "RR SDES BYE: dropped"}
+REFUSED = "; refused: 1 by F2 Version, 2 by F3 FirstType, 1 by F5 Length, 1 by G2 Version"
+BYES = {"known": "BYE SDES: dropped only with report_before", "known-off": "RR SDES BYE: dropped"}
 LATE = 0.3  # seconds that a report of the peer may be late by
 
 
 def figures(session):
-    """How many reports the peer sent, how many packets it skipped, and the losses that it counted."""
-    reports, skipped, told = re.search(r"reports (\d+) skipped (\d+) told \[(.*)\]", session.printed()).groups()
-    return int(reports), int(skipped), [int(count) for count in told.split(", ")]
+    """How many reports and packets the peer sent, how many it skipped, and the losses that it counted."""
+    *counts, told = re.search(r"reports (\d+) packets (\d+) skipped (\d+) told \[(.*)\]", session.printed()).groups()
+    return *map(int, counts), [int(count) for count in told.split(", ")]
 
 
-def cells_wanted(name, reports, told):
+def cells_wanted(name, reports, told, packets):
     """The cells that are known, by the names of their columns."""
     taken = reports + (name == "known-off")  # with its BYE
     blocks = f"of {len(told)} blocks, up to {told[-1]}"
-    return {"Its datagrams": f"{taken} taken" + (REFUSED if name == "known" else ""), "It sees": "SSRC",
+    return {"Its datagrams": f"{taken} compounds, {packets} packets" + (REFUSED if name == "known" else ""), "It sees": "SSRC",
             "Losses it tells of our stream":
                 f"0 {blocks}; +1 in {len(told)}" if name == "known-off" else f"{len(told)} {blocks}",
             "Its BYE": BYES.get(name, "none")}
@@ -34,18 +34,19 @@ def intervals_wrong(name, cells):
 def losses_wrong(row, cell, skipped):
     """What we report is what the peer skipped and the relay dropped, unless the skipped packets went around the
     relay."""
-    told, count, most, rest = re.fullmatch(r"(\d+) of (\d+) blocks, up to (\d+)(.*)", cell).groups()
-    if row.session.peer.name == "known-around":
-        return told == count or f"; -{skipped} in " not in rest
+    told, count, most, rest, lists = re.fullmatch(r"(\d+) of (\d+) blocks, up to (\d+)(.*); ([12] of 2) lists",
+                                                  cell).groups()
+    if row.session.peer.name == "known-around":  # to one of the players
+        return told == count or f"; -{skipped} in " not in rest or lists != "1 of 2"
     missing = sum(skipped + stream.dropped + stream.held for (who, _), stream in row.streams.items() if who == PEER)
-    return told != count or rest or not skipped <= int(most) <= missing
+    return told != count or rest or lists != "2 of 2" or not skipped <= int(most) <= missing
 
 
 def faults(row):
     """Where a row is not what is known."""
     session, name, cells = row.session, row.session.peer.name, dict(zip(peer_table.COLUMNS, row.cells()))
-    reports, skipped, told = figures(session)
-    for column, wanted in cells_wanted(name, reports, told).items():
+    reports, packets, skipped, told = figures(session)
+    for column, wanted in cells_wanted(name, reports, told, packets).items():
         if cells[column] != wanted:
             yield f"{column}: {cells[column]}, not {wanted}"
     if intervals_wrong(name, cells):

@@ -48,7 +48,7 @@ class Peer:
             self.receive_until(began + self.sent / PACKETS_A_SECOND)
         if self.given.bye:
             self.send(1, BYES[self.given.bye])
-        print(f"reports {self.reports} skipped {self.skipped} told {self.told}")
+        print(f"reports {self.reports} packets {self.sent - self.skipped} skipped {self.skipped} told {self.told}")
 
     def send_packet(self):
         packet = struct.pack(">BBHII", 0x80, 0, self.sent % 65_536, self.sent * PACKET, SSRC) + b"\xff" * PACKET

@@ -5,6 +5,7 @@ import collections
 import random
 import select
 import socket
+import sys
 import time
 
 import decoder
@@ -57,11 +58,16 @@ class Stream:
         self.passed.append(number)
         return octets
 
+    def counted(self):
+        """How many packets a receiver of all that was passed on has counted, and how many are lost to it. The first
+        packet is its probation, and does not count (RFC 3550, A.1)."""
+        return len(self.passed) - 1, max(self.passed) - self.passed[0] + 1 - len(self.passed)
+
     def lost(self, highest):
         """What a receiver may report as lost that has this highest number: expected less received (RFC 3550, A.3),
         from the first packet on, which is the same from any later one of those before the first loss. There is more
-        than one such number if packets that had been held back came after the highest. None, if no receiver of what
-        was passed on can have it as its highest."""
+        than one such number if packets that had been held back came after the highest, and none if no receiver of what
+        was passed on can have that number as its highest."""
         place = self.place.get(highest)
         if place is None or max(self.passed[:place + 1]) != highest:
             return []
@@ -97,7 +103,7 @@ class Relay:
 
     def receive(self, made, sender, kind):
         octets, notes, *_ = made.recvmsg(65_535, 64)
-        seconds, nanoseconds = (int.from_bytes(notes[0][2][at:at + 8], "little") for at in (0, 8))
+        seconds, nanoseconds = (int.from_bytes(notes[0][2][at:at + 8], sys.byteorder) for at in (0, 8))
         if kind == RTCP:
             self.heard.append(Heard(sender, seconds + nanoseconds / 1e9, octets, decoder.answer(octets)))
             self.pass_on(sender, kind, octets)

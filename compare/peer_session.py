@@ -1,4 +1,5 @@
 """A session of compare/peers: two players, a relay, and the peer."""
+import collections
 import re
 import signal
 import subprocess
@@ -9,7 +10,11 @@ from peer_relay import PEER, PLAYER, SECOND, Relay
 
 FIRST_PORT, PORTS = 7_000, 40  # of each session
 CNAME = "player@example.com"  # of examples/player.c
+PROGRAMS = {PLAYER: "player", SECOND: "player-without"}
 GRACE, MOST_LEAVING = 4, 2  # seconds between both sides' ends, in which the player lists the sources; and for its BYE
+
+LISTED = re.compile(r"^  ([0-9a-f]{8}) .*? (sends|listens|is not yet valid|left): (\d+) packets .*?, (-?\d+) lost", re.M)
+Listed = collections.namedtuple("Listed", "doing received lost")
 
 
 class Session:
@@ -23,7 +28,7 @@ class Session:
         self.at = {PLAYER: base + 10, SECOND: base + 12, PEER: base + 14}
         self.spare = base + 20  # for a peer that needs more ports
         self.relay = Relay(self.to, self.at, seed)
-        self.running, self.ended, self.lists = [], {}, {}
+        self.running, self.lists = [], {}
 
     # ---- For the peer's commands
 
@@ -45,9 +50,17 @@ class Session:
     # ---- From begin to end
 
     def run(self):
-        players = {who: self.start(program, [self.room / program, str(self.to[who]), str(self.to[who]),
-                                             str(self.at[who])])
-                   for who, program in ((PLAYER, "player"), (SECOND, "player-without"))}
+        try:
+            self.play()
+        finally:
+            for process in self.running:
+                process.kill()
+                process.wait()
+            self.relay.close()
+
+    def play(self):
+        players = [self.start(program, [self.room / program, str(self.to[who]), str(self.to[who]), str(self.at[who])])
+                   for who, program in PROGRAMS.items()]
         self.relay.run_until(time.monotonic() + 0.2)
         peers = [self.start(f"peer{number}", command, **self.peer.options)
                  for number, command in enumerate(self.peer.commands(self))]
@@ -55,16 +68,12 @@ class Session:
         for process in peers:
             process.send_signal(self.peer.stop)
         self.relay.run_until(time.monotonic() + GRACE)
-        self.lists = {who: self.listed(program) for who, program in ((PLAYER, "player"), (SECOND, "player-without"))}
-        for process in players.values():
+        self.lists = {who: self.listed(program) for who, program in PROGRAMS.items()}
+        for process in players:
             process.send_signal(signal.SIGINT)
         until = time.monotonic() + MOST_LEAVING
-        while time.monotonic() < until and any(process.poll() is None for process in players.values()):
+        while time.monotonic() < until and any(process.poll() is None for process in players):
             self.relay.run_until(time.monotonic() + 0.1)
-        for process in self.running:
-            process.kill()
-            process.wait()
-        self.relay.close()
 
     def start(self, name, command, **options):
         with open(self.room / f"{self.name}-{name}", "w") as output:
@@ -74,11 +83,11 @@ class Session:
         return process
 
     def listed(self, player):
-        """The sources of a player's last list that is whole, each with what it does: sends, listens, is not yet valid or
-        left."""
+        """The sources in a player's last list that is whole: what each does, how many of its packets were counted, and
+        how many are lost."""
         lists = re.split(r"^\d+\.\d s: .*\n", (self.room / f"{self.name}-{player}").read_text(), flags=re.M)
-        lines = re.findall(r"^  ([0-9a-f]{8}) .*? (sends|listens|is not yet valid|left): ", lists[-2], re.M)
-        return {int(ssrc, 16): doing for ssrc, doing in lines} if len(lists) > 2 else {}
+        lines = LISTED.findall(lists[-2]) if len(lists) > 2 else []
+        return {int(ssrc, 16): Listed(doing, int(received), int(lost)) for ssrc, doing, received, lost in lines}
 
     def printed(self):
         """All that the peer's programs printed."""

@@ -6,7 +6,7 @@ import relay
 from peer_relay import PEER, PLAYER, SECOND
 from peer_session import CNAME
 
-COLUMNS = ["Peer", "Session", "Its datagrams", "It sees", "Losses it tells of our stream",
+COLUMNS = ["Peer", "Session: dropped and held back", "Its datagrams", "It sees", "Losses it tells of our stream",
            "Losses we tell of its stream", "Its BYE", "Our intervals", "Its intervals"]
 LEAST_INTERVAL = 2.052_074  # seconds: half of 5, over 1.21828 (RFC 3550, 6.3.1)
 MARGIN = 0.01  # seconds between the tick that makes a report and the kernel's taking it
@@ -47,17 +47,27 @@ class Row:
 
     def cells(self):
         session = self.session
-        return [f"{session.peer.title} {session.version}".strip(), "straight" if session.seed is None else "relay",
+        return [f"{session.peer.title} {session.version}".strip(), self.way(),
                 self.datagrams(), self.sees(), self.losses_told(), self.our_losses(), self.goodbye(),
                 self.our_intervals(), self.intervals(self.heard[PEER])]
 
+    def way(self):
+        """Straight, or what the relay dropped and held back of our stream and of its."""
+        if self.session.seed is None:
+            return "straight"
+        ours, theirs = (" and ".join(str(sum(counts)) for counts in zip((0, 0), *(
+            (stream.dropped, stream.held) for (sender, _), stream in self.streams.items() if sender == who)))
+            for who in (PLAYER, PEER))
+        return f"relay: {ours} of ours, {theirs} of its"
+
     def datagrams(self):
-        taken = [heard for heard in self.heard[PEER] if heard.text.startswith("ok ")]
+        taken = sum(heard.text.startswith("ok ") for heard in self.heard[PEER])
+        packets = sum(stream.came for (who, _), stream in self.streams.items() if who == PEER)
         refused = collections.Counter(heard.text.split(" at ")[0] for heard in self.heard[PEER]
                                       if not heard.text.startswith("ok "))
-        no_rtp = {why: count for (sender, why), count in self.session.relay.no_rtp.items() if sender == PEER}
-        return ", ".join([f"{len(taken)} taken", *(f"{count} refused: {why}" for why, count in refused.items()),
-                          *(f"{count} of RTP refused: {why}" for why, count in no_rtp.items())])
+        refused.update({why: count for (who, why), count in self.session.relay.no_rtp.items() if who == PEER})
+        told = ", ".join(f"{count} by {why}" for why, count in refused.items())
+        return f"{taken} compounds, {packets} packets" + (f"; refused: {told}" if told else "")
 
     # ---- Losses
 
@@ -88,9 +98,12 @@ class Row:
     def our_losses(self):
         blocks = list(itertools.chain(self.blocks(PLAYER, PEER), self.blocks(SECOND, PEER)))
         told, is_so = self.compared(blocks)
-        self.differs |= not is_so
+        lists = [(listed.received, listed.lost) == self.streams[PEER, ssrc].counted()
+                 for sources in self.session.lists.values() for ssrc, listed in sources.items()
+                 if (PEER, ssrc) in self.streams]
+        self.differs |= not is_so or not all(lists)
         self.took_no_part |= not blocks
-        return told if blocks else "no block"
+        return f"{told}; {sum(lists)} of {len(lists)} lists" if blocks else "no block"
 
     def sees(self):
         told = any(True for _ in self.blocks(PEER, PLAYER))
@@ -104,9 +117,10 @@ class Row:
         if not last:
             return "none"
         ssrc = leaver(last[-1].octets)
-        listed = {who: doing.get(ssrc, "is gone") in ("sends", "listens") for who, doing in self.session.lists.items()}
-        with_it, without = ("stays" if listed[who] else "dropped" for who in (PLAYER, SECOND))
-        return f"{form_of(last[-1].octets)}: {with_it}" + ("" if with_it == without else f"; without report_before {without}")
+        stays = [who for who, sources in self.session.lists.items()
+                 if ssrc in sources and sources[ssrc].doing in ("sends", "listens")]
+        what = {(): "dropped", (SECOND,): "dropped only with report_before"}.get(tuple(stays), "stays")
+        return f"{form_of(last[-1].octets)}: {what}"
 
     # ---- Intervals
 
