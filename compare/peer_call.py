@@ -1,5 +1,5 @@
-"""Calls a SIP telephone and offers it mu-law audio at our RTP port: what takes part in the session for it. Ends once it
-is interrupted and the call is over. usage: compare/peer_call.py SIP-PORT OUR-RTP-PORT      on 127.0.0.1"""
+"""Calls a SIP telephone, and offers it mu-law audio at a port of ours: this makes it take part in the session. Ends a
+second after it is interrupted. usage: compare/peer_call.py SIP-PORT OUR-RTP-PORT      on 127.0.0.1"""
 import re
 import signal
 import socket

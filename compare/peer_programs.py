@@ -177,7 +177,7 @@ class Known(Peer):
 
 
 KNOWN = [Known("known", "--skip", "5", "--refused", "--bye", "BYE-SDES"),
-         Known("known-off", "--off", "1", "--bye", "RR-SDES-BYE"),
+         Known("known-off", "--off", "10", "--bye", "RR-SDES-BYE"),
          Known("known-around", "--skip", "5", around=True),
          Known("known-again", again=True)]
 PEERS = [Ortp(), CcRtp(), Libre(), Baresip(), GStreamer(), FFmpeg(), Vlc()]

@@ -1,5 +1,5 @@
-"""What stands between a player and its peer in compare/peers: it passes all datagrams on, both ways, and keeps the RTCP
-with the moments when it came. Of the RTP it may drop some packets and hold others back until later ones have passed.
+"""What stands between a player and its peer in compare/peers: it passes datagrams on, both ways, and keeps the RTCP
+with the moments when it came. Of the RTP it may drop some packets, and hold others back until later ones have passed.
 All that the peer sends goes to a second player too; what that one sends goes nowhere."""
 import collections
 import random

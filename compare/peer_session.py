@@ -13,7 +13,8 @@ CNAME = "player@example.com"  # of examples/player.c
 PROGRAMS = {PLAYER: "player", SECOND: "player-without"}
 GRACE, MOST_LEAVING = 4, 2  # seconds between both sides' ends, in which the player lists the sources; and for its BYE
 
-LISTED = re.compile(r"^  ([0-9a-f]{8}) .*? (sends|listens|is not yet valid|left): (\d+) packets .*?, (-?\d+) lost", re.M)
+LISTED = re.compile(r"^  ([0-9a-f]{8}) .*? (sends|listens|is not yet valid|left): (\d+) packets .*?, (-?\d+) lost",
+                    re.M)
 Listed = collections.namedtuple("Listed", "doing received lost")
 
 

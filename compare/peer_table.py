@@ -81,15 +81,18 @@ class Row:
                     yield block, self.streams[of, block.source].lost(block.highest)
 
     def compared(self, blocks):
-        """How many blocks tell what the relay counts, and how the others differ."""
-        blocks = list(blocks)
-        as_counted = sum(block.lost in lost for block, lost in blocks)
-        apart = collections.Counter(
-            f"{min((block.lost - count for count in lost), key=abs):+}" if lost else "no such highest number"
-            for block, lost in blocks if block.lost not in lost)
-        most = max((count for _, lost in blocks for count in lost), default=0)
-        told = f"{as_counted} of {len(blocks)} blocks, up to {most}"
-        return "; ".join([told, *(f"{how} in {count}" for how, count in apart.most_common())]), not apart
+        """How many blocks tell what the relay counts, or one of such numbers, and how the others differ."""
+        nearest = [(block, min(lost, key=lambda count: abs(block.lost - count), default=None))
+                   for block, lost in blocks]
+        apart = [block.lost - count for block, count in nearest if count is not None and block.lost != count]
+        unknown = sum(count is None for _, count in nearest)
+        most = max((count for _, count in nearest if count is not None), default=0)
+        told = [f"{len(nearest) - len(apart) - unknown} of {len(nearest)} blocks, up to {most}"]
+        if apart:
+            told.append(" to ".join(f"{end:+}" for end in sorted({min(apart), max(apart)})) + f" in {len(apart)}")
+        if unknown:
+            told.append(f"no such highest number in {unknown}")
+        return "; ".join(told), len(told) == 1
 
     def losses_told(self):
         blocks = list(self.blocks(PEER, PLAYER))
