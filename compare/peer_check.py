@@ -20,10 +20,16 @@ def cells_wanted(name, reports, told, packets):
     """How the cells begin that are known, by the names of their columns."""
     taken, blocks = reports + (name == "known-off"), len(told)  # the BYE of one counts
     return {"Its datagrams": f"{taken} compounds, {packets} packets" + (REFUSED if name == "known" else ""),
-            "It sees": "SSRC",
+            "Its CNAME": f"known@example.com: {taken} of {taken}",
             "Losses it tells of our stream": f"0 of {blocks} blocks, " if name == "known-off"
                                              else f"{blocks} of {blocks} blocks, up to {max(told)}",
             "Its BYE": BYES.get(name, "none")}
+
+
+def trips_wrong(cell):
+    """The peer reports as if our reports had been sent 50 milliseconds earlier."""
+    least, most = map(float, re.fullmatch(r"SSRC, round trips of ([\d.]+) to ([\d.]+) ms", cell).groups())
+    return not 49.9 < least <= most < 50 + 1_000 * LATE
 
 
 def intervals_wrong(name, cells):
@@ -49,6 +55,8 @@ def faults(row):
     for column, wanted in cells_wanted(name, reports, told, packets).items():
         if not cells[column].startswith(wanted):
             yield f"{column}: {cells[column]}, not {wanted}"
+    if trips_wrong(cells["It sees"]):
+        yield f"round trips: {cells['It sees']}"
     if intervals_wrong(name, cells):
         yield f"intervals: {cells['Our intervals']} and {cells['Its intervals']}"
     if losses_wrong(row, cells["Losses we tell of its stream"], skipped):

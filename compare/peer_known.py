@@ -23,6 +23,7 @@ EMPTY_REPORT = struct.pack(">BBHI", 0x80, 201, 1, SSRC)
 BYE = struct.pack(">BBHI", 0x81, 203, 1, SSRC)
 BYES = {"BYE-SDES": BYE + SDES, "RR-SDES-BYE": EMPTY_REPORT + SDES + BYE}
 REFUSED = [b"\x41" + SDES[1:], SDES, EMPTY_REPORT + SDES[:-4]]  # reasons F2, F3 and F5
+EARLIER = 65_536 // 20  # by 50 milliseconds
 NO_RTP = b"\x40" + bytes(11)  # version 1
 
 
@@ -31,8 +32,8 @@ class Peer:
         self.given, self.sent, self.reports, self.skipped, self.told = given, 0, 0, 0, []
         self.sockets = [socket_at(given.port), socket_at(given.port + 1)]
         self.other, self.first, self.highest, self.received = 0, None, 0, 0
-        self.again, self.echoed = [], set()  # what to send once more, and when; and of what that was said
-        self.is_over = False
+        self.again, self.seen = [], set()  # what to send once more, and when; all reports that came
+        self.last, self.is_over = None, False
 
     def send(self, kind, octets):
         self.sockets[kind].sendto(octets, (HOST, self.given.to + kind))
@@ -66,12 +67,20 @@ class Peer:
         if self.first is not None:
             lost = self.highest - self.first + 1 - self.received
             self.told.append(lost)
-            blocks = struct.pack(">IIIIII", self.other, (lost + self.given.off) & 0xFFFFFF, self.highest, 0, 0, 0)
+            blocks = struct.pack(">IIIIII", self.other, (lost + self.given.off) & 0xFFFFFF, self.highest, 0,
+                                 *self.last_report())
         packets = self.sent - self.skipped
         head = struct.pack(">BBHIQIII", 0x80 + len(blocks) // 24, 200, 6 + len(blocks) // 4, SSRC, ntp,
                            self.sent * PACKET, packets, packets * PACKET)
         self.send(1, head + blocks + SDES)
         self.reports += 1
+
+    def last_report(self):
+        """LSR and DLSR, as if the player's latest sender report had been sent earlier than it was."""
+        if self.last is None:
+            return 0, 0
+        sent, came = self.last
+        return sent - EARLIER, int((time.monotonic() - came) * 65_536)
 
     def send_refused(self):
         for octets in REFUSED:
@@ -86,11 +95,17 @@ class Peer:
                 octets = came.recv(65_535)
                 if came is self.sockets[0]:
                     self.take(octets)
-                elif self.given.again and octets[1] in (200, 201) and octets not in self.echoed:
-                    self.echoed.add(octets)
-                    self.again.append((time.monotonic() + 0.5, octets))
+                elif octets not in self.seen:
+                    self.seen.add(octets)
+                    self.take_report(octets)
         while self.again and self.again[0][0] < time.monotonic():
             self.sockets[1].sendto(self.again.pop(0)[1], (HOST, self.given.again))
+
+    def take_report(self, octets):
+        if octets[1] == 200:
+            self.last = int.from_bytes(octets[10:14], "big"), time.monotonic()
+        if self.given.again:
+            self.again.append((time.monotonic() + 0.5, octets))
 
     def take(self, packet):
         """The player's first sequence number is 0, and a session does not wrap it."""

@@ -58,10 +58,11 @@ class Stream:
         self.passed.append(number)
         return octets
 
-    def counted(self):
-        """How many packets a receiver of all that was passed on has counted, and how many are lost to it. The first
-        packet is its probation, and does not count (RFC 3550, A.1)."""
-        return len(self.passed) - 1, max(self.passed) - self.passed[0] + 1 - len(self.passed)
+    def lost_after(self, received):
+        """What is lost to a receiver that counted so many of the packets that were passed on. The first one is its
+        probation, and does not count (RFC 3550, A.1)."""
+        came = self.passed[:received + 1]
+        return max(came) - self.passed[0] + 1 - len(came)
 
     def lost(self, highest):
         """What a receiver may report as lost that has this highest number: expected less received (RFC 3550, A.3),

@@ -1,13 +1,15 @@
 """The table of compare/peers: what each session says, as a row."""
 import collections
 import itertools
+import re
 
 import relay
 from peer_relay import PEER, PLAYER, SECOND
 from peer_session import CNAME
 
-COLUMNS = ["Peer", "Session: dropped and held back", "Its datagrams", "It sees", "Losses it tells of our stream",
-           "Losses we tell of its stream", "Its BYE", "Our intervals", "Its intervals"]
+COLUMNS = ["Peer", "Session: dropped and held back", "Its datagrams", "Its CNAME", "It sees",
+           "Losses it tells of our stream", "Losses we tell of its stream", "Its BYE", "Our intervals",
+           "Its intervals"]
 LEAST_INTERVAL = 2.052_074  # seconds: half of 5, over 1.21828 (RFC 3550, 6.3.1)
 MARGIN = 0.01  # seconds between the tick that makes a report and the kernel's taking it
 NAMES = {200: "SR", 201: "RR", 202: "SDES", 203: "BYE", 204: "APP", 205: "RTPFB", 206: "PSFB", 207: "XR"}
@@ -34,6 +36,13 @@ def leaver(octets):
     return next((number_at(packet, 4) for kind, packet in packets_of(octets) if kind == 203), None)
 
 
+def is_as_passed_on(listed, stream):
+    """Whether a list has what the relay passed on. A source that left may have been heard to leave before its last
+    packets were read, which came at another port."""
+    is_whole = listed.received == len(stream.passed) - 1
+    return (is_whole or listed.doing == "left") and listed.lost == stream.lost_after(listed.received)
+
+
 class Row:
     """What one session says."""
 
@@ -47,9 +56,9 @@ class Row:
 
     def cells(self):
         session = self.session
-        return [f"{session.peer.title} {session.version}".strip(), self.way(),
-                self.datagrams(), self.sees(), self.losses_told(), self.our_losses(), self.goodbye(),
-                self.our_intervals(), self.intervals(self.heard[PEER])]
+        return [f"{session.peer.title} {session.version}".strip(), self.way(), self.datagrams(), self.cname(),
+                self.sees(), self.losses_told(), self.our_losses(), self.goodbye(), self.our_intervals(),
+                self.intervals(self.heard[PEER])]
 
     def way(self):
         """Straight, or what the relay dropped and held back of our stream and of its."""
@@ -101,17 +110,28 @@ class Row:
     def our_losses(self):
         blocks = list(itertools.chain(self.blocks(PLAYER, PEER), self.blocks(SECOND, PEER)))
         told, is_so = self.compared(blocks)
-        lists = [(listed.received, listed.lost) == self.streams[PEER, ssrc].counted()
-                 for sources in self.session.lists.values() for ssrc, listed in sources.items()
-                 if (PEER, ssrc) in self.streams]
+        lists = [is_as_passed_on(listed, self.streams[PEER, ssrc]) for sources in self.session.lists.values()
+                 for ssrc, listed in sources.items() if (PEER, ssrc) in self.streams]
         self.differs |= not is_so or not all(lists)
         self.took_no_part |= not blocks
         return f"{told}; {sum(lists)} of {len(lists)} lists" if blocks else "no block"
 
     def sees(self):
-        told = any(True for _ in self.blocks(PEER, PLAYER))
-        cname = "CNAME" if CNAME in self.session.printed() else "no CNAME"
-        return ("SSRC" if told else "no SSRC told") + (f", {cname}" if self.session.peer.shows_cname else "")
+        blocks = [block for block, _ in self.blocks(PEER, PLAYER)]
+        seen = ["SSRC"] if blocks else ["no SSRC told"]
+        if self.session.peer.shows_cname:
+            seen.append("CNAME" if CNAME in self.session.printed() else "no CNAME")
+        trips = [1_000 * block.round_trip for block in blocks if block.round_trip is not None]
+        if trips:
+            seen.append(f"round trips of {min(trips):.1f} to {max(trips):.1f} ms")
+        return ", ".join(seen)
+
+    def cname(self):
+        """Its CNAME, and how many of its compounds have one."""
+        taken = [heard.text for heard in self.heard[PEER] if heard.text.startswith("ok ")]
+        named = [name for name in (re.search(r"[{,]1=([0-9a-f]*)", text) for text in taken) if name]
+        names = sorted({bytes.fromhex(name[1]).decode(errors="replace") for name in named})
+        return f"{' and '.join(names)}: {len(named)} of {len(taken)}" if names else "none"
 
     # ---- Goodbyes
 
