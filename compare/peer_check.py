@@ -2,7 +2,7 @@
 import re
 
 import peer_table
-from peer_relay import PEER, PLAYER
+from peer_relay import MOST_AFTER, PEER, PLAYER
 
 # 2 of F3: one of them is the BYE
 REFUSED = "; refused: 1 by F2 Version, 2 by F3 FirstType, 1 by F5 Length, 1 by G2 Version"
@@ -11,9 +11,10 @@ LATE = 0.3  # seconds that a report of the peer may be late by
 
 
 def figures(session):
-    """How many reports and packets the peer sent, how many it skipped, and the losses that it counted."""
-    *counts, told = re.search(r"reports (\d+) packets (\d+) skipped (\d+) told \[(.*)\]", session.printed()).groups()
-    return *map(int, counts), [int(count) for count in told.split(", ")]
+    """What the peer printed at its end, by name; and the losses that it counted at each report."""
+    counts, told = re.search(r"(reports .*) told \[(.*)\]", session.printed()).groups()
+    words = counts.split()
+    return dict(zip(words[::2], map(int, words[1::2]))), [int(count) for count in told.split(", ")]
 
 
 def cells_wanted(name, reports, told, packets):
@@ -40,30 +41,40 @@ def intervals_wrong(name, cells):
 def losses_wrong(row, cell, skipped):
     """What we report is what the peer skipped and the relay dropped, unless the skipped packets went around the
     relay."""
-    told, count, most, rest, lists = re.fullmatch(r"(\d+) of (\d+) blocks, up to (\d+)(.*); ([12] of 2) lists",
-                                                  cell).groups()
+    found = re.fullmatch(r"(\d+) of (\d+) blocks, up to (\d+)(.*); ([012] of 2) lists", cell)
+    if found is None:
+        return True
+    told, count, most, rest, lists = found.groups()
     if row.session.peer.name == "known-around":  # to one of the players
         return told == count or not rest.startswith(f"; -{skipped}") or lists != "1 of 2"
-    missing = sum(skipped + stream.dropped + stream.held for (who, _), stream in row.streams.items() if who == PEER)
+    (stream,) = (stream for (who, _), stream in row.streams.items() if who == PEER)
+    missing = skipped + len(stream.dropped) + stream.held
     return told != count or rest or lists != "2 of 2" or not skipped <= int(most) <= missing
+
+
+def relay_wrong(row, ended):
+    """What the peer counted as lost is what the relay dropped, and packets that it still held back."""
+    dropped = {who: stream.dropped for (who, _), stream in row.streams.items()}
+    held_back = ended["lost"] - sum(number <= ended["highest"] for number in dropped[PLAYER])
+    is_lossy = row.session.seed is not None
+    return any(bool(numbers) != is_lossy for numbers in dropped.values()) or not 0 <= held_back <= MOST_AFTER
 
 
 def faults(row):
     """Where a row is not what is known."""
     session, name, cells = row.session, row.session.peer.name, dict(zip(peer_table.COLUMNS, row.cells()))
-    reports, packets, skipped, told = figures(session)
-    for column, wanted in cells_wanted(name, reports, told, packets).items():
+    ended, told = figures(session)
+    for column, wanted in cells_wanted(name, ended["reports"], told, ended["packets"]).items():
         if not cells[column].startswith(wanted):
             yield f"{column}: {cells[column]}, not {wanted}"
     if trips_wrong(cells["It sees"]):
         yield f"round trips: {cells['It sees']}"
     if intervals_wrong(name, cells):
         yield f"intervals: {cells['Our intervals']} and {cells['Its intervals']}"
-    if losses_wrong(row, cells["Losses we tell of its stream"], skipped):
+    if losses_wrong(row, cells["Losses we tell of its stream"], ended["skipped"]):
         yield f"losses: {cells['Losses we tell of its stream']}"
-    dropped = {who: stream.dropped for (who, _), stream in row.streams.items()}
-    if any((count > 0) != (session.seed is not None) for count in dropped.values()):
-        yield f"dropped: {dropped}"
+    if relay_wrong(row, ended):
+        yield f"the relay: {cells[peer_table.COLUMNS[1]]}"
     if row.differs != (name in ("known-around", "known-again")):
         yield f"status: {row.differs}"
 

@@ -49,7 +49,8 @@ class Peer:
             self.receive_until(began + self.sent / PACKETS_A_SECOND)
         if self.given.bye:
             self.send(1, BYES[self.given.bye])
-        print(f"reports {self.reports} packets {self.sent - self.skipped} skipped {self.skipped} told {self.told}")
+        print(f"reports {self.reports} packets {self.sent - self.skipped} skipped {self.skipped}",
+              f"highest {self.highest} lost {self.lost()} told {self.told}")
 
     def send_packet(self):
         packet = struct.pack(">BBHII", 0x80, 0, self.sent % 65_536, self.sent * PACKET, SSRC) + b"\xff" * PACKET
@@ -65,7 +66,7 @@ class Peer:
     def send_report(self):
         ntp, blocks = int((time.time() + NTP_OF_1970) * 2**32), b""
         if self.first is not None:
-            lost = self.highest - self.first + 1 - self.received
+            lost = self.lost()
             self.told.append(lost)
             blocks = struct.pack(">IIIIII", self.other, (lost + self.given.off) & 0xFFFFFF, self.highest, 0,
                                  *self.last_report())
@@ -74,6 +75,9 @@ class Peer:
                            self.sent * PACKET, packets, packets * PACKET)
         self.send(1, head + blocks + SDES)
         self.reports += 1
+
+    def lost(self):
+        return self.highest - self.first + 1 - self.received
 
     def last_report(self):
         """LSR and DLSR, as if the player's latest sender report had been sent earlier than it was."""

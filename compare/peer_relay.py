@@ -29,7 +29,8 @@ class Stream:
         self.draws = draws  # or None, if all are passed on
         self.passed, self.place = [], {}  # sequence numbers, without their wraps; where each stands
         self.waiting = []  # packets held back, each with how many are to pass it
-        self.newest, self.came, self.dropped, self.held = None, 0, 0, 0
+        self.dropped = []  # sequence numbers
+        self.newest, self.came, self.held = None, 0, 0
 
     def take(self, octets):
         """The packets to pass on now that this one came."""
@@ -40,7 +41,7 @@ class Stream:
         self.came += 1
         draw = self.draws.random() if self.draws and self.came > SPARED else 1
         if draw < DROPPED:
-            self.dropped += 1
+            self.dropped.append(number)
             return []
         if draw < DROPPED + HELD:
             self.held += 1

@@ -65,7 +65,7 @@ class Row:
         if self.session.seed is None:
             return "straight"
         ours, theirs = (" and ".join(str(sum(counts)) for counts in zip((0, 0), *(
-            (stream.dropped, stream.held) for (sender, _), stream in self.streams.items() if sender == who)))
+            (len(stream.dropped), stream.held) for (sender, _), stream in self.streams.items() if sender == who)))
             for who in (PLAYER, PEER))
         return f"relay: {ours} of ours, {theirs} of its"
 
