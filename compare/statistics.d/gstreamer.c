@@ -1,0 +1,170 @@
+/* Passes a stream of datagrams to GStreamer's rtpsession, for compare/statistics. Its clock is a GstTestClock, which
+ * stands at the moment of each line, or at the moment of rtpsession's own timer, rounded up to a microsecond.
+ *
+ * Lines on standard input: "rtp MOMENT TIMES HEX", a datagram that comes so often; "rtcp MOMENT HEX"; "end MOMENT".
+ * It prints "check MOMENT" when the timer expired, and "report MOMENT HEX" for each compound.
+ *
+ * usage: gstreamer SEED own|standard INTERVAL TYPE:RATE.. < LINES
+ * `own` leaves rtpsession its limits on jumps, and `standard` sets those of RFC 3550, A.1. INTERVAL is the minimum
+ * between reports, in milliseconds. */
+#include <gst/check/gsttestclock.h>
+#include <gst/gst.h>
+
+#include <inttypes.h>
+#include <stdio.h>
+#include <stdlib.h>
+#include <string.h>
+
+enum { ROOM = 4096, TYPES = 128 };
+
+static GstClock *the_clock;
+static int rates[TYPES];
+
+static GstFlowReturn on_report(GstPad *pad, GstObject *parent, GstBuffer *buffer)
+{
+    GstMapInfo map;
+    (void)pad;
+    (void)parent;
+    gst_buffer_map(buffer, &map, GST_MAP_READ);
+    printf("report %" PRIu64 " ", (uint64_t)(gst_clock_get_time(the_clock) / 1000));
+    for (gsize at = 0; at < map.size; at++)
+        printf("%02x", map.data[at]);
+    printf("\n");
+    gst_buffer_unmap(buffer, &map);
+    gst_buffer_unref(buffer);
+    return GST_FLOW_OK;
+}
+
+static GstFlowReturn on_media(GstPad *pad, GstObject *parent, GstBuffer *buffer)
+{
+    (void)pad;
+    (void)parent;
+    gst_buffer_unref(buffer);
+    return GST_FLOW_OK;
+}
+
+static GstCaps *caps_of(GstElement *session, guint type, gpointer data)
+{
+    (void)session;
+    (void)data;
+    return gst_caps_new_simple("application/x-rtp", "payload", G_TYPE_INT, (int)type, "clock-rate", G_TYPE_INT,
+                               rates[type % TYPES], NULL);
+}
+
+/* Links one of rtpsession's sources to a pad that passes what comes to a function. */
+static void listen_at(GstPad *source, GstPadChainFunction function)
+{
+    GstPad *sink = gst_pad_new(NULL, GST_PAD_SINK);
+    gst_pad_set_chain_function(sink, function);
+    gst_pad_set_active(sink, TRUE);
+    g_assert(gst_pad_link(source, sink) == GST_PAD_LINK_OK);
+}
+
+/* One of rtpsession's sinks, by a pad that pushes to it. */
+static GstPad *feed_of(GstElement *session, const char *name, const char *caps)
+{
+    GstPad *source = gst_pad_new(NULL, GST_PAD_SRC), *sink = gst_element_request_pad_simple(session, name);
+    GstSegment segment;
+    GstCaps *made = gst_caps_new_empty_simple(caps);
+    g_assert(gst_pad_link(source, sink) == GST_PAD_LINK_OK);
+    gst_pad_set_active(source, TRUE);
+    gst_pad_push_event(source, gst_event_new_stream_start(name));
+    gst_pad_push_event(source, gst_event_new_caps(made));
+    gst_segment_init(&segment, GST_FORMAT_TIME);
+    gst_pad_push_event(source, gst_event_new_segment(&segment));
+    gst_caps_unref(made);
+    return source;
+}
+
+static GstElement *new_session(gboolean is_standard, guint64 interval)
+{
+    GstElement *session = gst_element_factory_make("rtpsession", NULL);
+    GObject *inner;
+    g_assert(session);
+    if (is_standard)
+        g_object_set(session, "max-dropout-time", 0, "max-misorder-time", 0, NULL);
+    g_object_set(session, "bandwidth", 1e9, "rtcp-min-interval", interval * GST_MSECOND, NULL);
+    g_object_get(session, "internal-session", &inner, NULL);
+    g_object_set(inner, "internal-ssrc", 0xAA, NULL);
+    g_object_unref(inner);
+    g_signal_connect(session, "request-pt-map", G_CALLBACK(caps_of), NULL);
+    gst_element_set_clock(session, the_clock);
+    gst_element_set_base_time(session, 0);
+    return session;
+}
+
+/* Lets the timer expire as often as it does up to a moment, and then stands there. */
+static void go_to(GstClockTime moment, gboolean has_begun)
+{
+    GstTestClock *clock = GST_TEST_CLOCK(the_clock);
+    while (has_begun) {
+        GstClockID id;
+        gst_test_clock_wait_for_next_pending_id(clock, &id);
+        GstClockTime due = (gst_clock_id_get_time(id) + 999) / 1000 * 1000;
+        gst_clock_id_unref(id);
+        if (due > moment)
+            break;
+        gst_test_clock_set_time(clock, MAX(due, gst_clock_get_time(the_clock)));
+        printf("check %" PRIu64 "\n", (uint64_t)(gst_clock_get_time(the_clock) / 1000));
+        gst_clock_id_unref(gst_test_clock_process_next_clock_id(clock));
+    }
+    gst_test_clock_set_time(clock, moment);
+}
+
+static void push(GstPad *pad, const char *hex, unsigned times)
+{
+    uint8_t octets[ROOM];
+    size_t size = 0;
+    unsigned octet;
+    for (; sscanf(hex, "%2x", &octet) == 1; hex += 2)
+        octets[size++] = (uint8_t)octet;
+    while (times--) {
+        GstBuffer *buffer = gst_buffer_new_allocate(NULL, size, NULL);
+        gst_buffer_fill(buffer, 0, octets, size);
+        gst_pad_push(pad, buffer);
+    }
+}
+
+static void take_lines(GstPad *rtp, GstPad *rtcp)
+{
+    static char line[2 * ROOM];
+    gboolean has_begun = FALSE;
+    while (fgets(line, sizeof line, stdin)) {
+        char kind[8];
+        uint64_t moment;
+        unsigned times = 1;
+        int hex = 0;
+        g_assert(sscanf(line, "%7s %" SCNu64 " %n", kind, &moment, &hex) == 2);
+        if (!strcmp(kind, "rtp"))
+            sscanf(line, "rtp %*u %u %n", &times, &hex);
+        go_to(moment * 1000, has_begun);
+        if (!strcmp(kind, "end"))
+            return;
+        push(strcmp(kind, "rtp") ? rtcp : rtp, line + hex, times);
+        has_begun = TRUE;
+    }
+}
+
+int main(int count, char **values)
+{
+    if (count < 5)
+        return 2;
+    for (int at = 4; at < count; at++) {
+        int type, rate;
+        g_assert(sscanf(values[at], "%d:%d", &type, &rate) == 2 && type >= 0 && type < TYPES);
+        rates[type] = rate;
+    }
+    gst_init(NULL, NULL);
+    the_clock = gst_test_clock_new_with_start_time(0);
+    gst_system_clock_set_default(the_clock);
+    g_random_set_seed((guint32)atoi(values[1]));
+    GstElement *session = new_session(!strcmp(values[2], "standard"), (guint64)atoi(values[3]));
+    listen_at(gst_element_request_pad_simple(session, "send_rtcp_src"), on_report);
+    gst_element_set_state(session, GST_STATE_PLAYING);
+    GstPad *rtp = feed_of(session, "recv_rtp_sink", "application/x-rtp");
+    GstPad *rtcp = feed_of(session, "recv_rtcp_sink", "application/x-rtcp");
+    listen_at(gst_element_get_static_pad(session, "recv_rtp_src"), on_media);
+    take_lines(rtp, rtcp);
+    fflush(stdout);
+    _Exit(0);
+}
