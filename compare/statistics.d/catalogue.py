@@ -4,7 +4,7 @@ from streams import (LEAST_INTERVAL, MILLISECOND, SECOND, SSRC, Control, Stream,
 
 OTHER = 0x5EED0000  # a second source
 RATES = (8_000, 48_000, 90_000)
-FAR_INTERVAL = 600 * SECOND  # between the reports of a session of days
+HOUR, FAR_INTERVAL = 3_600 * SECOND, 600 * SECOND  # between the reports of a session of hours
 
 
 def plain(chance, rate, seconds):
@@ -114,6 +114,8 @@ def probation(chance, rate, seconds):
     return {"second packet lost": gaps, "second packet late": merged(packets[:1], [second], packets[2:]),
             "first packet twice": packets[:1] + packets, "first packet late": merged([first], packets[1:]),
             "never ends": odd, "ends after 20 s": merged(odd[:len(odd) // 2], packets[len(packets) // 2:]),
+            "at most two in a row": [packet for at, packet in enumerate(packets) if at % 3 != 1],
+            "each packet twice": merged(packets, [packet._replace(moment=packet.moment + 1) for packet in packets]),
             "many lost": lost(packets, chance, 0.6), "begins at 65,535, every second lost": odd_at_wrap(chance, rate)}
 
 
@@ -197,7 +199,7 @@ def clamps(chance, rate, seconds):
     return {"at 2^23 - 1": up, "at -2^23": many}
 
 
-def days(chance, rate, seconds):
+def hours(chance, rate, seconds):
     """An SR, and then packets for 20 hours, so that DLSR has more than 32 bits."""
     packets = steady(chance, rate, 20 * 3_600, each=4 * SECOND)
     return {"20 hours since the SR": merged(packets, [Control(packets[2].moment + 1, "named-sender", SSRC, 2**40)])}
@@ -242,15 +244,16 @@ GROUPS = {
     "RTCP before the packets": known_before, "SRs": reported, "two sources": two_sources, "BYE": goodbyes,
     "CSRCs": contributors, "several payload types": payload_types,
 }
-LONG = {"lost at both clamps": clamps, "DLSR past 2^16 s": days}
+LONG = {"lost at both clamps": clamps, "DLSR past 2^16 s": hours}
 MIXED = "all this mixed at random"
 
 
 def stream(group, name, events, rate, seed):
+    events = merged(events)
     begin = events[0].moment
     if begin < SECOND:  # the library's session begins at moment 0
         events = [event._replace(moment=event.moment + SECOND) for event in events]
-    interval = FAR_INTERVAL if group == "DLSR past 2^16 s" else LEAST_INTERVAL
+    interval = FAR_INTERVAL if events[-1].moment > HOUR else LEAST_INTERVAL
     rates = {0: rate, 1: rate, 2: 90_000 if rate != 90_000 else 48_000}
     return Stream(group, name, events, rates, interval, events[-1].moment + 15 * SECOND, seed)
 
@@ -258,7 +261,7 @@ def stream(group, name, events, rate, seed):
 def made(seed, seconds, is_quick, number_mixed):
     """All the streams, in order of the groups."""
     for group, make in GROUPS.items():
-        for rate in RATES[:1] if is_quick else RATES:
+        for rate in RATES[::2] if is_quick else RATES:
             for name, events in make(chance_of(seed, group, rate), rate, seconds).items():
                 yield stream(group, f"{name}, {rate} Hz", events, rate, seed)
     for group, make in ({} if is_quick else LONG).items():

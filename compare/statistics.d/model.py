@@ -271,11 +271,12 @@ class Model:
 
 
 def blocks_of(switches, stream, interval, checks, reports):
-    """The blocks of the reports at these moments, by moment and source, and which switches made a difference."""
+    """The blocks of the reports at these moments, by moment and source, and which switches made a difference. A report
+    at a moment without a check comes after the events of that moment."""
     model = Model(switches, stream.rates, interval, stream.events[0].moment)
-    blocks, at, reports = {}, 0, set(reports)
-    for moment in sorted({*checks, *reports}):
-        while at < len(stream.events) and stream.events[at].moment < moment:
+    blocks, at, checks, reports = {}, 0, set(checks), set(reports)
+    for moment in sorted(checks | reports):
+        while at < len(stream.events) and stream.events[at].moment < moment + (moment not in checks):
             model.take(stream.events[at])
             at += 1
         model.check(moment)

@@ -54,13 +54,13 @@ def line_of(event):
 
 
 def steady(chance, rate, seconds, each=20 * MILLISECOND, first=None, timestamp=None, begin=SECOND, ssrc=SSRC, count=1):
-    """Packets of one length, `count` with each timestamp, that come up to 4 milliseconds late."""
+    """Packets of one length, `count` with each timestamp, that come late by up to a fifth of their length."""
     first = chance.randrange(2**16) if first is None else first
     timestamp = chance.randrange(2**32) if timestamp is None else timestamp
     packets = []
     for number in range(seconds * SECOND // each * count):
         at = number // count
-        late = chance.randrange(4 * MILLISECOND) if count == 1 else number % count * MILLISECOND
+        late = chance.randrange(each // 5) if count == 1 else number % count * MILLISECOND
         packets.append(Media(begin + at * each + late, (first + number) % 2**16,
                              (timestamp + at * each * rate // SECOND) % 2**32, ssrc))
     return packets
