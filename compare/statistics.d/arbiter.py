@@ -8,7 +8,7 @@ Around that code it keeps these rules of the RFC:
 - 6.3.5: a source from which nothing came for five intervals, here 25 seconds, is dropped when a report is due;
 - 6.2.1, 6.6: a source that said goodbye gets no block, and is held for stragglers, here for 5 seconds, until a report
   is due."""
-from streams import Block, LEAST_INTERVAL, Media
+from streams import LEAST_INTERVAL, Block, Media, gone_by
 
 RTP_SEQ_MOD = 1 << 16
 MAX_DROPOUT, MAX_MISORDER, MIN_SEQUENTIAL = 3000, 100, 2
@@ -125,8 +125,9 @@ class Arbiter:
         source = self.source(event.ssrc, event.moment)
         if source and event.form in ("sender", "named-sender"):
             source.report = event.moment, event.ntp
-        if source and event.form == "goodbye":
-            source.gone = event.moment
+        for ssrc in gone_by(event):
+            if ssrc in self.sources and self.sources[ssrc].gone is None:
+                self.sources[ssrc].gone = event.moment
 
     def blocks(self, moment):
         """The blocks of the report at a moment."""

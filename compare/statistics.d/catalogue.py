@@ -1,4 +1,4 @@
-"""The streams that compare/statistics tries, by group. Each is made for a clock rate, a length in seconds and a seed."""
+"""The streams that compare/statistics tries, by group: each for a clock rate, a length in seconds and a seed."""
 from streams import (LEAST_INTERVAL, MILLISECOND, SECOND, SSRC, Control, Stream, chance_of, jumping, late, lost, media,
                      merged, repeated, reports, shifted, steady)
 
@@ -28,7 +28,8 @@ def reordered_far(chance, rate, seconds):
 
 
 def repeats(chance, rate, seconds):
-    streams_of = {f"after {after}": repeated(media(chance, rate, seconds), 40, after) for after in (0, 1, 50, 98, 99, 150)}
+    streams_of = {f"after {after}": repeated(media(chance, rate, seconds), 40, after)
+                  for after in (0, 1, 50, 98, 99, 150)}
     streams_of["each"] = repeated(media(chance, rate, seconds), 1)
     streams_of["each, 30 per cent lost"] = lost(repeated(media(chance, rate, seconds), 1), chance, 0.3)
     return streams_of
@@ -110,7 +111,7 @@ def probation(chance, rate, seconds):
     packets = media(chance, rate, seconds)
     gaps = [packet for at, packet in enumerate(packets) if at != 1]
     odd = packets[::2]
-    second, first = packets[1]._replace(moment=packets[2].moment + 1), packets[0]._replace(moment=packets[1].moment + 1)
+    first, second = (packets[at]._replace(moment=packets[at + 1].moment + 1) for at in (0, 1))
     return {"second packet lost": gaps, "second packet late": merged(packets[:1], [second], packets[2:]),
             "first packet twice": packets[:1] + packets, "first packet late": merged([first], packets[1:]),
             "never ends": odd, "ends after 20 s": merged(odd[:len(odd) // 2], packets[len(packets) // 2:]),
@@ -151,8 +152,9 @@ def reported(chance, rate, seconds):
 def two_sources(chance, rate, seconds):
     other = media(chance, rate, seconds, ssrc=OTHER, begin=SECOND + 7 * MILLISECOND)
     return {"both": merged(media(chance, rate, seconds), other),
-            "both with SRs and losses": merged(lost(media(chance, rate, seconds), chance, 0.05), lost(other, chance, 0.1),
-                                               reports(chance, seconds), reports(chance, seconds, ssrc=OTHER)),
+            "both with SRs and losses": merged(lost(media(chance, rate, seconds), chance, 0.05),
+                                               lost(other, chance, 0.1), reports(chance, seconds),
+                                               reports(chance, seconds, ssrc=OTHER)),
             "one with SRs alone": merged(media(chance, rate, seconds), reports(chance, seconds, ssrc=OTHER))}
 
 
@@ -167,14 +169,17 @@ def goodbyes(chance, rate, seconds):
     for pause in (1, 4, 12):
         streams_of[f"again after {pause} s"] = merged(shifted(packets, half, moment=pause * SECOND, sequence=9), bye)
     other = media(chance, rate, seconds, ssrc=OTHER, begin=SECOND + 7 * MILLISECOND)
+    for gone in ((SSRC, OTHER), (7, SSRC, OTHER)):
+        both = merged(packets[:half], other[:half], [bye[0]._replace(gone=gone)])
+        streams_of[f"of two sources, {len(gone)} named"] = both
     streams_of["of one of two"] = merged(packets, [bye[0]._replace(ssrc=OTHER)],
                                          [packet for packet in other if packet.moment < bye[0].moment])
     return streams_of
 
 
 def contributors(chance, rate, seconds):
-    mixed = lambda packets: [packet._replace(csrcs=tuple(0xC5C00000 + (at // 200 + one) % 20 for one in range(at % 16)))
-                             for at, packet in enumerate(packets)]
+    some = lambda at: tuple(0xC5C00000 + (at // 200 + one) % 20 for one in range(at % 16))
+    mixed = lambda packets: [packet._replace(csrcs=some(at)) for at, packet in enumerate(packets)]
     silent = [packet._replace(csrcs=(OTHER,)) for packet in media(chance, rate, seconds)]
     late_other = media(chance, rate, seconds // 2, ssrc=OTHER, begin=10 * SECOND)
     return {"up to 15": mixed(media(chance, rate, seconds)),
@@ -205,17 +210,19 @@ def hours(chance, rate, seconds):
     return {"20 hours since the SR": merged(packets, [Control(packets[2].moment + 1, "named-sender", SSRC, 2**40)])}
 
 
-TRANSFORMS = (lambda packets, chance: lost(packets, chance, chance.random() * 0.3, chance.choice((1, 1, 3, 30))),
-              lambda packets, chance: late(packets, chance.randrange(20, 300), chance.randrange(1, 160),
-                                           chance.choice((1, 1, 2, 5))),
-              lambda packets, chance: repeated(packets, chance.randrange(1, 60), chance.choice((0, 1, 40, 120))),
-              lambda packets, chance: shifted(packets, chance.randrange(len(packets)),
-                                              sequence=chance.choice((chance.randrange(2**16), 2_999, 3_000, -99, 500))),
-              lambda packets, chance: shifted(packets, chance.randrange(len(packets)), timestamp=chance.randrange(2**32)),
-              lambda packets, chance: shifted(packets, chance.randrange(len(packets)),
-                                              moment=chance.choice((3, 9, 16, 30)) * SECOND),
-              lambda packets, chance: [packet._replace(type=at // 100 % 3) for at, packet in enumerate(packets)],
-              lambda packets, chance: [packet._replace(csrcs=(7, OTHER)) for packet in packets])
+def transformed(packets, chance):
+    """What becomes of packets at random."""
+    at = chance.randrange(len(packets))
+    choices = (
+        lambda: lost(packets, chance, chance.random() * 0.3, chance.choice((1, 1, 3, 30))),
+        lambda: late(packets, chance.randrange(20, 300), chance.randrange(1, 160), chance.choice((1, 1, 2, 5))),
+        lambda: repeated(packets, chance.randrange(1, 60), chance.choice((0, 1, 40, 120))),
+        lambda: shifted(packets, at, sequence=chance.choice((chance.randrange(2**16), 2_999, 3_000, -99, 500))),
+        lambda: shifted(packets, at, timestamp=chance.randrange(2**32)),
+        lambda: shifted(packets, at, moment=chance.choice((3, 9, 16, 30)) * SECOND),
+        lambda: [packet._replace(type=number // 100 % 3) for number, packet in enumerate(packets)],
+        lambda: [packet._replace(csrcs=(7, OTHER)) for packet in packets])
+    return chance.choice(choices)() or packets
 
 
 def mixed(chance, rate, seconds):
@@ -225,14 +232,15 @@ def mixed(chance, rate, seconds):
         first = chance.choice((chance.randrange(2**16), 0, 65_535))
         timestamp = chance.choice((chance.randrange(2**32), rate, 2**32 - rate))
         packets = media(chance, rate, seconds, ssrc=ssrc, first=first, timestamp=timestamp)
-        for transform in chance.sample(TRANSFORMS, chance.randrange(1, 5)):
-            packets = transform(packets, chance) or packets
+        for _ in range(chance.randrange(1, 5)):
+            packets = transformed(packets, chance)
         lists.append(packets)
         if chance.random() < 0.5:
             lists.append(reports(chance, seconds, chance.choice(("sender", "named", "named-sender")), ssrc,
                                  begin=chance.randrange(1, 20) * SECOND // 2))
         if chance.random() < 0.3:
-            lists.append([Control(chance.randrange(5, seconds) * SECOND, "goodbye", ssrc)])
+            gone = chance.choice(((), (7, ssrc), (SSRC, OTHER)))
+            lists.append([Control(chance.randrange(2, seconds) * SECOND, "goodbye", ssrc, 0, gone)])
     return {"": merged(*lists)}
 
 
@@ -244,7 +252,7 @@ GROUPS = {
     "RTCP before the packets": known_before, "SRs": reported, "two sources": two_sources, "BYE": goodbyes,
     "CSRCs": contributors, "several payload types": payload_types,
 }
-LONG = {"lost at both clamps": clamps, "DLSR past 2^16 s": hours}
+LONG = {"lost at both clamps": (clamps, 8_000), "DLSR past 2^16 s": (hours, 90_000)}
 MIXED = "all this mixed at random"
 
 
@@ -264,9 +272,9 @@ def made(seed, seconds, is_quick, number_mixed):
         for rate in RATES[::2] if is_quick else RATES:
             for name, events in make(chance_of(seed, group, rate), rate, seconds).items():
                 yield stream(group, f"{name}, {rate} Hz", events, rate, seed)
-    for group, make in ({} if is_quick else LONG).items():
-        for name, events in make(chance_of(seed, group), 8_000, seconds).items():
-            yield stream(group, name, events, 8_000, seed)
+    for group, (make, rate) in ({} if is_quick else LONG).items():
+        for name, events in make(chance_of(seed, group), rate, seconds).items():
+            yield stream(group, f"{name}, {rate} Hz", events, rate, seed)
     for number in range(number_mixed):
         chance = chance_of(seed, MIXED, number)
         rate = RATES[number % 3]

@@ -5,6 +5,7 @@
  * It prints "check MOMENT" when the timer expired, and "report MOMENT HEX" for each compound.
  *
  * usage: gstreamer SEED own|standard INTERVAL TYPE:RATE.. < LINES
+ *        gstreamer                prints the version of the plugin that has rtpsession
  * `own` leaves rtpsession its limits on jumps, and `standard` sets those of RFC 3550, A.1. INTERVAL is the minimum
  * between reports, in milliseconds. */
 #include <gst/check/gsttestclock.h>
@@ -145,16 +146,27 @@ static void take_lines(GstPad *rtp, GstPad *rtcp)
     }
 }
 
+static int print_version(void)
+{
+    GstPlugin *plugin = gst_registry_find_plugin(gst_registry_get(), "rtpmanager");
+    if (!plugin) {
+        fprintf(stderr, "gstreamer: there is no rtpsession: install gstreamer1.0-plugins-good\n");
+        return 2;
+    }
+    printf("%s\n", gst_plugin_get_version(plugin));
+    return 0;
+}
+
 int main(int count, char **values)
 {
+    gst_init(NULL, NULL);
     if (count < 5)
-        return 2;
+        return print_version();
     for (int at = 4; at < count; at++) {
         int type, rate;
         g_assert(sscanf(values[at], "%d:%d", &type, &rate) == 2 && type >= 0 && type < TYPES);
         rates[type] = rate;
     }
-    gst_init(NULL, NULL);
     the_clock = gst_test_clock_new_with_start_time(0);
     gst_system_clock_set_default(the_clock);
     g_random_set_seed((guint32)atoi(values[1]));

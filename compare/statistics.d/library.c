@@ -1,10 +1,11 @@
-/* Passes a stream of datagrams to a participant of the library, for compare/statistics. All its random words are 0, and
- * its bandwidth is large, so each interval is the shortest one.
+/* Passes a stream of datagrams to a participant of the library, for compare/statistics. All its random words are 0,
+ * and its bandwidth is large, so each interval is the shortest one.
  *
  * Lines on standard input: "rtp MOMENT TIMES HEX", a datagram that comes so often; "rtcp MOMENT HEX"; "tick MOMENT".
  * For each tick it prints "report MOMENT HEX", or "nothing MOMENT" if none is due.
  *
- * usage: library RATE < LINES */
+ * usage: library RATE < LINES
+ *        library                 prints the library's version */
 #include <jalwedd.h>
 
 #include <inttypes.h>
@@ -75,8 +76,11 @@ int main(int count, char **values)
     jalwedd_config config = {.ssrc = 0xAA, .capacity = 64, .limit = 1472, .sender_bw = 1 << 20,
                              .receiver_bw = 1 << 20};
     jalwedd_step step;
-    if (count != 2)
-        return 2;
+    if (count != 2) {
+        uint32_t version = jalwedd_version();
+        printf("%u.%u.%u\n", version >> 16, version >> 8 & 0xFF, version & 0xFF);
+        return 0;
+    }
     config.rate = (uint32_t)atoi(values[1]);
     uint32_t status = jalwedd_new(&session, &config, cname, sizeof cname - 1, &no_item, 0, 0, &step);
     if (status != JALWEDD_TAKEN)

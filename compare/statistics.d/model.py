@@ -1,11 +1,11 @@
 """A model of what a receiver reports, with one switch for each kind of difference. With no switch it reports as the
 arbiter does; with LIBRARY as docs/PROTOCOL.md says that the library does; with RTPSESSION as GStreamer 1.22.0's
 rtpsession does, by its source (gst/rtpmanager of gst-plugins-good). What a switch stands for is told in kinds.py."""
-from streams import Block, Media
+from streams import Block, Media, gone_by
 
 LIBRARY = frozenset({"modulo", "anew", "wide", "cap"})
-RTPSESSION = frozenset({"modulo", "queue", "three", "rtcp", "gap", "limits", "forget", "sign", "none", "senders", "bye",
-                        "type"})
+RTPSESSION = frozenset({"modulo", "queue", "three", "rtcp", "gap", "limits", "forget", "sign", "none", "senders",
+                        "bye", "unknown", "type"})
 SECOND = 10**6
 DROPOUT, MISORDER, MOST_HELD, NO_NUMBER = 3_000, 100, 32, 65_537
 DROPOUT_TIME, MISORDER_TIME = 60_000, 2_000  # milliseconds, of rtpsession
@@ -233,20 +233,27 @@ class Model:
 
     def take(self, event):
         source = self.source(event.ssrc, event.moment, isinstance(event, Media))
-        if source is None:
-            return
-        if isinstance(event, Media):
+        if source and isinstance(event, Media):
             source.take(event, self.rates)
             if source.left == 0:
                 for csrc in event.csrcs:
                     self.source(csrc, event.moment, True)
+        if isinstance(event, Media):
             return
-        if event.form in ("sender", "named-sender"):
+        if source and event.form in ("sender", "named-sender"):
             source.report, source.is_sender = (event.moment, event.ntp), True
-        if event.form == "goodbye":
-            source.gone = event.moment
-            if "bye" in self.switches:  # rtpsession looks after all sources then
-                self.check(event.moment)
+        self.say_goodbye(gone_by(event), event.moment)
+
+    def say_goodbye(self, gone, moment):
+        for ssrc in gone:
+            source = self.sources.get(ssrc)
+            if source is None:
+                if self.on("unknown"):
+                    break
+            elif source.gone is None or self.on("bye"):
+                source.gone = moment
+        if gone and "bye" in self.switches:  # rtpsession looks after all sources then
+            self.check(moment)
 
     def check(self, moment):
         """Drops who was silent for too long, or said goodbye some time ago; others no longer send."""

@@ -10,8 +10,9 @@ AUDIO, VIDEO = "audio", "video"
 # An RTP packet that comes so many times at a moment.
 Media = collections.namedtuple("Media", "moment sequence timestamp ssrc type csrcs times",
                                defaults=(SSRC, 0, (), 1))
-# A compound of a source: form is sender (SR), named-sender (SR, SDES), named (RR, SDES) or goodbye (RR, BYE).
-Control = collections.namedtuple("Control", "moment form ssrc ntp", defaults=(SSRC, 0))
+# A compound of a source: form is sender (SR), named-sender (SR, SDES), named (RR, SDES) or goodbye (RR, BYE). A BYE
+# names the sources `gone`, or the source itself if there are none.
+Control = collections.namedtuple("Control", "moment form ssrc ntp gone", defaults=(SSRC, 0, ()))
 # A report block, and the moment of its report.
 Block = collections.namedtuple("Block", "moment ssrc fraction lost highest jitter lsr dlsr")
 # `rates` has the clock of each payload type; the first is the library's. `interval` is rtpsession's minimum, and `end`
@@ -40,8 +41,14 @@ def control_octets(control):
     if control.form in ("named", "named-sender"):
         octets += header(1, 202, 16) + words(control.ssrc) + bytes([1, 5]) + b"a@b.c" + bytes(1)
     if control.form == "goodbye":
-        octets += header(1, 203, 8) + words(control.ssrc)
+        gone = gone_by(control)
+        octets += header(len(gone), 203, 4 + 4 * len(gone)) + words(*gone)
     return octets
+
+
+def gone_by(control):
+    """The sources that a compound says goodbye for."""
+    return (control.gone or (control.ssrc,)) if control.form == "goodbye" else ()
 
 
 def line_of(event):
@@ -115,7 +122,8 @@ def shifted(packets, begin, sequence=0, timestamp=0, moment=0, end=None):
 
 def jumping(packets, every, by):
     """The sequence numbers jump at each `every` packets."""
-    return [packet._replace(sequence=(packet.sequence + at // every * by) % 2**16) for at, packet in enumerate(packets)]
+    return [packet._replace(sequence=(packet.sequence + at // every * by) % 2**16)
+            for at, packet in enumerate(packets)]
 
 
 def reports(chance, seconds, form="named-sender", ssrc=SSRC, begin=SECOND, ntp=None):
