@@ -198,7 +198,8 @@ def payload_types(chance, rate, seconds):
 
 def clamps(chance, rate, seconds):
     """Lost at both ends of its 24 bits: jumps of 2,900 a packet, and packets that come 200,000 times."""
-    up = jumping(steady(chance, rate, 80), 1, 2_899)
+    up = steady(chance, rate, 80)
+    up = up[:10] + jumping(up[10:], 1, 2_899)
     down = steady(chance, rate, 30, each=500 * MILLISECOND)
     many = [packet._replace(times=200_000) if 4 <= at < 50 else packet for at, packet in enumerate(down)]
     return {"at 2^23 - 1": up, "at -2^23": many}
