@@ -1,15 +1,17 @@
 /* Passes a stream of datagrams to GStreamer's rtpsession, for compare/statistics. Its clock is a GstTestClock, which
  * stands at the moment of each line, or at the moment of rtpsession's own timer, rounded up to a microsecond.
  *
- * Lines on standard input: "rtp MOMENT TIMES HEX", a datagram that comes so often; "rtcp MOMENT HEX"; "end MOMENT".
- * It prints "check MOMENT" when the timer expired, and "report MOMENT HEX" for each compound.
+ * Lines on standard input: "rtp MOMENT TIMES HEX", a datagram that comes so often; "rtcp MOMENT HEX"; "look MOMENT";
+ * "end MOMENT". It prints "check MOMENT" when the timer expired, "report MOMENT HEX" for each compound, and for a look
+ * "seen MOMENT SSRC:ROLE ..": each source that is valid and said no goodbye, as member or sender.
  *
  * usage: gstreamer SEED own|standard INTERVAL TYPE:RATE.. < LINES
  *        gstreamer                prints the version of the plugin that has rtpsession
  * `own` leaves rtpsession its limits on jumps, and `standard` sets those of RFC 3550, A.1. INTERVAL is the minimum
  * between reports, in milliseconds. */
+#include "rtpsession.h"
+
 #include <gst/check/gsttestclock.h>
-#include <gst/gst.h>
 
 #include <inttypes.h>
 #include <stdio.h>
@@ -50,31 +52,6 @@ static GstCaps *caps_of(GstElement *session, guint type, gpointer data)
     (void)data;
     return gst_caps_new_simple("application/x-rtp", "payload", G_TYPE_INT, (int)type, "clock-rate", G_TYPE_INT,
                                rates[type % TYPES], NULL);
-}
-
-/* Links one of rtpsession's sources to a pad that passes what comes to a function. */
-static void listen_at(GstPad *source, GstPadChainFunction function)
-{
-    GstPad *sink = gst_pad_new(NULL, GST_PAD_SINK);
-    gst_pad_set_chain_function(sink, function);
-    gst_pad_set_active(sink, TRUE);
-    g_assert(gst_pad_link(source, sink) == GST_PAD_LINK_OK);
-}
-
-/* One of rtpsession's sinks, by a pad that pushes to it. */
-static GstPad *feed_of(GstElement *session, const char *name, const char *caps)
-{
-    GstPad *source = gst_pad_new(NULL, GST_PAD_SRC), *sink = gst_element_request_pad_simple(session, name);
-    GstSegment segment;
-    GstCaps *made = gst_caps_new_empty_simple(caps);
-    g_assert(gst_pad_link(source, sink) == GST_PAD_LINK_OK);
-    gst_pad_set_active(source, TRUE);
-    gst_pad_push_event(source, gst_event_new_stream_start(name));
-    gst_pad_push_event(source, gst_event_new_caps(made));
-    gst_segment_init(&segment, GST_FORMAT_TIME);
-    gst_pad_push_event(source, gst_event_new_segment(&segment));
-    gst_caps_unref(made);
-    return source;
 }
 
 static GstElement *new_session(gboolean is_standard, guint64 interval)
@@ -119,14 +96,37 @@ static void push(GstPad *pad, const char *hex, unsigned times)
     unsigned octet;
     for (; sscanf(hex, "%2x", &octet) == 1; hex += 2)
         octets[size++] = (uint8_t)octet;
-    while (times--) {
-        GstBuffer *buffer = gst_buffer_new_allocate(NULL, size, NULL);
-        gst_buffer_fill(buffer, 0, octets, size);
-        gst_pad_push(pad, buffer);
-    }
+    while (times--)
+        push_octets(pad, octets, size);
 }
 
-static void take_lines(GstPad *rtp, GstPad *rtcp)
+/* A source that is valid and said no goodbye counts among `num-active-sources`. */
+static void print_source(const GstStructure *source)
+{
+    guint ssrc;
+    gboolean is_internal, is_valid, has_left, is_sender;
+    g_assert(gst_structure_get(source, "ssrc", G_TYPE_UINT, &ssrc, "internal", G_TYPE_BOOLEAN, &is_internal,
+                               "validated", G_TYPE_BOOLEAN, &is_valid, "received-bye", G_TYPE_BOOLEAN, &has_left,
+                               "is-sender", G_TYPE_BOOLEAN, &is_sender, NULL));
+    if (!is_internal && is_valid && !has_left)
+        printf(" %08x:%s", ssrc, is_sender ? "sender" : "member");
+}
+
+static void look(GstElement *session, uint64_t moment)
+{
+    GstStructure *stats;
+    g_object_get(session, "stats", &stats, NULL);
+    G_GNUC_BEGIN_IGNORE_DEPRECATIONS
+    GValueArray *sources = g_value_get_boxed(gst_structure_get_value(stats, "source-stats"));
+    printf("seen %" PRIu64, moment);
+    for (guint at = 0; at < sources->n_values; at++)
+        print_source(g_value_get_boxed(g_value_array_get_nth(sources, at)));
+    G_GNUC_END_IGNORE_DEPRECATIONS
+    printf("\n");
+    gst_structure_free(stats);
+}
+
+static void take_lines(GstElement *session, GstPad *rtp, GstPad *rtcp)
 {
     static char line[2 * ROOM];
     gboolean has_begun = FALSE;
@@ -141,6 +141,10 @@ static void take_lines(GstPad *rtp, GstPad *rtcp)
         go_to(moment * 1000, has_begun);
         if (!strcmp(kind, "end"))
             return;
+        if (!strcmp(kind, "look")) {
+            look(session, moment);
+            continue;
+        }
         push(strcmp(kind, "rtp") ? rtcp : rtp, line + hex, times);
         has_begun = TRUE;
     }
@@ -171,12 +175,12 @@ int main(int count, char **values)
     gst_system_clock_set_default(the_clock);
     g_random_set_seed((guint32)atoi(values[1]));
     GstElement *session = new_session(!strcmp(values[2], "standard"), (guint64)atoi(values[3]));
-    listen_at(gst_element_request_pad_simple(session, "send_rtcp_src"), on_report);
+    listen_at(gst_element_request_pad_simple(session, "send_rtcp_src"), on_report, NULL);
     gst_element_set_state(session, GST_STATE_PLAYING);
-    GstPad *rtp = feed_of(session, "recv_rtp_sink", "application/x-rtp");
-    GstPad *rtcp = feed_of(session, "recv_rtcp_sink", "application/x-rtcp");
-    listen_at(gst_element_get_static_pad(session, "recv_rtp_src"), on_media);
-    take_lines(rtp, rtcp);
+    GstPad *rtp = feed_of(session, "recv_rtp_sink", gst_caps_new_empty_simple("application/x-rtp"));
+    GstPad *rtcp = feed_of(session, "recv_rtcp_sink", gst_caps_new_empty_simple("application/x-rtcp"));
+    listen_at(gst_element_get_static_pad(session, "recv_rtp_src"), on_media, NULL);
+    take_lines(session, rtp, rtcp);
     fflush(stdout);
     _Exit(0);
 }

@@ -1,8 +1,9 @@
 /* Passes a stream of datagrams to a participant of the library, for compare/statistics. All its random words are 0,
  * and its bandwidth is large, so each interval is the shortest one.
  *
- * Lines on standard input: "rtp MOMENT TIMES HEX", a datagram that comes so often; "rtcp MOMENT HEX"; "tick MOMENT".
- * For each tick it prints "report MOMENT HEX", or "nothing MOMENT" if none is due.
+ * Lines on standard input: "rtp MOMENT TIMES HEX", a datagram that comes so often; "rtcp MOMENT HEX"; "tick MOMENT";
+ * "look MOMENT". For each tick it prints "report MOMENT HEX", or "nothing MOMENT" if none is due, and for a look "seen
+ * MOMENT SSRC:ROLE ..": each other source that is a member, as member or sender.
  *
  * usage: library RATE < LINES
  *        library                 prints the library's version */
@@ -42,6 +43,16 @@ static void print_step(uint64_t now, const jalwedd_step *step, const uint8_t *oc
     printf("\n");
 }
 
+static void look(jalwedd_handle *session, uint64_t moment)
+{
+    jalwedd_source_state source;
+    printf("seen %" PRIu64, moment);
+    for (uint64_t from = 0; jalwedd_source(session, from, &source) == JALWEDD_TAKEN; from = (uint64_t)source.ssrc + 1)
+        if (source.member)
+            printf(" %08x:%s", source.ssrc, source.sender ? "sender" : "member");
+    printf("\n");
+}
+
 static void take(jalwedd_handle *session, const char *line)
 {
     static uint8_t datagram[ROOM], octets[JALWEDD_OCTETS];
@@ -60,6 +71,8 @@ static void take(jalwedd_handle *session, const char *line)
         status = jalwedd_tick(session, now, 0, 0, &step, octets);
         if (status == JALWEDD_TAKEN)
             print_step(now, &step, octets);
+    } else if (sscanf(line, "look %" SCNu64, &now) == 1) {
+        look(session, now);
     } else {
         status = JALWEDD_NO_PART;
     }

@@ -2,6 +2,8 @@
 import collections
 import random
 
+import decoder
+
 SECOND, MILLISECOND = 10**6, 10**3
 LEAST_INTERVAL = 5 * SECOND  # the minimum between reports that both sides are set to
 SSRC = 0x5EED0001
@@ -10,8 +12,8 @@ AUDIO, VIDEO = "audio", "video"
 # An RTP packet that comes so many times at a moment.
 Media = collections.namedtuple("Media", "moment sequence timestamp ssrc type csrcs times",
                                defaults=(SSRC, 0, (), 1))
-# A compound of a source: form is sender (SR), named-sender (SR, SDES), named (RR, SDES) or goodbye (RR, BYE). A BYE
-# names the sources `gone`, or the source itself if there are none.
+# A compound of a source: form is sender (SR), named-sender (SR, SDES), named (RR, SDES), unnamed (RR) or goodbye (RR,
+# BYE). A BYE names the sources `gone`, or the source itself if there are none.
 Control = collections.namedtuple("Control", "moment form ssrc ntp gone", defaults=(SSRC, 0, ()))
 # A report block, and the moment of its report.
 Block = collections.namedtuple("Block", "moment ssrc fraction lost highest jitter lsr dlsr")
@@ -55,6 +57,17 @@ def line_of(event):
     if isinstance(event, Media):
         return f"rtp {event.moment} {event.times} {media_octets(event).hex()}"
     return f"rtcp {event.moment} {control_octets(event).hex()}"
+
+
+def blocks_in(moment, octets):
+    """The report blocks of a compound that came or went out at a moment."""
+    for kind, count, body in decoder.packets(octets):
+        start = {200: 24, 201: 4}.get(kind)
+        for at in range(count if start else 0):
+            of_block = body[start + 24 * at:start + 24 * at + 24]
+            number = lambda first, size=4: int.from_bytes(of_block[first:first + size], "big")
+            lost = int.from_bytes(of_block[5:8], "big", signed=True)
+            yield Block(moment, number(0), number(4, 1), lost, number(8), number(12), number(16), number(20))
 
 
 # ---- What is sent, by a source that loses nothing
