@@ -7,8 +7,8 @@ use arrayvec::ArrayVec;
 use rtcp_engine::Participant;
 use rtcp_members::MemberTable;
 
-/// How many microseconds lie between two descriptions, where the sources describe themselves in turn. A thousand of them
-/// take just under 25 seconds, after which a source would be dropped.
+/// How many microseconds lie between two descriptions, where the sources describe themselves in turn. A thousand of
+/// them take just under 25 seconds, after which a source would be dropped.
 const BETWEEN: u64 = 25_000;
 
 /// A kind of call.

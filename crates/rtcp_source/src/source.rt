@@ -23,7 +23,8 @@ use std::marker::Model;
 ///
 /// A contract compares a source with the state computed from its whole history, the list of all that it was
 /// given, newest first. Where the two are the same, the source stands at that list (`StandsAt`).
-// What may be missing stands beside a flag, and not in an `Option`, so that the entry of a source takes two cache lines.
+// What may be missing stands beside a flag, and not in an `Option`, so that the entry of a source takes two cache
+// lines.
 #[derive(Drop)]
 pub struct Source {
     packets: u64,

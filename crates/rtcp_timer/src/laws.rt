@@ -58,15 +58,14 @@ pub fn interval_has_minimum()
 /// (RFC 3550, 6.3.1).
 #[tactic(auto, using(crate::proofs::Sharing::is_least))]
 pub fn interval_is_least()
-    ensures { (load : Load) (interval : ℕ) → 1 ≤ load.sender_bw → 1 ≤ load.receiver_bw → minimum_of load.initial ≤ interval →
-        KeepsToShare load interval → interval_of load ≤ interval }
+    ensures { (load : Load) (interval : ℕ) → 1 ≤ load.sender_bw → 1 ≤ load.receiver_bw →
+        minimum_of load.initial ≤ interval → KeepsToShare load interval → interval_of load ≤ interval }
 {}
 
 /// The three numbers of a schedule follow from its draws and departures (RFC 3550, 6.3.4 and 6.3.6). `last`
 /// is the newest transmission, and `next` what the newest draw to set it chose; each departure since brings
 /// them nearer to itself, except an overdue `next`. `known` is the least of the members at the newest draw
 /// and of the counts since.
-#[tactic(auto, using(crate::proofs::Following::last_follows, crate::proofs::Following::next_follows, crate::proofs::Following::known_follows))]
 pub fn schedule_follows_departures()
     ensures last { (events : List Happening) → (schedule_at events).last ≡ last_moment events }
     ensures next { (events : List Happening) → (schedule_at events).next ≡ next_moment events }

@@ -11,7 +11,7 @@ use Rattle.rtcp_wire.specs.Walks.{items_after, items_size, chunk_size, chunks_in
 use Rattle.rtcp_wire.proofs.ChunkSteps.{first_size, chunk_step, chunks_step}
 use Rattle.rtcp_wire.proofs.Finding.{Passing, found_first, pass_first}
 use Rattle.rtcp_wire.proofs.ItemSteps.{item_step, after_item}
-use Rattle.rtcp_wire.proofs.Places.{rest_of_drop, rest_of_rest, rest_stands, taken_stands, stands_room, stands_within}
+use Rattle.rtcp_wire.proofs.Places.{rest_of_drop, rest_of_rest, rest_stands, taken_stands, stands_within}
 
 -- At an item of a chunk: the octets from it on, its text, and the octets after it.
 module _ (id index now : ℕ) (octets rest text others : List ℕ)
@@ -82,12 +82,6 @@ item_moves q middle whole v item placed h stands ssrc kind place size = (
     size ∙ h.2.1,
   ),
 )
-
--- There is room for its place in the whole.
-pub place_room : (q : ℕ) (middle whole : List ℕ) (v : ℕ × ItemValue) (item : PlacedItem) → PlacesItem middle v item →
-    StandsIn q middle whole → item.text.place + q ≤ length whole
-place_room q middle whole v item h stands =
-    omega (arith, stands_room item.text.place v.1.text middle h.2.0, stands_room q middle whole stands)
 
 -- ---- Chunks
 

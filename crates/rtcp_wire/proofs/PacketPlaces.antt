@@ -1,39 +1,12 @@
 -- Parts of packets that are searched by an index: a lemma for each step of the search.
-use Rattle.std.proofs.Common.{flat_map, ◌≡◌, ℕ, ◌+◌, ◌-◌, Bool, true, false, ◌==◌, if◌then◌else◌, List, [], ◌∷◌, length, Some, None, refl, ap, arith, slice_get}
+use Rattle.std.proofs.Common.{flat_map, ◌≡◌, ℕ, ◌+◌, ◌-◌, Bool, true, ◌==◌, List, [], ◌∷◌, length, Some, None, refl, ap, arith, slice_get}
 use Rattle.std.proofs.lemmas.Bool.{ne_eqb}
-use Rattle.rtcp_wire.specs.Contents.{packet_items, packet_goodbyes}
 use Rattle.rtcp_wire.specs.Grammar.{Joins, IsSpelling}
 use Rattle.rtcp_wire.specs.Placed.{IsRest, StandsIn}
 use Rattle.rtcp_wire.specs.Values.{RtcpPacket}
 use Rattle.rtcp_wire.specs.Walks.{body_says, packets_in}
 use Rattle.rtcp_wire.proofs.Finding.{Passing, found_first, pass_first, none_left}
 use Rattle.rtcp_wire.proofs.Places.{rest_of_rest, rest_stands, stands_within}
-
--- ---- Packets of other types
-
--- of six packets, one of which tests pick, the third or the fourth may give something
-others_give_none : {A : Type 0} (f : RtcpPacket → List A) (a b c d e : Bool) (p q r s t u : RtcpPacket) → f p ≡ [] →
-    f q ≡ []
-    → (c ≡ true → f r ≡ []) → (d ≡ true → f s ≡ []) → f t ≡ [] → f u ≡ []
-    → f (if a then p else (if b then q else (if c then r else (if d then s else (if e then t else u))))) ≡ []
-others_give_none f true b c d e p q r s t u hp hq hr hs ht hu = hp
-others_give_none f false true c d e p q r s t u hp hq hr hs ht hu = hq
-others_give_none f false false true d e p q r s t u hp hq hr hs ht hu = hr refl
-others_give_none f false false false true e p q r s t u hp hq hr hs ht hu = hs refl
-others_give_none f false false false false true p q r s t u hp hq hr hs ht hu = ht
-others_give_none f false false false false false p q r s t u hp hq hr hs ht hu = hu
-
-pub no_items : (kind count : ℕ) (body : List ℕ) → (kind ≡ 202 → ⊥) → packet_items (body_says kind count body) ≡ []
-no_items kind count body not =
-    others_give_none packet_items (kind == 200) (kind == 201) (kind == 202) (kind == 203) (kind == 204) _ _ _ _ _ _ refl
-    refl
-    (λ is. absurd (cc (ne_eqb kind 202 not, is))) (λ is. refl) refl refl
-
-pub no_goodbyes : (kind count : ℕ) (body : List ℕ) → (kind ≡ 203 → ⊥) → packet_goodbyes (body_says kind count body) ≡ []
-no_goodbyes kind count body not =
-    others_give_none packet_goodbyes (kind == 200) (kind == 201) (kind == 202) (kind == 203) (kind == 204) _ _ _ _ _ _
-    refl refl
-    (λ is. refl) (λ is. absurd (cc (ne_eqb kind 203 not, is))) refl refl
 
 -- ---- Packets
 

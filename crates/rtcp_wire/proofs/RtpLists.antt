@@ -65,15 +65,6 @@ words_joined (suc n) (a ∷ []) h = absurd (omega arith)
 words_joined (suc n) (a ∷ b ∷ []) h = absurd (omega arith)
 words_joined (suc n) (a ∷ b ∷ c ∷ []) h = absurd (omega arith)
 
--- Where a word stands first, one source more does.
-pub csrcs_in-word : (octets : List ℕ) → 4 ≤ length octets → csrcs_in octets ≡ big_number 4 octets ∷ csrcs_in
-    (drop 4 octets)
-csrcs_in-word (a ∷ b ∷ c ∷ d ∷ rest) h = refl
-csrcs_in-word [] h = absurd (omega arith)
-csrcs_in-word (a ∷ []) h = absurd (omega arith)
-csrcs_in-word (a ∷ b ∷ []) h = absurd (omega arith)
-csrcs_in-word (a ∷ b ∷ c ∷ []) h = absurd (omega arith)
-
 -- ---- Extensions
 
 -- An extension says its size, whatever follows it.

@@ -38,7 +38,6 @@ pub fn read_back_together()
 /// identifiers, at most 31 as a subtype or count, at most 255 octets of a text or a reason, no item of type 0,
 /// packets lost in 24 bits with a sign, whole words of an extension, of an application's data and of the body
 /// of another packet, and the type of that: below 200 or above 204.
-#[tactic(auto, using(crate::proofs::WritableAgain::all_writable, crate::proofs::WritableAgain::all_in_range, crate::proofs::WritableAgain::begins, crate::proofs::WritableAgain::no_longer, crate::proofs::WritableAgain::read_back))]
 pub fn accepted_packets_are_writable()
     ensures writable { (octets : List ℕ) (packets : List RtcpPacket) → AreOctets octets →
         IsAccepted octets packets → All IsWritable packets }
