@@ -61,7 +61,7 @@ fn ask_pkg_config(option: &str) -> Option<String> {
     told.status.success().then(|| line.trim().to_string())
 }
 
-/// The folder of the archive, if that is there and has all that is declared.
+/// The folder of the archive, if that is there, for the target's processor, and has all that is declared.
 fn checked(package: Package) -> Result<PathBuf, String> {
     let Package { libraries, version } = package;
     if !serves(&version) {
@@ -70,10 +70,30 @@ fn checked(package: Package) -> Result<PathBuf, String> {
             libraries.display()
         ));
     }
-    if !libraries.join(ARCHIVE).is_file() {
-        return Err(format!("there is no {ARCHIVE} in {}", libraries.display()));
+    let target = env::var("CARGO_CFG_TARGET_ARCH").unwrap_or_default();
+    match machine_of(&libraries.join(ARCHIVE)) {
+        None => Err(format!("there is no {ARCHIVE} in {}", libraries.display())),
+        Some(machine) if machine_named(&target).is_some_and(|of_target| of_target != machine) => {
+            Err(format!("the package in {} is for another processor than {target}", libraries.display()))
+        }
+        Some(_) => Ok(libraries),
     }
-    Ok(libraries)
+}
+
+/// The processor that an archive's first object is for, by its number in ELF.
+fn machine_of(archive: &Path) -> Option<u16> {
+    let octets = fs::read(archive).ok()?;
+    let object = octets.windows(4).position(|four| four == b"\x7fELF")?;
+    Some(u16::from_le_bytes([*octets.get(object + 18)?, *octets.get(object + 19)?]))
+}
+
+/// The number in ELF of those that there are packages for.
+fn machine_named(target: &str) -> Option<u16> {
+    match target {
+        "x86_64" => Some(62),
+        "aarch64" => Some(183),
+        _ => None,
+    }
 }
 
 /// Of versions with the same first two numbers, the later one has all of the other, with the same layouts.
