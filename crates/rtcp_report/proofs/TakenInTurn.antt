@@ -24,19 +24,6 @@ pub record IsTaken (t : ℕ) (first : Option ℕ) (start : TableValue) (last : O
   pub count : length blocks ≡ length prefix
   pub writable : All IsWritableBlock blocks
 
-pub none_taken : (t : ℕ) (first : Option ℕ) (start : TableValue) → IsTaken t first start first start []
-none_taken t first start = record {
-  prefix = [];
-  rest = pending first start;
-  parts = refl;
-  waits = refl;
-  content = refl;
-  cursor = refl;
-  each = refl;
-  count = refl;
-  writable = λ i d less. absurd (omega (arith, less));
-}
-
 -- ---- One more
 
 after_more : (prefix : List EntryRow) (row : EntryRow) (table : TableValue) →
