@@ -50,6 +50,7 @@ pub(crate) fn find(cells: &[Cell], used: usize, ssrc: u32) -> Result<usize, usiz
 
 /// What `find` returns, where a walk from the rank `from` soon comes to it. No clause says where: a walk that gives
 /// up costs time alone, as `find` is asked then.
+#[inline(always)]
 pub(crate) fn walk_to(
     cells: &[Cell],
     used: usize,

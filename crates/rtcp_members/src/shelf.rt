@@ -101,6 +101,7 @@ impl<B: Blocks> Shelf<B> {
     }
 
     /// What `find` returns, where a walk from the rank `from` soon comes to it.
+    #[inline(always)]
     pub(crate) fn walk_to(&self, ssrc: u32, from: usize) -> Option<Result<usize, usize>>
         ensures { IfSome result (Locates ssrc self.now.items) }
     {

@@ -254,6 +254,7 @@ impl<B: Blocks> MemberTable for Sorted<B> {
 
 /// The rank of the entry of a source, or else the gap where it would stand. The ranks where it likely stands are tried
 /// first: the last one, and those that a walk from the likely rank comes to, if walks pay.
+#[inline(never)]
 fn search<B: Blocks>(
     entries: &Shelf<B>,
     walks: &mut Walks,
@@ -279,6 +280,7 @@ fn search<B: Blocks>(
 
 /// What `search` returns, if a walk from the likely rank soon comes to where the source stands or would: an
 /// interpolation search that ends with a walk (Perl, Itai and Avni, 1978).
+#[inline(always)]
 fn search_near<B: Blocks>(entries: &Shelf<B>, ssrc: u32) -> Option<Result<usize, usize>>
     ensures { IfSome result (Locates ssrc entries.now.items) }
 {
