@@ -1,255 +1,162 @@
--- A check that drops entries of a heap, slot by slot.
-use Rattle.std.proofs.Common.{◌≡◌, ◌<◌, ◌≤◌, ◌+◌, ◌-◌, ◌++◌, ℕ, Bool, true, false, cond, if◌then◌else◌, List, [], ◌∷◌, length, take, drop, set, slice_index_or, inl, inr, arith, refl, sym, ap, subst, ◌∙◌}
-use Rattle.std.specs.List.{All, retain_mut, sum_by}
-use Rattle.std.proofs.lemmas.List.{append-nil, append_assoc, length-set, length-take-le, length-drop, map-append, drop_more, drop_all, drop-take, drop-set-lt, take_more, take-set-le, get_or-take, get_or-drop, get_or-set_same, get_or-set_other}
-use Rattle.std.proofs.lemmas.List.Edits.{swap_is}
-use Rattle.std.proofs.lemmas.List.Sorted.{IsPermutation-swap, sum_by-IsPermutation}
+-- A check that drops entries of a list, rank by rank.
+use Rattle.std.proofs.Common.{◌≡◌, ◌<◌, ◌≤◌, ◌+◌, ◌++◌, ℕ, true, false, cond, if◌then◌else◌, List, [], ◌∷◌, length, take, drop, set, slice_index_or, inl, inr, arith, refl, sym, ap, subst, ◌∙◌}
+use Rattle.std.specs.List.{retain_mut}
+use Rattle.std.proofs.lemmas.List.{append-nil, append_assoc, length-set, drop_more, drop_all, drop-set-lt, take_more, take-set-le, get_or-set_same, get_or-set_other}
 use Rattle.std.proofs.lemmas.Bool.{cases_eq}
-use Rattle.std.specs.List.Sorted.{IsPermutation}
-use Rattle.std.proofs.lemmas.List.Elements.{All-nil, All-head, All-tail, All-cons, All-append, All-set, All-weaker, All-same, All-from_get_or}
+use Rattle.rtcp_members.specs.declared.bounds.Bounds.{Bounds}
+use Rattle.rtcp_members.specs.declared.counts.Counts.{Counts}
 use Rattle.rtcp_members.specs.declared.entry.Entry.{Entry}
-use Rattle.rtcp_members.specs.declared.cells.Slot.{Slot}
-use Rattle.rtcp_members.specs.ListViews.{lapses, lapsed}
-use Rattle.rtcp_members.specs.Heaps.{no_slot, no_entry, entry_in, picked, place_at, IsKeyed, ArePlaces, IsHeap}
-use Rattle.rtcp_members.proofs.Ranked.{has_place, picked_same, places_differ}
+use Rattle.rtcp_members.specs.Entries.{is_member, is_sender}
+use Rattle.rtcp_members.specs.Pending.{is_due}
+use Rattle.rtcp_members.specs.Traces.{Horizons}
+use Rattle.rtcp_members.specs.ListViews.{entry_value, lapses, lapsed, outlasts, weight_of}
+use Rattle.rtcp_members.specs.Standing.{AllStandBy, IsMeasured, IsNoLater, StandsBy}
+use Rattle.rtcp_members.proofs.Measuring.{AreShared, share_dropped, share_kept, share_has, all_more}
 
--- Where a check of the first ranks has come: the slots of what stays are in front, and those behind are as they were.
-pub record IsDropping (test : Entry → Bool) (change : Entry → Entry) (items entries : List Entry) (slots : List Slot)
-    (used kept at : ℕ) : Type 0 where
-  pub places : ArePlaces entries slots
-  pub all : length slots ≡ length entries
+-- what a check leaves of entries
+abbrev pub checked : Horizons → List Entry → List Entry
+checked horizons = retain_mut (outlasts horizons) (lapsed horizons.idle)
+
+-- Where a check of the first ranks has come: what stays of them is in front, and the others are as they were.
+pub record IsDropping (horizons : Horizons) (items xs : List Entry) (kept at : ℕ) (counts : Counts) (bounds : Bounds) :
+    Type 0 where
   pub order : kept ≤ at
-  pub until : at ≤ used
-  pub in_use : used ≤ length slots
-  pub so_far : picked entries (take kept slots) ++ retain_mut test change (picked entries (drop at (take used slots)))
-      ≡ retain_mut test change items
-  pub keyed : All (IsKeyed entries) (take kept slots)
-  pub left : All (IsKeyed entries) (drop at (take used slots))
+  pub so_far : take kept xs ++ checked horizons (drop at xs) ≡ checked horizons items
+  pub shared : AreShared counts (take kept xs) (drop at xs)
+  pub stand : AllStandBy bounds (take kept xs)
 
-pub all_dropped : (test : Entry → Bool) (change : Entry → Entry) (items entries : List Entry) (slots : List Slot)
-    (used kept : ℕ) → IsDropping test change items entries slots used kept used
-    → picked entries (take kept slots) ≡ retain_mut test change items
-all_dropped test change items entries slots used kept done =
-    let none : drop used (take used slots) ≡ [] = drop_all used (take used slots)
-    (omega (arith, length-take-le used slots done.in_use)) in
-    sym (append-nil (picked entries (take kept slots)))
-    ∙ ap (λ rest. picked entries (take kept slots) ++ retain_mut test change (picked entries rest)) (sym none)
-    ∙ done.so_far
+module _ {horizons : Horizons} {items xs : List Entry} {kept at : ℕ} {counts : Counts} {bounds : Bounds}
+    (so : IsDropping horizons items xs kept at counts bounds) where
+  -- All ranks were gone through.
+  module _ (past : length xs ≤ at) where
+    none_left : drop at xs ≡ []
+    none_left = drop_all at xs past
 
-pub heap_dropped : (test : Entry → Bool) (change : Entry → Entry) (items entries : List Entry) (slots : List Slot)
-    (used kept : ℕ) → IsDropping test change items entries slots used kept used → length entries ≤ 1024
-    → IsHeap entries slots kept
-heap_dropped test change items entries slots used kept done few =
-    record {
-      places = done.places;
-      in_use = omega (arith, done.order, done.in_use);
-      all = done.all;
-      keyed = done.keyed;
-      few = few;
+    pub all_dropped : take kept xs ≡ checked horizons items
+    all_dropped = sym (append-nil (take kept xs)) ∙ ap (λ rest. take kept xs ++ checked horizons rest) (sym none_left)
+        ∙ so.so_far
+
+    pub all_measured : IsMeasured counts bounds (take kept xs)
+    all_measured =
+        let shared : AreShared counts (take kept xs) [] = subst (AreShared counts (take kept xs)) none_left so.shared in
+        record {
+          counted = record {
+            members = omega (arith, shared.members);
+            senders = omega (arith, shared.senders);
+            due = omega (arith, shared.due);
+          };
+          stand = so.stand;
+        }
+
+  -- One more is gone through.
+  module _ (less : at < length xs) {e : Entry} (read : e ≡ slice_index_or xs at e) where
+    abbrev others : List Entry
+    others = drop (at + 1) xs
+
+    rest : drop at xs ≡ e ∷ others
+    rest = drop_more xs at e less ∙ ap (λ (x : Entry). x ∷ others) (sym read)
+
+    shared_left : AreShared counts (take kept xs) (e ∷ others)
+    shared_left = subst (AreShared counts (take kept xs)) rest so.shared
+
+    pub left_is_counted : (weight_of is_member e ≤ counts.members) × (weight_of is_sender e ≤ counts.senders)
+        × (weight_of is_due e ≤ counts.due)
+    left_is_counted = share_has counts (take kept xs) others e shared_left
+
+    walked : take kept xs ++ cond (outlasts horizons e) (lapsed horizons.idle e ∷ checked horizons others)
+        (checked horizons others) ≡ checked horizons items
+    walked = ap (λ ys. take kept xs ++ checked horizons ys) (sym rest) ∙ so.so_far
+
+    -- The front becomes this one, and what follows is as it was.
+    one_more : (ys : List Entry) (stay : ℕ) (front : List Entry) (next : Counts) (lower : Bounds) → stay ≤ at + 1 →
+        take stay ys ≡ front → drop (at + 1) ys ≡ others → front ++ checked horizons others ≡ checked horizons items →
+        AreShared next front others → AllStandBy lower front → IsDropping horizons items ys stay (at + 1) next lower
+    one_more ys stay front next lower order is_front same so_far shared stand = record {
+      order = order;
+      so_far = (λ i. is_front i ++ checked horizons (same i)) ∙ so_far;
+      shared = subst (λ zs. AreShared next zs (drop (at + 1) ys)) (sym is_front)
+          (subst (AreShared next front) (sym same) shared);
+      stand = subst (AllStandBy lower) (sym is_front) stand;
     }
 
-module _ (test : Entry → Bool) (change : Entry → Entry) (items entries : List Entry) (slots : List Slot)
-    (used kept at : ℕ) (e : Entry) (so : IsDropping test change items entries slots used kept at) (less : at < used)
-    (ssrc_stays : e.ssrc ≡ (entry_in entries (slice_index_or slots at no_slot)).ssrc) where
-  abbrev slot : Slot
-  slot = slice_index_or slots at no_slot
+    pub one_dropped : (changed : Entry) (next : Counts) → outlasts horizons e ≡ false →
+        counts.members ≡ weight_of is_member e + next.members → counts.senders ≡ weight_of is_sender e + next.senders →
+        counts.due ≡ weight_of is_due e + next.due
+        → IsDropping horizons items (set xs at changed) kept (at + 1) next bounds
+    one_dropped changed next fails members senders due =
+        one_more (set xs at changed) kept (take kept xs) next bounds (omega (arith, so.order))
+        (take-set-le kept xs at changed so.order) (drop-set-lt (at + 1) xs at changed (omega arith))
+        (ap (λ b. take kept xs ++ cond b (lapsed horizons.idle e ∷ checked horizons others) (checked horizons others))
+        (sym fails) ∙ walked)
+        (share_dropped counts next (take kept xs) others e shared_left members senders due) so.stand
 
-  abbrev next : List Entry
-  next = set entries slot.place e
+    -- It is changed, and changes places with the first of those that are not in front.
+    module _ (changed : Entry) (ys : List Entry) (is : ys ≡ set (set (set xs at changed) kept
+        (slice_index_or (set xs at changed) at changed)) at (slice_index_or (set xs at changed) kept changed)) where
+      abbrev written : List Entry
+      written = set xs at changed
 
-  abbrev read : Entry
-  read = entry_in entries slot
+      abbrev itself : Entry
+      itself = slice_index_or written at changed
 
-  as_long : length (take used slots) ≡ used
-  as_long = length-take-le used slots so.in_use
+      abbrev first : Entry
+      first = slice_index_or written kept changed
 
-  rest : drop at (take used slots) ≡ slot ∷ drop (at + 1) (take used slots)
-  rest = drop_more (take used slots) at no_slot (omega (arith, less, as_long))
-      ∙ ap (λ s. s ∷ drop (at + 1) (take used slots)) (get_or-take used slots at no_slot less)
+      as_written : itself ≡ changed
+      as_written = get_or-set_same xs at changed changed less
 
-  same_at : (k : ℕ) → k < length slots → (k ≡ at → ⊥) →
-      entry_in next (slice_index_or slots k no_slot) ≡ entry_in entries (slice_index_or slots k no_slot)
-  same_at k within unlike =
-      get_or-set_other entries slot.place (place_at slots k) e no_entry
-      (places_differ slots at k so.places.apart unlike (omega (arith, less, so.in_use)) within)
+      as_long : length written ≡ length xs
+      as_long = length-set xs at changed
 
-  front_same : All (λ (s : Slot). entry_in next s ≡ entry_in entries s) (take kept slots)
-  front_same =
-      All-from_get_or (λ (s : Slot). entry_in next s ≡ entry_in entries s) (take kept slots) no_slot
-      (λ k within. before k (omega (
-        arith,
-        within,
-        length-take-le kept slots (omega (arith, so.order, so.until, so.in_use)),
-      )))
-    where
-      before : (k : ℕ) → k < kept → entry_in next (slice_index_or (take kept slots) k no_slot) ≡ entry_in entries
-          (slice_index_or (take kept slots) k no_slot)
-      before k early =
-          subst (λ (s : Slot). entry_in next s ≡ entry_in entries s) (sym (get_or-take kept slots k no_slot early))
-          (same_at k (omega (arith, early, so.order, less, so.in_use))
-          (λ same. absurd (omega (arith, same, early, so.order))))
+      in_front : slice_index_or ys kept changed ≡ changed
+      in_front = ap (λ zs. slice_index_or zs kept changed) is ∙ elim (cases_eq kept at) [
+        | inl same ↦ ap (λ n. slice_index_or (set (set written kept itself) at first) n changed) same
+            ∙ get_or-set_same (set written kept itself) at first changed
+            (omega (arith, less, as_long, length-set written kept itself))
+            ∙ ap (λ n. slice_index_or written n changed) same ∙ as_written
+        | inr unlike ↦ get_or-set_other (set written kept itself) at kept first changed unlike
+            ∙ get_or-set_same written kept itself changed (omega (arith, so.order, less, as_long)) ∙ as_written
+      ]
 
-  back_same : All (λ (s : Slot). entry_in next s ≡ entry_in entries s) (drop (at + 1) (take used slots))
-  back_same =
-      All-from_get_or (λ (s : Slot). entry_in next s ≡ entry_in entries s) (drop (at + 1) (take used slots)) no_slot
-      (λ k within. behind k (omega (arith, within, length-drop (at + 1) (take used slots), as_long)))
-    where
-      behind : (k : ℕ) → at + 1 + k < used → entry_in next (slice_index_or (drop (at + 1) (take used slots)) k no_slot)
-          ≡ entry_in entries (slice_index_or (drop (at + 1) (take used slots)) k no_slot)
-      behind k late =
-          subst (λ (s : Slot). entry_in next s ≡ entry_in entries s)
-          (sym (get_or-drop (at + 1) (take used slots) k no_slot
-          ∙ get_or-take used slots (at + 1 + k) no_slot late))
-          (same_at (at + 1 + k) (omega (arith, late, so.in_use)) (λ same. absurd (omega (arith, same))))
+      front : take (kept + 1) ys ≡ take kept xs ++ changed ∷ []
+      front =
+          take_more ys kept changed (omega (
+            arith,
+            so.order,
+            less,
+            as_long,
+            ap length is,
+            length-set (set written kept itself) at first,
+            length-set written kept itself,
+          ))
+          ∙ (λ i. (ap (take kept) is ∙ take-set-le kept (set written kept itself) at first so.order
+          ∙ take-set-le kept written kept itself (omega arith) ∙ take-set-le kept xs at changed so.order) i
+          ++ in_front i ∷ [])
 
-  place_within : slot.place < length entries
-  place_within = so.places.within at no_slot (omega (arith, less, so.in_use))
+      behind : drop (at + 1) ys ≡ others
+      behind =
+          ap (drop (at + 1)) is
+          ∙ drop-set-lt (at + 1) (set written kept itself) at first (omega arith)
+          ∙ drop-set-lt (at + 1) written kept itself (omega (arith, so.order))
+          ∙ drop-set-lt (at + 1) xs at changed (omega arith)
 
-  written : entry_in next slot ≡ e
-  written = get_or-set_same entries slot.place e no_entry place_within
-
-  still_within : All (λ (s : Slot). s.place < length next) slots
-  still_within = All-weaker (λ (s : Slot). s.place < length entries) (λ (s : Slot). s.place < length next)
-      (λ s within. omega (arith, within, length-set entries slot.place e)) slots so.places.within
-
-  keyed_front : All (IsKeyed next) (take kept slots)
-  keyed_front k d within = so.keyed k d within ∙ ap (λ (x : Entry). x.ssrc) (sym (front_same k d within))
-
-  left_here : All (IsKeyed entries) (slot ∷ drop (at + 1) (take used slots))
-  left_here = subst (λ xs. All (IsKeyed entries) xs) rest so.left
-
-  keyed_back : All (IsKeyed next) (drop (at + 1) (take used slots))
-  keyed_back k d within = All-tail (IsKeyed entries) slot (drop (at + 1) (take used slots)) left_here k d within
-      ∙ ap (λ (x : Entry). x.ssrc) (sym (back_same k d within))
-
-  abbrev after : List Entry
-  after = retain_mut test change (picked entries (drop (at + 1) (take used slots)))
-
-  walked : retain_mut test change (picked entries (drop at (take used slots))) ≡ cond (test read) (change read ∷ after)
-      after
-  walked = ap (λ xs. retain_mut test change (picked entries xs)) rest
-
-  -- What stays so far is as it was.
-  pub front_items : picked next (take kept slots) ≡ picked entries (take kept slots)
-  front_items = picked_same entries next (take kept slots) front_same
-
-  -- So is what is left, behind the entry.
-  pub back_items : picked next (drop (at + 1) (take used slots)) ≡ picked entries (drop (at + 1) (take used slots))
-  back_items = picked_same entries next (drop (at + 1) (take used slots)) back_same
-
-  pub back_split : picked entries (drop at (take used slots)) ≡ read ∷ picked entries (drop (at + 1) (take used slots))
-  back_split = ap (picked entries) rest
-
-  -- The entry is dropped.
-  pub one_dropped : test read ≡ false → IsDropping test change items next slots used kept (at + 1)
-  one_dropped fails =
-      record {
-        places = record { within = still_within; apart = so.places.apart };
-        all = so.all ∙ sym (length-set entries slot.place e);
-        order = omega (arith, so.order);
-        until = omega (arith, less);
-        in_use = so.in_use;
-        so_far = (λ i. picked_same entries next (take kept slots) front_same i ++ retain_mut test change
-            (picked_same entries next (drop (at + 1) (take used slots)) back_same i))
-            ∙ ap (λ xs. picked entries (take kept slots) ++ xs)
-            (sym (walked ∙ ap (λ b. cond b (change read ∷ after) after) fails)) ∙ so.so_far;
-        keyed = keyed_front;
-        left = keyed_back;
-      }
-
-  -- The entry stays, and its slot changes places with the first of those that are free.
-  module _ (swapped : List Slot) (is : swapped ≡ set (set slots kept (slice_index_or slots at no_slot)) at
-      (slice_index_or slots kept no_slot)) where
-    abbrev first : Slot
-    first = slice_index_or slots kept no_slot
-
-    moved : IsPermutation slots swapped
-    moved =
-        let low : kept < length slots = omega (arith, so.order, less, so.in_use) in
-        let high : at < length slots = omega (arith, less, so.in_use) in
-        IsPermutation-swap slots swapped kept at low high (is ∙ swap_is slots kept at no_slot low high)
-
-    front_read : slice_index_or swapped kept no_slot ≡ slot
-    front_read = ap (λ xs. slice_index_or xs kept no_slot) is ∙ elim (cases_eq kept at) [
-      | inl same ↦ ap (λ n. slice_index_or (set (set slots kept slot) at first) n no_slot) same
-          ∙ get_or-set_same (set slots kept slot) at first no_slot
-          (omega (arith, less, so.in_use, length-set slots kept slot))
-          ∙ ap (λ n. slice_index_or slots n no_slot) same
-      | inr unlike ↦ get_or-set_other (set slots kept slot) at kept first no_slot unlike
-          ∙ get_or-set_same slots kept slot no_slot (omega (arith, so.order, less, so.in_use))
-    ]
-
-    same_length : length swapped ≡ length slots
-    same_length = ap length is ∙ length-set (set slots kept slot) at first ∙ length-set slots kept slot
-
-    front : take (kept + 1) swapped ≡ take kept slots ++ slot ∷ []
-    front =
-        take_more swapped kept no_slot (omega (arith, same_length, so.order, less, so.in_use))
-        ∙ (λ i. (ap (take kept) is ∙ take-set-le kept (set slots kept slot) at first so.order
-        ∙ take-set-le kept slots kept slot (omega arith)) i ++ front_read i ∷ [])
-
-    behind : (xs : List Slot) → drop (at + 1) (take used xs) ≡ take (used - (at + 1)) (drop (at + 1) xs)
-    behind xs =
-        let parts : used ≡ at + 1 + (used - (at + 1)) = omega (arith, less) in
-        ap (λ n. drop (at + 1) (take n xs)) parts ∙ drop-take (at + 1) (used - (at + 1)) xs
-
-    back : drop (at + 1) (take used swapped) ≡ drop (at + 1) (take used slots)
-    back =
-        behind swapped
-        ∙ ap (take (used - (at + 1))) (ap (drop (at + 1)) is ∙ drop-set-lt (at + 1) (set slots kept slot) at first
-        (omega arith) ∙ drop-set-lt (at + 1) slots kept slot (omega (arith, so.order)))
-        ∙ sym (behind slots)
-
-    -- What stays so far is one entry more.
-    pub front_more : picked next (take (kept + 1) swapped) ≡ picked entries (take kept slots) ++ e ∷ []
-    front_more =
-        ap (picked next) front
-        ∙ map-append (entry_in next) (take kept slots) (slot ∷ [])
-        ∙ (λ i. front_items i ++ written i ∷ [])
-
-    pub back_kept : picked next (drop (at + 1) (take used swapped)) ≡ picked entries (drop (at + 1) (take used slots))
-    back_kept = ap (picked next) back ∙ back_items
-
-    pub one_kept : test read ≡ true → e ≡ change read → IsDropping test change items next swapped used (kept + 1)
-        (at + 1)
-    one_kept passes changed =
-        record {
-          places = record {
-            within = subst (λ xs. All (λ (s : Slot). s.place < length next) xs) (sym is)
-                (All-set (λ (s : Slot). s.place < length next) (set slots kept slot) at first
-                (still_within kept no_slot (omega (arith, so.order, less, so.in_use)))
-                (All-set (λ (s : Slot). s.place < length next) slots kept slot
-                (still_within at no_slot (omega (arith, less, so.in_use))) still_within));
-            apart = λ p. few p (sum_by-IsPermutation (has_place p) slots swapped moved) (so.places.apart p);
-          };
-          all = same_length ∙ so.all ∙ sym (length-set entries slot.place e);
-          order = omega (arith, so.order);
-          until = omega (arith, less);
-          in_use = omega (arith, same_length, so.in_use);
-          so_far = (λ i. picked next (front i) ++ retain_mut test change (picked next (back i)))
-              ∙ (λ i. map-append (entry_in next) (take kept slots) (slot ∷ []) i ++ retain_mut test change
-              (picked_same entries next (drop (at + 1) (take used slots)) back_same i))
-              ∙ (λ i. (picked_same entries next (take kept slots) front_same i ++ written i ∷ []) ++ after)
-              ∙ append_assoc (picked entries (take kept slots)) (e ∷ []) after
-              ∙ ap (λ x. picked entries (take kept slots) ++ x ∷ after) changed
-              ∙ ap (λ xs. picked entries (take kept slots) ++ xs)
-              (sym (walked ∙ ap (λ b. cond b (change read ∷ after) after) passes)) ∙ so.so_far;
-          keyed = All-same (IsKeyed next) (take (kept + 1) swapped) (take kept slots ++ slot ∷ []) front
-              (All-append (IsKeyed next) (take kept slots) (slot ∷ []) keyed_front
-              (All-cons (IsKeyed next) slot []
-              (All-head (IsKeyed entries) slot (drop (at + 1) (take used slots)) left_here ∙ sym ssrc_stays
-              ∙ ap (λ (x : Entry). x.ssrc) (sym written)) (All-nil (IsKeyed next))));
-          left = subst (λ xs. All (IsKeyed next) xs) (sym back) keyed_back;
-        }
-      where
-        few : (p : ℕ) → sum_by (has_place p) swapped ≡ sum_by (has_place p) slots → sum_by (has_place p) slots ≤ 1 →
-            sum_by (has_place p) swapped ≤ 1
-        few p same most = omega (arith, same, most)
+      pub one_kept : (next : Counts) (lower : Bounds) → outlasts horizons e ≡ true → changed ≡ lapsed horizons.idle e →
+          next.members + weight_of is_member e ≡ counts.members + weight_of is_member changed →
+          next.senders + weight_of is_sender e ≡ counts.senders + weight_of is_sender changed →
+          next.due + weight_of is_due e ≡ counts.due + weight_of is_due changed → IsNoLater lower bounds →
+          StandsBy lower (entry_value changed) → IsDropping horizons items ys (kept + 1) (at + 1) next lower
+      one_kept next lower passes lapsing members senders due no_later stands =
+          one_more ys (kept + 1) (take kept xs ++ changed ∷ []) next lower (omega (arith, so.order)) front behind
+          (append_assoc (take kept xs) (changed ∷ []) (checked horizons others)
+          ∙ ap (λ (x : Entry). take kept xs ++ x ∷ checked horizons others) lapsing
+          ∙ ap (λ b. take kept xs ++ cond b (lapsed horizons.idle e ∷ checked horizons others)
+          (checked horizons others)) (sym passes) ∙ walked)
+          (share_kept counts next (take kept xs) others e changed shared_left members senders due)
+          (all_more bounds lower (take kept xs) changed so.stand no_later stands)
 
 -- An entry keeps its SSRC in a check.
 pub lapsed_ssrc : (idle : ℕ) (e : Entry) → (lapsed idle e).ssrc ≡ e.ssrc
 lapsed_ssrc idle e = elim (lapses idle e) as (λ b. (if b then record e { sends = false } else e).ssrc ≡ e.ssrc) [
-  | true ↦
-      refl
+  | true ↦ refl
   | false ↦ refl
 ]

@@ -299,7 +299,7 @@ spared_pushed end cells cell late =
     let longer = length_push cells cell in
     spared_late end (cells ++ cell ∷ []) (omega (arith, longer, late)) (omega (arith, longer)) ∙ front_pushed cells cell
 
-take_written : {X : Type 0} (xs : List X) (n i : ℕ) (x : X) → i < n → n ≤ length xs →
+pub take_written : {X : Type 0} (xs : List X) (n i : ℕ) (x : X) → i < n → n ≤ length xs →
     take n (set xs i x) ≡ set (take n xs) i x
 take_written xs n i x early within =
     let as_long = length-take-le n xs within in

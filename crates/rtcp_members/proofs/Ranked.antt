@@ -4,9 +4,12 @@ use Rattle.std.specs.List.{count_by, sum_by}
 use Rattle.std.proofs.Common.{inl, inr, arith, sym, ap, subst, ◌∙◌}
 use Rattle.std.proofs.lemmas.Bool.{cases_eq}
 use Rattle.std.proofs.lemmas.Bool.Decides.{nat_tests}
-use Rattle.std.proofs.lemmas.List.{length-set, length-map, length-take-le, get_or-take, get_or-map, get_or-set_same, get_or-set_other, get_or_default, get_or_read, same_lists}
+use Rattle.std.proofs.lemmas.List.{length-set, length-map, length-take-le, take-map, take-take, map-set, get_or-take, get_or-map, get_or-set_same, get_or-set_other, get_or_default, get_or_read, same_lists}
+use Rattle.std.proofs.lemmas.List.Edits.{swap_is}
+use Rattle.std.proofs.lemmas.List.Sorted.{IsPermutation-swap, sum_by-IsPermutation}
+use Rattle.std.specs.List.Sorted.{IsPermutation}
 use Rattle.std.proofs.lemmas.List.Sums.{sum_by-set}
-use Rattle.std.proofs.lemmas.List.Elements.{All-head, All-tail, All-weaker, All-from_get_or}
+use Rattle.std.proofs.lemmas.List.Elements.{All-head, All-tail, All-set, All-take, All-weaker, All-from_get_or}
 use Rattle.rtcp_members.specs.declared.entry.Entry.{Entry}
 use Rattle.rtcp_members.specs.declared.cells.Cell.{Cell}
 use Rattle.rtcp_members.specs.declared.cells.Slot.{Slot}
@@ -19,7 +22,7 @@ use Rattle.rtcp_members.specs.Standing.{AreCounts}
 use Rattle.rtcp_members.proofs.Weights.{tally_at_most, tally_set, weight_within}
 use Rattle.rtcp_members.specs.Shelves.{IsChanged}
 use Rattle.rtcp_members.specs.SortedViews.{IsRising}
-use Rattle.rtcp_members.proofs.Pairs.{length_slots, slot_read, slots_kept, entry_written, read_again}
+use Rattle.rtcp_members.proofs.Pairs.{length_slots, slot_read, slots_kept, slots_exchanged, take_written, entry_written, read_again}
 use Rattle.rtcp_members.proofs.Rising.{rising_set}
 use Rattle.std.proofs.lemmas.Option.{slice_get_read}
 
@@ -67,6 +70,14 @@ picked_same entries next (slot ∷ slots) all =
     λ i. All-head (λ (slot : Slot). entry_in next slot ≡ entry_in entries slot) slot slots all i ∷ picked_same entries
     next slots (All-tail (λ (slot : Slot). entry_in next slot ≡ entry_in entries slot) slot slots all) i
 
+-- The entry of a rank is that of its slot.
+picked_read : (entries : List Entry) (slots : List Slot) (used k : ℕ) (d : Entry) → used ≤ length slots → k < used →
+    slice_index_or (picked entries (take used slots)) k d ≡ entry_in entries (slice_index_or slots k no_slot)
+picked_read entries slots used k d in_use less =
+    get_or-map (entry_in entries) (take used slots) k no_slot d
+    (omega (arith, less, length-take-le used slots in_use))
+    ∙ ap (entry_in entries) (get_or-take used slots k no_slot less)
+
 module _ (entries : List Entry) (slots : List Slot) (used at : ℕ) (places : ArePlaces entries slots)
     (in_use : used ≤ length slots) (stands : at < length (picked entries (take used slots))) where
   as_many : length (picked entries (take used slots)) ≡ used
@@ -78,17 +89,11 @@ module _ (entries : List Entry) (slots : List Slot) (used at : ℕ) (places : Ar
   pub place_within : place_at slots at < length entries
   place_within = places.within at no_slot (omega (arith, below, in_use))
 
-  -- the slot of a rank is that of the index
-  pub slot_at : slice_index_or (take used slots) at no_slot ≡ slice_index_or slots at no_slot
-  slot_at = get_or-take used slots at no_slot below
-
   pub read_at : (d : Entry) → slice_index_or entries (place_at slots at) d ≡ slice_index_or
       (picked entries (take used slots)) at d
   read_at d =
       get_or_default entries (place_at slots at) d no_entry place_within
-      ∙ ap (entry_in entries) (sym slot_at)
-      ∙ sym (get_or-map (entry_in entries) (take used slots) at no_slot d
-      (omega (arith, below, length-take-le used slots in_use)))
+      ∙ sym (picked_read entries slots used at d in_use below)
 
   module _ (e : Entry) where
     abbrev next : List Entry
@@ -116,27 +121,15 @@ module _ (entries : List Entry) (slots : List Slot) (used at : ℕ) (places : Ar
           length-take-le used slots in_use,
         )))
       where
-        left : (k : ℕ) (d : Entry) → k < used → slice_index_or (picked next (take used slots)) k d ≡ entry_in next
-            (slice_index_or slots k no_slot)
-        left k d less =
-            get_or-map (entry_in next) (take used slots) k no_slot d
-            (omega (arith, less, length-take-le used slots in_use))
-            ∙ ap (entry_in next) (get_or-take used slots k no_slot less)
-
-        right : (k : ℕ) (d : Entry) → k < used → slice_index_or (picked entries (take used slots)) k d
-            ≡ entry_in entries (slice_index_or slots k no_slot)
-        right k d less =
-            get_or-map (entry_in entries) (take used slots) k no_slot d
-            (omega (arith, less, length-take-le used slots in_use))
-            ∙ ap (entry_in entries) (get_or-take used slots k no_slot less)
-
         by_rank : (k : ℕ) (d : Entry) → k < used → slice_index_or (picked next (take used slots)) k d ≡ slice_index_or
             (set (picked entries (take used slots)) at e) k d
         by_rank k d less = elim (cases_eq k at) [
-          | inl same ↦ left k d less ∙ ap (λ n. entry_in next (slice_index_or slots n no_slot)) same ∙ here
+          | inl same ↦ picked_read next slots used k d in_use less
+              ∙ ap (λ n. entry_in next (slice_index_or slots n no_slot)) same ∙ here
               ∙ sym (get_or-set_same (picked entries (take used slots)) at e d stands)
               ∙ ap (λ n. slice_index_or (set (picked entries (take used slots)) at e) n d) (sym same)
-          | inr unlike ↦ left k d less ∙ elsewhere_same k unlike less ∙ sym (right k d less)
+          | inr unlike ↦ picked_read next slots used k d in_use less ∙ elsewhere_same k unlike less
+              ∙ sym (picked_read entries slots used k d in_use less)
               ∙ sym (get_or-set_other (picked entries (take used slots)) at k e d unlike)
         ]
 
@@ -174,26 +167,30 @@ module _ (entries : List Entry) (slots : List Slot) (used at : ℕ) (places : Ar
 
 -- What is read as the cell of a rank.
 pub record IsAtRank (cells : List Cell) (used at : ℕ) (slot : Slot) (cell : Cell) : Type 0 where
-  pub indexed : IsIndexed cells used
+  pub heap : IsHeap (entries_in cells) (slots_in cells) used
   pub early : at < used
   pub its : slot ≡ slice_index_or (pairs_in cells) at no_slot
   pub read : cell ≡ slice_index_or cells slot.place cell
 
-pub at_rank : (cells : List Cell) (used at : ℕ) (slot : Slot) (d : Cell) → IsIndexed cells used → at < used →
-    slot ≡ slice_index_or (pairs_in cells) at no_slot → IsAtRank cells used at slot (slice_index_or cells slot.place d)
-at_rank cells used at slot d indexed early its =
-    record { indexed = indexed; early = early; its = its; read = read_again cells slot.place d }
+pub at_rank : (cells : List Cell) (used at : ℕ) (slot : Slot) (d : Cell) →
+    IsHeap (entries_in cells) (slots_in cells) used →
+    at < used → slot ≡ slice_index_or (pairs_in cells) at no_slot → IsAtRank cells used at slot
+    (slice_index_or cells slot.place d)
+at_rank cells used at slot d heap early its =
+    record { heap = heap; early = early; its = its; read = read_again cells slot.place d }
+
+-- There are as many entries as ranks in use.
+pub length_ranked : (cells : List Cell) (used : ℕ) → IsHeap (entries_in cells) (slots_in cells) used →
+    length (in_order cells used) ≡ used
+length_ranked cells used heap = length-map (take used (slots_in cells)) (entry_in (entries_in cells))
+    ∙ length-take-le used (slots_in cells) heap.in_use
 
 module _ {cells : List Cell} {used at : ℕ} {slot : Slot} {cell : Cell} (so : IsAtRank cells used at slot cell) where
   heap : IsHeap (entries_in cells) (slots_in cells) used
-  heap = so.indexed.heap
+  heap = so.heap
 
-  as_long : length (in_order cells used) ≡ used
-  as_long = length-map (take used (slots_in cells)) (entry_in (entries_in cells))
-      ∙ length-take-le used (slots_in cells) heap.in_use
-
-  stands : at < length (in_order cells used)
-  stands = omega (arith, so.early, as_long)
+  pub stands : at < length (in_order cells used)
+  stands = omega (arith, so.early, length_ranked cells used heap)
 
   its_place : slot.place ≡ place_at (slots_in cells) at
   its_place = ap (λ (s : Slot). s.place) (so.its ∙ slot_read cells at (omega
@@ -224,7 +221,14 @@ module _ {cells : List Cell} {used at : ℕ} {slot : Slot} {cell : Cell} (so : I
   counted_within test = weight_within test (in_order cells used) at cell.entry got
 
   pub few_counted : (test : EntryValue → Bool) → tally_of test (in_order cells used) ≤ 1024
-  few_counted test = omega (arith, tally_at_most test (in_order cells used), as_long, heap.in_use, heap.all, heap.few)
+  few_counted test = omega (
+    arith,
+    tally_at_most test (in_order cells used),
+    length_ranked cells used heap,
+    heap.in_use,
+    heap.all,
+    heap.few,
+  )
 
   -- What is written there, of the same source, is the entry of the rank.
   module _ (e : Entry) (same : e.ssrc ≡ cell.entry.ssrc) where
@@ -259,12 +263,14 @@ module _ {cells : List Cell} {used at : ℕ} {slot : Slot} {cell : Cell} (so : I
           few = omega (arith, heap.few, length-set old (place_at slots at) e);
         }
 
-    pub still_indexed : IsIndexed after used
-    still_indexed = record {
-      heap = subst (λ slots. IsHeap (entries_in after) slots used) (sym slots_after) (subst (λ es. IsHeap es
-          (slots_in cells) used) (sym entries_after) still_heap);
-      rising = subst IsRising (sym written_ranked)
-          (rising_set (in_order cells used) at cell.entry e so.indexed.rising got same);
+    pub heap_written : IsHeap (entries_in after) (slots_in after) used
+    heap_written = subst (λ slots. IsHeap (entries_in after) slots used) (sym slots_after)
+        (subst (λ es. IsHeap es (slots_in cells) used) (sym entries_after) still_heap)
+
+    pub still_indexed : IsRising (in_order cells used) → IsIndexed after used
+    still_indexed rising = record {
+      heap = heap_written;
+      rising = subst IsRising (sym written_ranked) (rising_set (in_order cells used) at cell.entry e rising got same);
     }
 
     pub changed_ranked : (change : EntryValue → EntryValue) → entry_value e ≡ change (entry_value cell.entry)
@@ -300,3 +306,104 @@ module _ {cells : List Cell} {used at : ℕ} {slot : Slot} {cell : Cell} (so : I
           senders = one_recounted is_sender counts.senders next.senders so.senders senders;
           due = one_recounted is_due counts.due next.due so.due due;
         }
+
+-- ---- The ranks of cells
+
+-- Fewer ranks may be in use: those that are kept.
+module _ (cells : List Cell) (used kept : ℕ) (heap : IsHeap (entries_in cells) (slots_in cells) used)
+    (fewer : kept ≤ used) where
+  pub first_ranked : take kept (in_order cells used) ≡ in_order cells kept
+  first_ranked = take-map (entry_in (entries_in cells)) kept (take used (slots_in cells))
+      ∙ ap (picked (entries_in cells)) (take-take kept used (slots_in cells) fewer)
+
+  pub heap_first : IsHeap (entries_in cells) (slots_in cells) kept
+  heap_first = record {
+    places = heap.places;
+    in_use = omega (arith, fewer, heap.in_use);
+    all = heap.all;
+    keyed = subst (All (IsKeyed (entries_in cells))) (take-take kept used (slots_in cells) fewer)
+        (All-take (IsKeyed (entries_in cells)) kept (take used (slots_in cells)) heap.keyed);
+    few = heap.few;
+  }
+
+-- The slots of two ranks are exchanged.
+module _ (cells next : List Cell) (used one other : ℕ) (heap : IsHeap (entries_in cells) (slots_in cells) used)
+    (low : one < used) (high : other < used) (entries : entries_in next ≡ entries_in cells) (slots : pairs_in next
+    ≡ set (set (pairs_in cells) one (slice_index_or (pairs_in cells) other no_slot)) other
+    (slice_index_or (pairs_in cells) one no_slot)) where
+  abbrev old : List Slot
+  old = slots_in cells
+
+  abbrev first : Slot
+  first = slice_index_or old one no_slot
+
+  abbrev second : Slot
+  second = slice_index_or old other no_slot
+
+  abbrev swapped : List Slot
+  swapped = set (set old one second) other first
+
+  is_swapped : slots_in next ≡ swapped
+  is_swapped =
+      let count = length_slots cells in
+      let one_in : one < length cells = omega (arith, low, heap.in_use, count) in
+      let other_in : other < length cells = omega (arith, high, heap.in_use, count) in
+      slots_exchanged cells next one other (slice_index_or (pairs_in cells) other no_slot)
+      (slice_index_or (pairs_in cells) one no_slot) one_in other_in entries slots
+      ∙ (λ i. set (set old one (slot_read cells other other_in i)) other (slot_read cells one one_in i))
+
+  in_used : take used swapped ≡ set (set (take used old) one second) other first
+  in_used =
+      take_written (set old one second) used other first high (omega (arith, heap.in_use, length-set old one second))
+      ∙ ap (λ xs. set xs other first) (take_written old used one second low heap.in_use)
+
+  -- So are their entries.
+  pub exchanged_ranked : (d : Entry) → in_order next used
+      ≡ set (set (in_order cells used) one (slice_index_or (in_order cells used) other d)) other
+      (slice_index_or (in_order cells used) one d)
+  exchanged_ranked d =
+      let es = entries_in cells in
+      (λ i. picked (entries i) (take used (is_swapped i)))
+      ∙ ap (picked es) in_used
+      ∙ map-set (entry_in es) (set (take used old) one second) other first
+      ∙ ap (λ xs. set xs other (entry_in es first)) (map-set (entry_in es) (take used old) one second)
+      ∙ (λ i. set (set (in_order cells used) one (sym (picked_read es old used other d heap.in_use high) i)) other
+      (sym (picked_read es old used one d heap.in_use low) i))
+
+  moved : IsPermutation old swapped
+  moved =
+      let one_in : one < length old = omega (arith, low, heap.in_use) in
+      let other_in : other < length old = omega (arith, high, heap.in_use) in
+      IsPermutation-swap old swapped one other one_in other_in (swap_is old one other no_slot one_in other_in)
+
+  heap_swapped : IsHeap (entries_in cells) swapped used
+  heap_swapped =
+      let within = heap.places.within in
+      let P : Slot → Type 0 = λ slot. slot.place < length (entries_in cells) in
+      let same_length : length swapped ≡ length old = length-set (set old one second) other first
+      ∙ length-set old one second in
+      record {
+        places = record {
+          within = All-set P (set old one second) other first (within one no_slot (omega (arith, low, heap.in_use)))
+              (All-set P old one second (within other no_slot (omega (arith, high, heap.in_use))) within);
+          apart = λ p. fewer p (sum_by-IsPermutation (has_place p) old swapped moved) (heap.places.apart p);
+        };
+        in_use = omega (arith, same_length, heap.in_use);
+        all = same_length ∙ heap.all;
+        keyed = subst (All (IsKeyed (entries_in cells))) (sym in_used)
+            (All-set (IsKeyed (entries_in cells)) (set (take used old) one second) other first (keyed_read one low)
+            (All-set (IsKeyed (entries_in cells)) (take used old) one second (keyed_read other high) heap.keyed));
+        few = heap.few;
+      }
+    where
+      keyed_read : (k : ℕ) → k < used → IsKeyed (entries_in cells) (slice_index_or old k no_slot)
+      keyed_read k less = subst (IsKeyed (entries_in cells)) (get_or-take used old k no_slot less)
+          (heap.keyed k no_slot (omega (arith, less, length-take-le used old heap.in_use)))
+
+      fewer : (p : ℕ) → sum_by (has_place p) swapped ≡ sum_by (has_place p) old → sum_by (has_place p) old ≤ 1 →
+          sum_by (has_place p) swapped ≤ 1
+      fewer p same most = omega (arith, same, most)
+
+  pub heap_exchanged : IsHeap (entries_in next) (slots_in next) used
+  heap_exchanged = subst (λ ss. IsHeap (entries_in next) ss used) (sym is_swapped)
+      (subst (λ es. IsHeap es swapped used) (sym entries) heap_swapped)

@@ -1,37 +1,35 @@
 -- The entry of the rank is read and written in its cell.
-use Rattle.std.proofs.Common.{IsTrue, sym, ap, subst, ◌∙◌}
+use Rattle.std.proofs.Common.{IsTrue, slice_index_or, sym, ap, subst, ◌∙◌}
 use Rattle.rtcp_source.specs.Blocks.{block_for}
 use Rattle.rtcp_members.specs.declared.entry.Entry.{Entry}
 use Rattle.rtcp_members.specs.Heaps.{no_entry}
 use Rattle.rtcp_members.specs.ListViews.{entry_value}
 use Rattle.rtcp_members.specs.Pending.{is_due, reported_entry}
-use Rattle.rtcp_members.proofs.Ranked.{at_rank, read_ranked, still_indexed, changed_ranked}
+use Rattle.rtcp_members.proofs.Ranked.{IsAtRank, at_rank, read_ranked, still_indexed, changed_ranked}
 use Rattle.rtcp_members.proofs.shelf.report_at.Goals as goal
+use Rattle.rtcp_members.proofs.shelf.report_at.Goals.{After-index-cells-place}
+
+seen : (c : After-index-cells-place) → IsAtRank c.args.cells.now c.args.used c.args.at c.slot_at-place.result
+    (slice_index_or c.args.cells.now c.slot_at-place.result.place c.index-cells-place.result)
+seen c = at_rank c.args.cells.now c.args.used c.args.at c.slot_at-place.result c.index-cells-place.result
+    c.requires.indexed.heap c.requires.stands c.slot_at-place.ensures
 
 pub report-requires : goal.report-requires
 report-requires c =
-    let so =
-    at_rank c.args.cells.now c.args.used c.args.at c.slot_at-place.result c.index-cells-place.result c.requires.indexed
-    c.requires.stands c.slot_at-place.ensures in
+    let so = seen (goal.at.report-requires c).After-index-cells-place in
     subst (λ (e : Entry). IsTrue (is_due (entry_value e))) (sym (read_ranked so no_entry)) (c.requires.due no_entry)
 
 pub returns-clause-indexed : goal.returns-clause-indexed
 returns-clause-indexed c =
-    let so =
-    at_rank c.args.cells.now c.args.used c.args.at c.slot_at-place.result c.index-cells-place.result c.requires.indexed
-    c.requires.stands c.slot_at-place.ensures in
-    still_indexed so c.report.new.self c.report.ensures.ssrc
+    let so = seen (goal.at.returns-clause-indexed c).After-index-cells-place in
+    still_indexed so c.report.new.self c.report.ensures.ssrc c.requires.indexed.rising
 
 pub returns-clause-changed : goal.returns-clause-changed
 returns-clause-changed c =
-    let so =
-    at_rank c.args.cells.now c.args.used c.args.at c.slot_at-place.result c.index-cells-place.result c.requires.indexed
-    c.requires.stands c.slot_at-place.ensures in
+    let so = seen (goal.at.returns-clause-changed c).After-index-cells-place in
     changed_ranked so c.report.new.self c.report.ensures.ssrc reported_entry c.report.ensures.value
 
 pub returns-clause-block : goal.returns-clause-block
 returns-clause-block c =
-    let so =
-    at_rank c.args.cells.now c.args.used c.args.at c.slot_at-place.result c.index-cells-place.result c.requires.indexed
-    c.requires.stands c.slot_at-place.ensures in
+    let so = seen (goal.at.returns-clause-block c).After-index-cells-place in
     λ d. c.report.ensures.block ∙ ap (λ (e : Entry). block_for e.ssrc c.args.t e.source) (read_ranked so d)
