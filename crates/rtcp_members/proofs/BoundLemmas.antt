@@ -10,14 +10,14 @@ use Rattle.rtcp_source.specs.Summary.{SourceValue}
 use Rattle.rtcp_members.specs.declared.bounds.Bounds.{Bounds}
 use Rattle.rtcp_members.specs.declared.entry.Entry.{Entry}
 use Rattle.rtcp_members.specs.Entries.{EntryValue}
-use Rattle.rtcp_members.specs.Traces.{horizons_at}
+use Rattle.rtcp_members.specs.Traces.{Horizons}
 use Rattle.rtcp_members.specs.Stays.{is_before}
 use Rattle.rtcp_members.specs.Tables.{entry_with_fact}
 use Rattle.rtcp_members.specs.ListViews.{entry_value, mark_in, sending_in, is_left, IsRankOf}
 use Rattle.rtcp_members.specs.declared.cells.Slot.{Slot}
 use Rattle.rtcp_members.specs.Heaps.{no_slot, no_entry, entry_in, picked}
 use Rattle.rtcp_members.proofs.Applying.{read_there}
-use Rattle.rtcp_members.specs.Standing.{MarkStandsBy, StandsBy, AllStandBy, IsUpTo, IsNoLater}
+use Rattle.rtcp_members.specs.Standing.{MarkStandsBy, StandsBy, AllStandBy, IsUpTo, IsNoLater, RulesOut}
 
 -- ---- Lower bounds
 
@@ -93,13 +93,15 @@ left_by b silent idle gone s i g (Some mark) sending sighting seen h =
     λ j. not (le-ltb sighting silent (omega (arith, s, seen)) j || le-ltb mark gone (omega (arith, g, h)) j)
 
 -- A check whose horizons do not pass the bounds changes nothing.
-pub all_left : (b : Bounds) (silent idle gone : ℕ) → (silent ≤ b.silent) × (idle ≤ b.idle) × (gone ≤ b.gone) →
-    (entries : List Entry) → AllStandBy b entries → list_all (is_left (horizons_at silent idle gone)) entries ≡ true
-all_left b silent idle gone within [] all = refl
-all_left b silent idle gone within (e ∷ entries) all =
-    let its = All-head (stands b) e entries all in
-    let one = left_by b silent idle gone within.0 within.1 within.2 (mark_in e) (sending_in e) e.sighting its.0 its.1 in
-    let rest = all_left b silent idle gone within entries (All-tail (stands b) e entries all) in
+pub all_left : (b : Bounds) (horizons : Horizons) (entries : List Entry) → RulesOut horizons entries b →
+    list_all (is_left horizons) entries ≡ true
+all_left b horizons [] out = refl
+all_left b horizons (e ∷ entries) out =
+    let its = All-head (stands b) e entries out.stand in
+    let one = left_by b horizons.silent horizons.idle horizons.gone out.within.0 out.within.1 out.within.2 (mark_in e)
+    (sending_in e) e.sighting its.0 its.1 in
+    let rest = all_left b horizons entries
+    (record { stand = All-tail (stands b) e entries out.stand; within = out.within }) in
     λ j. one j && rest j
 
 -- One entry more is covered by bounds that are no later.

@@ -14,7 +14,7 @@ use Rattle.rtcp_members.specs.Traces.{Horizons}
 use Rattle.rtcp_members.specs.Stays.{is_before, is_removed}
 use Rattle.rtcp_members.specs.Entries.{EntryValue, still_sending}
 use Rattle.rtcp_members.specs.Tables.{IsApart, updated_row, updated, entry_after_check}
-use Rattle.rtcp_members.specs.ListViews.{entry_value, mark_in, sending_in, row_of, rows_of, map_of, lapsed, outlasts}
+use Rattle.rtcp_members.specs.ListViews.{entry_value, mark_in, sending_in, row_of, rows_of, map_of, lapsed, outlasts, checked}
 use Rattle.rtcp_members.proofs.Updated.{find_updated, from_updated}
 use Rattle.rtcp_members.proofs.Listing.{get_rows}
 
@@ -88,11 +88,11 @@ row_checked horizons e rest rows same =
     ]
 
 pub rows_checked : (horizons : Horizons) (entries : List Entry) →
-    rows_of (retain_mut (outlasts horizons) (lapsed horizons.idle) entries) ≡ filter_map
+    rows_of (checked horizons entries) ≡ filter_map
     (updated_row (entry_after_check horizons)) (rows_of entries)
 rows_checked horizons [] = refl
 rows_checked horizons (e ∷ entries) =
-    row_checked horizons e (retain_mut (outlasts horizons) (lapsed horizons.idle) entries)
+    row_checked horizons e (checked horizons entries)
     (filter_map (updated_row (entry_after_check horizons)) (rows_of entries)) (rows_checked horizons entries)
 
 apart_step : (step : EntryValue → Option EntryValue) (key : ℕ) (value : Option EntryValue)
@@ -109,12 +109,12 @@ apart_updated step (row ∷ rows) apart =
     ∙ ap (option_and_then step) apart.0) (apart_updated step rows apart.1)
 
 pub apart_checked : (horizons : Horizons) (entries : List Entry) → IsApart (rows_of entries) →
-    IsApart (rows_of (retain_mut (outlasts horizons) (lapsed horizons.idle) entries))
+    IsApart (rows_of (checked horizons entries))
 apart_checked horizons entries apart = subst IsApart (sym (rows_checked horizons entries))
     (apart_updated (entry_after_check horizons) (rows_of entries) apart)
 
 pub map_checked : (horizons : Horizons) (entries : List Entry) → IsApart (rows_of entries) →
-    map_of (retain_mut (outlasts horizons) (lapsed horizons.idle) entries) ≡ updated (entry_after_check horizons)
+    map_of (checked horizons entries) ≡ updated (entry_after_check horizons)
     (map_of entries)
 map_checked horizons entries apart = ap finite.from_entries (rows_checked horizons entries)
     ∙ from_updated (entry_after_check horizons) (rows_of entries) apart

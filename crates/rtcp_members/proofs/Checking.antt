@@ -1,23 +1,26 @@
 -- A sorted table after a check.
-use Rattle.std.proofs.Common.{◌≡◌, ◌-◌, ℕ, true, false, Bool, T, cond, not, List, [], ◌∷◌, length, if◌then◌else◌, Option, Some, None, option_map, filter_map, nat_cmp, is_lt, arith, refl, sym, ap, subst, ◌∙◌}
+use Rattle.std.proofs.Common.{◌≡◌, ◌-◌, ℕ, true, false, Bool, T, cond, not, List, [], ◌∷◌, if◌then◌else◌, Option, Some, None, option_map, filter_map, nat_cmp, is_lt, arith, refl, sym, ap, subst, ◌∙◌}
 use Rattle.std.proofs.lemmas.Bool.{and_parts}
-use Rattle.std.specs.List.{list_all, retain_mut, cons_option}
+use Rattle.std.specs.List.{list_all, cons_option}
 use Rattle.std.specs.FinMap.Entries.{below_all, is_sorted}
 use Rattle.rtcp_members.specs.declared.entry.Entry.{Entry}
 use Rattle.rtcp_members.specs.Traces.{Horizons}
-use Rattle.rtcp_members.specs.Entries.{EntryValue, is_member, is_sender}
+use Rattle.rtcp_members.specs.Entries.{EntryValue, is_sender}
 use Rattle.rtcp_members.specs.Tables.{TableValue, updated_row, entry_after_check, after_check, dropped_entries, dropped_senders, senders_in}
-use Rattle.rtcp_members.specs.ListViews.{rows_of, table_of, tally_of, lapses, lapsed, outlasts, is_left, IsListed}
+use Rattle.rtcp_members.specs.ListViews.{rows_of, table_of, lapses, lapsed, outlasts, checked, is_left, IsListed}
 use Rattle.rtcp_members.specs.SortedViews.{IsRising, IsSortedTable}
+use Rattle.rtcp_members.specs.declared.bounds.Bounds.{Bounds}
+use Rattle.rtcp_members.specs.declared.counts.Counts.{Counts}
+use Rattle.rtcp_members.specs.Standing.{AreCounts, RulesOut}
+use Rattle.rtcp_members.proofs.BoundLemmas.{all_left}
 use Rattle.rtcp_members.proofs.Changing.{rows_checked}
 use Rattle.rtcp_members.proofs.LeastDue.{parts, joined}
 use Rattle.rtcp_members.proofs.Rising.{rising_apart}
-use Rattle.rtcp_members.proofs.Tallies.{counted_at, fewer_checked, table_checked, dropped_checked, senders_checked}
+use Rattle.rtcp_members.proofs.Tallies.{counted_at, fewer_checked, listed_checked, table_checked, dropped_checked, senders_checked}
 
-pub listed_of : (capacity members senders : ℕ) (entries : List Entry) → IsSortedTable capacity members senders entries →
-    IsListed capacity entries
-listed_of capacity members senders entries sorted = record {
-  apart = rising_apart entries sorted.ordered.rising;
+pub listed_of : (capacity : ℕ) (entries : List Entry) → IsSortedTable capacity entries → IsListed capacity entries
+listed_of capacity entries sorted = record {
+  apart = rising_apart entries sorted.rising;
   within = sorted.within;
   room = sorted.room;
 }
@@ -29,7 +32,7 @@ isnt true e = absurd cc
 isnt false e = refl
 
 pub left_alone : (horizons : Horizons) (entries : List Entry) → list_all (is_left horizons) entries ≡ true →
-    entries ≡ retain_mut (outlasts horizons) (lapsed horizons.idle) entries
+    entries ≡ checked horizons entries
 left_alone horizons [] all = refl
 left_alone horizons (e ∷ entries) all =
     let halves = and_parts (is_left horizons e) (list_all (is_left horizons) entries) all in
@@ -37,53 +40,38 @@ left_alone horizons (e ∷ entries) all =
     let rest = left_alone horizons entries halves.1 in
     let as_it_was : lapsed horizons.idle e ≡ e = ap (λ b. if b then record e { sends = false } else e)
     (isnt (lapses horizons.idle e) its.0) in
-    sym (λ i. cond (its.1 i) (as_it_was i ∷ sym rest i) (retain_mut (outlasts horizons) (lapsed horizons.idle) entries))
+    sym (λ i. cond (its.1 i) (as_it_was i ∷ sym rest i) (checked horizons entries))
 
-module _ (horizons : Horizons) (capacity rate members senders : ℕ) (entries : List Entry) (table : TableValue)
-    (is : table_of capacity rate entries ≡ table) (sorted : IsSortedTable capacity members senders entries) where
-  listed : IsListed capacity entries
-  listed = listed_of capacity members senders entries sorted
-
-  pub none_dropped : list_all (is_left horizons) entries ≡ true → 0 ≡ dropped_entries horizons table
-  none_dropped all =
+-- A check that the bounds rule out drops nothing.
+pub nothing_dropped : (horizons : Horizons) (capacity rate : ℕ) (entries : List Entry) (bounds : Bounds)
+    (table : TableValue) → table_of capacity rate entries ≡ table → IsSortedTable capacity entries →
+    RulesOut horizons entries bounds → (0 ≡ dropped_entries horizons table) × (0 ≡ dropped_senders horizons table)
+    × (table_of capacity rate entries ≡ after_check horizons table)
+nothing_dropped horizons capacity rate entries bounds table view sorted out =
+    let same = left_alone horizons entries (all_left bounds horizons entries out) in
+    let listed = listed_of capacity entries sorted in
+    let count : ℕ = senders_in table in (
+      omega (arith, dropped_checked horizons entries entries same capacity rate table view listed),
       omega (
         arith,
-        dropped_checked horizons capacity rate entries entries (length entries) (length entries)
-            (left_alone horizons entries all) listed refl refl,
-      )
-      ∙ ap (dropped_entries horizons) is
+        senders_checked horizons entries entries same capacity rate table view listed count count refl
+            (ap senders_in (sym view)),
+      ),
+      table_checked horizons entries entries same capacity rate table view listed,
+    )
 
-  pub no_sender_dropped : list_all (is_left horizons) entries ≡ true → 0 ≡ dropped_senders horizons table
-  no_sender_dropped all =
-      let count = senders_in (table_of capacity rate entries) in
-      omega (
-        arith,
-        senders_checked horizons capacity rate entries entries count count (left_alone horizons entries all)
-            listed refl refl,
-      )
-      ∙ ap (dropped_senders horizons) is
-
-  pub table_left : list_all (is_left horizons) entries ≡ true → table ≡ after_check horizons table
-  table_left all = sym is ∙ table_checked horizons capacity rate entries entries (left_alone horizons entries all)
-      listed.apart ∙ ap (after_check horizons) is
-
-  -- ---- A check that changes some entry
-
-  module _ (next : List Entry) (dropped : next ≡ retain_mut (outlasts horizons) (lapsed horizons.idle) entries) where
-    pub entries_dropped : (before after : ℕ) → before ≡ length entries → after ≡ length next →
-        before - after ≡ dropped_entries horizons table
-    entries_dropped before after at_first at_last = dropped_checked horizons capacity rate entries next before after
-        dropped listed at_first at_last ∙ ap (dropped_entries horizons) is
-
-    pub senders_dropped : (next_senders : ℕ) → next_senders ≡ tally_of is_sender next → IsRising next →
-        senders - next_senders ≡ dropped_senders horizons table
-    senders_dropped next_senders counts rising =
-        senders_checked horizons capacity rate entries next senders next_senders dropped listed
-        (counted_at is_sender capacity rate entries (table_of capacity rate entries) senders listed.apart refl
-        sorted.ordered.its_senders)
-        (counted_at is_sender capacity rate next (table_of capacity rate next) next_senders (rising_apart next rising)
-        refl counts)
-        ∙ ap (dropped_senders horizons) is
+-- One that drops some leaves so many senders fewer.
+pub senders_dropped : (horizons : Horizons) (entries next : List Entry) → next ≡ checked horizons entries →
+    (capacity rate : ℕ) (table : TableValue) → table_of capacity rate entries ≡ table →
+    IsSortedTable capacity entries → (old new : Counts) → AreCounts old entries → AreCounts new next →
+    old.senders - new.senders ≡ dropped_senders horizons table
+senders_dropped horizons entries next is capacity rate table view sorted old new counts counts_left =
+    let listed = listed_of capacity entries sorted in
+    let left = listed_checked horizons entries next is capacity rate table view listed in
+    senders_checked horizons entries next is capacity rate table view listed old.senders new.senders
+    (counted_at is_sender capacity rate entries table old.senders listed.apart view counts.senders)
+    (counted_at is_sender capacity rate next (table_of capacity rate next) new.senders left.apart refl
+    counts_left.senders)
 
 -- ---- Still in order
 
@@ -114,24 +102,15 @@ sorted_updated step (row ∷ rows) sorted =
     ]
 
 pub rising_checked : (horizons : Horizons) (entries next : List Entry) →
-    next ≡ retain_mut (outlasts horizons) (lapsed horizons.idle) entries → IsRising entries → IsRising next
+    next ≡ checked horizons entries → IsRising entries → IsRising next
 rising_checked horizons entries next is rising =
     subst (λ rows. T (is_sorted nat_cmp rows)) (sym (ap rows_of is ∙ rows_checked horizons entries))
     (sorted_updated (entry_after_check horizons) (rows_of entries) rising)
 
-pub sorted_checked : (horizons : Horizons) (capacity members senders next_members next_senders : ℕ)
-    (entries next : List Entry) → next ≡ retain_mut (outlasts horizons) (lapsed horizons.idle) entries
-    → IsSortedTable capacity members senders entries → next_members ≡ tally_of is_member next →
-    next_senders ≡ tally_of is_sender next → IsSortedTable capacity next_members next_senders next
-sorted_checked horizons capacity members senders next_members next_senders entries next is sorted members_counted
-    senders_counted =
-    record {
-      ordered = record {
-        rising = rising_checked horizons entries next is sorted.ordered.rising;
-        its_members =
-            members_counted;
-        its_senders = senders_counted;
-      };
-      within = omega (arith, fewer_checked horizons entries next is, sorted.within);
-      room = sorted.room;
-    }
+pub sorted_checked : (horizons : Horizons) (entries next : List Entry) → next ≡ checked horizons entries →
+    (capacity : ℕ) → IsSortedTable capacity entries → IsSortedTable capacity next
+sorted_checked horizons entries next is capacity sorted = record {
+  rising = rising_checked horizons entries next is sorted.rising;
+  within = omega (arith, fewer_checked horizons entries next is, sorted.within);
+  room = sorted.room;
+}

@@ -1,21 +1,14 @@
 -- A check that drops entries of a list, rank by rank.
 use Rattle.std.proofs.Common.{◌≡◌, ◌<◌, ◌≤◌, ◌+◌, ◌++◌, ℕ, true, false, cond, if◌then◌else◌, List, [], ◌∷◌, length, take, drop, set, slice_index_or, inl, inr, arith, refl, sym, ap, subst, ◌∙◌}
-use Rattle.std.specs.List.{retain_mut}
 use Rattle.std.proofs.lemmas.List.{append-nil, append_assoc, length-set, drop_more, drop_all, drop-set-lt, take_more, take-set-le, get_or-set_same, get_or-set_other}
 use Rattle.std.proofs.lemmas.Bool.{cases_eq}
 use Rattle.rtcp_members.specs.declared.bounds.Bounds.{Bounds}
 use Rattle.rtcp_members.specs.declared.counts.Counts.{Counts}
 use Rattle.rtcp_members.specs.declared.entry.Entry.{Entry}
-use Rattle.rtcp_members.specs.Entries.{is_member, is_sender}
-use Rattle.rtcp_members.specs.Pending.{is_due}
 use Rattle.rtcp_members.specs.Traces.{Horizons}
-use Rattle.rtcp_members.specs.ListViews.{entry_value, lapses, lapsed, outlasts, weight_of}
-use Rattle.rtcp_members.specs.Standing.{AllStandBy, IsMeasured, IsNoLater, StandsBy}
+use Rattle.rtcp_members.specs.ListViews.{entry_value, lapses, lapsed, outlasts, checked}
+use Rattle.rtcp_members.specs.Standing.{AllStandBy, AreRecounted, IsAmong, IsMeasured, IsNoLater, IsOneMore, StandsBy}
 use Rattle.rtcp_members.proofs.Measuring.{AreShared, share_dropped, share_kept, share_has, all_more}
-
--- what a check leaves of entries
-abbrev pub checked : Horizons → List Entry → List Entry
-checked horizons = retain_mut (outlasts horizons) (lapsed horizons.idle)
 
 -- Where a check of the first ranks has come: what stays of them is in front, and the others are as they were.
 pub record IsDropping (horizons : Horizons) (items xs : List Entry) (kept at : ℕ) (counts : Counts) (bounds : Bounds) :
@@ -59,8 +52,7 @@ module _ {horizons : Horizons} {items xs : List Entry} {kept at : ℕ} {counts :
     shared_left : AreShared counts (take kept xs) (e ∷ others)
     shared_left = subst (AreShared counts (take kept xs)) rest so.shared
 
-    pub left_is_counted : (weight_of is_member e ≤ counts.members) × (weight_of is_sender e ≤ counts.senders)
-        × (weight_of is_due e ≤ counts.due)
+    pub left_is_counted : IsAmong e counts
     left_is_counted = share_has counts (take kept xs) others e shared_left
 
     walked : take kept xs ++ cond (outlasts horizons e) (lapsed horizons.idle e ∷ checked horizons others)
@@ -80,15 +72,13 @@ module _ {horizons : Horizons} {items xs : List Entry} {kept at : ℕ} {counts :
     }
 
     pub one_dropped : (changed : Entry) (next : Counts) → outlasts horizons e ≡ false →
-        counts.members ≡ weight_of is_member e + next.members → counts.senders ≡ weight_of is_sender e + next.senders →
-        counts.due ≡ weight_of is_due e + next.due
-        → IsDropping horizons items (set xs at changed) kept (at + 1) next bounds
-    one_dropped changed next fails members senders due =
+        IsOneMore e next counts → IsDropping horizons items (set xs at changed) kept (at + 1) next bounds
+    one_dropped changed next fails fewer =
         one_more (set xs at changed) kept (take kept xs) next bounds (omega (arith, so.order))
         (take-set-le kept xs at changed so.order) (drop-set-lt (at + 1) xs at changed (omega arith))
         (ap (λ b. take kept xs ++ cond b (lapsed horizons.idle e ∷ checked horizons others) (checked horizons others))
         (sym fails) ∙ walked)
-        (share_dropped counts next (take kept xs) others e shared_left members senders due) so.stand
+        (share_dropped counts next (take kept xs) others e shared_left fewer) so.stand
 
     -- It is changed, and changes places with the first of those that are not in front.
     module _ (changed : Entry) (ys : List Entry) (is : ys ≡ set (set (set xs at changed) kept
@@ -141,17 +131,15 @@ module _ {horizons : Horizons} {items xs : List Entry} {kept at : ℕ} {counts :
           ∙ drop-set-lt (at + 1) xs at changed (omega arith)
 
       pub one_kept : (next : Counts) (lower : Bounds) → outlasts horizons e ≡ true → changed ≡ lapsed horizons.idle e →
-          next.members + weight_of is_member e ≡ counts.members + weight_of is_member changed →
-          next.senders + weight_of is_sender e ≡ counts.senders + weight_of is_sender changed →
-          next.due + weight_of is_due e ≡ counts.due + weight_of is_due changed → IsNoLater lower bounds →
+          AreRecounted e changed counts next → IsNoLater lower bounds →
           StandsBy lower (entry_value changed) → IsDropping horizons items ys (kept + 1) (at + 1) next lower
-      one_kept next lower passes lapsing members senders due no_later stands =
+      one_kept next lower passes lapsing recounted no_later stands =
           one_more ys (kept + 1) (take kept xs ++ changed ∷ []) next lower (omega (arith, so.order)) front behind
           (append_assoc (take kept xs) (changed ∷ []) (checked horizons others)
           ∙ ap (λ (x : Entry). take kept xs ++ x ∷ checked horizons others) lapsing
           ∙ ap (λ b. take kept xs ++ cond b (lapsed horizons.idle e ∷ checked horizons others)
           (checked horizons others)) (sym passes) ∙ walked)
-          (share_kept counts next (take kept xs) others e changed shared_left members senders due)
+          (share_kept counts next (take kept xs) others e changed shared_left recounted)
           (all_more bounds lower (take kept xs) changed so.stand no_later stands)
 
 -- An entry keeps its SSRC in a check.

@@ -5,14 +5,13 @@ use Rattle.std.proofs.lemmas.Option.{slice_get_within}
 use Rattle.rtcp_wire.specs.declared.fact.Fact.{Fact}
 use Rattle.rtcp_wire.specs.Facts.{subject}
 use Rattle.rtcp_members.specs.declared.bounds.Bounds.{Bounds}
-use Rattle.rtcp_members.specs.declared.counts.Counts.{Counts}
 use Rattle.rtcp_members.specs.declared.entry.Entry.{Entry}
 use Rattle.rtcp_members.specs.Entries.{EntryValue}
 use Rattle.rtcp_members.specs.Tables.{after_fact, entry_with_fact}
 use Rattle.rtcp_members.specs.ListViews.{entry_value, table_of, IsRankOf}
 use Rattle.rtcp_members.specs.Shelves.{IsChanged}
 use Rattle.rtcp_members.specs.SortedViews.{IsRising, IsSortedTable}
-use Rattle.rtcp_members.specs.Standing.{AllStandBy, AreCounts, IsUpTo, StandsBy}
+use Rattle.rtcp_members.specs.Standing.{AllStandBy, IsUpTo, StandsBy}
 use Rattle.rtcp_members.proofs.Applying.{read_there, table_applied}
 use Rattle.rtcp_members.proofs.Rising.{rising_apart, rising_set}
 use Rattle.rtcp_members.proofs.BoundLemmas.{all_set, stands_after, stands_there}
@@ -31,15 +30,9 @@ module _ (ssrc : ℕ) (entries next : List Entry) (at : ℕ) (change : EntryValu
       (rising_set entries at place.entry made.entry rising place.stands (made.ssrc place.entry
       ∙ ap (λ (e : Entry). e.ssrc) (read_there ssrc entries at place.entry place)))
 
-  pub sorted_edited : (capacity members senders : ℕ) (counts : Counts) → IsSortedTable capacity members senders entries
-      → AreCounts counts next → IsSortedTable capacity counts.members counts.senders next
-  sorted_edited capacity members senders counts sorted counted = record {
-    ordered = record {
-      rising = still_rising sorted.ordered.rising;
-      its_members = counted.members;
-      its_senders =
-          counted.senders;
-    };
+  pub sorted_edited : (capacity : ℕ) → IsSortedTable capacity entries → IsSortedTable capacity next
+  sorted_edited capacity sorted = record {
+    rising = still_rising sorted.rising;
     within = omega (arith, as_many, sorted.within);
     room = sorted.room;
   }

@@ -10,7 +10,7 @@ use Rattle.std.proofs.lemmas.Bool.Decides.{nat_tests}
 use Rattle.rtcp_members.specs.declared.entry.Entry.{Entry}
 use Rattle.rtcp_members.specs.Tables.{TableValue}
 use Rattle.rtcp_members.specs.ListViews.{entry_value, row_of, rows_of, map_of, table_of, tally_of, IsRankOf}
-use Rattle.rtcp_members.specs.SortedViews.{IsRising, IsGapFor}
+use Rattle.rtcp_members.specs.SortedViews.{CutsAbove, IsRising, IsGapFor}
 use Rattle.rtcp_members.specs.Pending.{EntryRow, due_rows, in_turn, first_ssrc, is_above, is_due, pending}
 use Rattle.rtcp_members.proofs.Listing.{get_rows}
 use Rattle.rtcp_members.proofs.LeastDue.{filter_twice, none_first, some_first}
@@ -48,26 +48,28 @@ no_more y a le = grind (arith, nat_tests)
 more : (y a : ℕ) → a < y → nat_lt a y ≡ true
 more y a lt = grind (arith, nat_tests)
 
+cut_above : (last : Option ℕ) (entries : List Entry) (n : ℕ) → n ≤ length entries →
+    ((k : ℕ) (d : Entry) → k < n → is_above last (row_of (slice_index_or entries k d)) ≡ false)
+    → ((k : ℕ) (d : Entry) → n ≤ k → k < length entries → is_above last (row_of (slice_index_or entries k d)) ≡ true)
+    → CutsAbove last entries n
+cut_above last entries n bound before from =
+    let cut = cut_at (is_above last) entries n (λ k d less within. before k d less) from in
+    record { bound = bound; rest = cut.0; before = cut.1 }
+
 -- The rows above a source without an entry begin where that would stand.
-pub cut_gap : (entries : List Entry) (a n : ℕ) (above : Option ℕ) → above ≡ Some a → IsGapFor a entries n
-    → (filter (is_above above) (rows_of entries) ≡ rows_of (drop n entries))
-    × (filter (λ (row : EntryRow). not (is_above above row)) (rows_of entries) ≡ rows_of (take n entries))
+pub cut_gap : (entries : List Entry) (a n : ℕ) (above : Option ℕ) → above ≡ Some a → IsGapFor a entries n →
+    CutsAbove above entries n
 cut_gap entries a n above is gap =
-    subst (λ o. (filter (is_above o) (rows_of entries) ≡ rows_of (drop n entries))
-    × (filter (λ (row : EntryRow). not (is_above o row)) (rows_of entries) ≡ rows_of (take n entries))) (sym is)
-    (cut_at (is_above (Some a)) entries n (λ k d before within. no_more _ a (omega (arith, gap.lesser k d before)))
+    subst (λ o. CutsAbove o entries n) (sym is)
+    (cut_above (Some a) entries n gap.in_range (λ k d before. no_more _ a (omega (arith, gap.lesser k d before)))
     (λ k d from within. more _ a (gap.greater k d from within)))
 
 -- The rows above a source begin after its entry.
 pub cut_after : (entries : List Entry) (a at : ℕ) (above : Option ℕ) → above ≡ Some a → IsRising entries →
-    IsRankOf a entries at
-    → (filter (is_above above) (rows_of entries) ≡ rows_of (drop (at + 1) entries))
-    × (filter (λ (row : EntryRow). not (is_above above row)) (rows_of entries) ≡ rows_of (take (at + 1) entries))
+    IsRankOf a entries at → CutsAbove above entries (at + 1)
 cut_after entries a at above is rising place =
-    subst (λ o. (filter (is_above o) (rows_of entries) ≡ rows_of (drop (at + 1) entries))
-    × (filter (λ (row : EntryRow). not (is_above o row)) (rows_of entries) ≡ rows_of (take (at + 1) entries)))
-    (sym is)
-    (cut_at (is_above (Some a)) entries (at + 1) (λ k d before within. no_more _ a (up_to k d before))
+    subst (λ o. CutsAbove o entries (at + 1)) (sym is)
+    (cut_above (Some a) entries (at + 1) (omega (arith, stands_within)) (λ k d before. no_more _ a (up_to k d before))
     (λ k d from within. more _ a (from_then k d from within)))
   where
     here : (d : Entry) → (slice_index_or entries at d).ssrc ≡ a
@@ -87,13 +89,10 @@ cut_after entries a at above is rising place =
     from_then : (k : ℕ) (d : Entry) → at + 1 ≤ k → k < length entries → a < (slice_index_or entries k d).ssrc
     from_then k d from within = omega (arith, rises entries rising at k d (omega arith) within, here d)
 
-pub cut_nowhere : (entries : List Entry) (above : Option ℕ) → above ≡ None
-    → (filter (is_above above) (rows_of entries) ≡ rows_of entries)
-    × (filter (λ (row : EntryRow). not (is_above above row)) (rows_of entries) ≡ [])
+pub cut_nowhere : (entries : List Entry) (above : Option ℕ) → above ≡ None → CutsAbove above entries 0
 cut_nowhere entries above is =
-    subst (λ o. (filter (is_above o) (rows_of entries) ≡ rows_of entries)
-    × (filter (λ (row : EntryRow). not (is_above o row)) (rows_of entries) ≡ [])) (sym is)
-    (cut_at (is_above None) entries 0 (λ k d before within. absurd (omega arith)) (λ k d from within. refl))
+    subst (λ o. CutsAbove o entries 0) (sym is)
+    (cut_above None entries 0 (omega arith) (λ k d before. absurd (omega arith)) (λ k d from within. refl))
 
 -- ---- In turn
 
@@ -141,17 +140,14 @@ first_of_both xs ys (Some ssrc) is = sym (some_first xs ys ssrc is)
 first_of_both xs ys None is = ap (λ rows. first_ssrc (rows ++ ys)) (sym (none_first xs (sym is)))
 
 module _ (last : Option ℕ) (capacity rate : ℕ) (entries : List Entry) (n : ℕ) (table : TableValue)
-    (is : table_of capacity rate entries ≡ table) (rising : IsRising entries)
-    (rest : filter (is_above last) (rows_of entries) ≡ rows_of (drop n entries))
-    (before : filter (λ (row : EntryRow). not (is_above last row)) (rows_of entries) ≡ rows_of
-    (take n entries)) where
+    (is : table_of capacity rate entries ≡ table) (rising : IsRising entries) (cut : CutsAbove last entries n) where
   abbrev due_of : List Entry → List EntryRow
   due_of xs = filter (λ (row : EntryRow). is_due row.1) (rows_of xs)
 
   pending_in : due_of (drop n entries) ++ due_of (take n entries) ≡ pending last table
   pending_in =
       let due = λ (row : EntryRow). is_due row.1 in
-      (λ i. filter due (sym rest i) ++ filter due (sym before i))
+      (λ i. filter due (sym cut.rest i) ++ filter due (sym cut.before i))
       ∙ (λ i. filter_in_turn (is_above last) due (rows_of entries) i ++ filter_in_turn
       (λ (row : EntryRow). not (is_above last row)) due (rows_of entries) i)
       ∙ ap (λ rows. filter (is_above last) (filter due rows) ++ filter (λ (row : EntryRow). not (is_above last row))

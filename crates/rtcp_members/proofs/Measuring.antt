@@ -1,5 +1,5 @@
 -- One entry more is counted and covered.
-use Rattle.std.proofs.Common.{◌≡◌, ◌≤◌, ◌+◌, ◌++◌, Bool, List, [], ◌∷◌, length, filter, arith, ap, ◌∙◌}
+use Rattle.std.proofs.Common.{◌≡◌, ◌+◌, ◌++◌, Bool, List, [], ◌∷◌, length, filter, arith, ap, ◌∙◌}
 use Rattle.std.proofs.lemmas.List.{length-append}
 use Rattle.std.proofs.lemmas.List.Elements.{filter-append, All-append, All-cons, All-nil}
 use Rattle.rtcp_members.specs.declared.bounds.Bounds.{Bounds}
@@ -8,7 +8,7 @@ use Rattle.rtcp_members.specs.declared.entry.Entry.{Entry}
 use Rattle.rtcp_members.specs.Entries.{EntryValue, is_member, is_sender}
 use Rattle.rtcp_members.specs.Pending.{is_due}
 use Rattle.rtcp_members.specs.ListViews.{entry_value, tally_of, weight_of}
-use Rattle.rtcp_members.specs.Standing.{StandsBy, AllStandBy, IsNoLater}
+use Rattle.rtcp_members.specs.Standing.{StandsBy, AllStandBy, IsNoLater, AreRecounted, IsAmong, IsOneMore}
 use Rattle.rtcp_members.proofs.BoundLemmas.{all_lower, stands}
 use Rattle.rtcp_members.proofs.Tallies.{one_more}
 
@@ -35,34 +35,29 @@ pub record AreShared (counts : Counts) (front back : List Entry) : Type 0 where
   pub due : counts.due ≡ tally_of is_due front + tally_of is_due back
 
 pub share_dropped : (counts next : Counts) (front back : List Entry) (e : Entry) → AreShared counts front (e ∷ back)
-    → counts.members ≡ weight_of is_member e + next.members → counts.senders ≡ weight_of is_sender e + next.senders →
-    counts.due ≡ weight_of is_due e + next.due → AreShared next front back
-share_dropped counts next front back e so members senders due =
+    → IsOneMore e next counts → AreShared next front back
+share_dropped counts next front back e so fewer =
     record {
-      members = omega (arith, members, so.members, one_more is_member e back);
-      senders = omega (arith, senders, so.senders, one_more is_sender e back);
-      due = omega (arith, due, so.due, one_more is_due e back);
+      members = omega (arith, fewer.members, so.members, one_more is_member e back);
+      senders = omega (arith, fewer.senders, so.senders, one_more is_sender e back);
+      due = omega (arith, fewer.due, so.due, one_more is_due e back);
     }
 
 pub share_kept : (counts next : Counts) (front back : List Entry) (e changed : Entry) →
     AreShared counts front (e ∷ back)
-    → next.members + weight_of is_member e ≡ counts.members + weight_of is_member changed →
-    next.senders + weight_of is_sender e ≡ counts.senders + weight_of is_sender changed
-    → next.due + weight_of is_due e ≡ counts.due + weight_of is_due changed →
-    AreShared next (front ++ changed ∷ []) back
-share_kept counts next front back e changed so members senders due =
+    → AreRecounted e changed counts next → AreShared next (front ++ changed ∷ []) back
+share_kept counts next front back e changed so made =
     record {
-      members = omega (arith, members, so.members, one_more is_member e back, tally_push is_member front changed);
-      senders = omega (arith, senders, so.senders, one_more is_sender e back, tally_push is_sender front changed);
-      due = omega (arith, due, so.due, one_more is_due e back, tally_push is_due front changed);
+      members = omega (arith, made.members, so.members, one_more is_member e back, tally_push is_member front changed);
+      senders = omega (arith, made.senders, so.senders, one_more is_sender e back, tally_push is_sender front changed);
+      due = omega (arith, made.due, so.due, one_more is_due e back, tally_push is_due front changed);
     }
 
 -- One that is left is counted.
 pub share_has : (counts : Counts) (front back : List Entry) (e : Entry) → AreShared counts front (e ∷ back) →
-    (weight_of is_member e ≤ counts.members) × (weight_of is_sender e ≤ counts.senders)
-    × (weight_of is_due e ≤ counts.due)
-share_has counts front back e so = (
-  omega (arith, so.members, one_more is_member e back),
-  omega (arith, so.senders, one_more is_sender e back),
-  omega (arith, so.due, one_more is_due e back),
-)
+    IsAmong e counts
+share_has counts front back e so = record {
+  members = omega (arith, so.members, one_more is_member e back);
+  senders = omega (arith, so.senders, one_more is_sender e back);
+  due = omega (arith, so.due, one_more is_due e back);
+}

@@ -18,7 +18,7 @@ use Rattle.rtcp_members.specs.declared.counts.Counts.{Counts}
 use Rattle.rtcp_members.specs.Entries.{EntryValue, is_member, is_sender}
 use Rattle.rtcp_members.specs.ListViews.{entry_value, tally_of, weight_of}
 use Rattle.rtcp_members.specs.Pending.{is_due}
-use Rattle.rtcp_members.specs.Standing.{AreCounts}
+use Rattle.rtcp_members.specs.Standing.{AreCounts, AreRecounted, IsAmong}
 use Rattle.rtcp_members.proofs.Weights.{tally_at_most, tally_set, weight_within}
 use Rattle.rtcp_members.specs.Shelves.{IsChanged}
 use Rattle.rtcp_members.specs.SortedViews.{IsRising}
@@ -217,8 +217,15 @@ module _ {cells : List Cell} {used at : ℕ} {slot : Slot} {cell : Cell} (so : I
   got = slice_get_read (in_order cells used) (length (in_order cells used)) at cell.entry refl stands
       (read_ranked cell.entry)
 
-  pub counted_within : (test : EntryValue → Bool) → weight_of test cell.entry ≤ tally_of test (in_order cells used)
+  counted_within : (test : EntryValue → Bool) → weight_of test cell.entry ≤ tally_of test (in_order cells used)
   counted_within test = weight_within test (in_order cells used) at cell.entry got
+
+  pub among_ranked : (counts : Counts) → AreCounts counts (in_order cells used) → IsAmong cell.entry counts
+  among_ranked counts counted = record {
+    members = omega (arith, counted_within is_member, counted.members);
+    senders = omega (arith, counted_within is_sender, counted.senders);
+    due = omega (arith, counted_within is_due, counted.due);
+  }
 
   pub few_counted : (test : EntryValue → Bool) → tally_of test (in_order cells used) ≤ 1024
   few_counted test = omega (
@@ -296,15 +303,12 @@ module _ {cells : List Cell} {used at : ℕ} {slot : Slot} {cell : Cell} (so : I
         )
 
     pub recounted_ranked : (counts next : Counts) → AreCounts counts (in_order cells used)
-        → next.members + weight_of is_member cell.entry ≡ counts.members + weight_of is_member e
-        → next.senders + weight_of is_sender cell.entry ≡ counts.senders + weight_of is_sender e
-        → next.due + weight_of is_due cell.entry ≡ counts.due + weight_of is_due e
-        → AreCounts next (in_order after used)
-    recounted_ranked counts next so members senders due =
+        → AreRecounted cell.entry e counts next → AreCounts next (in_order after used)
+    recounted_ranked counts next so made =
         record {
-          members = one_recounted is_member counts.members next.members so.members members;
-          senders = one_recounted is_sender counts.senders next.senders so.senders senders;
-          due = one_recounted is_due counts.due next.due so.due due;
+          members = one_recounted is_member counts.members next.members so.members made.members;
+          senders = one_recounted is_sender counts.senders next.senders so.senders made.senders;
+          due = one_recounted is_due counts.due next.due so.due made.due;
         }
 
 -- ---- The ranks of cells

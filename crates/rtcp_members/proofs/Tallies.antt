@@ -2,14 +2,13 @@
 use Rattle.std.proofs.Common.{◌≡◌, ◌≤◌, ◌+◌, ◌-◌, ℕ, Bool, true, false, cond, not, ◌&&◌, List, [], ◌∷◌, length, filter, if◌then◌else◌, is_none, take, arith, refl, sym, ap, ◌∙◌}
 use Rattle.std.proofs.lemmas.List.{length-map, length-take-le}
 use Rattle.std.proofs.lemmas.List.Filters.{length-filter_both}
-use Rattle.std.specs.List.{retain_mut}
 use Rattle.std.specs.FinMap as finite
 use Rattle.rtcp_members.specs.declared.entry.Entry.{Entry}
 use Rattle.rtcp_members.specs.Traces.{Horizons}
 use Rattle.rtcp_members.specs.Stays.{is_before}
 use Rattle.rtcp_members.specs.Entries.{EntryValue, is_sender}
 use Rattle.rtcp_members.specs.Tables.{TableValue, IsApart, count_in, after_check, dropped_entries, dropped_senders, senders_in}
-use Rattle.rtcp_members.specs.ListViews.{entry_value, mark_in, sending_in, row_of, rows_of, map_of, table_of, tally_of, lapsed, outlasts, IsListed}
+use Rattle.rtcp_members.specs.ListViews.{entry_value, mark_in, sending_in, row_of, rows_of, table_of, tally_of, lapsed, outlasts, checked, IsListed}
 use Rattle.rtcp_members.proofs.Listing.{passing_rows, len_rows}
 use Rattle.rtcp_members.proofs.Changing.{map_checked, apart_checked}
 
@@ -60,10 +59,10 @@ lapsed_weight idle e =
     ]
 
 fewer_senders : (horizons : Horizons) (entries : List Entry) →
-    tally_of is_sender (retain_mut (outlasts horizons) (lapsed horizons.idle) entries) ≤ tally_of is_sender entries
+    tally_of is_sender (checked horizons entries) ≤ tally_of is_sender entries
 fewer_senders horizons [] = omega arith
 fewer_senders horizons (e ∷ entries) =
-    let rest : List Entry = retain_mut (outlasts horizons) (lapsed horizons.idle) entries in
+    let rest : List Entry = checked horizons entries in
     elim (outlasts horizons e) as (λ stays. tally_of is_sender (cond stays (lapsed horizons.idle e ∷ rest) rest)
     ≤ tally_of is_sender (e ∷ entries)) [
       | true ↦ omega (
@@ -77,61 +76,63 @@ fewer_senders horizons (e ∷ entries) =
     ]
 
 fewer : (horizons : Horizons) (entries : List Entry) →
-    length (retain_mut (outlasts horizons) (lapsed horizons.idle) entries) ≤ length entries
+    length (checked horizons entries) ≤ length entries
 fewer horizons [] = omega arith
 fewer horizons (e ∷ entries) =
-    let rest : List Entry = retain_mut (outlasts horizons) (lapsed horizons.idle) entries in
+    let rest : List Entry = checked horizons entries in
     elim (outlasts horizons e) as (λ stays. length (cond stays (lapsed horizons.idle e ∷ rest) rest) ≤ length
     (e ∷ entries)) [
       | true ↦ omega (arith, fewer horizons entries)
       | false ↦ omega (arith, fewer horizons entries)
     ]
 
-pub fewer_checked : (horizons : Horizons) (entries next : List Entry) →
-    next ≡ retain_mut (outlasts horizons) (lapsed horizons.idle) entries → length next ≤ length entries
-fewer_checked horizons entries next is = rw is (fewer horizons entries)
+module _ (horizons : Horizons) (entries next : List Entry) (is : next ≡ checked horizons entries) where
+  pub fewer_checked : length next ≤ length entries
+  fewer_checked = rw is (fewer horizons entries)
 
-pub fewer_senders_checked : (horizons : Horizons) (entries next : List Entry) →
-    next ≡ retain_mut (outlasts horizons) (lapsed horizons.idle) entries →
-    tally_of is_sender next ≤ tally_of is_sender entries
-fewer_senders_checked horizons entries next is = rw is (fewer_senders horizons entries)
+  pub fewer_senders_checked : tally_of is_sender next ≤ tally_of is_sender entries
+  fewer_senders_checked = rw is (fewer_senders horizons entries)
 
-pub listed_checked : (horizons : Horizons) (capacity : ℕ) (entries next : List Entry) →
-    next ≡ retain_mut (outlasts horizons) (lapsed horizons.idle) entries → IsListed capacity entries →
-    IsListed capacity next
-listed_checked horizons capacity entries next is listed =
-    record {
+  -- The same of a table over the list.
+  module _ (capacity rate : ℕ) (table : TableValue) (view : table_of capacity rate entries ≡ table)
+      (listed : IsListed capacity entries) where
+    pub listed_checked : IsListed capacity next
+    listed_checked = record {
       apart = rw is (apart_checked horizons entries listed.apart);
-      within = omega (arith, fewer_checked horizons entries next is, listed.within);
+      within = omega (arith, fewer_checked, listed.within);
       room = listed.room;
     }
 
-pub table_checked : (horizons : Horizons) (capacity rate : ℕ) (entries next : List Entry) →
-    next ≡ retain_mut (outlasts horizons) (lapsed horizons.idle) entries → IsApart (rows_of entries)
-    → table_of capacity rate next ≡ after_check horizons (table_of capacity rate entries)
-table_checked horizons capacity rate entries next is apart = ap (table_of capacity rate) is
-    ∙ ap (λ m. record (table_of capacity rate entries) { entries = m }) (map_checked horizons entries apart)
+    pub table_checked : table_of capacity rate next ≡ after_check horizons table
+    table_checked =
+        ap (table_of capacity rate) is
+        ∙ ap (λ m. record (table_of capacity rate entries) { entries = m }) (map_checked horizons entries listed.apart)
+        ∙ ap (after_check horizons) view
 
-pub dropped_checked : (horizons : Horizons) (capacity rate : ℕ) (entries next : List Entry) (before after : ℕ) →
-    next ≡ retain_mut (outlasts horizons) (lapsed horizons.idle) entries → IsListed capacity entries
-    → before ≡ length entries → after ≡ length next →
-    before - after ≡ dropped_entries horizons (table_of capacity rate entries)
-dropped_checked horizons capacity rate entries next before after is listed at_first at_last =
-    let len_before : finite.len (map_of entries) ≡ length entries = len_rows (rows_of entries) listed.apart
-    ∙ length-map entries row_of in
-    let len_after : finite.len (after_check horizons (table_of capacity rate entries)).entries ≡ length next =
-    ap (λ (t : TableValue). finite.len t.entries)
-    (sym (table_checked horizons capacity rate entries next is listed.apart))
-    ∙ len_rows (rows_of next) (listed_checked horizons capacity entries next is listed).apart
-    ∙ length-map next row_of in
-    omega (arith, at_first, at_last, len_before, len_after)
+    len_of : (xs : List Entry) (t : TableValue) → table_of capacity rate xs ≡ t → IsApart (rows_of xs) →
+        length xs ≡ finite.len t.entries
+    len_of xs t same apart = sym (length-map xs row_of) ∙ sym (len_rows (rows_of xs) apart)
+        ∙ ap (λ (t : TableValue). finite.len t.entries) same
 
-pub senders_checked : (horizons : Horizons) (capacity rate : ℕ) (entries next : List Entry) (before after : ℕ) →
-    next ≡ retain_mut (outlasts horizons) (lapsed horizons.idle) entries → IsListed capacity entries
-    → before ≡ senders_in (table_of capacity rate entries) → after ≡ senders_in (table_of capacity rate next) →
-    before - after ≡ dropped_senders horizons (table_of capacity rate entries)
-senders_checked horizons capacity rate entries next before after is listed at_first at_last =
-    λ i. at_first i - (at_last ∙ ap senders_in (table_checked horizons capacity rate entries next is listed.apart)) i
+    pub dropped_checked : length entries - length next ≡ dropped_entries horizons table
+    dropped_checked = λ i. len_of entries table view listed.apart i - len_of next (after_check horizons table)
+        table_checked listed_checked.apart i
+
+    module _ (before after : ℕ) (at_first : before ≡ senders_in table)
+        (at_last : after ≡ senders_in (table_of capacity rate next)) where
+      pub senders_checked : before - after ≡ dropped_senders horizons table
+      senders_checked = λ i. at_first i - (at_last ∙ ap senders_in table_checked) i
+
+      pub fewer_senders_in : after ≤ before
+      fewer_senders_in = omega (
+        arith,
+        at_first,
+        at_last,
+        ap senders_in view,
+        counted_in is_sender capacity rate entries listed.apart,
+        counted_in is_sender capacity rate next listed_checked.apart,
+        fewer_senders_checked,
+      )
 
 -- ---- What a walk has counted
 
@@ -144,18 +145,4 @@ few_before test entries index within =
       length-take-le index entries within,
       length-filter_both (λ (e : Entry). test (entry_value e))
           (λ (e : Entry). not (test (entry_value e))) (λ e. refl) (take index entries),
-    )
-
-pub fewer_senders_in : (horizons : Horizons) (capacity rate : ℕ) (entries next : List Entry) (before after : ℕ) →
-    next ≡ retain_mut (outlasts horizons) (lapsed horizons.idle) entries → IsListed capacity entries
-    → before ≡ senders_in (table_of capacity rate entries) → after ≡ senders_in (table_of capacity rate next) →
-    after ≤ before
-fewer_senders_in horizons capacity rate entries next before after is listed at_first at_last =
-    omega (
-      arith,
-      at_first,
-      at_last,
-      counted_in is_sender capacity rate entries listed.apart,
-      counted_in is_sender capacity rate next (listed_checked horizons capacity entries next is listed).apart,
-      fewer_senders_checked horizons entries next is,
     )

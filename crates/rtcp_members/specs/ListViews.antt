@@ -1,5 +1,6 @@
 -- What the entries of a list say, in the values of the definitions.
 use Rattle.std.specs.Prelude.{ℕ, ◌≡◌, Bool, false, List, map, length, filter, not, ◌&&◌, ◌≤◌, if◌then◌else◌, Option, Some, None, is_none, slice_get, option_map}
+use Rattle.std.specs.List.{retain_mut}
 use Rattle.std.specs.FinMap as finite
 use Rattle.rtcp_source.specs.Views.{reception_value, told_value, last_block_value}
 use Rattle.rtcp_members.specs.declared.entry.Entry.{Entry}
@@ -65,6 +66,10 @@ lapsed idle e = if lapses idle e then record e { sends = false } else e
 
 abbrev pub outlasts : Horizons → Entry → Bool
 outlasts horizons e = not (is_removed horizons e.sighting (mark_in e))
+
+-- what a check leaves of entries
+abbrev pub checked : Horizons → List Entry → List Entry
+checked horizons = retain_mut (outlasts horizons) (lapsed horizons.idle)
 
 -- whether a check leaves an entry as it is
 abbrev pub is_left : Horizons → Entry → Bool

@@ -1,10 +1,19 @@
 -- Entries by rising SSRC on a shelf, and the cells in which they lie.
-use Rattle.std.specs.Prelude.{ℕ, Bool, ◌≡◌, ◌≤◌, List, set, slice_index_or, Option, refl}
+use Rattle.std.specs.Prelude.{ℕ, Bool, ◌≡◌, ◌≤◌, List, set, slice_index_or, Option, Some, refl}
 use Rattle.std.specs.Coded.{Coded, code_by, coded×, coded_ℕ, coded_bool, coded_list, coded_option}
 use Rattle.std.specs.Borrow.{Lends, Fml, RattleType, MutBor, Array}
+use Rattle.rtcp_wire.specs.declared.fact.Fact.{Fact}
+use Rattle.rtcp_wire.specs.Values.{ReportBlock}
+use Rattle.rtcp_wire.specs.Writing.{IsWritableBlock}
+use Rattle.rtcp_source.specs.Blocks.{block_for}
 use Rattle.rtcp_source.specs.Summary.{SourceValue}
 use Rattle.rtcp_members.specs.declared.cells.Cell.{Cell}
 use Rattle.rtcp_members.specs.declared.entry.Entry.{Entry}
+use Rattle.rtcp_members.specs.declared.counts.Counts.{Counts}
+use Rattle.rtcp_members.specs.declared.table.Applied.{Applied}
+use Rattle.rtcp_members.specs.Pending.{reported_entry}
+use Rattle.rtcp_members.specs.Standing.{AreCounts}
+use Rattle.rtcp_members.specs.Tables.{counted_of, entry_with_fact, place_of}
 use Rattle.rtcp_members.specs.contracts.cells.Cell.{the_row}
 use Rattle.rtcp_members.specs.Codes.{source_code}
 use Rattle.rtcp_members.specs.Entries.{EntryValue}
@@ -30,6 +39,22 @@ pub record IsChanged (change : EntryValue → EntryValue) (entries next : List E
   pub items : next ≡ set entries at entry
   pub ssrc : (d : Entry) → entry.ssrc ≡ (slice_index_or entries at d).ssrc
   pub value : (d : Entry) → entry_value entry ≡ change (entry_value (slice_index_or entries at d))
+
+-- What a fact makes of the entry of a rank, which is counted anew, and what is returned of it.
+pub record TakesFact (rate : ℕ) (fact : Fact) (moment : ℕ) (entries next : List Entry) (at : ℕ) (counts : Counts)
+    (applied : Applied) : Type 0 where
+  pub changed : IsChanged (entry_with_fact rate fact moment) entries next at
+  pub recounted : AreCounts counts next
+  pub place : (d : Entry) (room : Bool) →
+      applied.place ≡ place_of fact (Some (entry_value (slice_index_or entries at d))) room
+  pub counted : (d : Entry) → applied.counted ≡ counted_of fact (Some (entry_value (slice_index_or entries at d)))
+
+-- A block is made of the source of a rank.
+pub record MakesBlock (moment : ℕ) (entries next : List Entry) (at : ℕ) (value : ReportBlock) : Type 0 where
+  pub changed : IsChanged reported_entry entries next at
+  pub block : (d : Entry) →
+      Some value ≡ block_for (slice_index_or entries at d).ssrc moment (slice_index_or entries at d).source
+  pub writable : IsWritableBlock value
 
 -- once the borrow r ends, s has the cells that r shows last
 abbrev pub LendsCells : (S : RattleType) → MutBor S.Denot → MutBor (List Cell) →

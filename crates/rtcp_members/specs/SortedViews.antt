@@ -1,25 +1,18 @@
 -- Lists of entries by rising SSRC.
-use Rattle.std.specs.Prelude.{ℕ, ◌≡◌, ◌<◌, ◌≤◌, T, List, length, Result, Ok, Err, slice_index_or}
+use Rattle.std.specs.Prelude.{ℕ, ◌≡◌, ◌<◌, ◌≤◌, T, not, filter, take, drop, Option, List, length, Result, Ok, Err, slice_index_or}
 use Rattle.std.specs.Ordering.{nat_cmp}
 use Rattle.std.specs.FinMap as finite
 use Rattle.rtcp_members.specs.declared.entry.Entry.{Entry}
-use Rattle.rtcp_members.specs.Entries.{is_member, is_sender}
-use Rattle.rtcp_members.specs.ListViews.{rows_of, tally_of, IsRankOf}
+use Rattle.rtcp_members.specs.Pending.{is_above}
+use Rattle.rtcp_members.specs.ListViews.{rows_of, IsRankOf}
 
 -- The SSRCs strictly rise.
 abbrev pub IsRising : List Entry → Type 0
 IsRising entries = T (finite.is_sorted nat_cmp (rows_of entries))
 
--- What holds of a sorted list and its counts: the SSRCs rise, and as many members and senders are counted as
--- stand in the list.
-pub record IsOrdered (members senders : ℕ) (entries : List Entry) : Type 0 where
+-- What holds of a sorted table's list: the SSRCs rise, and it is no longer than the capacity, which it has room for.
+pub record IsSortedTable (capacity : ℕ) (entries : List Entry) : Type 0 where
   pub rising : IsRising entries
-  pub its_members : members ≡ tally_of is_member entries
-  pub its_senders : senders ≡ tally_of is_sender entries
-
--- What holds of a sorted table: its list is no longer than the capacity, which it has room for.
-pub record IsSortedTable (capacity members senders : ℕ) (entries : List Entry) : Type 0 where
-  pub ordered : IsOrdered members senders entries
   pub within : length entries ≤ capacity
   pub room : capacity ≤ 1024
 
@@ -28,6 +21,12 @@ pub record IsGapFor (ssrc : ℕ) (entries : List Entry) (at : ℕ) : Type 0 wher
   pub in_range : at ≤ length entries
   pub lesser : (i : ℕ) (d : Entry) → i < at → (slice_index_or entries i d).ssrc < ssrc
   pub greater : (i : ℕ) (d : Entry) → at ≤ i → i < length entries → ssrc < (slice_index_or entries i d).ssrc
+
+-- The rows of the entries before a rank are not above, and the others are.
+pub record CutsAbove (last : Option ℕ) (entries : List Entry) (rank : ℕ) : Type 0 where
+  pub bound : rank ≤ length entries
+  pub rest : filter (is_above last) (rows_of entries) ≡ rows_of (drop rank entries)
+  pub before : filter (λ row. not (is_above last row)) (rows_of entries) ≡ rows_of (take rank entries)
 
 -- What a search of a source comes to: its rank, or else the gap where it would stand.
 abbrev pub Locates : (ssrc : ℕ) → List Entry → Result ℕ ℕ → Type 0

@@ -1,5 +1,5 @@
 -- Up to which moments a check leaves entries as they are.
-use Rattle.std.specs.Prelude.{ℕ, ◌≡◌, ◌≤◌, true, List, All, Option, Some, None}
+use Rattle.std.specs.Prelude.{ℕ, ◌≡◌, ◌≤◌, ◌+◌, true, List, All, Option, Some, None}
 use Rattle.rtcp_wire.specs.declared.fact.Fact.{Fact}
 use Rattle.rtcp_wire.specs.declared.fact.Fact.TheVariants.{Heard, Told, Named, Gone, Media}
 use Rattle.rtcp_members.specs.declared.bounds.Bounds.{Bounds}
@@ -7,7 +7,8 @@ use Rattle.rtcp_members.specs.declared.counts.Counts.{Counts}
 use Rattle.rtcp_members.specs.declared.entry.Entry.{Entry}
 use Rattle.rtcp_members.specs.Entries.{EntryValue, is_member, is_sender}
 use Rattle.rtcp_members.specs.Pending.{is_due}
-use Rattle.rtcp_members.specs.ListViews.{entry_value, tally_of}
+use Rattle.rtcp_members.specs.ListViews.{entry_value, tally_of, weight_of}
+use Rattle.rtcp_members.specs.Traces.{Horizons}
 use Rattle.rtcp_members.specs.SortedViews.{IsSortedTable}
 
 -- The mark is no earlier than its bound, and without one the last counted packet.
@@ -37,12 +38,10 @@ pub record IsNoLater (one other : Bounds) : Type 0 where
   pub idle : one.idle ≤ other.idle
   pub gone : one.gone ≤ other.gone
 
--- What holds of a sorted table: its list and counts, the room that it has for its capacity, and its bounds.
-pub record IsKept (capacity room : ℕ) (counts : Counts) (bounds : Bounds) (entries : List Entry) : Type 0 where
-  pub sorted : IsSortedTable capacity counts.members counts.senders entries
-  pub its_due : counts.due ≡ tally_of is_due entries
-  pub roomy : capacity ≤ room
-  pub standing : AllStandBy bounds entries
+-- Bounds by which entries stand, and which these horizons do not pass.
+pub record RulesOut (horizons : Horizons) (entries : List Entry) (bounds : Bounds) : Type 0 where
+  pub stand : AllStandBy bounds entries
+  pub within : (horizons.silent ≤ bounds.silent) × (horizons.idle ≤ bounds.idle) × (horizons.gone ≤ bounds.gone)
 
 -- The counts of entries.
 pub record AreCounts (counts : Counts) (entries : List Entry) : Type 0 where
@@ -50,10 +49,35 @@ pub record AreCounts (counts : Counts) (entries : List Entry) : Type 0 where
   pub senders : counts.senders ≡ tally_of is_sender entries
   pub due : counts.due ≡ tally_of is_due entries
 
+-- An entry counts among these.
+pub record IsAmong (entry : Entry) (counts : Counts) : Type 0 where
+  pub members : weight_of is_member entry ≤ counts.members
+  pub senders : weight_of is_sender entry ≤ counts.senders
+  pub due : weight_of is_due entry ≤ counts.due
+
+-- Counts with one entry more.
+pub record IsOneMore (entry : Entry) (fewer more : Counts) : Type 0 where
+  pub members : more.members ≡ weight_of is_member entry + fewer.members
+  pub senders : more.senders ≡ weight_of is_sender entry + fewer.senders
+  pub due : more.due ≡ weight_of is_due entry + fewer.due
+
+-- Counts before and after an entry became another.
+pub record AreRecounted (entry changed : Entry) (counts next : Counts) : Type 0 where
+  pub members : next.members + weight_of is_member entry ≡ counts.members + weight_of is_member changed
+  pub senders : next.senders + weight_of is_sender entry ≡ counts.senders + weight_of is_sender changed
+  pub due : next.due + weight_of is_due entry ≡ counts.due + weight_of is_due changed
+
 -- Counts and bounds of entries.
 pub record IsMeasured (counts : Counts) (bounds : Bounds) (entries : List Entry) : Type 0 where
   pub counted : AreCounts counts entries
   pub stand : AllStandBy bounds entries
+
+-- What holds of a sorted table: its list and counts, the room that it has for its capacity, and its bounds.
+pub record IsKept (capacity room : ℕ) (counts : Counts) (bounds : Bounds) (entries : List Entry) : Type 0 where
+  pub sorted : IsSortedTable capacity entries
+  pub counted : AreCounts counts entries
+  pub roomy : capacity ≤ room
+  pub standing : AllStandBy bounds entries
 
 -- A fact that surely leaves an entry as it is counted: as a member, as a sender, and as one of which a block
 -- is due.

@@ -6,6 +6,7 @@ ghost use Rattle.rtcp_wire.specs.Facts.{is_media};
 ghost use Rattle.rtcp_members.specs.Entries.{is_member, is_sender};
 ghost use Rattle.rtcp_members.specs.Pending.{is_due};
 ghost use Rattle.rtcp_members.specs.ListViews.{entry_value, lapsed, tally_of, weight_of};
+ghost use Rattle.rtcp_members.specs.Standing.{AreRecounted, IsAmong, IsOneMore};
 ghost use Rattle.rtcp_members.specs.Tables.{IsFew, counted_of, entry_with_fact, place_of};
 
 use crate::entry::Entry;
@@ -40,9 +41,7 @@ impl Counts {
         requires members { self.old.members + 1 < 2 ^ 16 }
         requires senders { self.old.senders + 1 < 2 ^ 16 }
         requires due { self.old.due + 1 < 2 ^ 16 }
-        ensures members { self.new.members ≡ weight_of is_member entry.now + self.old.members }
-        ensures senders { self.new.senders ≡ weight_of is_sender entry.now + self.old.senders }
-        ensures due { self.new.due ≡ weight_of is_due entry.now + self.old.due }
+        ensures { IsOneMore entry.now self.old self.new }
     {
         self.add_roles(entry);
         self.due += u16::from(entry.is_due());
@@ -62,12 +61,8 @@ impl Counts {
 
     /// Counts an entry no more.
     pub(crate) fn remove(&mut self, entry: &Entry)
-        requires members { weight_of is_member entry.now ≤ self.old.members }
-        requires senders { weight_of is_sender entry.now ≤ self.old.senders }
-        requires due { weight_of is_due entry.now ≤ self.old.due }
-        ensures members { self.old.members ≡ weight_of is_member entry.now + self.new.members }
-        ensures senders { self.old.senders ≡ weight_of is_sender entry.now + self.new.senders }
-        ensures due { self.old.due ≡ weight_of is_due entry.now + self.new.due }
+        requires { IsAmong entry.now self.old }
+        ensures { IsOneMore entry.now self.new self.old }
     {
         self.members -= u16::from(entry.is_member());
         self.senders -= u16::from(entry.is_sender());
@@ -78,20 +73,13 @@ impl Counts {
     #[inline(always)]
     pub(crate) fn apply(&mut self, entry: &mut Entry, fact: Fact, t: u64, rate: u32) -> Applied
         requires few { IsTrue (is_media fact) → IsFew (entry_value entry.old) }
-        requires members { weight_of is_member entry.old ≤ self.old.members }
-        requires senders { weight_of is_sender entry.old ≤ self.old.senders }
-        requires due { weight_of is_due entry.old ≤ self.old.due }
+        requires among { IsAmong entry.old self.old }
         requires room { (self.old.members ≤ 1024) × (self.old.senders ≤ 1024) × (self.old.due ≤ 1024) }
         ensures place { (room : Bool) → result.place ≡ place_of fact (Some (entry_value entry.old)) room }
         ensures counted { result.counted ≡ counted_of fact (Some (entry_value entry.old)) }
         ensures ssrc { entry.new.ssrc ≡ entry.old.ssrc }
         ensures value { entry_value entry.new ≡ entry_with_fact rate fact t (entry_value entry.old) }
-        ensures members { self.new.members + weight_of is_member entry.old
-            ≡ self.old.members + weight_of is_member entry.new }
-        ensures senders { self.new.senders + weight_of is_sender entry.old
-            ≡ self.old.senders + weight_of is_sender entry.new }
-        ensures due { self.new.due + weight_of is_due entry.old
-            ≡ self.old.due + weight_of is_due entry.new }
+        ensures recounted { AreRecounted entry.old entry.new self.old self.new }
     {
         if entry.keeps_counts(fact) {
             return entry.apply(fact, t, rate);
@@ -106,12 +94,7 @@ impl Counts {
     pub(crate) fn lapse(&mut self, entry: &mut Entry, idle: u64)
         requires { weight_of is_sender entry.old ≤ self.old.senders }
         ensures entry { entry.new ≡ lapsed idle entry.old }
-        ensures members { self.new.members + weight_of is_member entry.old
-            ≡ self.old.members + weight_of is_member entry.new }
-        ensures senders { self.new.senders + weight_of is_sender entry.old
-            ≡ self.old.senders + weight_of is_sender entry.new }
-        ensures due { self.new.due + weight_of is_due entry.old
-            ≡ self.old.due + weight_of is_due entry.new }
+        ensures recounted { AreRecounted entry.old entry.new self.old self.new }
     {
         if !entry.is_idle(idle) {
             return;

@@ -2,10 +2,9 @@
 
 ghost use Rattle.std.specs.Prelude.{◌≡◌, ℕ, ◌<◌, ◌^◌, true, List, length, filter, IfSome, MatchOption, IsTrue, Some, None, option_map};
 ghost use Rattle.std.specs.FinMap as finite;
-ghost use Rattle.std.specs.List.{retain_mut};
 ghost use Rattle.rtcp_wire.specs.Facts.{subject, is_media};
 ghost use Rattle.rtcp_members.specs.Traces.{horizons_at};
-ghost use Rattle.rtcp_members.specs.ListViews.{entry_value, state_value, rows_of, map_of, table_of, tally_of, lapsed, outlasts, IsListed, IsRankOf};
+ghost use Rattle.rtcp_members.specs.ListViews.{entry_value, state_value, rows_of, map_of, table_of, tally_of, checked, IsListed, IsRankOf};
 ghost use Rattle.rtcp_wire.specs.Views.{block_value};
 ghost use Rattle.rtcp_wire.specs.Writing.{IsWritableBlock};
 ghost use Rattle.rtcp_members.specs.Entries.{is_member, is_sender, is_such};
@@ -165,8 +164,7 @@ fn admit(
 
 /// Drops the entries that do not outlast a check, and ends the sending of the idle ones.
 fn drop_silent(entries: &mut ArrayVec<Entry, MAX_CAPACITY>, silent: u64, idle: u64, gone: u64)
-    ensures { entries.new.items
-        ≡ retain_mut (outlasts (horizons_at silent idle gone)) (lapsed idle) entries.old.items }
+    ensures { entries.new.items ≡ checked (horizons_at silent idle gone) entries.old.items }
 {
     entries.retain(|entry| entry.check(silent, idle, gone));
 }

@@ -1,19 +1,17 @@
 //! Entries by rising SSRC, that stay where they are put, with an index of them.
 
-ghost use Rattle.std.specs.Prelude.{◌≡◌, ℕ, [], ◌<◌, ◌≤◌, ◌*◌, Bool, length, slice_index_or, IfSome, IsTrue, Some};
-ghost use Rattle.std.specs.List.{insert, retain_mut};
-ghost use Rattle.rtcp_source.specs.Blocks.{block_for};
+ghost use Rattle.std.specs.Prelude.{◌≡◌, ℕ, [], ◌<◌, ◌≤◌, ◌*◌, length, slice_index_or, IfSome, IsTrue};
+ghost use Rattle.std.specs.List.{insert};
 ghost use Rattle.rtcp_wire.specs.Facts.{is_media};
 ghost use Rattle.rtcp_wire.specs.Views.{block_value};
-ghost use Rattle.rtcp_wire.specs.Writing.{IsWritableBlock};
 ghost use Rattle.rtcp_members.specs.declared.entry.Entry.{Entry};
 ghost use Rattle.rtcp_members.specs.Heaps.{IsIndexed, IsHeap, IsPut, in_order, entries_in, slots_in, spared_slots};
-ghost use Rattle.rtcp_members.specs.ListViews.{entry_value, lapsed, outlasts, row_of, state_value, IsRankOf};
-ghost use Rattle.rtcp_members.specs.Pending.{is_due, reported_entry};
-ghost use Rattle.rtcp_members.specs.Shelves.{IsChanged};
+ghost use Rattle.rtcp_members.specs.ListViews.{checked, entry_value, row_of, state_value, IsRankOf};
+ghost use Rattle.rtcp_members.specs.Pending.{is_due};
+ghost use Rattle.rtcp_members.specs.Shelves.{MakesBlock, TakesFact};
 ghost use Rattle.rtcp_members.specs.SortedViews.{IsGapFor, Locates};
-ghost use Rattle.rtcp_members.specs.Standing.{AllStandBy, AreCounts, IsMeasured};
-ghost use Rattle.rtcp_members.specs.Tables.{IsFew, counted_of, entry_with_fact, place_of};
+ghost use Rattle.rtcp_members.specs.Standing.{AreCounts, IsMeasured, RulesOut};
+ghost use Rattle.rtcp_members.specs.Tables.{IsFew};
 ghost use Rattle.rtcp_members.specs.Told.{state_of};
 ghost use Rattle.rtcp_members.specs.Traces.{horizons_at};
 
@@ -100,7 +98,8 @@ impl<B: Blocks> Shelf<B> {
         find(self.cells.as_slice(), self.used, ssrc)
     }
 
-    /// What `find` returns, where a walk from the rank `from` soon comes to it.
+    /// What `find` returns, where a walk from the rank `from` soon comes to it. No clause says where: a walk that
+    /// gives up costs time alone, as `find` is asked then.
     #[inline(always)]
     pub(crate) fn walk_to(&self, ssrc: u32, from: usize) -> Option<Result<usize, usize>>
         ensures { IfSome result (Locates ssrc self.now.items) }
@@ -140,12 +139,7 @@ impl<B: Blocks> Shelf<B> {
         requires counted { AreCounts counts.old self.old.items }
         requires few { (d : Entry) → IsTrue (is_media fact) →
             IsFew (entry_value (slice_index_or self.old.items at d)) }
-        ensures changed { IsChanged (entry_with_fact rate fact t) self.old.items self.new.items at }
-        ensures recounted { AreCounts counts.new self.new.items }
-        ensures place { (d : Entry) (room : Bool) →
-            result.place ≡ place_of fact (Some (entry_value (slice_index_or self.old.items at d))) room }
-        ensures counted { (d : Entry) →
-            result.counted ≡ counted_of fact (Some (entry_value (slice_index_or self.old.items at d))) }
+        ensures taken { TakesFact rate fact t self.old.items self.new.items at counts.new result }
         ensures room { self.new.room ≡ self.old.room }
         ensures in_place { self.new.block ≡ self.old.block }
     {
@@ -157,10 +151,7 @@ impl<B: Blocks> Shelf<B> {
     pub(crate) fn report(&mut self, at: usize, t: u64) -> Block
         requires stands { at < length self.old.items }
         requires due { (d : Entry) → IsTrue (is_due (entry_value (slice_index_or self.old.items at d))) }
-        ensures changed { IsChanged reported_entry self.old.items self.new.items at }
-        ensures block { (d : Entry) → Some (block_value result)
-            ≡ block_for (slice_index_or self.old.items at d).ssrc t (slice_index_or self.old.items at d).source }
-        ensures writable { IsWritableBlock (block_value result) }
+        ensures made { MakesBlock t self.old.items self.new.items at (block_value result) }
         ensures room { self.new.room ≡ self.old.room }
         ensures in_place { self.new.block ≡ self.old.block }
     {
@@ -187,9 +178,7 @@ impl<B: Blocks> Shelf<B> {
     /// Bounds of the entries which these horizons do not pass, if it finds such: then the check leaves each entry as
     /// it is.
     pub(crate) fn bounds_if_left(&self, silent: u64, idle: u64, gone: u64) -> Option<Bounds>
-        ensures stand { IfSome result (λ bounds. AllStandBy bounds self.now.items) }
-        ensures within { IfSome result (λ bounds.
-            (silent ≤ bounds.silent) × (idle ≤ bounds.idle) × (gone ≤ bounds.gone)) }
+        ensures { IfSome result (RulesOut (horizons_at silent idle gone) self.now.items) }
     {
         bounds_if_left(self.cells.as_slice(), self.used, silent, idle, gone)
     }
@@ -204,8 +193,7 @@ impl<B: Blocks> Shelf<B> {
         gone: u64,
     ) -> (Counts, Bounds)
         requires { AreCounts counts self.old.items }
-        ensures items { self.new.items
-            ≡ retain_mut (outlasts (horizons_at silent idle gone)) (lapsed idle) self.old.items }
+        ensures items { self.new.items ≡ checked (horizons_at silent idle gone) self.old.items }
         ensures room { self.new.room ≡ self.old.room }
         ensures in_place { self.new.block ≡ self.old.block }
         ensures measured { IsMeasured result.0 result.1 self.new.items }
@@ -264,12 +252,7 @@ fn apply_at(
         IsFew (entry_value (slice_index_or (in_order cells.old used) at d)) }
     ensures indexed { IsIndexed cells.new used }
     ensures as_many { length cells.new ≡ length cells.old }
-    ensures changed { IsChanged (entry_with_fact rate fact t) (in_order cells.old used) (in_order cells.new used) at }
-    ensures recounted { AreCounts counts.new (in_order cells.new used) }
-    ensures place { (d : Entry) (room : Bool) →
-        result.place ≡ place_of fact (Some (entry_value (slice_index_or (in_order cells.old used) at d))) room }
-    ensures counted { (d : Entry) →
-        result.counted ≡ counted_of fact (Some (entry_value (slice_index_or (in_order cells.old used) at d))) }
+    ensures taken { TakesFact rate fact t (in_order cells.old used) (in_order cells.new used) at counts.new result }
 {
     let place = slot_at(cells, at).place;
     let cell = &mut cells[place as usize];
@@ -283,11 +266,7 @@ fn report_at(cells: &mut [Cell], used: usize, at: usize, t: u64) -> Block
     requires due { (d : Entry) → IsTrue (is_due (entry_value (slice_index_or (in_order cells.old used) at d))) }
     ensures indexed { IsIndexed cells.new used }
     ensures as_many { length cells.new ≡ length cells.old }
-    ensures changed { IsChanged reported_entry (in_order cells.old used) (in_order cells.new used) at }
-    ensures block { (d : Entry) → Some (block_value result)
-        ≡ block_for (slice_index_or (in_order cells.old used) at d).ssrc t
-        (slice_index_or (in_order cells.old used) at d).source }
-    ensures writable { IsWritableBlock (block_value result) }
+    ensures made { MakesBlock t (in_order cells.old used) (in_order cells.new used) at (block_value result) }
 {
     let place = slot_at(cells, at).place;
     let cell = &mut cells[place as usize];
@@ -298,9 +277,7 @@ fn report_at(cells: &mut [Cell], used: usize, at: usize, t: u64) -> Block
 // In order of memory, over free cells too: what is left in these keeps no check from being ruled out.
 fn bounds_if_left(cells: &[Cell], used: usize, silent: u64, idle: u64, gone: u64) -> Option<Bounds>
     requires { IsIndexed cells.now used }
-    ensures stand { IfSome result (λ bounds. AllStandBy bounds (in_order cells.now used)) }
-    ensures within { IfSome result (λ bounds.
-        (silent ≤ bounds.silent) × (idle ≤ bounds.idle) × (gone ≤ bounds.gone)) }
+    ensures { IfSome result (RulesOut (horizons_at silent idle gone) (in_order cells.now used)) }
 {
     let mut bounds = Bounds::none();
     'cells: for cell in cells {
@@ -329,8 +306,7 @@ fn drop_silent(
     requires counted { AreCounts counts (in_order cells.old used) }
     ensures indexed { IsIndexed cells.new result.0 }
     ensures as_many { length cells.new ≡ length cells.old }
-    ensures items { in_order cells.new result.0
-        ≡ retain_mut (outlasts (horizons_at silent idle gone)) (lapsed idle) (in_order cells.old used) }
+    ensures items { in_order cells.new result.0 ≡ checked (horizons_at silent idle gone) (in_order cells.old used) }
     ensures measured { IsMeasured result.1 result.2 (in_order cells.new result.0) }
 {
     let mut counts = counts;

@@ -5,9 +5,9 @@ ghost use Rattle.rtcp_wire.specs.Facts.{subject};
 ghost use Rattle.rtcp_members.specs.Traces.{horizons_at};
 ghost use Rattle.rtcp_members.specs.Told.{first_state};
 ghost use Rattle.rtcp_members.specs.ListViews.{state_value, rows_of, table_of, tally_of};
-ghost use Rattle.rtcp_members.specs.SortedViews.{IsRising, IsSortedTable, IsGapFor, Locates};
+ghost use Rattle.rtcp_members.specs.SortedViews.{CutsAbove, IsRising, IsSortedTable, IsGapFor, Locates};
 ghost use Rattle.rtcp_members.specs.declared.bounds.Bounds.{Bounds as BoundsOf};
-ghost use Rattle.rtcp_members.specs.Standing.{AllStandBy, IsUpTo};
+ghost use Rattle.rtcp_members.specs.Standing.{AllStandBy, AreCounts, IsUpTo};
 ghost use Rattle.rtcp_members.specs.Pending.{is_due, is_above, first_ssrc};
 ghost use Rattle.rtcp_members.specs.Tables.{no_members, placed, after_fact, after_check, dropped_entries, dropped_senders};
 
@@ -366,12 +366,12 @@ fn admit<B: Blocks>(
     t: u64,
     rate: u32,
 ) -> Place
-    requires sorted { IsSortedTable capacity counts.old.members counts.old.senders entries.old.items }
-    requires its_due { counts.old.due ≡ tally_of is_due entries.old.items }
+    requires sorted { IsSortedTable capacity entries.old.items }
+    requires counted { AreCounts counts.old entries.old.items }
     requires room { capacity ≤ entries.old.room }
     requires gap { IsGapFor (subject fact) entries.old.items gap }
-    ensures sorted { IsSortedTable capacity counts.new.members counts.new.senders entries.new.items }
-    ensures its_due { counts.new.due ≡ tally_of is_due entries.new.items }
+    ensures sorted { IsSortedTable capacity entries.new.items }
+    ensures counted { AreCounts counts.new entries.new.items }
     ensures room { capacity ≤ entries.new.room }
     ensures in_place { entries.new.block ≡ entries.old.block }
     ensures place { result ≡ placed (table_of capacity rate entries.old.items) fact }
@@ -403,10 +403,7 @@ fn first_above<B: Blocks>(
 ) -> usize
     requires rising { IsRising entries.now.items }
     requires few { length entries.now.items ≤ 1024 }
-    ensures bound { result ≤ length entries.now.items }
-    ensures rest { filter (is_above above) (rows_of entries.now.items) ≡ rows_of (drop result entries.now.items) }
-    ensures before { filter (λ row. not (is_above above row)) (rows_of entries.now.items)
-        ≡ rows_of (take result entries.now.items) }
+    ensures { CutsAbove above entries.now.items result }
 {
     let Some(above) = above else {
         return 0;

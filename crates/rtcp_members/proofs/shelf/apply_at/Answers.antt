@@ -6,7 +6,7 @@ use Rattle.rtcp_members.specs.Heaps.{no_entry}
 use Rattle.rtcp_members.specs.ListViews.{entry_value}
 use Rattle.rtcp_members.specs.Pending.{is_due}
 use Rattle.rtcp_members.specs.Tables.{IsFew, counted_of, entry_with_fact, place_of}
-use Rattle.rtcp_members.proofs.Ranked.{IsAtRank, at_rank, read_ranked, counted_within, few_counted, still_indexed, changed_ranked, recounted_ranked}
+use Rattle.rtcp_members.proofs.Ranked.{IsAtRank, at_rank, read_ranked, among_ranked, few_counted, still_indexed, changed_ranked, recounted_ranked}
 use Rattle.rtcp_members.proofs.shelf.apply_at.Goals as goal
 use Rattle.rtcp_members.proofs.shelf.apply_at.Goals.{After-index-cells-place}
 
@@ -18,15 +18,12 @@ seen c = at_rank c.args.cells.now c.args.used c.args.at c.slot_at-place.result c
 pub apply-requires : goal.apply-requires
 apply-requires c =
     let so = seen (goal.at.apply-requires c).After-index-cells-place in
-    let has = counted_within so in
     let most = few_counted so in
     let counted = c.requires.counted in
     record {
       few = λ is_media. subst (λ (e : Entry). IsFew (entry_value e)) (sym (read_ranked so no_entry))
           (c.requires.few no_entry is_media);
-      members = omega (arith, has is_member, counted.members);
-      senders = omega (arith, has is_sender, counted.senders);
-      due = omega (arith, has is_due, counted.due);
+      among = among_ranked so c.args.counts.now counted;
       room = (
         omega (arith, most is_member, counted.members),
         omega (arith, most is_sender, counted.senders),
@@ -39,25 +36,17 @@ returns-clause-indexed c =
     let so = seen (goal.at.returns-clause-indexed c).After-index-cells-place in
     still_indexed so c.apply.new.entry c.apply.ensures.ssrc c.requires.indexed.rising
 
-pub returns-clause-changed : goal.returns-clause-changed
-returns-clause-changed c =
-    let so = seen (goal.at.returns-clause-changed c).After-index-cells-place in
-    changed_ranked so c.apply.new.entry c.apply.ensures.ssrc (entry_with_fact c.args.rate c.args.fact c.args.t)
-    c.apply.ensures.value
-
-pub returns-clause-recounted : goal.returns-clause-recounted
-returns-clause-recounted c =
-    let so = seen (goal.at.returns-clause-recounted c).After-index-cells-place in
-    recounted_ranked so c.apply.new.entry c.apply.ensures.ssrc c.args.counts.now c.apply.new.self c.requires.counted
-    c.apply.ensures.members c.apply.ensures.senders c.apply.ensures.due
-
-pub returns-clause-place : goal.returns-clause-place
-returns-clause-place c =
-    let so = seen (goal.at.returns-clause-place c).After-index-cells-place in
-    λ d room. c.apply.ensures.place room ∙ ap (λ (e : Entry). place_of c.args.fact (Some (entry_value e)) room)
-    (read_ranked so d)
-
-pub returns-clause-counted : goal.returns-clause-counted
-returns-clause-counted c =
-    let so = seen (goal.at.returns-clause-counted c).After-index-cells-place in
-    λ d. c.apply.ensures.counted ∙ ap (λ (e : Entry). counted_of c.args.fact (Some (entry_value e))) (read_ranked so d)
+pub returns-clause-taken : goal.returns-clause-taken
+returns-clause-taken c =
+    let so = seen (goal.at.returns-clause-taken c).After-index-cells-place in
+    let made = c.apply.ensures in
+    record {
+      changed = changed_ranked so c.apply.new.entry made.ssrc (entry_with_fact c.args.rate c.args.fact c.args.t)
+          made.value;
+      recounted = recounted_ranked so c.apply.new.entry made.ssrc c.args.counts.now c.apply.new.self
+          c.requires.counted made.recounted;
+      place = λ d room. made.place room
+          ∙ ap (λ (e : Entry). place_of c.args.fact (Some (entry_value e)) room) (read_ranked so d);
+      counted = λ d. made.counted
+          ∙ ap (λ (e : Entry). counted_of c.args.fact (Some (entry_value e))) (read_ranked so d);
+    }

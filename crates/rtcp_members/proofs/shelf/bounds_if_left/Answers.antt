@@ -26,13 +26,16 @@ cells-preserved c =
     (arith, early, length-map cells (λ (x : Cell). x.entry))) c.cells.invariant
     (subst (λ (e : Entry). StandsBy bounds (entry_value e)) its c.cover.ensures.stands)
 
-pub returns-clause-stand : goal.returns-clause-stand
-returns-clause-stand c =
+pub returns : goal.returns
+returns c =
     let cells : List Cell = c.args.cells.now in
     let past : length (entries_in cells) ≤ c.cells.cell-index =
     omega (arith, c.cells-test.false, length-map cells (λ (x : Cell). x.entry)) in
     let all : AllStandBy c.cells.bounds (entries_in cells) = subst (AllStandBy c.cells.bounds)
     (take_all c.cells.cell-index (entries_in cells) past) c.cells.invariant in
-    all_picked c.cells.bounds (entries_in cells) (take c.args.used (slots_in cells)) (All-take (λ
-    (slot : Slot). slot.place < length (entries_in cells)) c.args.used
-    (slots_in cells) c.requires.heap.places.within) all
+    record {
+      stand = all_picked c.cells.bounds (entries_in cells) (take c.args.used (slots_in cells))
+          (All-take (λ (slot : Slot). slot.place < length (entries_in cells)) c.args.used (slots_in cells)
+          c.requires.heap.places.within) all;
+      within = c.reach.ensures c.if-not-reach.false;
+    }

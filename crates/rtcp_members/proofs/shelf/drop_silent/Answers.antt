@@ -21,14 +21,13 @@ pub remove-requires : goal.remove-requires
 remove-requires c =
     let so = c.ranks.invariant in
     let at = seen (goal.at.remove-requires c).After-index-cells-slot in
-    let has = left_is_counted so.dropping (stands at) (read_ranked at _) in
-    record { members = has.0; senders = has.1; due = has.2 }
+    left_is_counted so.dropping (stands at) (read_ranked at _)
 
 pub lapse-requires : goal.lapse-requires
 lapse-requires c =
     let so = c.ranks.invariant in
     let at = seen (goal.at.lapse-requires c).After-index-cells-slot in
-    (left_is_counted so.dropping (stands at) (read_ranked at _)).1
+    (left_is_counted so.dropping (stands at) (read_ranked at _)).senders
 
 pub ranks-preserved-then-not-stays : goal.ranks-preserved-then-not-stays
 ranks-preserved-then-not-stays c =
@@ -36,8 +35,7 @@ ranks-preserved-then-not-stays c =
     let at = seen (goal.at.ranks-preserved-then-not-stays c).After-index-cells-slot in
     let next : Entry = c.retire.new.self in
     let step = one_dropped so.dropping (stands at) (read_ranked at _) next c.remove.new.self
-    (sym c.stays.ensures ∙ c.if-not-stays.true)
-    c.remove.ensures.members c.remove.ensures.senders c.remove.ensures.due in
+    (sym c.stays.ensures ∙ c.if-not-stays.true) c.remove.ensures in
     record {
       heap = heap_written at next c.retire.ensures.ssrc;
       dropping = subst (λ xs. IsDropping (horizons_at c.args.silent c.args.idle c.args.gone)
@@ -64,8 +62,8 @@ ranks-preserved c =
           c.exchange.ensures.entries c.exchange.ensures.slots;
       dropping = one_kept so.dropping (stands at) (read_ranked at _) next
           (in_order c.exchange.new.cells c.args.used) items c.lapse.new.self c.cover.new.self
-          (sym c.stays.ensures ∙ c.if-not-stays.false) c.lapse.ensures.entry c.lapse.ensures.members
-          c.lapse.ensures.senders c.lapse.ensures.due c.cover.ensures.no_later c.cover.ensures.stands;
+          (sym c.stays.ensures ∙ c.if-not-stays.false) c.lapse.ensures.entry c.lapse.ensures.recounted
+          c.cover.ensures.no_later c.cover.ensures.stands;
       as_many = as_many _ c.exchange.new.cells c.exchange.ensures.entries ∙ length-set c.ranks.cells _ _ ∙ so.as_many;
     }
 

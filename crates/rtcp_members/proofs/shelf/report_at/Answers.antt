@@ -24,12 +24,12 @@ returns-clause-indexed c =
     let so = seen (goal.at.returns-clause-indexed c).After-index-cells-place in
     still_indexed so c.report.new.self c.report.ensures.ssrc c.requires.indexed.rising
 
-pub returns-clause-changed : goal.returns-clause-changed
-returns-clause-changed c =
-    let so = seen (goal.at.returns-clause-changed c).After-index-cells-place in
-    changed_ranked so c.report.new.self c.report.ensures.ssrc reported_entry c.report.ensures.value
-
-pub returns-clause-block : goal.returns-clause-block
-returns-clause-block c =
-    let so = seen (goal.at.returns-clause-block c).After-index-cells-place in
-    λ d. c.report.ensures.block ∙ ap (λ (e : Entry). block_for e.ssrc c.args.t e.source) (read_ranked so d)
+pub returns-clause-made : goal.returns-clause-made
+returns-clause-made c =
+    let so = seen (goal.at.returns-clause-made c).After-index-cells-place in
+    record {
+      changed = changed_ranked so c.report.new.self c.report.ensures.ssrc reported_entry c.report.ensures.value;
+      block = λ d. c.report.ensures.block
+          ∙ ap (λ (e : Entry). block_for e.ssrc c.args.t e.source) (read_ranked so d);
+      writable = c.report.ensures.writable;
+    }

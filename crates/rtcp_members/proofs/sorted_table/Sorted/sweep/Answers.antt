@@ -1,13 +1,9 @@
 -- A check that changes nothing leaves all but the bounds. Else what the list is after it, the table is, and the counts
--- are counted
--- anew.
-use Rattle.std.proofs.Common.{rules, ◌∙◌, ap, arith}
+-- are counted anew.
+use Rattle.std.proofs.Common.{◌-◌, ◌∙◌, arith}
 use Rattle.rtcp_members.specs.Traces.{horizons_at}
-use Rattle.rtcp_members.specs.Tables.{after_check}
-use Rattle.rtcp_members.proofs.Rising.{rising_apart}
-use Rattle.rtcp_members.proofs.Tallies.{fewer_checked, fewer_senders_checked, table_checked}
-use Rattle.rtcp_members.proofs.Checking.{none_dropped, no_sender_dropped, table_left, entries_dropped, senders_dropped, rising_checked, sorted_checked}
-use Rattle.rtcp_members.proofs.BoundLemmas.{all_left}
+use Rattle.rtcp_members.proofs.Tallies.{fewer_checked, fewer_senders_checked, table_checked, dropped_checked}
+use Rattle.rtcp_members.proofs.Checking.{listed_of, nothing_dropped, senders_dropped, sorted_checked}
 use Rattle.rtcp_members.proofs.sorted_table.Sorted.sweep.Goals as goal
 
 -- ---- Where each entry is left as it is
@@ -15,39 +11,16 @@ use Rattle.rtcp_members.proofs.sorted_table.Sorted.sweep.Goals as goal
 pub invariant_of-self : goal.invariant_of-self
 invariant_of-self g c =
     let so = c.self.invariant in
-    record { sorted = so.sorted; its_due = so.its_due; roomy = so.roomy; standing = c.in-Some.ensures.stand }
+    record { sorted = so.sorted; counted = so.counted; roomy = so.roomy; standing = c.in-Some.ensures.stand }
 
-pub returns-in-Some-clause-entries : goal.returns-in-Some-clause-entries
-returns-in-Some-clause-entries g c =
-    none_dropped (horizons_at c.args.silent c.args.idle c.args.gone) c.self.inside.capacity c.self.inside.rate
-    c.self.inside.counts.members c.self.inside.counts.senders c.self.inside.entries.items c.args.self.now
-    c.self.view_is c.self.invariant.sorted
-    (all_left c.in-Some.bounds c.args.silent c.args.idle c.args.gone c.in-Some.ensures.within
-    c.self.inside.entries.items c.in-Some.ensures.stand)
-
-pub returns-in-Some-clause-senders : goal.returns-in-Some-clause-senders
-returns-in-Some-clause-senders g c =
-    no_sender_dropped (horizons_at c.args.silent c.args.idle c.args.gone) c.self.inside.capacity c.self.inside.rate
-    c.self.inside.counts.members c.self.inside.counts.senders c.self.inside.entries.items c.args.self.now
-    c.self.view_is c.self.invariant.sorted
-    (all_left c.in-Some.bounds c.args.silent c.args.idle c.args.gone c.in-Some.ensures.within
-    c.self.inside.entries.items c.in-Some.ensures.stand)
-
-pub returns-in-Some-clause-content : goal.returns-in-Some-clause-content
-returns-in-Some-clause-content g c =
-    c.self.view_is
-    ∙ table_left (horizons_at c.args.silent c.args.idle c.args.gone) c.self.inside.capacity c.self.inside.rate
-    c.self.inside.counts.members c.self.inside.counts.senders c.self.inside.entries.items c.args.self.now
-    c.self.view_is c.self.invariant.sorted
-    (all_left c.in-Some.bounds c.args.silent c.args.idle c.args.gone c.in-Some.ensures.within
-    c.self.inside.entries.items c.in-Some.ensures.stand)
+pub returns-in-Some : goal.returns-in-Some
+returns-in-Some g c =
+    let none = nothing_dropped (horizons_at c.args.silent c.args.idle c.args.gone) c.self.inside.capacity
+    c.self.inside.rate c.self.inside.entries.items c.in-Some.bounds c.args.self.now c.self.view_is
+    c.self.invariant.sorted c.in-Some.ensures in
+    record { entries = none.0; senders = none.1; content = none.2 }
 
 -- ---- Where some entry changes
-
-pub drop_silent-requires : goal.drop_silent-requires
-drop_silent-requires g c =
-    let ordered = c.self.invariant.sorted.ordered in
-    record { members = ordered.its_members; senders = ordered.its_senders; due = c.self.invariant.its_due }
 
 pub overflow_sub-removed : goal.overflow_sub-removed
 overflow_sub-removed g c =
@@ -66,45 +39,33 @@ overflow_sub-ended g c =
       fewer_senders_checked (horizons_at c.args.silent c.args.idle c.args.gone) c.self.inside.entries.items
           c.drop_silent.new.self.items c.drop_silent.ensures.items,
       c.drop_silent.ensures.measured.counted.senders,
-      c.self.invariant.sorted.ordered.its_senders,
+      c.self.invariant.counted.senders,
     )
 
 pub invariant_of-self-2 : goal.invariant_of-self-2
 invariant_of-self-2 g c =
     record {
-      sorted = sorted_checked (horizons_at c.args.silent c.args.idle c.args.gone) c.self.inside.capacity
-          c.self.inside.counts.members c.self.inside.counts.senders c.drop_silent.result.0.members
-          c.drop_silent.result.0.senders
-          c.self.inside.entries.items c.drop_silent.new.self.items c.drop_silent.ensures.items c.self.invariant.sorted
-          c.drop_silent.ensures.measured.counted.members
-          c.drop_silent.ensures.measured.counted.senders;
-      its_due = c.drop_silent.ensures.measured.counted.due;
+      sorted = sorted_checked (horizons_at c.args.silent c.args.idle c.args.gone) c.self.inside.entries.items
+          c.drop_silent.new.self.items c.drop_silent.ensures.items c.self.inside.capacity c.self.invariant.sorted;
+      counted = c.drop_silent.ensures.measured.counted;
       roomy = omega (arith, c.self.invariant.roomy, c.drop_silent.ensures.room);
       standing = c.drop_silent.ensures.measured.stand;
     }
 
-pub returns-clause-entries : goal.returns-clause-entries
-returns-clause-entries g c =
-    entries_dropped (horizons_at c.args.silent c.args.idle c.args.gone) c.self.inside.capacity c.self.inside.rate
-    c.self.inside.counts.members c.self.inside.counts.senders c.self.inside.entries.items c.args.self.now
-    c.self.view_is c.self.invariant.sorted
-    c.drop_silent.new.self.items c.drop_silent.ensures.items c.len-entries.result c.len.result (search rules)
-    (search rules)
-
-pub returns-clause-senders : goal.returns-clause-senders
-returns-clause-senders g c =
-    c.from.ensures
-    ∙ senders_dropped (horizons_at c.args.silent c.args.idle c.args.gone) c.self.inside.capacity c.self.inside.rate
-    c.self.inside.counts.members c.self.inside.counts.senders c.self.inside.entries.items c.args.self.now
-    c.self.view_is c.self.invariant.sorted
-    c.drop_silent.new.self.items c.drop_silent.ensures.items c.drop_silent.result.0.senders
-    c.drop_silent.ensures.measured.counted.senders
-    (rising_checked (horizons_at c.args.silent c.args.idle c.args.gone) c.self.inside.entries.items
-    c.drop_silent.new.self.items c.drop_silent.ensures.items c.self.invariant.sorted.ordered.rising)
-
-pub returns-clause-content : goal.returns-clause-content
-returns-clause-content g c =
-    table_checked (horizons_at c.args.silent c.args.idle c.args.gone) c.self.inside.capacity c.self.inside.rate
-    c.self.inside.entries.items c.drop_silent.new.self.items c.drop_silent.ensures.items
-    (rising_apart c.self.inside.entries.items c.self.invariant.sorted.ordered.rising)
-    ∙ ap (after_check (horizons_at c.args.silent c.args.idle c.args.gone)) c.self.view_is
+pub returns : goal.returns
+returns g c =
+    let horizons = horizons_at c.args.silent c.args.idle c.args.gone in
+    let items = c.self.inside.entries.items in
+    let next = c.drop_silent.new.self.items in
+    let is = c.drop_silent.ensures.items in
+    let capacity = c.self.inside.capacity in
+    let so = c.self.invariant in
+    let listed = listed_of capacity items so.sorted in
+    record {
+      entries = (λ i. c.len-entries.ensures i - c.len.ensures i)
+          ∙ dropped_checked horizons items next is capacity c.self.inside.rate c.args.self.now c.self.view_is listed;
+      senders = c.from.ensures
+          ∙ senders_dropped horizons items next is capacity c.self.inside.rate c.args.self.now c.self.view_is so.sorted
+          c.self.inside.counts c.drop_silent.result.0 so.counted c.drop_silent.ensures.measured.counted;
+      content = table_checked horizons items next is capacity c.self.inside.rate c.args.self.now c.self.view_is listed;
+    }

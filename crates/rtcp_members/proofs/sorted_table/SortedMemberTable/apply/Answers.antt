@@ -14,18 +14,13 @@ use Rattle.rtcp_members.proofs.sorted_table.SortedMemberTable.apply.Goals as goa
 
 -- ---- Where the source has an entry
 
-pub apply-requires-clause-counted : goal.apply-requires-clause-counted
-apply-requires-clause-counted g c =
-    let ordered = c.self.invariant.sorted.ordered in
-    record { members = ordered.its_members; senders = ordered.its_senders; due = c.self.invariant.its_due }
-
 pub returns-in-Ok-clause-place : goal.returns-in-Ok-clause-place
 returns-in-Ok-clause-place g c =
     let items : List Entry = c.self.inside.entries.items in
     let place : IsRankOf (subject c.args.fact) items c.in-Ok.at = subst
     (λ ssrc. IsRankOf ssrc items c.in-Ok.at) c.ssrc-ssrc.ensures c.in-Ok.ensures in
     place_applied items c.in-Ok.at c.args.fact c.self.inside.rate no_entry c.apply.result.place place
-    (c.apply.ensures.place no_entry) c.self.inside.capacity ∙ ap (λ
+    (c.apply.ensures.taken.place no_entry) c.self.inside.capacity ∙ ap (λ
     (table : TableValue). placed table c.args.fact) c.self.view_is
 
 pub returns-in-Ok-clause-counted : goal.returns-in-Ok-clause-counted
@@ -34,7 +29,7 @@ returns-in-Ok-clause-counted g c =
     let place : IsRankOf (subject c.args.fact) items c.in-Ok.at = subst
     (λ ssrc. IsRankOf ssrc items c.in-Ok.at) c.ssrc-ssrc.ensures c.in-Ok.ensures in
     counted_applied items c.in-Ok.at c.args.fact c.self.inside.rate no_entry c.apply.result.counted place
-    (c.apply.ensures.counted no_entry) c.self.inside.capacity ∙ ap (λ
+    (c.apply.ensures.taken.counted no_entry) c.self.inside.capacity ∙ ap (λ
     (table : TableValue). counted table c.args.fact) c.self.view_is
 
 pub returns-in-Ok-clause-content : goal.returns-in-Ok-clause-content
@@ -43,7 +38,7 @@ returns-in-Ok-clause-content g c =
     let place : IsRankOf (subject c.args.fact) items c.in-Ok.at = subst
     (λ ssrc. IsRankOf ssrc items c.in-Ok.at) c.ssrc-ssrc.ensures c.in-Ok.ensures in
     table_edited c.args.fact c.args.t c.self.inside.rate items c.apply.new.self.items c.in-Ok.at place
-    c.apply.ensures.changed c.self.invariant.sorted.ordered.rising c.self.inside.capacity
+    c.apply.ensures.taken.changed c.self.invariant.sorted.rising c.self.inside.capacity
     ∙ ap (after_fact c.args.fact c.args.t) c.self.view_is
 
 pub invariant_of-self : goal.invariant_of-self
@@ -51,16 +46,15 @@ invariant_of-self g c =
     let items : List Entry = c.self.inside.entries.items in
     let place : IsRankOf (subject c.args.fact) items c.in-Ok.at = subst
     (λ ssrc. IsRankOf ssrc items c.in-Ok.at) c.ssrc-ssrc.ensures c.in-Ok.ensures in
-    let made = c.apply.ensures.changed in
+    let made = c.apply.ensures.taken.changed in
     let next : List Entry = c.apply.new.self.items in
     let stood = all_lower c.lower.new.self c.self.inside.bounds c.lower.ensures.no_later items
     c.self.invariant.standing in
     record {
       sorted = sorted_edited (subject c.args.fact) items next c.in-Ok.at
           (entry_with_fact c.self.inside.rate c.args.fact c.args.t) place made c.self.inside.capacity
-          c.self.inside.counts.members c.self.inside.counts.senders c.apply.new.counts c.self.invariant.sorted
-          c.apply.ensures.recounted;
-      its_due = c.apply.ensures.recounted.due;
+          c.self.invariant.sorted;
+      counted = c.apply.ensures.taken.recounted;
       roomy = omega (arith, c.self.invariant.roomy, c.apply.ensures.room);
       standing = stand_with_fact c.args.fact c.args.t c.self.inside.rate items next c.in-Ok.at place made
           c.lower.new.self c.lower.ensures.up_to stood;
@@ -80,9 +74,9 @@ invariant_of-self-in-Err g c =
     let stood = all_lower c.lower.new.self c.self.inside.bounds c.lower.ensures.no_later c.self.inside.entries.items
     c.self.invariant.standing in
     record {
-      sorted = subst (λ (n : ℕ). IsSortedTable n c.admit-place.new.counts.members c.admit-place.new.counts.senders
-          c.admit-place.new.entries.items) c.from-capacity.ensures c.admit-place.ensures.sorted;
-      its_due = c.admit-place.ensures.its_due;
+      sorted = subst (λ (n : ℕ). IsSortedTable n c.admit-place.new.entries.items) c.from-capacity.ensures
+          c.admit-place.ensures.sorted;
+      counted = c.admit-place.ensures.counted;
       roomy = omega (arith, c.from-capacity.ensures, c.admit-place.ensures.room);
       standing = c.admit-place.ensures.stand c.lower.new.self c.lower.ensures.up_to stood;
     }

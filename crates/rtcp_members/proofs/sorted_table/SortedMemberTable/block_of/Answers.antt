@@ -4,12 +4,12 @@ use Rattle.std.proofs.lemmas.Option.{slice_get_within}
 use Rattle.rtcp_wire.specs.Views.{block_value}
 use Rattle.rtcp_members.specs.declared.entry.Entry.{Entry}
 use Rattle.rtcp_members.specs.Heaps.{no_entry}
-use Rattle.rtcp_members.specs.ListViews.{table_of, tally_of, IsRankOf}
-use Rattle.rtcp_members.specs.Pending.{is_due, is_due_at, after_block, block_at, reported_entry}
-use Rattle.rtcp_members.specs.SortedViews.{IsOrdered, Locates}
+use Rattle.rtcp_members.specs.ListViews.{table_of, IsRankOf}
+use Rattle.rtcp_members.specs.Pending.{is_due_at, after_block, block_at, reported_entry}
+use Rattle.rtcp_members.specs.SortedViews.{Locates}
 use Rattle.rtcp_members.specs.Tables.{TableValue}
-use Rattle.rtcp_members.proofs.Edits.{as_many, stand_edited}
-use Rattle.rtcp_members.proofs.Placing.{due_counts, due_there, due_reported, ordered_reported}
+use Rattle.rtcp_members.proofs.Edits.{sorted_edited, stand_edited}
+use Rattle.rtcp_members.proofs.Placing.{due_counts, due_there, counts_reported}
 use Rattle.rtcp_members.proofs.Reporting.{block_reported, table_reported}
 use Rattle.rtcp_members.proofs.Rising.{rising_apart}
 use Rattle.rtcp_members.proofs.Searching.{due_is_found}
@@ -25,74 +25,52 @@ overflow_sub-self g c =
     let place : IsRankOf c.args.ssrc items c.unwrap-at.result = subst (Locates c.args.ssrc items) c.unwrap-at.ensures
     c.search_behind.ensures in
     let due = subst (λ (table : TableValue). IsTrue (is_due_at c.args.ssrc table)) (sym c.self.view_is) c.requires in
-    omega (arith, c.self.invariant.its_due, due_counts c.args.ssrc items c.unwrap-at.result no_entry place due)
+    omega (arith, c.self.invariant.counted.due, due_counts c.args.ssrc items c.unwrap-at.result place due)
 
-pub report-requires-clause-stands : goal.report-requires-clause-stands
-report-requires-clause-stands g c =
-    let items : List Entry = c.self.inside.entries.items in
-    let place : IsRankOf c.args.ssrc items c.unwrap-at.result = subst (Locates c.args.ssrc items) c.unwrap-at.ensures
-    c.search_behind.ensures in
-    slice_get_within items c.unwrap-at.result place.entry place.stands
-
-pub report-requires-clause-due : goal.report-requires-clause-due
-report-requires-clause-due g c = λ d.
+pub report-requires : goal.report-requires
+report-requires g c =
     let items : List Entry = c.self.inside.entries.items in
     let place : IsRankOf c.args.ssrc items c.unwrap-at.result = subst (Locates c.args.ssrc items) c.unwrap-at.ensures
     c.search_behind.ensures in
     let due = subst (λ (table : TableValue). IsTrue (is_due_at c.args.ssrc table)) (sym c.self.view_is) c.requires in
-    due_there c.args.ssrc items c.unwrap-at.result d place due
+    record {
+      stands = slice_get_within items c.unwrap-at.result place.entry place.stands;
+      due = due_there c.args.ssrc items c.unwrap-at.result place due;
+    }
 
-pub returns-clause-block : goal.returns-clause-block
-returns-clause-block g c =
+pub returns : goal.returns
+returns g c =
     let items : List Entry = c.self.inside.entries.items in
     let place : IsRankOf c.args.ssrc items c.unwrap-at.result = subst (Locates c.args.ssrc items) c.unwrap-at.ensures
     c.search_behind.ensures in
-    block_reported c.args.ssrc c.args.t items c.unwrap-at.result no_entry (Some (block_value c.report.result)) place
-    (c.report.ensures.block no_entry) c.self.inside.capacity c.self.inside.rate
-    ∙ ap (block_at c.args.ssrc c.args.t) c.self.view_is
-
-pub returns-clause-content : goal.returns-clause-content
-returns-clause-content g c =
-    let items : List Entry = c.self.inside.entries.items in
-    let place : IsRankOf c.args.ssrc items c.unwrap-at.result = subst (Locates c.args.ssrc items) c.unwrap-at.ensures
-    c.search_behind.ensures in
-    let made = c.report.ensures.changed in
-    ap (table_of c.self.inside.capacity c.self.inside.rate) made.items
-    ∙ table_reported c.args.ssrc items c.unwrap-at.result no_entry made.entry
-    (rising_apart items c.self.invariant.sorted.ordered.rising) place (made.ssrc no_entry)
-    (made.value no_entry) c.self.inside.capacity c.self.inside.rate
-    ∙ ap (after_block c.args.ssrc) c.self.view_is
+    let made = c.report.ensures.made.changed in
+    record {
+      block = block_reported c.args.ssrc c.args.t items c.unwrap-at.result no_entry
+          (Some (block_value c.report.result)) place (c.report.ensures.made.block no_entry) c.self.inside.capacity
+          c.self.inside.rate ∙ ap (block_at c.args.ssrc c.args.t) c.self.view_is;
+      content = ap (table_of c.self.inside.capacity c.self.inside.rate) made.items
+          ∙ table_reported c.args.ssrc items c.unwrap-at.result no_entry made.entry
+          (rising_apart items c.self.invariant.sorted.rising) place (made.ssrc no_entry) (made.value no_entry)
+          c.self.inside.capacity c.self.inside.rate
+          ∙ ap (after_block c.args.ssrc) c.self.view_is;
+      writable = c.report.ensures.made.writable;
+    }
 
 pub invariant_of-self : goal.invariant_of-self
 invariant_of-self g c =
     let items : List Entry = c.self.inside.entries.items in
-    let place : IsRankOf c.args.ssrc items c.unwrap-at.result = subst (Locates c.args.ssrc items) c.unwrap-at.ensures
+    let at = c.unwrap-at.result in
+    let place : IsRankOf c.args.ssrc items at = subst (Locates c.args.ssrc items) c.unwrap-at.ensures
     c.search_behind.ensures in
     let due = subst (λ (table : TableValue). IsTrue (is_due_at c.args.ssrc table)) (sym c.self.view_is) c.requires in
-    let at = c.unwrap-at.result in
-    let counts = c.self.inside.counts in
-    let made = c.report.ensures.changed in
+    let so = c.self.invariant in
+    let made = c.report.ensures.made.changed in
     let next : List Entry = c.report.new.self.items in
+    let counts = counts_reported c.args.ssrc items at place due next made c.self.inside.counts so.counted in
     record {
-      sorted = record {
-        ordered = subst (IsOrdered counts.members counts.senders) (sym made.items)
-            (ordered_reported c.args.ssrc items at no_entry place made.entry counts.members counts.senders
-            c.self.invariant.sorted.ordered (made.ssrc no_entry) (made.value no_entry));
-        within = omega (
-          arith,
-          as_many c.args.ssrc items next at reported_entry place made,
-          c.self.invariant.sorted.within,
-        );
-        room = c.self.invariant.sorted.room;
-      };
-      its_due = omega (
-        arith,
-        c.self.invariant.its_due,
-        due_reported c.args.ssrc items at no_entry place made.entry due
-            (made.value no_entry),
-        ap (tally_of is_due) made.items,
-      );
-      roomy = omega (arith, c.self.invariant.roomy, c.report.ensures.room);
+      sorted = sorted_edited c.args.ssrc items next at reported_entry place made c.self.inside.capacity so.sorted;
+      counted = record { members = counts.0; senders = counts.1; due = omega (arith, counts.2) };
+      roomy = omega (arith, so.roomy, c.report.ensures.room);
       standing = stand_edited c.args.ssrc items next at reported_entry place made c.self.inside.bounds
-          (λ value stands. stands) c.self.invariant.standing;
+          (λ value stands. stands) so.standing;
     }

@@ -5,5 +5,5 @@ use Rattle.rtcp_members.proofs.sorted_table.SortedMemberTable.entries.Goals as g
 
 pub returns : goal.returns
 returns g c = entries_of c.self.inside.capacity c.self.inside.rate c.self.inside.entries.items c.args.self.now
-    c.len.result (rising_apart c.self.inside.entries.items c.self.invariant.sorted.ordered.rising) c.self.view_is
+    c.len.result (rising_apart c.self.inside.entries.items c.self.invariant.sorted.rising) c.self.view_is
     c.len.ensures

@@ -14,7 +14,7 @@ returns-in-Some g c =
     let found : c.first_due.result ≡ first_ssrc (due_rows_of (drop c.first_above-first.result items)) =
     c.first_due.ensures ∙ ap (λ xs. first_ssrc (due_rows_of (drop c.first_above-first.result xs))) whole in
     first_pending c.args.after c.self.inside.capacity c.self.inside.rate items c.first_above-first.result
-    c.args.self.now c.self.view_is c.self.invariant.sorted.ordered.rising (search rules) (search rules)
+    c.args.self.now c.self.view_is c.self.invariant.sorted.rising c.first_above-first.ensures
     (Some c.in-Some.ssrc) (first_ssrc (due_rows_of (take c.first_above-first.result items))) (cc) refl
 
 pub returns-in-None : goal.returns-in-None
@@ -24,10 +24,10 @@ returns-in-None g c =
     let found : c.first_due.result ≡ first_ssrc (due_rows_of (drop c.first_above-first.result items)) =
     c.first_due.ensures ∙ ap (λ xs. first_ssrc (due_rows_of (drop c.first_above-first.result xs))) whole in
     first_pending c.args.after c.self.inside.capacity c.self.inside.rate items c.first_above-first.result
-    c.args.self.now c.self.view_is c.self.invariant.sorted.ordered.rising (search rules) (search rules)
+    c.args.self.now c.self.view_is c.self.invariant.sorted.rising c.first_above-first.ensures
     None c.first_due-in-None.result (cc) (search rules)
 
 pub returns-then-self-eq0 : goal.returns-then-self-eq0
 returns-then-self-eq0 g c =
     none_pending c.args.after c.self.inside.capacity c.self.inside.rate c.self.inside.entries.items c.args.self.now
-    c.self.view_is c.self.invariant.sorted.ordered.rising (sym c.self.invariant.its_due ∙ c.if-self-eq0.true)
+    c.self.view_is c.self.invariant.sorted.rising (sym c.self.invariant.counted.due ∙ c.if-self-eq0.true)
