@@ -1,162 +1,17 @@
--- A heap of entries that is searched, and into which an entry is put.
-use Rattle.std.proofs.Common.{◌≡◌, ◌<◌, ◌≤◌, ◌+◌, ◌-◌, ◌*◌, ◌==◌, ◌++◌, ℕ, suc, true, false, cond, List, [], ◌∷◌, length, take, drop, set, slice_index_or, inl, inr, arith, refl, sym, ap, subst, ◌∙◌}
+-- A heap of entries into which an entry is put.
+use Rattle.std.proofs.Common.{◌≡◌, ◌<◌, ◌≤◌, ◌+◌, ◌==◌, ◌++◌, ℕ, suc, true, false, cond, List, [], ◌∷◌, length, take, drop, set, slice_index_or, inl, inr, arith, refl, sym, ap, subst, ◌∙◌}
 use Rattle.std.specs.List.{All, insert, sum_by}
-use Rattle.std.proofs.lemmas.Bool.{cases_eq, cases_lt}
+use Rattle.std.proofs.lemmas.Bool.{cases_eq}
 use Rattle.std.proofs.lemmas.Bool.Decides.{nat_tests}
-use Rattle.std.proofs.lemmas.List.{length-set, length-map, length_push, length-append, take-map, drop-map, map-append, take_at, take-append-le, get_or-map, get_or-set_same, get_or-set_other, get_or_append_left, get_or_at, get_or_push}
+use Rattle.std.proofs.lemmas.List.{length-set, length_push, length-append, take-map, drop-map, map-append, take_at, take-append-le, get_or-set_same, get_or-set_other, get_or_append_left, get_or_at, get_or_push}
 use Rattle.std.proofs.lemmas.List.Sums.{sum_by-cons, sum_by-append, sum_by-insert}
 use Rattle.std.proofs.lemmas.List.Elements.{All-nil, All-head, All-tail, All-cons, All-append, All-take, All-drop, All-weaker, All-same}
 use Rattle.std.proofs.lemmas.List.Edits.{length-insert}
 use Rattle.rtcp_members.specs.declared.entry.Entry.{Entry}
 use Rattle.rtcp_members.specs.declared.cells.Slot.{Slot}
-use Rattle.rtcp_members.specs.ListViews.{IsRankOf}
-use Rattle.rtcp_members.specs.SortedViews.{IsRising, IsGapFor}
 use Rattle.rtcp_members.proofs.Pairs.{take_inserted, behind}
-use Rattle.rtcp_members.specs.Heaps.{no_slot, no_entry, entry_in, picked, IsHalved, IsKeyed, IsHeap, IsPut}
+use Rattle.rtcp_members.specs.Heaps.{no_slot, no_entry, entry_in, picked, IsKeyed, IsHeap, IsPut}
 use Rattle.rtcp_members.proofs.Ranked.{has_place, picked_same}
-use Rattle.rtcp_members.proofs.Rising.{rises}
-use Rattle.rtcp_members.proofs.Searching.{ssrc_found}
-
--- ---- A search among the slots
-
--- Where a search by halves of cells has come: so many cells from one on.
-pub record IsHalving (slots : List Slot) (ssrc used at count : ℕ) : Type 0 where
-  pub high : ℕ
-  pub halved : IsHalved slots ssrc (2 * at) high
-  pub near : high ≤ 2 * (at + count)
-  pub within : 2 * (at + count) ≤ used + 1
-
-module _ (entries : List Entry) (slots : List Slot) (keyed : All (IsKeyed entries) slots)
-    (rising : IsRising (picked entries slots)) (ssrc : ℕ) where
-  key : (k : ℕ) (d : Slot) (e : Entry) → k < length slots →
-      (slice_index_or slots k d).ssrc ≡ (slice_index_or (picked entries slots) k e).ssrc
-  key k d e within = keyed k d within
-      ∙ ap (λ (x : Entry). x.ssrc) (sym (get_or-map (entry_in entries) slots k d e within))
-
-  rise : (i j : ℕ) → i < j → j < length slots →
-      (slice_index_or slots i no_slot).ssrc < (slice_index_or slots j no_slot).ssrc
-  rise i j before within =
-      omega (
-        arith,
-        rises (picked entries slots) rising i j no_entry before
-            (omega (arith, within, length-map slots (entry_in entries))),
-        key i no_slot no_entry (omega (arith, before, within)),
-        key j no_slot no_entry within,
-      )
-
-  pub halved_at_first : IsHalved slots ssrc 0 (length slots)
-  halved_at_first = record {
-    order = omega arith;
-    until = omega arith;
-    lesser = λ k early. absurd (omega (arith, early));
-    greater = λ k late within. absurd (omega (arith, late, within));
-  }
-
-  -- What is seen before or from the source on lets the ends come nearer.
-  pub raised : (low high middle : ℕ) → IsHalved slots ssrc low high → middle < length slots →
-      (slice_index_or slots middle no_slot).ssrc < ssrc → IsHalved slots ssrc middle high
-  raised low high middle so within less = record {
-    order = elim (cases_lt middle high) [
-      | inl before ↦ omega (arith, before)
-      | inr from ↦ absurd (omega (arith, less, so.greater middle from within))
-    ];
-    until = so.until;
-    lesser = λ k early. omega (arith, less, rise k middle early within);
-    greater = so.greater;
-  }
-
-  pub lowered : (low high middle : ℕ) → IsHalved slots ssrc low high → low ≤ middle → middle < length slots →
-      ssrc ≤ (slice_index_or slots middle no_slot).ssrc → IsHalved slots ssrc low middle
-  lowered low high middle so above within less =
-      record { order = above; until = omega (arith, within); lesser = so.lesser; greater = greater }
-    where
-      greater : (k : ℕ) → middle ≤ k → k < length slots → ssrc ≤ (slice_index_or slots k no_slot).ssrc
-      greater k late in_list = elim (cases_lt middle k) [
-        | inl after ↦ omega (arith, less, rise middle k after in_list)
-        | inr until ↦ subst (λ n. ssrc ≤ (slice_index_or slots n no_slot).ssrc) (omega (arith, late, until)) less
-      ]
-
-  module _ (low high middle : ℕ) (so : IsHalved slots ssrc low high) (above : low ≤ middle)
-      (below : middle < high) where
-    pub upper_half : (slice_index_or slots middle no_slot).ssrc < ssrc → IsHalved slots ssrc (middle + 1) high
-    upper_half less = record { order = omega (arith, below); until = so.until; lesser = lesser; greater = so.greater }
-      where
-        lesser : (k : ℕ) → k < middle + 1 → (slice_index_or slots k no_slot).ssrc < ssrc
-        lesser k early = elim (cases_lt k middle) [
-          | inl before ↦ omega (arith, less, rise k middle before (omega (arith, below, so.until)))
-          | inr from ↦ subst (λ n. (slice_index_or slots n no_slot).ssrc < ssrc) (omega (arith, early, from)) less
-        ]
-
-    pub lower_half : ssrc ≤ (slice_index_or slots middle no_slot).ssrc → IsHalved slots ssrc low middle
-    lower_half = lowered low high middle so above (omega (arith, below, so.until))
-
-  pub slot_found : (at : ℕ) → at < length slots → (slice_index_or slots at no_slot).ssrc ≡ ssrc →
-      IsRankOf ssrc (picked entries slots) at
-  slot_found at within same =
-      ssrc_found ssrc (picked entries slots) at (slice_index_or slots at no_slot).ssrc rising
-      (omega (arith, within, length-map slots (entry_in entries))) (λ e. key at no_slot e within) same
-
-  pub gap_between : (at : ℕ) → at ≤ length slots → (0 < at → (slice_index_or slots (at - 1) no_slot).ssrc < ssrc) →
-      (at < length slots → ssrc < (slice_index_or slots at no_slot).ssrc) → IsGapFor ssrc (picked entries slots) at
-  gap_between at in_range last next =
-      let as_many = length-map slots (entry_in entries) in
-      record {
-        in_range = omega (arith, in_range, as_many);
-        lesser = λ i e before. early i e before;
-        greater = λ i e from below. late i e from (omega (arith, below, as_many));
-      }
-    where
-      early : (i : ℕ) (e : Entry) → i < at → (slice_index_or (picked entries slots) i e).ssrc < ssrc
-      early i e before =
-          let least : (slice_index_or slots (at - 1) no_slot).ssrc < ssrc = last (omega (arith, before)) in
-          let here = key i no_slot e (omega (arith, before, in_range)) in
-          elim (cases_lt i (at - 1)) [
-            | inl earlier ↦ omega (arith, here, least, rise i (at - 1) earlier (omega (arith, before, in_range)))
-            | inr same ↦
-                let equal : at - 1 ≡ i = omega (arith, before, same) in
-                omega (arith, here, subst (λ n. (slice_index_or slots n no_slot).ssrc < ssrc) equal least)
-          ]
-
-      late : (i : ℕ) (e : Entry) → at ≤ i → i < length slots → ssrc < (slice_index_or (picked entries slots) i e).ssrc
-      late i e from within =
-          let least : ssrc < (slice_index_or slots at no_slot).ssrc = next (omega (arith, from, within)) in
-          let here = key i no_slot e within in
-          elim (cases_lt at i) [
-            | inl later ↦ omega (arith, here, least, rise at i later within)
-            | inr same ↦
-                let equal : at ≡ i = omega (arith, from, same) in
-                omega (arith, here, subst (λ n. ssrc < (slice_index_or slots n no_slot).ssrc) equal least)
-          ]
-
-  pub none_between : (low high : ℕ) → IsHalved slots ssrc low high → high ≤ low →
-      (low < length slots → (slice_index_or slots low no_slot).ssrc ≡ ssrc → ⊥) →
-      IsGapFor ssrc (picked entries slots) low
-  none_between low high so met other =
-      let as_many = length-map slots (entry_in entries) in
-      record {
-        in_range = omega (arith, so.order, so.until, as_many);
-        lesser = λ i e before. omega (
-          arith,
-          key i no_slot e (omega (arith, before, so.order, so.until)),
-          so.lesser i before,
-        );
-        greater = λ i e from below. past i e from (omega (arith, below, as_many));
-      }
-    where
-      past : (i : ℕ) (e : Entry) → low ≤ i → i < length slots → ssrc < (slice_index_or (picked entries slots) i e).ssrc
-      past i e from within = elim (cases_lt low i) [
-        | inl after ↦ omega (
-          arith,
-          key i no_slot e within,
-          rise low i after within,
-          so.greater low met (omega (arith, after, within)),
-        )
-        | inr until ↦
-            let differs : (slice_index_or slots i no_slot).ssrc ≡ ssrc →
-            ⊥ = subst (λ n. n < length slots → (slice_index_or slots n no_slot).ssrc ≡ ssrc → ⊥)
-            (omega (arith, from, until)) other within in
-            omega (arith, key i no_slot e within, so.greater i (omega (arith, met, from)) within, differs)
-      ]
 
 -- ---- An entry at a new place
 

@@ -30,6 +30,7 @@ mod BoundLemmas
 mod Inserting
 mod Ranks
 mod Heaps
+mod Halving
 mod Dropping
 mod Checking
 mod Crowding

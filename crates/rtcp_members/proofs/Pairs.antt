@@ -366,20 +366,3 @@ pub used_read : (cells : List Cell) (used rank : ℕ) → used ≤ length (slots
 used_read cells used rank in_use early =
     slot_read cells rank (omega (arith, early, in_use, length_slots cells))
     ∙ sym (get_or-take used (slots_in cells) rank no_slot early)
-
--- The SSRCs of a cell are those of its ranks, as far as they are in use.
-module _ (cells : List Cell) (used at : ℕ) (cell : Cell) (in_use : used ≤ length (slots_in cells))
-    (read : cell ≡ slice_index_or cells at cell) where
-  pub even_used : (rank : ℕ) → rank ≡ 2 * at → rank < used →
-      (slice_index_or (take used (slots_in cells)) rank no_slot).ssrc ≡ cell.even.ssrc
-  even_used rank is early =
-      let here : at < length cells = omega (arith, is, early, in_use, length_slots cells) in
-      ap (λ (s : Slot). s.ssrc) (sym (used_read cells used rank in_use early)
-      ∙ even_read cells at rank cell no_slot is here) ∙ ap (λ (x : Cell). x.even.ssrc) (sym read)
-
-  pub odd_used : (rank : ℕ) → rank ≡ 2 * at + 1 → rank < used →
-      (slice_index_or (take used (slots_in cells)) rank no_slot).ssrc ≡ cell.odd.ssrc
-  odd_used rank is early =
-      let here : at < length cells = omega (arith, is, early, in_use, length_slots cells) in
-      ap (λ (s : Slot). s.ssrc) (sym (used_read cells used rank in_use early)
-      ∙ odd_read cells at rank cell no_slot is here) ∙ ap (λ (x : Cell). x.odd.ssrc) (sym read)

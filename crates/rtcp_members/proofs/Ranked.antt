@@ -1,5 +1,5 @@
 -- What is read and written at the places of a heap of entries.
-use Rattle.std.specs.Prelude.{ℕ, suc, ◌≡◌, ◌<◌, ◌≤◌, ◌+◌, ◌==◌, true, false, cond, Bool, Some, slice_get, List, [], ◌∷◌, length, take, set, All, slice_index_or, refl}
+use Rattle.std.specs.Prelude.{ℕ, suc, ◌≡◌, ◌<◌, ◌≤◌, ◌+◌, ◌*◌, ◌==◌, true, false, cond, Bool, Some, slice_get, List, [], ◌∷◌, length, take, set, All, slice_index_or, refl}
 use Rattle.std.specs.List.{count_by, sum_by}
 use Rattle.std.proofs.Common.{inl, inr, arith, sym, ap, subst, ◌∙◌}
 use Rattle.std.proofs.lemmas.Bool.{cases_eq}
@@ -22,7 +22,7 @@ use Rattle.rtcp_members.specs.Standing.{AreCounts, AreRecounted, IsAmong}
 use Rattle.rtcp_members.proofs.Weights.{tally_at_most, tally_set, weight_within}
 use Rattle.rtcp_members.specs.Shelves.{IsChanged}
 use Rattle.rtcp_members.specs.SortedViews.{IsRising}
-use Rattle.rtcp_members.proofs.Pairs.{length_slots, slot_read, slots_kept, slots_exchanged, take_written, entry_written, read_again}
+use Rattle.rtcp_members.proofs.Pairs.{length_slots, even_read, odd_read, used_read, slot_read, slots_kept, slots_exchanged, take_written, entry_written, read_again}
 use Rattle.rtcp_members.proofs.Rising.{rising_set}
 use Rattle.std.proofs.lemmas.Option.{slice_get_read}
 
@@ -184,6 +184,35 @@ pub length_ranked : (cells : List Cell) (used : ℕ) → IsHeap (entries_in cell
     length (in_order cells used) ≡ used
 length_ranked cells used heap = length-map (take used (slots_in cells)) (entry_in (entries_in cells))
     ∙ length-take-le used (slots_in cells) heap.in_use
+
+-- The SSRC of a rank is that of its slot.
+module _ (cells : List Cell) (used : ℕ) (heap : IsHeap (entries_in cells) (slots_in cells) used) where
+  pub ssrc_ranked : (rank : ℕ) → rank < used → (d : Entry) →
+      (slice_index_or (pairs_in cells) rank no_slot).ssrc ≡ (slice_index_or (in_order cells used) rank d).ssrc
+  ssrc_ranked rank early d =
+      let within : rank < length (take used (slots_in cells)) = omega
+      (arith, early, length-take-le used (slots_in cells) heap.in_use) in
+      ap (λ (s : Slot). s.ssrc) (used_read cells used rank heap.in_use early)
+      ∙ heap.keyed rank no_slot within
+      ∙ ap (λ (e : Entry). e.ssrc) (sym (get_or-map (entry_in (entries_in cells)) (take used (slots_in cells)) rank
+      no_slot d within))
+
+  -- Those of a cell are those of its ranks, as far as they are in use.
+  module _ (at : ℕ) (cell : Cell) (read : cell ≡ slice_index_or cells at cell) (rank : ℕ) (early : rank < used) where
+    pub even_ranked : rank ≡ 2 * at → (d : Entry) → (slice_index_or (in_order cells used) rank d).ssrc ≡ cell.even.ssrc
+    even_ranked is d =
+        sym (ssrc_ranked rank early d)
+        ∙ ap (λ (s : Slot). s.ssrc) (even_read cells at rank cell no_slot is (omega
+        (arith, is, early, heap.in_use, length_slots cells)))
+        ∙ ap (λ (c : Cell). c.even.ssrc) (sym read)
+
+    pub odd_ranked : rank ≡ 2 * at + 1 → (d : Entry) → (slice_index_or (in_order cells used) rank d).ssrc
+        ≡ cell.odd.ssrc
+    odd_ranked is d =
+        sym (ssrc_ranked rank early d)
+        ∙ ap (λ (s : Slot). s.ssrc) (odd_read cells at rank cell no_slot is (omega
+        (arith, is, early, heap.in_use, length_slots cells)))
+        ∙ ap (λ (c : Cell). c.odd.ssrc) (sym read)
 
 module _ {cells : List Cell} {used at : ℕ} {slot : Slot} {cell : Cell} (so : IsAtRank cells used at slot cell) where
   heap : IsHeap (entries_in cells) (slots_in cells) used

@@ -65,12 +65,12 @@ place_at slots at = (slice_index_or slots at no_slot).place
 abbrev pub IsKeyed : List Entry → Slot → Type 0
 IsKeyed entries slot = slot.ssrc ≡ (entry_in entries slot).ssrc
 
--- Where a search by halves has come: the SSRCs of the slots before `low` are lesser, and of none from `high` on.
-pub record IsHalved (slots : List Slot) (ssrc low high : ℕ) : Type 0 where
+-- Where a search by halves has come: the SSRCs of the ranks before `low` are lesser, and of none from `high` on.
+pub record IsHalved (entries : List Entry) (ssrc low high : ℕ) : Type 0 where
   pub order : low ≤ high
-  pub until : high ≤ length slots
-  pub lesser : (k : ℕ) → k < low → (slice_index_or slots k no_slot).ssrc < ssrc
-  pub greater : (k : ℕ) → high ≤ k → k < length slots → ssrc ≤ (slice_index_or slots k no_slot).ssrc
+  pub until : high ≤ length entries
+  pub lesser : (k : ℕ) → k < low → (slice_index_or entries k no_entry).ssrc < ssrc
+  pub greater : (k : ℕ) → high ≤ k → k < length entries → ssrc ≤ (slice_index_or entries k no_entry).ssrc
 
 -- No two slots have the same place, and there is something at each.
 pub record ArePlaces (entries : List Entry) (slots : List Slot) : Type 0 where

@@ -1,7 +1,7 @@
 //! An index of entries by rising SSRC, and searches in it.
 
-ghost use Rattle.std.specs.Prelude.{◌≡◌, ◌+◌, ◌*◌, ◌≤◌, ◌<◌, IfOk, IfSome, take, slice_index_or};
-ghost use Rattle.rtcp_members.specs.Heaps.{IsHalved, IsIndexed, no_slot, in_order, pairs_in, slots_in};
+ghost use Rattle.std.specs.Prelude.{◌≡◌, ◌+◌, ◌*◌, ◌≤◌, ◌<◌, IfOk, IfSome, slice_index_or};
+ghost use Rattle.rtcp_members.specs.Heaps.{IsHalved, IsIndexed, no_slot, in_order, pairs_in};
 ghost use Rattle.rtcp_members.specs.Looks.{Sees};
 ghost use Rattle.rtcp_members.specs.SortedViews.{Locates};
 
@@ -72,7 +72,7 @@ pub(crate) fn walk_to(
 // What is seen makes a number and no branch: half of the branches would be predicted wrongly.
 fn halve(cells: &[Cell], used: usize, ssrc: u32) -> (usize, usize)
     requires { IsIndexed cells.now used }
-    ensures halved { IsHalved (take used (slots_in cells.now)) ssrc result.0 result.1 }
+    ensures halved { IsHalved (in_order cells.now used) ssrc result.0 result.1 }
     ensures near { result.1 ≤ result.0 + 2 }
 {
     let mut at = 0;

@@ -1,51 +1,49 @@
 -- What the slots of a cell say of a source.
-use Rattle.std.proofs.Common.{arith, ◌≡◌, ◌<◌, ◌+◌, ◌-◌, ◌*◌, ℕ, List, length, take, slice_index_or, refl, sym, ap, subst, ◌∙◌}
-use Rattle.std.proofs.lemmas.List.{length-take-le}
+use Rattle.std.proofs.Common.{arith, ◌≡◌, ◌<◌, ◌+◌, ◌-◌, ◌*◌, ℕ, List, slice_index_or, refl, sym, subst}
 use Rattle.rtcp_members.specs.declared.cells.Cell.{Cell}
-use Rattle.rtcp_members.specs.declared.cells.Slot.{Slot}
-use Rattle.rtcp_members.specs.Heaps.{no_slot, entries_in, slots_in, in_order, IsIndexed}
+use Rattle.rtcp_members.specs.declared.entry.Entry.{Entry}
+use Rattle.rtcp_members.specs.Heaps.{no_entry, in_order, IsIndexed}
 use Rattle.rtcp_members.specs.ListViews.{IsRankOf}
 use Rattle.rtcp_members.specs.SortedViews.{IsGapFor}
-use Rattle.rtcp_members.proofs.Heaps.{slot_found, gap_between}
-use Rattle.rtcp_members.proofs.Pairs.{used_read, even_used, odd_used}
+use Rattle.rtcp_members.proofs.Halving.{key_at, gap_between}
+use Rattle.rtcp_members.proofs.Ranked.{even_ranked, odd_ranked, length_ranked, ssrc_ranked}
+use Rattle.rtcp_members.proofs.Searching.{ssrc_found}
 use Rattle.rtcp_members.proofs.index.look_at.Goals as goal
 
 module _ (cells : List Cell) (used : ℕ) (ssrc at : ℕ) (cell : Cell) (indexed : IsIndexed cells used)
-    (below : 2 * at < used)
-    (read : cell ≡ slice_index_or cells at cell) where
-  as_long : length (take used (slots_in cells)) ≡ used
-  as_long = length-take-le used (slots_in cells) indexed.heap.in_use
+    (below : 2 * at < used) (read : cell ≡ slice_index_or cells at cell) where
+  abbrev items : List Entry
+  items = in_order cells used
 
-  pub even_here : (slice_index_or (take used (slots_in cells)) (2 * at) no_slot).ssrc ≡ cell.even.ssrc
-  even_here = even_used cells used at cell indexed.heap.in_use read (2 * at) refl below
+  pub even_here : (d : Entry) → (slice_index_or items (2 * at) d).ssrc ≡ cell.even.ssrc
+  even_here = even_ranked cells used indexed.heap at cell read (2 * at) below refl
 
-  odd_here : 2 * at + 1 < used → (slice_index_or (take used (slots_in cells)) (2 * at + 1) no_slot).ssrc ≡ cell.odd.ssrc
-  odd_here early = odd_used cells used at cell indexed.heap.in_use read (2 * at + 1) refl early
+  odd_here : 2 * at + 1 < used → (d : Entry) → (slice_index_or items (2 * at + 1) d).ssrc ≡ cell.odd.ssrc
+  odd_here early = odd_ranked cells used indexed.heap at cell read (2 * at + 1) early refl
 
-  stands : (rank : ℕ) → rank < used → (slice_index_or (take used (slots_in cells)) rank no_slot).ssrc ≡ ssrc →
-      IsRankOf ssrc (in_order cells used) rank
-  stands rank early same = slot_found (entries_in cells) (take used (slots_in cells)) indexed.heap.keyed indexed.rising
-      ssrc rank (omega (arith, early, as_long)) same
+  stands : (rank its : ℕ) → rank < used → ((d : Entry) → (slice_index_or items rank d).ssrc ≡ its) → ssrc ≡ its →
+      IsRankOf ssrc items rank
+  stands rank its early here same = ssrc_found ssrc items rank its indexed.rising
+      (omega (arith, early, length_ranked cells used indexed.heap)) (λ d. sym (here d)) (sym same)
 
-  pub stands_first : ssrc ≡ cell.even.ssrc → IsRankOf ssrc (in_order cells used) (2 * at)
-  stands_first same = stands (2 * at) below (even_here ∙ sym same)
+  pub stands_first : ssrc ≡ cell.even.ssrc → IsRankOf ssrc items (2 * at)
+  stands_first same = stands (2 * at) cell.even.ssrc below even_here same
 
-  pub stands_second : 2 * at + 1 < used → ssrc ≡ cell.odd.ssrc → IsRankOf ssrc (in_order cells used) (2 * at + 1)
-  stands_second early same = stands (2 * at + 1) early (odd_here early ∙ sym same)
+  pub stands_second : 2 * at + 1 < used → ssrc ≡ cell.odd.ssrc → IsRankOf ssrc items (2 * at + 1)
+  stands_second early same = stands (2 * at + 1) cell.odd.ssrc early (odd_here early) same
 
   -- it would stand after the first of the cell, before what comes there
   pub after_first : cell.even.ssrc < ssrc → (2 * at + 1 < used → ssrc < cell.odd.ssrc) →
-      IsGapFor ssrc (in_order cells used) (2 * at + 1)
+      IsGapFor ssrc items (2 * at + 1)
   after_first less more =
       let before : 2 * at ≡ 2 * at + 1 - 1 = omega arith in
-      gap_between (entries_in cells) (take used (slots_in cells)) indexed.heap.keyed indexed.rising ssrc (2 * at + 1)
-      (omega (arith, below, as_long))
-      (λ some. subst (λ n. (slice_index_or (take used (slots_in cells)) n no_slot).ssrc < ssrc) before
-      (omega (arith, even_here, less)))
+      let as_long = length_ranked cells used indexed.heap in
+      gap_between items indexed.rising ssrc (2 * at + 1) (omega (arith, below, as_long))
+      (λ some. subst (λ n. key_at items n < ssrc) before (omega (arith, even_here no_entry, less)))
       (λ within. next (omega (arith, within, as_long)))
     where
-      next : 2 * at + 1 < used → ssrc < (slice_index_or (take used (slots_in cells)) (2 * at + 1) no_slot).ssrc
-      next early = let here = odd_here early in let greater = more early in omega (arith, here, greater)
+      next : 2 * at + 1 < used → ssrc < key_at items (2 * at + 1)
+      next early = let here = odd_here early no_entry in let greater = more early in omega (arith, here, greater)
 
 pub returns-then-ssrc-cell : goal.returns-then-ssrc-cell
 returns-then-ssrc-cell c = stands_first c.args.cells.now c.args.used c.args.ssrc c.args.at c.index-cells-at.result
@@ -53,21 +51,17 @@ returns-then-ssrc-cell c = stands_first c.args.cells.now c.args.used c.args.ssrc
 
 pub look_before-requires-clause-greater : goal.look_before-requires-clause-greater
 look_before-requires-clause-greater c =
-    let cells : List Cell = c.args.cells.now in
-    let used : ℕ = c.args.used in
-    let here = even_here cells used c.args.ssrc c.args.at c.index-cells-at.result c.requires.indexed c.requires.cell
-    c.index-cells-at.is in
-    let same = used_read cells used (2 * c.args.at) c.requires.indexed.heap.in_use c.requires.cell in
-    let its = ap (λ (s : Slot). s.ssrc) same in
+    let here = even_here c.args.cells.now c.args.used c.args.ssrc c.args.at c.index-cells-at.result c.requires.indexed
+    c.requires.cell c.index-cells-at.is no_entry in
+    let its = ssrc_ranked c.args.cells.now c.args.used c.requires.indexed.heap (2 * c.args.at) c.requires.cell
+    no_entry in
     omega (arith, here, its, c.if-ssrc-cell-2.true)
 
 pub returns-then-at-used : goal.returns-then-at-used
 returns-then-at-used c =
-    let cells : List Cell = c.args.cells.now in
-    let used : ℕ = c.args.used in
-    subst (λ n. IsGapFor c.args.ssrc (in_order cells used) n) c.if-at-used.true
-    (after_first cells used c.args.ssrc c.args.at c.index-cells-at.result c.requires.indexed c.requires.cell
-    c.index-cells-at.is (omega (arith, c.if-ssrc-cell.false, c.if-ssrc-cell-2.false))
+    subst (λ n. IsGapFor c.args.ssrc (in_order c.args.cells.now c.args.used) n) c.if-at-used.true
+    (after_first c.args.cells.now c.args.used c.args.ssrc c.args.at c.index-cells-at.result c.requires.indexed
+    c.requires.cell c.index-cells-at.is (omega (arith, c.if-ssrc-cell.false, c.if-ssrc-cell-2.false))
     (λ early. absurd (omega (arith, early, c.if-at-used.true))))
 
 pub returns-then-ssrc-cell-3 : goal.returns-then-ssrc-cell-3
