@@ -43,9 +43,6 @@ one_more_name test x xs = elim
 
 -- ---- Members of a trace
 
-not_gone : (fact : Fact) (ssrc : ℕ) → is_gone fact ≡ false → is_gone fact ≡ true → ⊥
-not_gone fact ssrc stays gone = true≢false (sym gone ∙ stays)
-
 still_member : (rate moment : ℕ) (fact : Fact) (entry : EntryValue) → is_gone fact ≡ false → is_member entry ≡ true →
     is_member (entry_after rate fact moment entry) ≡ true
 still_member rate moment (Heard ssrc) entry stays member = member

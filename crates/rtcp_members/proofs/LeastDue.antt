@@ -1,13 +1,12 @@
 -- The first of the pending rows is the least of those that a walk finds.
-use Rattle.std.proofs.Common.{◌≡◌, ◌<◌, ℕ, suc, Bool, true, false, cond, not, ◌&&◌, T, List, [], ◌∷◌, ◌++◌, filter, length, drop, slice_index_or, if◌then◌else◌, Option, Some, None, is_some, nat_cmp, is_lt, is_eq, Less, Equal, Greater, arith, refl, sym, ap, subst, ◌∙◌}
+use Rattle.std.proofs.Common.{◌≡◌, ◌<◌, ℕ, Bool, true, false, cond, not, ◌&&◌, T, List, [], ◌∷◌, ◌++◌, filter, if◌then◌else◌, Option, Some, None, is_some, nat_cmp, is_lt, is_eq, Less, Equal, Greater, arith, refl, sym, ap, subst, ◌∙◌}
 use Rattle.std.specs.Cmp.{nat_cmp_total, nat_cmp_is, ranked}
 use Rattle.std.specs.FinMap as finite
 use Rattle.std.specs.FinMap.Entries.{put, by_order, below_all, is_sorted}
 use Rattle.rtcp_members.specs.Entries.{EntryValue}
 use Rattle.rtcp_members.specs.declared.entry.Entry.{Entry}
 use Rattle.rtcp_members.specs.Tables.{TableValue, IsApart}
-use Rattle.rtcp_members.specs.ListViews.{row_of, rows_of, map_of, table_of}
-use Rattle.std.proofs.Math.Seq.{drop-cons}
+use Rattle.rtcp_members.specs.ListViews.{rows_of, map_of, table_of}
 use Rattle.rtcp_members.specs.Pending.{EntryRow, first_ssrc, is_above, is_due, in_turn, pending}
 use Rattle.rtcp_members.specs.Least.{lesser_of, least, is_due_above}
 use Rattle.rtcp_members.proofs.Listing.{none_in_empty}
@@ -17,12 +16,6 @@ use Rattle.rtcp_members.proofs.Listing.{none_in_empty}
 pub none_at_end : (a : Option ℕ) → lesser_of a None ≡ a
 none_at_end None = refl
 none_at_end (Some a) = refl
-
-pub grouped : (a b c : Option ℕ) → lesser_of (lesser_of a b) c ≡ lesser_of a (lesser_of b c)
-grouped None b c = refl
-grouped (Some a) None c = refl
-grouped (Some a) (Some b) None = refl
-grouped (Some a) (Some b) (Some c) = ap Some (omega arith)
 
 -- ---- The first of a sorted list
 
@@ -197,18 +190,3 @@ pub first_waiting_in : (last : Option ℕ) (capacity rate : ℕ) (entries : List
 first_waiting_in last capacity rate entries table above all apart is finds finds_all =
     sym (first_waiting last capacity rate entries above all apart finds finds_all)
     ∙ ap (λ (t : TableValue). first_ssrc (pending last t)) is
-
--- ---- The walk
-
-pub one_more_found : (test : EntryRow → Bool) (entries : List Entry) (index : ℕ) (e : Entry) (found next : Option ℕ) →
-    index < length entries → e ≡ slice_index_or entries index e
-    → next ≡ lesser_of found (one test (row_of e)) → lesser_of found (least test (rows_of (drop index entries)))
-    ≡ least test (rows_of entries)
-    → lesser_of next (least test (rows_of (drop (suc index) entries))) ≡ least test (rows_of entries)
-one_more_found test entries index e found next within read is before =
-    let rest : List Entry = drop (suc index) entries in
-    ap (λ o. lesser_of o (least test (rows_of rest))) is
-    ∙ grouped found (one test (row_of e)) (least test (rows_of rest))
-    ∙ ap (λ (y : Entry). lesser_of found (least test (rows_of (y ∷ rest)))) read
-    ∙ ap (λ (xs : List Entry). lesser_of found (least test (rows_of xs))) (sym (drop-cons entries index e within))
-    ∙ before

@@ -1,20 +1,10 @@
 -- Steps of a walk over a list of entries by rank.
-use Rattle.std.proofs.Common.{◌≡◌, ◌<◌, ◌+◌, ℕ, Bool, true, false, cond, List, ◌∷◌, length, take, drop, filter, Some, slice_index_or, arith, sym, ap, ◌∙◌}
+use Rattle.std.proofs.Common.{◌≡◌, ◌<◌, ◌+◌, ℕ, Bool, true, false, cond, List, ◌∷◌, length, drop, filter, Some, slice_index_or, sym, ap, ◌∙◌}
 use Rattle.std.proofs.lemmas.List.{drop_more}
-use Rattle.std.proofs.lemmas.List.Filters.{length-filter_more}
 use Rattle.rtcp_members.specs.declared.entry.Entry.{Entry}
-use Rattle.rtcp_members.specs.Entries.{EntryValue}
 use Rattle.rtcp_members.specs.Pending.{EntryRow, is_due, first_ssrc}
 use Rattle.rtcp_members.specs.Told.{state_of, first_state}
-use Rattle.rtcp_members.specs.ListViews.{entry_value, row_of, rows_of, tally_of, weight_of}
-
--- one entry more is counted
-pub tally_rank : (test : EntryValue → Bool) (xs : List Entry) (i : ℕ) (d x : Entry) → i < length xs →
-    x ≡ slice_index_or xs i d → tally_of test (take (i + 1) xs) ≡ weight_of test x + tally_of test (take i xs)
-tally_rank test xs i d x within is =
-    let more = length-filter_more (λ (e : Entry). test (entry_value e)) xs i d within in
-    let its : weight_of test x ≡ weight_of test (slice_index_or xs i d) = ap (weight_of test) is in
-    omega (arith, more, its)
+use Rattle.rtcp_members.specs.ListViews.{entry_value, row_of, rows_of}
 
 -- what is told at a rank is told of the first row there
 pub told_rank : (xs : List Entry) (i : ℕ) (d x : Entry) → i < length xs → x ≡ slice_index_or xs i d →

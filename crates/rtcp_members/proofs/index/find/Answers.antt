@@ -8,32 +8,37 @@ use Rattle.rtcp_members.proofs.Halving.{key_at, upper_half, lowered, none_betwee
 use Rattle.rtcp_members.proofs.Ranked.{length_ranked, ssrc_ranked}
 use Rattle.rtcp_members.proofs.Searching.{ssrc_found}
 use Rattle.rtcp_members.proofs.index.find.Goals as goal
-use Rattle.rtcp_members.proofs.index.find.Goals.{else-low-used-via-then-low-used+else-slot_at-ssrc-2, else-low-used-via-else-low-used}
+use Rattle.rtcp_members.proofs.index.find.Goals.{After-slot_at, else-low-used-via-then-low-used+else-slot_at-ssrc-2, else-low-used-via-else-low-used}
+
+-- the rank in the middle, and what is read of it
+abbrev middle : After-slot_at → ℕ
+middle c = c.halves.low + (c.halves.high - c.halves.low) / 2
+
+below : (c : After-slot_at) → middle c < c.halves.high
+below c = omega (arith, c.halves-test.true)
+
+its : (c : After-slot_at) → c.slot_at.result.ssrc ≡ key_at (in_order c.args.cells.now c.args.used) (middle c)
+its c = ap (λ (s : Slot). s.ssrc) c.slot_at.ensures ∙ ssrc_ranked c.args.cells.now c.args.used c.requires.heap
+    (middle c) (omega (
+      arith,
+      below c,
+      c.halves.invariant.until,
+      length_ranked c.args.cells.now c.args.used
+          c.requires.heap,
+    )) no_entry
 
 pub halves-preserved-then-slot_at-ssrc : goal.halves-preserved-then-slot_at-ssrc
 halves-preserved-then-slot_at-ssrc c =
-    let cells : List Cell = c.args.cells.now in
-    let used : ℕ = c.args.used in
-    let middle : ℕ = c.halves.low + (c.halves.high - c.halves.low) / 2 in
-    let so = c.halves.invariant in
-    let below : middle < c.halves.high = omega (arith, c.halves-test.true) in
-    let its = ssrc_ranked cells used c.requires.heap middle
-    (omega (arith, below, so.until, length_ranked cells used c.requires.heap)) no_entry in
-    upper_half (in_order cells used) c.requires.rising c.args.ssrc c.halves.low c.halves.high middle so below
-    (omega (arith, its, ap (λ (s : Slot). s.ssrc) c.slot_at.ensures, c.if-slot_at-ssrc.true))
+    let so = (goal.at.halves-preserved-then-slot_at-ssrc c).After-slot_at in
+    upper_half (in_order c.args.cells.now c.args.used) c.requires.rising c.args.ssrc c.halves.low c.halves.high
+    (middle so) c.halves.invariant (below so) (omega (arith, its so, c.if-slot_at-ssrc.true))
 
 pub halves-preserved : goal.halves-preserved
 halves-preserved c =
-    let cells : List Cell = c.args.cells.now in
-    let used : ℕ = c.args.used in
-    let middle : ℕ = c.halves.low + (c.halves.high - c.halves.low) / 2 in
-    let so = c.halves.invariant in
-    let below : middle < c.halves.high = omega (arith, c.halves-test.true) in
-    let its = ssrc_ranked cells used c.requires.heap middle
-    (omega (arith, below, so.until, length_ranked cells used c.requires.heap)) no_entry in
-    lowered (in_order cells used) c.requires.rising c.args.ssrc c.halves.low c.halves.high middle so (omega arith)
-    (omega (arith, below, so.until))
-    (omega (arith, its, ap (λ (s : Slot). s.ssrc) c.slot_at.ensures, c.if-slot_at-ssrc.false))
+    let so = (goal.at.halves-preserved c).After-slot_at in
+    lowered (in_order c.args.cells.now c.args.used) c.requires.rising c.args.ssrc c.halves.low c.halves.high
+    (middle so) c.halves.invariant (omega arith) (omega (arith, below so, c.halves.invariant.until))
+    (omega (arith, its so, c.if-slot_at-ssrc.false))
 
 pub returns-then-slot_at-ssrc-2 : goal.returns-then-slot_at-ssrc-2
 returns-then-slot_at-ssrc-2 c =

@@ -1,14 +1,14 @@
 use Rattle.rtcp_members.proofs.SenderLaws.{kept_is_newest, newest_is_kept, sender_sends, who_sends_is_sender}
 use Rattle.rtcp_members.proofs.trace_laws.senders_sent_lately.Goals as goal
 
-pub returns-clause-sending : goal.returns-clause-sending
-returns-clause-sending c = λ rate ssrc own moment. (
-  kept_is_newest rate ssrc own moment,
-  newest_is_kept rate ssrc own moment,
-)
-
-pub returns-clause-sender : goal.returns-clause-sender
-returns-clause-sender c = λ capacity rate trace ssrc. (
-  sender_sends capacity rate trace ssrc,
-  who_sends_is_sender capacity rate trace ssrc,
-)
+pub returns : goal.returns
+returns c = record {
+  sending = λ rate ssrc own moment. (
+    kept_is_newest rate ssrc own moment,
+    newest_is_kept rate ssrc own moment,
+  );
+  sender = λ capacity rate trace ssrc. (
+    sender_sends capacity rate trace ssrc,
+    who_sends_is_sender capacity rate trace ssrc,
+  );
+}

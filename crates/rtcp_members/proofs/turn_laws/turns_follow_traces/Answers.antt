@@ -4,12 +4,10 @@ use Rattle.std.proofs.Common.{◌∙◌, ap, map}
 use Rattle.rtcp_members.proofs.LawLemmas.{turns_follow_traces-rows, turns_follow_traces-due}
 use Rattle.rtcp_members.proofs.turn_laws.turns_follow_traces.Goals as goal
 
-pub returns-clause-sources : goal.returns-clause-sources
-returns-clause-sources c = λ last table trace stands. ap (map (λ (row : EntryRow). row.0))
-    (pending_is_traced last table trace stands) ∙ pending_have_rows last table.capacity table.rate trace
-
-pub returns-clause-rows : goal.returns-clause-rows
-returns-clause-rows c = turns_follow_traces-rows
-
-pub returns-clause-due : goal.returns-clause-due
-returns-clause-due c = turns_follow_traces-due
+pub returns : goal.returns
+returns c = record {
+  sources = λ last table trace stands. ap (map (λ (row : EntryRow). row.0))
+      (pending_is_traced last table trace stands) ∙ pending_have_rows last table.capacity table.rate trace;
+  rows = turns_follow_traces-rows;
+  due = turns_follow_traces-due;
+}

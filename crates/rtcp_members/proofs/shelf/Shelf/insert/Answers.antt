@@ -11,7 +11,9 @@ use Rattle.rtcp_members.specs.SortedViews.{IsGapFor, IsRising}
 use Rattle.rtcp_members.proofs.Heaps.{items_inserted, heap_inserted}
 use Rattle.rtcp_members.proofs.Rising.{rising_insert}
 use Rattle.rtcp_members.proofs.Pairs.{as_many, slots_shifted}
+use Rattle.rtcp_members.proofs.shelf.Shelf.insert.Given.{Over}
 use Rattle.rtcp_members.proofs.shelf.Shelf.insert.Goals as goal
+use Rattle.rtcp_members.proofs.shelf.Shelf.insert.Goals.{After-shift}
 
 -- what is left once an entry was put and the slots were shifted
 module _ (old cells shifted : List Cell) (used at until place : ℕ) (entry : Entry) (indexed : IsIndexed old used)
@@ -57,8 +59,17 @@ module _ (old cells shifted : List Cell) (used at until place : ℕ) (entry : En
     rising = subst IsRising (sym its_items) (rising_insert (in_order old used) at entry indexed.rising gap);
   }
 
-pub returns-clause-items : goal.returns-clause-items
-returns-clause-items g c =
+-- the cells are those that the block has then
+whole : (g : Over) (c : After-shift g) →
+    g.B.Blocks.cells (g.B.Blocks.with_cells c.lay-place.new.cells c.shift.new.cells) ≡ c.shift.new.cells
+whole g c = g.met.B.Blocks.written c.lay-place.new.cells c.shift.new.cells
+    (as_many (g.B.Blocks.cells c.lay-place.new.cells) c.shift.new.cells
+    (c.shift.ensures.entries ∙ ap entries_in c.as_mut_slice.ensures.cells))
+
+made : (g : Over) (c : After-shift g) → (in_order c.shift.new.cells (c.self.inside.used + 1) ≡ insert
+    c.args.self.now.items c.args.gap c.args.entry)
+    × IsIndexed c.shift.new.cells (c.self.inside.used + 1)
+made g c =
     let before : List Cell = g.B.Blocks.cells c.self.inside.cells in
     let cells : List Cell = g.B.Blocks.cells c.lay-place.new.cells in
     let shifted : List Cell = c.shift.new.cells in
@@ -78,46 +89,28 @@ returns-clause-items g c =
     ) in
     let slots = c.shift.ensures.slots ∙ ap (λ xs. take (2 * until) (insert (pairs_in xs) c.args.gap slot) ++ drop
     (2 * until) (pairs_in xs)) lent in
-    let entries = c.shift.ensures.entries ∙ ap entries_in lent in
-    let whole : g.B.Blocks.cells (g.B.Blocks.with_cells c.lay-place.new.cells shifted) ≡ shifted =
-    g.met.B.Blocks.written c.lay-place.new.cells shifted (as_many cells shifted entries) in
-    ap (λ xs. in_order xs (used + 1)) whole
-    ∙ its_items before cells shifted used c.args.gap until c.lay-place.result c.args.entry c.self.invariant.index
-    c.lay-place.ensures.put gap refl few slots entries
-    ∙ ap (λ xs. insert xs c.args.gap c.args.entry) items
+    let entries = c.shift.ensures.entries ∙ ap entries_in lent in (
+      its_items before cells shifted used c.args.gap until c.lay-place.result c.args.entry c.self.invariant.index
+          c.lay-place.ensures.put gap refl few slots entries
+          ∙ ap (λ xs. insert xs c.args.gap c.args.entry) items,
+      still_indexed before cells shifted used c.args.gap until c.lay-place.result c.args.entry
+          c.self.invariant.index c.lay-place.ensures.put gap refl few slots entries,
+    )
+
+pub returns-clause-items : goal.returns-clause-items
+returns-clause-items g c =
+    let so = (goal.at.returns-clause-items g c).After-shift in
+    ap (λ xs. in_order xs (c.self.inside.used + 1)) (whole g so) ∙ (made g so).0
 
 pub invariant_of-self : goal.invariant_of-self
 invariant_of-self g c =
-    let before : List Cell = g.B.Blocks.cells c.self.inside.cells in
-    let cells : List Cell = g.B.Blocks.cells c.lay-place.new.cells in
-    let shifted : List Cell = c.shift.new.cells in
-    let lent = c.as_mut_slice.ensures.cells in
-    let used : ℕ = c.self.inside.used in
-    let until : ℕ = used / 2 + 1 in
-    let slot : Slot = record { ssrc = c.args.entry.ssrc; place = c.lay-place.result } in
-    let items = ap (λ (v : ShelfValue). v.items) c.self.view_is in
-    let gap = subst (λ (entries : List Entry). IsGapFor c.args.entry.ssrc entries c.args.gap)
-    (sym items) c.requires.gap in
-    let few : length cells ≤ 1024 = omega (
-      arith,
-      ap (λ (xs : List Cell). length xs) lent,
-      c.as_mut_slice.ensures.fits,
-      c.lay-place.ensures.room,
-      c.self.invariant.few,
-    ) in
-    let slots = c.shift.ensures.slots ∙ ap (λ xs. take (2 * until) (insert (pairs_in xs) c.args.gap slot) ++ drop
-    (2 * until) (pairs_in xs)) lent in
-    let entries = c.shift.ensures.entries ∙ ap entries_in lent in
-    let whole : g.B.Blocks.cells (g.B.Blocks.with_cells c.lay-place.new.cells shifted) ≡ shifted =
-    g.met.B.Blocks.written c.lay-place.new.cells shifted (as_many cells shifted entries) in
+    let so = (goal.at.invariant_of-self g c).After-shift in
     record {
-      index = subst (λ xs. IsIndexed xs (used + 1)) (sym whole)
-          (still_indexed before cells shifted used c.args.gap until c.lay-place.result c.args.entry
-          c.self.invariant.index c.lay-place.ensures.put gap refl few slots entries);
+      index = subst (λ xs. IsIndexed xs (c.self.inside.used + 1)) (sym (whole g so)) (made g so).1;
       few = omega (
         arith,
         c.self.invariant.few,
         c.lay-place.ensures.room,
-        g.met.B.Blocks.kept c.lay-place.new.cells shifted,
+        g.met.B.Blocks.kept c.lay-place.new.cells c.shift.new.cells,
       );
     }

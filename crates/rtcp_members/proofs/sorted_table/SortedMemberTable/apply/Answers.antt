@@ -10,54 +10,47 @@ use Rattle.rtcp_members.proofs.Applying.{counted_applied, place_applied}
 use Rattle.rtcp_members.proofs.Edits.{sorted_edited, table_edited, stand_with_fact}
 use Rattle.rtcp_members.proofs.BoundLemmas.{all_lower}
 use Rattle.rtcp_members.proofs.Searching.{none_in_gap}
+use Rattle.rtcp_members.proofs.sorted_table.SortedMemberTable.apply.Given.{Over}
 use Rattle.rtcp_members.proofs.sorted_table.SortedMemberTable.apply.Goals as goal
+use Rattle.rtcp_members.proofs.sorted_table.SortedMemberTable.apply.Goals.{In-Ok}
 
 -- ---- Where the source has an entry
 
-pub returns-in-Ok-clause-place : goal.returns-in-Ok-clause-place
-returns-in-Ok-clause-place g c =
-    let items : List Entry = c.self.inside.entries.items in
-    let place : IsRankOf (subject c.args.fact) items c.in-Ok.at = subst
-    (λ ssrc. IsRankOf ssrc items c.in-Ok.at) c.ssrc-ssrc.ensures c.in-Ok.ensures in
-    place_applied items c.in-Ok.at c.args.fact c.self.inside.rate no_entry c.apply.result.place place
-    (c.apply.ensures.taken.place no_entry) c.self.inside.capacity ∙ ap (λ
-    (table : TableValue). placed table c.args.fact) c.self.view_is
+place : (g : Over) (c : In-Ok g) → IsRankOf (subject c.args.fact) c.self.inside.entries.items c.in-Ok.at
+place g c = subst (λ ssrc. IsRankOf ssrc c.self.inside.entries.items c.in-Ok.at) c.ssrc-ssrc.ensures c.in-Ok.ensures
 
-pub returns-in-Ok-clause-counted : goal.returns-in-Ok-clause-counted
-returns-in-Ok-clause-counted g c =
+pub returns-in-Ok : goal.returns-in-Ok
+returns-in-Ok g c =
     let items : List Entry = c.self.inside.entries.items in
-    let place : IsRankOf (subject c.args.fact) items c.in-Ok.at = subst
-    (λ ssrc. IsRankOf ssrc items c.in-Ok.at) c.ssrc-ssrc.ensures c.in-Ok.ensures in
-    counted_applied items c.in-Ok.at c.args.fact c.self.inside.rate no_entry c.apply.result.counted place
-    (c.apply.ensures.taken.counted no_entry) c.self.inside.capacity ∙ ap (λ
-    (table : TableValue). counted table c.args.fact) c.self.view_is
-
-pub returns-in-Ok-clause-content : goal.returns-in-Ok-clause-content
-returns-in-Ok-clause-content g c =
-    let items : List Entry = c.self.inside.entries.items in
-    let place : IsRankOf (subject c.args.fact) items c.in-Ok.at = subst
-    (λ ssrc. IsRankOf ssrc items c.in-Ok.at) c.ssrc-ssrc.ensures c.in-Ok.ensures in
-    table_edited c.args.fact c.args.t c.self.inside.rate items c.apply.new.self.items c.in-Ok.at place
-    c.apply.ensures.taken.changed c.self.invariant.sorted.rising c.self.inside.capacity
-    ∙ ap (after_fact c.args.fact c.args.t) c.self.view_is
+    let stands = place g (goal.at.returns-in-Ok g c).In-Ok in
+    let taken = c.apply.ensures.taken in
+    record {
+      place = place_applied items c.in-Ok.at c.args.fact c.self.inside.rate no_entry c.apply.result.place stands
+          (taken.place no_entry) c.self.inside.capacity
+          ∙ ap (λ (table : TableValue). placed table c.args.fact) c.self.view_is;
+      counted = counted_applied items c.in-Ok.at c.args.fact c.self.inside.rate no_entry c.apply.result.counted stands
+          (taken.counted no_entry) c.self.inside.capacity
+          ∙ ap (λ (table : TableValue). counted table c.args.fact) c.self.view_is;
+      content = table_edited c.args.fact c.args.t c.self.inside.rate items c.apply.new.self.items c.in-Ok.at stands
+          taken.changed c.self.invariant.sorted.rising c.self.inside.capacity
+          ∙ ap (after_fact c.args.fact c.args.t) c.self.view_is;
+    }
 
 pub invariant_of-self : goal.invariant_of-self
 invariant_of-self g c =
     let items : List Entry = c.self.inside.entries.items in
-    let place : IsRankOf (subject c.args.fact) items c.in-Ok.at = subst
-    (λ ssrc. IsRankOf ssrc items c.in-Ok.at) c.ssrc-ssrc.ensures c.in-Ok.ensures in
+    let stands = place g (goal.at.invariant_of-self g c).In-Ok in
     let made = c.apply.ensures.taken.changed in
     let next : List Entry = c.apply.new.self.items in
-    let stood = all_lower c.lower.new.self c.self.inside.bounds c.lower.ensures.no_later items
-    c.self.invariant.standing in
     record {
       sorted = sorted_edited (subject c.args.fact) items next c.in-Ok.at
-          (entry_with_fact c.self.inside.rate c.args.fact c.args.t) place made c.self.inside.capacity
+          (entry_with_fact c.self.inside.rate c.args.fact c.args.t) stands made c.self.inside.capacity
           c.self.invariant.sorted;
       counted = c.apply.ensures.taken.recounted;
       roomy = omega (arith, c.self.invariant.roomy, c.apply.ensures.room);
-      standing = stand_with_fact c.args.fact c.args.t c.self.inside.rate items next c.in-Ok.at place made
-          c.lower.new.self c.lower.ensures.up_to stood;
+      standing = stand_with_fact c.args.fact c.args.t c.self.inside.rate items next c.in-Ok.at stands made
+          c.lower.new.self c.lower.ensures.up_to (all_lower c.lower.new.self c.self.inside.bounds
+          c.lower.ensures.no_later items c.self.invariant.standing);
     }
 
 -- ---- Where it has none

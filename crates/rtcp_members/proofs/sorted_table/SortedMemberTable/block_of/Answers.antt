@@ -14,6 +14,15 @@ use Rattle.rtcp_members.proofs.Reporting.{block_reported, table_reported}
 use Rattle.rtcp_members.proofs.Rising.{rising_apart}
 use Rattle.rtcp_members.proofs.Searching.{due_is_found}
 use Rattle.rtcp_members.proofs.sorted_table.SortedMemberTable.block_of.Goals as goal
+use Rattle.rtcp_members.proofs.sorted_table.SortedMemberTable.block_of.Given.{Over}
+use Rattle.rtcp_members.proofs.sorted_table.SortedMemberTable.block_of.Goals.{After-unwrap-at}
+
+stands : (g : Over) (c : After-unwrap-at g) → IsRankOf c.args.ssrc c.self.inside.entries.items c.unwrap-at.result
+stands g c = subst (Locates c.args.ssrc c.self.inside.entries.items) c.unwrap-at.ensures c.search_behind.ensures
+
+is_due_there : (g : Over) (c : After-unwrap-at g) → IsTrue (is_due_at c.args.ssrc
+    (table_of c.self.inside.capacity c.self.inside.rate c.self.inside.entries.items))
+is_due_there g c = subst (λ (table : TableValue). IsTrue (is_due_at c.args.ssrc table)) (sym c.self.view_is) c.requires
 
 pub unwrap-at-requires : goal.unwrap-at-requires
 unwrap-at-requires g c = due_is_found c.args.ssrc c.self.inside.capacity c.self.inside.rate c.self.inside.entries.items
@@ -22,17 +31,15 @@ unwrap-at-requires g c = due_is_found c.args.ssrc c.self.inside.capacity c.self.
 pub overflow_sub-self : goal.overflow_sub-self
 overflow_sub-self g c =
     let items : List Entry = c.self.inside.entries.items in
-    let place : IsRankOf c.args.ssrc items c.unwrap-at.result = subst (Locates c.args.ssrc items) c.unwrap-at.ensures
-    c.search_behind.ensures in
-    let due = subst (λ (table : TableValue). IsTrue (is_due_at c.args.ssrc table)) (sym c.self.view_is) c.requires in
+    let place = stands g (goal.at.overflow_sub-self g c).After-unwrap-at in
+    let due = is_due_there g (goal.at.overflow_sub-self g c).After-unwrap-at in
     omega (arith, c.self.invariant.counted.due, due_counts c.args.ssrc items c.unwrap-at.result place due)
 
 pub report-requires : goal.report-requires
 report-requires g c =
     let items : List Entry = c.self.inside.entries.items in
-    let place : IsRankOf c.args.ssrc items c.unwrap-at.result = subst (Locates c.args.ssrc items) c.unwrap-at.ensures
-    c.search_behind.ensures in
-    let due = subst (λ (table : TableValue). IsTrue (is_due_at c.args.ssrc table)) (sym c.self.view_is) c.requires in
+    let place = stands g (goal.at.report-requires g c).After-unwrap-at in
+    let due = is_due_there g (goal.at.report-requires g c).After-unwrap-at in
     record {
       stands = slice_get_within items c.unwrap-at.result place.entry place.stands;
       due = due_there c.args.ssrc items c.unwrap-at.result place due;
@@ -41,8 +48,7 @@ report-requires g c =
 pub returns : goal.returns
 returns g c =
     let items : List Entry = c.self.inside.entries.items in
-    let place : IsRankOf c.args.ssrc items c.unwrap-at.result = subst (Locates c.args.ssrc items) c.unwrap-at.ensures
-    c.search_behind.ensures in
+    let place = stands g (goal.at.returns g c).After-unwrap-at in
     let made = c.report.ensures.made.changed in
     record {
       block = block_reported c.args.ssrc c.args.t items c.unwrap-at.result no_entry
@@ -60,9 +66,8 @@ pub invariant_of-self : goal.invariant_of-self
 invariant_of-self g c =
     let items : List Entry = c.self.inside.entries.items in
     let at = c.unwrap-at.result in
-    let place : IsRankOf c.args.ssrc items at = subst (Locates c.args.ssrc items) c.unwrap-at.ensures
-    c.search_behind.ensures in
-    let due = subst (λ (table : TableValue). IsTrue (is_due_at c.args.ssrc table)) (sym c.self.view_is) c.requires in
+    let place = stands g (goal.at.invariant_of-self g c).After-unwrap-at in
+    let due = is_due_there g (goal.at.invariant_of-self g c).After-unwrap-at in
     let so = c.self.invariant in
     let made = c.report.ensures.made.changed in
     let next : List Entry = c.report.new.self.items in
