@@ -1,12 +1,10 @@
 -- Entries by rising SSRC on a shelf, and the cells in which they lie.
-use Rattle.std.specs.Prelude.{ℕ, Bool, ◌≡◌, ◌≤◌, List, set, slice_index_or, Option, Some, refl}
-use Rattle.std.specs.Coded.{Coded, code_by, coded×, coded_ℕ, coded_bool, coded_list, coded_option}
+use Rattle.std.specs.Prelude.{ℕ, Bool, ◌≡◌, ◌≤◌, List, set, slice_index_or, Option, Some}
 use Rattle.std.specs.Borrow.{Lends, Fml, RattleType, MutBor, Array}
 use Rattle.rtcp_wire.specs.declared.fact.Fact.{Fact}
 use Rattle.rtcp_wire.specs.Values.{ReportBlock}
 use Rattle.rtcp_wire.specs.Writing.{IsWritableBlock}
 use Rattle.rtcp_source.specs.Blocks.{block_for}
-use Rattle.rtcp_source.specs.Summary.{SourceValue}
 use Rattle.rtcp_members.specs.declared.cells.Cell.{Cell}
 use Rattle.rtcp_members.specs.declared.entry.Entry.{Entry}
 use Rattle.rtcp_members.specs.declared.counts.Counts.{Counts}
@@ -15,11 +13,10 @@ use Rattle.rtcp_members.specs.Pending.{reported_entry}
 use Rattle.rtcp_members.specs.Standing.{AreCounts}
 use Rattle.rtcp_members.specs.Tables.{counted_of, entry_with_fact, place_of}
 use Rattle.rtcp_members.specs.contracts.cells.Cell.{the_row}
-use Rattle.rtcp_members.specs.Codes.{source_code}
 use Rattle.rtcp_members.specs.Entries.{EntryValue}
 use Rattle.rtcp_members.specs.ListViews.{entry_value}
 use Rattle.rtcp_members.specs.Heaps.{IsIndexed}
-use denote.RawPtr.{Ptr, coded_ptr}
+use denote.RawPtr.{Ptr}
 
 -- The entries in order, how many there is room for, and the block of memory that they lie in, where they lie in one
 -- of their own.
@@ -60,31 +57,3 @@ pub record MakesBlock (moment : ℕ) (entries next : List Entry) (at : ℕ) (val
 abbrev pub LendsCells : (S : RattleType) → MutBor S.Denot → MutBor (List Cell) →
     (S.Denot → List Cell → S.Denot) → Fml
 LendsCells S s r with_cells = Lends S (Array the_row 0) s r (with_cells s.now)
-
--- ---- Codes, by which a proof tells shelves apart
-
-abbrev pub written_code : Coded Entry
-written_code =
-    code_by (ℕ × (Bool × (Bool × (Bool × (ℕ × (ℕ × (ℕ × SourceValue)))))))
-    (coded× coded_ℕ (coded× coded_bool (coded× coded_bool (coded× coded_bool
-    (coded× coded_ℕ (coded× coded_ℕ (coded× coded_ℕ source_code)))))))
-    (λ e. (e.ssrc, (e.valid, (e.left, (e.sends, (e.mark, (e.sighting, (e.sending, e.source))))))))
-    (λ p. record {
-      ssrc = p.0;
-      valid = p.1.0;
-      left = p.1.1.0;
-      sends = p.1.1.1.0;
-      mark = p.1.1.1.1.0;
-      sighting = p.1.1.1.1.1.0;
-      sending = p.1.1.1.1.1.1.0;
-      source = p.1.1.1.1.1.1.1;
-    })
-    (λ _. refl)
-
-abbrev pub shelf_code : Coded ShelfValue
-shelf_code =
-    code_by (List Entry × (ℕ × Option Ptr))
-    (coded× (coded_list written_code) (coded× coded_ℕ (coded_option coded_ptr)))
-    (λ s. (s.items, (s.room, s.block)))
-    (λ p. record { items = p.0; room = p.1.0; block = p.1.1 })
-    (λ _. refl)

@@ -37,11 +37,9 @@ pub struct Shelf<B: Blocks> {
 
 impl<B: Blocks> Model for Shelf<B> {
     ghost use Rattle.rtcp_members.specs.Heaps.{in_order};
-    ghost use Rattle.rtcp_members.specs.Shelves.{IsShelf, ShelfValue, shelf_code};
+    ghost use Rattle.rtcp_members.specs.Shelves.{IsShelf, ShelfValue};
 
     ghost Value = { ShelfValue };
-
-    ghost coded = { shelf_code };
 
     ghost view = { λ s.
         record { items = in_order (B.cells s.cells) s.used; room = B.room s.cells; block = B.block s.cells } };
