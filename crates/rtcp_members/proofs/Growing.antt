@@ -138,27 +138,32 @@ was_there : (step : EntryValue → Option EntryValue) (entry : Option EntryValue
 was_there step None found = found
 was_there step (Some e) found = refl
 
+-- What an entry passes after a check it passed before, if a sending that ends lets it pass no more.
+pub checked_such : (test : EntryValue → Bool) (horizons : Horizons) → ((entry : EntryValue) →
+    test (record entry { sending = still_sending horizons entry.sending }) ≡ true → test entry ≡ true)
+    → (entry : Option EntryValue) → is_such test (option_and_then (entry_after_check horizons) entry) ≡ true →
+    is_such test entry ≡ true
+checked_such test horizons fewer None passes = passes
+checked_such test horizons fewer (Some entry) passes =
+    elim (is_removed horizons entry.sighting entry.mark) as (λ b. is_such test
+    (if b then None else Some (if is_some entry.mark then entry else record
+    entry { sending = still_sending horizons entry.sending })) ≡ true → test entry ≡ true) [
+      | true ↦ λ h. absurd (true≢false (sym h))
+      | false ↦ elim (is_some entry.mark) as (λ b. test
+          (if b then entry else record entry { sending = still_sending horizons entry.sending }) ≡ true →
+          test entry ≡ true) [ true ↦ λ h. h | false ↦ fewer entry ]
+    ] passes
+
 pub checked_sender : (horizons : Horizons) (entry : Option EntryValue) →
     is_such is_sender (option_and_then (entry_after_check horizons) entry) ≡ true → is_such is_sender entry ≡ true
-checked_sender horizons None sends = sends
-checked_sender horizons (Some entry) sends =
-    elim (is_removed horizons entry.sighting entry.mark) as (λ b. is_such is_sender
-    (if b then None else Some (if is_some entry.mark then entry else record
-    entry { sending = still_sending horizons entry.sending })) ≡ true → is_sender entry ≡ true) [
-      | true ↦ λ h. absurd (true≢false (sym h))
-      | false ↦ elim (is_some entry.mark) as (λ b. is_sender
-          (if b then entry else record entry { sending = still_sending horizons entry.sending }) ≡ true →
-          is_sender entry ≡ true) [
-            | true ↦ λ h. h
-            | false ↦ λ h. let parts = and_parts (is_member entry) (is_some (still_sending horizons entry.sending)) h in
-                λ i. parts.0 i && was_sending horizons entry.sending parts.1 i
-          ]
-    ] sends
+checked_sender horizons =
+    checked_such is_sender horizons (λ entry sends. let parts = and_parts (is_member entry)
+    (is_some (still_sending horizons entry.sending)) sends in
+    λ i. parts.0 i && was_sending entry.sending parts.1 i)
   where
-    was_sending : (horizons : Horizons) (sending : Option ℕ) → is_some (still_sending horizons sending) ≡ true →
-        is_some sending ≡ true
-    was_sending horizons None h = h
-    was_sending horizons (Some m) h = refl
+    was_sending : (sending : Option ℕ) → is_some (still_sending horizons sending) ≡ true → is_some sending ≡ true
+    was_sending None h = h
+    was_sending (Some m) h = refl
 
 pub check_adds_no_sender : (table : TableValue) (horizons : Horizons) →
     senders_in (after_check horizons table) ≤ senders_in table

@@ -2,7 +2,8 @@
 use Rattle.std.proofs.Common.{◌≡◌, ℕ, ◌<◌, Bool, true, false, T, cond, if◌then◌else◌, not, ◌||◌, ◌==◌, ◌&&◌, nat_lt, nat_cmp, is_lt, List, [], ◌∷◌, ◌++◌, filter, filter_map, map, Option, Some, None, is_some, is_none, option_map, arith, refl, sym, ap, subst, ◌∙◌}
 use Rattle.std.proofs.lemmas.Bool.{or_parts}
 use Rattle.std.proofs.lemmas.Bool.Decides.{nat_tests}
-use Rattle.std.specs.List.{cons_option}
+use Rattle.std.specs.List.{All, cons_option}
+use Rattle.std.proofs.lemmas.List.Elements.{All-nil, All-cons, All-head, All-tail, All-append, All-filter}
 use Rattle.std.specs.Cmp.{nat_cmp_total}
 use Rattle.std.specs.FinMap as finite
 use Rattle.std.specs.FinMap.{nat_cmp-IsAntisymmetric}
@@ -13,7 +14,7 @@ use Rattle.rtcp_members.specs.Traces.{TraceStep, names}
 use Rattle.rtcp_members.specs.Stays.{mark_of, before_mark, stay_of}
 use Rattle.rtcp_members.specs.Entries.{EntryValue, given_of, entry_of, entry_at, is_such}
 use Rattle.rtcp_members.specs.Tables.{EntryMap, TableValue, StandsAt}
-use Rattle.rtcp_members.specs.Pending.{EntryRow, is_due, due_rows, is_after, pending}
+use Rattle.rtcp_members.specs.Pending.{EntryRow, is_due, due_rows, is_above, is_after, pending}
 use Rattle.rtcp_members.specs.News.{is_due_in, is_due_by, put_rising, rising, pending_at, pending_rows_at}
 use Rattle.rtcp_members.proofs.Counting.{has, IsOnce}
 use Rattle.rtcp_members.proofs.Naming.{names_are_once, present_is_named}
@@ -108,37 +109,15 @@ module _ (entry : ℕ → Option EntryValue) where
         | Some e ↦ both (below_all nat_cmp x (rows xs)) _ (below_rows x xs are.0) rest
       ]
 
-  -- a test of entries, and a test of SSRCs
-  rows_passing : (test : EntryValue → Bool) (such : ℕ → Bool) → ((x : ℕ) → is_such test (entry x) ≡ such x) →
-      (xs : List ℕ) → filter (λ (row : EntryRow). test row.1) (rows xs) ≡ rows (filter such xs)
-  rows_passing test such same [] = refl
-  rows_passing test such same (x ∷ xs) =
-      let rest = rows_passing test such same xs in
-      elim (entry x) as (λ (o : Option EntryValue). entry x ≡ o → is_such test o ≡ such x →
-      filter (λ (row : EntryRow). test row.1) (cons_option (option_map (λ e. (x, e)) o) (rows xs)) ≡ rows
-      (cond (such x) (x ∷ filter such xs) (filter such xs))) [
-        | None ↦ λ is fails. rest ∙ ap (λ b. rows (cond b (x ∷ filter such xs) (filter such xs))) fails
-        | Some e ↦ λ is passes. elim (such x) as (λ b. test e ≡ b →
-            cond (test e) ((x, e) ∷ filter (λ (row : EntryRow). test row.1) (rows xs))
-            (filter (λ (row : EntryRow). test row.1) (rows xs)) ≡ rows
-            (cond b (x ∷ filter such xs) (filter such xs))) [
-              | true ↦ λ h. ap (λ b. cond b ((x, e) ∷ filter (λ (row : EntryRow). test row.1) (rows xs))
-                  (filter (λ (row : EntryRow). test row.1) (rows xs))) h
-                  ∙ ap (λ (t : List EntryRow). (x, e) ∷ t) rest
-                  ∙ ap (λ (o : Option EntryValue). cons_option (option_map (λ e. (x, e)) o) (rows (filter such xs)))
-                  (sym is)
-              | false ↦ λ h. ap (λ b. cond b ((x, e) ∷ filter (λ (row : EntryRow). test row.1) (rows xs))
-                  (filter (λ (row : EntryRow). test row.1) (rows xs))) h ∙ rest
-            ] passes
-      ] refl (same x)
-
-  rows_of_ssrcs : (such : ℕ → Bool) (xs : List ℕ) → filter (λ (row : EntryRow). such row.0) (rows xs) ≡ rows
-      (filter such xs)
-  rows_of_ssrcs such [] = refl
-  rows_of_ssrcs such (x ∷ xs) =
-      let rest = rows_of_ssrcs such xs in
+  -- a test of rows, and one of SSRCs that says the same where there is an entry
+  rows_kept : (test : EntryRow → Bool) (such : ℕ → Bool) →
+      ((x : ℕ) (e : EntryValue) → entry x ≡ Some e → test (x, e) ≡ such x) → (xs : List ℕ) →
+      filter test (rows xs) ≡ rows (filter such xs)
+  rows_kept test such same [] = refl
+  rows_kept test such same (x ∷ xs) =
+      let rest = rows_kept test such same xs in
       elim (entry x) as (λ (o : Option EntryValue). entry x ≡ o →
-      filter (λ (row : EntryRow). such row.0) (cons_option (option_map (λ e. (x, e)) o) (rows xs)) ≡ rows
+      filter test (cons_option (option_map (λ e. (x, e)) o) (rows xs)) ≡ rows
       (cond (such x) (x ∷ filter such xs) (filter such xs))) [
         | None ↦ λ is. rest ∙ elim (such x) as (λ b. rows (filter such xs) ≡ rows
             (cond b (x ∷ filter such xs) (filter such xs))) [
@@ -146,8 +125,9 @@ module _ (entry : ℕ → Option EntryValue) where
                   (sym is)
               | false ↦ refl
             ]
-        | Some e ↦ λ is. elim (such x) as (λ b. cond b ((x, e) ∷ filter (λ (row : EntryRow). such row.0) (rows xs))
-            (filter (λ (row : EntryRow). such row.0) (rows xs)) ≡ rows
+        | Some e ↦ λ is.
+            ap (λ b. cond b ((x, e) ∷ filter test (rows xs)) (filter test (rows xs))) (same x e is)
+            ∙ elim (such x) as (λ b. cond b ((x, e) ∷ filter test (rows xs)) (filter test (rows xs)) ≡ rows
             (cond b (x ∷ filter such xs) (filter such xs))) [
               | true ↦ ap (λ (t : List EntryRow). (x, e) ∷ t) rest
                   ∙ ap (λ (o : Option EntryValue). cons_option (option_map (λ e. (x, e)) o) (rows (filter such xs)))
@@ -166,44 +146,27 @@ module _ (entry : ℕ → Option EntryValue) where
         | Some e ↦ ap (λ (t : List EntryRow). (x, e) ∷ t) rest
       ]
 
-  -- SSRCs that all have an entry
-  abbrev AllHave : List ℕ → Type 0
-  AllHave [] = Unit {0}
-  AllHave (x ∷ xs) = (is_some (entry x) ≡ true) × AllHave xs
+  abbrev Has : ℕ → Type 0
+  Has x = is_some (entry x) ≡ true
 
-  ssrcs_of_rows : (xs : List ℕ) → AllHave xs → map (λ (row : EntryRow). row.0) (rows xs) ≡ xs
+  ssrcs_of_rows : (xs : List ℕ) → All Has xs → map (λ (row : EntryRow). row.0) (rows xs) ≡ xs
   ssrcs_of_rows [] all = refl
   ssrcs_of_rows (x ∷ xs) all =
-      let rest = ssrcs_of_rows xs all.1 in
+      let rest = ssrcs_of_rows xs (All-tail Has x xs all) in
       elim (entry x) as (λ (o : Option EntryValue). is_some o ≡ true →
       map (λ (row : EntryRow). row.0) (cons_option (option_map (λ e. (x, e)) o) (rows xs)) ≡ x ∷ xs) [
         | None ↦ λ h. absurd cc
         | Some e ↦ λ h. ap (λ (t : List ℕ). x ∷ t) rest
-      ] all.0
+      ] (All-head Has x xs all)
 
-  have_passing : (such : ℕ → Bool) → ((x : ℕ) → such x ≡ true → is_some (entry x) ≡ true) → (xs : List ℕ) →
-      AllHave (filter such xs)
-  have_passing such some [] = tt
+  have_passing : (such : ℕ → Bool) → ((x : ℕ) → such x ≡ true → Has x) → (xs : List ℕ) → All Has (filter such xs)
+  have_passing such some [] = All-nil Has
   have_passing such some (x ∷ xs) =
       let rest = have_passing such some xs in
-      elim (such x) as (λ b. such x ≡ b → AllHave (cond b (x ∷ filter such xs) (filter such xs))) [
-        | true ↦
-            λ is. (some x is, rest)
+      elim (such x) as (λ b. such x ≡ b → All Has (cond b (x ∷ filter such xs) (filter such xs))) [
+        | true ↦ λ is. All-cons Has x (filter such xs) (some x is) rest
         | false ↦ λ _. rest
       ] refl
-
-  have_filtered : (test : ℕ → Bool) (xs : List ℕ) → AllHave xs → AllHave (filter test xs)
-  have_filtered test [] all = tt
-  have_filtered test (x ∷ xs) all =
-      let rest = have_filtered test xs all.1 in
-      elim (test x) as (λ b. AllHave (cond b (x ∷ filter test xs) (filter test xs))) [
-        | true ↦ (all.0, rest)
-        | false ↦ rest
-      ]
-
-  have_joined : (xs ys : List ℕ) → AllHave xs → AllHave ys → AllHave (xs ++ ys)
-  have_joined [] ys of_xs of_ys = of_ys
-  have_joined (x ∷ xs) ys of_xs of_ys = (of_xs.0, have_joined xs ys of_xs.1 of_ys)
 
 -- ---- The entries of a table, by the names of its trace
 
@@ -273,15 +236,16 @@ module _ (last : Option ℕ) (table : TableValue) (trace : List TraceStep) (stan
   due_are_news : due_rows table ≡ rows entries news
   due_are_news =
       ap (λ (t : List EntryRow). filter (λ (row : EntryRow). is_due row.1) t) (entries_in_order table trace stands)
-      ∙ rows_passing entries is_due (is_due_by table.capacity table.rate trace)
-      (due_at_trace table.capacity table.rate trace) (rising (names trace))
+      ∙ rows_kept entries (λ (row : EntryRow). is_due row.1) (is_due_by table.capacity table.rate trace)
+      (λ ssrc e is. ap (is_such is_due) (sym is) ∙ due_at_trace table.capacity table.rate trace ssrc)
+      (rising (names trace))
 
   pub pending_is_traced : pending last table ≡ pending_rows_at last table.capacity table.rate trace
   pending_is_traced =
       (λ i. filter (λ (row : EntryRow). is_after last row.0) (due_are_news i) ++ filter
       (λ (row : EntryRow). not (is_after last row.0)) (due_are_news i))
-      ∙ (λ i. rows_of_ssrcs entries (is_after last) news i ++ rows_of_ssrcs entries (λ ssrc. not (is_after last ssrc))
-      news i)
+      ∙ (λ i. rows_kept entries (is_above last) (is_after last) (λ ssrc e is. refl) news i ++ rows_kept entries
+      (λ row. not (is_above last row)) (λ ssrc. not (is_after last ssrc)) (λ ssrc e is. refl) news i)
       ∙ rows_joined entries (filter (is_after last) news) (filter (λ ssrc. not (is_after last ssrc)) news)
 
 such_is_there : (test : EntryValue → Bool) (entry : Option EntryValue) → is_such test entry ≡ true →
@@ -298,5 +262,5 @@ pending_have_rows last capacity rate trace =
     (λ ssrc news. such_is_there is_due (entry ssrc) (due_at_trace capacity rate trace ssrc ∙ news))
     (rising (names trace)) in
     ssrcs_of_rows entry (pending_at last capacity rate trace)
-    (have_joined entry _ _ (have_filtered entry (is_after last) _ all)
-    (have_filtered entry (λ ssrc. not (is_after last ssrc)) _ all))
+    (All-append (Has entry) _ _ (All-filter (is_after last) (Has entry) _ all)
+    (All-filter (λ ssrc. not (is_after last ssrc)) (Has entry) _ all))

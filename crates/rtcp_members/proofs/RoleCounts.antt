@@ -1,19 +1,18 @@
 -- Who is a member or sends moves exactly where the counts do.
-use Rattle.std.proofs.Common.{◌≡◌, ◌≤◌, ℕ, zero, suc, ◌+◌, Bool, true, false, true≢false, cond, if◌then◌else◌, not, ◌&&◌, ◌||◌, ◌==◌, List, [], ◌∷◌, drop, Option, Some, None, is_some, option_map, option_and_then, arith, refl, sym, ap, ◌∙◌}
+use Rattle.std.proofs.Common.{◌≡◌, ◌≤◌, ℕ, zero, suc, ◌+◌, Bool, true, false, true≢false, cond, if◌then◌else◌, not, ◌&&◌, ◌||◌, ◌==◌, List, [], ◌∷◌, drop, Option, Some, None, is_some, option_map, arith, refl, sym, ap, ◌∙◌}
 use Rattle.std.proofs.lemmas.Bool.{eqb-true, or_parts}
 use Rattle.std.proofs.lemmas.Bool.Decides.{nat_tests}
 use Rattle.rtcp_wire.specs.declared.fact.Fact.{Fact}
 use Rattle.rtcp_wire.specs.Facts.{subject, is_gone}
 use Rattle.rtcp_members.specs.Traces.{Horizons, TraceStep, fact_came, check_made, block_taken, names}
-use Rattle.rtcp_members.specs.Stays.{is_removed, stay_of}
-use Rattle.rtcp_members.specs.Entries.{EntryValue, still_sending, entry_of, entry_at, is_member, is_sender, is_such, count_at, members_at, senders_at}
-use Rattle.rtcp_members.specs.Tables.{entry_after_check}
+use Rattle.rtcp_members.specs.Stays.{stay_of}
+use Rattle.rtcp_members.specs.Entries.{EntryValue, entry_of, entry_at, is_member, is_sender, is_such, count_at, members_at, senders_at}
 use Rattle.rtcp_members.specs.Pending.{reported_entry}
 use Rattle.rtcp_members.specs.Roles.{IsSameRole, step_moves, moved_within}
 use Rattle.rtcp_members.proofs.Counting.{has, IsOnce, passing, same_passing, first_and_rest, one_or_none, one_more, no_more}
 use Rattle.rtcp_members.proofs.Naming.{names_are_once, present_is_named, still_named}
 use Rattle.rtcp_members.proofs.TraceStepLemmas.{other_entry_at, checked_entry_at}
-use Rattle.rtcp_members.proofs.Growing.{more_pass, checked_sender}
+use Rattle.rtcp_members.proofs.Growing.{more_pass, checked_such, checked_sender}
 use Rattle.rtcp_members.proofs.Blocking.{reported_if, own_stay, other_stay}
 
 -- ---- Two tests of keys
@@ -190,22 +189,9 @@ module _ (test : EntryValue → Bool) (capacity rate : ℕ) where
         | false ↦ λ unnamed. neither (check_made horizons) trace ssrc unnamed unnamed
       ] refl
 
-checked_member : (horizons : Horizons) (entry : Option EntryValue) →
-    is_such is_member (option_and_then (entry_after_check horizons) entry) ≡ true → is_such is_member entry ≡ true
-checked_member horizons None member = member
-checked_member horizons (Some entry) member =
-    elim (is_removed horizons entry.sighting entry.mark) as (λ b. is_such is_member
-    (if b then None else Some (if is_some entry.mark then entry else record
-    entry { sending = still_sending horizons entry.sending })) ≡ true → is_member entry ≡ true) [
-      | true ↦ λ h. absurd (true≢false (sym h))
-      | false ↦ elim (is_some entry.mark) as (λ b. is_member
-          (if b then entry else record entry { sending = still_sending horizons entry.sending }) ≡ true →
-          is_member entry ≡ true) [ true ↦ λ h. h | false ↦ λ h. h ]
-    ] member
-
 -- ---- Blocks
 
-block_keeps_role : (test : EntryValue → Bool) → ((e : EntryValue) → test (reported_if e) ≡ test e) →
+block_keeps_role : (test : EntryValue → Bool) → ((e : EntryValue) → test (reported_entry e) ≡ test e) →
     (capacity rate reported : ℕ) (trace : List TraceStep) (ssrc : ℕ)
     → is_such test (entry_at capacity rate trace ssrc) ≡ is_such test
     (entry_at capacity rate (block_taken reported ∷ trace) ssrc)
@@ -221,26 +207,12 @@ block_keeps_role test stays capacity rate reported trace ssrc =
   where
     mapped : (entry : Option EntryValue) → is_such test (option_map reported_if entry) ≡ is_such test entry
     mapped None = refl
-    mapped (Some e) = stays e
-
-reported_member : (e : EntryValue) → is_member (reported_if e) ≡ is_member e
-reported_member e = elim (is_some e.mark) as (λ b. is_member (if b then e else reported_entry e) ≡ is_member e) [
-  | true ↦
-      refl
-  | false ↦ refl
-]
-
-reported_sender : (e : EntryValue) → is_sender (reported_if e) ≡ is_sender e
-reported_sender e = elim (is_some e.mark) as (λ b. is_sender (if b then e else reported_entry e) ≡ is_sender e) [
-  | true ↦
-      refl
-  | false ↦ refl
-]
+    mapped (Some e) = elim (is_some e.mark) as (λ b. test (if b then e else reported_entry e) ≡ test e) [
+      | true ↦ refl
+      | false ↦ stays e
+    ]
 
 -- ---- One step
-
-both_equal : (a b c d : ℕ) → not ((a == b) && (c == d)) ≡ false → (a ≡ b) × (c ≡ d)
-both_equal a b c d e = (grind (arith, nat_tests, e), grind (arith, nat_tests, e))
 
 module _ (capacity rate : ℕ) where
   abbrev entry : List TraceStep → ℕ → Option EntryValue
@@ -261,30 +233,35 @@ module _ (capacity rate : ℕ) where
       none_moves : (n m : ℕ) → not ((n == n) && (m == m)) ≡ false
       none_moves n m = grind (arith, nat_tests)
 
+  counts_stay : (step : TraceStep) (trace : List TraceStep) → step_moves capacity rate step trace ≡ false →
+      (members_at capacity rate (step ∷ trace) ≡ members_at capacity rate trace)
+      × (senders_at capacity rate (step ∷ trace) ≡ senders_at capacity rate trace)
+  counts_stay step trace still = both_equal (members_at capacity rate (step ∷ trace)) (members_at capacity rate trace)
+      (senders_at capacity rate (step ∷ trace)) (senders_at capacity rate trace) still
+    where
+      both_equal : (a b c d : ℕ) → not ((a == b) && (c == d)) ≡ false → (a ≡ b) × (c ≡ d)
+      both_equal a b c d e = (grind (arith, nat_tests, e), grind (arith, nat_tests, e))
+
   -- Where a step does not move, everyone has the same role after it.
   pub step_keeps : (step : TraceStep) (trace : List TraceStep) → step_moves capacity rate step trace ≡ false →
       (ssrc : ℕ) → IsSameRole (entry trace ssrc) (entry (step ∷ trace) ssrc)
   step_keeps (fact_came fact moment) trace still ssrc =
-      let step = fact_came fact moment in
-      let counts = both_equal (members_at capacity rate (step ∷ trace)) (members_at capacity rate trace)
-      (senders_at capacity rate (step ∷ trace)) (senders_at capacity rate trace) still in (
+      let counts = counts_stay (fact_came fact moment) trace still in (
         fact_keeps is_member capacity rate fact moment trace counts.0 ssrc,
         fact_keeps is_sender capacity rate fact moment trace counts.1 ssrc,
       )
   step_keeps (check_made horizons) trace still ssrc =
-      let step = check_made horizons in
-      let counts = both_equal (members_at capacity rate (step ∷ trace)) (members_at capacity rate trace)
-      (senders_at capacity rate (step ∷ trace)) (senders_at capacity rate trace) still in (
+      let counts = counts_stay (check_made horizons) trace still in (
         check_keeps is_member capacity rate horizons trace
-            (λ other is. checked_member horizons (entry trace other)
+            (λ other is. checked_such is_member horizons (λ e member. member) (entry trace other)
             (ap (is_such is_member) (sym (checked_entry_at capacity rate other horizons trace)) ∙ is)) counts.0 ssrc,
         check_keeps is_sender capacity rate horizons trace
             (λ other is. checked_sender horizons (entry trace other)
             (ap (is_such is_sender) (sym (checked_entry_at capacity rate other horizons trace)) ∙ is)) counts.1 ssrc,
       )
   step_keeps (block_taken reported) trace still ssrc = (
-    block_keeps_role is_member reported_member capacity rate reported trace ssrc,
-    block_keeps_role is_sender reported_sender capacity rate reported trace ssrc,
+    block_keeps_role is_member (λ e. refl) capacity rate reported trace ssrc,
+    block_keeps_role is_sender (λ e. refl) capacity rate reported trace ssrc,
   )
 
   -- A block moves nobody.
@@ -293,29 +270,18 @@ module _ (capacity rate : ℕ) where
   block_moves_none reported trace =
       same_roles_stay (block_taken reported) trace
       (λ ssrc. (
-        block_keeps_role is_member reported_member capacity rate reported trace ssrc,
-        block_keeps_role is_sender reported_sender capacity rate reported trace ssrc,
+        block_keeps_role is_member (λ e. refl) capacity rate reported trace ssrc,
+        block_keeps_role is_sender (λ e. refl) capacity rate reported trace ssrc,
       ))
 
   -- ---- Some steps
-
-  either_first : (a b : Bool) → (a || b) ≡ false → a ≡ false
-  either_first true b e = e
-  either_first false b e = refl
-
-  either_second : (a b : Bool) → (a || b) ≡ false → b ≡ false
-  either_second true b e = absurd cc
-  either_second false b e = e
 
   pub steps_keep : (steps : ℕ) (trace : List TraceStep) → moved_within capacity rate steps trace ≡ false → (ssrc : ℕ) →
       IsSameRole (entry (drop steps trace) ssrc) (entry trace ssrc)
   steps_keep zero trace still ssrc = (refl, refl)
   steps_keep (suc steps) [] still ssrc = (refl, refl)
   steps_keep (suc steps) (step ∷ earlier) still ssrc =
-      let first = either_first (step_moves capacity rate step earlier) (moved_within capacity rate steps earlier)
-      still in
-      let rest = either_second (step_moves capacity rate step earlier) (moved_within capacity rate steps earlier)
-      still in
-      let before = steps_keep steps earlier rest ssrc in
-      let last = step_keeps step earlier first ssrc in
+      let parts = or_parts (step_moves capacity rate step earlier) (moved_within capacity rate steps earlier) still in
+      let before = steps_keep steps earlier parts.1 ssrc in
+      let last = step_keeps step earlier parts.0 ssrc in
       (before.0 ∙ last.0, before.1 ∙ last.1)

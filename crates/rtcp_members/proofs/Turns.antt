@@ -4,7 +4,7 @@ use Rattle.std.proofs.lemmas.Bool.{eqb-true}
 use Rattle.std.proofs.lemmas.Bool.Decides.{nat_tests}
 use Rattle.std.proofs.lemmas.Cmp.{ranked}
 use Rattle.std.proofs.lemmas.List.{append-nil}
-use Rattle.std.proofs.lemmas.List.Sums.{sum_by-append}
+use Rattle.std.proofs.lemmas.List.Sums.{sum_by-append, sum_by-cons}
 use Rattle.std.specs.Ordering.{eq_by_cmp}
 use Rattle.std.specs.Cmp.{nat_cmp_total, unsigned_tied}
 use Rattle.std.specs.FinMap as finite
@@ -232,8 +232,7 @@ count_both ssrc xs ys = sum_by-append (λ (row : EntryRow). cond (row.0 == ssrc)
 count_first : (ssrc : ℕ) (row : EntryRow) (rows : List EntryRow) →
     count_of ssrc (row ∷ rows) ≡ cond (row.0 == ssrc) 1 0 + count_of ssrc rows
 unfolding count_of
-count_first ssrc row rows = count_both ssrc (row ∷ []) rows
-    ∙ ap (λ n. n + count_of ssrc rows) (no_more (cond (row.0 == ssrc) 1 0))
+count_first ssrc row rows = sum_by-cons (λ (row : EntryRow). cond (row.0 == ssrc) 1 0) row rows
 
 none_above : (ssrc : ℕ) (rows : List EntryRow) → AllAbove ssrc rows → count_of ssrc rows ≡ 0
 unfolding count_of
