@@ -1,7 +1,6 @@
 -- A source that is named, or tells of its clock, at a moment is heard by that.
-use Rattle.std.proofs.Common.{◌≡◌, ℕ, Bool, true, false, cond, if◌then◌else◌, not, ◌&&◌, ◌||◌, ◌==◌, List, [], ◌∷◌, map, Option, Some, None, is_some, unwrap_or, nat_cmp, arith, refl, sym, ap, ◌∙◌}
+use Rattle.std.proofs.Common.{◌≡◌, ℕ, Bool, true, false, cond, if◌then◌else◌, not, ◌&&◌, ◌||◌, ◌==◌, List, [], ◌∷◌, Option, Some, None, is_some, unwrap_or, nat_cmp, refl, sym, ap, ◌∙◌}
 use Rattle.std.proofs.lemmas.Bool.{eq-eqb, eqb-true}
-use Rattle.std.proofs.lemmas.Bool.Decides.{nat_tests}
 use Rattle.std.specs.Ordering.{eq_by_cmp}
 use Rattle.std.specs.Cmp.{unsigned_tied, nat_cmp_total}
 use Rattle.std.specs.FinMap as finite
@@ -12,18 +11,15 @@ use Rattle.rtcp_members.specs.declared.table.Place.TheVariants.{Kept, Added, NoR
 use Rattle.rtcp_wire.specs.Facts.{subject, is_gone}
 use Rattle.rtcp_members.specs.Entries.{EntryValue, is_member, is_sender, is_such}
 use Rattle.rtcp_members.specs.Roles.{counts_differ, facts_move}
-use Rattle.rtcp_members.specs.Tables.{EntryMap, TableValue, IsApart, new_entry, entry_after, place_of, changes, has_room, after_fact, after_facts, count_in, members_in, senders_in}
-use Rattle.rtcp_members.proofs.Counting.{has, IsOnce, passing, same_passing, passing_entries}
-use Rattle.rtcp_members.proofs.Updated.{entries_are_apart}
+use Rattle.rtcp_members.specs.Tables.{EntryMap, TableValue, new_entry, entry_after, place_of, changes, has_room, after_fact, after_facts, count_in, members_in, senders_in}
+use Rattle.rtcp_members.proofs.Counting.{IsOnce, passing, same_passing, passing_entries, keys_of, own_keys_once, has_own_key}
+use Rattle.rtcp_members.proofs.Listing.{tied_itself}
 
 -- ---- Maps
 
-itself : (key : ℕ) → eq_by_cmp nat_cmp key key ≡ true
-itself key = unsigned_tied key key ∙ eq-eqb key key refl
-
 inserted : (m : EntryMap) (key : ℕ) (e : EntryValue) → finite.get (finite.insert m key e) key ≡ Some e
 inserted m key e = finite.get-insert nat_cmp_total m key e key ∙ ap (λ b. cond b (Some e) (finite.get m key))
-    (itself key)
+    (tied_itself key)
 
 -- What is put last at a key stays.
 inserted_twice : (m : EntryMap) (key : ℕ) (first last : EntryValue) → finite.insert (finite.insert m key first) key last
@@ -37,24 +33,7 @@ inserted_twice m key first last =
     (Some last) (finite.get m q)) [ true ↦ refl | false ↦ refl ]
     ∙ sym (finite.get-insert nat_cmp_total m key last q))
 
--- ---- The keys of a map
-
-abbrev keys_of : List (ℕ × EntryValue) → List ℕ
-keys_of rows = map (λ (row : ℕ × EntryValue). row.0) rows
-
-found_key : (rows : List (ℕ × EntryValue)) (key : ℕ) → is_some (finite.find nat_cmp key rows) ≡ has key (keys_of rows)
-found_key [] key = refl
-found_key (row ∷ rows) key =
-    ap (λ b. is_some (cond b (Some row.1) (finite.find nat_cmp key rows))) (unsigned_tied key row.0 ∙ turned key row.0)
-    ∙ elim (row.0 == key) as (λ b. is_some (cond b (Some row.1) (finite.find nat_cmp key rows))
-    ≡ (b || has key (keys_of rows))) [ true ↦ refl | false ↦ found_key rows key ]
-  where
-    turned : (a b : ℕ) → (a == b) ≡ (b == a)
-    turned a b = grind (arith, nat_tests)
-
-keys_once : (rows : List (ℕ × EntryValue)) → IsApart rows → IsOnce (keys_of rows)
-keys_once [] apart = tt
-keys_once (row ∷ rows) apart = (sym (found_key rows row.0) ∙ ap is_some apart.0, keys_once rows apart.1)
+-- ---- Counts of a map
 
 -- As many entries pass a test where one is put that passes as the old one does, or fails where there is none.
 as_many : (test : EntryValue → Bool) (m : EntryMap) (key : ℕ) (e : EntryValue) →
@@ -62,8 +41,8 @@ as_many : (test : EntryValue → Bool) (m : EntryMap) (key : ℕ) (e : EntryValu
     → passing (λ (row : ℕ × EntryValue). test row.1) (finite.entries (finite.insert m key e)) ≡ passing
     (λ (row : ℕ × EntryValue). test row.1) (finite.entries m)
 as_many test m key e same =
-    passing_entries test keys once next (λ q found. in_next q found) ∙ same_passing _ _ at keys
-    ∙ sym (passing_entries test keys once m (λ q found. in_next q (still q found)))
+    passing_entries test keys once next (has_own_key next) ∙ same_passing _ _ at keys
+    ∙ sym (passing_entries test keys once m (λ q found. has_own_key next q (still q found)))
   where
     next : EntryMap
     next = finite.insert m key e
@@ -72,10 +51,7 @@ as_many test m key e same =
     keys = keys_of (finite.entries next)
 
     once : IsOnce keys
-    once = keys_once (finite.entries next) (entries_are_apart next)
-
-    in_next : (q : ℕ) → is_some (finite.get next q) ≡ true → has q keys ≡ true
-    in_next q found = sym (found_key (finite.entries next) q) ∙ ap is_some (sym (finite.get-entries next q)) ∙ found
+    once = own_keys_once next
 
     still : (q : ℕ) → is_some (finite.get m q) ≡ true → is_some (finite.get next q) ≡ true
     still q found =

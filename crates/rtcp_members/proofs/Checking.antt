@@ -14,7 +14,8 @@ use Rattle.rtcp_members.specs.declared.counts.Counts.{Counts}
 use Rattle.rtcp_members.specs.Standing.{AreCounts, RulesOut}
 use Rattle.rtcp_members.proofs.BoundLemmas.{all_left}
 use Rattle.rtcp_members.proofs.Changing.{rows_checked}
-use Rattle.rtcp_members.proofs.LeastDue.{parts, joined}
+use Rattle.rtcp_members.proofs.Updated.{both_hold}
+use Rattle.rtcp_members.proofs.LeastDue.{joined}
 use Rattle.rtcp_members.proofs.Rising.{rising_apart}
 use Rattle.rtcp_members.proofs.Tallies.{counted_at, fewer_checked, listed_checked, table_checked, dropped_checked, senders_checked}
 
@@ -79,7 +80,7 @@ below_updated : (key : ℕ) (step : EntryValue → Option EntryValue) (rows : Li
     T (below_all nat_cmp key rows) → T (below_all nat_cmp key (filter_map (updated_row step) rows))
 below_updated key step [] below = tt
 below_updated key step (row ∷ rows) below =
-    let halves = parts (is_lt (nat_cmp key row.0)) (below_all nat_cmp key rows) below in
+    let halves = both_hold (is_lt (nat_cmp key row.0)) (below_all nat_cmp key rows) below in
     let rest = below_updated key step rows halves.1 in
     elim (step row.1) as (λ o. T (below_all nat_cmp key
     (cons_option (option_map (λ entry. (row.0, entry)) o) (filter_map (updated_row step) rows)))) [
@@ -92,7 +93,7 @@ sorted_updated : (step : EntryValue → Option EntryValue) (rows : List (ℕ × 
     T (is_sorted nat_cmp (filter_map (updated_row step) rows))
 sorted_updated step [] sorted = tt
 sorted_updated step (row ∷ rows) sorted =
-    let halves = parts (below_all nat_cmp row.0 rows) (is_sorted nat_cmp rows) sorted in
+    let halves = both_hold (below_all nat_cmp row.0 rows) (is_sorted nat_cmp rows) sorted in
     let rest = sorted_updated step rows halves.1 in
     elim (step row.1) as (λ o. T (is_sorted nat_cmp
     (cons_option (option_map (λ entry. (row.0, entry)) o) (filter_map (updated_row step) rows)))) [

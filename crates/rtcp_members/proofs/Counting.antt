@@ -1,12 +1,15 @@
 -- The entries of a map that pass a test, counted by a list that has each of their keys once.
 use Rattle.std.proofs.Common.{◌≡◌, ℕ, suc, ◌+◌, Bool, true, false, true≢false, cond, ◌||◌, ◌==◌, List, [], ◌∷◌, length, filter, Option, Some, None, is_some, nat_cmp, arith, refl, sym, ap, ◌∙◌}
 use Rattle.std.proofs.lemmas.Bool.{eqb-true, eq-eqb, or_parts}
+use Rattle.std.proofs.lemmas.Bool.Decides.{nat_tests}
+use Rattle.std.specs.Prelude.{map as map_list}
 use Rattle.std.specs.List.{list_any}
 use Rattle.std.specs.Ordering.{eq_by_cmp}
 use Rattle.std.specs.Cmp.{unsigned_tied}
 use Rattle.std.specs.FinMap as map
 use Rattle.rtcp_members.specs.Entries.{EntryValue, is_such}
 use Rattle.rtcp_members.specs.Tables.{EntryMap, IsApart}
+use Rattle.rtcp_members.proofs.Listing.{filter_longer}
 use Rattle.rtcp_members.proofs.Updated.{entries_are_apart}
 
 abbrev pub has : ℕ → List ℕ → Bool
@@ -32,8 +35,7 @@ same_passing f g same keys = λ i. passing (λ key. same key i) keys
 pub first_and_rest : {X : Type 0} (test : X → Bool) (x : X) (xs : List X) →
     passing test (x ∷ xs) ≡ one_or_none (test x) + passing test xs
 unfolding one_or_none
-first_and_rest test x xs = elim (test x) as (λ b. length (cond b (x ∷ filter test xs) (filter test xs)) ≡ one_or_none
-    b + passing test xs) [ true ↦ omega arith | false ↦ omega arith ]
+first_and_rest test x xs = filter_longer test x xs
 
 none_pass : (keys : List ℕ) → passing (λ key. false) keys ≡ 0
 none_pass [] = refl
@@ -147,3 +149,32 @@ len_by_keys keys once entries has_keys =
     ∙ sym (all_pass (map.entries entries))
     ∙ passing_entries (λ e. true) keys once entries has_keys
     ∙ same_passing _ _ (λ key. such_is_some (map.get entries key)) keys
+
+-- ---- The keys of a map
+
+abbrev pub keys_of : List (ℕ × EntryValue) → List ℕ
+keys_of rows = map_list (λ (row : ℕ × EntryValue). row.0) rows
+
+has_key : (key : ℕ) (rows : List (ℕ × EntryValue)) → has key (keys_of rows) ≡ is_some (map.find nat_cmp key rows)
+has_key key [] = refl
+has_key key (row ∷ rows) =
+    ap (λ b. (row.0 == key) || b) (has_key key rows)
+    ∙ elim (row.0 == key) as (λ b. (b || is_some (map.find nat_cmp key rows)) ≡ is_some
+    (cond b (Some row.1) (map.find nat_cmp key rows))) [ true ↦ refl | false ↦ refl ]
+    ∙ ap (λ b. is_some (cond b (Some row.1) (map.find nat_cmp key rows)))
+    (sym (unsigned_tied key row.0 ∙ turned key row.0))
+  where
+    turned : (a b : ℕ) → (a == b) ≡ (b == a)
+    turned a b = grind (arith, nat_tests)
+
+keys_are_once : (rows : List (ℕ × EntryValue)) → IsApart rows → IsOnce (keys_of rows)
+keys_are_once [] apart = tt
+keys_are_once (row ∷ rows) apart = (has_key row.0 rows ∙ ap is_some apart.0, keys_are_once rows apart.1)
+
+pub own_keys_once : (entries : EntryMap) → IsOnce (keys_of (map.entries entries))
+own_keys_once entries = keys_are_once (map.entries entries) (entries_are_apart entries)
+
+pub has_own_key : (entries : EntryMap) (key : ℕ) → is_some (map.get entries key) ≡ true →
+    has key (keys_of (map.entries entries)) ≡ true
+has_own_key entries key found =
+    has_key key (map.entries entries) ∙ ap is_some (sym (map.get-entries entries key)) ∙ found

@@ -1,5 +1,5 @@
 -- What a fact that is no goodbye leaves of the members, and how the counts of a table lie to each other.
-use Rattle.std.proofs.Common.{◌≡◌, ◌≤◌, ℕ, suc, Bool, true, false, true≢false, cond, if◌then◌else◌, ◌||◌, ◌==◌, ◌&&◌, List, [], ◌∷◌, length, filter, map, Option, Some, None, is_some, is_none, option_and_then, nat_cmp, arith, refl, sym, ap, subst, ◌∙◌, le_refl}
+use Rattle.std.proofs.Common.{◌≡◌, ◌≤◌, ℕ, suc, Bool, true, false, true≢false, cond, if◌then◌else◌, ◌||◌, ◌==◌, ◌&&◌, List, [], ◌∷◌, length, filter, Option, Some, None, is_some, is_none, option_and_then, arith, refl, sym, ap, subst, ◌∙◌, le_refl}
 use Rattle.std.proofs.lemmas.Bool.{and_parts, or_right}
 use Rattle.std.specs.FinMap as finite
 use Rattle.rtcp_wire.specs.Facts.{subject, is_gone}
@@ -11,12 +11,11 @@ use Rattle.rtcp_members.specs.declared.table.Place.TheVariants.{Kept, Ignored, L
 use Rattle.rtcp_members.specs.Traces.{Horizons, TraceStep, fact_came, names}
 use Rattle.rtcp_members.specs.Stays.{is_removed}
 use Rattle.rtcp_members.specs.Entries.{EntryValue, still_sending, is_member, is_sender, is_such, entry_at, members_at}
-use Rattle.rtcp_members.specs.Tables.{TableValue, IsApart, changes, entry_after, entry_after_check, after_check, members_in, senders_in, updated}
-use Rattle.rtcp_members.proofs.Counting.{has, IsOnce, passing, passing_entries}
-use Rattle.rtcp_members.proofs.Updated.{get_updated, entries_are_apart}
+use Rattle.rtcp_members.specs.Tables.{TableValue, changes, entry_after, entry_after_check, after_check, members_in, senders_in, updated}
+use Rattle.rtcp_members.proofs.Counting.{has, passing, passing_entries, keys_of, own_keys_once, has_own_key}
+use Rattle.rtcp_members.proofs.Updated.{get_updated}
 use Rattle.rtcp_members.proofs.Naming.{room_at}
 use Rattle.rtcp_members.proofs.TraceStepLemmas.{kept_by, own_entry_at, other_entry_at}
-use Rattle.rtcp_members.proofs.TraceTables.{tied}
 
 -- ---- Two tests
 
@@ -118,21 +117,6 @@ members_are_entries table = rw (finite.len-entries table.entries)
 
 -- ---- A check adds no sender
 
-abbrev keys_of : List (ℕ × EntryValue) → List ℕ
-keys_of rows = map (λ row. row.0) rows
-
-has_key : (key : ℕ) (rows : List (ℕ × EntryValue)) → has key (keys_of rows) ≡ is_some (finite.find nat_cmp key rows)
-has_key key [] = refl
-has_key key (row ∷ rows) =
-    ap (λ b. (row.0 == key) || b) (has_key key rows)
-    ∙ elim (row.0 == key) as (λ b. (b || is_some (finite.find nat_cmp key rows)) ≡ is_some
-    (cond b (Some row.1) (finite.find nat_cmp key rows))) [ true ↦ refl | false ↦ refl ]
-    ∙ ap (λ b. is_some (cond b (Some row.1) (finite.find nat_cmp key rows))) (sym (tied key row.0))
-
-keys_are_once : (rows : List (ℕ × EntryValue)) → IsApart rows → IsOnce (keys_of rows)
-keys_are_once [] apart = tt
-keys_are_once (row ∷ rows) apart = (has_key row.0 rows ∙ ap is_some apart.0, keys_are_once rows apart.1)
-
 was_there : (step : EntryValue → Option EntryValue) (entry : Option EntryValue) →
     is_some (option_and_then step entry) ≡ true → is_some entry ≡ true
 was_there step None found = found
@@ -170,9 +154,8 @@ pub check_adds_no_sender : (table : TableValue) (horizons : Horizons) →
 check_adds_no_sender table horizons =
     let step = entry_after_check horizons in
     let keys = keys_of (finite.entries table.entries) in
-    let once = keys_are_once (finite.entries table.entries) (entries_are_apart table.entries) in
-    let known = λ (key : ℕ) (found : is_some (finite.get table.entries key) ≡ true). has_key key
-    (finite.entries table.entries) ∙ ap is_some (sym (finite.get-entries table.entries key)) ∙ found in
+    let once = own_keys_once table.entries in
+    let known = has_own_key table.entries in
     let still = λ (key : ℕ) (found : is_some (finite.get (updated step table.entries) key) ≡ true). known key
     (was_there step (finite.get table.entries key) (ap is_some (sym (get_updated step table.entries key))
     ∙ found)) in

@@ -9,6 +9,7 @@ use Rattle.rtcp_members.specs.Tables.{TableValue, IsApart}
 use Rattle.rtcp_members.specs.ListViews.{rows_of, map_of, table_of}
 use Rattle.rtcp_members.specs.Pending.{EntryRow, first_ssrc, is_above, is_due, in_turn, pending}
 use Rattle.rtcp_members.specs.Least.{lesser_of, least, is_due_above}
+use Rattle.rtcp_members.proofs.Updated.{both_hold}
 use Rattle.rtcp_members.proofs.Listing.{none_in_empty}
 
 -- ---- The lesser
@@ -31,10 +32,6 @@ first_or test row rows =
     elim (test row) as (λ b. first_ssrc (cond b (row ∷ filter test rows) (filter test rows))
     ≡ (if b then Some row.0 else passing test rows)) [ true ↦ refl | false ↦ refl ]
 
-pub parts : (a b : Bool) → T (a && b) → T a × T b
-parts true b h = (tt, h)
-parts false b h = absurd h
-
 pub less_than : (a b : ℕ) → T (is_lt (nat_cmp a b)) → a < b
 less_than a b below = elim (nat_cmp a b) as (λ o. o ≡ nat_cmp a b → T (is_lt o) → a < b) [
   | Less ↦ λ e t. ranked a b Less e
@@ -54,7 +51,7 @@ below_first : (test : EntryRow → Bool) (key : ℕ) (rows : List EntryRow) → 
     lesser_of (Some key) (passing test rows) ≡ Some key
 below_first test key [] below = refl
 below_first test key (row ∷ rows) below =
-    let halves = parts (is_lt (nat_cmp key row.0)) (below_all nat_cmp key rows) below in
+    let halves = both_hold (is_lt (nat_cmp key row.0)) (below_all nat_cmp key rows) below in
     ap (lesser_of (Some key)) (first_or test row rows)
     ∙ elim (test row) as (λ b. lesser_of (Some key) (if b then Some row.0 else passing test rows) ≡ Some key)
     [ true ↦ ap Some (omega (arith, less_than key row.0 halves.0)) | false ↦ below_first test key rows halves.1 ]
@@ -62,7 +59,7 @@ below_first test key (row ∷ rows) below =
 pub below_more : (a b : ℕ) (rows : List EntryRow) → a < b → T (below_all nat_cmp b rows) → T (below_all nat_cmp a rows)
 below_more a b [] less below = tt
 below_more a b (row ∷ rows) less below =
-    let halves = parts (is_lt (nat_cmp b row.0)) (below_all nat_cmp b rows) below in
+    let halves = both_hold (is_lt (nat_cmp b row.0)) (below_all nat_cmp b rows) below in
     joined (is_lt (nat_cmp a row.0)) (below_all nat_cmp a rows)
     (is_less a row.0 (omega (arith, less, less_than b row.0 halves.0))) (below_more a b rows less halves.1)
 
@@ -80,16 +77,13 @@ above_first test key first rest true false less = refl
 above_first test key first rest false true less = refl
 above_first test key first rest false false less = refl
 
-none_is_some : {X : Type 0} (x : X) → Some x ≡ None → ⊥
-none_is_some x e = absurd cc
-
 -- A row put into a sorted list: the first that passes is the lesser of it and of the first before.
 put_first : (test : EntryRow → Bool) (key : ℕ) (value : EntryValue) (rows : List EntryRow) →
     T (is_sorted nat_cmp rows) → finite.find nat_cmp key rows ≡ None
     → passing test (put nat_cmp key value rows) ≡ lesser_of (one test (key, value)) (passing test rows)
 put_first test key value [] sorted none = first_or test (key, value) [] ∙ sym (none_at_end (one test (key, value)))
 put_first test key value (row ∷ rows) sorted none =
-    let halves = parts (below_all nat_cmp row.0 rows) (is_sorted nat_cmp rows) sorted in
+    let halves = both_hold (below_all nat_cmp row.0 rows) (is_sorted nat_cmp rows) sorted in
     elim (nat_cmp key row.0) as (λ o. o ≡ nat_cmp key row.0 → cond (is_eq o) (Some row.1) (finite.find nat_cmp key rows)
     ≡ None
     → passing test (by_order o ((key, value) ∷ row ∷ rows) ((row.0, value) ∷ rows) (row ∷ put nat_cmp key value rows))
@@ -102,7 +96,7 @@ put_first test key value (row ∷ rows) sorted none =
                 (below_both key row rows (ranked key row.0 Less is) halves.0))
             | false ↦ refl
           ]
-      | Equal ↦ λ is e. absurd (none_is_some row.1 e)
+      | Equal ↦ λ is e. absurd cc
       | Greater ↦ λ is e.
           first_or test row (put nat_cmp key value rows)
           ∙ ap (λ rest. if test row then Some row.0 else rest) (put_first test key value rows halves.1 e)

@@ -35,16 +35,14 @@ none_in_empty = nil_of_length _ (sym (finite.len-entries (finite.empty {X = Entr
 abbrev passing : (EntryValue → Bool) → List (ℕ × EntryValue) → ℕ
 passing test rows = length (filter (λ (row : ℕ × EntryValue). test row.1) rows)
 
+pub filter_longer : {X : Type 0} (test : X → Bool) (x : X) (xs : List X) →
+    length (filter test (x ∷ xs)) ≡ cond (test x) 1 0 + length (filter test xs)
+filter_longer test x xs = elim (test x) as (λ b. length (cond b (x ∷ filter test xs) (filter test xs)) ≡ cond b 1 0
+    + length (filter test xs)) [ true ↦ omega arith | false ↦ omega arith ]
+
 one_more_passing : (test : EntryValue → Bool) (row : ℕ × EntryValue) (rows : List (ℕ × EntryValue)) →
     passing test (row ∷ rows) ≡ cond (test row.1) 1 0 + passing test rows
-one_more_passing test row rows =
-    elim (test row.1) as (λ b. length
-    (cond b (row ∷ filter (λ (r : ℕ × EntryValue). test r.1) rows)
-    (filter (λ (r : ℕ × EntryValue). test r.1) rows)) ≡ cond b 1 0 + passing test rows)
-    [ true ↦ omega arith | false ↦ omega arith ]
-
-none_is_some : {X : Type 0} (x : X) → Some x ≡ None → ⊥
-none_is_some x e = absurd cc
+one_more_passing test row rows = filter_longer (λ (row : ℕ × EntryValue). test row.1) row rows
 
 passing_put : (test : EntryValue → Bool) (key : ℕ) (value : EntryValue) (rows : List (ℕ × EntryValue)) →
     finite.find nat_cmp key rows ≡ None
@@ -55,7 +53,7 @@ passing_put test key value (row ∷ rows) none =
     → passing test (by_order o ((key, value) ∷ row ∷ rows) ((row.0, value) ∷ rows) (row ∷ put nat_cmp key value rows))
     ≡ passing test ((key, value) ∷ row ∷ rows)) [
       | Less ↦ λ e. refl
-      | Equal ↦ λ e. absurd (none_is_some row.1 e)
+      | Equal ↦ λ e. absurd cc
       | Greater ↦ λ e.
           omega (
             arith,

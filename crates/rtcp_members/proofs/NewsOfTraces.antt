@@ -1,5 +1,5 @@
 -- The pending sources of a table, as a list over the names of its trace.
-use Rattle.std.proofs.Common.{◌≡◌, ℕ, ◌<◌, Bool, true, false, T, cond, if◌then◌else◌, not, ◌||◌, ◌==◌, ◌&&◌, nat_lt, nat_cmp, is_lt, List, [], ◌∷◌, ◌++◌, filter, filter_map, map, Option, Some, None, is_some, is_none, option_map, arith, refl, sym, ap, subst, ◌∙◌}
+use Rattle.std.proofs.Common.{◌≡◌, ℕ, ◌<◌, Bool, true, false, T, cond, if◌then◌else◌, not, ◌||◌, ◌==◌, ◌&&◌, nat_lt, nat_cmp, is_lt, List, [], ◌∷◌, ◌++◌, filter, filter_map, map, Option, Some, None, is_some, is_none, option_map, arith, refl, sym, ap, ◌∙◌}
 use Rattle.std.proofs.lemmas.Bool.{or_parts}
 use Rattle.std.proofs.lemmas.Bool.Decides.{nat_tests}
 use Rattle.std.specs.List.{All, cons_option}
@@ -17,6 +17,7 @@ use Rattle.rtcp_members.specs.Tables.{EntryMap, TableValue, StandsAt}
 use Rattle.rtcp_members.specs.Pending.{EntryRow, is_due, due_rows, is_above, is_after, pending}
 use Rattle.rtcp_members.specs.News.{is_due_in, is_due_by, put_rising, rising, pending_at, pending_rows_at}
 use Rattle.rtcp_members.proofs.Counting.{has, IsOnce}
+use Rattle.rtcp_members.proofs.LeastDue.{is_less, joined}
 use Rattle.rtcp_members.proofs.Naming.{names_are_once, present_is_named}
 use Rattle.rtcp_members.proofs.Following.{is_some_mapped}
 use Rattle.rtcp_members.proofs.Staying.{entry_with, entry_unmarked}
@@ -78,13 +79,6 @@ are_rising (x ∷ xs) once = rising_put x (rising xs) (has_rising x xs ∙ once.
 
 -- ---- Their rows
 
-is_less : (x y : ℕ) → x < y → T (is_lt (nat_cmp x y))
-is_less x y less = let h : is_lt (nat_cmp x y) ≡ true = grind (arith, nat_tests, less) in subst T (sym h) tt
-
-both : (a b : Bool) → T a → T b → T (a && b)
-both true b h k = k
-both false b h k = absurd h
-
 module _ (entry : ℕ → Option EntryValue) where
   abbrev rows : List ℕ → List EntryRow
   rows ssrcs = filter_map (row_by entry) ssrcs
@@ -96,7 +90,7 @@ module _ (entry : ℕ → Option EntryValue) where
       elim (entry y) as (λ (o : Option EntryValue). T
       (below_all nat_cmp x (cons_option (option_map (λ e. (y, e)) o) (rows ys)))) [
         | None ↦ rest
-        | Some e ↦ both (is_lt (nat_cmp x y)) _ (is_less x y above.0) rest
+        | Some e ↦ joined (is_lt (nat_cmp x y)) _ (is_less x y above.0) rest
       ]
 
   sorted_rows : (xs : List ℕ) → AreRising xs → T (finite.is_sorted nat_cmp (rows xs))
@@ -106,7 +100,7 @@ module _ (entry : ℕ → Option EntryValue) where
       elim (entry x) as (λ (o : Option EntryValue). T
       (finite.is_sorted nat_cmp (cons_option (option_map (λ e. (x, e)) o) (rows xs)))) [
         | None ↦ rest
-        | Some e ↦ both (below_all nat_cmp x (rows xs)) _ (below_rows x xs are.0) rest
+        | Some e ↦ joined (below_all nat_cmp x (rows xs)) _ (below_rows x xs are.0) rest
       ]
 
   -- a test of rows, and one of SSRCs that says the same where there is an entry

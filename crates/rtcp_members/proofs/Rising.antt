@@ -7,8 +7,8 @@ use Rattle.rtcp_members.specs.declared.entry.Entry.{Entry}
 use Rattle.rtcp_members.specs.Tables.{IsApart}
 use Rattle.rtcp_members.specs.ListViews.{entry_value, row_of, rows_of}
 use Rattle.rtcp_members.specs.SortedViews.{IsRising, IsGapFor}
-use Rattle.rtcp_members.proofs.Updated.{apart_where_sorted}
-use Rattle.rtcp_members.proofs.LeastDue.{parts, less_than}
+use Rattle.rtcp_members.proofs.Updated.{both_hold, apart_where_sorted}
+use Rattle.rtcp_members.proofs.LeastDue.{less_than}
 
 pub rising_apart : (entries : List Entry) → IsRising entries → IsApart (rows_of entries)
 rising_apart entries rising = apart_where_sorted (rows_of entries) rising
@@ -19,19 +19,20 @@ above_at : (key : ℕ) (entries : List Entry) (k : ℕ) (d : Entry) → T (below
     k < length entries → key < (slice_index_or entries k d).ssrc
 above_at key [] k d below within = absurd (omega arith)
 above_at key (x ∷ xs) zero d below within =
-    less_than key x.ssrc (parts (is_lt (nat_cmp key x.ssrc)) (below_all nat_cmp key (rows_of xs)) below).0
+    less_than key x.ssrc (both_hold (is_lt (nat_cmp key x.ssrc)) (below_all nat_cmp key (rows_of xs)) below).0
 above_at key (x ∷ xs) (suc k) d below within =
-    above_at key xs k d (parts (is_lt (nat_cmp key x.ssrc)) (below_all nat_cmp key (rows_of xs)) below).1 (omega arith)
+    above_at key xs k d (both_hold (is_lt (nat_cmp key x.ssrc)) (below_all nat_cmp key (rows_of xs)) below).1
+    (omega arith)
 
 pub rises : (entries : List Entry) → IsRising entries → (i j : ℕ) (d : Entry) → i < j → j < length entries →
     (slice_index_or entries i d).ssrc < (slice_index_or entries j d).ssrc
 rises [] rising i j d less within = absurd (omega arith)
 rises (x ∷ xs) rising i zero d less within = absurd (omega arith)
 rises (x ∷ xs) rising zero (suc j) d less within =
-    above_at x.ssrc xs j d (parts (below_all nat_cmp x.ssrc (rows_of xs)) (is_sorted nat_cmp (rows_of xs)) rising).0
+    above_at x.ssrc xs j d (both_hold (below_all nat_cmp x.ssrc (rows_of xs)) (is_sorted nat_cmp (rows_of xs)) rising).0
     (omega arith)
 rises (x ∷ xs) rising (suc i) (suc j) d less within =
-    rises xs (parts (below_all nat_cmp x.ssrc (rows_of xs)) (is_sorted nat_cmp (rows_of xs)) rising).1 i j d
+    rises xs (both_hold (below_all nat_cmp x.ssrc (rows_of xs)) (is_sorted nat_cmp (rows_of xs)) rising).1 i j d
     (omega arith) (omega arith)
 
 -- ---- An entry in its gap
@@ -79,7 +80,7 @@ put_in_place (x ∷ xs) zero e next rising is same =
     (row_of x ∷ put nat_cmp next.ssrc (entry_value next) (rows_of xs)))
     (nat_cmp_is next.ssrc x.ssrc Equal its)
 put_in_place (x ∷ xs) (suc at) e next rising is same =
-    let halves = parts (below_all nat_cmp x.ssrc (rows_of xs)) (is_sorted nat_cmp (rows_of xs)) rising in
+    let halves = both_hold (below_all nat_cmp x.ssrc (rows_of xs)) (is_sorted nat_cmp (rows_of xs)) rising in
     let above : x.ssrc < e.ssrc = stands_above x.ssrc xs at e halves.0 is in
     ap (λ rows. row_of x ∷ rows) (put_in_place xs at e next halves.1 is same)
     ∙ ap (λ o. by_order o (row_of next ∷ row_of x ∷ rows_of xs) ((x.ssrc, entry_value next) ∷ rows_of xs)
@@ -95,10 +96,10 @@ put_in_place (x ∷ xs) (suc at) e next rising is same =
           arith,
           its,
           less_than key z.ssrc
-              (parts (is_lt (nat_cmp key z.ssrc)) (below_all nat_cmp key (rows_of zs)) below).0,
+              (both_hold (is_lt (nat_cmp key z.ssrc)) (below_all nat_cmp key (rows_of zs)) below).0,
         )
     stands_above key (z ∷ zs) (suc k) y below stands = stands_above key zs k y
-        (parts (is_lt (nat_cmp key z.ssrc)) (below_all nat_cmp key (rows_of zs)) below).1 stands
+        (both_hold (is_lt (nat_cmp key z.ssrc)) (below_all nat_cmp key (rows_of zs)) below).1 stands
 
 pub rising_set : (entries : List Entry) (at : ℕ) (e next : Entry) → IsRising entries → slice_get entries at ≡ Some e →
     next.ssrc ≡ e.ssrc → IsRising (set entries at next)

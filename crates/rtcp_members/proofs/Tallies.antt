@@ -9,16 +9,12 @@ use Rattle.rtcp_members.specs.Stays.{is_before}
 use Rattle.rtcp_members.specs.Entries.{EntryValue, is_sender}
 use Rattle.rtcp_members.specs.Tables.{TableValue, IsApart, count_in, after_check, dropped_entries, dropped_senders, senders_in}
 use Rattle.rtcp_members.specs.ListViews.{entry_value, mark_in, sending_in, row_of, rows_of, table_of, tally_of, lapsed, outlasts, checked, IsListed}
-use Rattle.rtcp_members.proofs.Listing.{passing_rows, len_rows}
+use Rattle.rtcp_members.proofs.Listing.{filter_longer, passing_rows, len_rows}
 use Rattle.rtcp_members.proofs.Changing.{map_checked, apart_checked}
 
 pub one_more : (test : EntryValue → Bool) (e : Entry) (entries : List Entry) →
     tally_of test (e ∷ entries) ≡ cond (test (entry_value e)) 1 0 + tally_of test entries
-one_more test e entries =
-    elim (test (entry_value e)) as (λ b. length
-    (cond b (e ∷ filter (λ (x : Entry). test (entry_value x)) entries)
-    (filter (λ (x : Entry). test (entry_value x)) entries)) ≡ cond b 1 0 + tally_of test entries)
-    [ true ↦ omega arith | false ↦ omega arith ]
+one_more test e entries = filter_longer (λ (x : Entry). test (entry_value x)) e entries
 
 tally_rows : (test : EntryValue → Bool) (entries : List Entry) →
     length (filter (λ (row : ℕ × EntryValue). test row.1) (rows_of entries)) ≡ tally_of test entries

@@ -15,6 +15,7 @@ use Rattle.rtcp_source.specs.Steps.{run_reported}
 use Rattle.rtcp_members.specs.Entries.{EntryValue, is_such}
 use Rattle.rtcp_members.specs.Tables.{TableValue}
 use Rattle.rtcp_members.specs.Pending.{EntryRow, is_due, is_due_at, due_rows, in_turn, pending, reported_entry, with_reported, after_block, block_of_row, block_at}
+use Rattle.rtcp_members.proofs.Listing.{tied_itself}
 use Rattle.rtcp_members.proofs.TurnsRows.{AllAbove, AllBelow, IsRising, entries_rise, above_lower, above_filter, rising_filter, rising_around, without, without_above, without_middle, turn_after, cut_in_turn, itself_dropped, high_rows, low_rows}
 
 abbrev due_of : List EntryRow → List EntryRow
@@ -27,9 +28,6 @@ above_due ssrc rows h = above_filter (λ row. is_due row.1) ssrc rows h
 
 abbrev pub found : ℕ → List EntryRow → Option EntryValue
 found ssrc rows = finite.find nat_cmp ssrc rows
-
-tied_itself : (ssrc : ℕ) → eq_by_cmp nat_cmp ssrc ssrc ≡ true
-tied_itself ssrc = unsigned_tied ssrc ssrc ∙ grind (arith, nat_tests)
 
 pub not_tied : (x y : ℕ) → (x == y) ≡ false → eq_by_cmp nat_cmp x y ≡ false
 not_tied x y other = unsigned_tied x y ∙ other

@@ -1,11 +1,12 @@
 -- Rows by rising SSRC, in cyclic turn.
-use Rattle.std.proofs.Common.{◌≡◌, ℕ, ◌<◌, Bool, true, false, T, cond, not, ◌==◌, ◌&&◌, nat_cmp, is_lt, Less, Equal, Greater, List, [], ◌∷◌, ◌++◌, filter, Option, Some, None, arith, refl, sym, ap, ◌∙◌}
+use Rattle.std.proofs.Common.{◌≡◌, ℕ, ◌<◌, Bool, true, false, T, cond, not, ◌==◌, nat_cmp, is_lt, Less, Equal, Greater, List, [], ◌∷◌, ◌++◌, filter, Option, Some, None, arith, refl, sym, ap, ◌∙◌}
 use Rattle.std.proofs.lemmas.Bool.Decides.{nat_tests}
 use Rattle.std.proofs.lemmas.Cmp.{ranked}
 use Rattle.std.proofs.lemmas.List.{append-nil}
 use Rattle.std.proofs.lemmas.List.Elements.{filter-append}
 use Rattle.std.specs.FinMap as finite
 use Rattle.std.specs.FinMap.Entries.{below_all}
+use Rattle.rtcp_members.proofs.Updated.{both_hold}
 use Rattle.rtcp_members.specs.Entries.{EntryValue}
 use Rattle.rtcp_members.specs.Pending.{EntryRow, is_above, in_turn}
 
@@ -22,10 +23,6 @@ IsRising [] = Unit {0}
 IsRising (row ∷ rows) = AllAbove row.0 rows × IsRising rows
 
 -- ---- Rising rows
-
-both_hold : (a b : Bool) → T (a && b) → T a × T b
-both_hold true b h = (tt, h)
-both_hold false b h = absurd h
 
 less_of : (x y : ℕ) → T (is_lt (nat_cmp x y)) → x < y
 less_of x y h =

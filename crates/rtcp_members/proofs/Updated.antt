@@ -31,7 +31,7 @@ none_where_above key (row ∷ rows) above =
       | Greater ↦ λ rest. absurd rest
     ] above
 
-both_hold : (a b : Bool) → T (a && b) → T a × T b
+pub both_hold : (a b : Bool) → T (a && b) → T a × T b
 both_hold true b h = (tt, h)
 both_hold false b h = absurd h
 
