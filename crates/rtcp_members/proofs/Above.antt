@@ -243,12 +243,12 @@ module _ (capacity rate : ℕ) (trace : List TraceStep) (ssrc : ℕ) where
   abbrev here : Bool
   here = is_some (stay_of capacity trace ssrc)
 
-  none_here : (after : Option ℕ) → ((other : ℕ) → is_after after other ≡ true → stay_of capacity trace other ≡ None) →
+  none_here : (after : Option ℕ) → (is_after after ssrc ≡ true → stay_of capacity trace ssrc ≡ None) →
       one_if (is_after after ssrc && here) ≡ 0
   none_here after none =
       elim (is_after after ssrc) as (λ b. is_after after ssrc ≡ b →
       one_if (b && here) ≡ 0) [
-        | true ↦ λ high. ap (λ o. one_if (is_some o)) (none ssrc high)
+        | true ↦ λ high. ap (λ o. one_if (is_some o)) (none high)
         | false ↦ λ low. refl
       ] refl
 
@@ -261,11 +261,7 @@ module _ (capacity rate : ℕ) (trace : List TraceStep) (ssrc : ℕ) where
             let other : (state.ssrc == ssrc) ≡ false = grind (arith, nat_tests, less) in
             let below : nat_lt state.ssrc ssrc ≡ false = grind (arith, nat_tests, less) in
             (λ i. one_if (other i) + one_if (below i && here))
-            ∙ sym (elim (is_after after ssrc) as (λ b. is_after after ssrc ≡ b →
-            one_if (b && here) ≡ 0) [
-              | true ↦ λ high. ap (λ o. one_if (is_some o)) (next.least ssrc high less)
-              | false ↦ λ low. refl
-            ] refl)
+            ∙ sym (none_here after (λ high. next.least ssrc high less))
         | inr from ↦ elim (cases_lt state.ssrc ssrc) [
           | inl less ↦
               let other : (state.ssrc == ssrc) ≡ false = grind (arith, nat_tests, less) in
@@ -289,7 +285,7 @@ module _ (capacity rate : ℕ) (trace : List TraceStep) (ssrc : ℕ) where
 
   pub walk_counts : (after : Option ℕ) (states : List StateValue) → IsWalk after capacity rate trace states →
       times ssrc states ≡ one_if (is_after after ssrc && here)
-  walk_counts after [] walk = sym (none_here after walk)
+  walk_counts after [] walk = sym (none_here after (walk ssrc))
   walk_counts after (state ∷ states) walk =
       counted_first ssrc state states ∙ ap (λ n. one_if (state.ssrc == ssrc) + n)
       (walk_counts (Some state.ssrc) states walk.1) ∙ one_by after state walk.0

@@ -1,9 +1,10 @@
 -- Bounds by which entries stand, after a fact, a block and a check.
-use Rattle.std.proofs.Common.{length, zero, suc, slice_get, slice_index_or, ◌≡◌, ◌≤◌, ◌<◌, ◌+◌, ◌||◌, ◌&&◌, ℕ, Bool, true, false, not, nat_lt, List, [], ◌∷◌, Option, Some, None, set, take, is_none, if◌then◌else◌, arith, refl, sym, subst}
+use Rattle.std.proofs.Common.{length, slice_index_or, ◌≡◌, ◌≤◌, ◌<◌, ◌+◌, ◌||◌, ◌&&◌, ℕ, Bool, true, false, not, nat_lt, List, [], ◌∷◌, Option, Some, None, set, take, is_none, if◌then◌else◌, arith, refl, sym, subst}
 use Rattle.std.proofs.lemmas.Bool.{le-ltb}
 use Rattle.std.proofs.lemmas.List.Elements.{All-set, All-head, All-tail, All-weaker, All-more}
 use Rattle.std.proofs.lemmas.List.{length-map, get_or-map}
 use Rattle.std.specs.List.{All, list_all}
+use Rattle.std.proofs.lemmas.Option.{slice_get_within}
 use Rattle.rtcp_wire.specs.declared.fact.Fact.{Fact}
 use Rattle.rtcp_wire.specs.declared.fact.Fact.TheVariants.{Heard, Told, Named, Gone, Media}
 use Rattle.rtcp_source.specs.Summary.{SourceValue}
@@ -16,7 +17,6 @@ use Rattle.rtcp_members.specs.Tables.{entry_with_fact}
 use Rattle.rtcp_members.specs.ListViews.{entry_value, mark_in, sending_in, is_left, IsRankOf}
 use Rattle.rtcp_members.specs.declared.cells.Slot.{Slot}
 use Rattle.rtcp_members.specs.Heaps.{no_slot, no_entry, entry_in, picked}
-use Rattle.rtcp_members.proofs.Applying.{read_there}
 use Rattle.rtcp_members.specs.Standing.{MarkStandsBy, StandsBy, AllStandBy, IsUpTo, IsNoLater, RulesOut}
 
 -- ---- Lower bounds
@@ -67,18 +67,9 @@ pub all_set : (b : Bounds) (entries : List Entry) (at : ℕ) (e : Entry) → All
     StandsBy b (entry_value e) → AllStandBy b (set entries at e)
 all_set b entries at e all its = All-set (stands b) entries at e its all
 
-there : (b : Bounds) (entries : List Entry) (at : ℕ) (e : Entry) → slice_get entries at ≡ Some e →
-    AllStandBy b entries → stands b e
-there b [] at e is all = absurd cc
-there b (x ∷ entries) zero e is all =
-    let same : x ≡ e = cc in
-    subst (stands b) same (All-head (stands b) x entries all)
-there b (x ∷ entries) (suc at) e is all = there b entries at e is (All-tail (stands b) x entries all)
-
 pub stands_there : (b : Bounds) (entries : List Entry) (at : ℕ) (d : Entry) (ssrc : ℕ) → IsRankOf ssrc entries at →
     AllStandBy b entries → StandsBy b (entry_value (slice_index_or entries at d))
-stands_there b entries at d ssrc place all = subst (stands b) (sym (read_there ssrc entries at d place))
-    (there b entries at place.entry place.stands all)
+stands_there b entries at d ssrc place all = all at d (slice_get_within entries at place.entry place.stands)
 
 -- ---- A check
 

@@ -1,7 +1,6 @@
 -- One entry more is counted and covered.
-use Rattle.std.proofs.Common.{◌≡◌, ◌+◌, ◌++◌, Bool, List, [], ◌∷◌, length, filter, arith, ap, ◌∙◌}
-use Rattle.std.proofs.lemmas.List.{length-append}
-use Rattle.std.proofs.lemmas.List.Elements.{filter-append, All-append, All-cons, All-nil}
+use Rattle.std.proofs.Common.{◌≡◌, ◌+◌, ◌++◌, Bool, List, [], ◌∷◌, arith}
+use Rattle.std.proofs.lemmas.List.Elements.{All-append, All-cons, All-nil}
 use Rattle.rtcp_members.specs.declared.bounds.Bounds.{Bounds}
 use Rattle.rtcp_members.specs.declared.counts.Counts.{Counts}
 use Rattle.rtcp_members.specs.declared.entry.Entry.{Entry}
@@ -10,16 +9,18 @@ use Rattle.rtcp_members.specs.Pending.{is_due}
 use Rattle.rtcp_members.specs.ListViews.{entry_value, tally_of, weight_of}
 use Rattle.rtcp_members.specs.Standing.{StandsBy, AllStandBy, IsNoLater, AreRecounted, IsAmong, IsOneMore}
 use Rattle.rtcp_members.proofs.BoundLemmas.{all_lower, stands}
+use Rattle.std.proofs.lemmas.List.Sums.{sum_by_push}
 use Rattle.rtcp_members.proofs.Tallies.{one_more}
+use Rattle.rtcp_members.proofs.Weights.{tally_sum}
 
 tally_push : (test : EntryValue → Bool) (entries : List Entry) (e : Entry) →
     tally_of test (entries ++ e ∷ []) ≡ weight_of test e + tally_of test entries
-tally_push test entries e =
-    let passes : Entry → Bool = λ x. test (entry_value x) in
-    let split : tally_of test (entries ++ e ∷ []) ≡ tally_of test entries + tally_of test (e ∷ []) =
-    ap length (filter-append passes entries (e ∷ [])) ∙ length-append (filter passes entries)
-    (filter passes (e ∷ [])) in
-    omega (arith, split, one_more test e [])
+tally_push test entries e = omega (
+  arith,
+  tally_sum test (entries ++ e ∷ []),
+  tally_sum test entries,
+  sum_by_push (weight_of test) entries e,
+)
 
 -- One more that stays stands by bounds that are no later.
 pub all_more : (bounds lower : Bounds) (entries : List Entry) (e : Entry) → AllStandBy bounds entries →

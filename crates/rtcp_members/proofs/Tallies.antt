@@ -1,7 +1,6 @@
 -- How many entries of a list pass a test, and how many fewer after a check.
-use Rattle.std.proofs.Common.{◌≡◌, ◌≤◌, ◌+◌, ◌-◌, ℕ, Bool, true, false, cond, not, ◌&&◌, List, [], ◌∷◌, length, filter, if◌then◌else◌, is_none, take, arith, refl, sym, ap, ◌∙◌}
-use Rattle.std.proofs.lemmas.List.{length-map, length-take-le}
-use Rattle.std.proofs.lemmas.List.Filters.{length-filter_both}
+use Rattle.std.proofs.Common.{◌≡◌, ◌≤◌, ◌+◌, ◌-◌, ℕ, Bool, true, false, cond, ◌&&◌, List, [], ◌∷◌, length, filter, if◌then◌else◌, is_none, arith, refl, sym, ap, ◌∙◌}
+use Rattle.std.proofs.lemmas.List.{length-map}
 use Rattle.std.specs.FinMap as finite
 use Rattle.rtcp_members.specs.declared.entry.Entry.{Entry}
 use Rattle.rtcp_members.specs.Traces.{Horizons}
@@ -129,16 +128,3 @@ module _ (horizons : Horizons) (entries next : List Entry) (is : next ≡ checke
         counted_in is_sender capacity rate next listed_checked.apart,
         fewer_senders_checked,
       )
-
--- ---- What a walk has counted
-
--- No more pass than stand before the index.
-pub few_before : (test : EntryValue → Bool) (entries : List Entry) (index : ℕ) → index ≤ length entries →
-    tally_of test (take index entries) ≤ index
-few_before test entries index within =
-    omega (
-      arith,
-      length-take-le index entries within,
-      length-filter_both (λ (e : Entry). test (entry_value e))
-          (λ (e : Entry). not (test (entry_value e))) (λ e. refl) (take index entries),
-    )

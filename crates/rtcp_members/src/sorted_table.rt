@@ -284,7 +284,7 @@ fn search<B: Blocks>(
 fn search_near<B: Blocks>(entries: &Shelf<B>, ssrc: u32) -> Option<Result<usize, usize>>
     ensures { IfSome result (Locates ssrc entries.now.items) }
 {
-    entries.walk_to(ssrc, likely_place(entries, ssrc)?)
+    entries.walk_to(ssrc, likely_rank(entries, ssrc)?)
 }
 
 /// `search` without a walk. Where SSRCs lie close together, a source without an entry likely lies beyond all of them,
@@ -324,7 +324,7 @@ fn search_again<B: Blocks>(entries: &Shelf<B>, walks: Walks, ssrc: u32) -> Resul
 
 /// Where the entry of a source stands if the SSRCs are spread evenly, as random ones are (RFC 3550, 8.1): by the
 /// whole list, and in a long one, where that is still far off, by what stands at that rank.
-fn likely_place<B: Blocks>(entries: &Shelf<B>, ssrc: u32) -> Option<usize> {
+fn likely_rank<B: Blocks>(entries: &Shelf<B>, ssrc: u32) -> Option<usize> {
     let count = entries.len() as u64;
     let rank = (u64::from(ssrc).wrapping_mul(count) >> 32) as usize;
     if count <= SHORT_LIST {
