@@ -13,7 +13,7 @@ use Rattle.std.proofs.lemmas.List.Elements.{All-head, All-tail, All-set, All-tak
 use Rattle.rtcp_members.specs.declared.entry.Entry.{Entry}
 use Rattle.rtcp_members.specs.declared.cells.Cell.{Cell}
 use Rattle.rtcp_members.specs.declared.cells.Slot.{Slot}
-use Rattle.rtcp_members.specs.Heaps.{no_slot, no_entry, no_cell, entries_in, pairs_in, slots_in, entry_in, picked, in_order, place_at, IsKeyed, ArePlaces, IsHeap, IsIndexed}
+use Rattle.rtcp_members.specs.Heaps.{no_slot, no_entry, no_cell, entries_in, pairs_in, slots_in, entry_in, picked, in_order, place_at, IsKeyed, IsHeap, IsIndexed}
 use Rattle.rtcp_members.specs.declared.counts.Counts.{Counts}
 use Rattle.rtcp_members.specs.Entries.{EntryValue, is_member, is_sender}
 use Rattle.rtcp_members.specs.ListViews.{entry_value, tally_of, weight_of}
@@ -78,22 +78,22 @@ picked_read entries slots used k d in_use less =
     (omega (arith, less, length-take-le used slots in_use))
     ∙ ap (entry_in entries) (get_or-take used slots k no_slot less)
 
-module _ (entries : List Entry) (slots : List Slot) (used at : ℕ) (places : ArePlaces entries slots)
-    (in_use : used ≤ length slots) (stands : at < length (picked entries (take used slots))) where
-  as_many : length (picked entries (take used slots)) ≡ used
-  as_many = length-map (take used slots) (entry_in entries) ∙ length-take-le used slots in_use
+-- There are as many entries as ranks in use.
+length_picked : (entries : List Entry) (slots : List Slot) (used : ℕ) → IsHeap entries slots used →
+    length (picked entries (take used slots)) ≡ used
+length_picked entries slots used heap = length-map (take used slots) (entry_in entries)
+    ∙ length-take-le used slots heap.in_use
 
-  pub below : at < used
-  below = omega (arith, stands, as_many)
-
+module _ (entries : List Entry) (slots : List Slot) (used at : ℕ) (heap : IsHeap entries slots used)
+    (early : at < used) where
   pub place_within : place_at slots at < length entries
-  place_within = places.within at no_slot (omega (arith, below, in_use))
+  place_within = heap.places.within at no_slot (omega (arith, early, heap.in_use))
 
   pub read_at : (d : Entry) → slice_index_or entries (place_at slots at) d ≡ slice_index_or
       (picked entries (take used slots)) at d
   read_at d =
       get_or_default entries (place_at slots at) d no_entry place_within
-      ∙ sym (picked_read entries slots used at d in_use below)
+      ∙ sym (picked_read entries slots used at d heap.in_use early)
 
   module _ (e : Entry) where
     abbrev next : List Entry
@@ -106,7 +106,8 @@ module _ (entries : List Entry) (slots : List Slot) (used at : ℕ) (places : Ar
         entry_in next (slice_index_or slots k no_slot) ≡ entry_in entries (slice_index_or slots k no_slot)
     elsewhere_same k unlike less =
         get_or-set_other entries (place_at slots at) (place_at slots k) e no_entry
-        (places_differ slots at k places.apart unlike (omega (arith, below, in_use)) (omega (arith, less, in_use)))
+        (places_differ slots at k heap.places.apart unlike (omega (arith, early, heap.in_use))
+        (omega (arith, less, heap.in_use)))
 
     pub set_picked : picked next (take used slots) ≡ set (picked entries (take used slots)) at e
     set_picked =
@@ -118,30 +119,31 @@ module _ (entries : List Entry) (slots : List Slot) (used at : ℕ) (places : Ar
           arith,
           within,
           length-map (take used slots) (entry_in next),
-          length-take-le used slots in_use,
+          length-take-le used slots heap.in_use,
         )))
       where
         by_rank : (k : ℕ) (d : Entry) → k < used → slice_index_or (picked next (take used slots)) k d ≡ slice_index_or
             (set (picked entries (take used slots)) at e) k d
         by_rank k d less = elim (cases_eq k at) [
-          | inl same ↦ picked_read next slots used k d in_use less
+          | inl same ↦ picked_read next slots used k d heap.in_use less
               ∙ ap (λ n. entry_in next (slice_index_or slots n no_slot)) same ∙ here
-              ∙ sym (get_or-set_same (picked entries (take used slots)) at e d stands)
+              ∙ sym (get_or-set_same (picked entries (take used slots)) at e d
+              (omega (arith, early, length_picked entries slots used heap)))
               ∙ ap (λ n. slice_index_or (set (picked entries (take used slots)) at e) n d) (sym same)
-          | inr unlike ↦ picked_read next slots used k d in_use less ∙ elsewhere_same k unlike less
-              ∙ sym (picked_read entries slots used k d in_use less)
+          | inr unlike ↦ picked_read next slots used k d heap.in_use less ∙ elsewhere_same k unlike less
+              ∙ sym (picked_read entries slots used k d heap.in_use less)
               ∙ sym (get_or-set_other (picked entries (take used slots)) at k e d unlike)
         ]
 
-    pub keyed_at : All (IsKeyed entries) (take used slots) → (d : Entry) →
-        e.ssrc ≡ (slice_index_or (picked entries (take used slots)) at d).ssrc → All (IsKeyed next) (take used slots)
-    keyed_at keyed d same = All-from_get_or (IsKeyed next) (take used slots) no_slot
-        (λ k within. by_rank k (omega (arith, within, length-take-le used slots in_use)))
+    keyed_at : (d : Entry) → e.ssrc ≡ (slice_index_or (picked entries (take used slots)) at d).ssrc →
+        All (IsKeyed next) (take used slots)
+    keyed_at d same = All-from_get_or (IsKeyed next) (take used slots) no_slot
+        (λ k within. by_rank k (omega (arith, within, length-take-le used slots heap.in_use)))
       where
         was : (k : ℕ) → k < used → (slice_index_or slots k no_slot).ssrc
             ≡ (entry_in entries (slice_index_or slots k no_slot)).ssrc
         was k less = subst (IsKeyed entries) (get_or-take used slots k no_slot less)
-            (keyed k no_slot (omega (arith, less, length-take-le used slots in_use)))
+            (heap.keyed k no_slot (omega (arith, less, length-take-le used slots heap.in_use)))
 
         is : (k : ℕ) → k < used → IsKeyed next (slice_index_or slots k no_slot)
         is k less = elim (cases_eq k at) [
@@ -155,12 +157,21 @@ module _ (entries : List Entry) (slots : List Slot) (used at : ℕ) (places : Ar
         by_rank : (k : ℕ) → k < used → IsKeyed next (slice_index_or (take used slots) k no_slot)
         by_rank k less = subst (IsKeyed next) (sym (get_or-take used slots k no_slot less)) (is k less)
 
-    pub places_at : ArePlaces next slots
-    places_at =
+    pub heap_at : (d : Entry) → e.ssrc ≡ (slice_index_or (picked entries (take used slots)) at d).ssrc →
+        IsHeap next slots used
+    heap_at d same =
+        let same_length = length-set entries (place_at slots at) e in
         record {
-          within = All-weaker (λ (slot : Slot). slot.place < length entries) (λ (slot : Slot). slot.place < length next)
-              (λ slot less. omega (arith, less, length-set entries (place_at slots at) e)) slots places.within;
-          apart = places.apart;
+          places = record {
+            within = All-weaker (λ (slot : Slot). slot.place < length entries)
+                (λ (slot : Slot). slot.place < length next)
+                (λ slot less. omega (arith, less, same_length)) slots heap.places.within;
+            apart = heap.places.apart;
+          };
+          in_use = heap.in_use;
+          all = heap.all ∙ sym same_length;
+          keyed = keyed_at d same;
+          few = omega (arith, heap.few, same_length);
         }
 
 -- ---- The entry of a rank, among cells
@@ -179,11 +190,9 @@ pub at_rank : (cells : List Cell) (used at : ℕ) (slot : Slot) (d : Cell) →
 at_rank cells used at slot d heap early its =
     record { heap = heap; early = early; its = its; read = read_again cells slot.place d }
 
--- There are as many entries as ranks in use.
 pub length_ranked : (cells : List Cell) (used : ℕ) → IsHeap (entries_in cells) (slots_in cells) used →
     length (in_order cells used) ≡ used
-length_ranked cells used heap = length-map (take used (slots_in cells)) (entry_in (entries_in cells))
-    ∙ length-take-le used (slots_in cells) heap.in_use
+length_ranked cells used heap = length_picked (entries_in cells) (slots_in cells) used heap
 
 -- The SSRC of a rank is that of its slot.
 module _ (cells : List Cell) (used : ℕ) (heap : IsHeap (entries_in cells) (slots_in cells) used) where
@@ -229,8 +238,7 @@ module _ {cells : List Cell} {used at : ℕ} {slot : Slot} {cell : Cell} (so : I
   in_cells = omega (
     arith,
     its_place,
-    place_within (entries_in cells) (slots_in cells) used at heap.places heap.in_use
-        stands,
+    place_within (entries_in cells) (slots_in cells) used at heap so.early,
     length-map cells (λ (c : Cell). c.entry),
   )
 
@@ -240,7 +248,7 @@ module _ {cells : List Cell} {used at : ℕ} {slot : Slot} {cell : Cell} (so : I
       ap (λ (c : Cell). c.entry) (get_or_read cells slot.place cell in_cells so.read no_cell)
       ∙ sym (get_or-map (λ (c : Cell). c.entry) cells slot.place no_cell d in_cells)
       ∙ ap (λ n. slice_index_or (entries_in cells) n d) its_place
-      ∙ read_at (entries_in cells) (slots_in cells) used at heap.places heap.in_use stands d
+      ∙ read_at (entries_in cells) (slots_in cells) used at heap so.early d
 
   got : slice_get (in_order cells used) at ≡ Some cell.entry
   got = slice_get_read (in_order cells used) (length (in_order cells used)) at cell.entry refl stands
@@ -281,27 +289,15 @@ module _ {cells : List Cell} {used at : ℕ} {slot : Slot} {cell : Cell} (so : I
     pub written_ranked : in_order after used ≡ set (in_order cells used) at e
     written_ranked =
         (λ i. picked (entries_after i) (take used (slots_after i))) ∙ set_picked (entries_in cells)
-        (slots_in cells) used at heap.places heap.in_use stands e
+        (slots_in cells) used at heap so.early e
 
     its_ssrc : (d : Entry) → e.ssrc ≡ (slice_index_or (in_order cells used) at d).ssrc
     its_ssrc d = same ∙ ap (λ (x : Entry). x.ssrc) (read_ranked d)
 
-    still_heap : IsHeap (set (entries_in cells) (place_at (slots_in cells) at) e) (slots_in cells) used
-    still_heap =
-        let old = entries_in cells in
-        let slots = slots_in cells in
-        record {
-          places = places_at old slots used at heap.places heap.in_use stands e;
-          in_use = heap.in_use;
-          all = heap.all ∙ sym (length-set old (place_at slots at) e);
-          keyed = keyed_at old slots used at heap.places heap.in_use stands e heap.keyed cell.entry
-              (its_ssrc cell.entry);
-          few = omega (arith, heap.few, length-set old (place_at slots at) e);
-        }
-
     pub heap_written : IsHeap (entries_in after) (slots_in after) used
     heap_written = subst (λ slots. IsHeap (entries_in after) slots used) (sym slots_after)
-        (subst (λ es. IsHeap es (slots_in cells) used) (sym entries_after) still_heap)
+        (subst (λ es. IsHeap es (slots_in cells) used) (sym entries_after)
+        (heap_at (entries_in cells) (slots_in cells) used at heap so.early e cell.entry (its_ssrc cell.entry)))
 
     pub still_indexed : IsRising (in_order cells used) → IsIndexed after used
     still_indexed rising = record {
