@@ -5,22 +5,28 @@
 -- it may. Two that do not send RTP send as many reports as a crowd may: with 243,655 in place of 243,656 they would be
 -- one
 -- too many, as without the one report that each may send besides.
-use Rattle.std.proofs.Common.{◌≡◌, ℕ, ◌+◌, ◌*◌, ◌/◌, List, [], ◌∷◌, ◌&&◌, nat_le, length, map, All, Bool, true, false, Ok, Err, refl, sym, subst, arith}
-use Rattle.std.proofs.lemmas.Bool.{and_parts, leb-true}
-use Rattle.std.proofs.lemmas.List.Elements.{All-nil, All-cons, All-head, All-tail}
+use Rattle.std.proofs.Common.{◌≡◌, ◌==◌, ◌<◌, ◌^◌, ℕ, ◌+◌, ◌*◌, ◌/◌, List, [], ◌∷◌, ◌&&◌, not, nat_le, nat_lt, length, map, All, Bool, true, false, Option, Some, None, is_some, Ok, Err, refl, arith}
+use Rattle.std.specs.List.{list_all}
+use Rattle.std.proofs.lemmas.Bool.{and_parts, leb-true, ltb-true, eqb-true}
+use Rattle.std.proofs.lemmas.List.Elements.{All-nil, All-cons, All-weaker}
+use Rattle.std.proofs.lemmas.List.Sums.{AllPass-from_list_all}
 use Rattle.rtcp_wire.specs.Values.{rr, sdes}
 use Rattle.rtcp_wire.specs.RtpHeads.{RtpValue}
 use Rattle.std.specs.List.{IsDistinct}
 use Rattle.rtcp_members.specs.Entries.{entry_at, is_member, is_such}
 use Rattle.rtcp_timer.specs.declared.load.Load.{Load}
 use Rattle.rtcp_timer.specs.Averages.{with_headers}
-use Rattle.rtcp_engine.specs.Setups.{Setup, IsUsable, IsExtraItem}
+use Rattle.rtcp_engine.specs.Setups.{Setup}
 use Rattle.rtcp_engine.specs.Acts.{Act, arrived, rtcp, rtp, rtp_sent, ticked, left}
-use Rattle.rtcp_engine.specs.Outcomes.{Outcome}
-use Rattle.rtcp_engine.specs.Taken.{AllTaken, IsHistory}
+use Rattle.rtcp_engine.specs.Histories.{History}
+use Rattle.rtcp_engine.specs.Outcomes.{Outcome, first_size_of}
+use Rattle.rtcp_engine.specs.Refused.{error_in}
+use Rattle.rtcp_engine.specs.Refusals.{refusal_after}
+use Rattle.rtcp_engine.specs.Taken.{HasWords, AllTaken, IsHistory}
 use Rattle.rtcp_engine.specs.Sent.{reports_in, sent_at}
 use Rattle.rtcp_session.specs.Windows.{in_window, later_ones, intervals_of, Decided, load_at, HasSize, Joined, decided_within, later_within}
-use Rattle.rtcp_session.specs.Crowds.{total_reports, total_as, those_as, shares_within, AreHeard, Terms, CountsMost, TakesPart, IsCrowd, carried_in}
+use Rattle.rtcp_engine.proofs.LawLemmas.{usable_is_unrefused}
+use Rattle.rtcp_session.specs.Crowds.{total_reports, total_as, those_as, alike_in, shares_within, AreHeard, Terms, CountsMost, TakesPart, IsCrowd, carried_in}
 
 -- ---- Participants
 
@@ -66,19 +72,6 @@ two_later = refl
 
 four_allowed : length pair + carried_in 2462489 terms.receiver_bw terms ≡ 4
 four_allowed = refl
-
--- the load of each of them at its second report
-abbrev load_then : (members : ℕ) → Load
-load_then members = record {
-  members = members;
-  senders = 0;
-  we_sent = false;
-  initial = false;
-  avg = 12288;
-  sender_bw =
-      16;
-  receiver_bw = 16;
-}
 
 -- The interval then computed fits into the window, and nothing more does.
 six_seconds_of : intervals_of (later_ones
@@ -130,17 +123,6 @@ four_of_both = refl
 ten_allowed : length mixed + carried_in 5000000 (terms.sender_bw + terms.receiver_bw) terms ≡ 10
 ten_allowed = refl
 
-abbrev pub sender_load : (members avg : ℕ) → Load
-sender_load members avg = record {
-  members = members;
-  senders = 1;
-  we_sent = true;
-  initial = false;
-  avg = avg;
-  sender_bw = 16;
-  receiver_bw = 16;
-}
-
 -- ---- Three, of which one sends
 
 abbrev pub packet_of : (ssrc seq : ℕ) → RtpValue
@@ -189,206 +171,127 @@ turning_pair = turning ∷ who_hears 170 187 ∷ []
 roles : map (λ decided. (load_at decided).we_sent) (decided_within 0 13000000 turning) ≡ false ∷ true ∷ false ∷ []
 roles = refl
 
--- ---- They are crowds
+-- ---- They are crowds, by a test that computes
 
-usable : (ssrc : ℕ) → IsUsable (setup_of ssrc)
-usable ssrc = record {
-  cname = (omega arith, omega arith);
-  capacity = (omega arith, omega arith);
-  limit = (omega arith, omega arith);
-  words = refl;
-  for_senders = (omega arith, omega arith);
-  for_others = (omega arith, omega arith);
-  rate = (omega arith, omega arith);
-  few_extras = omega arith;
-  extras = All-nil IsExtraItem;
-}
+abbrev has_words : Act → Bool
+has_words (arrived moment peer word datagram) = nat_lt word (2 ^ 32)
+has_words (rtp_sent moment timestamp octets) = nat_lt timestamp (2 ^ 32) && nat_lt octets (2 ^ 32)
+has_words (ticked moment first_word second_word) = nat_lt first_word (2 ^ 32) && nat_lt second_word (2 ^ 32)
+has_words (left moment word) = nat_lt word (2 ^ 32)
 
-pub stands : (ssrc : ℕ) (acts : List Act) → AllTaken (setup_of ssrc) 0 acts →
-    IsHistory (record { setup = setup_of ssrc; word = 0; acts = acts })
-stands ssrc acts taken = record { usable = usable ssrc; word = omega arith; taken = taken }
+below : (one other : ℕ) → (nat_lt one (2 ^ 32) && nat_lt other (2 ^ 32)) ≡ true → (one < 2 ^ 32) × (other < 2 ^ 32)
+below one other is =
+    let parts = and_parts (nat_lt one (2 ^ 32)) (nat_lt other (2 ^ 32)) is in
+    (ltb-true one (2 ^ 32) parts.0, ltb-true other (2 ^ 32) parts.1)
 
--- a participant by the loads of its reports
-of_loads : (P : Load → Type 0) (all : List Decided) → All P (map load_at all) → All (λ decided. P (load_at decided)) all
-of_loads P [] h = All-nil (λ (decided : Decided). P (load_at decided))
-of_loads P (decided ∷ earlier) h =
-    let rest = of_loads P earlier (All-tail P (load_at decided) (map load_at earlier) h) in
-    All-cons (λ (decided : Decided). P (load_at decided)) decided earlier
-    (All-head P (load_at decided) (map load_at earlier) h) rest
+words : (act : Act) → has_words act ≡ true → HasWords act
+words (arrived moment peer word datagram) is = ltb-true word (2 ^ 32) is
+words (rtp_sent moment timestamp octets) is = below timestamp octets is
+words (ticked moment first_word second_word) is = below first_word second_word is
+words (left moment word) is = ltb-true word (2 ^ 32) is
 
-abbrev is_large : Act → Bool
-is_large (arrived moment peer word (rtcp size (Ok packets))) = nat_le 48 (with_headers size)
-is_large act = true
+none : {A : Type 0} (found : Option A) → not (is_some found) ≡ true → found ≡ None
+none None is = refl
+none (Some x) is = absurd cc
 
-large : (act : Act) → is_large act ≡ true → HasSize 48 act
-large (arrived moment peer word (rtcp size (Ok packets))) is = leb-true 48 (with_headers size) is
-large (arrived moment peer word (rtcp size (Err fault))) is = tt
-large (arrived moment peer word (rtp reading)) is = tt
-large (rtp_sent moment timestamp octets) is = tt
-large (ticked moment first_word second_word) is = tt
-large (left moment word) is = tt
+abbrev are_taken : Setup → (word : ℕ) → List Act → Bool
+are_taken setup word [] = true
+are_taken setup word (act ∷ earlier) = are_taken setup word earlier
+    && (has_words act && not (is_some (refusal_after (record { setup = setup; word = word; acts = earlier }) act)))
 
-abbrev pub are_large : List Act → Bool
-are_large [] = true
-are_large (act ∷ earlier) = is_large act && are_large earlier
+all_taken : (setup : Setup) (word : ℕ) (acts : List Act) → are_taken setup word acts ≡ true → AllTaken setup word acts
+all_taken setup word [] is = tt
+all_taken setup word (act ∷ earlier) is =
+    let refusal = refusal_after (record { setup = setup; word = word; acts = earlier }) act in
+    let parts = and_parts (are_taken setup word earlier) (has_words act && not (is_some refusal)) is in
+    let newest = and_parts (has_words act) (not (is_some refusal)) parts.1 in
+    (none refusal newest.1, words act newest.0, all_taken setup word earlier parts.0)
 
-all_large : (acts : List Act) → are_large acts ≡ true → All (HasSize 48) acts
-all_large [] is = All-nil (HasSize 48)
-all_large (act ∷ earlier) is =
-    let parts = and_parts (is_large act) (are_large earlier) is in
-    All-cons (HasSize 48) act earlier (large act parts.0) (all_large earlier parts.1)
+abbrev is_history : History → Bool
+is_history history = are_taken history.setup history.word history.acts
+    && (nat_lt history.word (2 ^ 32) && not (is_some (error_in history.setup)))
 
-pub takes_part : (times from width : ℕ) (all : List Joined) (ssrc : ℕ) (acts : List Act) (loads : List Load) →
-    AllTaken (setup_of ssrc) 0 acts → are_large acts ≡ true
-    → map load_at (later_within from width (joined_with ssrc acts)) ≡ loads →
-    All (CountsMost times from width all) loads → TakesPart (record terms { times = times }) from width all
-    (joined_with ssrc acts)
-takes_part times from width all ssrc acts loads taken sizes are counts = record {
-  stands = stands ssrc acts taken;
-  for_senders = refl;
-  for_others = refl;
-  own = omega arith;
-  sizes = all_large acts sizes;
-  counts = of_loads (CountsMost times from width all) (later_within from width (joined_with ssrc acts))
-      (subst (All (CountsMost times from width all)) (sym are) counts);
-}
+pub stands : (history : History) → is_history history ≡ true → IsHistory history
+stands history is =
+    let refused = not (is_some (error_in history.setup)) in
+    let parts = and_parts (are_taken history.setup history.word history.acts) (nat_lt history.word (2 ^ 32) && refused)
+    is in
+    let first = and_parts (nat_lt history.word (2 ^ 32)) refused parts.1 in
+    record {
+      usable = (usable_is_unrefused history.setup).1 (none (error_in history.setup) first.1);
+      word = ltb-true history.word (2 ^ 32) first.0;
+      taken = all_taken history.setup history.word history.acts parts.0;
+    }
 
-one_load : (P : Load → Type 0) (load : Load) → P load → All P (load ∷ [])
-one_load P load h = All-cons P load [] h (All-nil P)
+abbrev is_large : (least : ℕ) → Act → Bool
+is_large least (arrived moment peer word (rtcp size (Ok packets))) = nat_le least (with_headers size)
+is_large least act = true
 
-both_alike : length (those_as false 2462496 2462489 pair) ≡ 2
-both_alike = refl
+large : (least : ℕ) (act : Act) → is_large least act ≡ true → HasSize least act
+large least (arrived moment peer word (rtcp size (Ok packets))) is = leb-true least (with_headers size) is
+large least (arrived moment peer word (rtcp size (Err fault))) is = tt
+large least (arrived moment peer word (rtp reading)) is = tt
+large least (rtp_sent moment timestamp octets) is = tt
+large least (ticked moment first_word second_word) is = tt
+large least (left moment word) is = tt
 
-pair_counts : CountsMost 1 2462496 2462489 pair (load_then 2)
-pair_counts = record { everyone = omega arith; alike = omega (arith, both_alike) }
+-- what a test says of each
+each : {A : Type 0} (test : A → Bool) (P : A → Type 0) → ((x : A) → test x ≡ true → P x) → (all : List A) →
+    list_all test all ≡ true → All P all
+each {A} test P says all is = All-weaker (λ (x : A). test x ≡ true) P says all (AllPass-from_list_all test all is)
 
-pub first_of_pair : AllTaken (setup_of 170) 0 (who_hears 187 170).history.acts
-first_of_pair = (refl, (omega arith, omega arith), (refl, (omega arith, omega arith), (refl, omega arith, tt)))
+module _ (terms : Terms) (from width : ℕ) (all : List Joined) where
+  abbrev counts_most : Load → Bool
+  counts_most load = nat_le (length all) (terms.times * load.members)
+      && nat_le (length (those_as load.we_sent from width all)) (terms.times * alike_in load)
 
-second_of_pair : AllTaken (setup_of 187) 0 (who_hears 170 187).history.acts
-second_of_pair = (refl, (omega arith, omega arith), (refl, (omega arith, omega arith), (refl, omega arith, tt)))
+  counts : (load : Load) → counts_most load ≡ true → CountsMost terms.times from width all load
+  counts load is =
+      let alike = length (those_as load.we_sent from width all) in
+      let parts = and_parts (nat_le (length all) (terms.times * load.members))
+      (nat_le alike (terms.times * alike_in load)) is in
+      record {
+        everyone = leb-true (length all) (terms.times * load.members) parts.0;
+        alike = leb-true alike (terms.times * alike_in load) parts.1;
+      }
+
+  abbrev tests : Joined → List Bool
+  tests joined = is_history joined.history ∷ (joined.history.setup.sender_bw == terms.sender_bw)
+      ∷ (joined.history.setup.receiver_bw == terms.receiver_bw)
+      ∷ nat_le terms.size (with_headers (first_size_of joined.history.setup))
+      ∷ list_all (is_large terms.size) joined.history.acts
+      ∷ list_all (λ decided. counts_most (load_at decided)) (later_within from width joined) ∷ []
+
+  abbrev takes_part : Joined → Bool
+  takes_part joined = list_all (λ passed. passed) (tests joined)
+
+  part : (joined : Joined) → takes_part joined ≡ true → TakesPart terms from width all joined
+  part joined is =
+      let setup = joined.history.setup in
+      let passed = AllPass-from_list_all (λ (passed : Bool). passed) (tests joined) is in
+      record {
+        stands = stands joined.history (passed 0 true (omega arith));
+        for_senders = eqb-true setup.sender_bw terms.sender_bw (passed 1 true (omega arith));
+        for_others = eqb-true setup.receiver_bw terms.receiver_bw (passed 2 true (omega arith));
+        own = leb-true terms.size (with_headers (first_size_of setup)) (passed 3 true (omega arith));
+        sizes = each (is_large terms.size) (HasSize terms.size) (large terms.size) joined.history.acts
+            (passed 4 true (omega arith));
+        counts = each (λ (decided : Decided). counts_most (load_at decided))
+            (λ (decided : Decided). CountsMost terms.times from width all (load_at decided))
+            (λ decided. counts (load_at decided)) (later_within from width joined) (passed 5 true (omega arith));
+      }
+
+  pub crowd_of : list_all takes_part all ≡ true → IsCrowd terms from width all
+  crowd_of = each takes_part (TakesPart terms from width all) part all
 
 pub pair_is_crowd : IsCrowd terms 2462496 2462489 pair
-pair_is_crowd =
-    let Takes : Joined → Type 0 = TakesPart terms 2462496 2462489 pair in
-    let Counts : Load → Type 0 = CountsMost 1 2462496 2462489 pair in
-    let one = takes_part 1 2462496 2462489 pair 170 (who_hears 187 170).history.acts (load_then 2 ∷ []) first_of_pair
-    refl refl (one_load Counts (load_then 2) pair_counts) in
-    let other = takes_part 1 2462496 2462489 pair 187 (who_hears 170 187).history.acts (load_then 2 ∷ []) second_of_pair
-    refl refl (one_load Counts (load_then 2) pair_counts) in
-    All-cons Takes (who_hears 187 170) (who_hears 170 187 ∷ []) one
-    (All-cons Takes (who_hears 170 187) [] other (All-nil Takes))
-
--- one of two sends
-one_sends : length (those_as true 0 5000000 mixed) ≡ 1
-one_sends = refl
-
-one_listens : length (those_as false 0 5000000 mixed) ≡ 1
-one_listens = refl
+pair_is_crowd = crowd_of terms 2462496 2462489 pair refl
 
 mixed_is_crowd : IsCrowd terms 0 5000000 mixed
-mixed_is_crowd =
-    let Takes : Joined → Type 0 = TakesPart terms 0 5000000 mixed in
-    let Counts : Load → Type 0 = CountsMost 1 0 5000000 mixed in
-    let one = takes_part 1 0 5000000 mixed 170 sender.history.acts (sender_load 2 12608 ∷ []) (
-      refl,
-      (omega arith, omega arith),
-      (refl, (omega arith, omega arith), (refl, (omega arith, omega arith), (refl, omega arith, tt))),
-    )
-    refl refl
-    (one_load Counts (sender_load 2 12608) (record { everyone = omega arith; alike = omega (arith, one_sends) })) in
-    let other = takes_part 1 0 5000000 mixed 187 (who_hears 170 187).history.acts (load_then 2 ∷ []) second_of_pair refl
-    refl
-    (one_load Counts (load_then 2) (record { everyone = omega arith; alike = omega (arith, one_listens) })) in
-    All-cons Takes sender (who_hears 170 187 ∷ []) one (All-cons Takes (who_hears 170 187) [] other (All-nil Takes))
-
--- one of three sends
-one_of_three_sends : length (those_as true 0 5100000 three) ≡ 1
-one_of_three_sends = refl
-
-two_of_three_listen : length (those_as false 0 5100000 three) ≡ 2
-two_of_three_listen = refl
-
-abbrev listener_load : Load
-listener_load = record {
-  members = 3;
-  senders = 1;
-  we_sent = false;
-  initial = false;
-  avg = 12672;
-  sender_bw = 16;
-  receiver_bw = 16;
-}
-
-listener_counts : CountsMost 1 0 5100000 three listener_load
-listener_counts = record { everyone = omega arith; alike = omega (arith, two_of_three_listen) }
+mixed_is_crowd = crowd_of terms 0 5000000 mixed refl
 
 three_are_crowd : IsCrowd terms 0 5100000 three
-three_are_crowd =
-    let Takes : Joined → Type 0 = TakesPart terms 0 5100000 three in
-    let Counts : Load → Type 0 = CountsMost 1 0 5100000 three in
-    let one = takes_part 1 0 5100000 three 170 sender_of_three.history.acts (sender_load 3 12608 ∷ []) (
-      refl,
-      (omega arith, omega arith),
-      (
-        refl,
-        (omega arith, omega arith),
-        (refl, (omega arith, omega arith), (refl, omega arith, (refl, omega arith, tt))),
-      ),
-    )
-    refl refl
-    (one_load Counts (sender_load 3 12608)
-    (record { everyone = omega arith; alike = omega (arith, one_of_three_sends) })) in
-    let second = takes_part 1 0 5100000 three 187 (other_of_three 204 187).history.acts (listener_load ∷ []) (
-      refl,
-      (omega arith, omega arith),
-      (
-        refl,
-        (omega arith, omega arith),
-        (refl, omega arith, (refl, omega arith, (refl, omega arith, (refl, omega arith, tt)))),
-      ),
-    )
-    refl refl (one_load Counts listener_load listener_counts) in
-    let third = takes_part 1 0 5100000 three 204 (other_of_three 187 204).history.acts (listener_load ∷ []) (
-      refl,
-      (omega arith, omega arith),
-      (
-        refl,
-        (omega arith, omega arith),
-        (refl, omega arith, (refl, omega arith, (refl, omega arith, (refl, omega arith, tt)))),
-      ),
-    )
-    refl refl (one_load Counts listener_load listener_counts) in
-    All-cons Takes sender_of_three (other_of_three 204 187 ∷ other_of_three 187 204 ∷ []) one
-    (All-cons Takes (other_of_three 204 187) (other_of_three 187 204 ∷ []) second
-    (All-cons Takes (other_of_three 187 204) [] third (All-nil Takes)))
-
--- one begins to send and ceases
-turns : length (those_as true 0 13000000 turning_pair) ≡ 1
-turns = refl
-
-both_listen : length (those_as false 0 13000000 turning_pair) ≡ 2
-both_listen = refl
+three_are_crowd = crowd_of terms 0 5100000 three refl
 
 turning_is_crowd : IsCrowd terms 0 13000000 turning_pair
-turning_is_crowd =
-    let Takes : Joined → Type 0 = TakesPart terms 0 13000000 turning_pair in
-    let Counts : Load → Type 0 = CountsMost 1 0 13000000 turning_pair in
-    let listens : (avg : ℕ) → Counts (record (load_then 2) { avg = avg }) =
-    λ avg. record { everyone = omega arith; alike = omega (arith, both_listen) } in
-    let sends : Counts (sender_load 2 12288) = record { everyone = omega arith; alike = omega (arith, turns) } in
-    let one = takes_part 1 0 13000000 turning_pair 170 turning.history.acts
-    (record (load_then 2) { avg = 12608 } ∷ sender_load 2 12288 ∷ []) (
-      refl,
-      (omega arith, omega arith),
-      (
-        refl,
-        (omega arith, omega arith),
-        (refl, (omega arith, omega arith), (refl, (omega arith, omega arith), (refl, omega arith, tt))),
-      ),
-    )
-    refl refl (All-cons Counts (record (load_then 2) { avg = 12608 }) (sender_load 2 12288 ∷ []) (listens 12608)
-    (one_load Counts (sender_load 2 12288) sends)) in
-    let other = takes_part 1 0 13000000 turning_pair 187 (who_hears 170 187).history.acts (load_then 2 ∷ [])
-    second_of_pair refl refl (one_load Counts (load_then 2) (listens 12288)) in
-    All-cons Takes turning (who_hears 170 187 ∷ []) one (All-cons Takes (who_hears 170 187) [] other (All-nil Takes))
+turning_is_crowd = crowd_of terms 0 13000000 turning_pair refl

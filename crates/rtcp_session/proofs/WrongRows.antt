@@ -1,24 +1,23 @@
 -- What would be wrong: each statement here is a law with a number moved or a part left out, and there is a session
 -- where
 -- it does not hold.
-use Rattle.std.proofs.Common.{◌≡◌, ℕ, ◌+◌, ◌*◌, ◌/◌, ◌≤◌, List, [], ◌∷◌, length, map, replicate, All, true, false, Ok, None, refl, arith, nat_le, filter, inr, Result}
+use Rattle.std.proofs.Common.{◌≡◌, ℕ, ◌+◌, ◌*◌, ◌/◌, ◌≤◌, List, [], ◌∷◌, length, map, All, true, false, Ok, None, refl, arith, nat_le, filter, inr, Result}
 use Rattle.std.specs.List.{sum_by, IsDistinct}
-use Rattle.std.proofs.lemmas.List.Elements.{All-nil, All-cons, All-head, All-map, All-replicate}
+use Rattle.std.proofs.lemmas.List.Elements.{All-nil, All-cons, All-head, All-map}
 use Rattle.rtcp_wire.specs.declared.fault.WireFault.{WireFault}
 use Rattle.rtcp_wire.specs.Values.{RtcpPacket, rr, bye}
 use Rattle.rtcp_wire.specs.Grammar.{IsSpelling, IsAccepted}
 use Rattle.rtcp_members.specs.Entries.{entry_at, is_member, is_such}
-use Rattle.rtcp_timer.specs.declared.load.Load.{Load}
 use Rattle.rtcp_timer.specs.Loads.{interval_of}
 use Rattle.rtcp_engine.specs.Setups.{Setup}
 use Rattle.rtcp_engine.specs.Acts.{Act, arrived, rtcp, ticked, IsReading, rtcp_came}
 use Rattle.rtcp_engine.specs.Outcomes.{Outcome, load_of, nothing_yet}
-use Rattle.rtcp_engine.specs.Taken.{AllTaken, IsHistory}
+use Rattle.rtcp_engine.specs.Taken.{IsHistory}
 use Rattle.rtcp_engine.specs.Histories.{History}
 use Rattle.rtcp_engine.specs.Sent.{Sent, reports_in, sent_at}
-use Rattle.rtcp_session.specs.Windows.{in_window, later_ones, intervals_of, Decided, load_at, decided_at, HasSize, Joined, later_within}
-use Rattle.rtcp_session.specs.Crowds.{total_reports, Paced, IsPaced, total_as, those_as, shares_within, AreHeard, Terms, CountsMost, TakesPart, IsCrowd, carried_in}
-use Rattle.rtcp_session.proofs.CrowdRows.{setup_of, named_came, packet_came, joined_with, who_hears, sender, sender_load, terms, pair, takes_part, first_of_pair, pair_is_crowd, stands}
+use Rattle.rtcp_session.specs.Windows.{in_window, later_ones, intervals_of, Decided, load_at, decided_at, HasSize, Joined}
+use Rattle.rtcp_session.specs.Crowds.{total_reports, Paced, IsPaced, total_as, shares_within, AreHeard, Terms, IsCrowd, carried_in}
+use Rattle.rtcp_session.proofs.CrowdRows.{setup_of, named_came, packet_came, joined_with, who_hears, sender, terms, pair, crowd_of, pair_is_crowd, stands}
 
 -- ---- A number less
 
@@ -29,7 +28,7 @@ abbrev first : History
 first = (who_hears 187 170).history
 
 first_stands : IsHistory first
-first_stands = stands 170 first.acts first_of_pair
+first_stands = stands first refl
 
 six_seconds : intervals_of (later_ones (in_window 2462489 2462489 (reports_of first))) ≡ 6000000
 six_seconds = refl
@@ -58,17 +57,7 @@ no_window_holds_all law =
     omega (arith, one, its)
 
 all_at_once : IsCrowd terms 2462496 0 pair
-all_at_once =
-    let Takes : Joined → Type 0 = TakesPart terms 2462496 0 pair in
-    let Counts : Load → Type 0 = CountsMost 1 2462496 0 pair in
-    let one = takes_part 1 2462496 0 pair 170 (who_hears 187 170).history.acts []
-    (refl, (omega arith, omega arith), (refl, (omega arith, omega arith), (refl, omega arith, tt))) refl refl
-    (All-nil Counts) in
-    let other = takes_part 1 2462496 0 pair 187 (who_hears 170 187).history.acts []
-    (refl, (omega arith, omega arith), (refl, (omega arith, omega arith), (refl, omega arith, tt))) refl refl
-    (All-nil Counts) in
-    All-cons Takes (who_hears 187 170) (who_hears 170 187 ∷ []) one
-    (All-cons Takes (who_hears 170 187) [] other (All-nil Takes))
+all_at_once = crowd_of terms 2462496 0 pair refl
 
 none_besides : ((terms : Terms) (from width : ℕ) (all : List Joined) → 1 ≤ terms.size → IsCrowd terms from width all
     → total_reports from width all ≤ carried_in width (terms.sender_bw + terms.receiver_bw) terms) → ⊥
@@ -93,27 +82,7 @@ left_alone = (joined_with 170 (ticked 7030000 0 0 ∷ bye_came 4925020 3 ∷ bye
     ∷ named_came 120 3 ∷ named_came 110 2 ∷ named_came 100 1 ∷ [])).history
 
 left_alone_stands : IsHistory left_alone
-left_alone_stands = stands 170 left_alone.acts (
-  refl,
-  (omega arith, omega arith),
-  (
-    refl,
-    omega arith,
-    (
-      refl,
-      omega arith,
-      (
-        refl,
-        omega arith,
-        (
-          refl,
-          (omega arith, omega arith),
-          (refl, omega arith, (refl, omega arith, (refl, omega arith, tt))),
-        ),
-      ),
-    ),
-  ),
-)
+left_alone_stands = stands left_alone refl
 
 twelve_then_five : map (λ report. report.interval) (in_window 4924978 2105022 (reports_of left_alone))
     ≡ 5000000 ∷ 12000000 ∷ []
@@ -140,54 +109,8 @@ four = who_is_deaf 1 ∷ who_is_deaf 2 ∷ who_is_deaf 3 ∷ who_is_deaf 4 ∷ [
 abbrev one_in_four : Terms
 one_in_four = record terms { times = 4 }
 
-abbrev load_alone : Load
-load_alone = record {
-  members = 1;
-  senders = 0;
-  we_sent = false;
-  initial = false;
-  avg = 12288;
-  sender_bw = 16;
-  receiver_bw = 16;
-}
-
-deaf_taken : (ssrc : ℕ) → AllTaken (setup_of ssrc) 0 (who_is_deaf ssrc).history.acts
-deaf_taken ssrc = (
-  refl,
-  (omega arith, omega arith),
-  (
-    refl,
-    (omega arith, omega arith),
-    (
-      refl,
-      (omega arith, omega arith),
-      (
-        refl,
-        (omega arith, omega arith),
-        (refl, (omega arith, omega arith), (refl, (omega arith, omega arith), tt)),
-      ),
-    ),
-  ),
-)
-
-four_listen : length (those_as false 0 11491622 four) ≡ 4
-four_listen = refl
-
-deaf_takes_part : (ssrc : ℕ) → map load_at (later_within 0 11491622 (who_is_deaf ssrc)) ≡ replicate 5 load_alone →
-    TakesPart one_in_four 0 11491622 four (who_is_deaf ssrc)
-deaf_takes_part ssrc loads =
-    takes_part 4 0 11491622 four ssrc (who_is_deaf ssrc).history.acts (replicate 5 load_alone) (deaf_taken ssrc) refl
-    loads
-    (All-replicate (CountsMost 4 0 11491622 four) 5 load_alone
-    (record { everyone = omega arith; alike = omega (arith, four_listen) }))
-
 deaf_are_crowd : IsCrowd one_in_four 0 11491622 four
-deaf_are_crowd =
-    let Takes : Joined → Type 0 = TakesPart one_in_four 0 11491622 four in
-    All-cons Takes (who_is_deaf 1) (who_is_deaf 2 ∷ who_is_deaf 3 ∷ who_is_deaf 4 ∷ []) (deaf_takes_part 1 refl)
-    (All-cons Takes (who_is_deaf 2) (who_is_deaf 3 ∷ who_is_deaf 4 ∷ []) (deaf_takes_part 2 refl)
-    (All-cons Takes (who_is_deaf 3) (who_is_deaf 4 ∷ []) (deaf_takes_part 3 refl)
-    (All-cons Takes (who_is_deaf 4) [] (deaf_takes_part 4 refl) (All-nil Takes))))
+deaf_are_crowd = crowd_of one_in_four 0 11491622 four refl
 
 as_if_counted : ((terms : Terms) (from width : ℕ) (all : List Joined) → 1 ≤ terms.size → IsCrowd terms from width all
     → total_reports from width all ≤ length all + carried_in width (terms.sender_bw + terms.receiver_bw)
@@ -206,34 +129,8 @@ listener = joined_with 187 (ticked 3283319 0 0 ∷ ticked 1231245 0 0 ∷ packet
 abbrev heard : List Joined
 heard = sender ∷ listener ∷ []
 
-one_sends : length (those_as true 1231252 2052074 heard) ≡ 1
-one_sends = refl
-
-one_listens : length (those_as false 1231252 2052074 heard) ≡ 1
-one_listens = refl
-
 heard_are_crowd : IsCrowd terms 1231252 2052074 heard
-heard_are_crowd =
-    let Takes : Joined → Type 0 = TakesPart terms 1231252 2052074 heard in
-    let Counts : Load → Type 0 = CountsMost 1 1231252 2052074 heard in
-    let listens : Counts (record (load_alone) { members = 2; senders = 1; avg = 12672 }) =
-    record { everyone = omega arith; alike = omega (arith, one_listens) } in
-    let one = takes_part 1 1231252 2052074 heard 170 sender.history.acts (sender_load 2 12608 ∷ []) (
-      refl,
-      (omega arith, omega arith),
-      (refl, (omega arith, omega arith), (refl, (omega arith, omega arith), (refl, omega arith, tt))),
-    ) refl refl
-    (All-cons Counts (sender_load 2 12608) [] (record { everyone = omega arith; alike = omega (arith, one_sends) })
-    (All-nil Counts)) in
-    let other = takes_part 1 1231252 2052074 heard 187 listener.history.acts
-    (record load_alone { members = 2; senders = 1; avg = 12672 } ∷ []) (
-      refl,
-      (omega arith, omega arith),
-      (refl, (omega arith, omega arith), (refl, omega arith, (refl, omega arith, (refl, omega arith, tt)))),
-    ) refl
-    refl
-    (All-cons Counts (record load_alone { members = 2; senders = 1; avg = 12672 }) [] listens (All-nil Counts)) in
-    All-cons Takes sender (listener ∷ []) one (All-cons Takes listener [] other (All-nil Takes))
+heard_are_crowd = crowd_of terms 1231252 2052074 heard refl
 
 without_senders : ((terms : Terms) (from width : ℕ) (all : List Joined) → 1 ≤ terms.size → IsCrowd terms from width all
     → total_reports from width all ≤ length all + carried_in width terms.receiver_bw terms) → ⊥
