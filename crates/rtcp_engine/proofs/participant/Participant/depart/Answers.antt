@@ -1,78 +1,56 @@
-use Rattle.std.proofs.Common.{◌≡◌, ◌∙◌, ◌≤◌, ◌<◌, ℕ, true, false, Some, None, nat_le, arith, refl, ap, sym, subst}
+use Rattle.std.proofs.Common.{◌≡◌, ◌∙◌, ◌≤◌, ◌<◌, ℕ, Bool, true, false, Option, Some, None, option_map, if◌then◌else◌, nat_le, arith, refl, ap, sym, subst}
 use Rattle.std.proofs.lemmas.Bool.{le-leb, lt-leb}
 use Rattle.rtcp_engine.specs.Acts.{left}
-use Rattle.rtcp_engine.specs.Leaving.{left_at}
-use Rattle.rtcp_engine.specs.Lives.{others_moved_into}
+use Rattle.rtcp_engine.specs.Leaving.{backing_off, backoff_from, few_members, gone, is_unheard}
+use Rattle.rtcp_engine.specs.Lives.{bye_out}
 use Rattle.rtcp_engine.specs.Outcomes.{Outcome, member_count}
-use Rattle.rtcp_engine.specs.States.{ParticipantValue, Acts, Agrees, HasOthers, IsAt, leaving, over}
-use Rattle.rtcp_engine.proofs.ActLemmas.{acts_from_present, same_stays}
+use Rattle.rtcp_engine.specs.Reporting.{bye_octets}
+use Rattle.rtcp_engine.specs.States.{ParticipantValue, Acts, Agrees, HasOthers, IsAt, Stays, taking_part}
+use Rattle.rtcp_engine.specs.Steps.{OutValue}
+use Rattle.rtcp_engine.proofs.ActLemmas.{acts_from_present, outside_at, same_stays}
 use Rattle.rtcp_engine.proofs.RolesChanged.{leave_moves}
 use Rattle.rtcp_engine.proofs.LifeLemmas.{left_lives, left_byes}
 use Rattle.rtcp_engine.proofs.participant.Participant.depart.Goals as goal
 
+-- One that leaves, by what it tests: whether nobody heard of it, and whether few are members.
+leaves : {p w q : ParticipantValue} {word : ℕ} {out : Option OutValue} {others : Bool} (unheard : Bool)
+    (few : Outcome → Bool) → p ≡ w → w.phase ≡ taking_part → HasOthers w.presence others →
+    Stays p.presence q.presence → q.changes ≡ p.changes
+    → ((o : Outcome) → Agrees p.presence o → is_unheard o ≡ unheard)
+    → ((o : Outcome) → Agrees p.presence o → nat_le (member_count p.presence.setup o) few_members ≡ few o)
+    → ((o : Outcome) → Agrees p.presence o → IsAt q (if unheard then gone o else
+    (if few o then gone o else backing_off o (backoff_from p.presence.setup p.presence.latest word o))))
+    → ((o : Outcome) → out ≡ option_map bye_out
+    (if unheard then None else (if few o then Some (bye_octets p.presence.setup) else None)))
+    → Acts w q (left w.presence.latest word) out others
+leaves {p} {w} {q} {word} {out} {others} unheard few is phase there stays changes unheards fews at outs =
+    let s = p.presence in
+    outside_at (λ (x : ParticipantValue). left x.presence.latest word) is
+    (acts_from_present (ap (λ (x : ParticipantValue). x.phase) is ∙ phase) stays changes
+    (λ o agrees. subst (IsAt q) (sym (left_lives s.setup s.latest word o unheard (few o) (unheards o agrees)
+    (fews o agrees))) (at o agrees))
+    (λ o agrees. outs o ∙ sym (left_byes s.setup o unheard (few o) (unheards o agrees) (fews o agrees)))
+    (λ o agrees. subst (λ (x : ParticipantValue). HasOthers x.presence others) (sym is) there o agrees
+    ∙ leave_moves s.setup s.latest word o))
+
 pub returns-then-is_unheard-clause-new : goal.returns-then-is_unheard-clause-new
-returns-then-is_unheard-clause-new g c others is =
-    let s = c.self.inside.presence in
-    let w = c.args.w in
-    let there : HasOthers s others = subst (λ (x : ParticipantValue). HasOthers x.presence others) (sym c.self.view_is)
-    is in
-    let moves : (t : ℕ) (outcome : Outcome) → Agrees s outcome →
-    others ≡ others_moved_into s.setup outcome (left_at s.setup t w outcome) =
-    λ t outcome agrees. there outcome agrees ∙ leave_moves s.setup t w outcome in
-    let q : ParticipantValue = record { presence = s; phase = over; changes = c.self.inside.changes.list.items } in
-    subst (λ (x : ParticipantValue). Acts x q (left x.presence.latest w) None others) c.self.view_is
-    (acts_from_present (ap (λ (p : ParticipantValue). p.phase) c.self.view_is ∙ c.requires.phase) (same_stays s) refl
-    (λ outcome agrees. subst (IsAt q)
-    (sym (left_lives s.setup s.latest w outcome true _ (sym (c.is_unheard.ensures outcome agrees)
-    ∙ c.if-is_unheard.true) refl)) refl)
-    (λ outcome agrees. sym (left_byes s.setup outcome true _ (sym (c.is_unheard.ensures outcome agrees)
-    ∙ c.if-is_unheard.true) refl)) (moves s.latest))
+returns-then-is_unheard-clause-new g c others there =
+    leaves true (λ o. nat_le (member_count c.self.inside.presence.setup o) few_members) c.self.view_is c.requires.phase
+    there (same_stays c.self.inside.presence) refl
+    (λ o agrees. sym (c.is_unheard.ensures o agrees) ∙ c.if-is_unheard.true) (λ o agrees. refl) (λ o agrees. refl)
+    (λ o. refl)
 
 pub returns-then-member_count-le-FEW_MEMBERS-clause-new : goal.returns-then-member_count-le-FEW_MEMBERS-clause-new
-returns-then-member_count-le-FEW_MEMBERS-clause-new g c others is =
-    let s = c.self.inside.presence in
-    let w = c.args.w in
-    let there : HasOthers s others = subst (λ (x : ParticipantValue). HasOthers x.presence others) (sym c.self.view_is)
-    is in
-    let moves : (t : ℕ) (outcome : Outcome) → Agrees s outcome →
-    others ≡ others_moved_into s.setup outcome (left_at s.setup t w outcome) =
-    λ t outcome agrees. there outcome agrees ∙ leave_moves s.setup t w outcome in
-    let q : ParticipantValue = record { presence = s; phase = over; changes = c.self.inside.changes.list.items } in
-    let few : (outcome : Outcome) → Agrees s outcome → nat_le (member_count s.setup outcome) 50 ≡ true =
-    λ outcome agrees. le-leb _ 50 (subst (λ (n : ℕ). n ≤ 50) (c.member_count.ensures.exact outcome agrees)
-    c.if-member_count-le-FEW_MEMBERS.true) in
-    subst (λ (x : ParticipantValue). Acts x q (left x.presence.latest w)
-    (Rattle.rtcp_engine.specs.Views.out_with c.bye.new.octets.items (Some c.bye.result)) others) c.self.view_is
-    (acts_from_present (ap (λ (p : ParticipantValue). p.phase) c.self.view_is ∙ c.requires.phase) (same_stays s) refl
-    (λ outcome agrees. subst (IsAt q)
-    (sym (left_lives s.setup s.latest w outcome false true (sym (c.is_unheard.ensures outcome agrees)
-    ∙ c.if-is_unheard.false) (few outcome agrees))) refl)
-    (λ outcome agrees. c.bye.ensures
-    ∙ sym (left_byes s.setup outcome false true (sym (c.is_unheard.ensures outcome agrees)
-    ∙ c.if-is_unheard.false) (few outcome agrees))) (moves s.latest))
+returns-then-member_count-le-FEW_MEMBERS-clause-new g c others there =
+    leaves false (λ o. true) c.self.view_is c.requires.phase there (same_stays c.self.inside.presence) refl
+    (λ o agrees. sym (c.is_unheard.ensures o agrees) ∙ c.if-is_unheard.false)
+    (λ o agrees. le-leb _ 50 (subst (λ (n : ℕ). n ≤ 50) (c.member_count.ensures.exact o agrees)
+    c.if-member_count-le-FEW_MEMBERS.true)) (λ o agrees. refl) (λ o. c.bye.ensures)
 
 pub returns-clause-new : goal.returns-clause-new
-returns-clause-new g c others is =
-    let s = c.self.inside.presence in
-    let w = c.args.w in
-    let there : HasOthers s others = subst (λ (x : ParticipantValue). HasOthers x.presence others) (sym c.self.view_is)
-    is in
-    let moves : (t : ℕ) (outcome : Outcome) → Agrees s outcome →
-    others ≡ others_moved_into s.setup outcome (left_at s.setup t w outcome) =
-    λ t outcome agrees. there outcome agrees ∙ leave_moves s.setup t w outcome in
-    let q : ParticipantValue = record {
-      presence = c.back_off.new.self;
-      phase = leaving 1;
-      changes = c.self.inside.changes.list.items;
-    } in
-    let many : (outcome : Outcome) → Agrees s outcome → nat_le (member_count s.setup outcome) 50 ≡ false =
-    λ outcome agrees. lt-leb _ 50 (subst (λ (n : ℕ). 50 < n) (c.member_count.ensures.exact outcome agrees)
-    (omega (arith, c.if-member_count-le-FEW_MEMBERS.false))) in
-    subst (λ (x : ParticipantValue). Acts x q (left x.presence.latest w) None others) c.self.view_is
-    (acts_from_present (ap (λ (p : ParticipantValue). p.phase) c.self.view_is ∙ c.requires.phase)
-    c.back_off.ensures.stays refl
-    (λ outcome agrees. subst (IsAt q)
-    (sym (left_lives s.setup s.latest w outcome false false (sym (c.is_unheard.ensures outcome agrees)
-    ∙ c.if-is_unheard.false) (many outcome agrees))) (refl, c.back_off.ensures.waits outcome agrees))
-    (λ outcome agrees. sym (left_byes s.setup outcome false false (sym (c.is_unheard.ensures outcome agrees)
-    ∙ c.if-is_unheard.false) (many outcome agrees))) (moves s.latest))
+returns-clause-new g c others there =
+    leaves false (λ o. false) c.self.view_is c.requires.phase there c.back_off.ensures.stays refl
+    (λ o agrees. sym (c.is_unheard.ensures o agrees) ∙ c.if-is_unheard.false)
+    (λ o agrees. lt-leb _ 50 (subst (λ (n : ℕ). 50 < n) (c.member_count.ensures.exact o agrees)
+    (omega (arith, c.if-member_count-le-FEW_MEMBERS.false))))
+    (λ o agrees. (refl, c.back_off.ensures.waits o agrees)) (λ o. refl)
