@@ -1,19 +1,16 @@
 -- A participant that is told an act has a history again.
-use Rattle.std.proofs.Common.{◌≡◌, ℕ, suc, ◌^◌, ◌<◌, List, [], ◌∷◌, length, map, Option, Some, None, Result, Ok, Err, refl, ap, arith}
+use Rattle.std.proofs.Common.{◌≡◌, ℕ, suc, ◌^◌, ◌<◌, List, [], ◌∷◌, length, map, Option, Some, None, refl, ap, arith}
 use Rattle.rtcp_wire.specs.declared.fact.Fact.{Fact}
-use Rattle.rtcp_wire.specs.declared.fault.WireFault.{WireFault}
-use Rattle.rtcp_wire.specs.declared.rtp.fault.RtpFault.{RtpFault}
 use Rattle.rtcp_wire.proofs.LawLemmas.{facts_are_few}
 use Rattle.rtcp_wire.specs.Facts.{subject, facts_of}
 use Rattle.rtcp_wire.specs.Grammar.{IsAccepted}
 use Rattle.rtcp_wire.specs.Values.{RtcpPacket}
-use Rattle.rtcp_wire.specs.RtpHeads.{RtpValue, IsRtpHead}
 use Rattle.rtcp_engine.specs.declared.refusal.Refusal.{Refusal}
-use Rattle.rtcp_engine.specs.Acts.{rtcp, rtp, Act, IsReading, IsRtpReading}
+use Rattle.rtcp_engine.specs.Acts.{Act}
 use Rattle.rtcp_engine.specs.Histories.{History, with_act}
 use Rattle.rtcp_engine.specs.Refusals.{refusal_after}
 use Rattle.rtcp_engine.specs.Answers.{followed_by}
-use Rattle.rtcp_engine.specs.Taken.{HasWords, NamesFew, IsHistory}
+use Rattle.rtcp_engine.specs.Taken.{HasWords, IsHistory}
 
 by_refusal : (history : History) (act : Act) (refusal : Option Refusal) → refusal_after history act ≡ refusal →
     HasWords act → IsHistory history
@@ -40,17 +37,3 @@ few_named octets packets is = omega (
   is.short,
   subjects_counted (facts_of packets),
 )
-
-pub few_in_head : (octets : List ℕ) (head : RtpValue) → IsRtpHead octets head → length (head.ssrc ∷ head.csrcs) < 2 ^ 16
-few_in_head octets head is = omega (arith, is.counted)
-
-pub reading_names_few : (octets : List ℕ) (size : ℕ) (reading : Result (List RtcpPacket) WireFault) →
-    IsReading octets reading → NamesFew (rtcp size reading)
-reading_names_few octets size (Ok packets) is =
-    omega (arith, facts_are_few octets packets is, is.short, subjects_counted (facts_of packets))
-reading_names_few octets size (Err fault) is = omega arith
-
-pub head_names_few : (octets : List ℕ) (reading : Result RtpValue RtpFault) → IsRtpReading octets reading →
-    NamesFew (rtp reading)
-head_names_few octets (Ok head) is = omega (arith, is.counted)
-head_names_few octets (Err fault) is = omega arith
