@@ -8,7 +8,7 @@ use Rattle.rtcp_engine.specs.Leaving.{Backoff, Life, present, backing_off, gone,
 use Rattle.rtcp_engine.specs.Lives.{lived, others_moved_by, others_moved_into, out_by, out_while_backing_off, out_while_present, step_into, while_backing_off, while_present}
 use Rattle.rtcp_engine.specs.Outcomes.{Outcome}
 use Rattle.rtcp_engine.specs.Changes.{NewIdentifier, Session, bye_of_change, change_by, changed_by}
-use Rattle.rtcp_engine.specs.Histories.{History, life_at, session_at, with_act}
+use Rattle.rtcp_engine.specs.Histories.{History, life_at, session_at, setup_at, with_act}
 use Rattle.rtcp_engine.specs.Refusals.{refusal_after, refusal_of_datagram}
 use Rattle.rtcp_engine.specs.Answers.{answer_of, step_by}
 use Rattle.rtcp_engine.specs.Promises.{Takes as Promised}
@@ -44,8 +44,19 @@ at_gone p phase P here (present outcome) at = absurd (cc (sym (ap is_taking_part
 at_gone p phase P here (backing_off outcome backoff) at = absurd (cc (sym (ap is_leaving at.0) ∙ ap is_leaving phase))
 at_gone p phase P here (gone outcome) at = here outcome
 
-pub inside_at : {p w : ParticipantValue} → p ≡ w → (life : Life) → IsAt w life → IsAt p life
-inside_at {p} {w} is life at = subst (λ (x : ParticipantValue). IsAt x life) (sym is) at
+-- what is said of the life of one that takes part, by its parts inside
+pub said_at : {p w : ParticipantValue} → p ≡ w → p.phase ≡ taking_part → (P : Setup → Life → Type 0) →
+    ((outcome : Outcome) → Agrees p.presence outcome → P p.presence.setup (present outcome)) → (life : Life) →
+    IsAt w life → P w.presence.setup life
+said_at {p} {w} is phase P here life at = subst (λ (x : ParticipantValue). P x.presence.setup life) is
+    (at_present p phase (P p.presence.setup) here life (subst (λ (x : ParticipantValue). IsAt x life) (sym is) at))
+
+-- the same of the life that its history makes
+pub said_present : {p w : ParticipantValue} → p ≡ w → p.phase ≡ taking_part → (P : Setup → Life → Type 0) →
+    ((outcome : Outcome) → Agrees p.presence outcome → P p.presence.setup (present outcome)) → (h : History) →
+    StandsAt w h → P (setup_at h) (life_at h)
+said_present {p} {w} is phase P here h stands = subst (λ (setup : Setup). P setup (life_at h)) stands.session.setup
+    (said_at is phase P here (life_at h) stands.session.life)
 
 -- what is known of the parts inside is known of those outside
 pub outside : {p w q : ParticipantValue} {act : Act} {out : Option OutValue} {moved : Bool} → p ≡ w →
@@ -239,10 +250,12 @@ refuses p act reason is words = record {
   bounded = λ h stands. bounds_after h act words stands.is_history;
 }
 
-pub call_refused_by : (p : ParticipantValue) (act : Act) (reason : Refusal) →
-    refusal_by (moment_of act) p ≡ Some reason → (h : History) → StandsAt p h → refusal_after h act ≡ Some reason
-call_refused_by p act reason same h stands = refusal_is p h act (Some reason) (refusal_of_datagram (session_at h) act)
-    stands same refl
+-- a call that is refused, whatever it tells
+pub call_refused : {p : ParticipantValue} (act : Act) {reason : Refusal} → refusal_by (moment_of act) p ≡ Some reason →
+    HasWords act → Promised p act (Err reason) p
+call_refused {p} act {reason} same words =
+    refuses p act reason (λ h stands. refusal_is p h act (Some reason) (refusal_of_datagram (session_at h) act) stands
+    same refl) words
 
 -- a call of the host without a datagram
 pub plain_call : (p : ParticipantValue) (act : Act) → refusal_by (moment_of act) p ≡ None →

@@ -1,5 +1,5 @@
 -- A datagram that was read: whether it is refused, and whether it changes the identifier.
-use Rattle.std.proofs.Common.{◌≡◌, ℕ, ◌&&◌, not, Bool, true, false, List, map, Option, Some, None, Result, Err, if◌then◌else◌, refl, sym, ap, ◌∙◌, subst}
+use Rattle.std.proofs.Common.{◌≡◌, ◌<◌, ◌^◌, ℕ, ◌&&◌, not, Bool, true, false, List, map, Option, Some, None, Result, Err, if◌then◌else◌, refl, sym, ap, ◌∙◌, subst}
 use Rattle.std.specs.Option.{option_or}
 use Rattle.rtcp_engine.specs.declared.arrival.Arrival.{Arrival}
 use Rattle.rtcp_engine.specs.declared.arrival.Arrival.TheVariants.{Rtcp, Rtp}
@@ -11,12 +11,12 @@ use Rattle.rtcp_engine.specs.Acts.{Datagram, arrived}
 use Rattle.rtcp_engine.specs.Identities.{may_change}
 use Rattle.rtcp_engine.specs.Changes.{NewIdentifier, Session, changing_peers, is_about, new_identifier}
 use Rattle.rtcp_engine.specs.Histories.{History, session_at}
-use Rattle.rtcp_engine.specs.Promises.{PassesOn}
+use Rattle.rtcp_engine.specs.Promises.{PassesOn, Takes as Promised}
 use Rattle.rtcp_engine.specs.Refusals.{fault_in, refusal_after, refusal_if, refusal_of_datagram}
 use Rattle.rtcp_engine.specs.Setups.{Setup}
 use Rattle.rtcp_engine.specs.States.{KeepsCapacity, ParticipantValue, StandsAt, refusal_by}
 use Rattle.rtcp_engine.specs.Views.{datagram_of}
-use Rattle.rtcp_engine.proofs.ActLemmas.{Takes}
+use Rattle.rtcp_engine.proofs.ActLemmas.{Takes, refuses}
 use Rattle.rtcp_engine.proofs.AnswerLemmas.{refusal_is}
 
 -- one that was read has no fault
@@ -40,14 +40,15 @@ refused_as_own p h t peer word arrival stands none own may =
     (own_alone (session_at h) t peer word arrival true false own may)
 
 -- one that is refused for its fault
-pub fault_refused : (p : ParticipantValue) (h : History) (t peer word : ℕ) (datagram : Datagram) (reason : Refusal) →
-    StandsAt p h → refusal_by t p ≡ None → fault_in datagram ≡ Some reason →
-    refusal_after h (arrived t peer word datagram) ≡ Some reason
-fault_refused p h t peer word datagram reason stands none fault =
+pub fault_answered : {p : ParticipantValue} (t peer word : ℕ) (datagram : Datagram) {reason : Refusal} →
+    refusal_by t p ≡ None → fault_in datagram ≡ Some reason → word < 2 ^ 32 →
+    Promised p (arrived t peer word datagram) (Err reason) p
+fault_answered {p} t peer word datagram {reason} none fault fits =
+    let act = arrived t peer word datagram in
+    refuses p act reason (λ h stands.
     let own = refusal_if (is_about (session_at h).setup.ssrc datagram && not
     (may_change (changing_peers (session_at h)) peer)) OwnSsrc in
-    refusal_is p h (arrived t peer word datagram) None (Some reason) stands none
-    (ap (λ (r : Option Refusal). option_or r own) fault)
+    refusal_is p h act None (Some reason) stands none (ap (λ (r : Option Refusal). option_or r own) fault)) fits
 
 pub plain : (p : ParticipantValue) (h : History) (t peer word : ℕ) (arrival : Arrival) → StandsAt p h →
     refusal_by t p ≡ None → is_about (session_at h).setup.ssrc (datagram_of arrival) ≡ false

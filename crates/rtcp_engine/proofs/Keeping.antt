@@ -16,7 +16,7 @@ use Rattle.rtcp_engine.specs.Arrivals.{after, facts_of_media, media_fact}
 use Rattle.rtcp_engine.specs.Changes.{NewIdentifier, Session, change_by, changed_by}
 use Rattle.rtcp_engine.specs.Histories.{History, session_at, session_for, with_act}
 use Rattle.rtcp_engine.specs.Leaving.{Life, backing_off, backoff_from, after_wait, few_members, gone, is_bye_due, is_unheard, left_at, present}
-use Rattle.rtcp_engine.specs.Lives.{entry_in_life, has_others, lived, moved_since, others_moved_by, while_present}
+use Rattle.rtcp_engine.specs.Lives.{entry_in_life, lived, moved_since, others_moved_by}
 use Rattle.rtcp_engine.specs.Outcomes.{Outcome, member_count}
 use Rattle.rtcp_engine.specs.Reporting.{reported_at}
 use Rattle.rtcp_engine.specs.Setups.{Setup}

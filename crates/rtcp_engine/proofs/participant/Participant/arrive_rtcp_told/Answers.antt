@@ -4,19 +4,18 @@ use Rattle.rtcp_wire.specs.Values.{RtcpPacket}
 use Rattle.rtcp_wire.specs.declared.fault.WireFault.{WireFault}
 use Rattle.rtcp_engine.specs.declared.refusal.Refusal.TheVariants.{Wire}
 use Rattle.rtcp_engine.specs.Changes.{is_about}
-use Rattle.rtcp_engine.specs.Acts.{arrived, rtcp, rtcp_came}
+use Rattle.rtcp_engine.specs.Acts.{rtcp, rtcp_came}
 use Rattle.rtcp_engine.specs.Promises.{Takes}
 use Rattle.rtcp_engine.specs.Views.{reply_value}
-use Rattle.rtcp_engine.proofs.ActLemmas.{call_refused_by, refuses}
-use Rattle.rtcp_engine.proofs.Arriving.{fault_refused}
+use Rattle.rtcp_engine.proofs.ActLemmas.{call_refused}
+use Rattle.rtcp_engine.proofs.Arriving.{fault_answered}
 use Rattle.rtcp_engine.proofs.LawLemmas.{one_reading-once}
 use Rattle.rtcp_engine.proofs.participant.Participant.arrive_rtcp_told.Goals as goal
 
 pub returns-in-Some-clause-takes : goal.returns-in-Some-clause-takes
 returns-in-Some-clause-takes g c w room reading fits is =
-    let act = rtcp_came c.args.now c.args.peer w c.args.bytes.now reading in
-    refuses c.args.self.now act c.in-Some.refusal
-    (call_refused_by c.args.self.now act c.in-Some.refusal (sym c.refusal.ensures.exact ∙ c.in-Some.is)) fits
+    call_refused (rtcp_came c.args.now c.args.peer w c.args.bytes.now reading)
+    (sym c.refusal.ensures.exact ∙ c.in-Some.is) fits
 
 pub returns-in-Err-clause-takes : goal.returns-in-Err-clause-takes
 returns-in-Err-clause-takes g c w room reading fits is =
@@ -26,9 +25,7 @@ returns-in-Err-clause-takes g c w room reading fits is =
     subst (λ (r : Result (List RtcpPacket) WireFault). Takes p (rtcp_came c.args.now c.args.peer w c.args.bytes.now r)
     (Err reason) p) (one_reading-once c.args.bytes.now (Err c.in-Err.fault) reading
     (c.in-Err.ensures.refused c.in-Err.fault refl) is)
-    (refuses p (arrived c.args.now c.args.peer w datagram) reason
-    (λ h stands. fault_refused p h c.args.now c.args.peer w datagram reason stands
-    (sym c.refusal.ensures.exact ∙ c.in_default.is) refl) fits)
+    (fault_answered c.args.now c.args.peer w datagram (sym c.refusal.ensures.exact ∙ c.in_default.is) refl fits)
 
 pub returns-clause-takes : goal.returns-clause-takes
 returns-clause-takes g c w room reading fits is =

@@ -4,19 +4,18 @@ use Rattle.rtcp_wire.specs.RtpHeads.{RtpValue}
 use Rattle.rtcp_wire.specs.declared.rtp.fault.RtpFault.{RtpFault}
 use Rattle.rtcp_engine.specs.declared.refusal.Refusal.TheVariants.{Rtp}
 use Rattle.rtcp_engine.specs.Changes.{is_about}
-use Rattle.rtcp_engine.specs.Acts.{arrived, rtp, rtp_came}
+use Rattle.rtcp_engine.specs.Acts.{rtp, rtp_came}
 use Rattle.rtcp_engine.specs.Promises.{Takes}
 use Rattle.rtcp_engine.specs.Views.{reply_value}
-use Rattle.rtcp_engine.proofs.ActLemmas.{call_refused_by, refuses}
-use Rattle.rtcp_engine.proofs.Arriving.{fault_refused}
+use Rattle.rtcp_engine.proofs.ActLemmas.{call_refused}
+use Rattle.rtcp_engine.proofs.Arriving.{fault_answered}
 use Rattle.rtcp_engine.proofs.LawLemmas.{one_reading-rtp_once}
 use Rattle.rtcp_engine.proofs.participant.Participant.arrive_rtp_told.Goals as goal
 
 pub returns-in-Some-clause-takes : goal.returns-in-Some-clause-takes
 returns-in-Some-clause-takes g c w room reading fits is =
-    let act = rtp_came c.args.now c.args.peer w reading in
-    refuses c.args.self.now act c.in-Some.reason
-    (call_refused_by c.args.self.now act c.in-Some.reason (sym c.refusal.ensures.exact ∙ c.in-Some.is)) fits
+    call_refused (rtp_came c.args.now c.args.peer w reading)
+    (sym c.refusal.ensures.exact ∙ c.in-Some.is) fits
 
 pub returns-in-Err-clause-takes : goal.returns-in-Err-clause-takes
 returns-in-Err-clause-takes g c w room reading fits is =
@@ -26,9 +25,7 @@ returns-in-Err-clause-takes g c w room reading fits is =
     subst (λ (r : Result RtpValue RtpFault). Takes p (rtp_came c.args.now c.args.peer w r) (Err reason) p)
     (one_reading-rtp_once c.args.bytes.now (Err c.in-Err.fault) reading
     (c.in-Err.ensures.refused c.in-Err.fault refl) is)
-    (refuses p (arrived c.args.now c.args.peer w datagram) reason
-    (λ h stands. fault_refused p h c.args.now c.args.peer w datagram reason stands
-    (sym c.refusal.ensures.exact ∙ c.in_default.is) refl) fits)
+    (fault_answered c.args.now c.args.peer w datagram (sym c.refusal.ensures.exact ∙ c.in_default.is) refl fits)
 
 pub returns-clause-takes : goal.returns-clause-takes
 returns-clause-takes g c w room reading fits is =

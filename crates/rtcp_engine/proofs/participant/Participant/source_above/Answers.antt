@@ -1,25 +1,14 @@
-use Rattle.std.proofs.Common.{ap, ◌∙◌, option_map, subst}
+use Rattle.std.proofs.Common.{option_map, ap}
 use Rattle.rtcp_members.specs.ListViews.{state_value}
-use Rattle.rtcp_engine.specs.Histories.{life_at}
 use Rattle.rtcp_engine.specs.Lives.{TellsInLife}
-use Rattle.rtcp_engine.specs.Setups.{Setup}
-use Rattle.rtcp_engine.specs.States.{ParticipantValue}
 use Rattle.rtcp_engine.specs.Views.{phase_value}
-use Rattle.rtcp_engine.proofs.ActLemmas.{at_present, inside_at}
+use Rattle.rtcp_engine.proofs.ActLemmas.{said_present}
 use Rattle.rtcp_engine.proofs.Agreeing.{tells_agree}
 use Rattle.rtcp_engine.proofs.participant.Participant.source_above.Goals as goal
 
 pub returns-in-Present : goal.returns-in-Present
-returns-in-Present g c history h =
-    let p : ParticipantValue = record {
-      presence = c.self.inside.presence;
-      phase = phase_value c.self.inside.phase;
-      changes = c.self.inside.changes.list.items;
-    } in
+returns-in-Present g c =
     let told = option_map state_value c.source_above.result in
-    subst (λ (setup : Setup). TellsInLife setup c.args.after (life_at history) told)
-    (ap (λ (p : ParticipantValue). p.presence.setup) c.self.view_is ∙ h.session.setup)
-    (at_present p (ap phase_value c.in-Present.is)
-    (λ life. TellsInLife c.self.inside.presence.setup c.args.after life told)
-    (λ outcome agrees. tells_agree _ outcome agrees c.args.after told c.source_above.ensures) (life_at history)
-    (inside_at c.self.view_is (life_at history) h.session.life))
+    said_present c.self.view_is (ap phase_value c.in-Present.is)
+    (λ setup life. TellsInLife setup c.args.after life told)
+    (λ outcome agrees. tells_agree _ outcome agrees c.args.after told c.source_above.ensures)

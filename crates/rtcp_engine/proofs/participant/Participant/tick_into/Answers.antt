@@ -1,16 +1,13 @@
-use Rattle.std.proofs.Common.{Ok, ◌∙◌, refl, sym, subst}
+use Rattle.std.proofs.Common.{Ok, ◌∙◌, refl, sym}
 use Rattle.rtcp_engine.specs.Acts.{ticked}
-use Rattle.rtcp_engine.specs.States.{Acts, ParticipantValue}
-use Rattle.rtcp_engine.specs.Views.{out_with}
-use Rattle.rtcp_engine.proofs.ActLemmas.{call_refused_by, plain_call, refuses, takes}
+use Rattle.rtcp_engine.specs.States.{ParticipantValue}
+use Rattle.rtcp_engine.proofs.ActLemmas.{call_refused, outside_at, plain_call, takes}
 use Rattle.rtcp_engine.proofs.Bounded.{sends_if_late}
 use Rattle.rtcp_engine.proofs.participant.Participant.tick_into.Goals as goal
 
 pub returns-in-Some-clause-takes : goal.returns-in-Some-clause-takes
 returns-in-Some-clause-takes g c =
-    let act = ticked c.args.now c.args.w1 c.args.w2 in
-    refuses c.args.self.now act c.in-Some.refusal
-    (call_refused_by c.args.self.now act c.in-Some.refusal (sym c.refusal.ensures.exact ∙ c.in-Some.is))
+    call_refused (ticked c.args.now c.args.w1 c.args.w2) (sym c.refusal.ensures.exact ∙ c.in-Some.is)
     (c.ranges.w1.fits, c.ranges.w2.fits)
 
 pub returns-clause-takes : goal.returns-clause-takes
@@ -18,9 +15,8 @@ returns-clause-takes g c =
     let act = ticked c.args.now c.args.w1 c.args.w2 in
     takes _ (plain_call c.args.self.now act (sym c.refusal.ensures.exact ∙ c.in_default.is) (λ session. refl)
     (λ session. refl))
-    (subst (λ (x : ParticipantValue). Acts x c.take_tick-brought.new.self (ticked x.presence.latest c.args.w1 c.args.w2)
-    (out_with c.take_tick-brought.new.octets.items c.take_tick-brought.result.out)
-    c.take_tick-brought.result.others_changed) c.take_call.ensures.new c.take_tick-brought.ensures.new)
+    (outside_at (λ (x : ParticipantValue). ticked x.presence.latest c.args.w1 c.args.w2) c.take_call.ensures.new
+    c.take_tick-brought.ensures.new)
     (c.told.ensures.exact c.take_tick-brought.new.octets.items) (c.ranges.w1.fits, c.ranges.w2.fits)
 
 pub returns-clause-not_too_late : goal.returns-clause-not_too_late
