@@ -39,14 +39,20 @@ draw_fits : (interval greatest word : ℕ) → word < 2 ^ 32 → interval ≤ gr
 draw_fits interval greatest word fits le =
     omega (arith, (draw_within_bounds interval word fits).1, longest_never_falls interval greatest le)
 
-max_left : (a b : ℕ) → a ≤ max a b
-max_left a b = omega arith
+-- the greatest draw from intervals of which the greatest may have grown, and with one more draw of them
+still_drawn : (interval greatest drawn : ℕ) → drawn ≤ longest_draw greatest →
+    drawn ≤ longest_draw (max interval greatest)
+still_drawn interval greatest drawn h =
+    omega (arith, h, longest_never_falls greatest (max interval greatest) (omega arith))
 
-max_right : (a b : ℕ) → b ≤ max a b
-max_right a b = omega arith
-
-max_least : (a b c : ℕ) → a ≤ c → b ≤ c → max a b ≤ c
-max_least a b c one other = omega (arith, one, other)
+drawn_too : (interval greatest drawn word : ℕ) → word < 2 ^ 32 → drawn ≤ longest_draw greatest →
+    max (drawn_interval interval word) drawn ≤ longest_draw (max interval greatest)
+drawn_too interval greatest drawn word fits h =
+    omega (
+      arith,
+      draw_fits interval (max interval greatest) word fits (omega arith),
+      still_drawn interval greatest drawn h,
+    )
 
 -- ---- Members
 
@@ -159,28 +165,13 @@ ticks_by {setup} {fall} {greatest} t first_word second_word now true true first 
 ticks_by {setup} {fall} {greatest} t first_word second_word now true false first second h = record {
   known = omega arith;
   fell = h.fell;
-  drawn =
-      max_least (drawn_interval (interval_at setup now) first_word) (greatest_draw now.happenings)
-      (longest_draw (max (interval_at setup now) greatest))
-      (draw_fits (interval_at setup now) (max (interval_at setup now) greatest) first_word first
-      (max_left (interval_at setup now) greatest))
-      (omega (
-        arith,
-        h.drawn,
-        longest_never_falls greatest (max (interval_at setup now) greatest)
-            (max_right (interval_at setup now) greatest),
-      ));
+  drawn = drawn_too (interval_at setup now) greatest (greatest_draw now.happenings) first_word first h.drawn;
   past = h.past;
 }
 ticks_by {setup} {fall} {greatest} t first_word second_word now false passed first second h = record {
   known = h.known;
   fell = h.fell;
-  drawn = omega (
-    arith,
-    h.drawn,
-    longest_never_falls greatest (max (interval_at setup now) greatest)
-        (max_right (interval_at setup now) greatest),
-  );
+  drawn = still_drawn (interval_at setup now) greatest (greatest_draw now.happenings) h.drawn;
   past = h.past;
 }
 
@@ -217,26 +208,11 @@ waits_on : {greatest : ℕ} → (setup : Setup) (moment word : ℕ) (backoff : B
     } else backoff)
 waits_on {greatest} setup moment word backoff true fits h = record {
   fell = h.fell;
-  drawn =
-      max_least (drawn_interval (leaving_interval setup backoff) word) (greatest_draw backoff.happenings)
-      (longest_draw (max (leaving_interval setup backoff) greatest))
-      (draw_fits (leaving_interval setup backoff) (max (leaving_interval setup backoff) greatest) word fits
-      (max_left (leaving_interval setup backoff) greatest))
-      (omega (
-        arith,
-        h.drawn,
-        longest_never_falls greatest (max (leaving_interval setup backoff) greatest)
-            (max_right (leaving_interval setup backoff) greatest),
-      ));
+  drawn = drawn_too (leaving_interval setup backoff) greatest (greatest_draw backoff.happenings) word fits h.drawn;
 }
 waits_on {greatest} setup moment word backoff false fits h = record {
   fell = h.fell;
-  drawn = omega (
-    arith,
-    h.drawn,
-    longest_never_falls greatest (max (leaving_interval setup backoff) greatest)
-        (max_right (leaving_interval setup backoff) greatest),
-  );
+  drawn = still_drawn (leaving_interval setup backoff) greatest (greatest_draw backoff.happenings) h.drawn;
 }
 
 waiting_tick : {greatest : ℕ} → (setup : Setup) (fall moment word : ℕ) (outcome : Outcome) (backoff : Backoff)
@@ -383,13 +359,17 @@ some_map {A} {B} f (Some x) h = refl
 some_map {A} {B} f None h = absurd cc
 
 -- all that a schedule asks for has passed
-comes_due : (events : List Happening) (sent fall wait moment interval : ℕ) → IsInOrder events →
-    newest_transmission events ≡ sent → last_departure events ≤ fall → interval ≤ wait → greatest_draw events ≤ wait
-    → sent + wait ≤ moment → fall + wait ≤ moment → IsDue (schedule_at events) moment interval
-comes_due events sent fall wait moment interval in_order newest fell short drawn since_sent since_fall =
-    let most = max_least interval (greatest_draw events) wait short drawn in
-    due_in_time events moment interval in_order (omega (arith, most, newest, since_sent))
-    (omega (arith, most, fell, since_fall))
+comes_due : (events : List Happening) (sent fall moment interval greatest word : ℕ) → IsInOrder events →
+    newest_transmission events ≡ sent → last_departure events ≤ fall → word < 2 ^ 32 →
+    greatest_draw events ≤ longest_draw greatest
+    → sent + longest_draw (max interval greatest) ≤ moment → fall + longest_draw (max interval greatest) ≤ moment →
+    IsTrue (nat_le (schedule_at events).next moment
+    && nat_le ((schedule_at events).last + drawn_interval interval word) moment)
+comes_due events sent fall moment interval greatest word in_order newest fell fits drawn since_sent since_fall =
+    let most = drawn_too interval greatest (greatest_draw events) word fits drawn in
+    due_comes (schedule_at events) moment (drawn_interval interval word)
+    (due_in_time events moment (drawn_interval interval word) in_order (omega (arith, most, newest, since_sent))
+    (omega (arith, most, fell, since_fall)))
 
 report_in_time : (setup : Setup) (fall greatest t moment first_word second_word sent : ℕ) (outcome : Outcome) →
     first_word < 2 ^ 32 → t ≤ moment → AreUpTo t outcome.happenings
@@ -401,27 +381,17 @@ report_in_time setup fall greatest t moment first_word second_word sent outcome 
     since_fall =
     let now = checked setup moment outcome in
     let counted = tick_checks setup fall greatest t moment first_word second_word outcome order h in
-    let most = max (interval_at setup now) greatest in
-    due_comes (schedule_at now.happenings) moment (drawn_interval (interval_at setup now) first_word)
-    (comes_due now.happenings sent (new_fall setup (ticked moment first_word second_word) (present outcome) fall)
-    (longest_draw most) moment (drawn_interval (interval_at setup now) first_word)
-    (omega (arith, order, up_to.past), up_to.in_order) newest counted.fell
-    (draw_fits (interval_at setup now) most first_word fits (max_left (interval_at setup now) greatest))
-    (omega (arith, counted.drawn, longest_never_falls greatest most (max_right (interval_at setup now) greatest)))
-    since_sent since_fall)
+    comes_due now.happenings sent (new_fall setup (ticked moment first_word second_word) (present outcome) fall) moment
+    (interval_at setup now) greatest first_word (omega (arith, order, up_to.past), up_to.in_order) newest counted.fell
+    fits counted.drawn since_sent since_fall
 
 bye_in_time : (setup : Setup) (greatest t moment first_word : ℕ) (backoff : Backoff) → first_word < 2 ^ 32 →
     IsInOrder backoff.happenings → newest_transmission backoff.happenings ≡ backoff.since
     → WaitsToLeave greatest backoff → backoff.since + longest_draw (max (leaving_interval setup backoff) greatest)
     ≤ moment → IsTrue (is_bye_due setup moment first_word backoff)
 bye_in_time setup greatest t moment first_word backoff fits in_order newest h since =
-    let interval = leaving_interval setup backoff in
-    let most = max interval greatest in
-    due_comes (schedule_at backoff.happenings) moment (drawn_interval interval first_word)
-    (comes_due backoff.happenings backoff.since backoff.since (longest_draw most) moment
-    (drawn_interval interval first_word) in_order newest h.fell
-    (draw_fits interval most first_word fits (max_left interval greatest))
-    (omega (arith, h.drawn, longest_never_falls greatest most (max_right interval greatest))) since since)
+    comes_due backoff.happenings backoff.since backoff.since moment (leaving_interval setup backoff) greatest first_word
+    in_order newest h.fell fits h.drawn since since
 
 -- ---- Lives
 
