@@ -21,6 +21,7 @@ ghost use Rattle.rtcp_engine.specs.declared.differences.change.Change.{Change};
 
 /// The changes tell of a source once where its roles in both listings differ, and else not at all; and they tell
 /// of the sources by rising SSRC.
+#[tactic(auto, using(crate::proofs::DifferenceLaws::each_once, crate::proofs::DifferenceLaws::all_rise))]
 pub fn changes_tell_each_once()
     ensures once { (before after : List ListedValue) (ssrc : ℕ) →
         count_by (λ (change : Change). change.ssrc == ssrc) (changes before after)
@@ -29,6 +30,7 @@ pub fn changes_tell_each_once()
 {}
 
 /// Who knows each role by the earlier listing, and follows the changes, knows each role by the later one.
+#[tactic(auto, using(crate::proofs::DifferenceLaws::lead_to_the_later))]
 pub fn changes_lead_to_the_later()
     ensures { (before after : List ListedValue) (ssrc : ℕ) →
         changed (changes before after) (role_in before) ssrc ≡ role_in after ssrc }
@@ -44,6 +46,7 @@ pub fn others_change_where_told()
 
 /// What is told of the sources of a session, one after the other, is a listing that [`Changes`](crate::Changes)
 /// takes.
+#[tactic(auto, using(crate::proofs::DifferenceLaws::told_rise))]
 pub fn told_sources_are_listings()
     ensures { (states : List StateValue) → RiseAbove None states →
         rises_from 0 (map listed_of states) ≡ true }
