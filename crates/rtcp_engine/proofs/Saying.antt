@@ -19,21 +19,21 @@ moves_append (fact ∷ one) other t table =
     ∙ sym (or_assoc (counts_differ table (after_fact fact t table)) (facts_move one t (after_fact fact t table))
     (facts_move other t (after_facts (fact ∷ one) t table)))
 
--- One part is applied, and the rest is left.
-pub part_applied : (one rest left : List Fact) (t : ℕ) (before new end : TableValue) → new ≡ after_facts one t before →
-    left ≡ one ++ rest → after_facts left t before ≡ end → after_facts rest t new ≡ end
-part_applied one rest left t before new end applied parts is =
-    ap (after_facts rest t) applied ∙ sym (after_append one rest t before)
-    ∙ ap (λ (facts : List Fact). after_facts facts t before) (sym parts) ∙ is
+-- What is left of some facts brings a table to what all of them bring it to, and moves whom they all move that was not
+-- moved before.
+pub record Leads (left all : List Fact) (t : ℕ) (table first : TableValue) (moved : Bool) : Type 0 where
+  pub rest : after_facts left t table ≡ after_facts all t first
+  pub moves : (moved || facts_move left t table) ≡ facts_move all t first
 
--- What that part moved is counted with what was moved before.
-pub part_moved : (moved this all : Bool) (one rest left : List Fact) (t : ℕ) (before new : TableValue) →
-    this ≡ facts_move one t before → new ≡ after_facts one t before → left ≡ one ++ rest
-    → (moved || facts_move left t before) ≡ all → ((moved || this) || facts_move rest t new) ≡ all
-part_moved moved this all one rest left t before new this_is applied parts is =
-    or_assoc moved this (facts_move rest t new)
-    ∙ ap (λ (b : Bool). moved || (b || facts_move rest t new)) this_is
-    ∙ ap (λ (table : TableValue). moved || (facts_move one t before || facts_move rest t table)) applied
-    ∙ ap (λ (b : Bool). moved || b) (sym (moves_append one rest t before))
-    ∙ ap (λ (facts : List Fact). moved || facts_move facts t before) (sym parts)
-    ∙ is
+-- One part of what is left is applied.
+pub leads_on : (one rest : List Fact) {left all : List Fact} {t : ℕ} {table first new : TableValue} {moved this : Bool}
+    → left ≡ one ++ rest → new ≡ after_facts one t table → this ≡ facts_move one t table →
+    Leads left all t table first moved → Leads rest all t new first (moved || this)
+leads_on one rest {left} {all} {t} {table} {first} {new} {moved} {this} parts applied moves h = record {
+  rest = ap (after_facts rest t) applied ∙ sym (after_append one rest t table)
+      ∙ ap (λ (facts : List Fact). after_facts facts t table) (sym parts) ∙ h.rest;
+  moves = or_assoc moved this (facts_move rest t new)
+      ∙ (λ i. moved || (moves i || facts_move rest t (applied i)))
+      ∙ ap (λ (b : Bool). moved || b) (sym (moves_append one rest t table))
+      ∙ ap (λ (facts : List Fact). moved || facts_move facts t table) (sym parts) ∙ h.moves;
+}

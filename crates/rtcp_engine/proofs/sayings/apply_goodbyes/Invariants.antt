@@ -1,14 +1,8 @@
-use Rattle.std.proofs.Common.{◌≡◌, ◌||◌}
-use Rattle.rtcp_members.specs.Roles.{facts_move}
-use Rattle.rtcp_members.specs.Tables.{after_facts}
 use Rattle.rtcp_engine.specs.Sayings.{facts_of_goodbyes}
+use Rattle.rtcp_engine.proofs.Saying.{Leads}
 use Rattle.rtcp_engine.proofs.sayings.apply_goodbyes.Given as goal
 
--- what is left brings it to what all brings it to, and moves whom all moves that was not moved before
 abbrev pub invariant-ids : goal.invariant-ids
-invariant-ids g l = record {
-  rest : after_facts (facts_of_goodbyes l.id-iterator) l.t (g.T.MemberTable.content l.table) ≡ after_facts
-      (facts_of_goodbyes l.fn.ids) l.t (g.T.MemberTable.content l.fn.table);
-  moves : (l.moved || facts_move (facts_of_goodbyes l.id-iterator) l.t (g.T.MemberTable.content l.table)) ≡ facts_move
-      (facts_of_goodbyes l.fn.ids) l.t (g.T.MemberTable.content l.fn.table);
-}
+invariant-ids g l = Leads (facts_of_goodbyes l.id-iterator) (facts_of_goodbyes l.fn.ids) l.t
+    (g.T.MemberTable.content l.table)
+    (g.T.MemberTable.content l.fn.table) l.moved
