@@ -15,7 +15,7 @@ use Rattle.rtcp_engine.specs.Promises.{Takes as Promised}
 use Rattle.rtcp_engine.specs.States.{State, Acts, Agrees, Does, IsAt, IsIn, Moves, Stays, ParticipantValue, StandsAt, Waits, called, leaving, over, refusal_by, taking_part}
 use Rattle.rtcp_engine.specs.Steps.{OutValue, StepValue, answer_unless}
 use Rattle.rtcp_engine.specs.Taken.{HasWords}
-use Rattle.rtcp_engine.proofs.Agreeing.{calls_agree}
+use Rattle.rtcp_engine.proofs.Agreeing.{calls_agree, with_own}
 use Rattle.rtcp_engine.proofs.Bounded.{bounds_after}
 use Rattle.rtcp_engine.proofs.LifeLemmas.{is_taking_part, is_leaving, leaving_members}
 use Rattle.rtcp_engine.proofs.AnswerLemmas.{refusal_is, refused_answer, taken_history, whole_refused}
@@ -138,22 +138,14 @@ acts_gone {p} {act} phase = record {
 -- a counted call leaves a participant where it is
 call_keeps : (moment : ℕ) (p : ParticipantValue) (life : Life) → IsAt p life → IsAt (called moment p) life
 call_keeps moment p (present outcome) at = (at.0, calls_agree p.presence outcome moment at.1)
-call_keeps moment p (backing_off outcome backoff) at =
-    let still = at.1.still in (
-      at.0,
-      record {
-        timing = at.1.timing;
-        average = at.1.average;
-        still = record {
-          table = still.table;
-          capacity = still.capacity;
-          rate = still.rate;
-          own = still.own;
-          cursor = still.cursor;
-          reports = still.reports;
-        };
-      },
-    )
+call_keeps moment p (backing_off outcome backoff) at = (
+  at.0,
+  record {
+    timing = at.1.timing;
+    average = at.1.average;
+    still = with_own p.presence outcome at.1.still at.1.still.own;
+  },
+)
 call_keeps moment p (gone outcome) at = at
 
 -- ---- Histories

@@ -20,55 +20,56 @@ use Rattle.rtcp_report.specs.Traced.{with_blocks}
 use Rattle.rtcp_report.proofs.LawLemmas as reports
 use Rattle.rtcp_timer.specs.declared.load.Load.{Load}
 use Rattle.rtcp_timer.specs.Averages.{moved_average}
-use Rattle.rtcp_engine.specs.OwnStreams.{OwnValue, Adds, report_sent, sending_since}
+use Rattle.rtcp_timer.specs.Schedules.{Happening, Timing}
+use Rattle.rtcp_engine.specs.OwnStreams.{OwnStep, OwnValue, Adds, own_of, report_sent, sending_since}
 use Rattle.rtcp_engine.specs.Outcomes.{Outcome, Report, one_if, member_count, sender_count, is_initial, load_of}
 use Rattle.rtcp_engine.specs.Reporting.{last_reported_in, reporter_at, reporter_by, reported_at, report_octets}
 use Rattle.rtcp_engine.specs.Ticks as ticks
 use Rattle.rtcp_engine.specs.Arrivals.{media_fact, facts_of_media, with_media}
-use Rattle.rtcp_engine.specs.States.{State, Agrees, with_call}
+use Rattle.rtcp_engine.specs.States.{State, Agrees, StandsStill, with_call}
 use Rattle.rtcp_engine.proofs.LawLemmas.{last_block_is_newest}
 
 -- ---- Counts and intervals
 
 pub others_agree : (s : State) (o : Outcome) → Agrees s o →
     members_in s.table ≡ members_at s.setup.capacity s.setup.rate o.trace
-others_agree s o a = tables.counts_agree-members s.table o.trace a.table
-    ∙ (λ i. members_at (a.capacity i) (a.rate i) o.trace)
+others_agree s o a = tables.counts_agree-members s.table o.trace a.still.table
+    ∙ (λ i. members_at (a.still.capacity i) (a.still.rate i) o.trace)
 
 pub members_agree : (s : State) (o : Outcome) → Agrees s o → 1 + members_in s.table ≡ member_count s.setup o
 members_agree s o a = ap (λ (n : ℕ). 1 + n) (others_agree s o a)
 
 we_sent_agrees : (s : State) (o : Outcome) → Agrees s o → is_some s.own.sending ≡ is_some (sending_since o.own)
-we_sent_agrees s o a = ap (λ (own : OwnValue). is_some own.sending) a.own
+we_sent_agrees s o a = ap (λ (own : OwnValue). is_some own.sending) a.still.own
 
 pub entries_agree : (s : State) (o : Outcome) → Agrees s o → finite.len s.table.entries ≡ present_among (names o.trace)
     (stay_of s.setup.capacity o.trace)
-entries_agree s o a = tables.counts_agree-entries s.table o.trace a.table
-    ∙ ap (λ (c : ℕ). present_among (names o.trace) (stay_of c o.trace)) a.capacity
+entries_agree s o a = tables.counts_agree-entries s.table o.trace a.still.table
+    ∙ ap (λ (c : ℕ). present_among (names o.trace) (stay_of c o.trace)) a.still.capacity
 
 pub tells_agree : (s : State) (o : Outcome) → Agrees s o → (after : Option ℕ) (told : Option StateValue) →
     told ≡ state_above after s.table → TellsAbove after s.setup.capacity s.setup.rate o.trace told
 tells_agree s o a after told is =
-    subst (λ (r : ℕ). TellsAbove after s.setup.capacity r o.trace told) a.rate
-    (subst (λ (c : ℕ). TellsAbove after c s.table.rate o.trace told) a.capacity
+    subst (λ (r : ℕ). TellsAbove after s.setup.capacity r o.trace told) a.still.rate
+    (subst (λ (c : ℕ). TellsAbove after c s.table.rate o.trace told) a.still.capacity
     (subst (λ (t : Option StateValue). TellsAbove after s.table.capacity s.table.rate o.trace t) (sym is)
-    (tables.told_follows_traces-told after s.table o.trace a.table)))
+    (tables.told_follows_traces-told after s.table o.trace a.still.table)))
 
 pub walks_agree : (s : State) (o : Outcome) → Agrees s o → (states : List StateValue) →
     states ≡ states_above None s.table → IsWalk None s.setup.capacity s.setup.rate o.trace states
 walks_agree s o a states is =
-    subst (λ (r : ℕ). IsWalk None s.setup.capacity r o.trace states) a.rate
-    (subst (λ (c : ℕ). IsWalk None c s.table.rate o.trace states) a.capacity
+    subst (λ (r : ℕ). IsWalk None s.setup.capacity r o.trace states) a.still.rate
+    (subst (λ (c : ℕ). IsWalk None c s.table.rate o.trace states) a.still.capacity
     (subst (λ (l : List StateValue). IsWalk None s.table.capacity s.table.rate o.trace l) (sym is)
-    (tables.tables_tell_walks-walk None s.table o.trace a.table)))
+    (tables.tables_tell_walks-walk None s.table o.trace a.still.table)))
 
 pub senders_agree : (s : State) (o : Outcome) → Agrees s o → senders_in s.table + one_if (is_some s.own.sending)
     ≡ sender_count s.setup o
 senders_agree s o a =
-    let counts = tables.counts_agree-senders s.table o.trace a.table in
+    let counts = tables.counts_agree-senders s.table o.trace a.still.table in
     let table : senders_in s.table ≡ senders_at s.setup.capacity s.setup.rate o.trace = counts
-    ∙ ap (λ (c : ℕ). senders_at c s.table.rate o.trace) a.capacity
-    ∙ ap (λ (r : ℕ). senders_at s.setup.capacity r o.trace) a.rate in
+    ∙ ap (λ (c : ℕ). senders_at c s.table.rate o.trace) a.still.capacity
+    ∙ ap (λ (r : ℕ). senders_at s.setup.capacity r o.trace) a.still.rate in
     ap (λ (n : ℕ). n + one_if (is_some s.own.sending)) table
     ∙ ap (λ (b : Bool). senders_at s.setup.capacity s.setup.rate o.trace + one_if b) (we_sent_agrees s o a)
 
@@ -95,24 +96,30 @@ pub loads_agree : {s : State} {o : Outcome} → Agrees s o → (members senders 
     avg ≡ s.average
     → load members senders we_sent (s.reports == 0) avg s.setup.sender_bw s.setup.receiver_bw ≡ load_of s.setup o
 loads_agree {s} {o} a members senders avg we_sent m n sent average =
-    let initial = ap (λ (r : ℕ). r == 0) a.reports ∙ none_yet o.reports in
+    let initial = ap (λ (r : ℕ). r == 0) a.still.reports ∙ none_yet o.reports in
     let sending = sent ∙ we_sent_agrees s o a in
     let size = average ∙ a.average in
     λ i. load (m i) (n i) (sending i) (initial i) (size i) s.setup.sender_bw s.setup.receiver_bw
 
 -- ---- Moves
 
-pub calls_agree : (s : State) (o : Outcome) (t : ℕ) → Agrees s o → Agrees (with_call t s) o
-calls_agree s o t a = record {
-  table = a.table;
-  capacity = a.capacity;
-  rate = a.rate;
-  timing = a.timing;
-  average = a.average;
-  own = a.own;
-  cursor = a.cursor;
-  reports = a.reports;
+-- what stands still, with an own stream and whatever the other numbers are
+pub with_own : (s : State) (o : Outcome) {timing : Timing} {average latest calls : ℕ} {own : OwnValue}
+    {happenings : List Happening} {sizes : List ℕ} {steps : List OwnStep} → StandsStill s o → own ≡ own_of steps →
+    StandsStill (record s { timing = timing; average = average; own = own; latest = latest; calls = calls })
+    (record o { happenings = happenings; sizes = sizes; own = steps })
+with_own s o still same = record {
+  table = still.table;
+  capacity = still.capacity;
+  rate = still.rate;
+  own = same;
+  cursor = still.cursor;
+  reports = still.reports;
 }
+
+pub calls_agree : (s : State) (o : Outcome) (t : ℕ) → Agrees s o → Agrees (with_call t s) o
+calls_agree s o t a =
+    record { timing = a.timing; average = a.average; still = with_own s o a.still a.still.own }
 
 -- facts leave the source that was reported last
 facts_keep_cursor : (facts : List Fact) (t : ℕ) (trace : List TraceStep) →
@@ -126,27 +133,24 @@ pub facts_agree : (s : State) (o : Outcome) (facts : List Fact) (t : ℕ) → Ag
 facts_agree s o facts t a =
     let kept = tables.bounds_are_kept-facts s.table facts t in
     record {
-      table = tables.tables_follow_traces-facts s.table o.trace facts t a.table;
-      capacity = kept.capacity ∙ a.capacity;
-      rate = kept.rate ∙ a.rate;
       timing = a.timing;
       average = a.average;
-      own = a.own;
-      cursor = a.cursor ∙ sym (facts_keep_cursor facts t o.trace);
-      reports = a.reports;
+      still = record {
+        table = tables.tables_follow_traces-facts s.table o.trace facts t a.still.table;
+        capacity = kept.capacity ∙ a.still.capacity;
+        rate = kept.rate ∙ a.still.rate;
+        own = a.still.own;
+        cursor = a.still.cursor ∙ sym (facts_keep_cursor facts t o.trace);
+        reports = a.still.reports;
+      };
     }
 
 pub sizes_agree : (s : State) (o : Outcome) (size : ℕ) → Agrees s o →
     Agrees (record s { average = moved_average s.average size }) (record o { sizes = size ∷ o.sizes })
 sizes_agree s o size a = record {
-  table = a.table;
-  capacity = a.capacity;
-  rate = a.rate;
   timing = a.timing;
   average = ap (λ (n : ℕ). moved_average n size) a.average;
-  own = a.own;
-  cursor = a.cursor;
-  reports = a.reports;
+  still = with_own s o a.still a.still.own;
 }
 
 -- ---- Arrivals
@@ -157,10 +161,10 @@ pub media_agree : (s : State) (o : Outcome) (t : ℕ) (head : RtpValue) → Agre
           s.table;
     }) (with_media s.setup t head o)
 media_agree s o t head a =
-    let counts = tables.counts_agree-counted s.table o.trace (media_fact head) a.table in
+    let counts = tables.counts_agree-counted s.table o.trace (media_fact head) a.still.table in
     let same : counted s.table (media_fact head) ≡ counted_at s.setup.capacity s.setup.rate o.trace (media_fact head) =
-    counts ∙ ap (λ (c : ℕ). counted_at c s.table.rate o.trace (media_fact head)) a.capacity
-    ∙ ap (λ (r : ℕ). counted_at s.setup.capacity r o.trace (media_fact head)) a.rate in
+    counts ∙ ap (λ (c : ℕ). counted_at c s.table.rate o.trace (media_fact head)) a.still.capacity
+    ∙ ap (λ (r : ℕ). counted_at s.setup.capacity r o.trace (media_fact head)) a.still.rate in
     let facts : Bool → List Fact = facts_of_media s.setup.ssrc head in
     let is_counted = counted s.table (media_fact head) in
     subst (λ (b : Bool). Agrees (record s { table = after_facts (facts is_counted) t s.table })
@@ -180,15 +184,15 @@ abbrev pub octets_in : (t : ℕ) → State → List ℕ
 octets_in t state = written_all (report_of (reporter_in t state) state.setup.limit t state.cursor state.table)
 
 reporters_agree : (s : State) (o : Outcome) (t : ℕ) → Agrees s o → reporter_in t s ≡ reporter_at s.setup t o
-reporters_agree s o t a = λ i. reporter_by s.setup (a.own i) (a.reports i + 1) t
+reporters_agree s o t a = λ i. reporter_by s.setup (a.still.own i) (a.still.reports i + 1) t
 
 pending_agree : (s : State) (o : Outcome) → Agrees s o →
     pending s.cursor s.table ≡ pending_rows_at (last_reported_in o.trace) s.setup.capacity s.setup.rate o.trace
 pending_agree s o a =
-    ap (λ (c : Option ℕ). pending c s.table) a.cursor
-    ∙ tables.turns_follow_traces-rows (last_reported_in o.trace) s.table o.trace a.table
-    ∙ ap (λ (c : ℕ). pending_rows_at (last_reported_in o.trace) c s.table.rate o.trace) a.capacity
-    ∙ ap (λ (r : ℕ). pending_rows_at (last_reported_in o.trace) s.setup.capacity r o.trace) a.rate
+    ap (λ (c : Option ℕ). pending c s.table) a.still.cursor
+    ∙ tables.turns_follow_traces-rows (last_reported_in o.trace) s.table o.trace a.still.table
+    ∙ ap (λ (c : ℕ). pending_rows_at (last_reported_in o.trace) c s.table.rate o.trace) a.still.capacity
+    ∙ ap (λ (r : ℕ). pending_rows_at (last_reported_in o.trace) s.setup.capacity r o.trace) a.still.rate
 
 pub rows_agree : (s : State) (o : Outcome) (t : ℕ) → Agrees s o → rows_in t s ≡ reported_at s.setup t o
 rows_agree s o t a =
@@ -213,18 +217,21 @@ sent_reports_agree s o t own adds a =
     let rows = rows_agree s o t a in
     let kept = tables.bounds_are_kept-blocks s.table (rows_in t s) in
     record {
-      table = subst (λ (rs : List EntryRow). IsTableAt (after_blocks (rows_in t s) s.table) (with_blocks rs o.trace))
-          rows
-          (reports.tables_follow_reports-stands (reporter_in t s) s.setup.limit s.cursor s.table o.trace a.table);
-      capacity = kept.capacity ∙ a.capacity;
-      rate = kept.rate ∙ a.rate;
       timing = a.timing;
       average = ap (λ (n : ℕ). moved_average n (length (octets_in t s))) a.average
           ∙ ap (λ (octets : List ℕ). moved_average (Rattle.rtcp_engine.specs.Outcomes.average_size s.setup o)
           (length octets)) (octets_agree s o t a);
-      own = adds o.own a.own;
-      cursor = ap (λ (c : Option ℕ). last_reported c (rows_in t s)) a.cursor
-          ∙ ap (last_reported (last_reported_in o.trace)) rows
-          ∙ sym (last_block_is_newest (reported_at s.setup t o) o.trace);
-      reports = omega (arith, a.reports);
+      still = record {
+        table = subst (λ (rs : List EntryRow). IsTableAt (after_blocks (rows_in t s) s.table) (with_blocks rs o.trace))
+            rows
+            (reports.tables_follow_reports-stands (reporter_in t s) s.setup.limit s.cursor s.table o.trace
+            a.still.table);
+        capacity = kept.capacity ∙ a.still.capacity;
+        rate = kept.rate ∙ a.still.rate;
+        own = adds o.own a.still.own;
+        cursor = ap (λ (c : Option ℕ). last_reported c (rows_in t s)) a.still.cursor
+            ∙ ap (last_reported (last_reported_in o.trace)) rows
+            ∙ sym (last_block_is_newest (reported_at s.setup t o) o.trace);
+        reports = omega (arith, a.still.reports);
+      };
     }

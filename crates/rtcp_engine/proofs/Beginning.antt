@@ -69,17 +69,19 @@ start_stands setup word table timing average own usable word_fits start =
         life = (
           refl,
           record {
-            table = subst (λ (t : TableValue). Rattle.rtcp_members.specs.Tables.StandsAt t []) (sym start.is_table)
-                (tables.tables_follow_traces-none setup.capacity setup.rate);
-            capacity = ap (λ (t : TableValue). t.capacity) start.is_table;
-            rate = ap (λ (t : TableValue). t.rate) start.is_table;
             timing = start.is_timing ∙ ap (λ (a : ℕ). schedule_at
                 (transmitted 0 (drawn_interval (interval_of (first_load a for_senders for_others)) word) 1 ∷ []))
                 start.is_average;
             average = start.is_average;
-            own = start.is_own;
-            cursor = refl;
-            reports = refl;
+            still = record {
+              table = subst (λ (t : TableValue). Rattle.rtcp_members.specs.Tables.StandsAt t []) (sym start.is_table)
+                  (tables.tables_follow_traces-none setup.capacity setup.rate);
+              capacity = ap (λ (t : TableValue). t.capacity) start.is_table;
+              rate = ap (λ (t : TableValue). t.rate) start.is_table;
+              own = start.is_own;
+              cursor = refl;
+              reports = refl;
+            };
           },
         );
       };

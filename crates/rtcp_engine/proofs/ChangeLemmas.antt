@@ -16,9 +16,10 @@ use Rattle.rtcp_engine.specs.Outcomes.{Outcome}
 use Rattle.rtcp_engine.specs.Arrivals.{with_change}
 use Rattle.rtcp_engine.specs.Reporting.{bye_octets}
 use Rattle.rtcp_engine.specs.Leaving.{Farewell, Backoff, Life, present, backing_off, gone, after_own_bye, counted_anew, leaving_average, leaving_count, leaving_timing}
-use Rattle.rtcp_engine.specs.Lives.{bye_out, own_bye, with_new_ssrc}
+use Rattle.rtcp_engine.specs.Lives.{bye_if_heard, bye_out, own_bye, with_new_ssrc}
 use Rattle.rtcp_engine.specs.Changes.{NewIdentifier, Session, changed_to, is_in_table}
 use Rattle.rtcp_engine.specs.States.{State, Agrees, StandsStill, Waits, ParticipantValue, IsAt, IsIn, leaving, over, own_bye_in, after_change}
+use Rattle.rtcp_engine.proofs.Agreeing.{with_own}
 
 -- ---- Sizes
 
@@ -52,22 +53,6 @@ sizes_by : (heard : Bool) (first size : ℕ) (sizes : List ℕ) →
 sizes_by true first size sizes = refl
 sizes_by false first size sizes = refl
 
-pub changed_agrees : (s : State) (o : Outcome) (ssrc : ℕ) → Agrees s o →
-    Agrees (after_change ssrc s) (with_change s.setup o)
-changed_agrees s o ssrc a = record {
-  table = a.table;
-  capacity = a.capacity;
-  rate = a.rate;
-  timing = a.timing;
-  average = ap (λ (heard : Bool). if heard then moved_average s.average (length (bye_octets s.setup)) else s.average)
-      (heard_agrees s o.own a.own)
-      ∙ ap (λ (n : ℕ). if has_sent o.own then moved_average n (length (bye_octets s.setup)) else n) a.average
-      ∙ sizes_by (has_sent o.own) _ (length (bye_octets s.setup)) o.sizes;
-  own = own_agrees s o.own a.own;
-  cursor = a.cursor;
-  reports = a.reports;
-}
-
 changed_still : (s : State) (o : Outcome) (ssrc : ℕ) → StandsStill s o →
     StandsStill (after_change ssrc s) (counted_anew o)
 changed_still s o ssrc still = record {
@@ -77,6 +62,18 @@ changed_still s o ssrc still = record {
   own = own_agrees s o.own still.own;
   cursor = still.cursor;
   reports = still.reports;
+}
+
+changed_agrees : (s : State) (o : Outcome) (ssrc : ℕ) → Agrees s o →
+    Agrees (after_change ssrc s) (with_change s.setup o)
+changed_agrees s o ssrc a = record {
+  timing = a.timing;
+  average = ap (λ (heard : Bool). if heard then moved_average s.average (length (bye_octets s.setup)) else s.average)
+      (heard_agrees s o.own a.still.own)
+      ∙ ap (λ (n : ℕ). if has_sent o.own then moved_average n (length (bye_octets s.setup)) else n) a.average
+      ∙ sizes_by (has_sent o.own) _ (length (bye_octets s.setup)) o.sizes;
+  still = with_own (after_change ssrc s) (counted_anew o) (changed_still s o ssrc a.still)
+      (own_agrees s o.own a.still.own);
 }
 
 -- ---- Backoffs
@@ -159,27 +156,29 @@ bye_by : (heard : Bool) (octets : List ℕ) → option_map bye_out (if heard the
 bye_by true octets = refl
 bye_by false octets = refl
 
+out_by_still : {s : State} {setup : Setup} (o : Outcome) → StandsStill s o → s.setup ≡ setup →
+    option_map bye_out (own_bye_in s) ≡ bye_if_heard setup o
+out_by_still {s} {setup} o still same =
+    bye_by s.own.heard (bye_octets s.setup)
+    ∙ (λ i. if heard_agrees s o.own still.own i then Some (bye_out (bye_octets (same i))) else None)
+
 pub changed_out : (p : ParticipantValue) (setup : Setup) (life : Life) → IsAt p life → (p.phase ≡ over → ⊥) →
     p.presence.setup ≡ setup → option_map bye_out (own_bye_in p.presence) ≡ own_bye setup life
-changed_out p setup (present outcome) at there same =
-    bye_by p.presence.own.heard (bye_octets p.presence.setup)
-    ∙ (λ i. if heard_agrees p.presence outcome.own at.1.own i then Some (bye_out (bye_octets (same i))) else None)
-changed_out p setup (backing_off outcome backoff) at there same =
-    bye_by p.presence.own.heard (bye_octets p.presence.setup)
-    ∙ (λ i. if heard_agrees p.presence outcome.own at.1.still.own i then Some (bye_out (bye_octets (same i))) else None)
+changed_out p setup (present outcome) at there same = out_by_still outcome at.1.still same
+changed_out p setup (backing_off outcome backoff) at there same = out_by_still outcome at.1.still same
 changed_out p setup (gone outcome) at there same = absurd (there at)
 
 -- ---- Tables
 
+held_by_still : {s : State} {setup : Setup} (o : Outcome) (ssrc : ℕ) → StandsStill s o → s.setup ≡ setup →
+    is_some (finite.get s.table.entries ssrc) ≡ is_some (entry_at setup.capacity setup.rate o.trace ssrc)
+held_by_still o ssrc still same = ap is_some (still.table ssrc) ∙ (λ i. is_some
+    (entry_at ((still.capacity ∙ ap (λ (s : Setup). s.capacity) same) i)
+    ((still.rate ∙ ap (λ (s : Setup). s.rate) same) i) o.trace ssrc))
+
 -- the table of a participant holds who is in the table of its session
 pub held_at : (p : ParticipantValue) (setup : Setup) (ssrc : ℕ) (life : Life) → IsAt p life → (p.phase ≡ over → ⊥) →
     p.presence.setup ≡ setup → is_some (finite.get p.presence.table.entries ssrc) ≡ is_in_table setup life ssrc
-held_at p setup ssrc (present outcome) at there same =
-    ap is_some (at.1.table ssrc) ∙ (λ i. is_some
-    (entry_at ((at.1.capacity ∙ ap (λ (s : Setup). s.capacity) same) i)
-    ((at.1.rate ∙ ap (λ (s : Setup). s.rate) same) i) outcome.trace ssrc))
-held_at p setup ssrc (backing_off outcome backoff) at there same =
-    ap is_some (at.1.still.table ssrc)
-    ∙ (λ i. is_some (entry_at ((at.1.still.capacity ∙ ap (λ (s : Setup). s.capacity) same) i)
-    ((at.1.still.rate ∙ ap (λ (s : Setup). s.rate) same) i) outcome.trace ssrc))
+held_at p setup ssrc (present outcome) at there same = held_by_still outcome ssrc at.1.still same
+held_at p setup ssrc (backing_off outcome backoff) at there same = held_by_still outcome ssrc at.1.still same
 held_at p setup ssrc (gone outcome) at there same = absurd (there at)

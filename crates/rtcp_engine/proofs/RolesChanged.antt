@@ -71,8 +71,8 @@ facts_since : (s : State) (outcome : Outcome) (facts : List Fact) (t : ℕ) → 
     → facts_move facts t s.table ≡ moved_within s.setup.capacity s.setup.rate
     (length (with_facts facts t outcome.trace) - length outcome.trace) (with_facts facts t outcome.trace)
 facts_since s outcome facts t a =
-    tables.moves_follow_traces-facts facts t s.table outcome.trace a.table
-    ∙ (λ i. moved_within (a.capacity i) (a.rate i) (sym as_many i) (with_facts facts t outcome.trace))
+    tables.moves_follow_traces-facts facts t s.table outcome.trace a.still.table
+    ∙ (λ i. moved_within (a.still.capacity i) (a.still.rate i) (sym as_many i) (with_facts facts t outcome.trace))
   where
     as_many : length (with_facts facts t outcome.trace) - length outcome.trace ≡ length facts
     as_many = omega (arith, length_with_facts facts t outcome.trace)
@@ -90,8 +90,8 @@ moves_media {s} {w} is t head moved moved_is =
     of_view is (λ setup outcome. moved_since setup outcome (with_media setup t head outcome)) (λ outcome a.
     let same : counted s.table (media_fact head) ≡ counted_at s.setup.capacity s.setup.rate outcome.trace
     (media_fact head) =
-    tables.counts_agree-counted s.table outcome.trace (media_fact head) a.table
-    ∙ (λ i. counted_at (a.capacity i) (a.rate i) outcome.trace (media_fact head)) in
+    tables.counts_agree-counted s.table outcome.trace (media_fact head) a.still.table
+    ∙ (λ i. counted_at (a.still.capacity i) (a.still.rate i) outcome.trace (media_fact head)) in
     moved_is ∙ ap (λ (b : Bool). facts_move (facts_of_media s.setup.ssrc head b) t s.table) same
     ∙ facts_since s outcome (facts_of_media s.setup.ssrc head
     (counted_at s.setup.capacity s.setup.rate outcome.trace (media_fact head))) t a)
@@ -102,8 +102,8 @@ check_since : (s : State) (outcome : Outcome) (horizons : Horizons) → Agrees s
     → check_moves horizons s.table ≡ moved_within s.setup.capacity s.setup.rate
     (length (check_made horizons ∷ outcome.trace) - length outcome.trace) (check_made horizons ∷ outcome.trace)
 check_since s outcome horizons a =
-    tables.moves_follow_traces-check s.table outcome.trace horizons a.table
-    ∙ (λ i. step_moves (a.capacity i) (a.rate i) (check_made horizons) outcome.trace)
+    tables.moves_follow_traces-check s.table outcome.trace horizons a.still.table
+    ∙ (λ i. step_moves (a.still.capacity i) (a.still.rate i) (check_made horizons) outcome.trace)
     ∙ one_since s.setup.capacity s.setup.rate (check_made horizons) outcome.trace
 
 pub moves_check : {s w : State} → s ≡ w → (t td : ℕ) (moved : Bool) → IsReceiverInterval w td →

@@ -18,8 +18,8 @@ use Rattle.rtcp_engine.specs.Reporting.{report_octets}
 use Rattle.rtcp_engine.specs.Leaving.{Backoff, after_wait, backoff_from, is_bye_due, leaving_average, leaving_count, leaving_interval, leaving_load, leaving_timing, with_farewell_of}
 use Rattle.rtcp_engine.specs.Arrivals.{facts_of_media, media_fact, with_facts_of, with_media, with_packet}
 use Rattle.rtcp_engine.specs.Ticks.{horizons_of, with_check, without_silent, has_come, has_passed, is_report_due, put_off, tried_at, report_due, with_report, reported, after_check as after_check_at}
-use Rattle.rtcp_engine.specs.States.{State, Agrees, Does, DoesWaiting, KeepsCapacity, StandsStill, Stays, Waits}
-use Rattle.rtcp_engine.proofs.Agreeing.{load, facts_agree, media_agree, sizes_agree, rows_in, octets_in, octets_agree, sent_reports_agree}
+use Rattle.rtcp_engine.specs.States.{State, Agrees, Does, DoesWaiting, KeepsCapacity, Stays, Waits}
+use Rattle.rtcp_engine.proofs.Agreeing.{load, facts_agree, media_agree, sizes_agree, with_own, rows_in, octets_in, octets_agree, sent_reports_agree}
 
 -- ---- Steps one after the other
 
@@ -77,14 +77,9 @@ with_happening happening outcome = record outcome { happenings = happening ∷ o
 happens : {s : State} {outcome : Outcome} → Agrees s outcome → (happening : Happening) (timing : Timing) →
     timing ≡ after happening s.timing → Agrees (with_timing timing s) (with_happening happening outcome)
 happens {s} {outcome} a happening timing is = record {
-  table = a.table;
-  capacity = a.capacity;
-  rate = a.rate;
   timing = is ∙ ap (after happening) a.timing;
   average = a.average;
-  own = a.own;
-  cursor = a.cursor;
-  reports = a.reports;
+  still = with_own s outcome a.still a.still.own;
 }
 
 -- what happens to the schedule, and to nothing else
@@ -170,14 +165,9 @@ due : (s : State) (setup : Setup) (t first_word second_word : ℕ) (outcome : Ou
     → Agrees s (if come then (if passed then reported setup t second_word outcome else put_off setup t first_word
     outcome) else outcome)
 due s setup t first_word second_word outcome true true h a = record {
-  table = a.table;
-  capacity = a.capacity;
-  rate = a.rate;
   timing = a.timing;
   average = a.average;
-  own = a.own;
-  cursor = a.cursor;
-  reports = a.reports;
+  still = with_own s (reported setup t second_word (put_off setup t first_word outcome)) a.still a.still.own;
 }
 due s setup t first_word second_word outcome true false h a = absurd cc
 due s setup t first_word second_word outcome false passed h a = absurd cc
@@ -190,14 +180,16 @@ checks_agree : (s : State) (outcome : Outcome) (horizons : Horizons) (own : OwnV
 checks_agree s outcome horizons own adds a =
     let kept = tables.bounds_are_kept-check s.table horizons in
     record {
-      table = tables.tables_follow_traces-check s.table outcome.trace horizons a.table;
-      capacity = kept.capacity ∙ a.capacity;
-      rate = kept.rate ∙ a.rate;
       timing = a.timing;
       average = a.average;
-      own = adds outcome.own a.own;
-      cursor = a.cursor;
-      reports = a.reports;
+      still = record {
+        table = tables.tables_follow_traces-check s.table outcome.trace horizons a.still.table;
+        capacity = kept.capacity ∙ a.still.capacity;
+        rate = kept.rate ∙ a.still.rate;
+        own = adds outcome.own a.still.own;
+        cursor = a.still.cursor;
+        reports = a.still.reports;
+      };
     }
 
 abbrev pub IsReceiverInterval : State → ℕ → Type 0
@@ -229,14 +221,9 @@ sends {s} {w} is own t timestamp octets adds within = record {
   follows = λ outcome agrees.
       let a = seen is outcome agrees in
       record {
-        table = a.table;
-        capacity = a.capacity;
-        rate = a.rate;
         timing = a.timing;
         average = a.average;
-        own = adds outcome.own a.own;
-        cursor = a.cursor;
-        reports = a.reports;
+        still = with_own s outcome a.still (adds outcome.own a.still.own);
       };
 }
 
@@ -366,18 +353,6 @@ pub waits_there : {s w : State} → s ≡ w → (outcome : Outcome) (backoff : B
     Waits s outcome backoff
 waits_there {s} {w} is outcome backoff h = subst (λ (x : State). Waits x outcome backoff) (sym is) h
 
-with_numbers : {s : State} {outcome : Outcome} (timing : Timing) (average : ℕ) → StandsStill s outcome →
-    StandsStill (record s { timing = timing; average = average }) outcome
-with_numbers {s} {outcome} timing average still =
-    record {
-      table = still.table;
-      capacity = still.capacity;
-      rate = still.rate;
-      own = still.own;
-      cursor = still.cursor;
-      reports = still.reports;
-    }
-
 pub bye_due_by : {s w : State} → s ≡ w → (t word td members : ℕ) → IsWaitingInterval w members td →
     (outcome : Outcome) (backoff : Backoff) → Waits w outcome backoff → members ≡ leaving_count backoff
     → (nat_le s.timing.next t && nat_le (s.timing.last + drawn_interval td word) t) ≡ is_bye_due w.setup t word backoff
@@ -407,7 +382,7 @@ waits_on {s} {w} is timing t word td members interval unchanged steps within = r
             (record {
               timing = unchanged early ∙ at.timing;
               average = at.average;
-              still = with_numbers timing s.average at.still;
+              still = with_own s outcome at.still at.still.own;
             })
         | inr late ↦
             subst (λ (b : Bool). Waits (with_timing timing s) outcome (to b)) (sym (come ∙ le-leb s.timing.next t late))
@@ -419,7 +394,7 @@ waits_on {s} {w} is timing t word td members interval unchanged steps within = r
                   count
                   ∙ ap (after happening) at.timing;
               average = at.average;
-              still = with_numbers timing s.average at.still;
+              still = with_own s outcome at.still at.still.own;
             })
       ];
 }
@@ -436,29 +411,17 @@ hears {s} {w} is average size average_is outcome backoff byes h =
     record {
       timing = at.timing;
       average = average_is ∙ ap (λ (a : ℕ). moved_average a size) at.average;
-      still = with_numbers s.timing average at.still;
+      still = with_own s outcome at.still at.still.own;
     }
 
 -- a backoff before its first draw
 abbrev pub unstarted : (t : ℕ) → Outcome → Backoff
 unstarted t outcome = record { since = t; farewells = []; happenings = outcome.happenings }
 
-pub waits_first : {s w : State} → s ≡ w → (average t : ℕ) → average ≡ leaving_average s.setup [] → (outcome : Outcome) →
-    Agrees w outcome → Waits (record s { average = average }) outcome (unstarted t outcome)
-waits_first {s} {w} is average t average_is outcome agrees =
-    let a = seen is outcome agrees in
-    record {
-      timing = a.timing;
-      average = average_is;
-      still = record {
-        table = a.table;
-        capacity = a.capacity;
-        rate = a.rate;
-        own = a.own;
-        cursor = a.cursor;
-        reports = a.reports;
-      };
-    }
+waits_first : {s : State} {average : ℕ} (t : ℕ) → average ≡ leaving_average s.setup [] → (outcome : Outcome) →
+    Agrees s outcome → Waits (record s { average = average }) outcome (unstarted t outcome)
+waits_first {s} {average} t average_is outcome a =
+    record { timing = a.timing; average = average_is; still = with_own s outcome a.still a.still.own }
 
 pub backs_off : {s w : State} → s ≡ w → (average word td : ℕ) (timing : Timing) → average ≡ leaving_average s.setup [] →
     IsWaitingInterval (record s { average = average }) 1 td →
@@ -471,17 +434,9 @@ backs_off {s} {w} is average word td timing average_is interval steps =
     Waits new outcome (backoff_from x.setup x.latest word outcome)) is
     (λ outcome a. record {
       timing = steps ∙ ap (λ (d : ℕ). after (transmitted s.latest (drawn_interval d word) 1) s.timing)
-          (interval outcome (unstarted s.latest outcome)
-          (waits_first {s = s} refl average s.latest average_is outcome a) refl);
+          (interval outcome (unstarted s.latest outcome) (waits_first s.latest average_is outcome a) refl);
       average = average_is;
-      still = record {
-        table = a.table;
-        capacity = a.capacity;
-        rate = a.rate;
-        own = a.own;
-        cursor = a.cursor;
-        reports = a.reports;
-      };
+      still = with_own s outcome a.still a.still.own;
     })
 
 pub waiting_load : {s w : State} → s ≡ w → (members avg : ℕ) → avg ≡ s.average →

@@ -52,16 +52,21 @@ state_with setup table timing average own cursor reports latest calls = record {
   calls = calls;
 }
 
--- A table and numbers are those of an outcome.
-pub record Agrees (state : State) (outcome : Outcome) : Type 0 where
+-- The table, the own stream and the reports are those of an outcome. In a backoff they stand still: they are those of
+-- the outcome at the leave.
+pub record StandsStill (state : State) (outcome : Outcome) : Type 0 where
   pub table : IsTableAt state.table outcome.trace
   pub capacity : state.table.capacity ≡ state.setup.capacity
   pub rate : state.table.rate ≡ state.setup.rate
-  pub timing : state.timing ≡ timing_of outcome
-  pub average : state.average ≡ average_size state.setup outcome
   pub own : state.own ≡ own_of outcome.own
   pub cursor : state.cursor ≡ last_reported_in outcome.trace
   pub reports : state.reports ≡ length outcome.reports
+
+-- A table and numbers are those of an outcome.
+pub record Agrees (state : State) (outcome : Outcome) : Type 0 where
+  pub timing : state.timing ≡ timing_of outcome
+  pub average : state.average ≡ average_size state.setup outcome
+  pub still : StandsStill state outcome
 
 -- One call more, at a moment.
 abbrev pub with_call : (moment : ℕ) → State → State
@@ -98,15 +103,6 @@ Moves old others_changed step =
 -- It says whether some other source is a member.
 abbrev pub HasOthers : State → (others : Bool) → Type 0
 HasOthers state others = (outcome : Outcome) → Agrees state outcome → others ≡ has_others state.setup outcome
-
--- In a backoff the table, the own stream and the reports stand still: they are those of the outcome at the leave.
-pub record StandsStill (state : State) (outcome : Outcome) : Type 0 where
-  pub table : IsTableAt state.table outcome.trace
-  pub capacity : state.table.capacity ≡ state.setup.capacity
-  pub rate : state.table.rate ≡ state.setup.rate
-  pub own : state.own ≡ own_of outcome.own
-  pub cursor : state.cursor ≡ last_reported_in outcome.trace
-  pub reports : state.reports ≡ length outcome.reports
 
 -- The numbers of one that backs off.
 pub record Waits (state : State) (outcome : Outcome) (backoff : Backoff) : Type 0 where
