@@ -1,6 +1,6 @@
 -- The laws of the changes between two listings.
 use Rattle.std.proofs.Common.{◌≡◌, ◌<◌, ◌≤◌, ◌+◌, ◌==◌, ◌&&◌, ◌||◌, ◌++◌, ℕ, suc, nat_lt, not, Bool, true, false, cond, List, [], ◌∷◌, filter, map, count_by, if◌then◌else◌, Option, Some, None, option_map, unwrap_or, arith, refl, sym, ap, ◌∙◌}
-use Rattle.std.proofs.lemmas.Bool.{eqb-true}
+use Rattle.std.proofs.lemmas.Bool.{and_parts, eqb-true, or_parts}
 use Rattle.std.proofs.lemmas.Bool.Decides.{nat_tests}
 use Rattle.std.proofs.lemmas.List.Sums.{sum_by-cons}
 use Rattle.rtcp_members.specs.Told.{StateValue, RiseAbove}
@@ -8,7 +8,7 @@ use Rattle.rtcp_engine.specs.declared.differences.change.Role.{Role}
 use Rattle.rtcp_engine.specs.declared.differences.change.Role.TheVariants.{Away, Member, Sender}
 use Rattle.rtcp_engine.specs.declared.differences.change.Change.{Change}
 use Rattle.rtcp_engine.specs.Differences.{ListedValue, listed_of, rises_from, found_in, role_in, is_same, compared, is_change, put, by_rising, ssrcs, changes, changed, changes_rise_from}
-use Rattle.rtcp_engine.proofs.Differing.{both-first, both-second}
+use Rattle.rtcp_engine.proofs.Among.{or_assoc}
 
 -- ---- Which numbers stand in a list
 
@@ -46,14 +46,11 @@ stands_by_rising : (n : ℕ) (ns : List ℕ) → stands_in n (by_rising ns) ≡ 
 stands_by_rising n [] = refl
 stands_by_rising n (m ∷ rest) = stands_put n m (by_rising rest) ∙ ap (λ b. (m == n || b)) (stands_by_rising n rest)
 
-or_assoc : (a b c : Bool) → a || (b || c) ≡ (a || b) || c
-or_assoc true b c = refl
-or_assoc false b c = refl
-
 stands_append : (n : ℕ) (ns ms : List ℕ) → stands_in n (ns ++ ms) ≡ (stands_in n ns || stands_in n ms)
 stands_append n [] ms = refl
 stands_append n (first ∷ rest) ms =
-    ap (λ b. (first == n || b)) (stands_append n rest ms) ∙ or_assoc (first == n) (stands_in n rest) (stands_in n ms)
+    ap (λ b. (first == n || b)) (stands_append n rest ms)
+    ∙ sym (or_assoc (first == n) (stands_in n rest) (stands_in n ms))
 
 -- ---- They rise
 
@@ -97,21 +94,13 @@ same_is Sender Away e = absurd cc
 same_is Sender Member e = absurd cc
 same_is Sender Sender e = refl
 
-either_first : (a b : Bool) → a || b ≡ false → a ≡ false
-either_first true b e = e
-either_first false b e = refl
-
-either_second : (a b : Bool) → a || b ≡ false → b ≡ false
-either_second true b e = absurd cc
-either_second false b e = e
-
 not_found : (ssrc : ℕ) (listing : List ListedValue) → stands_in ssrc (ssrcs listing) ≡ false →
     found_in listing ssrc ≡ None
 not_found ssrc [] e = refl
 not_found ssrc (source ∷ rest) e =
-    (λ i. cond (either_first (source.ssrc == ssrc) (stands_in ssrc (ssrcs rest)) e i) (Some source)
+    (λ i. cond ((or_parts (source.ssrc == ssrc) (stands_in ssrc (ssrcs rest)) e).0 i) (Some source)
     (found_in rest ssrc))
-    ∙ not_found ssrc rest (either_second (source.ssrc == ssrc) (stands_in ssrc (ssrcs rest)) e)
+    ∙ not_found ssrc rest (or_parts (source.ssrc == ssrc) (stands_in ssrc (ssrcs rest)) e).1
 
 away : (ssrc : ℕ) (listing : List ListedValue) → stands_in ssrc (ssrcs listing) ≡ false → role_in listing ssrc ≡ Away
 away ssrc listing e = ap (λ (o : Option ListedValue). unwrap_or (option_map (λ (source : ListedValue). source.role) o)
@@ -140,10 +129,9 @@ module _ (before after : List ListedValue) where
   apart ssrc e =
       let neither : (stands_in ssrc (ssrcs before) || stands_in ssrc (ssrcs after)) ≡ false =
       sym (stands_append ssrc (ssrcs before) (ssrcs after))
-      ∙ sym (stands_by_rising ssrc (ssrcs before ++ ssrcs after)) ∙ e in (
-        away ssrc before (either_first (stands_in ssrc (ssrcs before)) (stands_in ssrc (ssrcs after)) neither),
-        away ssrc after (either_second (stands_in ssrc (ssrcs before)) (stands_in ssrc (ssrcs after)) neither),
-      )
+      ∙ sym (stands_by_rising ssrc (ssrcs before ++ ssrcs after)) ∙ e in
+      let parts = or_parts (stands_in ssrc (ssrcs before)) (stands_in ssrc (ssrcs after)) neither in
+      (away ssrc before parts.0, away ssrc after parts.1)
 
   -- ---- Each once
 
@@ -191,9 +179,9 @@ module _ (before after : List ListedValue) where
       changes_rise_from lower changes ≡ true
   rise_lower low lower [] below e = refl
   rise_lower low lower (change ∷ rest) below e =
-      let first : not (nat_lt change.ssrc low) ≡ true = both-first _ _ e in
+      let first : not (nat_lt change.ssrc low) ≡ true = (and_parts _ _ e).0 in
       let above : not (nat_lt change.ssrc lower) ≡ true = grind (arith, nat_tests, first, below) in
-      (λ i. above i && changes_rise_from (suc change.ssrc) rest) ∙ both-second _ _ e
+      (λ i. above i && changes_rise_from (suc change.ssrc) rest) ∙ (and_parts _ _ e).1
 
   rise : (low : ℕ) (ns : List ℕ) → Sorted low ns → changes_rise_from low (of ns) ≡ true
   rise low [] all = refl

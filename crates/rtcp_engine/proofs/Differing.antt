@@ -1,6 +1,6 @@
 -- The changes between two listings, source by source.
 use Rattle.std.proofs.Common.{◌≡◌, ◌<◌, ◌≤◌, ◌+◌, ◌==◌, ◌&&◌, ◌++◌, ℕ, suc, nat_lt, not, Bool, true, false, cond, List, [], ◌∷◌, length, filter, map, Option, Some, None, option_map, unwrap_or, inl, inr, arith, refl, sym, ap, subst, ◌∙◌}
-use Rattle.std.proofs.lemmas.Bool.{cases_lt}
+use Rattle.std.proofs.lemmas.Bool.{and_parts, cases_lt}
 use Rattle.std.proofs.lemmas.Bool.Decides.{nat_tests}
 use Rattle.rtcp_engine.specs.declared.differences.change.Role.{Role}
 use Rattle.rtcp_engine.specs.declared.differences.change.Role.TheVariants.{Away}
@@ -9,14 +9,6 @@ use Rattle.rtcp_engine.specs.Differences.{ListedValue, rises_from, found_in, rol
 
 -- ---- Tests
 
-pub both-first : (a b : Bool) → a && b ≡ true → a ≡ true
-both-first true b e = refl
-both-first false b e = e
-
-pub both-second : (a b : Bool) → a && b ≡ true → b ≡ true
-both-second true b e = e
-both-second false b e = absurd cc
-
 from : (low n : ℕ) → not (nat_lt n low) ≡ true → low ≤ n
 from low n e = grind (arith, nat_tests, e)
 
@@ -24,11 +16,11 @@ from low n e = grind (arith, nat_tests, e)
 
 pub rises_first : (low : ℕ) (source : ListedValue) (rest : List ListedValue) → rises_from low (source ∷ rest) ≡ true →
     low ≤ source.ssrc
-rises_first low source rest e = from low source.ssrc (both-first _ _ e)
+rises_first low source rest e = from low source.ssrc (and_parts _ _ e).0
 
 pub rises_rest : (low : ℕ) (source : ListedValue) (rest : List ListedValue) → rises_from low (source ∷ rest) ≡ true →
     rises_from (suc source.ssrc) rest ≡ true
-rises_rest low source rest e = both-second _ _ e
+rises_rest low source rest e = (and_parts _ _ e).1
 
 pub rises_lower : (low lower : ℕ) (listing : List ListedValue) → lower ≤ low → rises_from low listing ≡ true →
     rises_from lower listing ≡ true
