@@ -1,5 +1,5 @@
 -- Where an act does not say that the others changed, each of them has the role that it had.
-use Rattle.std.proofs.Common.{◌≡◌, ℕ, ◌+◌, ◌-◌, ◌==◌, not, true, false, if◌then◌else◌, nat_le, List, [], ◌∷◌, length, drop, Option, Some, None, Ok, Err, arith, refl, sym, ap, ◌∙◌, subst}
+use Rattle.std.proofs.Common.{◌≡◌, ℕ, ◌+◌, ◌-◌, ◌==◌, not, false, List, [], ◌∷◌, length, drop, Option, Some, None, Ok, Err, arith, refl, sym, ap, ◌∙◌, subst}
 use Rattle.std.proofs.lemmas.Bool.Decides.{nat_tests}
 use Rattle.std.proofs.lemmas.List.{drop-drop}
 use Rattle.rtcp_wire.specs.declared.fact.Fact.{Fact}
@@ -15,12 +15,13 @@ use Rattle.rtcp_engine.specs.Answers.{step_by}
 use Rattle.rtcp_engine.specs.Arrivals.{after, facts_of_media, media_fact}
 use Rattle.rtcp_engine.specs.Changes.{NewIdentifier, Session, change_by, changed_by}
 use Rattle.rtcp_engine.specs.Histories.{History, session_at, session_for, with_act}
-use Rattle.rtcp_engine.specs.Leaving.{Life, backing_off, backoff_from, after_wait, few_members, gone, is_bye_due, is_unheard, left_at, present}
+use Rattle.rtcp_engine.specs.Leaving.{Life, backing_off, after_wait, gone, left_at, present}
 use Rattle.rtcp_engine.specs.Lives.{entry_in_life, lived, moved_since, others_moved_by}
-use Rattle.rtcp_engine.specs.Outcomes.{Outcome, member_count}
+use Rattle.rtcp_engine.specs.Outcomes.{Outcome}
+use Rattle.rtcp_engine.proofs.LifeLemmas.{of_check, of_leave, of_wait}
 use Rattle.rtcp_engine.specs.Reporting.{reported_at}
 use Rattle.rtcp_engine.specs.Setups.{Setup}
-use Rattle.rtcp_engine.specs.Ticks.{after_check, after_tick, checked, has_come, has_passed, put_off, reported}
+use Rattle.rtcp_engine.specs.Ticks.{after_check, after_tick, checked, reported}
 use Rattle.rtcp_engine.proofs.RolesChanged.{leave_moves}
 
 -- ---- Traces that go on
@@ -57,16 +58,8 @@ blocks_go_on (row ∷ rows) trace = one_sooner (blocks_go_on rows (block_taken r
 report_goes_on : (setup : Setup) (t first_word second_word : ℕ) (outcome : Outcome) →
     GoesOn outcome.trace (after_check setup t first_word second_word outcome).trace
 report_goes_on setup t first_word second_word outcome =
-    elim (has_come t outcome) as (λ b. GoesOn outcome.trace
-    (if b then (if has_passed setup t first_word outcome then reported setup t second_word outcome else put_off
-    setup t first_word outcome) else outcome).trace) [
-      | false ↦ goes_nowhere outcome.trace
-      | true ↦ elim (has_passed setup t first_word outcome) as (λ b. GoesOn outcome.trace
-          (if b then reported setup t second_word outcome else put_off setup t first_word outcome).trace) [
-            | false ↦ goes_nowhere outcome.trace
-            | true ↦ blocks_go_on (reported_at setup t outcome) outcome.trace
-          ]
-    ]
+    of_check (λ (now : Outcome). GoesOn outcome.trace now.trace) setup t first_word second_word outcome
+    (goes_nowhere outcome.trace) (goes_nowhere outcome.trace) (blocks_go_on (reported_at setup t outcome) outcome.trace)
 
 goes_on : (setup : Setup) (act : Act) (outcome : Outcome) → GoesOn outcome.trace (after setup act outcome).trace
 goes_on setup (arrived t peer word (rtcp size (Ok packets))) outcome = facts_go_on (facts_of packets) t outcome.trace
@@ -98,17 +91,7 @@ kept_since setup before now on still ssrc =
 nobody_left : (setup : Setup) (t word : ℕ) (outcome : Outcome) (ssrc : ℕ) →
     entry_in_life setup (left_at setup t word outcome) ssrc ≡ None
 nobody_left setup t word outcome ssrc =
-    elim (is_unheard outcome) as (λ b. entry_in_life setup
-    (if b then gone outcome else (if nat_le (member_count setup outcome) few_members then gone outcome else
-    backing_off outcome (backoff_from setup t word outcome))) ssrc ≡ None) [
-      | true ↦ refl
-      | false ↦ elim (nat_le (member_count setup outcome) few_members) as (λ b. entry_in_life setup
-          (if b then gone outcome else backing_off outcome (backoff_from setup t word outcome)) ssrc ≡ None) [
-            | true ↦
-                refl
-            | false ↦ refl
-          ]
-    ]
+    of_leave (λ (life : Life). entry_in_life setup life ssrc ≡ None) setup t word outcome refl refl
 
 no_others : (n : ℕ) → not (n == 0) ≡ false → n ≡ 0
 no_others n e = grind (arith, nat_tests, e)
@@ -133,11 +116,7 @@ still_waiting : (setup : Setup) (t word : ℕ) (outcome : Outcome) (backoff : Ra
     (ssrc : ℕ)
     → entry_in_life setup (Rattle.rtcp_engine.specs.Leaving.after_waiting_tick setup t word outcome backoff) ssrc ≡ None
 still_waiting setup t word outcome backoff ssrc =
-    elim (is_bye_due setup t word backoff) as (λ b. entry_in_life setup
-    (if b then gone outcome else backing_off outcome (after_wait setup t word backoff)) ssrc ≡ None) [
-      | true ↦ refl
-      | false ↦ refl
-    ]
+    of_wait (λ (life : Life). entry_in_life setup life ssrc ≡ None) setup t word outcome backoff refl refl
 
 kept_in : (setup : Setup) (act : Act) (life : Life) → others_moved_by setup act life ≡ false → (ssrc : ℕ) →
     IsSameRole (entry_in_life setup life ssrc) (entry_in_life setup (lived setup act life) ssrc)

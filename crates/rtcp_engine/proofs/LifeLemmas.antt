@@ -1,5 +1,6 @@
 -- The phases of a participant, and what it counts in them.
 use Rattle.std.proofs.Common.{◌≡◌, ℕ, ◌+◌, nat_le, min, sum_by, Bool, true, false, List, Option, Some, None, option_map, if◌then◌else◌, refl, sym, ap, ◌∙◌, arith}
+use Rattle.std.proofs.lemmas.Bool.{cond_both}
 use Rattle.std.proofs.lemmas.List.Sums.{sum_by-cons}
 use Rattle.rtcp_timer.specs.Schedules.{Happening}
 use Rattle.rtcp_engine.specs.declared.refusal.Refusal.{Refusal}
@@ -7,8 +8,9 @@ use Rattle.rtcp_engine.specs.Setups.{Setup}
 use Rattle.rtcp_engine.specs.Outcomes.{Outcome, member_count}
 use Rattle.rtcp_engine.specs.Reporting.{bye_octets}
 use Rattle.rtcp_engine.specs.Refusals.{call_refusal}
-use Rattle.rtcp_engine.specs.Leaving.{with_farewell_of, Farewell, Backoff, is_unheard, few_members, backoff_from, bye_at_once, backing_off, gone, left_at, after_wait, leaving_count, leaving_timing}
+use Rattle.rtcp_engine.specs.Leaving.{with_farewell_of, Farewell, Backoff, Life, after_waiting_tick, is_bye_due, is_unheard, few_members, backoff_from, bye_at_once, backing_off, gone, left_at, after_wait, leaving_count, leaving_timing}
 use Rattle.rtcp_engine.specs.Lives.{bye_out}
+use Rattle.rtcp_engine.specs.Ticks.{after_check, has_come, has_passed, put_off, reported}
 use Rattle.rtcp_engine.specs.States.{PhaseValue, taking_part, leaving, over, ParticipantValue, refusal_by, refusal_in_phase}
 
 -- ---- Phases
@@ -82,3 +84,25 @@ pub left_byes : (setup : Setup) (o : Outcome) (unheard few : Bool) → is_unhear
     (if unheard then None else (if few then Some (bye_octets setup) else None))
 left_byes setup o unheard few is_unheard is_few = λ i. option_map bye_out
     (if is_unheard i then None else (if is_few i then Some (bye_octets setup) else None))
+
+-- ---- Cases
+
+-- what is so of one that is gone and of one that backs off is so of one that leaves
+pub of_leave : (P : Life → Type 0) (setup : Setup) (t word : ℕ) (o : Outcome) → P (gone o) →
+    P (backing_off o (backoff_from setup t word o)) → P (left_at setup t word o)
+of_leave P setup t word o ends waits =
+    cond_both (is_unheard o) (gone o) _ P (λ _. ends)
+    (λ _. cond_both (nat_le (member_count setup o) few_members) (gone o) _ P (λ _. ends) (λ _. waits))
+
+-- and so of one that is asked while it backs off
+pub of_wait : (P : Life → Type 0) (setup : Setup) (t word : ℕ) (o : Outcome) (b : Backoff) → P (gone o) →
+    P (backing_off o (after_wait setup t word b)) → P (after_waiting_tick setup t word o b)
+of_wait P setup t word o b ends waits = cond_both (is_bye_due setup t word b) (gone o) _ P (λ _. ends) (λ _. waits)
+
+-- what is so whether a report is put off, sent or not yet asked for is so after a check
+pub of_check : (P : Outcome → Type 0) (setup : Setup) (t first_word second_word : ℕ) (o : Outcome) → P o →
+    P (put_off setup t first_word o) → P (reported setup t second_word o) →
+    P (after_check setup t first_word second_word o)
+of_check P setup t first_word second_word o early late sent =
+    cond_both (has_come t o) _ o P (λ _. cond_both (has_passed setup t first_word o) _ _ P (λ _. sent) (λ _. late))
+    (λ _. early)

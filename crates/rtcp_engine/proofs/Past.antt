@@ -1,5 +1,5 @@
 -- What a participant tells of a source came by the latest act that was taken.
-use Rattle.std.proofs.Common.{◌≡◌, ◌≤◌, ◌^◌, ℕ, nat_lt, nat_le, Bool, true, false, if◌then◌else◌, List, [], ◌∷◌, All}
+use Rattle.std.proofs.Common.{◌≡◌, ◌≤◌, ◌^◌, ℕ, nat_lt, Bool, true, false, if◌then◌else◌, List, [], ◌∷◌, All}
 use Rattle.std.proofs.Common.{Option, Some, None, Ok, Err, refl, sym, subst, arith}
 use Rattle.std.proofs.lemmas.Bool.{ltb-false}
 use Rattle.std.proofs.lemmas.List.Elements.{All-nil}
@@ -17,16 +17,17 @@ use Rattle.rtcp_engine.specs.Acts.{Act, arrived, left, moment_of, rtcp, rtp, rtp
 use Rattle.rtcp_engine.specs.Arrivals.{after, facts_of_media, media_fact}
 use Rattle.rtcp_engine.specs.Changes.{NewIdentifier, Session, change_by, changed_by}
 use Rattle.rtcp_engine.specs.Histories.{History, last_moment, life_at, session_of, setup_at}
-use Rattle.rtcp_engine.specs.Leaving.{Backoff, Life, after_wait, after_waiting_tick, backing_off, backoff_from}
-use Rattle.rtcp_engine.specs.Leaving.{few_members, gone, is_bye_due, is_unheard, left_at, present}
+use Rattle.rtcp_engine.specs.Leaving.{Life, backing_off}
+use Rattle.rtcp_engine.specs.Leaving.{gone, present}
 use Rattle.rtcp_engine.specs.Lives.{TellsInLife, WalksInLife, lived, with_new_ssrc}
-use Rattle.rtcp_engine.specs.Outcomes.{Outcome, member_count}
+use Rattle.rtcp_engine.specs.Outcomes.{Outcome}
 use Rattle.rtcp_engine.specs.Refusals.{refusal_after}
 use Rattle.rtcp_engine.specs.Reporting.{reported_at}
 use Rattle.rtcp_engine.specs.Setups.{Setup}
 use Rattle.rtcp_engine.specs.Taken.{AllTaken, IsHistory}
-use Rattle.rtcp_engine.specs.Ticks.{after_check, checked, has_come, has_passed, put_off, reported}
+use Rattle.rtcp_engine.specs.Ticks.{after_check, checked, reported}
 use Rattle.rtcp_engine.proofs.NewIdentifiers.{unrefused}
+use Rattle.rtcp_engine.proofs.LifeLemmas.{of_check, of_leave, of_wait}
 use Rattle.rtcp_engine.proofs.Sending.{in_time}
 
 -- ---- One that takes part
@@ -40,15 +41,8 @@ blocks_came latest (row ∷ rows) trace came =
 report_came : (setup : Setup) (t first_word second_word : ℕ) (outcome : Outcome) → CameBy t outcome.trace →
     CameBy t (after_check setup t first_word second_word outcome).trace
 report_came setup t first_word second_word outcome came =
-    by_tests (has_come t outcome) (has_passed setup t first_word outcome)
-  where
-    by_tests : (come passed : Bool) →
-        CameBy t (if come
-        then (if passed then reported setup t second_word outcome else put_off setup t first_word outcome)
-        else outcome).trace
-    by_tests true true = blocks_came t (reported_at setup t outcome) outcome.trace came
-    by_tests true false = came
-    by_tests false passed = came
+    of_check (λ (now : Outcome). CameBy t now.trace) setup t first_word second_word outcome came came
+    (blocks_came t (reported_at setup t outcome) outcome.trace came)
 
 came_after : (setup : Setup) (act : Act) (outcome : Outcome) → CameBy (moment_of act) outcome.trace →
     CameBy (moment_of act) (after setup act outcome).trace
@@ -72,26 +66,6 @@ LivesBy latest (present outcome) = CameBy latest outcome.trace
 LivesBy latest (backing_off outcome backoff) = Unit {0}
 LivesBy latest (gone outcome) = Unit {0}
 
-left_by : (latest : ℕ) (setup : Setup) (t word : ℕ) (outcome : Outcome) →
-    LivesBy latest (left_at setup t word outcome)
-left_by latest setup t word outcome = by_tests (is_unheard outcome) (nat_le (member_count setup outcome) few_members)
-  where
-    by_tests : (unheard few : Bool) →
-        LivesBy latest (if unheard then gone outcome
-        else (if few then gone outcome else backing_off outcome (backoff_from setup t word outcome)))
-    by_tests true few = tt
-    by_tests false true = tt
-    by_tests false false = tt
-
-waited_by : (latest : ℕ) (setup : Setup) (t word : ℕ) (outcome : Outcome) (backoff : Backoff) →
-    LivesBy latest (after_waiting_tick setup t word outcome backoff)
-waited_by latest setup t word outcome backoff = by_test (is_bye_due setup t word backoff)
-  where
-    by_test : (due : Bool) →
-        LivesBy latest (if due then gone outcome else backing_off outcome (after_wait setup t word backoff))
-    by_test true = tt
-    by_test false = tt
-
 -- by an act no earlier than this moment, whose own moment it is then
 lives_by : (setup : Setup) (latest : ℕ) (act : Act) (life : Life) → latest ≤ moment_of act → LivesBy latest life →
     LivesBy (moment_of act) (lived setup act life)
@@ -103,12 +77,13 @@ lives_by setup latest (rtp_sent t timestamp octets) (present outcome) order came
 lives_by setup latest (ticked t first_word second_word) (present outcome) order came =
     let now = tables.told_lies_in_the_past-later latest t outcome.trace order came in
     came_after setup (ticked t first_word second_word) outcome now
-lives_by setup latest (left t word) (present outcome) order came = left_by t setup t word outcome
+lives_by setup latest (left t word) (present outcome) order came =
+    of_leave (LivesBy t) setup t word outcome tt tt
 lives_by setup latest (arrived t peer word (rtcp size reading)) (backing_off outcome backoff) order came = tt
 lives_by setup latest (arrived t peer word (rtp reading)) (backing_off outcome backoff) order came = tt
 lives_by setup latest (rtp_sent t timestamp octets) (backing_off outcome backoff) order came = tt
 lives_by setup latest (ticked t first_word second_word) (backing_off outcome backoff) order came =
-    waited_by t setup t first_word outcome backoff
+    of_wait (LivesBy t) setup t first_word outcome backoff tt tt
 lives_by setup latest (left t word) (backing_off outcome backoff) order came = tt
 lives_by setup latest act (gone outcome) order came = tt
 

@@ -1,5 +1,5 @@
 -- What changes who of the others is a member, or who of them sends: by the table, and by what a session has come to.
-use Rattle.std.proofs.Common.{◌≡◌, ◌≤◌, ℕ, suc, ◌+◌, ◌-◌, ◌==◌, ◌||◌, not, Bool, true, false, if◌then◌else◌, nat_le, List, [], ◌∷◌, length, arith, refl, sym, ap, ◌∙◌}
+use Rattle.std.proofs.Common.{◌≡◌, ◌≤◌, ℕ, suc, ◌+◌, ◌-◌, ◌==◌, ◌||◌, not, Bool, true, false, List, [], ◌∷◌, length, arith, refl, sym, ap, ◌∙◌}
 use Rattle.rtcp_wire.specs.declared.fact.Fact.{Fact}
 use Rattle.rtcp_wire.specs.Facts.{facts_of}
 use Rattle.rtcp_wire.specs.RtpHeads.{RtpValue}
@@ -12,14 +12,15 @@ use Rattle.rtcp_members.specs.Traces.{Horizons, TraceStep, block_taken, check_ma
 use Rattle.rtcp_members.proofs.LawLemmas as tables
 use Rattle.rtcp_report.specs.Traced.{with_blocks}
 use Rattle.rtcp_engine.specs.Arrivals.{facts_of_media, media_fact, with_facts_of, with_media}
-use Rattle.rtcp_engine.specs.Leaving.{backing_off, backoff_from, few_members, gone, is_unheard, left_at}
+use Rattle.rtcp_engine.specs.Leaving.{Life, left_at}
 use Rattle.rtcp_engine.specs.Lives.{has_others, moved_since, others_moved_into}
-use Rattle.rtcp_engine.specs.Outcomes.{Outcome, member_count}
+use Rattle.rtcp_engine.specs.Outcomes.{Outcome}
 use Rattle.rtcp_engine.specs.Reporting.{reported_at}
 use Rattle.rtcp_engine.specs.Setups.{Setup}
 use Rattle.rtcp_engine.specs.States.{State, Agrees, HasOthers, Moves}
-use Rattle.rtcp_engine.specs.Ticks.{after_check, after_tick, checked, has_come, has_passed, horizons_of, put_off, reported, without_silent}
+use Rattle.rtcp_engine.specs.Ticks.{after_check, after_tick, checked, horizons_of, reported, without_silent}
 use Rattle.rtcp_engine.proofs.Agreeing.{others_agree}
+use Rattle.rtcp_engine.proofs.LifeLemmas.{of_check, of_leave}
 use Rattle.rtcp_engine.proofs.StepLemmas.{IsReceiverInterval, of_view, seen}
 
 -- ---- Traces
@@ -121,17 +122,10 @@ report_since : (setup : Setup) (t first_word second_word : ℕ) (before outcome 
     length before.trace ≤ length outcome.trace
     → moved_since setup before outcome ≡ moved_since setup before (after_check setup t first_word second_word outcome)
 report_since setup t first_word second_word before outcome within =
-    elim (has_come t outcome) as (λ b. moved_since setup before outcome ≡ moved_since setup before
-    (if b then (if has_passed setup t first_word outcome then reported setup t second_word outcome else put_off
-    setup t first_word outcome) else outcome)) [
-      | false ↦ refl
-      | true ↦ elim (has_passed setup t first_word outcome) as (λ b. moved_since setup before outcome ≡ moved_since
-          setup before (if b then reported setup t second_word outcome else put_off setup t first_word outcome)) [
-            | false ↦ refl
-            | true ↦ sym (blocks_since setup.capacity setup.rate (reported_at setup t outcome) (length before.trace)
-                outcome.trace within)
-          ]
-    ]
+    of_check (λ (now : Outcome). moved_since setup before outcome ≡ moved_since setup before now) setup t first_word
+    second_word outcome refl refl
+    (sym (blocks_since setup.capacity setup.rate (reported_at setup t outcome) (length before.trace) outcome.trace
+    within))
 
 pub moves_tick : {s : State} (t first_word second_word : ℕ) (moved : Bool) → Moves s moved (λ setup. checked setup t) →
     Moves s moved (λ setup. after_tick setup t first_word second_word)
@@ -152,14 +146,5 @@ others_there {s} {w} is others others_is =
 pub leave_moves : (setup : Setup) (t word : ℕ) (outcome : Outcome) →
     has_others setup outcome ≡ others_moved_into setup outcome (left_at setup t word outcome)
 leave_moves setup t word outcome =
-    elim (is_unheard outcome) as (λ b. has_others setup outcome ≡ others_moved_into setup outcome
-    (if b then gone outcome else (if nat_le (member_count setup outcome) few_members then gone outcome else
-    backing_off outcome (backoff_from setup t word outcome)))) [
-      | true ↦ refl
-      | false ↦ elim (nat_le (member_count setup outcome) few_members) as (λ b. has_others setup outcome
-          ≡ others_moved_into setup outcome
-          (if b then gone outcome else backing_off outcome (backoff_from setup t word outcome))) [
-            | true ↦ refl
-            | false ↦ refl
-          ]
-    ]
+    of_leave (λ (life : Life). has_others setup outcome ≡ others_moved_into setup outcome life) setup t word outcome
+    refl refl

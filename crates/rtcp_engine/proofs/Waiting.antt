@@ -1,15 +1,16 @@
 -- A participant that is asked late enough sends.
-use Rattle.std.proofs.Common.{◌≡◌, ℕ, ◌+◌, ◌^◌, ◌<◌, ◌≤◌, ◌&&◌, ◌==◌, nat_lt, nat_le, max, Bool, true, false, IsTrue, is_some, List, [], ◌∷◌, length, map, filter, not, Option, Some, None, option_map, Ok, Err, if◌then◌else◌, refl, sym, arith, subst, inl, inr}
-use Rattle.std.proofs.lemmas.Bool.{cases_lt, lt-ltb, le-ltb, le-leb}
+use Rattle.std.proofs.Common.{◌≡◌, ℕ, ◌+◌, ◌^◌, ◌<◌, ◌≤◌, ◌&&◌, ◌==◌, nat_lt, nat_le, max, Bool, true, false, IsTrue, is_some, List, [], ◌∷◌, map, filter, not, Option, Some, None, option_map, Ok, Err, if◌then◌else◌, refl, sym, arith, subst, inl, inr}
+use Rattle.std.proofs.lemmas.Bool.{cases_lt, cond_both, lt-ltb, le-ltb, le-leb}
 use Rattle.rtcp_clock.specs.Intervals.{drawn_interval, longest_draw}
 use Rattle.rtcp_clock.proofs.LawLemmas.{draw_within_bounds, longest_never_falls}
+use Rattle.rtcp_wire.specs.declared.fact.Fact.{Fact}
 use Rattle.rtcp_wire.specs.declared.fact.Fact.TheVariants.{Heard}
 use Rattle.rtcp_wire.specs.RtpHeads.{RtpValue}
 use Rattle.rtcp_members.specs.Traces.{TraceStep, fact_came, with_facts}
 use Rattle.rtcp_members.specs.Entries.{counted_at, members_at}
 use Rattle.rtcp_members.proofs.LawLemmas.{facts_keep_members}
 use Rattle.rtcp_timer.specs.Loads.{interval_of}
-use Rattle.rtcp_timer.specs.Schedules.{Happening, Timing, tried, IsDue, IsInOrder, newest_transmission, greatest_draw, schedule_at}
+use Rattle.rtcp_timer.specs.Schedules.{Happening, Timing, IsDue, IsInOrder, newest_transmission, greatest_draw, schedule_at}
 use Rattle.rtcp_timer.specs.Departures.{members_known, last_departure}
 use Rattle.rtcp_timer.proofs.LawLemmas.{due_in_time}
 use Rattle.rtcp_engine.specs.Setups.{Setup, IsUsable}
@@ -24,11 +25,12 @@ use Rattle.rtcp_engine.specs.Histories.{History, last_moment, life_at, session_o
 use Rattle.rtcp_engine.specs.Refusals.{refusal_after}
 use Rattle.rtcp_engine.specs.Reporting.{bye_octets, report_octets}
 use Rattle.rtcp_engine.specs.Taken.{HasWords, AllTaken, IsHistory}
-use Rattle.rtcp_engine.specs.Leaving.{Backoff, Farewell, Life, present, backing_off, gone, after_wait, backoff_from, bye_count, few_members, is_bye_due, is_unheard, leaving_count, leaving_interval, leaving_load, leaving_timing}
+use Rattle.rtcp_engine.specs.Leaving.{Backoff, Life, present, backing_off, gone, after_wait, after_waiting_tick, left_at, bye_count, is_bye_due, leaving_interval, leaving_load, leaving_timing}
 use Rattle.rtcp_engine.specs.Lives.{lived, bye_out, out_by, report_out, with_new_ssrc}
 use Rattle.rtcp_engine.specs.Sent.{Sent, interval_by, reports_in, sent_at}
 use Rattle.rtcp_engine.specs.Spacing.{first_leave, newest_moment}
 use Rattle.rtcp_engine.specs.InTime.{AllInTime, HasWaited, IsInTime, greatest_by, greatest_interval, is_fall, last_fall}
+use Rattle.rtcp_engine.proofs.LifeLemmas.{of_leave, of_wait}
 use Rattle.rtcp_engine.proofs.Sending.{AreUpTo, KeepsApart, in_time, session_keeps_apart}
 
 -- ---- Draws
@@ -67,21 +69,17 @@ csrcs_keep capacity rate moment (ssrc ∷ ssrcs) trace =
           (fact_came (Heard ssrc) moment ∷ trace),
     )
 
-csrcs_keep_if : (capacity rate moment : ℕ) (counted : Bool) (ssrcs : List ℕ) (trace : List TraceStep)
-    → members_at capacity rate trace ≤ members_at capacity rate
-    (with_facts (if counted then map Heard ssrcs else []) moment trace)
-csrcs_keep_if capacity rate moment true ssrcs trace = csrcs_keep capacity rate moment ssrcs trace
-csrcs_keep_if capacity rate moment false ssrcs trace = omega arith
-
 -- An RTP packet that came never lowers the members.
 media_keeps : (setup : Setup) (moment : ℕ) (head : RtpValue) (outcome : Outcome) →
     member_count setup outcome ≤ member_count setup (with_media setup moment head outcome)
 media_keeps setup moment head outcome =
     let media = media_fact head in
     let kept = facts_keep_members setup.capacity setup.rate outcome.trace media moment refl in
-    let others = csrcs_keep_if setup.capacity setup.rate moment
-    (counted_at setup.capacity setup.rate outcome.trace media)
-    (filter (λ ssrc. not (ssrc == setup.ssrc)) head.csrcs) (fact_came media moment ∷ outcome.trace) in
+    let csrcs = filter (λ ssrc. not (ssrc == setup.ssrc)) head.csrcs in
+    let now = fact_came media moment ∷ outcome.trace in
+    let others = cond_both (counted_at setup.capacity setup.rate outcome.trace media) (map Heard csrcs) []
+    (λ (facts : List Fact). members_at setup.capacity setup.rate now ≤ members_at setup.capacity setup.rate
+    (with_facts facts moment now)) (λ _. csrcs_keep setup.capacity setup.rate moment csrcs now) (λ _. omega arith) in
     omega (arith, kept, others)
 
 -- ---- While the participant takes part
@@ -186,54 +184,28 @@ KeepsTime setup fall greatest t (present outcome) = Waits setup fall greatest t 
 KeepsTime setup fall greatest t (backing_off outcome backoff) = WaitsToLeave greatest backoff
 KeepsTime setup fall greatest t (gone outcome) = Unit {0}
 
-leaves_by : {setup : Setup} {fall greatest t : ℕ} {outcome : Outcome} →
-    (moment word new_fall : ℕ) (unheard few : Bool) → word < 2 ^ 32 → t ≤ moment → Waits setup fall greatest t outcome
-    → KeepsTime setup new_fall (interval_of (leaving_load setup 1 [])) moment
-    (if unheard then gone outcome else
-    (if few then gone outcome else backing_off outcome (backoff_from setup moment word outcome)))
-leaves_by {setup} {fall} {greatest} {t} {outcome} moment word new_fall true few fits order h = tt
-leaves_by {setup} {fall} {greatest} {t} {outcome} moment word new_fall false true fits order h = tt
-leaves_by {setup} {fall} {greatest} {t} {outcome} moment word new_fall false false fits order h = record {
-  fell = omega (arith, h.fell, h.past, order);
-  drawn = draw_fits (interval_of (leaving_load setup 1 [])) (interval_of (leaving_load setup 1 [])) word fits
-      (omega arith);
-}
+leaves_by : {setup : Setup} {fall greatest t : ℕ} {outcome : Outcome} → (moment word new_fall : ℕ) → word < 2 ^ 32 →
+    t ≤ moment → Waits setup fall greatest t outcome
+    → KeepsTime setup new_fall (interval_of (leaving_load setup 1 [])) moment (left_at setup moment word outcome)
+leaves_by {setup} {fall} {greatest} {t} {outcome} moment word new_fall fits order h =
+    let interval = interval_of (leaving_load setup 1 []) in
+    of_leave (KeepsTime setup new_fall interval moment) setup moment word outcome tt
+    (record {
+      fell = omega (arith, h.fell, h.past, order);
+      drawn = draw_fits interval interval word fits (omega arith);
+    })
 
-waits_on : {greatest : ℕ} → (setup : Setup) (moment word : ℕ) (backoff : Backoff) (come : Bool) → word < 2 ^ 32 →
-    WaitsToLeave greatest backoff
-    → WaitsToLeave (max (leaving_interval setup backoff) greatest)
-    (if come then record backoff {
-      happenings = tried moment (drawn_interval (leaving_interval setup backoff) word)
-          (leaving_count backoff) ∷ backoff.happenings;
-    } else backoff)
-waits_on {greatest} setup moment word backoff true fits h = record {
-  fell = h.fell;
-  drawn = drawn_too (leaving_interval setup backoff) greatest (greatest_draw backoff.happenings) word fits h.drawn;
-}
-waits_on {greatest} setup moment word backoff false fits h = record {
-  fell = h.fell;
-  drawn = still_drawn (leaving_interval setup backoff) greatest (greatest_draw backoff.happenings) h.drawn;
-}
-
-waiting_tick : {greatest : ℕ} → (setup : Setup) (fall moment word : ℕ) (outcome : Outcome) (backoff : Backoff)
-    (due : Bool) → word < 2 ^ 32 → WaitsToLeave greatest backoff
+waits_on : {greatest : ℕ} → (setup : Setup) (fall moment word : ℕ) (outcome : Outcome) (backoff : Backoff) →
+    word < 2 ^ 32 → WaitsToLeave greatest backoff
     → KeepsTime setup fall (max (leaving_interval setup backoff) greatest) moment
-    (if due then gone outcome else backing_off outcome (after_wait setup moment word backoff))
-waiting_tick {greatest} setup fall moment word outcome backoff true fits h = tt
-waiting_tick {greatest} setup fall moment word outcome backoff false fits h = waits_on setup moment word backoff
-    (nat_le (leaving_timing backoff).next moment) fits h
-
-hears : {greatest : ℕ} → (none : Bool) (backoff : Backoff) (farewells : List Farewell) → WaitsToLeave greatest backoff →
-    WaitsToLeave greatest (if none then backoff else record backoff { farewells = farewells })
-hears {greatest} true backoff farewells h = h
-hears {greatest} false backoff farewells h = record { fell = h.fell; drawn = h.drawn }
-
-hears_own : {greatest : ℕ} → (setup : Setup) (heard : Bool) (backoff : Backoff) → WaitsToLeave greatest backoff
-    → WaitsToLeave greatest (if heard then record
-    backoff { farewells = record { byes = 0; size = length (bye_octets setup) } ∷ backoff.farewells } else
-    backoff)
-hears_own {greatest} setup true backoff h = record { fell = h.fell; drawn = h.drawn }
-hears_own {greatest} setup false backoff h = h
+    (after_waiting_tick setup moment word outcome backoff)
+waits_on {greatest} setup fall moment word outcome backoff fits h =
+    let interval = leaving_interval setup backoff in
+    let most = greatest_draw backoff.happenings in
+    of_wait (KeepsTime setup fall (max interval greatest) moment) setup moment word outcome backoff tt
+    (cond_both (nat_le (leaving_timing backoff).next moment) _ backoff (WaitsToLeave (max interval greatest))
+    (λ _. record { fell = h.fell; drawn = drawn_too interval greatest most word fits h.drawn })
+    (λ _. record { fell = h.fell; drawn = still_drawn interval greatest most h.drawn }))
 
 -- ---- Acts
 
@@ -269,20 +241,21 @@ while_present_waits setup fall greatest t (ticked moment first_word second_word)
     ticks_by moment first_word second_word now (has_come moment now) (has_passed setup moment first_word now) words.0
     words.1 (tick_checks setup fall greatest t moment first_word second_word outcome order h)
 while_present_waits setup fall greatest t (left moment word) outcome order words h =
-    leaves_by moment word _ (is_unheard outcome) (nat_le (member_count setup outcome) few_members) words order h
+    leaves_by moment word _ words order h
 
 while_backing_off_waits : (setup : Setup) (fall greatest t : ℕ) (act : Act) (outcome : Outcome) (backoff : Backoff) →
     HasWords act → WaitsToLeave greatest backoff
     → KeepsTime setup fall (greatest_by setup act (backing_off outcome backoff) greatest) (moment_of act)
     (lived setup act (backing_off outcome backoff))
 while_backing_off_waits setup fall greatest t (arrived moment peer drawn (rtcp size (Ok packets))) outcome backoff words
-    h = hears (bye_count packets == 0) backoff _ h
+    h = cond_both (bye_count packets == 0) backoff _ (WaitsToLeave greatest) (λ _. h)
+    (λ _. record { fell = h.fell; drawn = h.drawn })
 while_backing_off_waits setup fall greatest t (arrived moment peer drawn (rtcp size (Err fault))) outcome backoff words
     h = h
 while_backing_off_waits setup fall greatest t (arrived moment peer drawn (rtp reading)) outcome backoff words h = h
 while_backing_off_waits setup fall greatest t (rtp_sent moment timestamp octets) outcome backoff words h = h
 while_backing_off_waits setup fall greatest t (ticked moment first_word second_word) outcome backoff words h =
-    waiting_tick setup fall moment first_word outcome backoff (is_bye_due setup moment first_word backoff) words.0 h
+    waits_on setup fall moment first_word outcome backoff words.0 h
 while_backing_off_waits setup fall greatest t (left moment word) outcome backoff words h = h
 
 waits_after : (setup : Setup) (fall greatest t : ℕ) (act : Act) (life : Life) → t ≤ moment_of act → HasWords act →
@@ -302,7 +275,9 @@ name_keeps_time : (setup : Setup) (fall greatest t : ℕ) (life : Life) → Keep
     KeepsTime setup fall greatest t (with_new_ssrc setup life)
 name_keeps_time setup fall greatest t (present outcome) h =
     record { known = h.known; fell = h.fell; drawn = h.drawn; past = h.past }
-name_keeps_time setup fall greatest t (backing_off outcome backoff) h = hears_own setup (has_sent outcome.own) backoff h
+name_keeps_time setup fall greatest t (backing_off outcome backoff) h =
+    cond_both (has_sent outcome.own) _ backoff (WaitsToLeave greatest) (λ _. record { fell = h.fell; drawn = h.drawn })
+    (λ _. h)
 name_keeps_time setup fall greatest t (gone outcome) h = tt
 
 keeps_with_ssrc : (setup : Setup) (ssrc fall greatest t : ℕ) (life : Life) → KeepsTime setup fall greatest t life →
