@@ -1,6 +1,7 @@
 -- What is known of each load of a history: whose bandwidths it has, that senders are members, and how small its average
 -- is.
 use Rattle.std.proofs.Common.{◌≡◌, ℕ, ◌+◌, ◌*◌, ◌≤◌, Bool, true, false, List, [], ◌∷◌, length, All, Option, Some, None, Ok, Err, nat_le, if◌then◌else◌, refl, sym, ap, arith, subst}
+use Rattle.std.proofs.lemmas.Bool.{cond_both}
 use Rattle.std.proofs.lemmas.List.{length-append}
 use Rattle.std.proofs.lemmas.List.Concat.{flat_map-append}
 use Rattle.std.proofs.lemmas.List.Elements.{All-nil, All-cons, All-head, All-tail}
@@ -26,7 +27,7 @@ use Rattle.rtcp_engine.specs.OwnStreams.{has_sent, we_sent}
 use Rattle.rtcp_engine.specs.Outcomes.{Outcome, first_size_of, load_of, member_count, one_if}
 use Rattle.rtcp_engine.specs.Ticks.{checked, after_tick, has_come, has_passed, put_off, reported}
 use Rattle.rtcp_engine.specs.Arrivals.{with_datagram}
-use Rattle.rtcp_engine.specs.Leaving.{Backoff, Life, present, backing_off, gone, after_wait, backoff_from, few_members, is_bye_due, is_unheard}
+use Rattle.rtcp_engine.specs.Leaving.{Life, present, backing_off, gone, few_members, is_bye_due, is_unheard}
 use Rattle.rtcp_engine.specs.Lives.{lived, with_new_ssrc}
 use Rattle.rtcp_engine.specs.Changes.{NewIdentifier, Session, change_by, changed_by}
 use Rattle.rtcp_engine.specs.Reporting.{bye_octets, report_octets, reporter_at, reported_at, extra_item}
@@ -163,11 +164,6 @@ AreLargeIn least (present outcome) = AreLarge least outcome
 AreLargeIn least (backing_off outcome backoff) = Unit {0}
 AreLargeIn least (gone outcome) = Unit {0}
 
-either : (least : ℕ) (test : Bool) (one other : Outcome) → AreLarge least one → AreLarge least other →
-    AreLarge least (if test then one else other)
-either least true one other h k = h
-either least false one other h k = k
-
 one_more : (least size : ℕ) (sizes : List ℕ) → IsLarge least size → All (IsLarge least) sizes →
     All (IsLarge least) (size ∷ sizes)
 one_more least size sizes large h = All-cons (IsLarge least) size sizes large h
@@ -178,11 +174,12 @@ ticked_large : (least : ℕ) (setup : Setup) (t first_word second_word : ℕ) (o
 ticked_large least setup t first_word second_word outcome own h =
     let now = checked setup t outcome in
     let report = report_is_large setup t now in
-    either least (has_come t now) (if has_passed setup t first_word now then reported setup t second_word now else
-    put_off setup t first_word now) now
-    (either least (has_passed setup t first_word now) (reported setup t second_word now)
-    (put_off setup t first_word now)
-    (one_more least (length (report_octets setup t now)) outcome.sizes (omega (arith, own, report)) h) h) h
+    cond_both (has_come t now) (if has_passed setup t first_word now then reported setup t second_word now else
+    put_off setup t first_word now) now (AreLarge least)
+    (λ _. cond_both (has_passed setup t first_word now) (reported setup t second_word now)
+    (put_off setup t first_word now) (AreLarge least)
+    (λ _. one_more least (length (report_octets setup t now)) outcome.sizes (omega (arith, own, report)) h) (λ _. h))
+    (λ _. h)
 
 arrived_large : (least : ℕ) (setup : Setup) (moment peer word : ℕ) (datagram : Datagram) (outcome : Outcome) →
     HasSize least (arrived moment peer word datagram) → AreLarge least outcome
@@ -193,17 +190,6 @@ arrived_large least setup moment peer word (rtcp size (Err fault)) outcome large
 arrived_large least setup moment peer word (rtp (Ok head)) outcome large h = h
 arrived_large least setup moment peer word (rtp (Err fault)) outcome large h = h
 
-left_large : (least : ℕ) (unheard few : Bool) (outcome : Outcome) (backoff : Backoff) →
-    AreLargeIn least (if unheard then gone outcome else (if few then gone outcome else backing_off outcome backoff))
-left_large least true few outcome backoff = tt
-left_large least false true outcome backoff = tt
-left_large least false false outcome backoff = tt
-
-waited_large : (least : ℕ) (due : Bool) (outcome : Outcome) (backoff : Backoff) →
-    AreLargeIn least (if due then gone outcome else backing_off outcome backoff)
-waited_large least true outcome backoff = tt
-waited_large least false outcome backoff = tt
-
 lived_large : (least : ℕ) (setup : Setup) (act : Act) (life : Life) → IsLarge least (first_size_of setup) →
     HasSize least act → AreLargeIn least life → AreLargeIn least (lived setup act life)
 lived_large least setup (arrived moment peer word datagram) (present outcome) own large h =
@@ -212,25 +198,23 @@ lived_large least setup (rtp_sent moment timestamp octets) (present outcome) own
 lived_large least setup (ticked moment first_word second_word) (present outcome) own large h =
     ticked_large least setup moment first_word second_word outcome own h
 lived_large least setup (left moment word) (present outcome) own large h =
-    left_large least (is_unheard outcome) (nat_le (member_count setup outcome) few_members) outcome
-    (backoff_from setup moment word outcome)
+    cond_both (is_unheard outcome) (gone outcome) _ (AreLargeIn least) (λ _. tt)
+    (λ _. cond_both (nat_le (member_count setup outcome) few_members) (gone outcome) _ (AreLargeIn least) (λ _. tt)
+    (λ _. tt))
 lived_large least setup (arrived moment peer word (rtcp size reading)) (backing_off outcome backoff) own large h = tt
 lived_large least setup (arrived moment peer word (rtp reading)) (backing_off outcome backoff) own large h = tt
 lived_large least setup (rtp_sent moment timestamp octets) (backing_off outcome backoff) own large h = tt
 lived_large least setup (ticked moment first_word second_word) (backing_off outcome backoff) own large h =
-    waited_large least (is_bye_due setup moment first_word backoff) outcome (after_wait setup moment first_word backoff)
+    cond_both (is_bye_due setup moment first_word backoff) (gone outcome) _ (AreLargeIn least) (λ _. tt) (λ _. tt)
 lived_large least setup (left moment word) (backing_off outcome backoff) own large h = tt
 lived_large least setup act (gone outcome) own large h = tt
 
 renamed_large : (least : ℕ) (setup : Setup) (life : Life) → IsLarge least (first_size_of setup) →
     AreLargeIn least life → AreLargeIn least (with_new_ssrc setup life)
-renamed_large least setup (present outcome) own h = by (has_sent outcome.own)
-  where
-    by : (heard : Bool) → All (IsLarge least)
-        (if heard then length (bye_octets setup) ∷ outcome.sizes else outcome.sizes)
-    by true = (let bye = bye_is_large setup in one_more least (length (bye_octets setup)) outcome.sizes
-        (omega (arith, own, bye)) h)
-    by false = h
+renamed_large least setup (present outcome) own h =
+    let bye = bye_is_large setup in
+    cond_both (has_sent outcome.own) _ outcome.sizes (All (IsLarge least))
+    (λ _. one_more least (length (bye_octets setup)) outcome.sizes (omega (arith, own, bye)) h) (λ _. h)
 renamed_large least setup (backing_off outcome backoff) own h = tt
 renamed_large least setup (gone outcome) own h = tt
 
