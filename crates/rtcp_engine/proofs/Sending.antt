@@ -1,6 +1,6 @@
 -- What a participant sends keeps its distances and its limit, whatever it is told.
 use Rattle.std.proofs.Common.{◌≡◌, ℕ, ◌+◌, ◌^◌, ◌<◌, ◌≤◌, ◌&&◌, ◌==◌, ◌⊎◌, inl, inr, nat_lt, nat_le, Bool, true, false, is_some, List, [], ◌∷◌, ◌++◌, length, All, Option, Some, None, option_map, Ok, Err, if◌then◌else◌, refl, sym, ap, ◌∙◌, arith, subst}
-use Rattle.std.proofs.lemmas.Bool.{leb-true, and_parts, ltb-false}
+use Rattle.std.proofs.lemmas.Bool.{leb-true, and_parts, cond_both, ltb-false}
 use Rattle.std.proofs.lemmas.Option.{slice_get_cases}
 use Rattle.std.specs.List.{slice_get}
 use Rattle.std.specs.Option.{option_or}
@@ -27,7 +27,7 @@ use Rattle.rtcp_engine.specs.Histories.{History, last_moment, session_of}
 use Rattle.rtcp_engine.specs.Refusals.{refusal_after}
 use Rattle.rtcp_engine.specs.Steps.{OutValue}
 use Rattle.rtcp_engine.specs.Taken.{HasWords, AllTaken}
-use Rattle.rtcp_engine.specs.Leaving.{Farewell, Backoff, Life, present, backing_off, gone, backoff_from, bye_count, few_members, is_bye_due, is_unheard, after_wait, leaving_count, leaving_interval, leaving_load, leaving_timing}
+use Rattle.rtcp_engine.specs.Leaving.{Backoff, Life, present, backing_off, gone, backoff_from, bye_count, few_members, is_bye_due, is_unheard, after_wait, leaving_count, leaving_interval, leaving_load, leaving_timing}
 use Rattle.rtcp_engine.specs.Lives.{while_present, while_backing_off, lived, bye_out, out_by, own_bye, report_out, with_new_ssrc}
 use Rattle.rtcp_engine.specs.Sent.{Sent, interval_by, is_report, reports_in, sent_by, sent_over, sent_with}
 use Rattle.rtcp_engine.specs.Spacing.{HalfPasses, newest_moment, leave_moment, first_leave, IsLate}
@@ -327,25 +327,12 @@ waits {limit} {t} {leave} {backoff} {sent} act new h since up_to newest = record
   kept = h.kept;
 }
 
-hears : {limit t : ℕ} {leave : Option ℕ} {backoff : Backoff} {sent : List Sent} →
-    (act : Act) (none : Bool) (farewells : List Farewell) → t ≤ moment_of act → BacksOff limit t leave backoff sent
-    → BacksOff limit (moment_of act) (option_or leave (leave_moment act))
-    (if none then backoff else record backoff { farewells = farewells }) sent
-hears {limit} {t} {leave} {backoff} {sent} act true farewells order h = waits act backoff h refl
-    (later (moment_of act) order h.up_to) refl
-hears {limit} {t} {leave} {backoff} {sent} act false farewells order h =
-    waits act (record backoff { farewells = farewells }) h refl (later (moment_of act) order h.up_to) refl
-
-waits_on : {limit t : ℕ} {leave : Option ℕ} {backoff : Backoff} {sent : List Sent} →
-    (act : Act) (come : Bool) (interval members : ℕ) → t ≤ moment_of act → BacksOff limit t leave backoff sent
-    → BacksOff limit (moment_of act) (option_or leave (leave_moment act))
-    (if come then record backoff { happenings = tried (moment_of act) interval members ∷ backoff.happenings } else
-    backoff) sent
-waits_on {limit} {t} {leave} {backoff} {sent} act true interval members order h =
-    waits act (record backoff { happenings = tried (moment_of act) interval members ∷ backoff.happenings }) h refl
-    (one_more (tried (moment_of act) interval members) order h.up_to) refl
-waits_on {limit} {t} {leave} {backoff} {sent} act false interval members order h = waits act backoff h refl
-    (later (moment_of act) order h.up_to) refl
+-- one of two that it may become
+waits_as : {limit t : ℕ} {leave : Option ℕ} {one other : Backoff} {sent : List Sent} → (test : Bool) →
+    BacksOff limit t leave one sent → BacksOff limit t leave other sent →
+    BacksOff limit t leave (if test then one else other) sent
+waits_as {limit} {t} {leave} {one} {other} {sent} test h k =
+    cond_both test one other (λ (backoff : Backoff). BacksOff limit t leave backoff sent) (λ _. h) (λ _. k)
 
 bye_by : (setup : Setup) (t : ℕ) (leave : Option ℕ) (act : Act) (word : ℕ) (outcome : Outcome) (backoff : Backoff)
     (sent : List Sent) (due : Bool) → IsUsable setup → t ≤ moment_of act → word < 2 ^ 32
@@ -371,20 +358,9 @@ bye_by setup t leave act word outcome backoff sent true usable order fits due h 
       h.kept,
     )
 bye_by setup t leave act word outcome backoff sent false usable order fits due h =
-    waits_on act (nat_le (leaving_timing backoff).next (moment_of act)) _ _ order h
-
--- the BYE of an identifier that is given up counts as one that was heard, of nobody
-farewell_by : (setup : Setup) (t moment : ℕ) (leave : Option ℕ) (heard : Bool) (outcome : Outcome) (backoff : Backoff)
-    (sent : List Sent) → t ≤ moment → BacksOff setup.limit t leave backoff sent
-    → BacksOff setup.limit moment leave
-    (if heard then record backoff {
-      farewells = record { byes = 0; size = length (bye_octets setup) }
-          ∷ backoff.farewells;
-    } else backoff) sent
-farewell_by setup t moment leave true outcome backoff sent order h =
-    record { up_to = later moment order h.up_to; newest = h.newest; left_then = h.left_then; kept = h.kept }
-farewell_by setup t moment leave false outcome backoff sent order h =
-    record { up_to = later moment order h.up_to; newest = h.newest; left_then = h.left_then; kept = h.kept }
+    waits_as (nat_le (leaving_timing backoff).next (moment_of act))
+    (waits act _ h refl (one_more (tried (moment_of act) _ _) order h.up_to) refl)
+    (waits act backoff h refl (later (moment_of act) order h.up_to) refl)
 
 still_backing_off : (setup : Setup) (t : ℕ) (leave : Option ℕ) (act : Act) (outcome : Outcome) (backoff : Backoff)
     (sent : List Sent) → IsUsable setup → t ≤ moment_of act → HasWords act → BacksOff setup.limit t leave backoff sent
@@ -392,7 +368,9 @@ still_backing_off : (setup : Setup) (t : ℕ) (leave : Option ℕ) (act : Act) (
     (while_backing_off setup act outcome backoff) (sent_alone setup act (backing_off outcome backoff) ++ sent)
 still_backing_off setup t leave (arrived moment peer drawn (rtcp size (Ok packets))) outcome backoff sent usable order
     words h =
-    hears (arrived moment peer drawn (rtcp size (Ok packets))) (bye_count packets == 0) _ order h
+    let act = arrived moment peer drawn (rtcp size (Ok packets)) in
+    let up_to = later moment order h.up_to in
+    waits_as (bye_count packets == 0) (waits act backoff h refl up_to refl) (waits act _ h refl up_to refl)
 still_backing_off setup t leave (arrived moment peer drawn (rtcp size (Err fault))) outcome backoff sent usable order
     words h =
     waits (arrived moment peer drawn (rtcp size (Err fault))) backoff h refl (later moment order h.up_to) refl
@@ -437,13 +415,11 @@ change_apart setup t moment leave (present outcome) sent usable order h = record
   kept = change_kept setup moment (has_sent outcome.own) sent usable h.kept;
 }
 change_apart setup t moment leave (backing_off outcome backoff) sent usable order h =
-    let waited = farewell_by setup t moment leave (has_sent outcome.own) outcome backoff sent order h in
-    record {
-      up_to = waited.up_to;
-      newest = waited.newest;
-      left_then = waited.left_then;
-      kept = change_kept setup moment (has_sent outcome.own) sent usable h.kept;
-    }
+    let up_to = later moment order h.up_to in
+    let kept = change_kept setup moment (has_sent outcome.own) sent usable h.kept in
+    waits_as (has_sent outcome.own)
+    (record { up_to = up_to; newest = h.newest; left_then = h.left_then; kept = kept })
+    (record { up_to = up_to; newest = h.newest; left_then = h.left_then; kept = kept })
 change_apart setup t moment leave (gone outcome) sent usable order h = h
 
 -- ---- Sessions
