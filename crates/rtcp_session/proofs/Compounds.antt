@@ -1,5 +1,5 @@
 -- All that a participant sends in a window, its BYEs included: at most nine compounds are no reports.
-use Rattle.std.proofs.Common.{◌≡◌, ℕ, suc, ◌+◌, ◌*◌, ◌≤◌, ◌&&◌, not, Bool, true, false, cond, List, [], ◌∷◌, length, filter, All, Option, refl, ap, arith}
+use Rattle.std.proofs.Common.{◌≡◌, ℕ, ◌+◌, ◌*◌, ◌≤◌, ◌&&◌, not, Bool, true, false, cond, List, [], ◌∷◌, length, filter, All, Option, refl, ap, arith}
 use Rattle.std.proofs.lemmas.List.Elements.{All-head, All-tail}
 use Rattle.std.proofs.lemmas.List.Sums.{sum_by-cons}
 use Rattle.rtcp_engine.specs.Taken.{IsHistory}
@@ -8,21 +8,9 @@ use Rattle.rtcp_engine.specs.Spacing.{first_leave, is_last_bye, is_change_bye, E
 use Rattle.rtcp_engine.proofs.LawLemmas.{sent_compounds_keep_apart}
 use Rattle.rtcp_session.specs.Windows.{Joined, is_inside, reports_within, compounds_within}
 use Rattle.rtcp_session.specs.Crowds.{total_reports, total_compounds}
+use Rattle.rtcp_session.proofs.Pacing.{more_if, filter_cons}
 
 -- ---- Kinds
-
--- how many of those after a compound there are, and it, where it counts
-abbrev more_if : Bool → ℕ → ℕ
-more_if counts n = cond counts (suc n) n
-
-one_more : (test : Sent → Bool) (sent : Sent) (earlier : List Sent) → length (filter test (sent ∷ earlier)) ≡ more_if
-    (test sent) (length (filter test earlier))
-one_more test sent earlier = by (test sent)
-  where
-    by : (counts : Bool) → length (cond counts (sent ∷ filter test earlier) (filter test earlier)) ≡ more_if counts
-        (length (filter test earlier))
-    by true = refl
-    by false = refl
 
 -- those in a window that are reports
 abbrev kept : (Sent → Bool) → List Sent → List Sent
@@ -34,7 +22,7 @@ one_report test sent earlier = by (is_report sent)
   where
     by : (reports : Bool) → length (filter test (cond reports (sent ∷ reports_in earlier) (reports_in earlier)))
         ≡ more_if (reports && test sent) (length (kept test earlier))
-    by true = one_more test sent (reports_in earlier)
+    by true = filter_cons test sent (reports_in earlier)
     by false = refl
 
 one_of_three : (inside reports changes : Bool) (all n last change : ℕ) → all ≤ n + last + change
@@ -53,10 +41,10 @@ three_kinds : (test : Sent → Bool) (sent : List Sent) → length (filter test 
     (filter is_last_bye sent) + length (filter is_change_bye sent)
 three_kinds test [] = omega arith
 three_kinds test (sent ∷ earlier) =
-    let all = one_more test sent earlier in
+    let all = filter_cons test sent earlier in
     let reports = one_report test sent earlier in
-    let last = one_more is_last_bye sent earlier in
-    let change = one_more is_change_bye sent earlier in
+    let last = filter_cons is_last_bye sent earlier in
+    let change = filter_cons is_change_bye sent earlier in
     let parts = one_of_three (test sent) (is_report sent) sent.changes (length (filter test earlier))
     (length (kept test earlier)) (length (filter is_last_bye earlier)) (length (filter is_change_bye earlier))
     (three_kinds test earlier) in
@@ -69,7 +57,7 @@ none_of (sent ∷ earlier) h =
     let rest = none_of earlier (All-tail P sent earlier h) in
     let here = ap (λ (counts : Bool). more_if counts (length (filter is_last_bye earlier)))
     (All-head P sent earlier h) in
-    let all = one_more is_last_bye sent earlier in
+    let all = filter_cons is_last_bye sent earlier in
     omega (arith, all, here, rest)
 
 at_most_one : (counts : Bool) (n : ℕ) → n ≡ 0 → more_if counts n ≤ 1
@@ -79,7 +67,7 @@ at_most_one false n h = omega (arith, h)
 one_last : (leave : Option ℕ) (sent : List Sent) → EndsWithBye leave sent → length (filter is_last_bye sent) ≤ 1
 one_last leave [] h = omega arith
 one_last leave (newest ∷ earlier) h =
-    let all = one_more is_last_bye newest earlier in
+    let all = filter_cons is_last_bye newest earlier in
     let most = at_most_one (is_last_bye newest) (length (filter is_last_bye earlier)) (none_of earlier h.0) in
     omega (arith, all, most)
 

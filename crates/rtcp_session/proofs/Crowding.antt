@@ -5,7 +5,7 @@ use Rattle.std.proofs.Math.Nat.{mul-le-mul, mul-le-mul_left, mul-le-mul_right, l
 use Rattle.std.proofs.lemmas.Bool.{cases_lt, leb-false}
 use Rattle.std.proofs.lemmas.Nat.{le-div}
 use Rattle.std.proofs.lemmas.List.Elements.{All-head, All-tail}
-use Rattle.std.proofs.lemmas.List.Sums.{sum_by-cons, sum_by-le}
+use Rattle.std.proofs.lemmas.List.Sums.{count_by-le-length, length-filter, sum_by-cons, sum_by-le}
 use Rattle.rtcp_timer.specs.declared.load.Load.{Load}
 use Rattle.rtcp_timer.specs.Averages.{with_headers}
 use Rattle.rtcp_timer.specs.Loads.{Sharers, the_senders, the_others, everyone, count_of, bandwidth_of, interval_of}
@@ -15,7 +15,7 @@ use Rattle.rtcp_session.specs.Windows.{Decided, load_at, Joined, reports_within,
 use Rattle.rtcp_session.specs.Crowds.{total_reports, total_octets, total_compounds, Paced, IsPaced, later_as, total_as, those_as, Terms, CountsMost, TakesPart, IsCrowd, carried_in}
 use Rattle.rtcp_session.proofs.Deciding.{IsOfLoad, each_later, later_intervals}
 use Rattle.rtcp_session.proofs.Loads.{IsLoadOf, loads_of_setup, averages_of_sizes}
-use Rattle.rtcp_session.proofs.Pacing.{spans_of, spans_fit, counted_up, few_within, one_and_later}
+use Rattle.rtcp_session.proofs.Pacing.{more_if, filter_cons, spans_of, spans_fit, counted_up, few_within, one_and_later}
 use Rattle.rtcp_session.proofs.Sharing.{each_as, interval_of_others, roles_are, sent_so, spans_fit_as}
 use Rattle.rtcp_session.proofs.Compounds.{nine_more_each}
 
@@ -67,16 +67,6 @@ some_of part c b room joined n total h rest false is = none (length (part joined
     none zero few rest = subst (λ (t : ℕ). 100000 * c * t ≤ n * (b * room)) (none_more total) rest
     none (suc m) few rest = absurd (omega (arith, few))
 
-kept_length : (part : Joined → List Decided) (joined : Joined) (others : List Joined) →
-    length (filter (has_some part) (joined ∷ others)) ≡ cond (has_some part joined)
-    (suc (length (filter (has_some part) others))) (length (filter (has_some part) others))
-kept_length part joined others = by (has_some part joined)
-  where
-    by : (some : Bool) → length (cond some (joined ∷ filter (has_some part) others) (filter (has_some part) others))
-        ≡ cond some (suc (length (filter (has_some part) others))) (length (filter (has_some part) others))
-    by true = refl
-    by false = refl
-
 -- as many times what is carried as there are who have some
 group : (part : Joined → List Decided) (c b room : ℕ) (all : List Joined) → All (Carries part c b room) all
     → 100000 * c * sum_by (λ joined. length (part joined)) all ≤ length (filter (has_some part) all) * (b * room)
@@ -86,7 +76,7 @@ group part c b room (joined ∷ others) h =
     let total = sum_by-cons (λ (joined : Joined). length (part joined)) joined others in
     subst (λ (n : ℕ). 100000 * c * n ≤ length (filter (has_some part) (joined ∷ others)) * (b * room)) (sym total)
     (subst (λ (n : ℕ). 100000 * c * (length (part joined) + sum_by (λ (joined : Joined). length (part joined)) others)
-    ≤ n * (b * room)) (sym (kept_length part joined others))
+    ≤ n * (b * room)) (sym (filter_cons (has_some part) joined others))
     (some_of part c b room joined (length (filter (has_some part) others))
     (sum_by (λ (joined : Joined). length (part joined)) others) (All-head (Carries part c b room) joined others h)
     rest (has_some part joined) refl))
@@ -94,41 +84,16 @@ group part c b room (joined ∷ others) h =
 none_some : (part : Joined → List Decided) (all : List Joined) → length (filter (has_some part) all) ≡ 0 →
     sum_by (λ joined. length (part joined)) all ≡ 0
 none_some part [] h = refl
-none_some part (joined ∷ others) h = by (has_some part joined) refl (none_some part others)
-  where
-    total : sum_by (λ joined. length (part joined)) (joined ∷ others) ≡ length (part joined) + sum_by
-        (λ joined. length (part joined)) others
-    total = sum_by-cons (λ (joined : Joined). length (part joined)) joined others
-
-    by : (some : Bool) → has_some part joined ≡ some →
-        (length (filter (has_some part) others) ≡ 0 → sum_by (λ joined. length (part joined)) others ≡ 0)
-        → sum_by (λ joined. length (part joined)) (joined ∷ others) ≡ 0
-    by true is later =
-        let kept : length (filter (has_some part) (joined ∷ others)) ≡ suc (length (filter (has_some part) others)) =
-        subst (λ (some : Bool). length (filter (has_some part) (joined ∷ others)) ≡ cond some
-        (suc (length (filter (has_some part) others))) (length (filter (has_some part) others))) is
-        (kept_length part joined others) in
-        absurd (omega (arith, kept, h))
-    by false is later =
-        let kept : length (filter (has_some part) (joined ∷ others)) ≡ length (filter (has_some part) others) =
-        subst (λ (some : Bool). length (filter (has_some part) (joined ∷ others)) ≡ cond some
-        (suc (length (filter (has_some part) others))) (length (filter (has_some part) others))) is
-        (kept_length part joined others) in
-        let none = later (omega (arith, kept, h)) in
-        let few = leb-false 1 (length (part joined)) is in
-        let all = total in
-        omega (arith, none, few, all)
-
-few_some : (part : Joined → List Decided) (all : List Joined) → length (filter (has_some part) all) ≤ length all
-few_some part [] = omega arith
-few_some part (joined ∷ others) = by (has_some part joined) (kept_length part joined others) (few_some part others)
-  where
-    by : (some : Bool) → length (filter (has_some part) (joined ∷ others)) ≡ cond some
-        (suc (length (filter (has_some part) others))) (length (filter (has_some part) others))
-        → length (filter (has_some part) others) ≤ length others → length (filter (has_some part) (joined ∷ others))
-        ≤ suc (length others)
-    by true kept few = omega (arith, kept, few)
-    by false kept few = omega (arith, kept, few)
+none_some part (joined ∷ others) h =
+    let total = sum_by-cons (λ (joined : Joined). length (part joined)) joined others in
+    elim (has_some part joined) as (λ b. has_some part joined ≡ b →
+    more_if b (length (filter (has_some part) others)) ≡ 0 →
+    sum_by (λ joined. length (part joined)) (joined ∷ others) ≡ 0) [
+      | true ↦ λ is none. absurd (omega (arith, none))
+      | false ↦ λ is none.
+          let few = leb-false 1 (length (part joined)) is in
+          omega (arith, total, few, none_some part others none)
+    ] refl (sym (filter_cons (has_some part) joined others) ∙ h)
 
 -- where each carries a compound from each of those who have some
 of_those : (part : Joined → List Decided) (size b room : ℕ) (all : List Joined)
@@ -164,7 +129,9 @@ of_everyone : (part : Joined → List Decided) (size b room : ℕ) (all : List J
 of_everyone part size b room [] h = omega arith
 of_everyone part size b room (joined ∷ others) h =
     let grouped = group part (1000000 * suc (length others) * size) b room (joined ∷ others) h in
-    let few = few_some part (joined ∷ others) in
+    let all = joined ∷ others in
+    let few : length (filter (has_some part) all) ≤ length all =
+    omega (arith, length-filter (has_some part) all, count_by-le-length (has_some part) all) in
     cancel (length others) (sum_by (λ (joined : Joined). length (part joined)) (joined ∷ others))
     (length (filter (has_some part) (joined ∷ others))) few grouped
   where

@@ -98,6 +98,16 @@ spans_fit joined from width is =
 
 -- ---- Counts
 
+-- how many come after one that may count, and it, if it does
+abbrev pub more_if : (counts : Bool) → ℕ → ℕ
+more_if counts n = cond counts (suc n) n
+
+pub filter_cons : {A : Type 0} (test : A → Bool) (newest : A) (earlier : List A) →
+    length (filter test (newest ∷ earlier)) ≡ more_if (test newest) (length (filter test earlier))
+filter_cons {A} test newest earlier =
+    elim (test newest) as (λ b. length (cond b (newest ∷ filter test earlier) (filter test earlier))
+    ≡ more_if b (length (filter test earlier))) [ true ↦ refl | false ↦ refl ]
+
 one_fewer : {A : Type 0} (all : List A) → length all ≤ 1 + length (later_ones all)
 one_fewer {A} [] = omega arith
 one_fewer {A} (newest ∷ []) = omega arith
@@ -189,31 +199,18 @@ own_few history from width least is some h =
 abbrev is_long : (least : ℕ) → Sent → Bool
 is_long least report = nat_le least report.interval
 
--- as many of them as there are after a report, and it, if it is one
-abbrev one_if_long : (long : Bool) → ℕ → ℕ
-one_if_long long n = cond long (suc n) n
-
-long_cons : (least : ℕ) (report : Sent) (earlier : List Sent) → length (filter (is_long least) (report ∷ earlier))
-    ≡ one_if_long (is_long least report) (length (filter (is_long least) earlier))
-long_cons least report earlier = by (is_long least report)
-  where
-    by : (long : Bool) → length (cond long (report ∷ filter (is_long least) earlier) (filter (is_long least) earlier))
-        ≡ one_if_long long (length (filter (is_long least) earlier))
-    by true = refl
-    by false = refl
-
 long_fit : (least : ℕ) (reports : List Sent) → least * length (filter (is_long least) reports) ≤ intervals_of reports
 long_fit least [] = omega arith
 long_fit least (report ∷ earlier) =
     let sum = sum_by-cons (λ (sent : Sent). sent.interval) report earlier in
-    subst (λ (n : ℕ). least * n ≤ intervals_of (report ∷ earlier)) (sym (long_cons least report earlier))
-    (subst (λ (n : ℕ). least * one_if_long (is_long least report) (length (filter (is_long least) earlier)) ≤ n)
+    subst (λ (n : ℕ). least * n ≤ intervals_of (report ∷ earlier)) (sym (filter_cons (is_long least) report earlier))
+    (subst (λ (n : ℕ). least * more_if (is_long least report) (length (filter (is_long least) earlier)) ≤ n)
     (sym sum)
     (by (is_long least report) refl (length (filter (is_long least) earlier)) (intervals_of earlier)
     (long_fit least earlier)))
   where
     by : (long : Bool) → is_long least report ≡ long → (n total : ℕ) → least * n ≤ total →
-        least * one_if_long long n ≤ report.interval + total
+        least * more_if long n ≤ report.interval + total
     by true is n total rest = (let enough = leb-true least report.interval is in omega (arith, enough, rest))
     by false is n total rest = omega (arith, rest)
 
@@ -221,21 +218,21 @@ long_later : (least : ℕ) (reports : List Sent) → length (filter (is_long lea
     (filter (is_long least) (later_ones reports))
 long_later least [] = omega arith
 long_later least (report ∷ []) =
-    let cons = long_cons least report [] in
+    let cons = filter_cons (is_long least) report [] in
     let most = by (is_long least report) in
     omega (arith, cons, most)
   where
-    by : (long : Bool) → one_if_long long 0 ≤ 1
+    by : (long : Bool) → more_if long 0 ≤ 1
     by true = omega arith
     by false = omega arith
 long_later least (report ∷ before ∷ earlier) =
-    let all = long_cons least report (before ∷ earlier) in
-    let later = long_cons least report (later_ones (before ∷ earlier)) in
+    let all = filter_cons (is_long least) report (before ∷ earlier) in
+    let later = filter_cons (is_long least) report (later_ones (before ∷ earlier)) in
     let more = by (is_long least report) (length (filter (is_long least) (before ∷ earlier)))
     (length (filter (is_long least) (later_ones (before ∷ earlier)))) (long_later least (before ∷ earlier)) in
     omega (arith, all, later, more)
   where
-    by : (long : Bool) (n m : ℕ) → n ≤ 1 + m → one_if_long long n ≤ 1 + one_if_long long m
+    by : (long : Bool) (n m : ℕ) → n ≤ 1 + m → more_if long n ≤ 1 + more_if long m
     by true n m h = omega (arith, h)
     by false n m h = h
 

@@ -1,9 +1,10 @@
 -- What the reports of a window leave to others: their intervals bound how many they are, and what they weigh.
-use Rattle.std.proofs.Common.{◌≡◌, ℕ, suc, ◌+◌, ◌-◌, ◌*◌, ◌≤◌, not, Bool, true, false, cond, List, [], ◌∷◌, length, filter, get_or, All, max, refl, sym, arith, subst}
+use Rattle.std.proofs.Common.{◌≡◌, ℕ, suc, ◌+◌, ◌-◌, ◌*◌, ◌≤◌, not, Bool, true, false, List, [], ◌∷◌, length, filter, get_or, All, max, refl, sym, arith, subst}
 use Rattle.std.specs.List.{sum_by}
 use Rattle.std.proofs.Math.Nat.{le_trans, mul-le-mul_left, mul-le-mul_right}
 use Rattle.std.proofs.lemmas.Grind.{div_ceil_times}
 use Rattle.std.proofs.lemmas.List.Elements.{All-head, All-tail, All-filter, filter_passes}
+use Rattle.std.proofs.lemmas.List.Filters.{length-filter_both, sum_by-filter_both}
 use Rattle.std.proofs.lemmas.List.Sums.{sum_by-cons}
 use Rattle.rtcp_timer.specs.declared.load.Load.{Load}
 use Rattle.rtcp_timer.specs.Loads.{interval_for, interval_of, minimum_of}
@@ -17,39 +18,11 @@ use Rattle.rtcp_session.proofs.Pacing.{spans_of, spans_fit}
 
 -- ---- Roles
 
--- A sum is that over those that pass a test and that over those that do not.
-split : {A : Type 0} (size : A → ℕ) (test : A → Bool) (all : List A) →
-    sum_by size all ≡ sum_by size (filter test all) + sum_by size (filter (λ x. not (test x)) all)
-split {A} size test [] = refl
-split {A} size test (newest ∷ earlier) =
-    subst (λ (n : ℕ). n ≡ sum_by size (filter test (newest ∷ earlier)) + sum_by size
-    (filter (λ x. not (test x)) (newest ∷ earlier))) (sym (sum_by-cons size newest earlier))
-    (by (test newest) (split size test earlier))
-  where
-    by : (passes : Bool) → sum_by size earlier ≡ sum_by size (filter test earlier) + sum_by size
-        (filter (λ x. not (test x)) earlier)
-        → size newest + sum_by size earlier
-        ≡ sum_by size (cond passes (newest ∷ filter test earlier) (filter test earlier))
-        + sum_by size (cond (not passes) (newest ∷ filter (λ x. not (test x)) earlier)
-        (filter (λ x. not (test x)) earlier))
-    by true rest = (let cons = sum_by-cons size newest (filter test earlier) in omega (arith, rest, cons))
-    by false rest = (let cons = sum_by-cons size newest (filter (λ (x : A). not (test x)) earlier) in
-        omega (arith, rest, cons))
-
-split_length : {A : Type 0} (test : A → Bool) (all : List A) →
-    length all ≡ length (filter test all) + length (filter (λ x. not (test x)) all)
-split_length {A} test [] = refl
-split_length {A} test (newest ∷ earlier) = by (test newest) (split_length test earlier)
-  where
-    by : (passes : Bool) → length earlier ≡ length (filter test earlier) + length (filter (λ x. not (test x)) earlier)
-        → suc (length earlier) ≡ length (cond passes (newest ∷ filter test earlier) (filter test earlier))
-        + length (cond (not passes) (newest ∷ filter (λ x. not (test x)) earlier) (filter (λ x. not (test x)) earlier))
-    by true rest = omega (arith, rest)
-    by false rest = omega (arith, rest)
-
 pub roles_are : (from width : ℕ) (joined : Joined) → length (later_within from width joined) ≡ length
     (later_as true from width joined) + length (later_as false from width joined)
-roles_are from width joined = split_length (λ decided. (load_at decided).we_sent) (later_within from width joined)
+roles_are from width joined =
+    let sends = λ (decided : Decided). (load_at decided).we_sent in
+    sym (length-filter_both sends (λ decided. not (sends decided)) (λ decided. refl) (later_within from width joined))
 
 -- What holds of each later report holds of those of a role.
 pub each_as : (P : Decided → Type 0) (sender : Bool) (from width : ℕ) (joined : Joined) →
@@ -80,8 +53,10 @@ spans_fit_as sender from width joined is = by sender
   where
     both : spans_of (later_within from width joined) ≡ spans_of (later_as true from width joined) + spans_of
         (later_as false from width joined)
-    both = split (λ (decided : Decided). decided.report.interval) (λ (decided : Decided). (load_at decided).we_sent)
-        (later_within from width joined)
+    both =
+        let sends = λ (decided : Decided). (load_at decided).we_sent in
+        sym (sum_by-filter_both sends (λ decided. not (sends decided)) (λ decided. refl)
+        (λ (decided : Decided). decided.report.interval) (later_within from width joined))
 
     fit : 100000 * spans_of (later_within from width joined) ≤ 2 * 121828 * width
     fit = spans_fit joined from width is
