@@ -1,8 +1,9 @@
 -- The number of changes, and that a new identifier is a new one.
 use Rattle.std.proofs.Common.{◌≡◌, ℕ, suc, zero, ◌+◌, ◌%◌, ◌^◌, ◌<◌, ◌≤◌, ◌&&◌, ◌||◌, ◌==◌, not, nat_lt, Bool, true, false, cond, List, [], ◌∷◌, ◌++◌, length, filter, is_some, option_map, Option, Some, None, if◌then◌else◌, refl, sym, ap, ◌∙◌, arith}
-use Rattle.std.proofs.lemmas.Bool.{and_parts, eqb-true, ltb-true, ne_eqb, or_right}
+use Rattle.std.proofs.lemmas.Bool.{and_parts, cond_both, eqb-true, ltb-true, ne_eqb}
 use Rattle.std.proofs.lemmas.List.{length-append, length-map}
-use Rattle.std.proofs.lemmas.Map.Made.{length-le_from_is_member}
+use Rattle.std.proofs.lemmas.Map.Made.{is_member-filter, length-le_from_is_member}
+use Rattle.std.proofs.lemmas.List.Folds.{list_any-append}
 use Rattle.std.proofs.lemmas.Cmp.{nat_eq_equiv}
 use Rattle.std.specs.Cmp.{IsEquivalence}
 use Rattle.std.specs.List.{AllByRecursion, IsDistinct, list_any}
@@ -52,29 +53,23 @@ may_if true true is none = refl
 may_if true false is none = absurd cc
 may_if false may is none = absurd cc
 
-few_if : (own : Bool) (new : NewIdentifier) (session : Session) → (own ≡ true → length session.changes < most_changes) →
-    length session.changes ≤ most_changes
-    → length (changed_by (if own then Some new else None) session).changes ≤ most_changes
-few_if true new session room few = omega (arith, room refl)
-few_if false new session room few = few
+-- a change is for a peer that may bring one
+may_by : (session : Session) (moment peer word : ℕ) (datagram : Datagram) →
+    refusal_of_datagram session (arrived moment peer word datagram) ≡ None →
+    is_about session.setup.ssrc datagram ≡ true → may_change (changing_peers session) peer ≡ true
+may_by session moment peer word datagram none own = may_if _ _ own (neither (fault_in datagram) _ none).1
 
 few_after : (session : Session) (act : Act) → refusal_of_datagram session act ≡ None →
     length session.changes ≤ most_changes → length (session_for session act).changes ≤ most_changes
-few_after session (arrived moment peer word datagram) none few = few_if own _ session room few
-  where
-    own : Bool
-    own = is_about session.setup.ssrc datagram
-
-    may : Bool
-    may = may_change (changing_peers session) peer
-
-    room : is_about session.setup.ssrc datagram ≡ true → length session.changes < most_changes
-    room is =
-        let allowed = may_if own may is (neither (fault_in datagram) (refusal_if (own && not may) OwnSsrc) none).1 in
-        let below = ltb-true (length (changing_peers session)) most_changes
-        (and_parts (not (is_among (changing_peers session) peer))
-        (nat_lt (length (changing_peers session)) most_changes) allowed).1 in
-        omega (arith, below, length-map session.changes (λ (change : Change). change.peer))
+few_after session (arrived moment peer word datagram) none few =
+    cond_both (is_about session.setup.ssrc datagram) (Some _) None
+    (λ (change : Option NewIdentifier). length (changed_by change session).changes ≤ most_changes)
+    (λ own.
+    let below = ltb-true (length (changing_peers session)) most_changes
+    (and_parts (not (is_among (changing_peers session) peer)) (nat_lt (length (changing_peers session)) most_changes)
+    (may_by session moment peer word datagram none own)).1 in
+    omega (arith, below, length-map session.changes (λ (change : Change). change.peer)))
+    (λ other. few)
 few_after session (rtp_sent moment timestamp octets) none few = few
 few_after session (ticked moment first_word second_word) none few = few
 few_after session (left moment word) none few = few
@@ -89,36 +84,21 @@ few_listed setup word (act ∷ earlier) taken =
 
 -- ---- A change for a peer
 
-allowed_is_other : (peers : List ℕ) (peer : ℕ) → may_change peers peer ≡ true → is_among peers peer ≡ false
-allowed_is_other peers peer allowed = by_test (is_among peers peer) refl
-  where
-    by_test : (b : Bool) → is_among peers peer ≡ b → is_among peers peer ≡ false
-    by_test false other = other
-    by_test true listed = absurd (false_is_true (sym (ap (λ (b : Bool). not b) listed)
-        ∙ (and_parts (not (is_among peers peer)) (nat_lt (length peers) most_changes) allowed).0))
-      where
-        false_is_true : false ≡ true → ⊥
-        false_is_true e = cc
-
-apart_if : (own : Bool) (new : NewIdentifier) (session : Session) →
-    (own ≡ true → is_among (changing_peers session) new.peer ≡ false) → AreApart (changing_peers session)
-    → AreApart (changing_peers (changed_by (if own then Some new else None) session))
-apart_if true new session other apart = (other refl, apart)
-apart_if false new session other apart = apart
+not_true : (b : Bool) → not b ≡ true → b ≡ false
+not_true true h = absurd cc
+not_true false h = refl
 
 apart_after : (session : Session) (act : Act) → refusal_of_datagram session act ≡ None →
     AreApart (changing_peers session) → AreApart (changing_peers (session_for session act))
-apart_after session (arrived moment peer word datagram) none apart = apart_if own _ session other apart
-  where
-    own : Bool
-    own = is_about session.setup.ssrc datagram
-
-    may : Bool
-    may = may_change (changing_peers session) peer
-
-    other : is_about session.setup.ssrc datagram ≡ true → is_among (changing_peers session) peer ≡ false
-    other is = allowed_is_other (changing_peers session) peer
-        (may_if own may is (neither (fault_in datagram) (refusal_if (own && not may) OwnSsrc) none).1)
+apart_after session (arrived moment peer word datagram) none apart =
+    let peers = changing_peers session in
+    cond_both (is_about session.setup.ssrc datagram) (Some _) None
+    (λ (change : Option NewIdentifier). AreApart (changing_peers (changed_by change session)))
+    (λ own.
+    let other = and_parts (not (is_among peers peer)) (nat_lt (length peers) most_changes)
+    (may_by session moment peer word datagram none own) in
+    (not_true (is_among peers peer) other.0, apart))
+    (λ other. apart)
 apart_after session (rtp_sent moment timestamp octets) none apart = apart
 apart_after session (ticked moment first_word second_word) none apart = apart
 apart_after session (left moment word) none apart = apart
@@ -301,52 +281,18 @@ few_taken session datagram few =
       few_held session.setup session.life,
     )
 
--- a number that is among some is among these and others
-among_left : (ones others : List ℕ) (number : ℕ) → is_among ones number ≡ true → is_among (ones ++ others) number ≡ true
-among_left [] others number is = absurd cc
-among_left (one ∷ ones) others number is = by_test (one == number) refl (among_left ones others number)
-  where
-    by_test : (b : Bool) → (one == number) ≡ b →
-        (is_among ones number ≡ true → is_among (ones ++ others) number ≡ true) →
-        ((one == number) || is_among (ones ++ others) number) ≡ true
-    by_test true same later = ap (λ (b : Bool). b || is_among (ones ++ others) number) same
-    by_test false apart later =
-        ap (λ (b : Bool). b || is_among (ones ++ others) number) apart
-        ∙ later (sym (ap (λ (b : Bool). b || is_among ones number) apart) ∙ is)
-
-among_right : (ones others : List ℕ) (number : ℕ) → is_among others number ≡ true →
-    is_among (ones ++ others) number ≡ true
-among_right [] others number is = is
-among_right (one ∷ ones) others number is = or_right (one == number) _ (among_right ones others number is)
+among_is_member : (numbers : List ℕ) (number : ℕ) → is_among numbers number ≡ is_member (λ (a b : ℕ). a == b) numbers
+    number
+among_is_member numbers number = λ i. list_any (λ (other : ℕ). number_equality.symm other number i) numbers
 
 held_is_among : (capacity : ℕ) (trace : List TraceStep) (named : List ℕ) (ssrc : ℕ) →
     is_some (stay_of capacity trace ssrc) ≡ true → is_among named ssrc ≡ true
     → is_among (filter (λ other. is_some (stay_of capacity trace other)) named) ssrc ≡ true
-held_is_among capacity trace [] ssrc there is = absurd cc
-held_is_among capacity trace (other ∷ others) ssrc there is = by_test (other == ssrc) refl
-    (held_is_among capacity trace others ssrc there)
-  where
-    rest : List ℕ
-    rest = filter (λ other. is_some (stay_of capacity trace other)) others
-
-    by_test : (b : Bool) → (other == ssrc) ≡ b →
-        (is_among others ssrc ≡ true → is_among (filter (λ other. is_some (stay_of capacity trace other)) others) ssrc
-        ≡ true)
-        → is_among (cond (is_some (stay_of capacity trace other))
-        (other ∷ filter (λ other. is_some (stay_of capacity trace other)) others)
-        (filter (λ other. is_some (stay_of capacity trace other)) others)) ssrc ≡ true
-    by_test true same later =
-        let kept : is_some (stay_of capacity trace other) ≡ true = ap (λ (s : ℕ). is_some (stay_of capacity trace s))
-        (eqb-true other ssrc same) ∙ there in
-        ap (λ (b : Bool). is_among (cond b (other ∷ rest) rest) ssrc) kept
-        ∙ ap (λ (b : Bool). b || is_among rest ssrc) same
-    by_test false apart later =
-        still (is_some (stay_of capacity trace other))
-        (later (sym (ap (λ (b : Bool). b || is_among others ssrc) apart) ∙ is))
-      where
-        still : (b : Bool) → is_among rest ssrc ≡ true → is_among (cond b (other ∷ rest) rest) ssrc ≡ true
-        still true is = or_right (other == ssrc) _ is
-        still false is = is
+held_is_among capacity trace named ssrc there is =
+    let held = λ (other : ℕ). is_some (stay_of capacity trace other) in
+    among_is_member (filter held named) ssrc
+    ∙ is_member-filter number_equality held ssrc (λ other same. ap held (eqb-true ssrc other same)) named
+    ∙ ap (λ (b : Bool). b && held ssrc) (sym (among_is_member named ssrc) ∙ is) ∙ there
 
 abbrev entry_is_stay : (capacity rate : ℕ) (trace : List TraceStep) (ssrc : ℕ) →
     is_some (entry_at capacity rate trace ssrc) ≡ is_some (stay_of capacity trace ssrc)
@@ -368,37 +314,23 @@ in_table_is_held setup (backing_off outcome backoff) ssrc is =
     (present_were_named_and_fit-named setup.capacity outcome.trace ssrc there)
 in_table_is_held setup (gone outcome) ssrc is = absurd cc
 
+one_instead : (a b c d : Bool) → (b ≡ true → c ≡ true) → (a || (b || d)) ≡ true → (a || (c || d)) ≡ true
+one_instead true b c d h is = refl
+one_instead false true c d h is = ap (λ (x : Bool). x || d) (h refl)
+one_instead false false true d h is = refl
+one_instead false false false d h is = is
+
 taken_is_among : (session : Session) (datagram : Datagram) (ssrc : ℕ) → is_taken session datagram ssrc ≡ true →
     is_among (those_taken session datagram) ssrc ≡ true
-taken_is_among session datagram ssrc is = by_own (is_among own ssrc) refl
-  where
-    own : List ℕ
-    own = identifiers session
-
-    held : List ℕ
-    held = held_in session.setup session.life
-
-    others : List ℕ
-    others = named_by datagram
-
-    table : Bool
-    table = is_in_table session.setup session.life ssrc
-
-    by_table : (b : Bool) → is_in_table session.setup session.life ssrc ≡ b →
-        (is_in_table session.setup session.life ssrc || is_among (named_by datagram) ssrc) ≡ true →
-        is_among (held_in session.setup session.life ++ named_by datagram) ssrc ≡ true
-    by_table true there either = among_left held others ssrc (in_table_is_held session.setup session.life ssrc there)
-    by_table false absent either = among_right held others ssrc
-        (sym (ap (λ (b : Bool). b || is_among others ssrc) absent) ∙ either)
-
-    by_own : (b : Bool) → is_among (identifiers session) ssrc ≡ b → is_among (those_taken session datagram) ssrc ≡ true
-    by_own true ours = among_left own (held ++ others) ssrc ours
-    by_own false other = among_right own (held ++ others) ssrc
-        (by_table table refl (sym (ap (λ (b : Bool). b || (table || is_among others ssrc)) other) ∙ is))
-
-among_is_member : (numbers : List ℕ) (number : ℕ) → is_among numbers number ≡ is_member (λ (a b : ℕ). a == b) numbers
-    number
-among_is_member numbers number = λ i. list_any (λ (other : ℕ). number_equality.symm other number i) numbers
+taken_is_among session datagram ssrc is =
+    let own = identifiers session in
+    let held = held_in session.setup session.life in
+    let named = named_by datagram in
+    let is_it = λ (other : ℕ). other == ssrc in
+    list_any-append is_it own (held ++ named)
+    ∙ ap (λ (b : Bool). is_among own ssrc || b) (list_any-append is_it held named)
+    ∙ one_instead (is_among own ssrc) (is_in_table session.setup session.life ssrc) (is_among held ssrc)
+    (is_among named ssrc) (in_table_is_held session.setup session.life ssrc) is
 
 -- A new identifier is none of the participant's, none of the table's, and none that the datagram names.
 new_in_session : (session : Session) (datagram : Datagram) (word : ℕ) → session.setup.capacity ≤ 1024 →
