@@ -1,9 +1,10 @@
 -- A setup is usable exactly where it is not refused.
-use Rattle.std.proofs.Common.{◌≡◌, ℕ, ◌^◌, ◌%◌, ◌==◌, ◌&&◌, Bool, true, false, not, List, [], ◌∷◌, length, All, Option, Some, None, if◌then◌else◌, nat_le, refl}
+use Rattle.std.proofs.Common.{◌≡◌, ℕ, ◌^◌, ◌%◌, ◌==◌, ◌&&◌, Bool, true, false, not, length, All, Option, Some, None, if◌then◌else◌, nat_le, refl}
 use Rattle.std.specs.List.{list_all}
 use Rattle.std.specs.Cmp.Derive.{both_true}
 use Rattle.std.proofs.lemmas.Bool.{leb-true, le-leb, eqb-true, eq-eqb, and_parts, false≢true}
-use Rattle.std.proofs.lemmas.List.Elements.{All-nil, All-cons, All-head, All-tail}
+use Rattle.std.proofs.lemmas.List.Elements.{All-weaker}
+use Rattle.std.proofs.lemmas.List.Sums.{AllPass-from_list_all, list_all-from_AllPass}
 use Rattle.rtcp_wire.specs.Values.{ItemValue}
 use Rattle.rtcp_engine.specs.declared.config.ConfigError.{ConfigError}
 use Rattle.rtcp_engine.specs.declared.config.ConfigError.TheVariants.{Cname, Capacity, Limit, Bandwidth, Rate, Item}
@@ -26,12 +27,6 @@ extra item h =
     let parts = and_parts (is_within 2 8 item.kind) (nat_le (length item.text) 255) h in
     (within 2 8 item.kind parts.0, leb-true (length item.text) 255 parts.1)
 
-all_extras : (items : List ItemValue) → list_all is_extra_item items ≡ true → All IsExtraItem items
-all_extras [] h = All-nil IsExtraItem
-all_extras (item ∷ items) h =
-    let parts = and_parts (is_extra_item item) (list_all is_extra_item items) h in
-    All-cons IsExtraItem item items (extra item parts.0) (all_extras items parts.1)
-
 pub usable_of_unrefused : (setup : Setup) → error_in setup ≡ None → IsUsable setup
 usable_of_unrefused setup h =
     let cname = passed (is_within 1 255 (length setup.cname)) Cname _ h in
@@ -52,7 +47,8 @@ usable_of_unrefused setup h =
       for_others = within 16 (2 ^ 30) setup.receiver_bw bandwidths.1;
       rate = within 1 (2 ^ 20) setup.rate rate.0;
       few_extras = leb-true (length setup.extras) 7 items.0;
-      extras = all_extras setup.extras items.1;
+      extras = All-weaker (λ (item : ItemValue). is_extra_item item ≡ true) IsExtraItem extra setup.extras
+          (AllPass-from_list_all is_extra_item setup.extras items.1);
     }
 
 -- ---- And the other way round
@@ -68,11 +64,6 @@ is_within_of least most number h = both_true (le-leb least number h.0) (le-leb n
 is_extra_of : (item : ItemValue) → IsExtraItem item → is_extra_item item ≡ true
 is_extra_of item h = both_true (is_within_of 2 8 item.kind h.0) (le-leb (length item.text) 255 h.1)
 
-are_extra_of : (items : List ItemValue) → All IsExtraItem items → list_all is_extra_item items ≡ true
-are_extra_of [] h = refl
-are_extra_of (item ∷ items) h = both_true (is_extra_of item (All-head IsExtraItem item items h))
-    (are_extra_of items (All-tail IsExtraItem item items h))
-
 pub unrefused_of_usable : (setup : Setup) → IsUsable setup → error_in setup ≡ None
 unrefused_of_usable setup h =
     passes (is_within 1 255 (length setup.cname)) Cname _ (is_within_of 1 255 (length setup.cname) h.cname)
@@ -84,4 +75,6 @@ unrefused_of_usable setup h =
     (is_within_of 16 (2 ^ 30) setup.receiver_bw h.for_others))
     (passes (is_within 1 (2 ^ 20) setup.rate) Rate _ (is_within_of 1 (2 ^ 20) setup.rate h.rate)
     (passes (are_extras setup.extras) Item None
-    (both_true (le-leb (length setup.extras) 7 h.few_extras) (are_extra_of setup.extras h.extras)) refl)))))
+    (both_true (le-leb (length setup.extras) 7 h.few_extras) (list_all-from_AllPass is_extra_item setup.extras
+    (All-weaker IsExtraItem (λ (item : ItemValue). is_extra_item item ≡ true) is_extra_of setup.extras h.extras)))
+    refl)))))
