@@ -1,5 +1,5 @@
 -- The changes between two listings, source by source.
-use Rattle.std.proofs.Common.{◌≡◌, ◌<◌, ◌≤◌, ◌+◌, ◌==◌, ◌&&◌, ◌++◌, ℕ, suc, nat_lt, not, Bool, true, false, cond, List, [], ◌∷◌, length, filter, map, Option, Some, None, option_map, unwrap_or, inl, inr, arith, refl, sym, ap, subst, ◌∙◌}
+use Rattle.std.proofs.Common.{◌≡◌, ◌<◌, ◌≤◌, ◌+◌, ◌==◌, ◌&&◌, ◌++◌, ℕ, suc, nat_lt, not, Bool, true, false, cond, List, [], ◌∷◌, length, filter, map, Option, Some, None, option_map, unwrap_or, ◌⊎◌, inl, inr, arith, refl, sym, ap, subst, ◌∙◌}
 use Rattle.std.proofs.lemmas.Bool.{and_parts, cases_lt}
 use Rattle.std.proofs.lemmas.Bool.Decides.{nat_tests}
 use Rattle.rtcp_engine.specs.declared.differences.change.Role.{Role}
@@ -246,6 +246,14 @@ module _ (n : ℕ) (ns ms : List ℕ) (ns_above : AllFrom (suc n) ns) (ms_above 
   second_head : (xs ys : List ℕ) → xs ≡ ns → ys ≡ n ∷ ms → by_rising (xs ++ ys) ≡ n ∷ by_rising (ns ++ ms)
   second_head xs ys a b = (λ i. by_rising (a i ++ b i)) ∙ least_comes_first n ns ms ns_above ms_above
 
+  heads : (xs ys : List ℕ) → (xs ≡ n ∷ ns) ⊎ (xs ≡ ns) → (ys ≡ n ∷ ms) ⊎ (ys ≡ ms) → (xs ≡ n ∷ ns) ⊎ (ys ≡ n ∷ ms) →
+      by_rising (xs ++ ys) ≡ n ∷ by_rising (ns ++ ms)
+  heads xs ys (inl a) (inl b) some = both_heads xs ys a b
+  heads xs ys (inl a) (inr b) some = first_head xs ys a b
+  heads xs ys (inr a) (inl b) some = second_head xs ys a b
+  heads xs ys (inr a) (inr b) (inl c) = first_head xs ys c b
+  heads xs ys (inr a) (inr b) (inr c) = second_head xs ys a c
+
 others_from : (ssrc : ℕ) (listing : List ListedValue) → rises_from ssrc listing ≡ true →
     AllFrom (suc ssrc) (ssrcs (without_first listing ssrc))
 others_from ssrc listing e =
@@ -258,62 +266,52 @@ rises_here low ssrc source rest e above =
     let at : not (nat_lt source.ssrc ssrc) ≡ true = grind (arith, nat_tests, above) in
     (λ i. at i && rises_from (suc source.ssrc) rest) ∙ rises_rest low source rest e
 
+-- A listing has the SSRC first, or not at all.
+abbrev IsHead : (ssrc : ℕ) → List ListedValue → Type 0
+IsHead ssrc listing = ssrcs listing ≡ ssrc ∷ ssrcs (without_first listing ssrc)
+
+head_or_not : (ssrc : ℕ) (listing : List ListedValue) → rises_from ssrc listing ≡ true →
+    IsHead ssrc listing ⊎ (ssrcs listing ≡ ssrcs (without_first listing ssrc))
+head_or_not ssrc [] e = inr refl
+head_or_not ssrc (source ∷ rest) e =
+    let from : ssrc ≤ source.ssrc = rises_first ssrc source rest e in
+    elim (cases_lt ssrc source.ssrc) [
+      | inl less ↦ inr (head_not ssrc source rest less)
+      | inr until ↦ inl (head_is ssrc source rest (omega arith))
+    ]
+
+least_from : (ssrc : ℕ) (before after : List ListedValue) → rises_from ssrc before ≡ true →
+    rises_from ssrc after ≡ true → IsHead ssrc before ⊎ IsHead ssrc after → Least ssrc before after
+least_from ssrc before after b a some = record {
+  before_rises = b;
+  after_rises = a;
+  numbers = heads ssrc (ssrcs (without_first before ssrc)) (ssrcs (without_first after ssrc))
+      (others_from ssrc before b) (others_from ssrc after a) (ssrcs before) (ssrcs after) (head_or_not ssrc before b)
+      (head_or_not ssrc after a) some;
+}
+
 pub least_is : (ssrc : ℕ) (before after : List ListedValue) → rises_from 0 before ≡ true → rises_from 0 after ≡ true →
     least_first before after ≡ Some ssrc → Least ssrc before after
 least_is ssrc [] [] b a e = absurd cc
 least_is ssrc [] (new ∷ after) b a e =
     let same : new.ssrc ≡ ssrc = cc in
-    let rising : rises_from ssrc (new ∷ after) ≡ true = rises_here 0 ssrc new after a (omega arith) in
-    record {
-      before_rises = refl;
-      after_rises = rising;
-      numbers = second_head ssrc [] (ssrcs (without_first (new ∷ after) ssrc)) tt
-          (others_from ssrc (new ∷ after) rising) [] (ssrcs (new ∷ after)) refl (head_is ssrc new after same);
-    }
+    least_from ssrc [] (new ∷ after) refl (rises_here 0 ssrc new after a (omega arith))
+    (inr (head_is ssrc new after same))
 least_is ssrc (old ∷ before) [] b a e =
     let same : old.ssrc ≡ ssrc = cc in
-    let rising : rises_from ssrc (old ∷ before) ≡ true = rises_here 0 ssrc old before b (omega arith) in
-    record {
-      before_rises = rising;
-      after_rises = refl;
-      numbers = first_head ssrc (ssrcs (without_first (old ∷ before) ssrc)) [] (others_from ssrc (old ∷ before) rising)
-          tt (ssrcs (old ∷ before)) [] (head_is ssrc old before same) refl;
-    }
+    least_from ssrc (old ∷ before) [] (rises_here 0 ssrc old before b (omega arith)) refl
+    (inl (head_is ssrc old before same))
 least_is ssrc (old ∷ before) (new ∷ after) b a e =
     let least : (cond (nat_lt new.ssrc old.ssrc) new.ssrc old.ssrc) ≡ ssrc = cc in
-    elim (cases_lt new.ssrc old.ssrc) [
-      | inl less ↦
-          let test : nat_lt new.ssrc old.ssrc ≡ true = grind (arith, nat_tests, less) in
-          let same : new.ssrc ≡ ssrc = sym (λ i. cond (test i) new.ssrc old.ssrc) ∙ least in
-          let old_rises : rises_from ssrc (old ∷ before) ≡ true = rises_here 0 ssrc old before b (omega arith) in
-          let new_rises : rises_from ssrc (new ∷ after) ≡ true = rises_here 0 ssrc new after a (omega arith) in
-          record {
-            before_rises = old_rises;
-            after_rises = new_rises;
-            numbers = second_head ssrc (ssrcs (without_first (old ∷ before) ssrc))
-                (ssrcs (without_first (new ∷ after) ssrc)) (others_from ssrc (old ∷ before) old_rises)
-                (others_from ssrc (new ∷ after) new_rises) (ssrcs (old ∷ before)) (ssrcs (new ∷ after))
-                (head_not ssrc old before (omega arith)) (head_is ssrc new after same);
-          }
-      | inr until ↦
-          let test : nat_lt new.ssrc old.ssrc ≡ false = grind (arith, nat_tests, until) in
-          let same : old.ssrc ≡ ssrc = sym (λ i. cond (test i) new.ssrc old.ssrc) ∙ least in
-          let old_rises : rises_from ssrc (old ∷ before) ≡ true = rises_here 0 ssrc old before b (omega arith) in
-          let new_rises : rises_from ssrc (new ∷ after) ≡ true = rises_here 0 ssrc new after a (omega arith) in
-          let numbers : by_rising (ssrcs (old ∷ before) ++ ssrcs (new ∷ after)) ≡ ssrc ∷ by_rising
-          (ssrcs (without_first (old ∷ before) ssrc) ++ ssrcs (without_first (new ∷ after) ssrc)) =
-          elim (cases_lt old.ssrc new.ssrc) [
-            | inl below ↦ first_head ssrc (ssrcs (without_first (old ∷ before) ssrc))
-                (ssrcs (without_first (new ∷ after) ssrc)) (others_from ssrc (old ∷ before) old_rises)
-                (others_from ssrc (new ∷ after) new_rises) (ssrcs (old ∷ before)) (ssrcs (new ∷ after))
-                (head_is ssrc old before same) (head_not ssrc new after (omega arith))
-            | inr level ↦ both_heads ssrc (ssrcs (without_first (old ∷ before) ssrc))
-                (ssrcs (without_first (new ∷ after) ssrc)) (others_from ssrc (old ∷ before) old_rises)
-                (others_from ssrc (new ∷ after) new_rises) (ssrcs (old ∷ before)) (ssrcs (new ∷ after))
-                (head_is ssrc old before same) (head_is ssrc new after (omega arith))
-          ] in
-          record { before_rises = old_rises; after_rises = new_rises; numbers = numbers }
-    ]
+    let old_from : ssrc ≤ old.ssrc = grind (arith, nat_tests, least) in
+    let new_from : ssrc ≤ new.ssrc = grind (arith, nat_tests, least) in
+    least_from ssrc (old ∷ before) (new ∷ after) (rises_here 0 ssrc old before b old_from)
+    (rises_here 0 ssrc new after a new_from)
+    (elim (nat_lt new.ssrc old.ssrc) as (λ b. cond b new.ssrc old.ssrc ≡ ssrc →
+    IsHead ssrc (old ∷ before) ⊎ IsHead ssrc (new ∷ after)) [
+      | true ↦ λ same. inr (head_is ssrc new after same)
+      | false ↦ λ same. inl (head_is ssrc old before same)
+    ] least)
 
 pub none_left : (before after : List ListedValue) → least_first before after ≡ None → all_compared before after ≡ []
 none_left [] [] e = refl
