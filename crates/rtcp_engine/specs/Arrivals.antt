@@ -66,8 +66,7 @@ with_packet t timestamp octets outcome = record outcome { own = packet_sent t ti
 -- ---- Changes of identifier
 
 -- The BYE of the old identifier is a compound that was sent, if something was sent under that one. The counts of the
--- own
--- stream begin anew.
+-- own stream begin anew.
 abbrev pub with_change : Setup → Outcome → Outcome
 with_change setup outcome =
     record outcome {

@@ -1,6 +1,5 @@
 -- Changes of identifier (RFC 3550, 8.2): which datagrams bring one, which identifier is taken then, and what becomes of
--- the
--- session.
+-- the session.
 use Rattle.std.specs.Prelude.{ℕ, ◌+◌, ◌==◌, ◌||◌, Bool, false, List, [], ◌∷◌, length, map, is_some, if◌then◌else◌, Option, Some, None, Ok, Err}
 use Rattle.std.specs.List.{list_any}
 use Rattle.rtcp_wire.specs.Facts.{subject, facts_of}

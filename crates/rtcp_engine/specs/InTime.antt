@@ -69,8 +69,7 @@ greatest_interval setup word (act ∷ earlier) =
 -- ---- Overdue
 
 -- how long a tick may come after what it waits for, and bring nothing: the longest draw from the greatest interval,
--- that
--- of this tick included
+-- that of this tick included
 abbrev pub longest_wait : History → Act → ℕ
 longest_wait history act =
     longest_draw (max (interval_by (setup_at history) act (life_at history))

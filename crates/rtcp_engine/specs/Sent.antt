@@ -39,8 +39,7 @@ interval_by setup act (backing_off outcome backoff) = leaving_interval setup bac
 interval_by setup act (gone outcome) = 0
 
 -- The deterministic interval that decides whether an act brings a compound (RFC 3550, 6.3.6, 6.3.7): 0 where it changes
--- the
--- identifier.
+-- the identifier.
 abbrev pub deciding_interval : Session → Act → ℕ
 deciding_interval session act =
     if is_some (change_by session act) then 0 else interval_by session.setup act session.life

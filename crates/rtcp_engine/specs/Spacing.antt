@@ -75,8 +75,7 @@ HasFewChanges sent = length (filter is_change_bye sent) ≤ most_changes
 -- ---- The schedule
 
 -- The last transmission as a schedule knows it (tp) lies no sooner than what was sent last, and no later than the later
--- of
--- that and the last departure (RFC 3550, 6.3.4).
+-- of that and the last departure (RFC 3550, 6.3.4).
 abbrev pub LiesAfter : (sent : ℕ) → List Happening → Timing → Type 0
 LiesAfter sent happenings timing = IsBetween sent (max sent (last_departure happenings)) timing.last
 

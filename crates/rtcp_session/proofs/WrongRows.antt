@@ -1,6 +1,5 @@
 -- What would be wrong: each statement here is a law with a number moved or a part left out, and there is a session
--- where
--- it does not hold.
+-- where it does not hold.
 use Rattle.std.proofs.Common.{◌≡◌, ℕ, ◌+◌, ◌*◌, ◌/◌, ◌≤◌, List, [], ◌∷◌, length, map, All, true, false, Ok, None, refl, arith, nat_le, filter, inr, Result}
 use Rattle.std.specs.List.{sum_by, IsDistinct}
 use Rattle.std.proofs.lemmas.List.Elements.{All-nil, All-cons, All-head, All-map}

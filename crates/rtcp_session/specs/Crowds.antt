@@ -65,8 +65,7 @@ alike_in load = if load.we_sent then load.senders else load.members - load.sende
 -- ---- Shares
 
 -- The octets, in 1/256 octet, of one compound of average size from each of the members that a load counts as such that
--- do
--- not send.
+-- do not send.
 abbrev pub share_of_others : Load → ℕ
 share_of_others load = (load.members - load.senders) * load.avg
 
