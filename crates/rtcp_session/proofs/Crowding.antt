@@ -255,8 +255,8 @@ module _ (terms : Terms) (from width : ℕ) (all : List Joined) where
   some_sender load is = omega (arith, is.some, is.for_senders)
 
   -- while senders are few for their part of the bandwidth
-  in_role : (load : Load) → IsOf load → AreFew → (sends : Bool) → load.we_sent ≡ sends → OfRole sends (interval_of load)
-  in_role load is few true sends =
+  in_role : (load : Load) → IsOf load → AreFew → load.we_sent ≡ true → OfRole true (interval_of load)
+  in_role load is few sends =
       elim (sender_shares load is sends) [
         | inl h ↦ h
         | inr h ↦ carried_too p (S + R) (those true) S terms.size terms.times (interval_of load)
@@ -265,7 +265,6 @@ module _ (terms : Terms) (from width : ℕ) (all : List Joined) where
     where
       more : (s r : ℕ) → 1 ≤ s → 1 ≤ s + r
       more s r h = omega (arith, h)
-  in_role load is few false sends = (other_shares load is sends).0
 
   -- and while they are not
   in_all : (load : Load) → IsOf load → AreMany → (sends : Bool) → load.we_sent ≡ sends → OfAll (interval_of load)
@@ -301,16 +300,18 @@ module _ (terms : Terms) (from width : ℕ) (all : List Joined) where
         counts = counts;
       }
 
-  role_carries : AreFew → (sends : Bool) (joined : Joined) → TakesPart terms from width all joined →
+  -- what the loads of a role carry, its reports do
+  of_loads : (sends : Bool) →
+      ((load : Load) → IsOf load → load.we_sent ≡ sends → OfRole sends (interval_of load)) → (joined : Joined) →
+      TakesPart terms from width all joined →
       All (λ decided. OfRole sends decided.report.interval) (later_as sends from width joined)
-  role_carries few sends joined part =
+  of_loads sends carries joined part =
       let loads = each_as (λ (decided : Decided). IsOf (load_at decided)) sends from width joined
       (counted_loads joined part) in
       let intervals = each_as IsOfLoad sends from width joined (later_intervals from width joined) in
       let roles = sent_so sends from width joined in
       λ k d inside. subst (OfRole sends) (sym (intervals k d inside))
-      (in_role (load_at (get_or (later_as sends from width joined) k d)) (loads k d inside) few sends
-      (roles k d inside))
+      (carries (load_at (get_or (later_as sends from width joined) k d)) (loads k d inside) (roles k d inside))
 
   all_carry : AreMany → (joined : Joined) → TakesPart terms from width all joined →
       All (λ decided. OfAll decided.report.interval) (later_within from width joined)
@@ -345,18 +346,8 @@ module _ (terms : Terms) (from width : ℕ) (all : List Joined) where
       (spans_fit_as sends from width joined part.stands, carry joined part))
 
   others_fit : IsCrowd terms from width all → each * total_as false from width all ≤ terms.times * R * room
-  others_fit crowd = of_role false R carry crowd
-    where
-      carry : (joined : Joined) → TakesPart terms from width all joined →
-          All (λ decided. OfRole false decided.report.interval) (later_as false from width joined)
-      carry joined part =
-          let loads = each_as (λ (decided : Decided). IsOf (load_at decided)) false from width joined
-          (counted_loads joined part) in
-          let intervals = each_as IsOfLoad false from width joined (later_intervals from width joined) in
-          let roles = sent_so false from width joined in
-          λ k d inside. subst (OfRole false) (sym (intervals k d inside))
-          (other_shares (load_at (get_or (later_as false from width joined) k d)) (loads k d inside)
-          (roles k d inside)).0
+  others_fit crowd =
+      of_role false R (of_loads false (λ load is listens. (other_shares load is listens).0)) crowd
 
   later_roles : (list : List Joined) → sum_by (λ joined. length (later_within from width joined)) list ≡ total_as true
       from width list + total_as false from width list
@@ -371,7 +362,7 @@ module _ (terms : Terms) (from width : ℕ) (all : List Joined) where
 
   few_fit : AreFew → IsCrowd terms from width all → each * all_later ≤ terms.times * (room * (S + R))
   few_fit few crowd =
-      let senders = of_role true S (role_carries few true) crowd in
+      let senders = of_role true S (of_loads true (λ load is. in_role load is few)) crowd in
       let listeners = others_fit crowd in
       sum all_later (total_as true from width all) (total_as false from width all) each (later_roles all) senders
       listeners
