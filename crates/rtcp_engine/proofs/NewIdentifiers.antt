@@ -1,6 +1,6 @@
 -- The number of changes, and that a new identifier is a new one.
 use Rattle.std.proofs.Common.{◌≡◌, ℕ, suc, zero, ◌+◌, ◌%◌, ◌^◌, ◌<◌, ◌≤◌, ◌&&◌, ◌||◌, ◌==◌, not, nat_lt, Bool, true, false, cond, List, [], ◌∷◌, ◌++◌, length, filter, is_some, option_map, Option, Some, None, if◌then◌else◌, refl, sym, ap, ◌∙◌, arith}
-use Rattle.std.proofs.lemmas.Bool.{and_parts, cond_both, eqb-true, ltb-true, ne_eqb}
+use Rattle.std.proofs.lemmas.Bool.{and_parts, cond_both, false≢true, eqb-true, ltb-true, ne_eqb}
 use Rattle.std.proofs.lemmas.List.{length-append, length-map}
 use Rattle.std.proofs.lemmas.Map.Made.{is_member-filter, length-le_from_is_member}
 use Rattle.std.proofs.lemmas.List.Folds.{list_any-append}
@@ -116,30 +116,19 @@ abbrev listed : (changes : Bool) → ℕ
 listed changes = cond changes 1 0
 
 -- An act sends a BYE of an old identifier only where it is a change.
-one_more : (kept : Bool) (sent : Sent) (others : List Sent) →
-    length (cond kept (sent ∷ others) others) ≤ 1 + length others
-one_more true sent others = omega arith
-one_more false sent others = omega arith
-
-no_more : (kept : Bool) (sent : Sent) (others : List Sent) → kept ≡ false →
-    length (cond kept (sent ∷ others) others) ≤ 0 + length others
-no_more true sent others none = absurd cc
-no_more false sent others none = omega arith
-
-never_both : (b : Bool) → (b && false) ≡ false
-never_both true = refl
-never_both false = refl
-
 few_sent_with : (moment interval : ℕ) (changes : Bool) (out : Option OutValue) (sent : List Sent) →
     length (filter is_change_bye (sent_with moment interval changes out ++ sent)) ≤ listed changes + length
     (filter is_change_bye sent)
 few_sent_with moment interval changes None sent = omega arith
 few_sent_with moment interval true (Some out) sent =
-    let bye : Sent = record { moment = moment; interval = interval; out = out; changes = true } in
-    one_more (is_change_bye bye) bye (filter is_change_bye sent)
+    let others = filter is_change_bye sent in
+    cond_both (is_change_bye (record { moment = moment; interval = interval; out = out; changes = true })) _ others
+    (λ (all : List Sent). length all ≤ 1 + length others) (λ _. omega arith) (λ _. omega arith)
 few_sent_with moment interval false (Some out) sent =
+    let others = filter is_change_bye sent in
     let report : Sent = record { moment = moment; interval = interval; out = out; changes = false } in
-    no_more (is_change_bye report) report (filter is_change_bye sent) (never_both (not (is_report report)))
+    cond_both (is_change_bye report) (report ∷ others) others (λ (all : List Sent). length all ≤ 0 + length others)
+    (λ changes. absurd (false≢true (and_parts (not (is_report report)) false changes).1)) (λ _. omega arith)
 
 lists_by : (change : Option NewIdentifier) (session : Session) → listed (is_some change) + length session.changes
     ≡ length (changed_by change session).changes

@@ -15,8 +15,5 @@ returns-in-Gone-clause-new g c = acts_gone (sym (ap (λ (p : ParticipantValue). 
 
 pub returns-in-Present-clause-new : goal.returns-in-Present-clause-new
 returns-in-Present-clause-new g c =
-    let others = c.has_others-others_changed.result in
-    let there : HasOthers c.args.self.now.presence others =
-    subst (λ (p : ParticipantValue). HasOthers p.presence others) c.self.view_is
-    c.has_others-others_changed.ensures in
-    c.depart.ensures.new others there
+    c.depart.ensures.new _ (subst (λ (p : ParticipantValue). HasOthers p.presence c.has_others-others_changed.result)
+    c.self.view_is c.has_others-others_changed.ensures)
