@@ -1,7 +1,7 @@
 -- What a session comes to, call by call: the compounds, and the totals.
 use Rattle.std.proofs.Common.{◌≡◌, ℕ, zero, suc, ◌+◌, Bool, true, false, List, [], ◌∷◌, ◌++◌, Option, Some, None, Ok, Err, if◌then◌else◌, refl, sym, ap, ◌∙◌, subst, arith, append_assoc}
 use Rattle.rand_core.specs.Stream.{Stream, next_u32}
-use Rattle.rtcp_engine.specs.Acts.{Act, left as asked_to_leave, EventValue, leave_asked}
+use Rattle.rtcp_engine.specs.Acts.{Act, EventValue}
 use Rattle.rtcp_engine.specs.Histories.{History, life_at}
 use Rattle.rtcp_engine.specs.Lives.{next_in_life}
 use Rattle.rtcp_engine.specs.Steps.{OutValue, AnswerValue}
@@ -12,8 +12,8 @@ use Rattle.rtcp_serve.specs.declared.serving.Cause.TheVariants.{Done, LinkDown, 
 use Rattle.rtcp_serve.specs.declared.serving.tally.Tally.{Tally}
 use Rattle.rtcp_serve.specs.Sessions.{Comes}
 use Rattle.rtcp_serve.specs.Tallies.{is_limit, with_arrival, with_datagram, with_refused}
-use Rattle.rtcp_serve.specs.Links.{Call, LinkValue, Heard, how_many, is_datagram, is_failed_receive, is_failed_send, is_sent, datagram, silence, failure, clock_read, port_heard, compound_sent, telling}
-use Rattle.rtcp_serve.specs.Serving.{Reader, Stage, resting, beginning, hearing, deciding, sending, ended, Standing, at_stage, with_turns, with_tally, with_words, stage_to_send, stage_after_step, asked, arrived, event_at, arrival_at, after_port, heard_at, turn_by, rested, gone_on, left_with, going, ReadsClock, Hears, Sends, Fits, after_clock, after_sending, after_call, after_calls, AllFit, at_the_start}
+use Rattle.rtcp_serve.specs.Links.{Call, LinkValue, Heard, how_many, is_datagram, is_failed_receive, is_failed_send, is_sent, datagram, silence, failure, clock_read, port_heard, compound_sent, Telling}
+use Rattle.rtcp_serve.specs.Serving.{Reader, Stage, resting, beginning, hearing, deciding, sending, ended, Standing, at_stage, stage_to_send, stage_after_step, event_at, arrival_at, after_port, heard_at, told_act, turn_by, turn_or, after_turns, rested, gone_on, left_with, going, ReadsClock, Hears, Sends, Fits, after_clock, after_sending, after_call, after_calls, AllFit, at_the_start}
 use Rattle.rtcp_serve.specs.Handing.{act_in, acts_in, answers_given, answers_in, octets_of, handed_by, history_after, handed_out, given, given_in}
 
 -- ---- Compounds
@@ -30,19 +30,23 @@ pending (ended cause) = []
 
 -- The compounds that were handed out are those that the link was given, and the one that is to be sent next. What was
 -- told are the acts, and the answers.
-pub record Accounts (reader : Reader) (start : History) (s : Standing) (sent : List (List ℕ)) : Type 0 where
-  pub history : s.history ≡ history_after start s.told
-  pub handed : handed_out start s.told ≡ pending s.stage ++ sent
-  pub acts : acts_in reader s.tellings ≡ s.told
-  pub answers : answers_in s.tellings ≡ answers_given start s.told
+pub record Accounts (reader : Reader) (start reached : History) (told : List Act) (tellings : List Telling)
+    (stage : Stage) (sent : List (List ℕ)) : Type 0 where
+  pub history : reached ≡ history_after start told
+  pub handed : handed_out start told ≡ pending stage ++ sent
+  pub acts : acts_in reader tellings ≡ told
+  pub answers : answers_in tellings ≡ answers_given start told
+
+-- where a session stands: its counts, words and turns are nothing to it
+abbrev pub AccountsAt : Reader → History → Standing → (sent : List (List ℕ)) → Type 0
+AccountsAt reader start s sent = Accounts reader start s.history s.told s.tellings s.stage sent
 
 -- no compound is pending at a stage
 abbrev pub HasNone : Stage → Type 0
 HasNone stage = pending stage ≡ []
 
 restaged : (reader : Reader) (start : History) (s : Standing) (stage : Stage) (sent : List (List ℕ)) →
-    Accounts reader start s sent → HasNone s.stage → HasNone stage
-    → Accounts reader start (at_stage stage s) sent
+    AccountsAt reader start s sent → HasNone s.stage → HasNone stage → AccountsAt reader start (at_stage stage s) sent
 restaged reader start s stage sent accounts none now = record {
   history = accounts.history;
   handed = accounts.handed ∙ ap (λ p. p ++ sent) (none ∙ sym now);
@@ -51,22 +55,18 @@ restaged reader start s stage sent accounts none now = record {
 }
 
 -- An act is told, and what its answer hands out is pending.
-told_accounts : (reader : Reader) (start : History) (s t : Standing) (event : EventValue) (act : Act) (stage : Stage)
-    (sent : List (List ℕ)) → Accounts reader start s sent → HasNone s.stage
-    → t.history ≡ followed_by s.history act → t.told ≡ act ∷ s.told → t.stage ≡ stage →
-    pending stage ≡ handed_by (answer_of s.history act)
-    → t.tellings ≡ telling event (answer_of s.history act) ∷ s.tellings → act_in reader event ≡ act
-    → Accounts reader start t sent
-told_accounts reader start s t event act stage sent accounts none history told at same tells is = record {
-  history = history ∙ ap (λ h. followed_by h act) accounts.history ∙ ap (history_after start) (sym told);
-  handed = ap (handed_out start) told ∙ ap (λ h. handed_by (answer_of h act) ++ handed_out start s.told)
-      (sym accounts.history)
+told_accounts : (reader : Reader) (start : History) (event : EventValue) (act : Act) (stage : Stage) (s : Standing)
+    (sent : List (List ℕ)) → AccountsAt reader start s sent → HasNone s.stage →
+    pending stage ≡ handed_by (answer_of s.history act) → act_in reader event ≡ act →
+    AccountsAt reader start (at_stage stage (told_act event act s)) sent
+told_accounts reader start event act stage s sent accounts none same is = record {
+  history = ap (λ h. followed_by h act) accounts.history;
+  handed = ap (λ h. handed_by (answer_of h act) ++ handed_out start s.told) (sym accounts.history)
       ∙ ap (λ l. handed_by (answer_of s.history act) ++ l) (accounts.handed ∙ ap (λ p. p ++ sent) none)
-      ∙ ap (λ p. p ++ sent) (sym same ∙ ap pending (sym at));
-  acts = ap (acts_in reader) tells ∙ ap (λ a. a ∷ acts_in reader s.tellings) is ∙ ap (λ l. act ∷ l) accounts.acts
-      ∙ sym told;
-  answers = ap answers_in tells ∙ ap (λ l. answer_of s.history act ∷ l) accounts.answers
-      ∙ ap (λ h. answer_of h act ∷ answers_given start s.told) accounts.history ∙ ap (answers_given start) (sym told);
+      ∙ ap (λ p. p ++ sent) (sym same);
+  acts = ap (λ a. a ∷ acts_in reader s.tellings) is ∙ ap (λ l. act ∷ l) accounts.acts;
+  answers = ap (λ l. answer_of s.history act ∷ l) accounts.answers
+      ∙ ap (λ h. answer_of h act ∷ answers_given start s.told) accounts.history;
 }
 
 step_pends : (next : Stage) (changed : Option ℕ) (out : Option OutValue) → HasNone next →
@@ -89,44 +89,23 @@ answer_pends next refused (Err refusal) none refuses = refusal_pends refused (is
 none_at : (stage : Stage) (s : Standing) → s.stage ≡ stage → HasNone stage → HasNone s.stage
 none_at stage s is none = ap pending is ∙ none
 
-asked_accounts : (reader : Reader) (start : History) (refused : Stage) (event : EventValue) (act : Act) (s : Standing)
-    (sent : List (List ℕ)) → Accounts reader start s sent → HasNone s.stage
-    → HasNone refused → act_in reader event ≡ act → Accounts reader start (asked refused event act s) sent
-asked_accounts reader start refused event act s sent accounts none refuses is =
-    told_accounts reader start s (asked refused event act s) event act _ sent accounts none refl refl refl
-    (answer_pends resting refused (answer_of s.history act) refl refuses) refl is
-
-arrived_accounts : (reader : Reader) (start : History) (next : Stage) (event : EventValue) (act : Act) (s : Standing)
-    (sent : List (List ℕ)) → Accounts reader start s sent → HasNone s.stage
-    → HasNone next → act_in reader event ≡ act → Accounts reader start (arrived next event act s) sent
-arrived_accounts reader start next event act s sent accounts none comes is =
-    told_accounts reader start s (arrived next event act s) event act _ sent accounts none refl refl refl
-    (answer_pends next next (answer_of s.history act) comes comes) refl is
-
--- counts, words and turns change nothing of it
-counted_accounts : (reader : Reader) (start : History) (s t : Standing) (sent : List (List ℕ)) →
-    Accounts reader start s sent → t.history ≡ s.history → t.told ≡ s.told
-    → t.stage ≡ s.stage → t.tellings ≡ s.tellings → Accounts reader start t sent
-counted_accounts reader start s t sent accounts history told stage tells = record {
-  history = history ∙ accounts.history ∙ ap (history_after start) (sym told);
-  handed = ap (handed_out start) told ∙ accounts.handed ∙ ap (λ stage. pending stage ++ sent) (sym stage);
-  acts = ap (acts_in reader) tells ∙ accounts.acts ∙ sym told;
-  answers = ap answers_in tells ∙ accounts.answers ∙ ap (answers_given start) (sym told);
-}
+-- An act is told, and what its answer leads to comes next.
+answer_accounts : (reader : Reader) (start : History) (next refused : Stage) (event : EventValue) (act : Act)
+    (s : Standing) (sent : List (List ℕ)) → AccountsAt reader start s sent → HasNone s.stage → HasNone next →
+    HasNone refused → act_in reader event ≡ act →
+    AccountsAt reader start (at_stage (stage_to_send next refused (answer_of s.history act)) (told_act event act s)) sent
+answer_accounts reader start next refused event act s sent accounts none comes refuses is =
+    told_accounts reader start event act _ s sent accounts none
+    (answer_pends next refused (answer_of s.history act) comes refuses) is
 
 clock_accounts : (reader : Reader) (start : History) (moment : ℕ) (stage : Stage) (s : Standing)
-    (sent : List (List ℕ)) → s.stage ≡ stage → ReadsClock stage
-    → Accounts reader start s sent → Accounts reader start (after_clock moment stage s) sent
-clock_accounts reader start moment resting s sent is fits accounts = absurd fits
+    (sent : List (List ℕ)) → s.stage ≡ stage → ReadsClock stage →
+    AccountsAt reader start s sent → AccountsAt reader start (after_clock moment stage s) sent
 clock_accounts reader start moment beginning s sent is fits accounts =
-    restaged reader start (with_tally _ s) (hearing RtcpPort) sent
-    (counted_accounts reader start s _ sent accounts refl refl refl refl) (none_at beginning s is refl) refl
-clock_accounts reader start moment (hearing port) s sent is fits accounts = absurd fits
+    restaged reader start s (hearing RtcpPort) sent accounts (none_at beginning s is refl) refl
 clock_accounts reader start moment deciding s sent is fits accounts =
-    asked_accounts reader start resting _ _ _ sent (counted_accounts reader start s _ sent accounts refl refl refl refl)
-    (none_at deciding s is refl) refl refl
-clock_accounts reader start moment (sending out changed next) s sent is fits accounts = absurd fits
-clock_accounts reader start moment (ended cause) s sent is fits accounts = absurd fits
+    answer_accounts reader start resting resting _ _ s sent accounts (none_at deciding s is refl) refl refl refl
+clock_accounts reader start moment stage s sent is fits accounts = absurd fits
 
 failed_stage : (next : Stage) (last : Bool) → HasNone next → HasNone (if last then ended LinkDown else next)
 failed_stage next true none = refl
@@ -143,36 +122,24 @@ port_pends RtcpPort = refl
 port_pends RtpPort = refl
 
 heard_accounts : (reader : Reader) (start : History) (port : Port) (what : Heard) (s : Standing)
-    (sent : List (List ℕ)) → HasNone s.stage
-    → Accounts reader start s sent → Accounts reader start (heard_at reader port what s) sent
+    (sent : List (List ℕ)) → HasNone s.stage →
+    AccountsAt reader start s sent → AccountsAt reader start (heard_at reader port what s) sent
 heard_accounts reader start port (datagram peer octets) s sent none accounts =
-    arrived_accounts reader start (after_port port) _ _ _ sent
-    (counted_accounts reader start s _ sent accounts refl refl refl refl) none (port_pends port)
-    (arrival_reads reader port _ _ _ _)
+    answer_accounts reader start (after_port port) (after_port port) _ _ s sent accounts none (port_pends port)
+    (port_pends port) (arrival_reads reader port _ _ _ _)
 heard_accounts reader start port silence s sent none accounts =
-    restaged reader start _ (after_port port) sent (counted_accounts reader start s _ sent accounts refl refl refl refl)
-    none (port_pends port)
+    restaged reader start s (after_port port) sent accounts none (port_pends port)
 heard_accounts reader start port failure s sent none accounts =
-    restaged reader start _ _ sent (counted_accounts reader start s _ sent accounts refl refl refl refl) none
-    (failed_stage (after_port port) _ (port_pends port))
+    restaged reader start s _ sent accounts none (failed_stage (after_port port) _ (port_pends port))
 
 -- a port is listened to only where nothing is pending
 hears_none : (port : Port) (wait : ℕ) (stage : Stage) → Hears port wait stage → HasNone stage
-hears_none port wait resting fits = refl
-hears_none port wait beginning fits = refl
-hears_none port wait (hearing next) fits = refl
-hears_none port wait deciding fits = refl
 hears_none port wait (sending out changed next) fits = absurd fits
-hears_none port wait (ended cause) fits = refl
+hears_none port wait stage fits = refl
 
 sent_accounts : (reader : Reader) (start : History) (octets : List ℕ) (failed : Bool) (stage : Stage) (s : Standing)
-    (sent : List (List ℕ)) → s.stage ≡ stage
-    → Sends octets stage → Accounts reader start s sent → Accounts reader start (after_sending failed stage s)
-    (octets ∷ sent)
-sent_accounts reader start octets failed resting s sent is fits accounts = absurd fits
-sent_accounts reader start octets failed beginning s sent is fits accounts = absurd fits
-sent_accounts reader start octets failed (hearing port) s sent is fits accounts = absurd fits
-sent_accounts reader start octets failed deciding s sent is fits accounts = absurd fits
+    (sent : List (List ℕ)) → s.stage ≡ stage → Sends octets stage →
+    AccountsAt reader start s sent → AccountsAt reader start (after_sending failed stage s) (octets ∷ sent)
 sent_accounts reader start octets failed (sending out changed next) s sent is fits accounts = record {
   history = accounts.history;
   handed = accounts.handed ∙ ap (λ stage. pending stage ++ sent) is ∙ append_assoc (pending next) (out.octets ∷ []) sent
@@ -180,11 +147,11 @@ sent_accounts reader start octets failed (sending out changed next) s sent is fi
   acts = accounts.acts;
   answers = accounts.answers;
 }
-sent_accounts reader start octets failed (ended cause) s sent is fits accounts = absurd fits
+sent_accounts reader start octets failed stage s sent is fits accounts = absurd fits
 
 call_accounts : (reader : Reader) (start : History) (call : Call) (s : Standing) (sent : List (List ℕ)) →
-    Fits call s.stage
-    → Accounts reader start s sent → Accounts reader start (after_call reader call s) (given call ++ sent)
+    Fits call s.stage →
+    AccountsAt reader start s sent → AccountsAt reader start (after_call reader call s) (given call ++ sent)
 call_accounts reader start (clock_read moment) s sent fits accounts = clock_accounts reader start moment s.stage s sent
     refl fits accounts
 call_accounts reader start (port_heard port wait what) s sent fits accounts =
@@ -194,57 +161,49 @@ call_accounts reader start (compound_sent octets failed) s sent fits accounts = 
 
 -- ---- What comes next
 
-rested_accounts : (reader : Reader) (start : History) (next s : Standing) (stage : Stage) (sent : List (List ℕ)) →
-    (stage ≡ resting → Accounts reader start next sent)
-    → Accounts reader start s sent → Accounts reader start (rested next stage s) sent
-rested_accounts reader start next s resting sent comes accounts = comes refl
-rested_accounts reader start next s beginning sent comes accounts = accounts
-rested_accounts reader start next s (hearing port) sent comes accounts = accounts
-rested_accounts reader start next s deciding sent comes accounts = accounts
-rested_accounts reader start next s (sending out changed after) sent comes accounts = accounts
-rested_accounts reader start next s (ended cause) sent comes accounts = accounts
-
 turn_accounts : (reader : Reader) (start : History) (next : Option ℕ) (turns : ℕ) (otherwise s : Standing)
-    (sent : List (List ℕ)) → HasNone s.stage
-    → Accounts reader start otherwise sent → Accounts reader start s sent →
-    Accounts reader start (turn_by next turns otherwise s) sent
-turn_accounts reader start None turns otherwise s sent none last accounts = restaged reader start s (ended Done) sent
-    accounts none refl
+    (sent : List (List ℕ)) → HasNone s.stage → AccountsAt reader start otherwise sent →
+    AccountsAt reader start s sent → AccountsAt reader start (turn_by next turns otherwise s) sent
+turn_accounts reader start None turns otherwise s sent none last accounts =
+    restaged reader start s (ended Done) sent accounts none refl
 turn_accounts reader start (Some moment) zero otherwise s sent none last accounts = last
 turn_accounts reader start (Some moment) (suc turns) otherwise s sent none last accounts =
-    restaged reader start (with_turns turns s.leaving s) beginning sent
-    (counted_accounts reader start s _ sent accounts refl refl refl refl) none refl
+    restaged reader start s beginning sent accounts none refl
+
+-- where nothing is under way, a turn comes, or what comes otherwise
+rested_accounts : (reader : Reader) (start : History) (otherwise s : Standing) (stage : Stage) (sent : List (List ℕ)) →
+    s.stage ≡ stage → (HasNone s.stage → AccountsAt reader start otherwise sent) →
+    AccountsAt reader start s sent → AccountsAt reader start (rested (turn_or otherwise s) stage s) sent
+rested_accounts reader start otherwise s resting sent rests comes accounts =
+    turn_accounts reader start (next_in_life (life_at s.history)) s.turns otherwise s sent (ap pending rests)
+    (comes (ap pending rests)) accounts
+rested_accounts reader start otherwise s stage sent rests comes accounts = accounts
 
 gone_on_accounts : (reader : Reader) (start : History) (s : Standing) (sent : List (List ℕ)) →
-    Accounts reader start s sent → Accounts reader start (gone_on s) sent
-gone_on_accounts reader start s sent accounts = rested_accounts reader start _ s s.stage sent (λ rests.
-    turn_accounts reader start (next_in_life (life_at s.history)) s.turns _ s sent (none_at resting s rests refl)
-    (restaged reader start s (ended Done) sent accounts (none_at resting s rests refl) refl) accounts) accounts
+    AccountsAt reader start s sent → AccountsAt reader start (gone_on s) sent
+gone_on_accounts reader start s sent accounts = rested_accounts reader start (at_stage (ended Done) s) s s.stage sent
+    refl (λ none. restaged reader start s (ended Done) sent accounts none refl) accounts
 
 last_accounts : (reader : Reader) (start : History) (total : ℕ) (leaving : Bool) (s : Standing) (sent : List (List ℕ)) →
-    HasNone s.stage → Accounts reader start s sent
-    → Accounts reader start (if leaving then at_stage (ended Done) s else gone_on
+    HasNone s.stage → AccountsAt reader start s sent
+    → AccountsAt reader start (if leaving then at_stage (ended Done) s else gone_on
     (left_with total (next_u32 s.words) s)) sent
-last_accounts reader start total true s sent none accounts = restaged reader start s (ended Done) sent accounts none
-    refl
-last_accounts reader start total false s sent none accounts = gone_on_accounts reader start
-    (left_with total (next_u32 s.words) s) sent
-    (asked_accounts reader start (ended Done) (leave_asked s.tally.moment (next_u32 s.words).0)
-    (asked_to_leave s.tally.moment (next_u32 s.words).0)
-    (with_turns total true (with_words (next_u32 s.words).1 s)) sent
-    (counted_accounts reader start s _ sent accounts refl refl refl refl) none refl refl)
+last_accounts reader start total true s sent none accounts =
+    restaged reader start s (ended Done) sent accounts none refl
+last_accounts reader start total false s sent none accounts =
+    gone_on_accounts reader start (left_with total (next_u32 s.words) s) sent
+    (answer_accounts reader start resting (ended Done) _ _ s sent accounts none refl refl refl)
 
 going_accounts : (reader : Reader) (start : History) (total : ℕ) (s : Standing) (sent : List (List ℕ)) →
-    Accounts reader start s sent → Accounts reader start (going total s) sent
-going_accounts reader start total s sent accounts = rested_accounts reader start _ s s.stage sent (λ rests.
-    turn_accounts reader start (next_in_life (life_at s.history)) s.turns _ s sent (none_at resting s rests refl)
-    (last_accounts reader start total s.leaving s sent (none_at resting s rests refl) accounts) accounts) accounts
+    AccountsAt reader start s sent → AccountsAt reader start (going total s) sent
+going_accounts reader start total s sent accounts = rested_accounts reader start (after_turns total s) s s.stage sent
+    refl (λ none. last_accounts reader start total s.leaving s sent none accounts) accounts
 
 -- ---- Sessions
 
 pub session_accounts : (reader : Reader) (start : History) (words : Stream) (total : ℕ) (calls : List Call)
     → AllFit reader total (at_the_start start words total) calls
-    → Accounts reader start (after_calls reader total (at_the_start start words total) calls) (given_in calls)
+    → AccountsAt reader start (after_calls reader total (at_the_start start words total) calls) (given_in calls)
 session_accounts reader start words total [] fit = record { history = refl; handed = refl; acts = refl; answers = refl }
 session_accounts reader start words total (call ∷ earlier) (fit, fits) =
     call_accounts reader start call _ (given_in earlier) fits
@@ -252,27 +211,22 @@ session_accounts reader start words total (call ∷ earlier) (fit, fits) =
 
 pub session_comes : (reader : Reader) (start : History) (words : Stream) (total : ℕ) (calls : List Call) (t : Standing)
     (x y : LinkValue)
-    → Comes reader total calls (at_the_start start words total) t x y → Accounts reader start t (given_in calls)
+    → Comes reader total calls (at_the_start start words total) t x y → AccountsAt reader start t (given_in calls)
 session_comes reader start words total calls t x y comes =
-    subst (λ t. Accounts reader start t (given_in calls)) (sym comes.reached)
+    subst (λ t. AccountsAt reader start t (given_in calls)) (sym comes.reached)
     (going_accounts reader start total _ (given_in calls) (session_accounts reader start words total calls comes.fit))
 
 -- ---- Totals
 
 -- The counts of a session are those of its calls.
-pub record AreTotals (tally : Tally) (calls : List Call) : Type 0 where
-  pub received : tally.received ≡ how_many is_datagram calls
-  pub recv_failures : tally.recv_failures ≡ how_many is_failed_receive calls
-  pub sent : tally.sent ≡ how_many is_sent calls
-  pub send_failures : tally.send_failures ≡ how_many is_failed_send calls
+abbrev pub AreTotals : Tally → List Call → Type 0
+AreTotals tally calls = (tally.received ≡ how_many is_datagram calls)
+    × (tally.recv_failures ≡ how_many is_failed_receive calls) × (tally.sent ≡ how_many is_sent calls)
+    × (tally.send_failures ≡ how_many is_failed_send calls)
 
 rested_counts : (next s : Standing) (stage : Stage) → next.tally ≡ s.tally → (rested next stage s).tally ≡ s.tally
 rested_counts next s resting same = same
-rested_counts next s beginning same = refl
-rested_counts next s (hearing port) same = refl
-rested_counts next s deciding same = refl
-rested_counts next s (sending out changed after) same = refl
-rested_counts next s (ended cause) same = refl
+rested_counts next s stage same = refl
 
 turn_counts : (next : Option ℕ) (turns : ℕ) (otherwise s : Standing) → otherwise.tally ≡ s.tally →
     (turn_by next turns otherwise s).tally ≡ s.tally
@@ -298,60 +252,13 @@ moved a b same = omega (arith, same)
 
 clock_counts : (moment : ℕ) (stage : Stage) (s : Standing) (calls : List Call) → AreTotals s.tally calls
     → AreTotals (after_clock moment stage s).tally (clock_read moment ∷ calls)
-clock_counts moment resting s calls totals = record {
-  received = totals.received;
-  recv_failures = totals.recv_failures;
-  sent = totals.sent;
-  send_failures = totals.send_failures;
-}
-clock_counts moment beginning s calls totals =
-    record {
-      received = totals.received;
-      recv_failures = totals.recv_failures;
-      sent = totals.sent;
-      send_failures =
-          totals.send_failures;
-    }
-clock_counts moment (hearing port) s calls totals =
-    record {
-      received = totals.received;
-      recv_failures = totals.recv_failures;
-      sent = totals.sent;
-      send_failures =
-          totals.send_failures;
-    }
-clock_counts moment deciding s calls totals = record {
-  received = totals.received;
-  recv_failures = totals.recv_failures;
-  sent = totals.sent;
-  send_failures = totals.send_failures;
-}
-clock_counts moment (sending out changed next) s calls totals =
-    record {
-      received = totals.received;
-      recv_failures = totals.recv_failures;
-      sent = totals.sent;
-      send_failures =
-          totals.send_failures;
-    }
-clock_counts moment (ended cause) s calls totals =
-    record {
-      received = totals.received;
-      recv_failures = totals.recv_failures;
-      sent = totals.sent;
-      send_failures =
-          totals.send_failures;
-    }
+clock_counts moment beginning s calls totals = totals
+clock_counts moment stage s calls totals = totals
 
 limit_counts : (limit : Bool) (tally : Tally) (calls : List Call) → AreTotals tally calls
     → AreTotals (if limit then tally else with_refused (tally.refused + 1) tally) calls
 limit_counts true tally calls totals = totals
-limit_counts false tally calls totals = record {
-  received = totals.received;
-  recv_failures = totals.recv_failures;
-  sent = totals.sent;
-  send_failures = totals.send_failures;
-}
+limit_counts false tally calls totals = totals
 
 -- an answer to an arrival moves no count but that of the refused
 arrival_counts : (answer : AnswerValue) (tally : Tally) (calls : List Call) → AreTotals tally calls →
@@ -362,49 +269,20 @@ arrival_counts (Err refusal) tally calls totals = limit_counts (is_limit refusal
 heard_counts : (reader : Reader) (port : Port) (wait : ℕ) (what : Heard) (s : Standing) (calls : List Call) →
     AreTotals s.tally calls
     → AreTotals (heard_at reader port what s).tally (port_heard port wait what ∷ calls)
-heard_counts reader port wait (datagram peer octets) s calls totals = arrival_counts _ (with_datagram s.tally) _
-    (record {
-      received = moved _ _ totals.received;
-      recv_failures = totals.recv_failures;
-      sent = totals.sent;
-      send_failures = totals.send_failures;
-    })
-heard_counts reader port wait silence s calls totals =
-    record {
-      received = totals.received;
-      recv_failures = totals.recv_failures;
-      sent = totals.sent;
-      send_failures =
-          totals.send_failures;
-    }
-heard_counts reader port wait failure s calls totals =
-    record {
-      received = totals.received;
-      recv_failures = moved _ _ totals.recv_failures;
-      sent = totals.sent;
-      send_failures = totals.send_failures;
-    }
+heard_counts reader port wait (datagram peer octets) s calls (came, failed, sent, lost) =
+    arrival_counts _ (with_datagram s.tally) (port_heard port wait (datagram peer octets) ∷ calls)
+    (moved _ _ came, failed, sent, lost)
+heard_counts reader port wait silence s calls totals = totals
+heard_counts reader port wait failure s calls (came, failed, sent, lost) = (came, moved _ _ failed, sent, lost)
 
 sending_counts : (octets : List ℕ) (failed : Bool) (stage : Stage) (s : Standing) (calls : List Call) →
     Sends octets stage → AreTotals s.tally calls
     → AreTotals (after_sending failed stage s).tally (compound_sent octets failed ∷ calls)
-sending_counts octets failed resting s calls fits totals = absurd fits
-sending_counts octets failed beginning s calls fits totals = absurd fits
-sending_counts octets failed (hearing port) s calls fits totals = absurd fits
-sending_counts octets failed deciding s calls fits totals = absurd fits
-sending_counts octets true (sending out changed next) s calls fits totals = record {
-  received = totals.received;
-  recv_failures = totals.recv_failures;
-  sent = moved _ _ totals.sent;
-  send_failures = moved _ _ totals.send_failures;
-}
-sending_counts octets false (sending out changed next) s calls fits totals = record {
-  received = totals.received;
-  recv_failures = totals.recv_failures;
-  sent = moved _ _ totals.sent;
-  send_failures = omega (arith, totals.send_failures);
-}
-sending_counts octets failed (ended cause) s calls fits totals = absurd fits
+sending_counts octets true (sending out changed next) s calls fits (came, failed, sent, lost) =
+    (came, failed, moved _ _ sent, moved _ _ lost)
+sending_counts octets false (sending out changed next) s calls fits (came, failed, sent, lost) =
+    (came, failed, moved _ _ sent, omega (arith, lost))
+sending_counts octets failed stage s calls fits totals = absurd fits
 
 call_counts : (reader : Reader) (call : Call) (s : Standing) (calls : List Call) → Fits call s.stage →
     AreTotals s.tally calls
@@ -431,5 +309,4 @@ session_totals reader start words total calls t x y comes =
     let s = at_the_start start words total in
     subst (λ tally. AreTotals tally calls)
     (sym (ap (λ t. t.tally) comes.reached ∙ going_counts total (after_calls reader total s calls)))
-    (session_counts reader total s calls
-    (record { received = refl; recv_failures = refl; sent = refl; send_failures = refl }) comes.fit)
+    (session_counts reader total s calls (refl, refl, refl, refl) comes.fit)
