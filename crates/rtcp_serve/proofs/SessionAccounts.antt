@@ -93,7 +93,8 @@ none_at stage s is none = ap pending is ∙ none
 answer_accounts : (reader : Reader) (start : History) (next refused : Stage) (event : EventValue) (act : Act)
     (s : Standing) (sent : List (List ℕ)) → AccountsAt reader start s sent → HasNone s.stage → HasNone next →
     HasNone refused → act_in reader event ≡ act →
-    AccountsAt reader start (at_stage (stage_to_send next refused (answer_of s.history act)) (told_act event act s)) sent
+    AccountsAt reader start (at_stage (stage_to_send next refused (answer_of s.history act)) (told_act event act s))
+    sent
 answer_accounts reader start next refused event act s sent accounts none comes refuses is =
     told_accounts reader start event act _ s sent accounts none
     (answer_pends next refused (answer_of s.history act) comes refuses) is

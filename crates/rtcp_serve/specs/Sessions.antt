@@ -1,9 +1,10 @@
 -- How far a session over a link has come, and what is kept of it.
-use Rattle.std.specs.Prelude.{◌≡◌, ℕ, suc, ◌⊎◌, IsTrue, is_some, Bool, true, false, List, Option, None, Result, Ok, Err}
+use Rattle.std.specs.Prelude.{◌≡◌, ℕ, suc, ◌⊎◌, IsTrue, is_some, Bool, false, List, Option, None, Result, Ok, Err}
 use Rattle.rand_core.specs.Stream.{Stream}
 use Rattle.rtcp_engine.specs.Histories.{life_at}
 use Rattle.rtcp_engine.specs.Lives.{next_in_life}
 use Rattle.rtcp_engine.specs.States.{ParticipantValue, StandsAt}
+use Rattle.rtcp_engine.specs.Steps.{AnswerValue}
 use Rattle.rtcp_serve.specs.declared.serving.End.{End}
 use Rattle.rtcp_serve.specs.declared.serving.Cause.{Cause}
 use Rattle.rtcp_serve.specs.declared.serving.Cause.TheVariants.{Done}
@@ -23,11 +24,10 @@ abbrev pub Reaches : {A : Type 0} → (next : Stage) → Result A Cause → Stan
 Reaches next (Ok done) s = s.stage ≡ next
 Reaches next (Err cause) s = s.stage ≡ ended cause
 
--- The same where the result says whether an act was taken.
-abbrev pub ReachesBy : (taken refused : Stage) → Result Bool Cause → Standing → Type 0
-ReachesBy taken refused (Ok true) s = s.stage ≡ taken
-ReachesBy taken refused (Ok false) s = s.stage ≡ refused
-ReachesBy taken refused (Err cause) s = s.stage ≡ ended cause
+-- the stage that an answer leads to, where it met no limit and what it handed out was sent
+abbrev pub led_to : (next refused : Stage) → AnswerValue → Stage
+led_to next refused (Ok step) = next
+led_to next refused (Err refusal) = refused
 
 -- when the participant is to be asked next, unless it has left
 abbrev pub next_at : Standing → Option ℕ
@@ -62,11 +62,19 @@ pub record Tells (s t : Standing) (before after : LinkValue) : Type 0 where
   pub grows : (start : Option (List Telling)) → GrowsBy s.tellings start before.told
       → GrowsBy t.tellings start after.told
 
--- Calls led from one standing to another, and the link was told what the participant was told.
-pub record Leads (reader : Reader) (total : ℕ) (calls : List Call) (s t : Standing) (before after : LinkValue)
-    : Type 0 where
-  pub moves : Moves reader total calls s t before after
-  pub tells : Tells s t before after
+-- A part of a session: the calls that it made of the link led from one standing to another, at which it keeps what it
+-- keeps and comes to what it comes to, and the link was told what the participant was told since an earlier standing.
+pub record Walks
+    (reader : Reader) (total : ℕ) (since from : Standing) (before after : LinkValue) (kept : ParticipantValue)
+    (words : Stream) (counted : Tally) (at : Standing → Type 0) (turns_left : ℕ) (has_left : Bool) : Type 0 where
+  pub calls : List Call
+  pub reached : Standing
+  pub moves : Moves reader total calls from reached before after
+  pub tells : Tells since reached before after
+  pub holds : Holds reached kept words counted
+  pub ends : at reached
+  pub turns : reached.turns ≡ turns_left
+  pub leaving : reached.leaving ≡ has_left
 
 -- Calls of a link, each the one that came next, led from one standing to another and on to what comes next.
 pub record Comes (reader : Reader) (total : ℕ) (calls : List Call) (s t : Standing) (before after : LinkValue) : Type
@@ -81,6 +89,17 @@ pub record IsLeaveDue (s : Standing) : Type 0 where
   pub there : IsTrue (is_some (next_at s))
   pub turns : s.turns ≡ 0
   pub leaving : s.leaving ≡ false
+
+-- The last part of a session: the same, up to what comes next, which is its end.
+pub record Closes
+    (reader : Reader) (total : ℕ) (s : Standing) (before after : LinkValue) (kept : ParticipantValue) (words : Stream)
+    (counted : Tally) (at : Standing → Type 0) : Type 0 where
+  pub calls : List Call
+  pub reached : Standing
+  pub comes : Comes reader total calls s reached before after
+  pub tells : Tells s reached before after
+  pub holds : Holds reached kept words counted
+  pub ends : at reached
 
 -- what a session came to
 abbrev pub IsEnd : End → Standing → Type 0

@@ -1,15 +1,14 @@
 //! The turns of a session over a link, and its leave.
 
-ghost use Rattle.std.specs.Prelude.{◌≡◌, ◌<◌, ◌≤◌, ◌+◌, ◌*◌, ◌^◌, ℕ, suc, zero, true, false, List, [], ◌∷◌, ◌⊎◌, OnOk};
+ghost use Rattle.std.specs.Prelude.{◌≡◌, ◌<◌, ◌+◌, ◌*◌, ℕ, false, [], ◌∷◌, OnOk};
 ghost use Rattle.rand_core.specs.Stream.{Stream, next_u32};
-ghost use Rattle.rtcp_engine.specs.Acts.{Act, ticked, left};
+ghost use Rattle.rtcp_engine.specs.Acts.{left};
 ghost use Rattle.rtcp_engine.specs.Promises.{Takes};
-ghost use Rattle.rtcp_engine.specs.States.{ParticipantValue, StandsAt};
+ghost use Rattle.rtcp_engine.specs.States.{ParticipantValue};
 ghost use Rattle.rtcp_engine.specs.Views.{answer_value, event_value};
-ghost use Rattle.rtcp_serve.specs.declared.serving.Cause.TheVariants.{Done};
-ghost use Rattle.rtcp_serve.specs.Links.{Call, WereCalled, clock_read};
-ghost use Rattle.rtcp_serve.specs.Serving.{IsReader, Reader, Stage, Standing, after_port, arrival_at, deciding, ended, event_at, going, hearing, resting, stage_to_send};
-ghost use Rattle.rtcp_serve.specs.Sessions.{Comes, EndsAs, EndsTurns, IsLeaveDue, Holds, HasTurn, Leads, Moves, Reaches, ReachesBy, Tells};
+ghost use Rattle.rtcp_serve.specs.Links.{WereCalled, clock_read, telling};
+ghost use Rattle.rtcp_serve.specs.Serving.{IsReader, Reader, Stage, Standing, after_port, arrival_at, deciding, event_at, hearing, resting, stage_to_send};
+ghost use Rattle.rtcp_serve.specs.Sessions.{Closes, EndsAs, EndsTurns, HasTurn, Holds, IsLeaveDue, Reaches, Walks, led_to};
 ghost use Rattle.rtcp_serve.specs.Tallies.{HasRoom, with_moment};
 
 use crate::link::{Link, Port, Received};
@@ -47,9 +46,8 @@ fn hear<L: Link, T: MemberTable, R: Rng>(
     requires room { HasRoom 2 tally.old (L.value link.old) }
     ensures leads { (reader : Reader) (total : ℕ) (s : Standing) → IsReader reader →
         Holds s participant.old (R.stream rng.old) tally.old → s.stage ≡ hearing port →
-        (calls : List Call) × (t : Standing) × Leads reader total calls s t (L.value link.old) (L.value link.new)
-        × Holds t participant.new (R.stream rng.new) tally.new × Reaches (after_port port) result t
-        × (t.turns ≡ s.turns) × (t.leaving ≡ s.leaving) }
+        Walks reader total s s (L.value link.old) (L.value link.new) participant.new (R.stream rng.new) tally.new
+        (Reaches (after_port port) result) s.turns s.leaving }
     ensures row { OnOk result (tally.new.failures < 64) }
     ensures room { (more : ℕ) → HasRoom (more + 2) tally.old (L.value link.old) →
         HasRoom more tally.new (L.value link.new) }
@@ -61,10 +59,8 @@ fn hear<L: Link, T: MemberTable, R: Rng>(
             let drawn = rng.next_u32();
             let event = arrival_event(port, tally.moment, peer, drawn, octets);
             let answer = arrive(port, participant, tally.moment, peer, drawn, octets);
-            link.told(&event, &answer);
             tally.arrival(&answer);
-            hand_over(link, tally, answer)?;
-            Ok(())
+            tell(link, tally, &event, answer)
         }
         Received::Nothing => {
             tally.silence();
@@ -112,20 +108,38 @@ fn arrival_event(port: Port, now: u64, peer: u64, w: u32, bytes: &[u8]) -> Event
     }
 }
 
-/// Sends the compound that an answer hands out, if there is one. Returns whether the call was taken.
+/// Tells the link of an event with its answer, and then sends the compound of the answer, if there is one.
 ///
 /// # Errors
 ///
 /// [`Cause::Limit`] where the participant met a limit.
-fn hand_over<L: Link>(link: &mut L, tally: &mut Tally, answer: Answer) -> Result<bool, Cause>
+fn tell<L: Link>(
+    link: &mut L,
+    tally: &mut Tally,
+    event: &Event<'_>,
+    answer: Answer,
+) -> Result<(), Cause>
     requires room { HasRoom 1 tally.old (L.value link.old) }
     ensures leads { (reader : Reader) (total : ℕ) (next refused : Stage) (kept : ParticipantValue) (words : Stream)
-        (s : Standing) → Holds s kept words tally.old →
-        s.stage ≡ stage_to_send next refused (answer_value answer) →
-        (calls : List Call) × (t : Standing) × Moves reader total calls s t (L.value link.old) (L.value link.new)
-        × Holds t kept words tally.new × ReachesBy next refused result t × (t.turns ≡ s.turns)
-        × (t.leaving ≡ s.leaving) × (t.history ≡ s.history) × (t.tellings ≡ s.tellings) }
-    ensures told { (L.value link.new).told ≡ (L.value link.old).told }
+        (s t : Standing) → Holds t kept words tally.old → t.stage ≡ stage_to_send next refused (answer_value answer) →
+        t.tellings ≡ telling (event_value event.now) (answer_value answer) ∷ s.tellings →
+        Walks reader total s t (L.value link.old) (L.value link.new) kept words tally.new
+        (Reaches (led_to next refused (answer_value answer)) result) t.turns t.leaving }
+    ensures row { tally.new.failures ≡ tally.old.failures }
+    ensures room { (more : ℕ) → HasRoom (more + 1) tally.old (L.value link.old) →
+        HasRoom more tally.new (L.value link.new) }
+{
+    link.told(event, &answer);
+    hand_over(link, tally, answer)
+}
+
+/// Sends the compound that an answer hands out, if there is one.
+fn hand_over<L: Link>(link: &mut L, tally: &mut Tally, answer: Answer) -> Result<(), Cause>
+    requires room { HasRoom 1 tally.old (L.value link.old) }
+    ensures leads { (reader : Reader) (total : ℕ) (next refused : Stage) (kept : ParticipantValue) (words : Stream)
+        (s : Standing) → Holds s kept words tally.old → s.stage ≡ stage_to_send next refused (answer_value answer) →
+        Walks reader total s s (L.value link.old) (L.value link.new) kept words tally.new
+        (Reaches (led_to next refused (answer_value answer)) result) s.turns s.leaving }
     ensures row { tally.new.failures ≡ tally.old.failures }
     ensures room { (more : ℕ) → HasRoom (more + 1) tally.old (L.value link.old) →
         HasRoom more tally.new (L.value link.new) }
@@ -140,10 +154,10 @@ fn hand_over<L: Link>(link: &mut L, tally: &mut Tally, answer: Answer) -> Result
                 }
                 None => {}
             }
-            Ok(true)
+            Ok(())
         }
         Err(refusal) if is_limit(refusal) => Err(Cause::Limit),
-        Err(_) => Ok(false),
+        Err(_) => Ok(()),
     }
 }
 
@@ -157,9 +171,8 @@ fn tick<L: Link, T: MemberTable, R: Rng>(
     requires room { HasRoom 1 tally.old (L.value link.old) }
     ensures leads { (reader : Reader) (total : ℕ) (s : Standing) →
         Holds s participant.old (R.stream rng.old) tally.old → s.stage ≡ deciding →
-        (calls : List Call) × (t : Standing) × Leads reader total calls s t (L.value link.old) (L.value link.new)
-        × Holds t participant.new (R.stream rng.new) tally.new × Reaches resting result t × (t.turns ≡ s.turns)
-        × (t.leaving ≡ s.leaving) }
+        Walks reader total s s (L.value link.old) (L.value link.new) participant.new (R.stream rng.new) tally.new
+        (Reaches resting result) s.turns s.leaving }
     ensures row { tally.new.failures ≡ tally.old.failures }
     ensures room { (more : ℕ) → HasRoom (more + 1) tally.old (L.value link.old) →
         HasRoom more tally.new (L.value link.new) }
@@ -173,9 +186,7 @@ fn tick<L: Link, T: MemberTable, R: Rng>(
         w1: first,
         w2: second,
     };
-    link.told(&event, &answer);
-    hand_over(link, tally, answer)?;
-    Ok(())
+    tell(link, tally, &event, answer)
 }
 
 /// Makes a turn: listens to both ports, and asks the participant what is due.
@@ -195,9 +206,8 @@ fn turn<L: Link, T: MemberTable, R: Rng>(
     requires room { HasRoom 5 tally.old (L.value link.old) }
     ensures leads { (reader : Reader) (total left : ℕ) (s : Standing) → IsReader reader →
         Holds s participant.old (R.stream rng.old) tally.old → HasTurn left s →
-        (calls : List Call) × (t : Standing) × Leads reader total calls s t (L.value link.old) (L.value link.new)
-        × Holds t participant.new (R.stream rng.new) tally.new × Reaches resting result t × (t.turns ≡ left)
-        × (t.leaving ≡ s.leaving) }
+        Walks reader total s s (L.value link.old) (L.value link.new) participant.new (R.stream rng.new) tally.new
+        (Reaches resting result) left s.leaving }
     ensures row { OnOk result (tally.new.failures < 64) }
     ensures room { (more : ℕ) → HasRoom (more + 5) tally.old (L.value link.old) →
         HasRoom more tally.new (L.value link.new) }
@@ -221,8 +231,8 @@ fn make_turns<L: Link, T: MemberTable, R: Rng>(
     requires room { HasRoom (turns * 5) tally.old (L.value link.old) }
     ensures leads { (reader : Reader) (total : ℕ) (s : Standing) → IsReader reader →
         Holds s participant.old (R.stream rng.old) tally.old → s.stage ≡ resting → s.turns ≡ turns →
-        (calls : List Call) × (t : Standing) × Leads reader total calls s t (L.value link.old) (L.value link.new)
-        × Holds t participant.new (R.stream rng.new) tally.new × EndsTurns result t × (t.leaving ≡ s.leaving) }
+        (left : ℕ) × Walks reader total s s (L.value link.old) (L.value link.new) participant.new (R.stream rng.new)
+        tally.new (EndsTurns result) left s.leaving }
     ensures row { OnOk result (tally.new.failures < 64) }
     ensures room { (more : ℕ) → HasRoom (more + turns * 5) tally.old (L.value link.old) →
         HasRoom more tally.new (L.value link.new) }
@@ -234,36 +244,6 @@ fn make_turns<L: Link, T: MemberTable, R: Rng>(
         turn(link, participant, rng, tally, buf)?;
     }
     Ok(())
-}
-
-/// Draws a word, and asks the participant to leave at the greatest moment so far. Returns whether the call was
-/// taken.
-fn take_leave<L: Link, T: MemberTable, R: Rng>(
-    link: &mut L,
-    participant: &mut Participant<T>,
-    rng: &mut R,
-    tally: &mut Tally,
-) -> Result<bool, Cause>
-    requires room { HasRoom 1 tally.old (L.value link.old) }
-    ensures leads { (reader : Reader) (total : ℕ) (s : Standing) →
-        Holds s participant.old (R.stream rng.old) tally.old → IsLeaveDue s →
-        (u : Standing) × (going total s ≡ going total u) × (calls : List Call) × (t : Standing)
-        × Moves reader total calls u t (L.value link.old) (L.value link.new)
-        × Tells s t (L.value link.old) (L.value link.new)
-        × Holds t participant.new (R.stream rng.new) tally.new × ReachesBy resting (ended Done) result t
-        × (t.turns ≡ total) × (t.leaving ≡ true) }
-    ensures row { tally.new.failures ≡ tally.old.failures }
-    ensures room { (more : ℕ) → HasRoom (more + 1) tally.old (L.value link.old) →
-        HasRoom more tally.new (L.value link.new) }
-{
-    let word = rng.next_u32();
-    let answer = participant.leave(tally.moment, word);
-    let event = Event::Leave {
-        now: tally.moment,
-        w: word,
-    };
-    link.told(&event, &answer);
-    hand_over(link, tally, answer)
 }
 
 /// Makes a session: turns, then the leave, and as many turns again while the participant backs off.
@@ -279,17 +259,44 @@ pub(crate) fn session<L: Link, T: MemberTable, R: Rng>(
     requires room { HasRoom (turns * 10 + 1) tally.old (L.value link.old) }
     ensures serves { (reader : Reader) (s : Standing) → IsReader reader →
         Holds s participant.old (R.stream rng.old) tally.old → s.stage ≡ resting → s.turns ≡ turns →
-        s.leaving ≡ false → (calls : List Call) × (t : Standing)
-        × Comes reader turns calls s t (L.value link.old) (L.value link.new)
-        × Holds t participant.new (R.stream rng.new) tally.new × EndsAs result t
-        × Tells s t (L.value link.old) (L.value link.new) }
+        s.leaving ≡ false → Closes reader turns s (L.value link.old) (L.value link.new) participant.new
+        (R.stream rng.new) tally.new (EndsAs result) }
 {
     make_turns(link, participant, rng, tally, turns, buf)?;
     if participant.next().is_none() {
         return Ok(());
     }
-    if take_leave(link, participant, rng, tally)? {
-        make_turns(link, participant, rng, tally, turns, buf)?;
+    leave(link, participant, rng, tally, turns, buf)
+}
+
+/// Draws a word, and asks the participant to leave at the greatest moment so far. While it backs off it is given as many
+/// turns again.
+fn leave<L: Link, T: MemberTable, R: Rng>(
+    link: &mut L,
+    participant: &mut Participant<T>,
+    rng: &mut R,
+    tally: &mut Tally,
+    turns: u32,
+    buf: &mut [u8],
+) -> Result<(), Cause>
+    requires row { tally.old.failures < 64 }
+    requires room { HasRoom (turns * 5 + 1) tally.old (L.value link.old) }
+    ensures serves { (reader : Reader) (s : Standing) → IsReader reader →
+        Holds s participant.old (R.stream rng.old) tally.old → IsLeaveDue s →
+        Closes reader turns s (L.value link.old) (L.value link.new) participant.new (R.stream rng.new) tally.new
+        (EndsAs result) }
+{
+    let word = rng.next_u32();
+    let answer = participant.leave(tally.moment, word);
+    let was_taken = answer.is_ok();
+    let event = Event::Leave {
+        now: tally.moment,
+        w: word,
+    };
+    tell(link, tally, &event, answer)?;
+    if was_taken {
+        make_turns(link, participant, rng, tally, turns, buf)
+    } else {
+        Ok(())
     }
-    Ok(())
 }

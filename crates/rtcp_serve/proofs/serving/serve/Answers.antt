@@ -10,19 +10,20 @@ pub returns : goal.returns
 returns g c = record {
   serves = λ reader history reads stands.
       let start = at_the_start history _ c.args.turns in
-      let (calls, t, comes, held, ends, tells) = c.session-returned.ensures.serves reader start reads
+      let closed = c.session-returned.ensures.serves reader start reads
       (record { participant = stands; words = refl; tally = c.new-tally.ensures }) refl refl refl in
+      let t = closed.reached in
       let why = ap (λ (end : End). end.cause) c.end.ensures in
-      let cause = c.cause_of.ensures t ends ∙ ap ended (sym why) in
-      let counts = ap (end_of c.cause_of.result) held.tally ∙ ap (λ cause. end_of cause t.tally) (sym why) in
+      let cause = c.cause_of.ensures t closed.ends ∙ ap ended (sym why) in
+      let counts = ap (end_of c.cause_of.result) closed.holds.tally ∙ ap (λ cause. end_of cause t.tally) (sym why) in
       let link = (g.L.Link.value c.args.link.now).told in
       record {
-        calls = calls;
+        calls = closed.calls;
         reached = t;
-        comes = comes;
-        participant = held.participant;
-        words = held.words;
+        comes = closed.comes;
+        participant = closed.holds.participant;
+        words = closed.holds.words;
         ends = (cause, c.end.ensures ∙ counts);
-        told = tells.grows link (grows_by_none link);
+        told = closed.tells.grows link (grows_by_none link);
       };
 }

@@ -1,40 +1,29 @@
 -- Turn by turn, as long as the participant has not left.
-use Rattle.std.proofs.Common.{◌≡◌, ◌+◌, ◌*◌, ◌-◌, inl, inr, is_some, not, [], Err, refl, sym, ap, ◌∙◌, subst, arith}
-use Rattle.std.proofs.lemmas.Result.{err_from_is_err_and}
-use Rattle.rtcp_serve.specs.Serving.{resting, ended}
+use Rattle.std.proofs.Common.{◌≡◌, ◌+◌, ◌*◌, ◌-◌, inl, inr, is_some, not, refl, sym, ap, ◌∙◌, subst, arith}
+use Rattle.rtcp_serve.specs.Serving.{resting}
 use Rattle.rtcp_serve.specs.Sessions.{HasTurn, Reaches, EndsTurns, next_at}
-use Rattle.rtcp_serve.proofs.LinkCalls.{leads_nowhere, leads_on, less_room, none_left}
+use Rattle.rtcp_serve.proofs.LinkCalls.{less_room, none_left, stops, walks_as, walks_nowhere, walks_on, walks_to}
 use Rattle.rtcp_serve.proofs.serving.turns.make_turns.Goals as goal
 
 pub turns-init : goal.turns-init
 turns-init g c = record {
   row = c.requires.row;
   room = λ more room. less_room (more + 0) more _ _ (omega (arith)) room;
-  leads = λ reader total s reads holds stage turns. (
-    [],
-    s,
-    leads_nowhere reader total s _,
-    holds,
-    stage,
-    omega (arith, turns),
-    refl,
-  );
+  leads = λ reader total s reads holds stage turns.
+      let walk = walks_nowhere reader total s _ _ _ (λ t. t.stage ≡ resting) _ holds stage in
+      walks_as (omega (arith, turns)) refl walk;
 }
 
 pub returns-then-is_none-clause-leads : goal.returns-then-is_none-clause-leads
 returns-then-is_none-clause-leads g c = λ reader total s reads holds stage turns.
-    let (calls, t, leads, held, stage', turns', leaving') = c.turns.invariant.leads reader total s reads holds stage
-    turns in (
-      calls,
-      t,
-      leads,
-      held,
-      (
-        stage',
-        inl (none_left (next_at t) (ap is_some (sym (c.next.ensures.exact t.history held.participant))
-            ∙ c.is_none.ensures ∙ ap not c.if-is_none.true)),
+    let walk = c.turns.invariant.leads reader total s reads holds stage turns in (
+      _,
+      walks_to walk (
+        walk.ends,
+        inl (none_left (next_at walk.reached)
+            (ap is_some (sym (c.next.ensures.exact walk.reached.history walk.holds.participant)) ∙ c.is_none.ensures
+            ∙ ap not c.if-is_none.true)),
       ),
-      leaving',
     )
 
 pub returns-then-is_none-clause-room : goal.returns-then-is_none-clause-room
@@ -48,25 +37,18 @@ turn-requires-clause-room g c = c.turns.invariant.room 5
 
 pub returns-in_err-turn-clause-leads : goal.returns-in_err-turn-clause-leads
 returns-in_err-turn-clause-leads g c = λ reader total s reads holds stage turns.
-    let (calls, t, leads, held, stage', turns', leaving') = c.turns.invariant.leads reader total s reads holds stage
-    turns in
+    let walk = c.turns.invariant.leads reader total s reads holds stage turns in
     let left = c.args.turns - (c.turns.counter + 1) in
-    let has : HasTurn left t = record {
-      resting = stage';
-      there = ap is_some (sym (c.next.ensures.exact t.history held.participant)) ∙ c.is_none.ensures
+    let has : HasTurn left walk.reached = record {
+      resting = walk.ends;
+      there = ap is_some (sym (c.next.ensures.exact walk.reached.history walk.holds.participant)) ∙ c.is_none.ensures
           ∙ ap not c.if-is_none.false;
-      turns = omega (arith, turns', c.turns-test.true);
+      turns = omega (arith, walk.turns, c.turns-test.true);
     } in
-    let (more, u, on, held', ends, turns'', leaving'') = c.turn.ensures.leads reader total left t reads held has in
-    let exit = err_from_is_err_and c.from_residual.result c.from_residual.ensures.1 in
-    let ended_by : u.stage ≡ ended c.in_err-turn.field-0.0 = subst (λ r. Reaches resting r u) c.in_err-turn.was
-    ends in (
-      _,
-      u,
-      leads_on reader total calls more s t u _ _ _ leads on,
-      held',
-      subst (λ r. EndsTurns r u) (sym (exit.1 ∙ ap Err exit.2)) ended_by,
-      leaving'' ∙ leaving',
+    let further = walks_on walk (c.turn.ensures.leads reader total left walk.reached reads walk.holds has) refl in (
+      left,
+      walks_to further (stops (λ r. Reaches resting r further.reached) (λ r. EndsTurns r further.reached)
+          c.from_residual.result c.in_err-turn.was c.from_residual.ensures.1 (λ is. is) further.ends),
     )
 
 pub returns-in_err-turn-clause-room : goal.returns-in_err-turn-clause-room
@@ -81,32 +63,22 @@ turns-preserved g c = record {
       (c.turns.invariant.room (more + 5)
       (less_room (more + (c.turns.counter + 1) * 5) (more + 5 + c.turns.counter * 5) _ _ (omega (arith)) room));
   leads = λ reader total s reads holds stage turns.
-      let (calls, t, leads, held, stage', turns', leaving') = c.turns.invariant.leads reader total s reads holds stage
-      turns in
+      let walk = c.turns.invariant.leads reader total s reads holds stage turns in
       let left = c.args.turns - (c.turns.counter + 1) in
-      let has : HasTurn left t = record {
-        resting = stage';
-        there = ap is_some (sym (c.next.ensures.exact t.history held.participant)) ∙ c.is_none.ensures
+      let has : HasTurn left walk.reached = record {
+        resting = walk.ends;
+        there = ap is_some (sym (c.next.ensures.exact walk.reached.history walk.holds.participant)) ∙ c.is_none.ensures
             ∙ ap not c.if-is_none.false;
-        turns = omega (arith, turns', c.turns-test.true);
+        turns = omega (arith, walk.turns, c.turns-test.true);
       } in
-      let (more, u, on, held', ends, turns'', leaving'') = c.turn.ensures.leads reader total left t reads held has in
-      let rests : u.stage ≡ resting = subst (λ r. Reaches resting r u) c.in_ok-turn.was ends in (
-        _,
-        u,
-        leads_on reader total calls more s t u _ _ _ leads on,
-        held',
-        rests,
-        omega (arith, turns', turns'', c.turns-test.true),
-        leaving'' ∙ leaving',
-      );
+      let further = walks_on walk (c.turn.ensures.leads reader total left walk.reached reads walk.holds has) refl in
+      walks_to further (subst (λ r. Reaches resting r further.reached) c.in_ok-turn.was further.ends);
 }
 
 pub returns-clause-leads : goal.returns-clause-leads
 returns-clause-leads g c = λ reader total s reads holds stage turns.
-    let (calls, t, leads, held, stage', turns', leaving') = c.turns.invariant.leads reader total s reads holds stage
-    turns in
-    (calls, t, leads, held, (stage', inr (omega (arith, turns', c.turns-test.false))), leaving')
+    let walk = c.turns.invariant.leads reader total s reads holds stage turns in
+    (_, walks_to walk (walk.ends, inr (omega (arith, walk.turns, c.turns-test.false))))
 
 pub returns-clause-room : goal.returns-clause-room
 returns-clause-room g c = λ more room.

@@ -1,7 +1,6 @@
-use Rattle.std.proofs.Common.{◌≡◌, ◌<◌, ◌+◌, ◌*◌, ℕ, List}
-use Rattle.rtcp_serve.specs.Links.{Call}
+use Rattle.std.proofs.Common.{◌≡◌, ◌<◌, ◌+◌, ◌-◌, ◌*◌, ℕ}
 use Rattle.rtcp_serve.specs.Serving.{Reader, IsReader, Standing, resting}
-use Rattle.rtcp_serve.specs.Sessions.{Holds, Leads}
+use Rattle.rtcp_serve.specs.Sessions.{Holds, Walks}
 use Rattle.rtcp_serve.specs.Tallies.{HasRoom}
 use Rattle.rtcp_serve.proofs.serving.turns.make_turns.Given as goal
 
@@ -12,8 +11,6 @@ invariant-turns g l = record {
       HasRoom more l.tally (g.L.Link.value l.link);
   leads : (reader : Reader) (total : ℕ) (s : Standing) → IsReader reader →
       Holds s l.fn.participant (g.R.Rng.stream l.fn.rng) l.fn.tally → s.stage ≡ resting → s.turns ≡ l.turns →
-      (calls : List Call) × (t : Standing) × Leads reader total calls s t (g.L.Link.value l.fn.link)
-      (g.L.Link.value l.link)
-      × Holds t l.participant (g.R.Rng.stream l.rng) l.tally × (t.stage ≡ resting) × (t.turns + l.counter ≡ l.turns)
-      × (t.leaving ≡ s.leaving);
+      Walks reader total s s (g.L.Link.value l.fn.link) (g.L.Link.value l.link) l.participant
+      (g.R.Rng.stream l.rng) l.tally (λ t. t.stage ≡ resting) (l.turns - l.counter) s.leaving;
 }

@@ -1,29 +1,19 @@
 -- A turn: the clock, both ports, and the tick.
-use Rattle.std.proofs.Common.{◌≡◌, ◌+◌, Err, sym, ap, ◌∙◌, subst, arith}
-use Rattle.std.proofs.lemmas.Result.{err_from_is_err_and}
+use Rattle.std.proofs.Common.{◌+◌, subst, arith}
 use Rattle.rtcp_serve.specs.declared.link.Port.TheVariants.{Rtp as RtpPort}
-use Rattle.rtcp_serve.specs.Serving.{resting, hearing, deciding, ended}
+use Rattle.rtcp_serve.specs.Serving.{resting, hearing, deciding}
 use Rattle.rtcp_serve.specs.Sessions.{Reaches}
-use Rattle.rtcp_serve.proofs.LinkCalls.{leads_on, turn_clocked, less_room}
+use Rattle.rtcp_serve.proofs.LinkCalls.{less_room, stops, turn_clocked, walks_on, walks_to}
 use Rattle.rtcp_serve.proofs.serving.turns.turn.Goals as goal
 
 pub returns-in_err-hear-clause-leads : goal.returns-in_err-hear-clause-leads
 returns-in_err-hear-clause-leads g c = λ reader total left s reads holds has.
     let (moment, called, counts) = c.read_clock.ensures.called in
-    let (t, leads, held, at, turns, leaving) = turn_clocked reader total left moment s _ _ _ _ _ _ holds has called
-    c.read_clock.ensures.told counts in
-    let (calls, u, on, held', ends, turns', leaving') = c.hear.ensures.leads reader total t reads held at in
-    let exit = err_from_is_err_and c.from_residual.result c.from_residual.ensures.1 in
-    let ended_by : u.stage ≡ ended c.in_err-hear.field-0.0 = subst (λ r. Reaches (hearing RtpPort) r u)
-    c.in_err-hear.was ends in (
-      _,
-      u,
-      leads_on reader total _ calls s t u _ _ _ leads on,
-      held',
-      subst (λ r. Reaches resting r u) (sym (exit.1 ∙ ap Err exit.2)) ended_by,
-      turns' ∙ turns,
-      leaving' ∙ leaving,
-    )
+    let begun = turn_clocked reader total left moment s _ _ _ _ _ _ holds has called c.read_clock.ensures.told counts in
+    let one = walks_on begun (c.hear.ensures.leads reader total begun.reached reads begun.holds begun.ends)
+    begun.turns in
+    walks_to one (stops (λ r. Reaches (hearing RtpPort) r one.reached) (λ r. Reaches resting r one.reached)
+    c.from_residual.result c.in_err-hear.was c.from_residual.ensures.1 (λ is. is) one.ends)
 
 pub returns-in_err-hear-clause-room : goal.returns-in_err-hear-clause-room
 returns-in_err-hear-clause-room g c = λ more room.
@@ -37,23 +27,14 @@ hear-requires-2-clause-room g c =
 pub returns-in_err-hear-2-clause-leads : goal.returns-in_err-hear-2-clause-leads
 returns-in_err-hear-2-clause-leads g c = λ reader total left s reads holds has.
     let (moment, called, counts) = c.read_clock.ensures.called in
-    let (t, leads, held, at, turns, leaving) = turn_clocked reader total left moment s _ _ _ _ _ _ holds has called
-    c.read_clock.ensures.told counts in
-    let (calls, u, on, held', next, turns', leaving') = c.hear.ensures.leads reader total t reads held at in
-    let at' : u.stage ≡ hearing RtpPort = subst (λ r. Reaches (hearing RtpPort) r u) c.in_ok-hear.was next in
-    let (more, v, on', held'', ends, turns'', leaving'') = c.hear-2.ensures.leads reader total u reads held' at' in
-    let exit = err_from_is_err_and c.from_residual-in_err-hear-2.result c.from_residual-in_err-hear-2.ensures.1 in
-    let ended_by : v.stage ≡ ended c.in_err-hear-2.field-0.0 = subst (λ r. Reaches deciding r v) c.in_err-hear-2.was
-    ends in
-    let heard = leads_on reader total _ calls s t u _ _ _ leads on in (
-      _,
-      v,
-      leads_on reader total _ more s u v _ _ _ heard on',
-      held'',
-      subst (λ r. Reaches resting r v) (sym (exit.1 ∙ ap Err exit.2)) ended_by,
-      turns'' ∙ turns' ∙ turns,
-      leaving'' ∙ leaving' ∙ leaving,
-    )
+    let begun = turn_clocked reader total left moment s _ _ _ _ _ _ holds has called c.read_clock.ensures.told counts in
+    let one = walks_on begun (c.hear.ensures.leads reader total begun.reached reads begun.holds begun.ends)
+    begun.turns in
+    let at = subst (λ r. Reaches (hearing RtpPort) r one.reached) c.in_ok-hear.was one.ends in
+    let both = walks_on one (c.hear-2.ensures.leads reader total one.reached reads one.holds at) one.turns in
+    walks_to both (stops (λ r. Reaches deciding r both.reached) (λ r. Reaches resting r both.reached)
+    c.from_residual-in_err-hear-2.result c.in_err-hear-2.was c.from_residual-in_err-hear-2.ensures.1 (λ is. is)
+    both.ends)
 
 pub returns-in_err-hear-2-clause-room : goal.returns-in_err-hear-2-clause-room
 returns-in_err-hear-2-clause-room g c = λ more room. c.hear-2.ensures.room more
@@ -69,24 +50,13 @@ tick-requires g c = record {
 pub returns-clause-leads : goal.returns-clause-leads
 returns-clause-leads g c = λ reader total left s reads holds has.
     let (moment, called, counts) = c.read_clock.ensures.called in
-    let (t, leads, held, at, turns, leaving) = turn_clocked reader total left moment s _ _ _ _ _ _ holds has called
-    c.read_clock.ensures.told counts in
-    let (calls, u, on, held', next, turns', leaving') = c.hear.ensures.leads reader total t reads held at in
-    let at' : u.stage ≡ hearing RtpPort = subst (λ r. Reaches (hearing RtpPort) r u) c.in_ok-hear.was next in
-    let (more, v, on', held'', next', turns'', leaving'') = c.hear-2.ensures.leads reader total u reads held' at' in
-    let at'' : v.stage ≡ deciding = subst (λ r. Reaches deciding r v) c.in_ok-hear-2.was next' in
-    let heard = leads_on reader total _ calls s t u _ _ _ leads on in
-    let both = leads_on reader total _ more s u v _ _ _ heard on' in
-    let (last, w, on'', kept, ends, turned, stays) = c.tick.ensures.leads reader total v held'' at'' in (
-      _,
-      w,
-      leads_on reader total _ last s v w _ _ _ both on'',
-      kept,
-      ends,
-      turned ∙ turns'' ∙ turns' ∙ turns,
-      stays
-          ∙ leaving'' ∙ leaving' ∙ leaving,
-    )
+    let begun = turn_clocked reader total left moment s _ _ _ _ _ _ holds has called c.read_clock.ensures.told counts in
+    let one = walks_on begun (c.hear.ensures.leads reader total begun.reached reads begun.holds begun.ends)
+    begun.turns in
+    let at = subst (λ r. Reaches (hearing RtpPort) r one.reached) c.in_ok-hear.was one.ends in
+    let both = walks_on one (c.hear-2.ensures.leads reader total one.reached reads one.holds at) one.turns in
+    walks_on both (c.tick.ensures.leads reader total both.reached both.holds
+    (subst (λ r. Reaches deciding r both.reached) c.in_ok-hear-2.was both.ends)) both.turns
 
 pub returns-clause-room : goal.returns-clause-room
 returns-clause-room g c = λ more room. c.tick.ensures.room more
