@@ -18,7 +18,6 @@ greatest_moment = refl
 
 -- One more.
 moment_too_great : event_in (codes "rtcp 18446744073709551616 1 00000000 -") ≡ Err Number
-unfolding decode_pairs
 moment_too_great = refl
 
 -- Twenty digits,
@@ -28,15 +27,12 @@ twenty_digits = refl
 
 -- and one more.
 twenty_one_digits : event_in (codes "rtp 000000000000000000007 1 00000000 80") ≡ Err Number
-unfolding decode_pairs
 twenty_one_digits = refl
 
 greatest_timestamp : event_in (codes "sent 5 4294967295 0") ≡ Ok (packet_sent 5 4294967295 0)
-unfolding decode_pairs
 greatest_timestamp = refl
 
 timestamp_too_great : event_in (codes "sent 5 4294967296 0") ≡ Err Number
-unfolding decode_pairs
 timestamp_too_great = refl
 
 words_of_either_case : event_in (codes "tick 1026037 00000000 fFfFfFfF") ≡ Ok (time_passed 1026037 0 4294967295)
@@ -44,7 +40,6 @@ unfolding decode_pairs
 words_of_either_case = refl
 
 seven_digits : event_in (codes "tick 5 0000000 00000000") ≡ Err Hex
-unfolding decode_pairs
 seven_digits = refl
 
 nine_digits : event_in (codes "tick 5 00000000 000000000") ≡ Err Hex
@@ -52,7 +47,6 @@ unfolding decode_pairs
 nine_digits = refl
 
 no_digits : event_in (codes "tick 5 zz 00000000") ≡ Err Hex
-unfolding decode_pairs
 no_digits = refl
 
 leave : event_in (codes "leave 10000000 0000000A") ≡ Ok (leave_asked 10000000 10)
@@ -60,53 +54,41 @@ unfolding decode_pairs
 leave = refl
 
 leave_without_word : event_in (codes "leave 0") ≡ Err Words
-unfolding decode_pairs
 leave_without_word = refl
 
 leave_with_two_words : event_in (codes "leave 0 00000000 00000000") ≡ Err Words
-unfolding decode_pairs
 leave_with_two_words = refl
 
 leave_with_seven_digits : event_in (codes "leave 0 0000000") ≡ Err Hex
-unfolding decode_pairs
 leave_with_seven_digits = refl
 
 -- The first faulty field counts,
 first_fault : event_in (codes "tick five zz 00000000") ≡ Err Number
-unfolding decode_pairs
 first_fault = refl
 
 -- but the number of fields before it.
 words_first : event_in (codes "tick five zz") ≡ Err Words
-unfolding decode_pairs
 words_first = refl
 
 empty_line : event_in (codes "") ≡ Err Words
-unfolding decode_pairs
 empty_line = refl
 
 unknown : event_in (codes "stay 0 00000000") ≡ Err Words
-unfolding decode_pairs
 unknown = refl
 
 upper_case_name : event_in (codes "RTCP 0 -") ≡ Err Words
-unfolding decode_pairs
 upper_case_name = refl
 
 too_few : event_in (codes "rtcp 0") ≡ Err Words
-unfolding decode_pairs
 too_few = refl
 
 space_at_end : event_in (codes "rtcp 0 1 00000000 - ") ≡ Err Words
-unfolding decode_pairs
 space_at_end = refl
 
 two_spaces : event_in (codes "tick  5 00000000 00000000") ≡ Err Words
-unfolding decode_pairs
 two_spaces = refl
 
 empty_moment : event_in (codes "rtcp  1 00000000 -") ≡ Err Number
-unfolding decode_pairs
 empty_moment = refl
 
 empty_hex : event_in (codes "rtcp 0 1 00000000 ") ≡ Err Hex
@@ -122,7 +104,6 @@ unfolding decode_pairs
 odd_digits = refl
 
 sign : event_in (codes "rtcp +1 1 00000000 -") ≡ Err Number
-unfolding decode_pairs
 sign = refl
 
 -- ---- Peers
@@ -135,7 +116,6 @@ greatest_peer = refl
 
 -- One more.
 peer_too_great : event_in (codes "rtcp 5 18446744073709551616 0000000A 80") ≡ Err Number
-unfolding decode_pairs
 peer_too_great = refl
 
 peer_and_word : event_in (codes "rtp 0 7 000000bb 80") ≡ Ok (rtp_arrived 0 7 187 (128 ∷ []))
@@ -143,31 +123,24 @@ unfolding decode_pairs
 peer_and_word = refl
 
 no_peer : event_in (codes "rtcp 0  000000bb -") ≡ Err Number
-unfolding decode_pairs
 no_peer = refl
 
 hex_peer : event_in (codes "rtp 0 0x7 000000bb -") ≡ Err Number
-unfolding decode_pairs
 hex_peer = refl
 
 word_of_seven_digits : event_in (codes "rtp 0 7 00000bb -") ≡ Err Hex
-unfolding decode_pairs
 word_of_seven_digits = refl
 
 -- The moment counts before the peer, the peer before the word, and the word before the datagram.
 moment_first : event_in (codes "rtcp x 18446744073709551616 zz zz") ≡ Err Number
-unfolding decode_pairs
 moment_first = refl
 
 peer_first : event_in (codes "rtcp 0 18446744073709551616 zz zz") ≡ Err Number
-unfolding decode_pairs
 peer_first = refl
 
 -- A line without a peer and a word.
 short_line : event_in (codes "rtcp 0 80c90001000000aa") ≡ Err Words
-unfolding decode_pairs
 short_line = refl
 
 without_word : event_in (codes "rtp 0 7 -") ≡ Err Words
-unfolding decode_pairs
 without_word = refl

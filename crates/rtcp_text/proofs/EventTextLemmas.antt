@@ -1,5 +1,5 @@
 -- The line of an event is read as that event.
-use Rattle.std.proofs.Common.{option_map, ◌≡◌, ◌≢◌, ℕ, suc, ◌+◌, ◌*◌, ◌<◌, ◌≤◌, ◌^◌, ◌==◌, ◌&&◌, Bool, true, false, nat_le, nat_lt, List, [], ◌∷◌, ◌++◌, length, All, if◌then◌else◌, Option, Some, None, Result, Ok, Err, codes, w32, refl, sym, ap, subst, ◌∙◌, arith, lit<, zero, map, length-append, append_assoc}
+use Rattle.std.proofs.Common.{option_map, ◌≡◌, ◌≢◌, ℕ, suc, ◌+◌, ◌*◌, ◌<◌, ◌≤◌, ◌^◌, ◌==◌, ◌&&◌, Bool, true, false, nat_le, nat_lt, List, [], ◌∷◌, ◌++◌, length, All, if◌then◌else◌, Option, Some, None, Result, Ok, Err, codes, w32, refl, sym, ap, subst, ◌∙◌, arith, lit<, lit≤, zero, map, length-append, append_assoc}
 use Rattle.std.specs.Fmt.{decimal}
 use Rattle.std.specs.Char.{is_digit}
 use Rattle.std.specs.Int.{to_be_bytes, from_be_bytes}
@@ -185,10 +185,7 @@ fields_read (leave_asked moment word) h = rw (moment_read moment h.0, word_read 
 fields_of_event : (event : EventValue) → EachIsField (event_fields event) → fields_of (event_text event)
     ≡ event_fields event
 fields_of_event (rtcp_arrived moment peer word octets) h = fields_of-spaced _ _ h
-fields_of_event (rtp_arrived moment peer word octets) h = fields_of-spaced _ _ h
-fields_of_event (packet_sent moment timestamp octets) h = fields_of-spaced _ _ h
-fields_of_event (time_passed moment first second) h = fields_of-spaced _ _ h
-fields_of_event (leave_asked moment word) h = fields_of-spaced _ _ h
+fields_of_event event h = fields_of-spaced _ _ h
 
 pub read_back : (event : EventValue) → IsCallable event → event_in (event_text event) ≡ Ok event
 read_back event h = ap event_of (fields_of_event event (event_are event h)) ∙ fields_read event h
@@ -241,43 +238,29 @@ arrival_short moment peer word octets now from few =
     (longer 131070 8 (hex_word word) (datagram_text octets) _ (word_short word)
     (last_short 131070 (datagram_text octets) (datagram_short octets few))))
 
+within : (most : ℕ) (fields : List (List ℕ)) → most ≤ 131200 → IsShort most fields → length (spaced fields) ≤ 131200
+within most fields le h = omega (arith, h.short)
+
 pub short_line : (event : EventValue) → IsCallable event → length (datagram_in_event event) ≤ 65535
     → length (event_text event) ≤ 131200
-short_line (rtcp_arrived moment peer word octets) h few =
-    omega (
-      arith,
-      (longer 131121 4 (codes "rtcp") _ _ (lit< tt)
-          (arrival_short moment peer word octets h.0 h.1 few)).short,
-    )
-short_line (rtp_arrived moment peer word octets) h few =
-    omega (
-      arith,
-      (longer 131121 3 (codes "rtp") _ _ (lit< tt)
-          (arrival_short moment peer word octets h.0 h.1 few)).short,
-    )
-short_line (packet_sent moment timestamp octets) h few =
-    omega (
-      arith,
-      (longer 62 4 (codes "sent") _ _ (lit< tt)
-          (longer 41 20 (decimal moment) (decimal timestamp) _ (decimal_short moment h.0)
-          (longer 20 20 (decimal timestamp) (decimal octets) _ (decimal_short timestamp (omega (arith, h.1)))
-          (last_short 20 (decimal octets) (decimal_short octets (omega (arith, h.2))))))).short,
-    )
-short_line (time_passed moment first second) h few =
-    omega (
-      arith,
-      (longer 38 4 (codes "tick") _ _ (lit< tt)
-          (longer 17 20 (decimal moment) (hex_word first) _ (decimal_short moment h.0)
-          (longer 8 8 (hex_word first) (hex_word second) _ (word_short first)
-          (last_short 8 (hex_word second) (word_short second))))).short,
-    )
-short_line (leave_asked moment word) h few =
-    omega (
-      arith,
-      (longer 29 5 (codes "leave") _ _ (lit< tt)
-          (longer 8 20 (decimal moment) (hex_word word) _ (decimal_short moment h.0)
-          (last_short 8 (hex_word word) (word_short word)))).short,
-    )
+short_line (rtcp_arrived moment peer word octets) h few = within 131126 _ (lit≤ tt)
+    (longer 131121 4 (codes "rtcp") _ _ (lit< tt) (arrival_short moment peer word octets h.0 h.1 few))
+short_line (rtp_arrived moment peer word octets) h few = within 131125 _ (lit≤ tt)
+    (longer 131121 3 (codes "rtp") _ _ (lit< tt) (arrival_short moment peer word octets h.0 h.1 few))
+short_line (packet_sent moment timestamp octets) h few = within 67 _ (lit≤ tt)
+    (longer 62 4 (codes "sent") _ _ (lit< tt)
+    (longer 41 20 (decimal moment) (decimal timestamp) _ (decimal_short moment h.0)
+    (longer 20 20 (decimal timestamp) (decimal octets) _ (decimal_short timestamp (omega (arith, h.1)))
+    (last_short 20 (decimal octets) (decimal_short octets (omega (arith, h.2)))))))
+short_line (time_passed moment first second) h few = within 43 _ (lit≤ tt)
+    (longer 38 4 (codes "tick") _ _ (lit< tt)
+    (longer 17 20 (decimal moment) (hex_word first) _ (decimal_short moment h.0)
+    (longer 8 8 (hex_word first) (hex_word second) _ (word_short first)
+    (last_short 8 (hex_word second) (word_short second)))))
+short_line (leave_asked moment word) h few = within 35 _ (lit≤ tt)
+    (longer 29 5 (codes "leave") _ _ (lit< tt)
+    (longer 8 20 (decimal moment) (hex_word word) _ (decimal_short moment h.0)
+    (last_short 8 (hex_word word) (word_short word))))
 
 -- ---- A record
 
@@ -351,10 +334,6 @@ Arrives arrived = (moment peer word : ℕ) (octets : List ℕ) → moment < 2 ^ 
 
 arrival_callable : (arrived : (moment peer word : ℕ) → List ℕ → EventValue) → Arrives arrived
     → (fields : List (List ℕ)) (event : EventValue) → arrival arrived fields ≡ Ok event → IsCallable event
-arrival_callable arrived each [] event h = cc h
-arrival_callable arrived each (a ∷ []) event h = cc h
-arrival_callable arrived each (a ∷ b ∷ []) event h = cc h
-arrival_callable arrived each (a ∷ b ∷ c ∷ []) event h = cc h
 arrival_callable arrived each (a ∷ b ∷ c ∷ d ∷ []) event h =
     let moment = bind_ok (moment_in a) _ event h in
     let peer = bind_ok (peer_in b) _ event moment.2 in
@@ -364,12 +343,9 @@ arrival_callable arrived each (a ∷ b ∷ c ∷ d ∷ []) event h =
     (each moment.0 peer.0 word.0 octets.0 (read_below 64 a Number moment.0 moment.1)
     (read_below 64 b Number peer.0 peer.1)
     (read_word c Hex word.0 word.1) (read_octets d Hex octets.0 octets.1))
-arrival_callable arrived each (a ∷ b ∷ c ∷ d ∷ e ∷ others) event h = cc h
+arrival_callable arrived each fields event h = cc h
 
 sending_callable : (fields : List (List ℕ)) (event : EventValue) → sending fields ≡ Ok event → IsCallable event
-sending_callable [] event h = cc h
-sending_callable (a ∷ []) event h = cc h
-sending_callable (a ∷ b ∷ []) event h = cc h
 sending_callable (a ∷ b ∷ c ∷ []) event h =
     let moment = bind_ok (moment_in a) _ event h in
     let timestamp = bind_ok (short_in b) _ event moment.2 in
@@ -379,29 +355,24 @@ sending_callable (a ∷ b ∷ c ∷ []) event h =
       read_below 32 b Number timestamp.0 timestamp.1,
       read_below 32 c Number octets.0 octets.1,
     )
-sending_callable (a ∷ b ∷ c ∷ d ∷ others) event h = cc h
+sending_callable fields event h = cc h
 
 tick_callable : (fields : List (List ℕ)) (event : EventValue) → tick fields ≡ Ok event → IsCallable event
-tick_callable [] event h = cc h
-tick_callable (a ∷ []) event h = cc h
-tick_callable (a ∷ b ∷ []) event h = cc h
 tick_callable (a ∷ b ∷ c ∷ []) event h =
     let moment = bind_ok (moment_in a) _ event h in
     let first = bind_ok (word_in b) _ event moment.2 in
     let second = bind_ok (word_in c) _ event first.2 in
     subst IsCallable (ok_inside (time_passed moment.0 first.0 second.0) event second.2)
     (read_below 64 a Number moment.0 moment.1, read_word b Hex first.0 first.1, read_word c Hex second.0 second.1)
-tick_callable (a ∷ b ∷ c ∷ d ∷ others) event h = cc h
+tick_callable fields event h = cc h
 
 leave_callable : (fields : List (List ℕ)) (event : EventValue) → leave fields ≡ Ok event → IsCallable event
-leave_callable [] event h = cc h
-leave_callable (a ∷ []) event h = cc h
 leave_callable (a ∷ b ∷ []) event h =
     let moment = bind_ok (moment_in a) _ event h in
     let word = bind_ok (word_in b) _ event moment.2 in
     subst IsCallable (ok_inside (leave_asked moment.0 word.0) event word.2)
     (read_below 64 a Number moment.0 moment.1, read_word b Hex word.0 word.1)
-leave_callable (a ∷ b ∷ c ∷ others) event h = cc h
+leave_callable fields event h = cc h
 
 kind_callable : (kind : Option LineKind) (fields : List (List ℕ)) (event : EventValue) → event_with kind fields
     ≡ Ok event → IsCallable event

@@ -8,7 +8,7 @@ use Rattle.std.proofs.lemmas.Bool.{false≢true}
 use Rattle.std.proofs.lemmas.List.Concat.{flat_map-append}
 use Rattle.std.proofs.lemmas.List.Elements.{All-nil, All-cons, All-append}
 use Rattle.rtcp_text.specs.declared.fault.LineFault.{LineFault}
-use Rattle.rtcp_text.specs.declared.fault.LineFault.TheVariants.{LineTooLong, TooManyLines, Words, Hex, Number}
+use Rattle.rtcp_text.specs.declared.fault.LineFault.TheVariants.{LineTooLong, TooManyLines}
 use Rattle.rtcp_text.specs.declared.fault.TextFault.{TextFault}
 use Rattle.rtcp_text.specs.declared.fault.TextFault.TheVariants.{Text, Read, Write, Memory}
 use Rattle.rtcp_text.specs.Lines.{lines_of, HasNoLineFeed, BeginsWithLines, Answering, Refusing, IsTextBy, IsTextFrom}
@@ -217,12 +217,6 @@ module _ {S : Type 0} (most : ℕ) (answers : Answering S) (refuses : Refusing) 
       ∙ sym (append_assoc pending (piece ++ after) more))
       (too_long n number state (pending ++ piece) (after ++ more)
       (All-append (λ octet. octet ≢ 10) pending piece part each) h.2 h.0 h.1)
-  PartLeaves-lengthens (Text number Words) n answered' state next pending piece after longer rest' part each some h =
-      absurd h
-  PartLeaves-lengthens (Text number Hex) n answered' state next pending piece after longer rest' part each some h =
-      absurd h
-  PartLeaves-lengthens (Text number Number) n answered' state next pending piece after longer rest' part each some h =
-      absurd h
   PartLeaves-lengthens Memory n answered' state next pending piece after longer rest' part each some h = record {
     lines = [];
     rest = pending ++ (piece ++ after);
@@ -230,8 +224,17 @@ module _ {S : Type 0} (most : ℕ) (answers : Answering S) (refuses : Refusing) 
     begins = record { parts = refl; each = All-nil HasNoLineFeed };
     texts = (state, (refl, refl, refl));
   }
-  PartLeaves-lengthens Write n answered' state next pending piece after longer rest' part each some h = absurd h
-  PartLeaves-lengthens Read n answered' state next pending piece after longer rest' part each some h = absurd h
+  PartLeaves-lengthens fault n answered' state next pending piece after longer rest' part each some h = absurd h
+
+  -- The line that was put together is the one that is answered.
+  pub LineLeaves-longer : {A : Type 0} (r : Result A TextFault) (n n' : ℕ) (state state' next : S)
+      (line line' text : List ℕ) → n' ≡ n → state' ≡ state → line' ≡ line
+      → LineLeaves most answers refuses r (n' + 1) state' line' text next →
+      LineLeaves most answers refuses r (n + 1) state line text next
+  LineLeaves-longer r n n' state state' next line line' text number same made leaves =
+      subst (λ m. LineLeaves most answers refuses r (m + 1) state line text next) number
+      (subst (λ s. LineLeaves most answers refuses r (n' + 1) s line text next) same
+      (subst (λ l. LineLeaves most answers refuses r (n' + 1) state' l text next) made leaves))
 
   -- ---- a block, of which a prefix is answered and the rest is left
 
@@ -315,12 +318,8 @@ module _ {S : Type 0} (most : ℕ) (answers : Answering S) (refuses : Refusing) 
         feed made same kept leaves =
         block_failed fault answered' next piece others rest' text' part each
         (cut_at_feed rest piece after others octet cut e feed)
-        (subst (λ m. LineLeaves most answers refuses {A = Unit {0}} (Err fault) (m + 1) between (pending ++ piece) text'
-        next) same
-        (subst (λ s. LineLeaves most answers refuses {A = Unit {0}} (Err fault) (answered'' + 1) s (pending ++ piece)
-        text' next) kept
-        (subst (λ l. LineLeaves most answers refuses {A = Unit {0}} (Err fault) (answered'' + 1) between' l text' next)
-        made leaves)))
+        (LineLeaves-longer {A = Unit {0}} (Err fault) answered answered'' between between' next (pending ++ piece) longer
+        text' same kept made leaves)
 
     -- The line that was cut is answered.
     pub turn_answered : (x : Unit {0}) (octet answered' answered'' : ℕ) (between' next : S)
@@ -336,12 +335,8 @@ module _ {S : Type 0} (most : ℕ) (answers : Answering S) (refuses : Refusing) 
         made same kept number none leaves =
         let found = block_answered x next piece others text' part each
         (cut_at_feed rest piece after others octet cut e feed)
-        (subst (λ m. LineLeaves most answers refuses {A = Unit {0}} (Ok x) (m + 1) between (pending ++ piece) text'
-        next) same
-        (subst (λ s. LineLeaves most answers refuses {A = Unit {0}} (Ok x) (answered'' + 1) s (pending ++ piece) text'
-        next) kept
-        (subst (λ l. LineLeaves most answers refuses {A = Unit {0}} (Ok x) (answered'' + 1) between' l text' next) made
-        leaves))) in (
+        (LineLeaves-longer {A = Unit {0}} (Ok x) answered answered'' between between' next (pending ++ piece) longer
+        text' same kept made leaves) in (
           found.0,
           subst (λ m. AnswersLines most answers refuses n state (old ++ (prefix ++ (piece ++ 10 ∷ []))) m next rest'
               (text ++ text')) (sym (number ∙ ap (λ m. m + 1) same))
@@ -366,8 +361,7 @@ module _ {S : Type 0} (most : ℕ) (answers : Answering S) (refuses : Refusing) 
   LineLeaves-failed (Text number fault) n state next next' line text few short (same, refused) = λ others.
       (state, inl (fault, inr (inr (few, short, refused)), refl, ap (λ m. Some (m, fault)) same, refl))
   LineLeaves-failed Memory n state next next' line text few short leaves = refl
-  LineLeaves-failed Write n state next next' line text few short leaves = absurd leaves
-  LineLeaves-failed Read n state next next' line text few short leaves = absurd leaves
+  LineLeaves-failed fault n state next next' line text few short leaves = absurd leaves
 
   -- A prefix of the answer is written.
   pub LineLeaves-cut : (n : ℕ) (state next next' : S) (line text prefix more : List ℕ) → n ≤ most →
@@ -411,22 +405,8 @@ module _ {S : Type 0} (most : ℕ) (answers : Answering S) (refuses : Refusing) 
       refl,
     ),
   )
-  LineLeaves-refused (Text number Words) n state next pending piece longer h = absurd h
-  LineLeaves-refused (Text number Hex) n state next pending piece longer h = absurd h
-  LineLeaves-refused (Text number Number) n state next pending piece longer h = absurd h
   LineLeaves-refused Memory n state next pending piece longer h = refl
-  LineLeaves-refused Write n state next pending piece longer h = absurd h
-  LineLeaves-refused Read n state next pending piece longer h = absurd h
-
-  -- The line that was put together is the one that is answered.
-  pub LineLeaves-longer : {A : Type 0} (r : Result A TextFault) (n n' : ℕ) (state state' next : S)
-      (line line' text : List ℕ) → n' ≡ n → state' ≡ state → line' ≡ line
-      → LineLeaves most answers refuses r (n' + 1) state' line' text next →
-      LineLeaves most answers refuses r (n + 1) state line text next
-  LineLeaves-longer r n n' state state' next line line' text number same made leaves =
-      subst (λ m. LineLeaves most answers refuses r (m + 1) state line text next) number
-      (subst (λ s. LineLeaves most answers refuses r (n' + 1) s line text next) same
-      (subst (λ l. LineLeaves most answers refuses r (n' + 1) state' l text next) made leaves))
+  LineLeaves-refused fault n state next pending piece longer h = absurd h
 
   -- Where nothing is pending, the piece is the line.
   pub LineLeaves-whole : {A : Type 0} (r : Result A TextFault) (n : ℕ) (state next : S) (pending line text : List ℕ) →

@@ -11,7 +11,7 @@ use Rattle.rtcp_text.specs.AnswerText.{answer_text}
 use Rattle.rtcp_text.specs.EventLines.{event_in}
 use Rattle.rtcp_text.specs.declared.fault.LineFault.{LineFault}
 use Rattle.rtcp_text.specs.declared.fault.TextFault.{TextFault}
-use Rattle.rtcp_text.specs.declared.fault.TextFault.TheVariants.{Text, Read, Write, Memory}
+use Rattle.rtcp_text.specs.declared.fault.TextFault.TheVariants.{Write, Memory}
 use Rattle.rtcp_text.specs.Lines.{lines_of, IsTextFrom}
 use Rattle.rtcp_text.specs.Progress.{RunLeaves}
 use Rattle.rtcp_text.specs.Replay.{AnswersEvent, AnswersStanding, IsNoEvent, IsSessionText, IsPrefixOfSession, SessionBefore, SessionUpToBlock, SessionLeaves, opening}
@@ -138,14 +138,12 @@ pub SessionLeaves-opened : {A : Type 0} (most : ℕ) (history : History) (r : Re
     (input answers : List ℕ)
     → RunLeaves (IsSessionText most history) r left input answers →
     SessionLeaves most history r left input (opening history ++ answers)
-SessionLeaves-opened most history (Ok x) left input answers leaves = (answers, refl, leaves)
-SessionLeaves-opened most history (Err (Text line fault)) left input answers leaves = (answers, refl, leaves)
 SessionLeaves-opened most history (Err Memory) left input answers leaves = inr (answers, refl, leaves)
-SessionLeaves-opened most history (Err Read) left input answers leaves = (answers, refl, leaves)
 SessionLeaves-opened {A} most history (Err Write) left input answers leaves =
     let found = IsPrefixBy-leaves (IsSessionText most history) (session_text_continues most history) {A = A} (Err Write)
     left input answers leaves in
     (found.0, answers ++ found.1, found.1, found.2, sym (append_assoc (opening history) answers found.1))
+SessionLeaves-opened most history r left input answers leaves = (answers, refl, leaves)
 
 -- A prefix of the line for the start is one of the whole text.
 pub IsPrefixOfSession-start : (most : ℕ) (history : History) (input text more : List ℕ) →
@@ -177,23 +175,15 @@ opened_prefix most history input text answers parts (end, more, texts) = (
 pub IsPrefixOfSession-leaves : {A : Type 0} (most : ℕ) (history : History) (r : Result A TextFault)
     (left : Option (List ℕ)) (input text : List ℕ)
     → SessionLeaves most history r left input text → IsPrefixOfSession most history input text
-IsPrefixOfSession-leaves {A} most history (Ok x) left input text (answers, parts, texts) =
-    opened_prefix most history input text answers parts
-    (IsPrefixBy-leaves (IsSessionText most history) (session_text_continues most history) (Ok x) left input answers
-    texts)
-IsPrefixOfSession-leaves {A} most history (Err (Text line fault)) left input text (answers, parts, texts) =
-    opened_prefix most history input text answers parts
-    (IsPrefixBy-leaves (IsSessionText most history) (session_text_continues most history) {A = A}
-    (Err (Text line fault)) left input answers texts)
-IsPrefixOfSession-leaves {A} most history (Err Memory) left input text (inl none) =
+IsPrefixOfSession-leaves most history (Err Memory) left input text (inl none) =
     let found = session_text_exists most history (lines_of input) in
     (found.1, found.0, opening history ++ found.0, found.2, ap (λ t. t ++ (opening history ++ found.0)) (sym none))
 IsPrefixOfSession-leaves {A} most history (Err Memory) left input text (inr (answers, parts, texts)) =
     opened_prefix most history input text answers parts
     (IsPrefixBy-leaves (IsSessionText most history) (session_text_continues most history) {A = A} (Err Memory) left
     input answers texts)
-IsPrefixOfSession-leaves {A} most history (Err Read) left input text (answers, parts, texts) =
-    opened_prefix most history input text answers parts
-    (IsPrefixBy-leaves (IsSessionText most history) (session_text_continues most history) {A = A} (Err Read) left input
-    answers texts)
 IsPrefixOfSession-leaves most history (Err Write) left input text leaves = leaves
+IsPrefixOfSession-leaves {A} most history r left input text leaves =
+    opened_prefix most history input text leaves.0 leaves.1
+    (IsPrefixBy-leaves (IsSessionText most history) (session_text_continues most history) {A = A} r left input leaves.0
+    leaves.2)
