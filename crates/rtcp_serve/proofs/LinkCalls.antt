@@ -198,11 +198,7 @@ stops P Q result was passed alike ends =
 
 abbrev pub IsUnderWay : Stage → Type 0
 IsUnderWay resting = ⊥
-IsUnderWay beginning = Unit {0}
-IsUnderWay (hearing port) = Unit {0}
-IsUnderWay deciding = Unit {0}
-IsUnderWay (sending out changed next) = Unit {0}
-IsUnderWay (ended cause) = Unit {0}
+IsUnderWay stage = Unit {0}
 
 goes_on : (next s : Standing) (stage : Stage) → IsUnderWay stage → rested next stage s ≡ s
 goes_on next s resting under_way = absurd under_way

@@ -20,13 +20,9 @@ use Rattle.rtcp_serve.specs.Handing.{act_in, acts_in, answers_given, answers_in,
 
 -- the compound that is to be sent next
 abbrev pub pending : Stage → List (List ℕ)
-pending resting = []
-pending beginning = []
-pending (hearing port) = []
-pending deciding = []
 -- after those of the next stage, if it has any
 pending (sending out changed next) = pending next ++ out.octets ∷ []
-pending (ended cause) = []
+pending stage = []
 
 -- The compounds that were handed out are those that the link was given, and the one that is to be sent next. What was
 -- told are the acts, and the answers.

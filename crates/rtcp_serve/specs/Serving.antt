@@ -171,11 +171,7 @@ turn_or otherwise s = turn_by (next_in_life (life_at s.history)) s.turns otherwi
 -- where nothing is under way, what comes then
 abbrev pub rested : (next : Standing) → Stage → Standing → Standing
 rested next resting s = next
-rested next beginning s = s
-rested next (hearing port) s = s
-rested next deciding s = s
-rested next (sending out changed after) s = s
-rested next (ended cause) s = s
+rested next stage s = s
 
 -- What comes next, after the leave.
 abbrev pub gone_on : Standing → Standing
@@ -193,29 +189,18 @@ going total s = rested (turn_or (after_turns total s) s) s.stage s
 -- ---- Calls
 
 abbrev pub ReadsClock : Stage → Type 0
-ReadsClock resting = ⊥
 ReadsClock beginning = Unit {0}
-ReadsClock (hearing port) = ⊥
 ReadsClock deciding = Unit {0}
-ReadsClock (sending out changed next) = ⊥
-ReadsClock (ended cause) = ⊥
+ReadsClock stage = ⊥
 
 -- each port in its turn, for 20,000 microseconds at most
 abbrev pub Hears : Port → (wait : ℕ) → Stage → Type 0
-Hears port wait resting = ⊥
-Hears port wait beginning = ⊥
 Hears port wait (hearing next) = (port ≡ next) × (wait ≡ 20000)
-Hears port wait deciding = ⊥
-Hears port wait (sending out changed next) = ⊥
-Hears port wait (ended cause) = ⊥
+Hears port wait stage = ⊥
 
 abbrev pub Sends : (octets : List ℕ) → Stage → Type 0
-Sends octets resting = ⊥
-Sends octets beginning = ⊥
-Sends octets (hearing port) = ⊥
-Sends octets deciding = ⊥
 Sends octets (sending out changed next) = octets ≡ out.octets
-Sends octets (ended cause) = ⊥
+Sends octets stage = ⊥
 
 -- a call is the one that comes at a stage
 abbrev pub Fits : Call → Stage → Type 0
@@ -225,22 +210,15 @@ Fits (compound_sent octets failed) stage = Sends octets stage
 
 -- a turn begins with the moment, and it is taken again before the tick
 abbrev pub after_clock : (moment : ℕ) → Stage → Standing → Standing
-after_clock moment resting s = s
 after_clock moment beginning s = at_stage (hearing RtcpPort) (with_tally (with_moment moment s.tally) s)
-after_clock moment (hearing port) s = s
 after_clock moment deciding s = ticked_now (with_tally (with_moment moment s.tally) s)
-after_clock moment (sending out changed next) s = s
-after_clock moment (ended cause) s = s
+after_clock moment stage s = s
 
 -- Whether or not sending it failed, a compound is sent once.
 abbrev pub after_sending : (failed : Bool) → Stage → Standing → Standing
-after_sending failed resting s = s
-after_sending failed beginning s = s
-after_sending failed (hearing port) s = s
-after_sending failed deciding s = s
 after_sending failed (sending out changed next) s =
     at_stage next (with_tally (with_send out.kind changed failed s.tally) s)
-after_sending failed (ended cause) s = s
+after_sending failed stage s = s
 
 -- where a session stands after a call that fits
 abbrev pub after_call : Reader → Call → Standing → Standing
