@@ -7,35 +7,35 @@ use Rattle.rtcp_wire.specs.Values.{RtcpPacket}
 use Rattle.jalwedd_c.specs.Parts.{Locates}
 use Rattle.jalwedd_c.proofs.Options.{some_same}
 
--- The packets of a datagram are these, and it has no fault.
-pub record Reads (datagram : List ℕ) (read : List RtcpPacket) : Type 0 where
-  pub reads : (packets : List RtcpPacket) → IsAccepted datagram packets → read ≡ packets
-  pub no_fault : (first : WireFault) → IsFirstFault datagram first → ⊥
-
--- What stands at an index of the parts of the packets read stands there for any packets that the datagram has.
 same_part : {Part : Type 0} (parts : List RtcpPacket → List Part) {datagram : List ℕ} (index : ℕ)
-    {read : List RtcpPacket} {here there : Option Part} → Reads datagram read → slice_get (parts read) index ≡ here
+    {read : List RtcpPacket} {here there : Option Part}
+    → ((packets : List RtcpPacket) → IsAccepted datagram packets → read ≡ packets) → slice_get (parts read) index ≡ here
     → (packets : List RtcpPacket) → IsAccepted datagram packets → slice_get (parts packets) index ≡ there → here ≡ there
-same_part parts index is first packets accepted at =
-    sym first ∙ ap (λ ps. slice_get (parts ps) index) (is.reads packets accepted) ∙ at
+same_part parts index reads first packets accepted at =
+    sym first ∙ ap (λ ps. slice_get (parts ps) index) (reads packets accepted) ∙ at
 
-pub located : {Part Place : Type 0} {parts : List RtcpPacket → List Part} {Shows : Place → Part → Type 0}
-    {datagram : List ℕ} {index result : ℕ} {was place : Place} {read : List RtcpPacket} (part : Part)
-    → Reads datagram read → slice_get (parts read) index ≡ Some part → result ≡ 0 → Shows place part
-    → Locates parts Shows datagram index result was place
-located {parts = parts} {Shows = Shows} {index = index} {place = place} part is first taken shows = record {
-  found = λ packets other accepted at.
-      (taken, subst (Shows place) (some_same part other (same_part parts index is first packets accepted at)) shows);
-  none = λ packets accepted at. absurd (cc (same_part parts index is first packets accepted at));
-  refused = λ fault first_fault. absurd (is.no_fault fault first_fault);
-}
-
-pub missing : {Part Place : Type 0} {parts : List RtcpPacket → List Part} {Shows : Place → Part → Type 0}
+-- Where a datagram was read, what is told of the part at an index of all parts that its packets have: for any packets
+-- that it has, since these are the ones that were read.
+module _ {Part Place : Type 0} {parts : List RtcpPacket → List Part} {Shows : Place → Part → Type 0}
     {datagram : List ℕ} {index result : ℕ} {was place : Place} {read : List RtcpPacket}
-    → Reads datagram read → slice_get (parts read) index ≡ None → result ≡ 8 → place ≡ was
-    → Locates parts Shows datagram index result was place
-missing {parts = parts} {index = index} is first untold same = record {
-  found = λ packets part accepted at. absurd (cc (same_part parts index is first packets accepted at));
-  none = λ packets accepted at. (untold, same);
-  refused = λ fault first_fault. absurd (is.no_fault fault first_fault);
-}
+    (reads : (packets : List RtcpPacket) → IsAccepted datagram packets → read ≡ packets)
+    (no_fault : (first : WireFault) → IsFirstFault datagram first → ⊥) where
+  pub located : (part : Part) → slice_get (parts read) index ≡ Some part → result ≡ 0 → Shows place part
+      → Locates parts Shows datagram index result was place
+  located part first taken shows = record {
+    found = λ packets other accepted at. (
+      taken,
+      subst (Shows place) (some_same part other
+          (same_part parts index reads first packets accepted at)) shows,
+    );
+    none = λ packets accepted at. absurd (cc (same_part parts index reads first packets accepted at));
+    refused = λ fault first_fault. absurd (no_fault fault first_fault);
+  }
+
+  pub missing : slice_get (parts read) index ≡ None → result ≡ 8 → place ≡ was
+      → Locates parts Shows datagram index result was place
+  missing first untold same = record {
+    found = λ packets part accepted at. absurd (cc (same_part parts index reads first packets accepted at));
+    none = λ packets accepted at. (untold, same);
+    refused = λ fault first_fault. absurd (no_fault fault first_fault);
+  }

@@ -1,6 +1,5 @@
 -- 2^64 - 1 stands for no moment, and for nothing else.
-use Rattle.std.proofs.Common.{◌≡◌, ◌↔◌, ◌≤◌, ◌<◌, ◌-◌, ◌^◌, ℕ, Option, Some, None, IfSome, refl, sym, subst, ◌∙◌}
-use Rattle.std.proofs.Common.{arith}
+use Rattle.std.proofs.Common.{◌≡◌, ◌↔◌, ◌≤◌, ◌<◌, ◌-◌, ◌^◌, ℕ, Option, Some, None, IfSome, refl, sym, subst, ◌∙◌, arith}
 use Rattle.rtcp_source.specs.Summary.{ToldValue}
 use Rattle.rtcp_members.specs.Told.{StateValue}
 use Rattle.rtcp_members.proofs.LawLemmas as tables
@@ -17,27 +16,20 @@ use Rattle.jalwedd_c.proofs.Options.{some_same}
 
 -- ---- Moments of taken calls
 
-pub left_in_range : (latest : ℕ) (left : Option ℕ) → latest ≤ 2 ^ 50 → IfSome left (λ left. left ≤ latest) →
-    IfSome left (λ left. left < 2 ^ 64 - 1)
-left_in_range latest None range past = tt
-left_in_range latest (Some left) range past = omega (arith, range, past)
-
-told_in_range : (latest : ℕ) (told : Option ToldValue) → latest ≤ 2 ^ 50 →
-    IfSome told (λ told. told.moment ≤ latest) → IfSome told (λ told. told.moment < 2 ^ 64 - 1)
-told_in_range latest None range past = tt
-told_in_range latest (Some told) range past = omega (arith, range, past)
+pub in_range : {A : Type 0} (moment : A → ℕ) (latest : ℕ) (known : Option A) → latest ≤ 2 ^ 50 →
+    IfSome known (λ x. moment x ≤ latest) → IfSome known (λ x. moment x < 2 ^ 64 - 1)
+in_range moment latest None range past = tt
+in_range moment latest (Some x) range past = omega (arith, range, past)
 
 -- ---- What stands for none
 
-left_or_never : (left : Option ℕ) (n : ℕ) → n ≡ moment_shown left → IfSome left (λ left. left < 2 ^ 64 - 1) →
-    (n ≡ 2 ^ 64 - 1) ↔ (left ≡ None)
-left_or_never None n shown before = (λ never. refl, λ none. shown)
-left_or_never (Some left) n shown before = (λ never. absurd (omega (arith, shown, never, before)), λ none. absurd cc)
-
-told_or_never : (told : Option ToldValue) (n : ℕ) → n ≡ (told_shown told).moment →
-    IfSome told (λ told. told.moment < 2 ^ 64 - 1) → (n ≡ 2 ^ 64 - 1) ↔ (told ≡ None)
-told_or_never None n shown before = (λ never. refl, λ none. shown)
-told_or_never (Some told) n shown before = (λ never. absurd (omega (arith, shown, never, before)), λ none. absurd cc)
+-- a moment is told of what is known, and else this one
+or_never : {A : Type 0} (moment : A → ℕ) (shown : Option A → ℕ) (known : Option A) (n : ℕ) → shown None ≡ 2 ^ 64 - 1 →
+    ((x : A) → shown (Some x) ≡ moment x) → n ≡ shown known → IfSome known (λ x. moment x < 2 ^ 64 - 1) →
+    (n ≡ 2 ^ 64 - 1) ↔ (known ≡ None)
+or_never moment shown None n none some is before = (λ never. refl, λ same. is ∙ none)
+or_never moment shown (Some x) n none some is before =
+    (λ never. absurd (omega (arith, is, some x, never, before)), λ same. absurd cc)
 
 -- ---- What a host is given
 
@@ -63,15 +55,17 @@ module _ (history : History) (is : IsHistory history) (after : Option ℕ) (stat
   abbrev latest : ℕ
   latest = last_moment history.acts
 
-  in_range : latest ≤ 2 ^ 50
-  in_range = engine.told_moments_have_passed-range history is
+  range : latest ≤ 2 ^ 50
+  range = engine.told_moments_have_passed-range history is
 
   pub shows_left : (shown.left ≡ 2 ^ 64 - 1) ↔ (state.left ≡ None)
   shows_left =
-      left_or_never state.left shown.left shows.left
-      (left_in_range latest state.left in_range (engine.told_moments_have_passed-left history is after state tells))
+      or_never (λ left. left) moment_shown state.left shown.left refl (λ left. refl) shows.left
+      (in_range (λ left. left) latest state.left range
+      (engine.told_moments_have_passed-left history is after state tells))
 
   pub shows_told : (shown.told ≡ 2 ^ 64 - 1) ↔ (state.told ≡ None)
   shows_told =
-      told_or_never state.told shown.told shows.told
-      (told_in_range latest state.told in_range (engine.told_moments_have_passed-told history is after state tells))
+      or_never (λ told. told.moment) (λ told. (told_shown told).moment) state.told shown.told refl (λ told. refl)
+      shows.told (in_range (λ told. told.moment) latest state.told range
+      (engine.told_moments_have_passed-told history is after state tells))

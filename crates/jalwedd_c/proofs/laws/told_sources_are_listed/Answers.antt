@@ -1,6 +1,6 @@
 use Rattle.rtcp_engine.specs.Histories.{last_moment}
 use Rattle.jalwedd_c.proofs.Listing.{listed_as_known}
-use Rattle.jalwedd_c.proofs.Never.{left_in_range}
+use Rattle.jalwedd_c.proofs.Never.{in_range}
 use Rattle.jalwedd_c.proofs.laws.told_sources_are_listed.Goals as goal
 
 pub returns : goal.returns
@@ -8,4 +8,4 @@ returns c history is after state tells shown shows =
     let passed = c.told_moments_have_passed.ensures in
     let left = passed.left history is after state tells in
     listed_as_known shown state shows
-    (left_in_range (last_moment history.acts) state.left (passed.range history is) left)
+    (in_range (λ left. left) (last_moment history.acts) state.left (passed.range history is) left)

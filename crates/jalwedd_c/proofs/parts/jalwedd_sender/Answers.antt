@@ -9,16 +9,11 @@ pub returns-in-Some : goal.returns-in-Some
 returns-in-Some c =
     let yields = YieldsList-from_first sender_value (λ parts. parts) _ c.senders.ensures in
     let first = nth_from_yields_List (Some c.in-Some.report) _ c.args.index c.in-Some.ensures.ran yields in
-    located (sender_value c.in-Some.report) (record {
-      reads = c.in-Ok.ensures.reads;
-      no_fault = λ fault is. cc (c.in-Ok.ensures.finds fault is);
-    }) (sym first) refl c.sender_info.ensures
+    located c.in-Ok.ensures.reads (λ fault is. cc (c.in-Ok.ensures.finds fault is))
+    (sender_value c.in-Some.report) (sym first) refl c.sender_info.ensures
 
 pub returns-in-None : goal.returns-in-None
 returns-in-None c =
     let yields = YieldsList-from_first sender_value (λ parts. parts) _ c.senders.ensures in
     let first = nth_from_yields_List None _ c.args.index c.in-None.ensures.ran yields in
-    missing (record {
-      reads = c.in-Ok.ensures.reads;
-      no_fault = λ fault is. cc (c.in-Ok.ensures.finds fault is);
-    }) (sym first) refl refl
+    missing c.in-Ok.ensures.reads (λ fault is. cc (c.in-Ok.ensures.finds fault is)) (sym first) refl refl

@@ -10,16 +10,11 @@ returns-in-Some c =
     let yields = YieldsList-from_first reported_value (λ parts. parts) _ c.about.ensures in
     let ran = c.in-Some.ensures.ran in
     let first = nth_from_yields_List (Some (c.in-Some.reporter, c.in-Some.block)) _ c.args.index ran yields in
-    located (reported_value (c.in-Some.reporter, c.in-Some.block)) (record {
-      reads = c.in-Ok.ensures.reads;
-      no_fault = λ fault is. cc (c.in-Ok.ensures.finds fault is);
-    }) (sym first) refl c.shown.ensures
+    located c.in-Ok.ensures.reads (λ fault is. cc (c.in-Ok.ensures.finds fault is))
+    (reported_value (c.in-Some.reporter, c.in-Some.block)) (sym first) refl c.shown.ensures
 
 pub returns-in-None : goal.returns-in-None
 returns-in-None c =
     let yields = YieldsList-from_first reported_value (λ parts. parts) _ c.about.ensures in
     let first = nth_from_yields_List None _ c.args.index c.in-None.ensures.ran yields in
-    missing (record {
-      reads = c.in-Ok.ensures.reads;
-      no_fault = λ fault is. cc (c.in-Ok.ensures.finds fault is);
-    }) (sym first) refl refl
+    missing c.in-Ok.ensures.reads (λ fault is. cc (c.in-Ok.ensures.finds fault is)) (sym first) refl refl
