@@ -318,8 +318,8 @@ module _ {S : Type 0} (most : ℕ) (answers : Answering S) (refuses : Refusing) 
         feed made same kept leaves =
         block_failed fault answered' next piece others rest' text' part each
         (cut_at_feed rest piece after others octet cut e feed)
-        (LineLeaves-longer {A = Unit {0}} (Err fault) answered answered'' between between' next (pending ++ piece) longer
-        text' same kept made leaves)
+        (LineLeaves-longer {A = Unit {0}} (Err fault) answered answered'' between between' next (pending ++ piece)
+        longer text' same kept made leaves)
 
     -- The line that was cut is answered.
     pub turn_answered : (x : Unit {0}) (octet answered' answered'' : ℕ) (between' next : S)
