@@ -140,9 +140,6 @@ AtPackets all packets datagram rest index left =
     Joins IsSpelling packets rest × IsRest rest datagram
     × (slice_get (all_apps all) index ≡ slice_get (all_apps packets) left)
 
-pub rest_within : (rest datagram : List ℕ) → IsRest rest datagram → length rest ≤ length datagram
-rest_within rest datagram h = omega (arith, ap length h.1, length-append h.0 rest)
-
 module _ (all old packets : List RtcpPacket) (packet : RtcpPacket) (datagram rest : List ℕ) (index left : ℕ)
     (h : AtPackets all old datagram rest index left) (first : old ≡ packet ∷ packets) where
   pub at_first : FirstOf packet packets rest

@@ -1,5 +1,4 @@
 pub mod Host
-pub mod Refusals
 pub mod Values
 mod Options
 mod Listing

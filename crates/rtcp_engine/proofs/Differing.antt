@@ -45,10 +45,6 @@ abbrev pub AllFrom : (low : ℕ) → List ℕ → Type 0
 AllFrom low [] = Unit {0}
 AllFrom low (n ∷ rest) = (low ≤ n) × AllFrom low rest
 
-from_lower : (low lower : ℕ) (ns : List ℕ) → lower ≤ low → AllFrom low ns → AllFrom lower ns
-from_lower low lower [] below all = tt
-from_lower low lower (n ∷ rest) below all = (omega (arith, all.0), from_lower low lower rest below all.1)
-
 from_append : (low : ℕ) (ns ms : List ℕ) → AllFrom low ns → AllFrom low ms → AllFrom low (ns ++ ms)
 from_append low [] ms a b = b
 from_append low (n ∷ rest) ms a b = (a.0, from_append low rest ms a.1 b)

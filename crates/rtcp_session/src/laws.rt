@@ -94,9 +94,9 @@ pub fn windows_keep_to_the_share()
         ≤ length all * (2 * 121828 * width * (256 * receiver_bw)) }
 {}
 
-/// The average size of compounds is never below a size that none of them is below: none that came, nor an empty report of
-/// the participant (RFC 3550, 6.3.3). With UDP and IPv4 headers each datagram that is read as a compound has at least 36
-/// octets, and such a report at least 48.
+/// The average size of compounds is never below a size that none of them is below: none that came, nor an empty report
+/// of the participant (RFC 3550, 6.3.3). With UDP and IPv4 headers each datagram that is read as a compound has at
+/// least 36 octets, and such a report at least 48.
 pub fn averages_keep_to_the_sizes()
     ensures averages { (history : History) (least : ℕ) →
         least ≤ with_headers (first_size_of history.setup) → All (HasSize least) history.acts →
@@ -107,8 +107,8 @@ pub fn averages_keep_to_the_sizes()
 {}
 
 /// A participant counts all whom it hears: sources that are members by its trace, no two of them the same, and itself;
-/// so of those that send, and of those that do not (RFC 3550, 6.2.1, 6.3.3). One to which each of the others is a member,
-/// in the role in which that reports, counts all, as a crowd has to.
+/// so of those that send, and of those that do not (RFC 3550, 6.2.1, 6.3.3). One to which each of the others is a
+/// member, in the role in which that reports, counts all, as a crowd has to.
 pub fn those_heard_are_counted()
     ensures members { (setup : Setup) (outcome : Outcome) (ssrcs : List ℕ) → AreHeard is_member setup outcome ssrcs →
         1 + length ssrcs ≤ (load_of setup outcome).members }
@@ -141,8 +141,8 @@ pub fn crowds_do_not_flood()
         ≤ 10 * length all + carried_in width (terms.sender_bw + terms.receiver_bw) terms }
     ensures octets { (terms : Terms) (from width most : ℕ) (all : List Joined) → 1 ≤ terms.size →
         IsCrowd terms from width all →
-        All (λ joined. All (λ report. with_headers (length report.out.octets) ≤ most) (reports_within from width joined))
-        all →
+        All (λ joined. All (λ report. with_headers (length report.out.octets) ≤ most)
+        (reports_within from width joined)) all →
         total_octets from width all
         ≤ most * (length all + carried_in width (terms.sender_bw + terms.receiver_bw) terms) }
 {}

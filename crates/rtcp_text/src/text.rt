@@ -1,5 +1,5 @@
-//! The text of packets, faults and answers, as `rtcp check` and `rtcp replay` show them, and of events, as `rtcp replay`
-//! reads them.
+//! The text of packets, faults and answers, as `rtcp check` and `rtcp replay` show them, and of events, as
+//! `rtcp replay` reads them.
 //!
 //! # Errors
 //!

@@ -269,8 +269,8 @@ pub(crate) fn session<L: Link, T: MemberTable, R: Rng>(
     leave(link, participant, rng, tally, turns, buf)
 }
 
-/// Draws a word, and asks the participant to leave at the greatest moment so far. While it backs off it is given as many
-/// turns again.
+/// Draws a word, and asks the participant to leave at the greatest moment so far. While it backs off it is given as
+/// many turns again.
 fn leave<L: Link, T: MemberTable, R: Rng>(
     link: &mut L,
     participant: &mut Participant<T>,
