@@ -1,6 +1,7 @@
 """Programs over GStreamer's rtpsession, and over the library of a package, for the scripts beside it."""
 import shutil
 import subprocess
+import sys
 from pathlib import Path
 
 FLAGS = ["-std=gnu11", "-O2", "-Wall", "-Wextra", f"-I{Path(__file__).resolve().parent}"]
@@ -14,6 +15,14 @@ def install():
     if not has_all or subprocess.run(["pkg-config", "--cflags", *GSTREAMER], capture_output=True).returncode:
         subprocess.run(["apt-get", "install", "-y", "--no-install-recommends", *DEBIAN], check=True,
                        stdout=subprocess.DEVNULL)
+
+
+def output(words, lines):
+    """The lines of a program's output, in words, if it is given these."""
+    done = subprocess.run(words, input="\n".join(lines) + "\n", capture_output=True, text=True)
+    if done.returncode:
+        sys.exit(f"{words[0]} ended with status {done.returncode}: {done.stderr}")
+    return [line.split() for line in done.stdout.splitlines()]
 
 
 def build(source, program, package=None, with_gstreamer=True):
