@@ -87,6 +87,7 @@ pub(crate) fn set_entry(cells: &mut [Cell], place: usize, entry: Entry)
 }
 
 /// Exchanges the slots of two ranks.
+// The part that writes is apart: a walk in which all stay where they are has its registers to itself.
 #[inline(always)]
 pub(crate) fn exchange(cells: &mut [Cell], one: usize, other: usize)
     requires one { one < 2 * length cells.old }
@@ -96,9 +97,21 @@ pub(crate) fn exchange(cells: &mut [Cell], one: usize, other: usize)
         other (slice_index_or (pairs_in cells.old) one no_slot) }
     ensures entries { entries_in cells.new ≡ entries_in cells.old }
 {
-    if one == other {
-        return;
+    if one != other {
+        write_exchanged(cells, one, other);
     }
+}
+
+/// Writes the slot of each of two ranks at the other.
+#[inline(never)]
+fn write_exchanged(cells: &mut [Cell], one: usize, other: usize)
+    requires one { one < 2 * length cells.old }
+    requires other { other < 2 * length cells.old }
+    ensures slots { pairs_in cells.new
+        ≡ set (set (pairs_in cells.old) one (slice_index_or (pairs_in cells.old) other no_slot))
+        other (slice_index_or (pairs_in cells.old) one no_slot) }
+    ensures entries { entries_in cells.new ≡ entries_in cells.old }
+{
     let (first, second) = (slot_at(cells, one), slot_at(cells, other));
     set_slot(cells, one, second);
     set_slot(cells, other, first);
