@@ -311,6 +311,7 @@ fn search_apart<B: Blocks>(entries: &Shelf<B>, walks: &mut Walks, ssrc: u32) -> 
 }
 
 /// `search` for a source that most likely has an entry, by a walk if these pay, and else by halves.
+#[inline(never)]
 fn search_again<B: Blocks>(entries: &Shelf<B>, walks: Walks, ssrc: u32) -> Result<usize, usize>
     ensures { Locates ssrc entries.now.items result }
 {
@@ -395,6 +396,7 @@ fn admit<B: Blocks>(
 
 /// How many entries have no SSRC above `above`: where the others begin. That is after the entry of `above`, if it is
 /// there; in a report, and in a listing, it is, and most likely at the last rank.
+#[inline(always)]
 fn first_above<B: Blocks>(
     entries: &Shelf<B>,
     walks: Walks,
