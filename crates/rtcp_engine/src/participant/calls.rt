@@ -8,7 +8,7 @@ ghost use Rattle.rtcp_engine.specs.Changes.{is_about};
 ghost use Rattle.rtcp_engine.specs.Histories.{History};
 ghost use Rattle.rtcp_engine.specs.Promises.{Spares, Takes, PassesOn};
 ghost use Rattle.rtcp_engine.specs.States.{Admits, KeepsCapacity, StandsAt, refusal_by};
-ghost use Rattle.rtcp_engine.specs.Views.{NamesFewer, datagram_of, kind_told, reply_value, size_of, told_value};
+ghost use Rattle.rtcp_engine.specs.Views.{datagram_of, kind_told, reply_value, size_of, told_value};
 ghost use Rattle.rtcp_wire.specs.declared.fault.WireFault.{WireFault as Fault};
 ghost use Rattle.rtcp_wire.specs.declared.rtp.fault.RtpFault.{RtpFault as HeadFault};
 ghost use Rattle.rtcp_wire.specs.Values.{RtcpPacket};
@@ -52,7 +52,12 @@ impl<T: MemberTable> Participant<T> {
             Err(fault) => return Err(Refusal::Wire(fault)),
         };
         let datagram = Arrival::Rtcp(compound, bytes.len());
-        self.arrive(now, peer, w, datagram, octets)
+        if self.is_named_by(&datagram) {
+            // Not returned at once: the compiler would keep every answer on the stack for this call.
+            let reply = self.arrive_as_own(now, peer, w, datagram, octets);
+            return reply;
+        }
+        Ok(self.arrive_as_other(now, &datagram))
     }
 
     /// [`arrive_rtcp`](Participant::arrive_rtcp) of a datagram that changes no identifier. That never has a
@@ -109,7 +114,12 @@ impl<T: MemberTable> Participant<T> {
             Ok(head) => head,
             Err(fault) => return Err(Refusal::Rtp(fault)),
         };
-        self.arrive(now, peer, w, Arrival::Rtp(head), octets)
+        let packet = Arrival::Rtp(head);
+        if self.is_named_by(&packet) {
+            let reply = self.arrive_as_own(now, peer, w, packet, octets);
+            return reply;
+        }
+        Ok(self.arrive_as_other(now, &packet))
     }
 
     /// [`arrive_rtp`](Participant::arrive_rtp) of a packet that changes no identifier. That never has a compound:
@@ -215,36 +225,8 @@ impl<T: MemberTable> Participant<T> {
         }
     }
 
-    /// Takes a datagram that was read, after a change of the participant's SSRC if it names that.
-    // Inlined, as what it calls: each call takes its own kind of datagram on a path without the other.
-    #[inline(always)]
-    fn arrive(
-        &mut self,
-        now: u64,
-        peer: u64,
-        w: u32,
-        arrival: Arrival<'_>,
-        octets: &mut ArrayVec<u8, MAX_COMPOUND>,
-    ) -> Reply
-        requires admitted { refusal_by now self.old ≡ None }
-        requires in_order { Admits self.old.presence now }
-        requires size { size_of arrival ≤ 65535 }
-        requires few { NamesFewer arrival }
-        ensures takes { Takes self.old (arrived now peer w (datagram_of arrival.entry))
-            (reply_value octets.new.items result) self.new }
-        ensures spares { Spares self.old result self.new }
-        ensures untouched { kind_told result ≡ None → octets.new ≡ octets.old }
-    {
-        if self.is_named_by(&arrival) {
-            // Not returned at once: the compiler would keep every answer on the stack for this call.
-            let reply = self.arrive_as_own(now, peer, w, arrival, octets);
-            return reply;
-        }
-        Ok(self.arrive_as_other(now, &arrival))
-    }
-
-    /// The same, of a datagram that changes no identifier: `None` where it names the participant's SSRC, and its peer
-    /// may change that.
+    /// Takes a datagram that was read and changes no identifier: `None` where it names the participant's SSRC, and its
+    /// peer may change that.
     #[inline(always)]
     fn arrive_told(&mut self, now: u64, peer: u64, arrival: &Arrival<'_>) -> Option<Reply>
         requires admitted { refusal_by now self.old ≡ None }

@@ -4,7 +4,7 @@ use Rattle.rtcp_wire.specs.declared.fault.WireFault.{WireFault}
 use Rattle.rtcp_engine.specs.declared.refusal.Refusal.TheVariants.{Wire}
 use Rattle.rtcp_engine.specs.Acts.{rtcp, rtcp_came}
 use Rattle.rtcp_engine.specs.Promises.{Takes}
-use Rattle.rtcp_engine.specs.Views.{reply_value}
+use Rattle.rtcp_engine.specs.Views.{reply_value, told_value}
 use Rattle.rtcp_engine.proofs.ActLemmas.{call_refused}
 use Rattle.rtcp_engine.proofs.Arriving.{fault_answered}
 use Rattle.rtcp_engine.proofs.Following.{few_named}
@@ -28,13 +28,21 @@ returns-in-Err-clause-takes g c reading is =
     (fault_answered c.args.now c.args.peer c.args.w datagram (sym c.refusal.ensures.exact ∙ c.in_default.is) refl
     c.ranges.w.fits)
 
-pub arrive-requires-clause-few : goal.arrive-requires-clause-few
-arrive-requires-clause-few g c = few_named c.args.bytes.now c.in-Ok.compound c.in-Ok.ensures.accepted
+pub arrive_as_own-reply-requires-clause-few : goal.arrive_as_own-reply-requires-clause-few
+arrive_as_own-reply-requires-clause-few g c = few_named c.args.bytes.now c.in-Ok.compound c.in-Ok.ensures.accepted
+
+pub returns-then-is_named_by-clause-takes : goal.returns-then-is_named_by-clause-takes
+returns-then-is_named_by-clause-takes g c reading is =
+    subst (λ (r : Result (List RtcpPacket) WireFault). Takes c.args.self.now
+    (rtcp_came c.args.now c.args.peer c.args.w c.args.bytes.now r)
+    (reply_value c.arrive_as_own-reply.new.octets.items c.arrive_as_own-reply.result) c.arrive_as_own-reply.new.self)
+    (one_reading-once c.args.bytes.now (Ok c.in-Ok.compound) reading c.in-Ok.ensures.accepted is)
+    c.arrive_as_own-reply.ensures.takes
 
 pub returns-clause-takes : goal.returns-clause-takes
 returns-clause-takes g c reading is =
     subst (λ (r : Result (List RtcpPacket) WireFault). Takes c.args.self.now
     (rtcp_came c.args.now c.args.peer c.args.w c.args.bytes.now r)
-    (reply_value c.arrive.new.octets.items c.arrive.result) c.arrive.new.self)
+    (Ok (told_value c.args.octets.now.items c.arrive_as_other.result)) c.arrive_as_other.new.self)
     (one_reading-once c.args.bytes.now (Ok c.in-Ok.compound) reading c.in-Ok.ensures.accepted is)
-    c.arrive.ensures.takes
+    (c.arrive_as_other.ensures.takes c.args.peer c.args.w c.args.octets.now.items c.ranges.w.fits)
