@@ -1,7 +1,9 @@
 -- Entries by rising SSRC on a shelf, and the cells in which they lie.
 use Rattle.std.specs.Prelude.{ℕ, Bool, ◌≡◌, ◌≤◌, List, set, slice_index_or, Option, Some}
+use Rattle.std.specs.List.{insert}
 use Rattle.std.specs.Borrow.{Lends, Fml, RattleType, MutBor, Array}
 use Rattle.rtcp_wire.specs.declared.fact.Fact.{Fact}
+use Rattle.rtcp_wire.specs.Facts.{subject}
 use Rattle.rtcp_wire.specs.Values.{ReportBlock}
 use Rattle.rtcp_wire.specs.Writing.{IsWritableBlock}
 use Rattle.rtcp_source.specs.Blocks.{block_for}
@@ -10,8 +12,8 @@ use Rattle.rtcp_members.specs.declared.entry.Entry.{Entry}
 use Rattle.rtcp_members.specs.declared.counts.Counts.{Counts}
 use Rattle.rtcp_members.specs.declared.table.Applied.{Applied}
 use Rattle.rtcp_members.specs.Pending.{reported_entry}
-use Rattle.rtcp_members.specs.Standing.{AreCounts}
-use Rattle.rtcp_members.specs.Tables.{counted_of, entry_with_fact, place_of}
+use Rattle.rtcp_members.specs.Standing.{AreCounts, IsOneMore}
+use Rattle.rtcp_members.specs.Tables.{counted_of, entry_after, entry_with_fact, new_entry, place_of}
 use Rattle.rtcp_members.specs.contracts.cells.Cell.{the_row}
 use Rattle.rtcp_members.specs.Entries.{EntryValue}
 use Rattle.rtcp_members.specs.ListViews.{entry_value}
@@ -45,6 +47,15 @@ pub record TakesFact (rate : ℕ) (fact : Fact) (moment : ℕ) (entries next : L
   pub place : (d : Entry) (room : Bool) →
       applied.place ≡ place_of fact (Some (entry_value (slice_index_or entries at d))) room
   pub counted : (d : Entry) → applied.counted ≡ counted_of fact (Some (entry_value (slice_index_or entries at d)))
+
+-- An entry for the source of a fact is put into a gap, as the fact makes it, and counted.
+pub record Joins (rate : ℕ) (fact : Fact) (moment : ℕ) (entries next : List Entry) (gap : ℕ)
+    (counts recounted : Counts) : Type 0 where
+  pub entry : Entry
+  pub ssrc : entry.ssrc ≡ subject fact
+  pub value : entry_value entry ≡ entry_after rate fact moment new_entry
+  pub items : next ≡ insert entries gap entry
+  pub counted : IsOneMore entry counts recounted
 
 -- A block is made of the source of a rank.
 pub record MakesBlock (moment : ℕ) (entries next : List Entry) (at : ℕ) (value : ReportBlock) : Type 0 where

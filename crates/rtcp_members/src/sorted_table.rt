@@ -2,6 +2,7 @@
 
 ghost use Rattle.std.specs.Prelude.{◌≡◌, ℕ, [], ◌<◌, ◌≤◌, ◌^◌, List, length, filter, take, drop, not, IfSome, IfOk, option_map};
 ghost use Rattle.rtcp_wire.specs.Facts.{subject};
+ghost use Rattle.rtcp_members.specs.Shelves.{Joins};
 ghost use Rattle.rtcp_members.specs.Traces.{horizons_at};
 ghost use Rattle.rtcp_members.specs.Told.{first_state};
 ghost use Rattle.rtcp_members.specs.ListViews.{state_value, rows_of, table_of, tally_of};
@@ -357,7 +358,8 @@ fn search_behind<B: Blocks>(
 }
 
 /// A fact comes whose source has no entry. Where it is added, its entry is put into the gap.
-#[inline(never)]
+// Inlined, with what adds it apart: nothing is made ready for a fact that a full table turns away.
+#[inline(always)]
 fn admit<B: Blocks>(
     entries: &mut Shelf<B>,
     counts: &mut Counts,
@@ -387,11 +389,32 @@ fn admit<B: Blocks>(
     if entries.len() >= capacity as usize {
         return Place::NoRoom;
     }
+    join(entries, counts, gap, fact, t, rate);
+    Place::Added
+}
+
+/// Puts an entry for the source of a fact into the gap for it, and counts it.
+#[inline(never)]
+fn join<B: Blocks>(
+    entries: &mut Shelf<B>,
+    counts: &mut Counts,
+    gap: usize,
+    fact: Fact,
+    t: u64,
+    rate: u32,
+)
+    requires gap { IsGapFor (subject fact) entries.old.items gap }
+    requires room { length entries.old.items < entries.old.room }
+    requires counted { AreCounts counts.old entries.old.items }
+    requires few { length entries.old.items < 1024 }
+    ensures joined { Joins rate fact t entries.old.items entries.new.items gap counts.old counts.new }
+    ensures room { entries.new.room ≡ entries.old.room }
+    ensures in_place { entries.new.block ≡ entries.old.block }
+{
     let mut entry = Entry::new(fact.ssrc());
     let _ = entry.take_fact(fact, t, rate);
     counts.add(&entry);
     entries.insert(gap, entry);
-    Place::Added
 }
 
 /// How many entries have no SSRC above `above`: where the others begin. That is after the entry of `above`, if it is

@@ -1,11 +1,8 @@
 -- What becomes of the fact is decided by whether it is a goodbye, and by the room that is left.
 use Rattle.std.proofs.Common.{rules, arith}
 use Rattle.rtcp_wire.specs.Facts.{subject}
-use Rattle.rtcp_members.specs.Entries.{is_member, is_sender}
-use Rattle.rtcp_members.specs.Pending.{is_due}
 use Rattle.rtcp_members.proofs.Rising.{rising_apart}
 use Rattle.rtcp_members.proofs.Searching.{none_in_gap}
-use Rattle.rtcp_members.proofs.Weights.{tally_at_most}
 use Rattle.rtcp_members.proofs.Admitting.{ignored, no_room}
 use Rattle.rtcp_members.proofs.Inserting.{inserted, sorted_insert, counted_insert}
 use Rattle.rtcp_members.proofs.sorted_table.admit.Goals as goal
@@ -34,38 +31,28 @@ returns-then-len-capacity-clause-table g c =
     (none_in_gap (subject c.args.fact) c.args.entries.now.items c.args.gap c.requires.gap) (search rules)
     (omega (arith, c.len.ensures, c.if-len-capacity.true))).1
 
-pub add-requires : goal.add-requires
-add-requires g c =
-    let so = c.requires.sorted in
-    let counted = c.requires.counted in
-    let items = c.args.entries.now.items in
-    record {
-      members = omega (arith, counted.members, so.within, so.room, tally_at_most is_member items);
-      senders = omega (arith, counted.senders, so.within, so.room, tally_at_most is_sender items);
-      due = omega (arith, counted.due, so.within, so.room, tally_at_most is_due items);
-    }
-
 pub returns-clause-counted : goal.returns-clause-counted
 returns-clause-counted g c =
-    rw c.insert.ensures.items
-    (counted_insert c.args.counts.now c.add.new.self c.args.entries.now.items c.args.gap c.take_fact.new.self
-    c.requires.counted c.add.ensures)
+    rw c.join.ensures.joined.items
+    (counted_insert c.args.counts.now c.join.new.counts c.args.entries.now.items c.args.gap c.join.ensures.joined.entry
+    c.requires.counted c.join.ensures.joined.counted)
 
 pub returns-clause-sorted : goal.returns-clause-sorted
 returns-clause-sorted g c =
-    rw c.insert.ensures.items
-    (sorted_insert c.args.capacity c.args.entries.now.items c.args.gap c.take_fact.new.self (subject c.args.fact)
-    c.requires.sorted c.requires.gap (search rules) (omega (arith, c.len.ensures, c.if-len-capacity.false)))
+    rw c.join.ensures.joined.items
+    (sorted_insert c.args.capacity c.args.entries.now.items c.args.gap c.join.ensures.joined.entry (subject c.args.fact)
+    c.requires.sorted c.requires.gap c.join.ensures.joined.ssrc (omega (arith, c.len.ensures, c.if-len-capacity.false)))
 
 pub returns-clause-place : goal.returns-clause-place
 returns-clause-place g c =
-    (inserted c.args.capacity c.args.rate c.args.entries.now.items c.args.gap c.args.fact c.args.t c.take_fact.new.self
+    (inserted c.args.capacity c.args.rate c.args.entries.now.items c.args.gap c.args.fact c.args.t
+    c.join.ensures.joined.entry
     c.requires.sorted.rising c.requires.gap (search rules) (omega (arith, c.len.ensures, c.if-len-capacity.false))
-    (search rules) (search rules)).0
+    c.join.ensures.joined.ssrc c.join.ensures.joined.value).0
 
 pub returns-clause-table : goal.returns-clause-table
 returns-clause-table g c =
-    rw c.insert.ensures.items
+    rw c.join.ensures.joined.items
     ((inserted c.args.capacity c.args.rate c.args.entries.now.items c.args.gap c.args.fact c.args.t
-    c.take_fact.new.self c.requires.sorted.rising c.requires.gap (search rules)
-    (omega (arith, c.len.ensures, c.if-len-capacity.false)) (search rules) (search rules)).1)
+    c.join.ensures.joined.entry c.requires.sorted.rising c.requires.gap (search rules)
+    (omega (arith, c.len.ensures, c.if-len-capacity.false)) c.join.ensures.joined.ssrc c.join.ensures.joined.value).1)
