@@ -1,5 +1,6 @@
 """Measures how long a runnable process has to wait, on each processor.
 usage: compare/stalls.py PROCESSOR      until standard input ends; prints the longest wait in milliseconds"""
+import contextlib
 import os
 import select
 import subprocess
@@ -27,7 +28,8 @@ def watch(processor):
     while not select.select([sys.stdin], [], [], PERIOD)[0]:
         now = time.monotonic()
         longest, before = max(longest, now - before - PERIOD), now
-    print(1000 * longest)
+    with contextlib.suppress(BrokenPipeError):  # nobody asks any more
+        os.write(sys.stdout.fileno(), f"{1000 * longest}\n".encode())
 
 
 if __name__ == "__main__":
