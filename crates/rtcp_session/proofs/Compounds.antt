@@ -64,7 +64,7 @@ at_most_one : (counts : Bool) (n : ℕ) → n ≡ 0 → more_if counts n ≤ 1
 at_most_one true n h = omega (arith, h)
 at_most_one false n h = omega (arith, h)
 
-one_last : (leave : Option ℕ) (sent : List Sent) → EndsWithBye leave sent → length (filter is_last_bye sent) ≤ 1
+pub one_last : (leave : Option ℕ) (sent : List Sent) → EndsWithBye leave sent → length (filter is_last_bye sent) ≤ 1
 one_last leave [] h = omega arith
 one_last leave (newest ∷ earlier) h =
     let all = filter_cons is_last_bye newest earlier in

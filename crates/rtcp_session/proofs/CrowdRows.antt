@@ -54,7 +54,7 @@ abbrev pub who_hears : (other ssrc : ℕ) → Joined
 who_hears other ssrc = joined_with ssrc (ticked 4924978 0 0 ∷ ticked 2462489 0 0 ∷ named_came 100 other ∷ [])
 
 abbrev pub terms : Terms
-terms = record { sender_bw = 16; receiver_bw = 16; size = 48; times = 1 }
+terms = record { sender_bw = 16; receiver_bw = 16; size = 48; percent = 100 }
 
 -- ---- Two that do not send
 
@@ -204,7 +204,7 @@ all_taken setup word (act ∷ earlier) is =
     let newest = and_parts (has_words act) (not (is_some refusal)) parts.1 in
     (none refusal newest.1, words act newest.0, all_taken setup word earlier parts.0)
 
-abbrev is_history : History → Bool
+abbrev pub is_history : History → Bool
 is_history history = are_taken history.setup history.word history.acts
     && (nat_lt history.word (2 ^ 32) && not (is_some (error_in history.setup)))
 
@@ -233,23 +233,23 @@ large least (ticked moment first_word second_word) is = tt
 large least (left moment word) is = tt
 
 -- what a test says of each
-each : {A : Type 0} (test : A → Bool) (P : A → Type 0) → ((x : A) → test x ≡ true → P x) → (all : List A) →
+pub each : {A : Type 0} (test : A → Bool) (P : A → Type 0) → ((x : A) → test x ≡ true → P x) → (all : List A) →
     list_all test all ≡ true → All P all
 each {A} test P says all is = All-weaker (λ (x : A). test x ≡ true) P says all (AllPass-from_list_all test all is)
 
 module _ (terms : Terms) (from width : ℕ) (all : List Joined) where
   abbrev counts_most : Load → Bool
-  counts_most load = nat_le (length all) (terms.times * load.members)
-      && nat_le (length (those_as load.we_sent from width all)) (terms.times * alike_in load)
+  counts_most load = nat_le (100 * length all) (terms.percent * load.members)
+      && nat_le (100 * length (those_as load.we_sent from width all)) (terms.percent * alike_in load)
 
-  counts : (load : Load) → counts_most load ≡ true → CountsMost terms.times from width all load
+  counts : (load : Load) → counts_most load ≡ true → CountsMost terms.percent from width all load
   counts load is =
       let alike = length (those_as load.we_sent from width all) in
-      let parts = and_parts (nat_le (length all) (terms.times * load.members))
-      (nat_le alike (terms.times * alike_in load)) is in
+      let parts = and_parts (nat_le (100 * length all) (terms.percent * load.members))
+      (nat_le (100 * alike) (terms.percent * alike_in load)) is in
       record {
-        everyone = leb-true (length all) (terms.times * load.members) parts.0;
-        alike = leb-true alike (terms.times * alike_in load) parts.1;
+        everyone = leb-true (100 * length all) (terms.percent * load.members) parts.0;
+        alike = leb-true (100 * alike) (terms.percent * alike_in load) parts.1;
       }
 
   abbrev tests : Joined → List Bool
@@ -274,7 +274,7 @@ module _ (terms : Terms) (from width : ℕ) (all : List Joined) where
         sizes = each (is_large terms.size) (HasSize terms.size) (large terms.size) joined.history.acts
             (passed 4 true (omega arith));
         counts = each (λ (decided : Decided). counts_most (load_at decided))
-            (λ (decided : Decided). CountsMost terms.times from width all (load_at decided))
+            (λ (decided : Decided). CountsMost terms.percent from width all (load_at decided))
             (λ decided. counts (load_at decided)) (later_within from width joined) (passed 5 true (omega arith));
       }
 

@@ -81,7 +81,7 @@ none_by session act (Some new) is h =
 abbrev pub report_of : Decided → Sent
 report_of decided = decided.report
 
-abbrev decided_as : Setup → Outcome → Sent → Decided
+abbrev pub decided_as : Setup → Outcome → Sent → Decided
 decided_as setup outcome report = record { report = report; setup = setup; outcome = outcome }
 
 same_reports : (setup : Setup) (outcome : Outcome) (reports : List Sent) →
@@ -152,7 +152,7 @@ some_minimum : (initial : Bool) → 1 ≤ minimum_of initial
 some_minimum true = omega arith
 some_minimum false = omega arith
 
-some_interval : (decided : Decided) → IsOfLoad decided → 1 ≤ decided.report.interval
+pub some_interval : (decided : Decided) → IsOfLoad decided → 1 ≤ decided.report.interval
 some_interval decided is =
     let least = interval_has_minimum (load_at decided) in
     let some = some_minimum (load_at decided).initial in
@@ -174,7 +174,7 @@ all_such Q setup outcome is (report ∷ earlier) =
     All-cons (λ (decided : Decided). Q decided.setup decided.outcome) (decided_as setup outcome report)
     (map (decided_as setup outcome) earlier) is (all_such Q setup outcome is earlier)
 
-such_by : (Q : Setup → Outcome → Type 0) (setup : Setup) (changes : List Change) (act : Act) (life : Life)
+pub such_by : (Q : Setup → Outcome → Type 0) (setup : Setup) (changes : List Change) (act : Act) (life : Life)
     → ((moment : ℕ) (outcome : Outcome) → life ≡ present outcome → Q setup (checked setup moment outcome))
     → All (λ decided. Q decided.setup decided.outcome)
     (decided_by (record { setup = setup; changes = changes; life = life }) act)

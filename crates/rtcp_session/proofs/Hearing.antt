@@ -1,12 +1,12 @@
 -- Those whom a participant hears are counted.
-use Rattle.std.proofs.Common.{◌≡◌, ℕ, ◌+◌, ◌-◌, ◌≤◌, ◌&&◌, ◌||◌, ◌==◌, not, Bool, true, false, cond, List, [], ◌∷◌, length, filter, All, Option, Some, None, is_some, option_map, if◌then◌else◌, refl, sym, ap, ◌∙◌, arith, subst}
+use Rattle.std.proofs.Common.{◌≡◌, ℕ, ◌+◌, ◌-◌, ◌≤◌, ◌&&◌, ◌||◌, ◌==◌, not, Bool, true, false, cond, List, [], ◌∷◌, length, get_or, filter, All, Option, Some, None, is_some, option_map, if◌then◌else◌, refl, sym, ap, ◌∙◌, arith, subst}
 use Rattle.std.proofs.Math.Nat.{le_trans, mul-le-mul_left}
 use Rattle.std.specs.Cmp.{IsEquivalence}
 use Rattle.std.specs.List.{IsDistinct, list_any}
 use Rattle.std.specs.Set.{is_member as is_in}
 use Rattle.std.proofs.lemmas.Bool.{eqb-true}
 use Rattle.std.proofs.lemmas.Cmp.{nat_eq_equiv}
-use Rattle.std.proofs.lemmas.List.Elements.{All-head, All-tail}
+use Rattle.std.proofs.lemmas.List.Elements.{All-head, All-tail, All-weaker}
 use Rattle.std.proofs.lemmas.Map.Made.{is_member-filter, length-le_from_is_member}
 use Rattle.rtcp_members.specs.Traces.{TraceStep, names}
 use Rattle.rtcp_members.specs.Stays.{stay_of}
@@ -16,9 +16,11 @@ use Rattle.rtcp_engine.specs.Setups.{Setup}
 use Rattle.rtcp_engine.specs.OwnStreams.{we_sent}
 use Rattle.rtcp_engine.specs.Outcomes.{Outcome, load_of, one_if}
 use Rattle.rtcp_session.specs.Windows.{Decided, load_at, Joined}
+use Rattle.rtcp_session.specs.Joins.{CountsJoining, HearsJoining}
+use Rattle.rtcp_session.specs.Waits.{Wait, open_at, CountsWaiting, AreCounted, HearsWaiting, AreHeardWaiting}
 use Rattle.rtcp_session.specs.Crowds.{CountsMost, AreHeard, is_listener, has_role, HearsMost}
 
-abbrev same : ℕ → ℕ → Bool
+abbrev pub same : ℕ → ℕ → Bool
 same one other = one == other
 
 same_equiv : IsEquivalence same
@@ -151,10 +153,39 @@ same_role_counted setup outcome ssrcs false is h =
     let counted = heard_listeners setup outcome ssrcs h in
     omega (arith, own, counted)
 
-pub heard_are_counted : (times from width : ℕ) (all : List Joined) (decided : Decided) →
-    HearsMost times from width all decided → CountsMost times from width all (load_at decided)
-heard_are_counted times from width all decided h =
-    let members = mul-le-mul_left times (heard_members decided.setup decided.outcome h.members h.heard) in
-    let alike = mul-le-mul_left times
+pub heard_are_counted : (percent from width : ℕ) (all : List Joined) (decided : Decided) →
+    HearsMost percent from width all decided → CountsMost percent from width all (load_at decided)
+heard_are_counted percent from width all decided h =
+    let members = mul-le-mul_left percent (heard_members decided.setup decided.outcome h.members h.heard) in
+    let alike = mul-le-mul_left percent
     (same_role_counted decided.setup decided.outcome h.those (load_at decided).we_sent refl h.same_role) in
     record { everyone = le_trans h.everyone members; alike = le_trans h.alike alike }
+
+-- ---- Those who wait
+
+heard_waiting_are_counted : (percent : ℕ) (waits : List Wait) (moment : ℕ) (decided : Decided) →
+    HearsWaiting percent waits moment decided → CountsWaiting percent waits moment (load_at decided)
+heard_waiting_are_counted percent waits moment decided h =
+    let members = mul-le-mul_left percent (heard_members decided.setup decided.outcome h.members h.heard) in
+    let alike = mul-le-mul_left percent
+    (same_role_counted decided.setup decided.outcome h.those (load_at decided).we_sent refl h.same_role) in
+    record { everyone = le_trans h.everyone members; alike = le_trans h.alike alike }
+
+pub those_heard_wait : (percent : ℕ) (waits : List Wait) → AreHeardWaiting percent waits → AreCounted percent waits
+those_heard_wait percent waits h =
+    λ k d inside.
+    let moment = (get_or waits k d).until in
+    All-weaker (λ (wait : Wait). HearsWaiting percent waits moment wait.next)
+    (λ (wait : Wait). CountsWaiting percent waits moment (load_at wait.next))
+    (λ wait hears. heard_waiting_are_counted percent waits moment wait.next hears) (open_at moment waits) (h k d inside)
+
+-- ---- Those who join
+
+pub those_heard_join : (percent : ℕ) (joins : List Wait) → All (HearsJoining percent joins) joins →
+    All (CountsJoining percent joins) joins
+those_heard_join percent joins h =
+    All-weaker (HearsJoining percent joins) (CountsJoining percent joins)
+    (λ join hears.
+    let counted = mul-le-mul_left percent
+    (same_role_counted join.next.setup join.next.outcome hears.those (load_at join.next).we_sent refl hears.heard) in
+    le_trans hears.enough counted) joins h

@@ -5,6 +5,16 @@ mod Octets
 mod Pacing
 mod Sharing
 mod Compounds
+mod Moments
+mod Waiting
+mod Waited
+mod Sessions
+mod Covering
+mod Parting
+mod Joining
 mod Crowding
 mod CrowdRows
+mod WaitRows
+mod JoinRows
+mod LeaveRows
 mod WrongRows

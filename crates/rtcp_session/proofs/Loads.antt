@@ -98,11 +98,11 @@ loads_of_setup history is =
 
 -- ---- Averages
 
-abbrev IsLarge : (least size : ℕ) → Type 0
+abbrev pub IsLarge : (least size : ℕ) → Type 0
 IsLarge least size = least ≤ with_headers size
 
 -- An average over sizes is no less than all of them.
-floor : (least first : ℕ) (sizes : List ℕ) → IsLarge least first → All (IsLarge least) sizes →
+pub floor : (least first : ℕ) (sizes : List ℕ) → IsLarge least first → All (IsLarge least) sizes →
     256 * least ≤ average_of first sizes
 floor least first [] large h = omega (arith, large)
 floor least first (size ∷ sizes) large h =

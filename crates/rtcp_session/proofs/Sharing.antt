@@ -1,10 +1,10 @@
 -- What the reports of a window leave to others: their intervals bound how many they are, and what they weigh.
-use Rattle.std.proofs.Common.{◌≡◌, ℕ, suc, ◌+◌, ◌-◌, ◌*◌, ◌≤◌, not, Bool, true, false, List, [], ◌∷◌, length, filter, get_or, All, max, refl, sym, arith, subst}
+use Rattle.std.proofs.Common.{◌≡◌, ℕ, suc, ◌+◌, ◌-◌, ◌*◌, ◌≤◌, not, Bool, true, false, List, [], ◌∷◌, length, get_or, All, max, refl, sym, arith, subst}
 use Rattle.std.specs.List.{sum_by}
 use Rattle.std.proofs.Math.Nat.{le_trans, mul-le-mul_left, mul-le-mul_right}
 use Rattle.std.proofs.lemmas.Grind.{div_ceil_times}
 use Rattle.std.proofs.lemmas.List.Elements.{All-head, All-tail, All-filter, filter_passes}
-use Rattle.std.proofs.lemmas.List.Filters.{length-filter_both, sum_by-filter_both}
+use Rattle.std.proofs.lemmas.List.Filters.{sum_by-filter_both}
 use Rattle.std.proofs.lemmas.List.Sums.{sum_by-cons}
 use Rattle.rtcp_timer.specs.declared.load.Load.{Load}
 use Rattle.rtcp_timer.specs.Loads.{interval_for, interval_of, minimum_of}
@@ -17,12 +17,6 @@ use Rattle.rtcp_session.proofs.Loads.{IsLoadOf, loads_of_setup}
 use Rattle.rtcp_session.proofs.Pacing.{spans_of, spans_fit}
 
 -- ---- Roles
-
-pub roles_are : (from width : ℕ) (joined : Joined) → length (later_within from width joined) ≡ length
-    (later_as true from width joined) + length (later_as false from width joined)
-roles_are from width joined =
-    let sends = λ (decided : Decided). (load_at decided).we_sent in
-    sym (length-filter_both sends (λ decided. not (sends decided)) (λ decided. refl) (later_within from width joined))
 
 -- What holds of each later report holds of those of a role.
 pub each_as : (P : Decided → Type 0) (sender : Bool) (from width : ℕ) (joined : Joined) →

@@ -1,7 +1,8 @@
 -- What would be wrong: each statement here is a law with a number moved or a part left out, and there is a session
 -- where it does not hold.
 use Rattle.std.proofs.Common.{◌≡◌, ℕ, ◌+◌, ◌*◌, ◌/◌, ◌≤◌, List, [], ◌∷◌, length, map, All, true, false, Ok, None, refl, arith, nat_le, filter, inr, Result}
-use Rattle.std.specs.List.{sum_by, IsDistinct}
+use Rattle.std.specs.List.{sum_by, IsDistinct, list_all}
+use Rattle.std.proofs.lemmas.Bool.{leb-true}
 use Rattle.std.proofs.lemmas.List.Elements.{All-nil, All-cons, All-head, All-map}
 use Rattle.rtcp_wire.specs.declared.fault.WireFault.{WireFault}
 use Rattle.rtcp_wire.specs.Values.{RtcpPacket, rr, bye}
@@ -14,9 +15,12 @@ use Rattle.rtcp_engine.specs.Outcomes.{Outcome, load_of, nothing_yet}
 use Rattle.rtcp_engine.specs.Taken.{IsHistory}
 use Rattle.rtcp_engine.specs.Histories.{History}
 use Rattle.rtcp_engine.specs.Sent.{Sent, reports_in, sent_at}
-use Rattle.rtcp_session.specs.Windows.{in_window, later_ones, intervals_of, Decided, load_at, decided_at, HasSize, Joined}
-use Rattle.rtcp_session.specs.Crowds.{total_reports, Paced, IsPaced, total_as, shares_within, AreHeard, Terms, IsCrowd, carried_in}
-use Rattle.rtcp_session.proofs.CrowdRows.{setup_of, named_came, packet_came, joined_with, who_hears, sender, terms, pair, crowd_of, pair_is_crowd, stands}
+use Rattle.rtcp_session.specs.Windows.{in_window, later_ones, intervals_of, Decided, load_at, decided_at, HasSize, Joined, reports_within}
+use Rattle.rtcp_session.specs.Crowds.{total_reports, total_octets, alike_in, Paced, IsPaced, total_as, shares_within, AreHeard, Terms, IsCrowd, carried_in}
+use Rattle.rtcp_session.specs.Waits.{AreCounted, octets_next, Wait, all_waits, averages_of, open_at, waits_as, rtcp_bw, HasBandwidth, IsCounted, KeepsToAverage, octets_in}
+use Rattle.rtcp_timer.specs.Averages.{with_headers}
+use Rattle.rtcp_session.proofs.WaitRows.{bandwidths, counted_of, such_waits, pair_is_counted, average_of_pair, alone, alone_is_counted, average_of_one, unaware, average_of_unaware, with_one_deaf, average_with_one_deaf}
+use Rattle.rtcp_session.proofs.CrowdRows.{each, setup_of, named_came, packet_came, joined_with, who_hears, sender, terms, pair, crowd_of, pair_is_crowd, stands}
 
 -- ---- A number less
 
@@ -39,8 +43,8 @@ less_than_243656 law =
     omega (arith, one, six_seconds)
 
 less_of_a_crowd : ((terms : Terms) (from width : ℕ) (all : List Joined) → 1 ≤ terms.size → IsCrowd terms from width all
-    → total_as false from width all ≤ terms.times * (243655 * width * terms.receiver_bw) /
-    (100000 * 1000000 * terms.size)) → ⊥
+    → total_as false from width all ≤ terms.percent * (243655 * width * terms.receiver_bw) /
+    (100 * 100000 * 1000000 * terms.size)) → ⊥
 less_of_a_crowd law =
     let one : total_as false 2462496 2462489 pair ≤ 1 = law terms 2462496 2462489 pair (omega arith) pair_is_crowd in
     let two : total_as false 2462496 2462489 pair ≡ 2 = refl in
@@ -97,23 +101,23 @@ not_the_newest law =
 -- ---- Some are not counted
 
 -- hears nobody
-abbrev who_is_deaf : (ssrc : ℕ) → Joined
+abbrev pub who_is_deaf : (ssrc : ℕ) → Joined
 who_is_deaf ssrc = joined_with ssrc
     (ticked 11491615 0 0 ∷ ticked 9439541 0 0 ∷ ticked 7387467 0 0 ∷ ticked 5335393 0 0 ∷ ticked 3283319 0 0 ∷ ticked
     1231245 0 0 ∷ [])
 
-abbrev four : List Joined
+abbrev pub four : List Joined
 four = who_is_deaf 1 ∷ who_is_deaf 2 ∷ who_is_deaf 3 ∷ who_is_deaf 4 ∷ []
 
-abbrev one_in_four : Terms
-one_in_four = record terms { times = 4 }
+abbrev pub one_in_four : Terms
+one_in_four = record terms { percent = 400 }
 
 deaf_are_crowd : IsCrowd one_in_four 0 11491622 four
 deaf_are_crowd = crowd_of one_in_four 0 11491622 four refl
 
 as_if_counted : ((terms : Terms) (from width : ℕ) (all : List Joined) → 1 ≤ terms.size → IsCrowd terms from width all
     → total_reports from width all ≤ length all + carried_in width (terms.sender_bw + terms.receiver_bw)
-    (record terms { times = 1 })) → ⊥
+    (record terms { percent = 100 })) → ⊥
 as_if_counted law =
     let bound : total_reports 0 11491622 four ≤ 22 = law one_in_four 0 11491622 four (omega arith) deaf_are_crowd in
     let its : total_reports 0 11491622 four ≡ 24 = refl in
@@ -189,7 +193,7 @@ of_less_bandwidth law =
 
 others_as_if_counted : ((terms : Terms) (from width : ℕ) (all : List Joined) → 1 ≤ terms.size →
     IsCrowd terms from width all
-    → total_as false from width all ≤ carried_in width terms.receiver_bw (record terms { times = 1 })) → ⊥
+    → total_as false from width all ≤ carried_in width terms.receiver_bw (record terms { percent = 100 })) → ⊥
 others_as_if_counted law =
     let bound : total_as false 0 11491622 four ≤ 9 = law one_in_four 0 11491622 four (omega arith) deaf_are_crowd in
     let its : total_as false 0 11491622 four ≡ 20 = refl in
@@ -241,3 +245,151 @@ least_of_37 : ((moment peer word : ℕ) (octets : List ℕ) (reading : Result (L
 least_of_37 law =
     let large : 37 ≤ 36 = law 0 0 0 empty_report (Ok (rr 1 [] [] ∷ [])) is_accepted in
     omega (arith, large)
+
+-- ---- Those who wait
+
+averages_with_less : ((terms : Terms) (from width : ℕ) (all : List Joined) → IsCounted terms from width all
+    → 100 * 100000 * 1000000 * averages_of (all_waits from width all)
+    ≤ terms.percent * (243655 * width * (256 * rtcp_bw terms))) → ⊥
+averages_with_less law =
+    let fits = law terms 4309362 2170710 alone alone_is_counted in
+    let its : averages_of (all_waits 4309362 2170710 alone) ≡ 43328 = average_of_one in
+    omega (arith, fits, its)
+
+others_with_less : ((terms : Terms) (from width : ℕ) (all : List Joined) → IsCounted terms from width all
+    → 100 * 100000 * 1000000 * averages_of (waits_as false (all_waits from width all))
+    ≤ terms.percent * (243655 * width * (256 * terms.receiver_bw))) → ⊥
+others_with_less law =
+    let fits = law terms 2462496 2462489 pair pair_is_counted in
+    let its : averages_of (waits_as false (all_waits 2462496 2462489 pair)) ≡ 24576 = average_of_pair in
+    omega (arith, fits, its)
+
+deaf_are_counted : IsCounted one_in_four 0 11491622 four
+deaf_are_counted = counted_of one_in_four 0 11491622 four refl
+
+waits_as_if_counted : ((terms : Terms) (from width : ℕ) (all : List Joined) → IsCounted terms from width all
+    → 100 * 100000 * 1000000 * averages_of (all_waits from width all)
+    ≤ 100 * (2 * 121828 * width * (256 * rtcp_bw terms))) → ⊥
+waits_as_if_counted law =
+    let fits = law one_in_four 0 11491622 four deaf_are_counted in
+    let its : averages_of (all_waits 0 11491622 four) ≡ 245760 = refl in
+    omega (arith, fits, its)
+
+others_wait_as_if_counted : ((terms : Terms) (from width : ℕ) (all : List Joined) → IsCounted terms from width all
+    → 100 * 100000 * 1000000 * averages_of (waits_as false (all_waits from width all))
+    ≤ 100 * (2 * 121828 * width * (256 * terms.receiver_bw))) → ⊥
+others_wait_as_if_counted law =
+    let fits = law one_in_four 0 11491622 four deaf_are_counted in
+    let its : averages_of (waits_as false (all_waits 0 11491622 four)) ≡ 245760 = refl in
+    omega (arith, fits, its)
+
+-- It does not do to count all that wait, and not those in the same role,
+everyone_alone : ((terms : Terms) (from width : ℕ) (all : List Joined) → All (HasBandwidth terms) all →
+    All (λ next. All (λ wait. 100 * length (open_at next.until (all_waits from width all))
+    ≤ terms.percent * (load_at wait.next).members)
+    (open_at next.until (all_waits from width all))) (all_waits from width all) →
+    100 * 100000 * 1000000 * averages_of (all_waits from width all)
+    ≤ terms.percent * (2 * 121828 * width * (256 * rtcp_bw terms))) → ⊥
+everyone_alone law =
+    let fits = law terms 8650781 8780619 unaware (bandwidths terms 8650781 8780619 unaware refl)
+    (such_waits (λ waits moment load. nat_le (100 * length (open_at moment waits)) (100 * load.members))
+    (λ waits moment load. 100 * length (open_at moment waits) ≤ 100 * load.members)
+    (λ waits moment load. leb-true (100 * length (open_at moment waits)) (100 * load.members))
+    (all_waits 8650781 8780619 unaware) refl) in
+    let its : averages_of (all_waits 8650781 8780619 unaware) ≡ 262626 = average_of_unaware in
+    omega (arith, fits, its)
+
+-- nor these alone.
+alike_alone : ((terms : Terms) (from width : ℕ) (all : List Joined) → All (HasBandwidth terms) all →
+    All (λ next. All (λ wait. 100 * length
+    (waits_as (load_at wait.next).we_sent (open_at next.until (all_waits from width all)))
+    ≤ terms.percent * alike_in (load_at wait.next))
+    (open_at next.until (all_waits from width all))) (all_waits from width all) →
+    100 * 100000 * 1000000 * averages_of (all_waits from width all)
+    ≤ terms.percent * (2 * 121828 * width * (256 * rtcp_bw terms))) → ⊥
+alike_alone law =
+    let fits = law terms 6464041 13239066 with_one_deaf (bandwidths terms 6464041 13239066 with_one_deaf refl)
+    (such_waits (λ waits moment load. nat_le (100 * length (waits_as load.we_sent (open_at moment waits)))
+    (100 * alike_in load))
+    (λ waits moment load. 100 * length (waits_as load.we_sent (open_at moment waits)) ≤ 100 * alike_in load)
+    (λ waits moment load. leb-true (100 * length (waits_as load.we_sent (open_at moment waits))) (100 * alike_in load))
+    (all_waits 6464041 13239066 with_one_deaf) refl) in
+    let its : averages_of (all_waits 6464041 13239066 with_one_deaf) ≡ 304424 = average_with_one_deaf in
+    omega (arith, fits, its)
+
+all_at_most : (most from width : ℕ) (all : List Joined) →
+    list_all (λ joined. list_all (λ report. nat_le (with_headers (length report.out.octets)) most)
+    (reports_within from width joined)) all ≡ true →
+    All (λ joined. All (λ report. with_headers (length report.out.octets) ≤ most) (reports_within from width joined))
+    all
+all_at_most most from width =
+    each (λ (joined : Joined). list_all (λ report. nat_le (with_headers (length report.out.octets)) most)
+    (reports_within from width joined))
+    (λ (joined : Joined). All (λ report. with_headers (length report.out.octets) ≤ most)
+    (reports_within from width joined))
+    (λ joined. each (λ (report : Sent). nat_le (with_headers (length report.out.octets)) most)
+    (λ (report : Sent). with_headers (length report.out.octets) ≤ most)
+    (λ report. leb-true (with_headers (length report.out.octets)) most) (reports_within from width joined))
+
+-- The reports of one that sends alone have more octets than its average.
+over_average : ((terms : Terms) (from width most percent : ℕ) (all : List Joined) → IsCounted terms from width all →
+    All (KeepsToAverage percent) (all_waits from width all) →
+    All (λ joined. All (λ report. with_headers (length report.out.octets) ≤ most) (reports_within from width joined))
+    all →
+    total_octets from width all ≤ most * length all + octets_in width (rtcp_bw terms) 100 terms) → ⊥
+over_average law =
+    let less : total_octets 4309362 2170710 alone ≤ 357 = law terms 4309362 2170710 188 112 alone alone_is_counted
+    (each (λ (wait : Wait). nat_le (100 * (256 * octets_next wait)) (112 * (load_at wait.next).avg))
+    (KeepsToAverage 112)
+    (λ wait. leb-true (100 * (256 * octets_next wait)) (112 * (load_at wait.next).avg))
+    (all_waits 4309362 2170710 alone) refl)
+    (all_at_most 188 4309362 2170710 alone refl) in
+    let its : total_octets 4309362 2170710 alone ≡ 376 = refl in
+    omega (arith, less, its)
+
+-- ---- A premise left out
+
+uncounted : ((terms : Terms) (from width : ℕ) (all : List Joined) → All (HasBandwidth terms) all →
+    100 * 100000 * 1000000 * averages_of (all_waits from width all)
+    ≤ terms.percent * (2 * 121828 * width * (256 * rtcp_bw terms))) → ⊥
+uncounted law =
+    let fits = law terms 0 11491622 four (bandwidths terms 0 0 four refl) in
+    let its : averages_of (all_waits 0 11491622 four) ≡ 245760 = refl in
+    omega (arith, fits, its)
+
+of_any_bandwidth : ((terms : Terms) (from width : ℕ) (all : List Joined) →
+    All (λ joined. IsHistory joined.history) all → AreCounted terms.percent (all_waits from width all) →
+    100 * 100000 * 1000000 * averages_of (waits_as false (all_waits from width all))
+    ≤ terms.percent * (2 * 121828 * width * (256 * terms.receiver_bw))) → ⊥
+of_any_bandwidth law =
+    let fits = law (record terms { receiver_bw = 15 }) 2462496 2462489 pair
+    (λ k d inside. (pair_is_counted.each k d inside).stands) pair_is_counted.counted in
+    let its : averages_of (waits_as false (all_waits 2462496 2462489 pair)) ≡ 24576 = average_of_pair in
+    omega (arith, fits, its)
+
+of_any_average : ((terms : Terms) (from width : ℕ) (all : List Joined) → 1 ≤ terms.size →
+    IsCounted terms from width all → total_reports from width all
+    ≤ length all + carried_in width (rtcp_bw terms) terms) → ⊥
+of_any_average law =
+    let two : total_reports 2462496 2462489 pair ≤ 2 = law (record terms { size = 480 }) 2462496 2462489 pair
+    (omega arith) (counted_of (record terms { size = 480 }) 2462496 2462489 pair refl) in
+    let four : total_reports 2462496 2462489 pair ≡ 4 = refl in
+    omega (arith, two, four)
+
+of_any_percent : ((terms : Terms) (from width most percent : ℕ) (all : List Joined) → IsCounted terms from width all →
+    All (λ joined. All (λ report. with_headers (length report.out.octets) ≤ most) (reports_within from width joined))
+    all → total_octets from width all ≤ most * length all + octets_in width (rtcp_bw terms) percent terms) → ⊥
+of_any_percent law =
+    let less : total_octets 2462496 2462489 pair ≤ 96 = law terms 2462496 2462489 48 0 pair pair_is_counted
+    (all_at_most 48 2462496 2462489 pair refl) in
+    let its : total_octets 2462496 2462489 pair ≡ 192 = refl in
+    omega (arith, less, its)
+
+of_any_octets : ((terms : Terms) (from width most percent : ℕ) (all : List Joined) → IsCounted terms from width all →
+    All (KeepsToAverage percent) (all_waits from width all) →
+    total_octets from width all ≤ most * length all + octets_in width (rtcp_bw terms) percent terms) → ⊥
+of_any_octets law =
+    let none : total_octets 2462496 0 pair ≤ 0 = law terms 2462496 0 0 100 pair (counted_of terms 2462496 0 pair refl)
+    (All-nil (KeepsToAverage 100)) in
+    let its : total_octets 2462496 0 pair ≡ 96 = refl in
+    omega (arith, none, its)

@@ -84,18 +84,18 @@ pub record SharesBandwidth (receiver_bw : ℕ) (joined : Joined) : Type 0 where
 
 -- ---- Crowds
 
--- What the participants of a session go by: its RTCP bandwidth; a size below which no compound of it is, headers
--- included; and how many times as many of them there are as each counts.
+-- What the participants of a session go by: its RTCP bandwidth; a size, headers included, below which no average is, or
+-- no compound, as each law says; and how many percent of those whom each counts there may be.
 pub record Terms : Type 0 where
   pub sender_bw : ℕ
   pub receiver_bw : ℕ
   pub size : ℕ
-  pub times : ℕ
+  pub percent : ℕ
 
--- A load that counts at least one in so many of all, and of those that report in the same role.
-pub record CountsMost (times from width : ℕ) (all : List Joined) (load : Load) : Type 0 where
-  pub everyone : length all ≤ times * load.members
-  pub alike : length (those_as load.we_sent from width all) ≤ times * alike_in load
+-- All are at most so many percent of the members that a load counts; and so are those who report in its role.
+pub record CountsMost (percent from width : ℕ) (all : List Joined) (load : Load) : Type 0 where
+  pub everyone : 100 * length all ≤ percent * load.members
+  pub alike : 100 * length (those_as load.we_sent from width all) ≤ percent * alike_in load
 
 -- A participant that goes by these terms, and counts so many at each of its reports in the window but the oldest.
 pub record TakesPart (terms : Terms) (from width : ℕ) (all : List Joined) (joined : Joined) : Type 0 where
@@ -104,15 +104,16 @@ pub record TakesPart (terms : Terms) (from width : ℕ) (all : List Joined) (joi
   pub for_others : joined.history.setup.receiver_bw ≡ terms.receiver_bw
   pub own : terms.size ≤ with_headers (first_size_of joined.history.setup)
   pub sizes : All (HasSize terms.size) joined.history.acts
-  pub counts : All (λ decided. CountsMost terms.times from width all (load_at decided)) (later_within from width joined)
+  pub counts : All (λ decided. CountsMost terms.percent from width all (load_at decided))
+      (later_within from width joined)
 
 abbrev pub IsCrowd : Terms → (from width : ℕ) → List Joined → Type 0
 IsCrowd terms from width all = All (TakesPart terms from width all) all
 
--- 2.43656 times as many compounds as a bandwidth carries in so many microseconds, for each of so many
+-- so many percent of 2.43656 times as many compounds as a bandwidth carries in so many microseconds
 abbrev pub carried_in : (width bandwidth : ℕ) → Terms → ℕ
 carried_in width bandwidth terms =
-    terms.times * (2 * 121828 * width * bandwidth) / (100000 * 1000000 * terms.size)
+    terms.percent * (2 * 121828 * width * bandwidth) / (100 * 100000 * 1000000 * terms.size)
 
 -- ---- Who is heard
 
@@ -129,12 +130,12 @@ abbrev pub has_role : (sender : Bool) → EntryValue → Bool
 has_role true = is_sender
 has_role false = is_listener
 
--- When it sent this report, a participant had heard, itself included, at least one in so many of all, and of those that
--- report in the same role.
-pub record HearsMost (times from width : ℕ) (all : List Joined) (decided : Decided) : Type 0 where
+-- All are at most so many percent of those whom a participant had heard when it sent this report, itself included; and
+-- so are those who report in its role.
+pub record HearsMost (percent from width : ℕ) (all : List Joined) (decided : Decided) : Type 0 where
   pub members : List ℕ
   pub heard : AreHeard is_member decided.setup decided.outcome members
-  pub everyone : length all ≤ times * (1 + length members)
+  pub everyone : 100 * length all ≤ percent * (1 + length members)
   pub those : List ℕ
   pub same_role : AreHeard (has_role (load_at decided).we_sent) decided.setup decided.outcome those
-  pub alike : length (those_as (load_at decided).we_sent from width all) ≤ times * (1 + length those)
+  pub alike : 100 * length (those_as (load_at decided).we_sent from width all) ≤ percent * (1 + length those)

@@ -1,2 +1,5 @@
 pub mod Windows
 pub mod Crowds
+pub mod Waits
+pub mod Joins
+pub mod Partings

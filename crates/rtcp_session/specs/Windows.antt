@@ -1,4 +1,4 @@
--- The reports that a participant sends in a window of time, and the loads of which their intervals follow. Lists are
+-- The reports that a participant sends in a window of time, and the loads from which their intervals follow. Lists are
 -- newest first; moments, widths and intervals are in microseconds.
 use Rattle.std.specs.Prelude.{ℕ, ◌+◌, ◌≤◌, Bool, List, [], ◌∷◌, ◌++◌, filter, map, Option, Some, None, Ok}
 use Rattle.std.specs.List.{sum_by}
@@ -39,7 +39,7 @@ pub record Decided : Type 0 where
   pub setup : Setup
   pub outcome : Outcome
 
--- the load of which its interval follows (RFC 3550, 6.3.1)
+-- the load from which its interval follows (RFC 3550, 6.3.1)
 abbrev pub load_at : Decided → Load
 load_at decided = load_of decided.setup decided.outcome
 

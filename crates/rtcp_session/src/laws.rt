@@ -1,7 +1,7 @@
 //! Laws of what several participants of a session send together. Each is an empty function whose postcondition is
 //! the law.
 
-ghost use Rattle.std.specs.Prelude.{◌≡◌, ◌≤◌, ℕ, ◌+◌, ◌-◌, ◌*◌, ◌/◌, false, nat_le, not, List, map, filter, All, length, Result};
+ghost use Rattle.std.specs.Prelude.{◌≡◌, ◌≤◌, ℕ, ◌+◌, ◌-◌, ◌*◌, ◌/◌, true, false, nat_le, not, List, map, filter, All, length, Result};
 ghost use Rattle.std.specs.List.{sum_by};
 ghost use Rattle.rtcp_wire.specs.declared.fault.WireFault.{WireFault};
 ghost use Rattle.rtcp_wire.specs.Values.{RtcpPacket};
@@ -15,7 +15,7 @@ ghost use Rattle.rtcp_engine.specs.Outcomes.{Outcome, first_size_of, load_of, on
 ghost use Rattle.rtcp_engine.specs.Histories.{History};
 ghost use Rattle.rtcp_engine.specs.Taken.{IsHistory};
 ghost use Rattle.rtcp_engine.specs.Sent.{reports_in, sent_at};
-ghost use Rattle.rtcp_engine.specs.Spacing.{count_within};
+ghost use Rattle.rtcp_engine.specs.Spacing.{count_within, HalfPasses};
 ghost use Rattle.rtcp_session.specs.Windows.{
   in_window,
   later_ones,
@@ -46,7 +46,7 @@ ghost use Rattle.rtcp_session.specs.Crowds.{
   carried_in,
 };
 
-/// Each report that a participant sends has a load, of which the interval then computed follows (RFC 3550, 6.3.1).
+/// Each report that a participant sends has a load, from which the interval then computed follows (RFC 3550, 6.3.1).
 pub fn reports_have_loads()
     ensures all { (history : History) →
         map (λ decided. decided.report) (decided_at history) ≡ reports_in (sent_at history) }
@@ -117,16 +117,16 @@ pub fn those_heard_are_counted()
     ensures others { (setup : Setup) (outcome : Outcome) (ssrcs : List ℕ) → AreHeard is_listener setup outcome ssrcs →
         one_if (not (we_sent outcome.own)) + length ssrcs
         ≤ (load_of setup outcome).members - (load_of setup outcome).senders }
-    ensures crowd { (times from width : ℕ) (all : List Joined) (decided : Decided) →
-        HearsMost times from width all decided → CountsMost times from width all (load_at decided) }
+    ensures crowd { (percent from width : ℕ) (all : List Joined) (decided : Decided) →
+        HearsMost percent from width all decided → CountsMost percent from width all (load_at decided) }
 {}
 
 /// However many take part in a session, together they do not flood it: in a window of any width they send at most one
 /// report each, and beyond these no more than 2.43656 times as many as the session's RTCP bandwidth carries in that
-/// time, if each counts all of them whenever it reports again (RFC 3550, 6.2, 6.3.1). Where each counts only one in so
-/// many of them, as where its table is full, it is so many times as many. Of the later reports, those that are sent by
-/// such as do not send RTP keep so to their part of the bandwidth. With their BYEs they send at most nine compounds
-/// more each. It holds of octets too, if no report has more than so many.
+/// time, if each counts all of them whenever it reports again (RFC 3550, 6.2, 6.3.1). Where they are so many percent of
+/// those whom each counts, as where its table is full, it is so many percent of that. Of the later reports, those that
+/// are sent by such as do not send RTP keep so to their part of the bandwidth. With their BYEs they send at most nine
+/// compounds more each. It holds of octets too, if no report has more than so many.
 pub fn crowds_do_not_flood()
     ensures reports { (terms : Terms) (from width : ℕ) (all : List Joined) → 1 ≤ terms.size →
         IsCrowd terms from width all →

@@ -1,0 +1,312 @@
+-- What is known of each BYE after a backoff: its interval is that of its load, and half of it, over 1.21828, passes
+-- from
+-- the leave on.
+use Rattle.std.proofs.Common.{◌≡◌, ℕ, ◌+◌, ◌-◌, ◌*◌, ◌<◌, ◌≤◌, ◌^◌, nat_le, Bool, true, false, List, [], ◌∷◌, length, map, get_or, filter, All, Option, Some, None, is_some, if◌then◌else◌, refl, sym, ap, ◌∙◌, arith, subst}
+use Rattle.std.specs.Option.{option_or}
+use Rattle.std.proofs.Math.Nat.{mul-le-mul, mul-le-mul_left}
+use Rattle.std.proofs.lemmas.Bool.{and_parts, leb-true}
+use Rattle.std.proofs.lemmas.Nat.{le-div}
+use Rattle.std.proofs.lemmas.List.Elements.{All-nil, All-cons, All-append, All-head, All-tail, All-map, All-filter, filter-append, filter_passes}
+use Rattle.std.proofs.lemmas.List.{length-append, length-map}
+use Rattle.std.specs.Int.{div_ceil}
+use Rattle.std.proofs.lemmas.Grind.{div_ceil_times}
+use Rattle.rtcp_timer.specs.Averages.{with_headers}
+use Rattle.rtcp_timer.specs.Loads.{interval_of}
+use Rattle.rtcp_timer.proofs.LawLemmas.{interval_has_minimum}
+use Rattle.rtcp_engine.specs.declared.changes.Change.{Change}
+use Rattle.rtcp_engine.specs.Setups.{Setup}
+use Rattle.rtcp_engine.specs.Acts.{Datagram, Act, arrived, rtp_sent, ticked, left}
+use Rattle.rtcp_engine.specs.Identities.{with_ssrc}
+use Rattle.rtcp_engine.specs.OwnStreams.{has_sent}
+use Rattle.rtcp_engine.specs.Outcomes.{Outcome}
+use Rattle.rtcp_engine.specs.Reporting.{bye_octets}
+use Rattle.rtcp_engine.specs.Leaving.{Farewell, Backoff, leaving_average, Life, present, backing_off, gone, is_bye_due, leaving_count, leaving_interval, leaving_timing}
+use Rattle.rtcp_engine.specs.Lives.{bye_out, out_by}
+use Rattle.rtcp_engine.specs.Changes.{NewIdentifier, Session, bye_of_change, change_by, changed_by}
+use Rattle.rtcp_engine.specs.Histories.{History, session_of}
+use Rattle.rtcp_engine.specs.Taken.{AllTaken, IsHistory}
+use Rattle.rtcp_engine.specs.Sent.{Sent, interval_by, sent_with, sent_by, sent_over, sent_at}
+use Rattle.rtcp_engine.specs.Spacing.{HalfPasses, first_leave, is_last_bye}
+use Rattle.rtcp_engine.proofs.LawLemmas.{sent_compounds_keep_apart, changes_touch_the_identifier_alone-setup, last_lies_after_what_was_sent-backing_off}
+use Rattle.rtcp_session.specs.Windows.{Joined}
+use Rattle.rtcp_session.specs.Crowds.{Terms, carried_in}
+use Rattle.rtcp_session.specs.Waits.{HasBandwidth}
+use Rattle.rtcp_session.specs.Partings.{Parting, parting_load, partings_in, partings_over, partings_at, ByeWait, bye_wait_of, all_bye_waits, bye_during, is_bye_wait_in, bye_waits_within, CountsByes, HasByeSizes}
+use Rattle.rtcp_session.proofs.Loads.{IsLoadOf, floor}
+use Rattle.rtcp_session.proofs.Sharing.{interval_of_others}
+use Rattle.rtcp_session.proofs.Compounds.{one_last}
+use Rattle.rtcp_session.proofs.Covering.{HasRoom, all_inside}
+
+-- ---- Draws
+
+-- A draw is at least half its interval over 1.21828.
+half_draw : (interval word : ℕ) →
+    100000 * interval ≤ 2 * 121828 * div_ceil (interval * (2 ^ 31 + word) * 100000) (2 ^ 32 * 121828)
+half_draw interval word =
+    let up = (div_ceil_times (interval * (2 ^ 31 + word) * 100000) (2 ^ 32 * 121828) (omega arith)).0 in
+    omega (arith, up)
+
+-- ---- One act
+
+-- a BYE that a tick brings in a backoff
+abbrev bye_at : (moment : ℕ) → Setup → Backoff → Sent
+bye_at moment setup backoff = record {
+  moment = moment;
+  interval = leaving_interval setup backoff;
+  out = bye_out (bye_octets setup);
+  changes = false;
+}
+
+abbrev parting_at : (moment : ℕ) → Setup → Backoff → Parting
+parting_at moment setup backoff = record { bye = bye_at moment setup backoff; setup = setup; backoff = backoff }
+
+abbrev parted_with : Setup → Backoff → List Sent → List Parting
+parted_with setup backoff sent = map (λ bye. record { bye = bye; setup = setup; backoff = backoff })
+    (filter is_last_bye sent)
+
+none_of_change : (setup : Setup) (backoff : Backoff) (t : ℕ) (octets : List ℕ) (heard : Bool) →
+    parted_with setup backoff (sent_with t 0 true (option_or (if heard then Some (bye_out octets) else None) None)) ≡ []
+none_of_change setup backoff t octets true = refl
+none_of_change setup backoff t octets false = refl
+
+module _ (Q : Parting → Type 0) where
+  none_here : (partings : List Parting) → partings ≡ [] → All Q partings
+  none_here partings is = subst (All Q) (sym is) (All-nil Q)
+
+  by_tick : (setup : Setup) (backoff : Backoff) (moment word : ℕ) (due : Bool) →
+      is_bye_due setup moment word backoff ≡ due →
+      (is_bye_due setup moment word backoff ≡ true → Q (parting_at moment setup backoff)) →
+      All Q (parted_with setup backoff (sent_with moment (leaving_interval setup backoff) false
+      (if due then Some (bye_out (bye_octets setup)) else None)))
+  by_tick setup backoff moment word true is h = All-cons Q (parting_at moment setup backoff) [] (h is) (All-nil Q)
+  by_tick setup backoff moment word false is h = All-nil Q
+
+  by_arrival : (setup : Setup) (changes : List Change) (outcome : Outcome) (backoff : Backoff)
+      (moment peer word : ℕ) (datagram : Datagram) (change : Option NewIdentifier) →
+      let session : Session = record { setup = setup; changes = changes; life = backing_off outcome backoff } in
+      let act : Act = arrived moment peer word datagram in
+      let now = changed_by change session in
+      parted_with setup backoff (sent_with moment (if is_some change then 0 else interval_by setup act session.life)
+      (is_some change) (option_or (bye_of_change change session) (out_by now.setup act now.life))) ≡ []
+  by_arrival setup changes outcome backoff moment peer word datagram None = refl
+  by_arrival setup changes outcome backoff moment peer word datagram (Some new) =
+      none_of_change setup backoff moment (bye_octets setup) (has_sent outcome.own)
+
+  in_backoff : (setup : Setup) (changes : List Change) (outcome : Outcome) (backoff : Backoff) (act : Act) →
+      ((moment first_word second_word : ℕ) → act ≡ ticked moment first_word second_word →
+      is_bye_due setup moment first_word backoff ≡ true → Q (parting_at moment setup backoff)) →
+      All Q (parted_with setup backoff
+      (sent_by (record { setup = setup; changes = changes; life = backing_off outcome backoff }) act))
+  in_backoff setup changes outcome backoff (arrived moment peer word datagram) h =
+      let session : Session = record { setup = setup; changes = changes; life = backing_off outcome backoff } in
+      let act : Act = arrived moment peer word datagram in
+      none_here (parted_with setup backoff (sent_by session act))
+      (by_arrival setup changes outcome backoff moment peer word datagram (change_by session act))
+  in_backoff setup changes outcome backoff (rtp_sent moment timestamp octets) h = All-nil Q
+  in_backoff setup changes outcome backoff (ticked moment first_word second_word) h =
+      by_tick setup backoff moment first_word (is_bye_due setup moment first_word backoff) refl
+      (h moment first_word second_word refl)
+  in_backoff setup changes outcome backoff (left moment word) h = All-nil Q
+
+  in_life : (setup : Setup) (changes : List Change) (life : Life) (act : Act) →
+      ((outcome : Outcome) (backoff : Backoff) (moment first_word second_word : ℕ) →
+      life ≡ backing_off outcome backoff → act ≡ ticked moment first_word second_word →
+      is_bye_due setup moment first_word backoff ≡ true → Q (parting_at moment setup backoff)) →
+      All Q (partings_in setup life (sent_by (record { setup = setup; changes = changes; life = life }) act))
+  in_life setup changes (present outcome) act h = All-nil Q
+  in_life setup changes (backing_off outcome backoff) act h =
+      in_backoff setup changes outcome backoff act
+      (λ moment first_word second_word is due. h outcome backoff moment first_word second_word refl is due)
+  in_life setup changes (gone outcome) act h = All-nil Q
+
+  -- What holds of each BYE that a tick may bring in a backoff holds of each parting.
+  over_acts : (H : List Act → Type 0) (setup : Setup) (word : ℕ) →
+      ((act : Act) (earlier : List Act) → H (act ∷ earlier) → H earlier) →
+      ((outcome : Outcome) (backoff : Backoff) (moment first_word second_word : ℕ) (earlier : List Act) →
+      H (ticked moment first_word second_word ∷ earlier) →
+      (session_of setup word earlier).life ≡ backing_off outcome backoff →
+      is_bye_due (session_of setup word earlier).setup moment first_word backoff ≡ true →
+      Q (parting_at moment (session_of setup word earlier).setup backoff)) →
+      (acts : List Act) → H acts → All Q (partings_over setup word acts)
+  over_acts H setup word shorter each [] h = All-nil Q
+  over_acts H setup word shorter each (act ∷ earlier) h =
+      let before = session_of setup word earlier in
+      All-append Q (partings_in before.setup before.life (sent_by before act)) (partings_over setup word earlier)
+      (in_life before.setup before.changes before.life act
+      (λ outcome backoff moment first_word second_word is ticks due.
+      each outcome backoff moment first_word second_word earlier
+      (subst (λ (act : Act). H (act ∷ earlier)) ticks h) is due))
+      (over_acts H setup word shorter each earlier (shorter act earlier h))
+
+-- ---- One parting
+
+-- what is known of each
+pub record IsParting (setup : Setup) (parting : Parting) : Type 0 where
+  pub interval : parting.bye.interval ≡ interval_of (parting_load parting)
+  pub half : HalfPasses parting.backoff.since parting.bye.moment parting.bye.interval
+  pub load : IsLoadOf setup (parting_load parting)
+
+pub partings_are : (history : History) → IsHistory history →
+    All (IsParting history.setup) (partings_at history)
+partings_are history is =
+    let setup = history.setup in
+    let word = history.word in
+    over_acts (IsParting setup) (AllTaken setup word) setup word (λ act earlier taken. taken.2)
+    (λ outcome backoff moment first_word second_word earlier taken backs_off due.
+    let now = (session_of setup word earlier).setup in
+    one earlier outcome backoff moment first_word now taken.2 backs_off due
+    (changes_touch_the_identifier_alone-setup setup word earlier))
+    history.acts is.taken
+  where
+    one : (earlier : List Act) (outcome : Outcome) (backoff : Backoff) (moment word : ℕ) (now : Setup) →
+        AllTaken history.setup history.word earlier →
+        (session_of history.setup history.word earlier).life ≡ backing_off outcome backoff →
+        is_bye_due now moment word backoff ≡ true → now ≡ with_ssrc now.ssrc history.setup →
+        IsParting history.setup (parting_at moment now backoff)
+    one earlier outcome backoff moment word now taken backs_off due same =
+        let before : IsHistory (record history { acts = earlier }) =
+        record { usable = is.usable; word = is.word; taken = taken } in
+        let last = (last_lies_after_what_was_sent-backing_off (record history { acts = earlier }) outcome backoff before
+        backs_off).0 in
+        let draw = div_ceil (leaving_interval now backoff * (2 ^ 31 + word) * 100000) (2 ^ 32 * 121828) in
+        let parts = and_parts (nat_le (leaving_timing backoff).next moment)
+        (nat_le ((leaving_timing backoff).last + draw) moment) due in
+        let passed = leb-true ((leaving_timing backoff).last + draw) moment parts.1 in
+        let half = half_draw (leaving_interval now backoff) word in
+        let senders : now.sender_bw ≡ history.setup.sender_bw = ap (λ (s : Setup). s.sender_bw) same in
+        let others : now.receiver_bw ≡ history.setup.receiver_bw = ap (λ (s : Setup). s.receiver_bw) same in
+        record {
+          interval = refl;
+          half = omega (arith, last, passed, half);
+          load = record {
+            for_senders = senders;
+            for_others = others;
+            some = omega (arith, senders, is.usable.for_senders.0);
+            some_more = omega (arith, others, is.usable.for_others.0);
+            ordered = omega arith;
+          };
+        }
+
+-- ---- At most one of a participant
+
+as_many_byes : (setup : Setup) (life : Life) (sent : List Sent) →
+    length (partings_in setup life sent) ≤ length (filter is_last_bye sent)
+as_many_byes setup (present outcome) sent = omega arith
+as_many_byes setup (backing_off outcome backoff) sent =
+    let mapped = length-map (filter is_last_bye sent)
+    (λ (bye : Sent). let parting : Parting = record { bye = bye; setup = setup; backoff = backoff } in parting) in
+    omega (arith, mapped)
+as_many_byes setup (gone outcome) sent = omega arith
+
+no_more_than_byes : (setup : Setup) (word : ℕ) (acts : List Act) →
+    length (partings_over setup word acts) ≤ length (filter is_last_bye (sent_over setup word acts))
+no_more_than_byes setup word [] = omega arith
+no_more_than_byes setup word (act ∷ earlier) =
+    let before = session_of setup word earlier in
+    let sent = sent_by before act in
+    let one = as_many_byes before.setup before.life sent in
+    let rest = no_more_than_byes setup word earlier in
+    let partings = length-append (partings_in before.setup before.life sent) (partings_over setup word earlier) in
+    let byes = ap length (filter-append is_last_bye sent (sent_over setup word earlier))
+    ∙ length-append (filter is_last_bye sent) (filter is_last_bye (sent_over setup word earlier)) in
+    omega (arith, one, rest, partings, byes)
+
+pub one_parting : (history : History) → IsHistory history → length (partings_at history) ≤ 1
+one_parting history is =
+    let fewer = no_more_than_byes history.setup history.word history.acts in
+    let one = one_last (first_leave history.acts) (sent_at history)
+    (sent_compounds_keep_apart history is).leaves_once in
+    omega (arith, fewer, one)
+
+-- its interval, and how much of it passes
+pub partings_wait : (history : History) → IsHistory history →
+    All (λ parting. (parting.bye.interval ≡ interval_of (parting_load parting))
+    × HalfPasses parting.backoff.since parting.bye.moment parting.bye.interval) (partings_at history)
+partings_wait history is =
+    let partings = partings_are history is in
+    λ k d inside. ((partings k d inside).interval, (partings k d inside).half)
+
+-- ---- All leaves
+
+record IsLeave (terms : Terms) (leave : ByeWait) : Type 0 where
+  order : leave.since < leave.until
+  half : 100000 * interval_of (parting_load leave.parting) ≤ 2 * 121828 * (leave.until - leave.since)
+  for_others : (parting_load leave.parting).receiver_bw ≡ terms.receiver_bw
+  some : 1 ≤ (parting_load leave.parting).sender_bw
+  some_more : 1 ≤ (parting_load leave.parting).receiver_bw
+
+one_leave : (terms : Terms) (setup : Setup) (start : ℕ) (parting : Parting) → setup.receiver_bw ≡ terms.receiver_bw →
+    IsParting setup parting → IsLeave terms (bye_wait_of start parting)
+one_leave terms setup start parting same is =
+    let half : 100000 * interval_of (parting_load parting) ≤ 2 * 121828 * (parting.bye.moment - parting.backoff.since) =
+    subst (λ (n : ℕ). 100000 * n ≤ 2 * 121828 * (parting.bye.moment - parting.backoff.since)) is.interval is.half in
+    let least : 2500000 ≤ interval_of (parting_load parting) = interval_has_minimum (parting_load parting) in
+    record {
+      order = omega (arith, half, least);
+      half = omega (arith, half);
+      for_others = is.load.for_others ∙ same;
+      some = is.load.some;
+      some_more = is.load.some_more;
+    }
+
+leaves_are : (terms : Terms) (all : List Joined) → All (HasBandwidth terms) all →
+    All (IsLeave terms) (all_bye_waits all)
+leaves_are terms [] h = All-nil (IsLeave terms)
+leaves_are terms (joined ∷ others) h =
+    let one = All-head (HasBandwidth terms) joined others h in
+    let partings = partings_are joined.history one.stands in
+    All-append (IsLeave terms) (map (bye_wait_of joined.start) (partings_at joined.history)) (all_bye_waits others)
+    (All-map (IsLeave terms) (bye_wait_of joined.start) (partings_at joined.history)
+    (λ k d inside. one_leave terms joined.history.setup joined.start (get_or (partings_at joined.history) k d)
+    one.for_others (partings k d inside)))
+    (leaves_are terms others (All-tail (HasBandwidth terms) joined others h))
+
+has_room : (from : ℕ) (terms : Terms) (leaves : List ByeWait) (leave : ByeWait) → IsLeave terms leave →
+    CountsByes terms.percent leaves leave → HasByeSizes terms.size leave →
+    HasRoom ByeWait (λ (leave : ByeWait). leave.since) (λ (leave : ByeWait). leave.until) from
+    (100 * 100000 * 1000000 * terms.size) (terms.percent * (2 * 121828 * terms.receiver_bw)) leaves leave
+has_room from terms leaves leave is counts sizes = record {
+  order = is.order;
+  fits = room (length (filter (bye_during leave) leaves)) (leaving_count leave.parting.backoff)
+      (leaving_average leave.parting.setup leave.parting.backoff.farewells)
+      (interval_of (parting_load leave.parting)) (leave.until - leave.since) terms.receiver_bw counts large
+      (subst (λ (b : ℕ). 1000000 * (leaving_count leave.parting.backoff - 0) *
+      leaving_average leave.parting.setup leave.parting.backoff.farewells
+      ≤ interval_of (parting_load leave.parting) * (256 * b)) is.for_others
+      (interval_of_others (parting_load leave.parting) is.some is.some_more (omega arith) refl).0) is.half;
+}
+  where
+    large : 256 * terms.size ≤ leaving_average leave.parting.setup leave.parting.backoff.farewells
+    large = floor terms.size (length (bye_octets leave.parting.setup))
+        (map (λ farewell. farewell.size) leave.parting.backoff.farewells) sizes.own
+        (All-map (λ (size : ℕ). terms.size ≤ with_headers size) (λ (farewell : Farewell). farewell.size)
+        leave.parting.backoff.farewells sizes.sizes)
+
+    room : (inside n avg interval span b : ℕ) → 100 * inside ≤ terms.percent * n → 256 * terms.size ≤ avg →
+        1000000 * (n - 0) * avg ≤ interval * (256 * b) → 100000 * interval ≤ 2 * 121828 * span →
+        100 * 100000 * 1000000 * terms.size * inside ≤ terms.percent * (2 * 121828 * b) * span
+    room inside n avg interval span b counted large keeps half =
+        let same : n - 0 ≡ n = omega arith in
+        let shares : 1000000 * n * avg ≤ interval * (256 * b) =
+        subst (λ (m : ℕ). 1000000 * m * avg ≤ interval * (256 * b)) same keeps in
+        let one : 100 * inside * (256 * terms.size) ≤ terms.percent * n * avg = mul-le-mul counted large in
+        let two : terms.percent * (1000000 * n * avg) ≤ terms.percent * (interval * (256 * b)) =
+        mul-le-mul_left terms.percent shares in
+        let three : terms.percent * b * (100000 * interval) ≤ terms.percent * b * (2 * 121828 * span) =
+        mul-le-mul_left (terms.percent * b) half in
+        omega (arith, one, two, three)
+
+pub few_leave : (terms : Terms) (from width : ℕ) (all : List Joined) → 1 ≤ terms.size → All (HasBandwidth terms) all →
+    All (CountsByes terms.percent (bye_waits_within from width all)) (bye_waits_within from width all) →
+    All (HasByeSizes terms.size) (bye_waits_within from width all) →
+    length (bye_waits_within from width all) ≤ carried_in width terms.receiver_bw terms
+few_leave terms from width all some each counts sizes =
+    let leaves = bye_waits_within from width all in
+    let are = All-filter (is_bye_wait_in from width) (IsLeave terms) (all_bye_waits all) (leaves_are terms all each) in
+    let fit = all_inside ByeWait (λ (leave : ByeWait). leave.since) (λ (leave : ByeWait). leave.until) from
+    (100 * 100000 * 1000000 * terms.size) (terms.percent * (2 * 121828 * terms.receiver_bw)) leaves
+    (λ k d inside.
+    has_room from terms leaves (get_or leaves k d) (are k d inside) (counts k d inside) (sizes k d inside)) width
+    (filter_passes (is_bye_wait_in from width) (all_bye_waits all)) in
+    le-div (length leaves) (terms.percent * (2 * 121828 * width * terms.receiver_bw))
+    (100 * 100000 * 1000000 * terms.size) (omega (arith, some)) (omega (arith, fit))

@@ -1,0 +1,91 @@
+-- Those who leave with a BYE after a backoff (RFC 3550, 6.3.7), and how many BYEs each counts until its own. Lists are
+-- newest first; moments and widths are in microseconds.
+use Rattle.std.specs.Prelude.{ℕ, ◌+◌, ◌*◌, ◌≤◌, ◌&&◌, nat_le, nat_lt, Bool, List, [], ◌∷◌, ◌++◌, length, map, filter, All, flat_map}
+use Rattle.rtcp_timer.specs.declared.load.Load.{Load}
+use Rattle.rtcp_timer.specs.Averages.{with_headers}
+use Rattle.rtcp_engine.specs.Setups.{Setup}
+use Rattle.rtcp_engine.specs.Acts.{Act}
+use Rattle.rtcp_engine.specs.Reporting.{bye_octets}
+use Rattle.rtcp_engine.specs.Leaving.{Backoff, Life, present, backing_off, gone, leaving_count, leaving_load}
+use Rattle.rtcp_engine.specs.Histories.{History, session_of}
+use Rattle.rtcp_engine.specs.Sent.{Sent, sent_by}
+use Rattle.rtcp_engine.specs.Spacing.{is_last_bye}
+use Rattle.rtcp_session.specs.Windows.{Joined}
+use Rattle.rtcp_session.specs.Crowds.{Terms}
+use Rattle.rtcp_session.specs.Waits.{HasBandwidth}
+
+-- ---- Partings
+
+-- A BYE that was sent after a backoff, and what it was decided by: the setup under the identifier of that moment, and
+-- what came in the backoff.
+pub record Parting : Type 0 where
+  pub bye : Sent
+  pub setup : Setup
+  pub backoff : Backoff
+
+-- the load from which its interval follows
+abbrev pub parting_load : Parting → Load
+parting_load parting =
+    leaving_load parting.setup (leaving_count parting.backoff) parting.backoff.farewells
+
+abbrev pub partings_in : Setup → Life → List Sent → List Parting
+partings_in setup (present outcome) sent = []
+partings_in setup (backing_off outcome backoff) sent =
+    map (λ bye. record { bye = bye; setup = setup; backoff = backoff }) (filter is_last_bye sent)
+partings_in setup (gone outcome) sent = []
+
+abbrev pub partings_over : Setup → (word : ℕ) → List Act → List Parting
+partings_over setup word [] = []
+partings_over setup word (act ∷ earlier) =
+    let before = session_of setup word earlier in
+    partings_in before.setup before.life (sent_by before act) ++ partings_over setup word earlier
+
+-- that of a history, if there is one
+abbrev pub partings_at : History → List Parting
+partings_at history = partings_over history.setup history.word history.acts
+
+-- ---- One clock for all
+
+-- from a leave to its BYE, by a clock that all go by, and what the BYE was decided by
+pub record ByeWait : Type 0 where
+  pub since : ℕ
+  pub until : ℕ
+  pub parting : Parting
+
+abbrev pub bye_wait_of : (start : ℕ) → Parting → ByeWait
+bye_wait_of start parting = record {
+  since = start + parting.backoff.since;
+  until = start + parting.bye.moment;
+  parting = parting;
+}
+
+abbrev pub all_bye_waits : List Joined → List ByeWait
+all_bye_waits all = flat_map (λ joined. map (bye_wait_of joined.start) (partings_at joined.history)) all
+
+-- The BYE of another goes out after the leave of one and up to its BYE, which counts too.
+abbrev pub bye_during : ByeWait → ByeWait → Bool
+bye_during leave other = nat_lt leave.since other.until && nat_le other.until leave.until
+
+-- The leave and its BYE lie in a window.
+abbrev pub is_bye_wait_in : (from width : ℕ) → ByeWait → Bool
+is_bye_wait_in from width leave = nat_le from leave.since && nat_le leave.until (from + width)
+
+abbrev pub bye_waits_within : (from width : ℕ) → List Joined → List ByeWait
+bye_waits_within from width all = filter (is_bye_wait_in from width) (all_bye_waits all)
+
+-- The BYEs that go out after its leave and up to its own are at most so many percent of those that it counts.
+abbrev pub CountsByes : (percent : ℕ) → List ByeWait → ByeWait → Type 0
+CountsByes percent leaves leave =
+    100 * length (filter (bye_during leave) leaves) ≤ percent * leaving_count leave.parting.backoff
+
+-- No compound with a BYE is smaller, neither its own nor one that came to it since its leave, headers included.
+pub record HasByeSizes (size : ℕ) (leave : ByeWait) : Type 0 where
+  pub own : size ≤ with_headers (length (bye_octets leave.parting.setup))
+  pub sizes : All (λ farewell. size ≤ with_headers farewell.size) leave.parting.backoff.farewells
+
+-- A session of one bandwidth, in which those who leave in the window count each other's BYEs to that extent, and no
+-- compound with a BYE is smaller than the size of the terms.
+pub record ByesAreCounted (terms : Terms) (from width : ℕ) (all : List Joined) : Type 0 where
+  pub each : All (HasBandwidth terms) all
+  pub sizes : All (HasByeSizes terms.size) (bye_waits_within from width all)
+  pub counted : All (CountsByes terms.percent (bye_waits_within from width all)) (bye_waits_within from width all)
