@@ -15,6 +15,14 @@ mod Joining
 mod Crowding
 mod CrowdRows
 mod WaitRows
+mod DeliveryRows
+mod DeliveryWrongs
 mod JoinRows
 mod LeaveRows
 mod WrongRows
+mod Stretching
+mod Knowing
+mod Taking
+mod Announcing
+mod Delivering
+mod Delivered

@@ -3,3 +3,4 @@ pub mod Crowds
 pub mod Waits
 pub mod Joins
 pub mod Partings
+pub mod Deliveries
