@@ -11,15 +11,17 @@
  *
  * After each session of the library, every window of 1 to 300 seconds is held against the laws proved about what the
  * participants of a session send (crowd_windows.h). A window that breaks one is named with it, and the status is 1.
- * `crowd windows` does this for one group alone: without RTP, with some five who send it, and, if a table has room for
- * all, with every third sending it. Those who send RTP send for a minute and then pause as long.
+ * `crowd windows` does this for sessions of one group: without RTP, with some five who send it, and, if a table has room
+ * for all, with every third sending it, for a minute, after which they pause as long; with all of them sending it for a
+ * while, about five at a time; with fifty who leave every half minute as others join; and where a datagram reaches the
+ * others after 100 or 500 ms.
  *
- *     cc -std=c11 -O2 crowd.c crowd_svg.c crowd_windows.c -o crowd $(pkg-config --cflags --libs jalwedd) -lm
+ *     cc -std=c11 -O2 crowd*.c -o crowd $(pkg-config --cflags --libs jalwedd) -lm
  *     crowd [PARTICIPANTS [SEED]] > crowd-10000.svg          figures on standard error
  *     crowd windows [PARTICIPANTS [SEED]]
  *
- * A participant with room for 1,024 others takes 150 KB of heap, so 10,000 of them take 1.5 GB. The picture takes half
- * a minute of one core, and `crowd windows` two minutes, or 8 seconds with 1,000 participants.
+ * A participant with room for 1,024 others takes 150 KB of heap, so 10,000 of them take 1.5 GB. The picture takes a
+ * minute of one core, and `crowd windows` half a minute with 1,000 participants.
  */
 #include "crowd_svg.h"
 #include "crowd_windows.h"
@@ -47,11 +49,16 @@ enum {
     RTP_TURN = 30,                      /* packets, and then a pause of as long */
     FEW = 5,                            /* some so many send RTP, */
     MANY = 3,                           /* or one in so many */
+    SHORT_TURN = 10,
+    BATCH = 50,                         /* so many leave as others join, */
+    EVERY = 30,                         /* every so many seconds */
+    MILLISECOND = 1000,
     TEST_LEAVE = 900,                   /* seconds */
     TEST_END = 1200
 };
 
 static const uint64_t NEVER = UINT64_MAX;
+static const struct terms TERMS = {.sender_bw = SENDER_BW, .receiver_bw = RECEIVER_BW, .size = REPORT};
 
 enum phase { AWAY, PRESENT, LEAVING, GONE };
 
@@ -59,10 +66,13 @@ struct participant {
     jalwedd_handle session;
     jalwedd_step step;
     uint64_t joins, leaves;             /* microseconds of the virtual clock; NEVER for those who stay */
+    uint64_t left;                      /* when it did leave */
     uint64_t rtp_due;                   /* when it sends its next RTP packet; NEVER for those who send none */
     uint64_t due;                       /* when it is to act next */
     uint32_t group, place;              /* its place in the heap */
     uint32_t told;                      /* how many datagrams of its group it was told, or joined too late for */
+    uint32_t average;                   /* the average size of the compounds that it sent or was told, in 1/256 octet */
+    uint32_t byes;                      /* after its leave: 1, and one for each BYE that it was told since */
     uint16_t sequence;                  /* the number of that packet */
     enum phase phase;
     bool is_wrong;                      /* it stays, and does not know how many stay */
@@ -71,10 +81,10 @@ struct participant {
 
 /* A datagram that went out, and where its octets stand among those of its group. */
 struct datagram {
-    uint64_t moment;
+    uint64_t comes;                     /* to all others */
     size_t at;
     uint32_t from, size;
-    bool is_rtp;
+    bool is_rtp, is_bye;
 };
 
 struct group {
@@ -84,6 +94,7 @@ struct group {
     size_t datagrams_room, octets_room, sent_room;
     size_t size;                        /* of the octets */
     uint32_t count, sent_count;
+    uint32_t came;                      /* how many of the datagrams had come when someone joined last */
     uint32_t staying;
     uint32_t heard;                     /* without the library: those of whom a report went out, and no BYE */
     uint32_t average;                   /* without the library: the average size of compounds, in 1/256 octet */
@@ -93,15 +104,31 @@ struct group {
 struct plan {
     uint32_t participants, groups;
     uint32_t sender_step;               /* one in so many of a group sends RTP; 0: none */
+    uint32_t turns;                     /* how many turns these take; 0: all send at a time, and all pause */
+    uint32_t turn;                      /* how many packets are sent in one */
+    uint32_t batch, every;              /* so many join, while as many leave, every so many seconds until half of those
+                                           who are there leave; 0: nobody does */
     uint32_t leave, end;                /* when half of them leave, and when the run ends */
+    uint32_t delay;                     /* microseconds until a datagram comes to the others */
     uint64_t seed;
+};
+
+/* A BYE on its way. */
+struct flight {
+    uint64_t comes;
+    uint32_t group;
 };
 
 /* The participants of all groups, one of each group after the other, and the heap of when they act next. */
 struct crowd {
     struct participant *all, **heap;
     struct group *groups;
+    struct flight *flights;             /* of all BYEs, of which so many have come */
+    size_t flights_room;
+    uint32_t flight_count, landed;
     uint64_t now, random;
+    uint32_t delay, turns, turn;        /* of the plan */
+    uint32_t drawn;                     /* the word for the next interval of who reports */
     uint32_t wrong;                     /* how many are */
     struct course course;
 };
@@ -113,20 +140,6 @@ static uint32_t random_word(struct crowd *crowd)
     word = (word ^ word >> 30) * 0xbf58476d1ce4e5b9u;
     word = (word ^ word >> 27) * 0x94d049bb133111ebu;
     return (uint32_t)((word ^ word >> 31) >> 32);
-}
-
-static _Noreturn void stop(const char *why, uint32_t status)
-{
-    fprintf(stderr, "crowd: %s (status %u)\n", why, status);
-    exit(1);
-}
-
-static void *zeros(size_t count, size_t size)
-{
-    void *at = calloc(count, size);
-    if (at == NULL)
-        stop("no memory", JALWEDD_NO_MEMORY);
-    return at;
 }
 
 /* An array, or the one that takes its place, with room for so many things of a size. */
@@ -231,7 +244,7 @@ static void compare_members(struct crowd *crowd, struct participant *who, uint32
 
 /* ---- The crowd of the library's participants
  *
- * A datagram comes to all others as it goes out. Neither a report nor an RTP packet moves anyone's next moment, so each
+ * A datagram comes to all others at one moment. Neither a report nor an RTP packet moves anyone's next moment, so each
  * is told it, with the moment at which it came, when it acts next: then its table stays in the processor's cache for
  * many of them. */
 
@@ -251,14 +264,23 @@ static void take_step(struct crowd *crowd, struct participant *who)
     compare_members(crowd, who, who->step.members);
 }
 
+/* By a compound that came or went out (RFC 3550, 6.3.3). The library keeps its average for itself; that of a backoff
+ * is not needed here. */
+static void move_average(struct participant *who, uint32_t size)
+{
+    who->average = (256 * (size + HEADERS) + 15 * who->average) / 16;
+}
+
 static uint32_t tell(struct crowd *crowd, struct participant *who, const struct datagram *came)
 {
     static uint8_t unused[JALWEDD_OCTETS];      /* only a change of SSRC hands out a compound here: none collide */
-    const uint64_t moment = came->moment - who->joins;
+    const uint64_t moment = came->comes - who->joins;
     const uint8_t *octets = &crowd->groups[who->group].octets[came->at];
     const uint32_t word = random_word(crowd);
     if (came->is_rtp)
         return jalwedd_arrive_rtp(&who->session, moment, came->from, word, octets, came->size, &who->step, unused);
+    move_average(who, came->size);
+    who->byes += came->is_bye;
     return jalwedd_arrive_rtcp(&who->session, moment, came->from, word, octets, came->size, &who->step, unused);
 }
 
@@ -266,7 +288,7 @@ static uint32_t tell(struct crowd *crowd, struct participant *who, const struct 
 static void catch_up(struct crowd *crowd, struct participant *who)
 {
     const struct group *group = &crowd->groups[who->group];
-    for (; who->told < group->count; who->told++) {
+    for (; who->told < group->count && group->datagrams[who->told].comes <= crowd->now; who->told++) {
         const struct datagram *came = &group->datagrams[who->told];
         if (&crowd->all[came->from] == who)
             continue;
@@ -274,21 +296,36 @@ static void catch_up(struct crowd *crowd, struct participant *who)
         const uint32_t status = tell(crowd, who, came);
         if (status != JALWEDD_TAKEN || who->step.kind != JALWEDD_NOTHING)
             stop("a datagram was not taken", status);
-        if (who->step.next < next && came->moment < crowd->now)
+        if (who->step.next < next && came->comes < crowd->now)
             stop("a datagram was told too late", status);
+        if (who->phase == LEAVING && who->step.members != who->byes)
+            stop("one who leaves counts other BYEs", who->step.members);
     }
 }
 
 static void put_out(struct crowd *crowd, const struct participant *from, const uint8_t *octets, uint32_t size,
-                    bool is_rtp)
+                    bool is_rtp, bool is_bye)
 {
     struct group *group = &crowd->groups[from->group];
+    const struct datagram datagram = {.comes = crowd->now + crowd->delay, .at = group->size, .size = size,
+                                      .from = (uint32_t)(from - crowd->all), .is_rtp = is_rtp, .is_bye = is_bye};
     group->datagrams = with_room(group->datagrams, &group->datagrams_room, group->count + 1, sizeof *group->datagrams);
     group->octets = with_room(group->octets, &group->octets_room, group->size + size, 1);
     memcpy(&group->octets[group->size], octets, size);
-    group->datagrams[group->count++] = (struct datagram){.moment = crowd->now, .at = group->size, .size = size,
-                                                         .from = (uint32_t)(from - crowd->all), .is_rtp = is_rtp};
+    group->datagrams[group->count++] = datagram;
     group->size += size;
+    if (!is_bye)
+        return;
+    crowd->flights = with_room(crowd->flights, &crowd->flights_room, crowd->flight_count + 1, sizeof *crowd->flights);
+    crowd->flights[crowd->flight_count++] = (struct flight){.comes = datagram.comes, .group = from->group};
+}
+
+/* How many datagrams of a group came before now. */
+static uint32_t come(const struct crowd *crowd, struct group *group)
+{
+    while (group->came < group->count && group->datagrams[group->came].comes <= crowd->now)
+        group->came++;
+    return group->came;
 }
 
 static uint32_t join(struct crowd *crowd, struct participant *who)
@@ -300,9 +337,10 @@ static uint32_t join(struct crowd *crowd, struct participant *who)
                                    .receiver_bw = RECEIVER_BW, .rate = RATE};
     const jalwedd_item none = {0};
     char cname[32];
-    const int size = snprintf(cname, sizeof cname, "p%04u@example.com", number);
+    const int size = snprintf(cname, sizeof cname, "p%04x@example.com", number);
     who->phase = PRESENT;
-    who->told = crowd->groups[who->group].count;
+    who->told = come(crowd, &crowd->groups[who->group]);
+    who->average = 256 * REPORT;
     return jalwedd_new(&who->session, &config, (const uint8_t *)cname, (size_t)size, &none, 0, random_word(crowd),
                        &who->step);
 }
@@ -310,6 +348,8 @@ static uint32_t join(struct crowd *crowd, struct participant *who)
 static uint32_t leave(struct crowd *crowd, struct participant *who, uint32_t word, uint8_t *octets)
 {
     who->phase = LEAVING;
+    who->left = crowd->now;
+    who->byes = 1;
     const uint32_t status = jalwedd_leave(&who->session, crowd->now - who->joins, word, &who->step, octets);
     crowd->course.silent += who->step.next == JALWEDD_NEVER && who->step.kind == JALWEDD_NOTHING;
     return status;
@@ -324,9 +364,10 @@ static uint32_t send_rtp(struct crowd *crowd, struct participant *who, uint8_t *
         0x80, 0, (uint8_t)(who->sequence >> 8), (uint8_t)who->sequence,
         (uint8_t)(timestamp >> 24), (uint8_t)(timestamp >> 16), (uint8_t)(timestamp >> 8), (uint8_t)timestamp,
         (uint8_t)(ssrc >> 24), (uint8_t)(ssrc >> 16), (uint8_t)(ssrc >> 8), (uint8_t)ssrc};
-    put_out(crowd, who, head, RTP_HEAD, true);
+    put_out(crowd, who, head, RTP_HEAD, true, false);
     who->sequence++;
-    who->rtp_due += (who->sequence % RTP_TURN == 0 ? RTP_TURN : 1) * (uint64_t)RTP_EACH * SECOND;
+    const uint64_t pause = crowd->turn * (crowd->turns > 1 ? crowd->turns - 1 : 1);
+    who->rtp_due += (who->sequence % crowd->turn == 0 ? pause + (crowd->turns > 1) : 1) * RTP_EACH * SECOND;
     return jalwedd_sent_rtp(&who->session, moment, timestamp, RATE * RTP_EACH, &who->step, octets);
 }
 
@@ -341,23 +382,38 @@ static uint32_t act(struct crowd *crowd, struct participant *who, uint8_t *octet
         return leave(crowd, who, word, octets);
     if (who->phase == PRESENT && who->rtp_due <= crowd->now)
         return send_rtp(crowd, who, octets);
+    crowd->drawn = another;
     return jalwedd_tick(&who->session, crowd->now - who->joins, word, another, &who->step, octets);
 }
 
-/* After a tick, its step has what a report was decided by. */
-static void write_down(struct crowd *crowd, const struct participant *who, const jalwedd_step *step,
-                       const uint8_t *octets)
+/* After a report the next interval is drawn with the average as it is then: if this is exact, so is the next moment. */
+static void check_average(const struct crowd *crowd, const struct participant *who, const struct sent *report)
 {
-    struct group *group = &crowd->groups[who->group];
-    const bool is_bye = step->kind == JALWEDD_BYE;
-    group->sent = with_room(group->sent, &group->sent_room, group->sent_count + 1, sizeof *group->sent);
-    group->sent[group->sent_count++] = (struct sent){
-        .moment = crowd->now, .from = (uint32_t)(who - crowd->all), .octets = step->size + HEADERS,
-        .members = step->members, .senders = step->senders, .sends_rtp = octets[1] == SENDER_REPORT, .is_bye = is_bye};
-    count_compound(crowd, who, is_bye, step->size + HEADERS);
+    const uint64_t factor = ((1ull << 31) + crowd->drawn) * WHOLE, divisor = (1ull << 31) * PACE;
+    const wide product = (wide)interval_by(&TERMS, report, who->average) * factor;
+    const uint64_t interval = (uint64_t)((product + divisor - 1) / divisor);
+    if (who->step.next != crowd->now - who->joins + interval)
+        stop("the average is not that of the library", who->average);
 }
 
-/* A BYE may bring the next report of those who stay sooner (reverse reconsideration): they are told at once. */
+/* After a tick, its step has what a report was decided by, but for the average. */
+static void write_down(struct crowd *crowd, struct participant *who, const jalwedd_step *step, const uint8_t *octets)
+{
+    struct group *group = &crowd->groups[who->group];
+    const bool is_bye = step->kind == JALWEDD_BYE, is_backoff = is_bye && who->left < crowd->now;
+    const struct sent sent = {
+        .moment = crowd->now, .since = is_backoff ? who->left : UINT64_MAX, .from = (uint32_t)(who - crowd->all),
+        .octets = step->size + HEADERS, .members = is_bye ? who->byes : step->members, .senders = step->senders,
+        .average = who->average, .sends_rtp = octets[1] == SENDER_REPORT, .is_bye = is_bye};
+    group->sent = with_room(group->sent, &group->sent_room, group->sent_count + 1, sizeof *group->sent);
+    group->sent[group->sent_count++] = sent;
+    count_compound(crowd, who, is_bye, sent.octets);
+    move_average(who, step->size);
+    if (!is_bye)
+        check_average(crowd, who, &sent);
+}
+
+/* A BYE may bring the next report of those who stay sooner (reverse reconsideration): they are told as it comes. */
 static void tell_group(struct crowd *crowd, uint32_t group)
 {
     for (uint32_t at = group; at < crowd->course.participants; at += crowd->course.groups) {
@@ -369,21 +425,33 @@ static void tell_group(struct crowd *crowd, uint32_t group)
     }
 }
 
+/* Tells of the BYEs that come before anyone acts. */
+static void land(struct crowd *crowd)
+{
+    while (crowd->landed < crowd->flight_count) {
+        const struct flight *next = &crowd->flights[crowd->landed];
+        const uint64_t due = crowd->heap[0]->due;
+        if (next->comes > (due < crowd->now ? crowd->now : due) || next->comes >= (uint64_t)crowd->course.end * SECOND)
+            return;
+        crowd->landed++;
+        crowd->now = next->comes;
+        tell_group(crowd, next->group);
+    }
+}
+
 static void run_with(struct crowd *crowd)
 {
     static uint8_t octets[JALWEDD_OCTETS];
-    for (struct participant *who; (who = next_due(crowd)) != NULL;) {
+    for (struct participant *who; land(crowd), (who = next_due(crowd)) != NULL;) {
         const uint32_t status = act(crowd, who, octets);
         const jalwedd_step step = who->step;
         if (status != JALWEDD_TAKEN)
             stop("a call was refused", status);
+        if (step.kind != JALWEDD_NOTHING)
+            write_down(crowd, who, &step, octets);
         take_step(crowd, who);
-        if (step.kind == JALWEDD_NOTHING)
-            continue;
-        write_down(crowd, who, &step, octets);
-        put_out(crowd, who, octets, step.size, false);
-        if (step.kind == JALWEDD_BYE)
-            tell_group(crowd, who->group);
+        if (step.kind != JALWEDD_NOTHING)
+            put_out(crowd, who, octets, step.size, false, step.kind == JALWEDD_BYE);
     }
 }
 
@@ -443,28 +511,53 @@ static void run_without(struct crowd *crowd)
 
 /* ---- A run, and its figures */
 
+/* How often so many join while others leave. */
+static uint32_t rounds_of(const struct plan *plan)
+{
+    return plan->batch == 0 ? 0 : (plan->leave - 1) / plan->every;
+}
+
+/* Those who have been there longest leave when others join, and in the end one in two. */
+static void set_moments(struct crowd *crowd, const struct plan *plan, uint32_t at)
+{
+    struct participant *who = &crowd->all[at];
+    const uint32_t joins = at < plan->participants ? 0 : (at - plan->participants) / plan->batch + 1;
+    const uint32_t leaves = plan->batch == 0 ? 1 : at / plan->batch + 1;
+    const bool goes = leaves <= rounds_of(plan), stays = !goes && at / plan->groups % 2 == 0;
+    who->joins = who->due = (uint64_t)joins * plan->every * SECOND + random_word(crowd) % SECOND;
+    who->leaves = NEVER;
+    if (!stays)
+        who->leaves = (uint64_t)(goes ? leaves * plan->every : plan->leave) * SECOND + random_word(crowd) % SECOND;
+    crowd->groups[who->group].staying += stays;
+}
+
+static void set_turn(struct participant *who, const struct plan *plan, uint32_t at)
+{
+    who->rtp_due = NEVER;
+    if (plan->sender_step == 0 || at % plan->sender_step != 0)
+        return;
+    const uint64_t turn = plan->turns > 1 ? at / plan->sender_step % plan->turns : 0;
+    who->rtp_due = who->joins + turn * plan->turn * RTP_EACH * SECOND;
+}
+
 static struct crowd set_up(const struct plan *plan)
 {
-    const uint32_t participants = plan->participants, groups = plan->groups, leave = plan->leave, end = plan->end;
-    struct crowd crowd = {.random = plan->seed, .course = {.participants = participants, .groups = groups,
-                                                           .leave = leave, .end = end,
-                                                           .bandwidth = SENDER_BW + RECEIVER_BW}};
+    const uint32_t participants = plan->participants + rounds_of(plan) * plan->batch, groups = plan->groups;
+    struct crowd crowd = {.random = plan->seed, .delay = plan->delay, .turns = plan->turns, .turn = plan->turn,
+                          .course = {.participants = participants, .groups = groups, .leave = plan->leave,
+                                     .end = plan->end, .bandwidth = SENDER_BW + RECEIVER_BW}};
     crowd.all = zeros(participants, sizeof *crowd.all);
     crowd.heap = zeros(participants, sizeof *crowd.heap);
     crowd.groups = zeros(groups, sizeof *crowd.groups);
-    crowd.course.seconds = zeros((size_t)groups * end, sizeof *crowd.course.seconds);
+    crowd.course.seconds = zeros((size_t)groups * plan->end, sizeof *crowd.course.seconds);
     crowd.course.agreed = NEVER;
     for (uint32_t at = 0; at < participants; at++) {
         struct participant *who = &crowd.all[at];
-        struct group *group = &crowd.groups[at % groups];
-        const bool stays = at / groups % 2 == 0;
         who->group = at % groups;
-        who->joins = who->due = random_word(&crowd) % SECOND;
-        who->leaves = stays ? NEVER : (uint64_t)leave * SECOND + random_word(&crowd) % SECOND;
-        who->rtp_due = plan->sender_step != 0 && at / groups % plan->sender_step == 0 ? who->joins : NEVER;
         who->place = at;
-        group->staying += stays;
-        group->average = 256 * REPORT;
+        crowd.groups[who->group].average = 256 * REPORT;
+        set_moments(&crowd, plan, at);
+        set_turn(who, plan, at / groups);
         rise(&crowd, who);
     }
     return crowd;
@@ -482,16 +575,29 @@ static void tear_down(struct crowd *crowd)
     free(crowd->all);
     free(crowd->heap);
     free(crowd->groups);
+    free(crowd->flights);
+}
+
+/* All that went out in a group, and when each participant of the crowd began. */
+static struct record record_of(const struct crowd *crowd, uint32_t group)
+{
+    struct record record = {.sent = crowd->groups[group].sent, .count = crowd->groups[group].sent_count,
+                            .participants = crowd->course.participants};
+    record.starts = zeros(record.participants, sizeof *record.starts);
+    for (uint32_t at = 0; at < record.participants; at++)
+        record.starts[at] = crowd->all[at].joins;
+    return record;
 }
 
 /* What all windows of all groups come to. */
 static struct findings find(const struct crowd *crowd)
 {
-    const struct terms terms = {.participants = crowd->course.participants, .sender_bw = SENDER_BW,
-                                .receiver_bw = RECEIVER_BW, .size = REPORT};
-    struct findings findings = {.is_broken = false};
-    for (uint32_t at = 0; at < crowd->course.groups && !findings.is_broken; at++)
-        test_windows(&findings, &terms, crowd->groups[at].sent, crowd->groups[at].sent_count);
+    struct findings findings = {.broken = 0};
+    for (uint32_t at = 0; at < crowd->course.groups && !is_over(&findings); at++) {
+        const struct record record = record_of(crowd, at);
+        test_windows(&findings, &TERMS, &record);
+        free(record.starts);
+    }
     return findings;
 }
 
@@ -559,16 +665,17 @@ static bool run_pair(const struct plan *plan, struct course course[2])
     print_figures(&course[0], "with reconsideration");
     print_findings(stderr, &findings);
     print_figures(&course[1], "without");
-    return !findings.is_broken;
+    return findings.broken == 0;
 }
 
 static bool draw_crowds(uint32_t participants, uint64_t seed)
 {
     struct course groups[2], single[2];
     const uint32_t count = (participants + ROOM) / (ROOM + 1);
-    const struct plan in_groups = {.participants = participants, .groups = count, .seed = seed, .leave = 400,
-                                   .end = 700};
-    const struct plan in_one = {.participants = participants, .groups = 1, .seed = seed, .leave = 300, .end = 340};
+    const struct plan in_groups = {.participants = participants, .groups = count, .turn = RTP_TURN, .seed = seed,
+                                   .leave = 400, .end = 700};
+    const struct plan in_one = {.participants = participants, .groups = 1, .turn = RTP_TURN, .seed = seed,
+                                .leave = 300, .end = 340};
     fprintf(stderr, "%u participants in groups: %u\n", participants, count);
     bool is_kept = run_pair(&in_groups, groups);
     fprintf(stderr, "%u participants in one group\n", participants);
@@ -578,34 +685,77 @@ static bool draw_crowds(uint32_t participants, uint64_t seed)
     return is_kept;
 }
 
-/* A run of one group, of which one in so many sends RTP, or none. Gives whether the laws held. */
-static bool test_group(uint32_t participants, uint32_t sender_step, uint64_t seed)
+/* A session of one group, and what it is called. Gives whether the laws held. */
+static bool test_group(struct plan plan, const char *name)
 {
-    const struct plan plan = {.participants = participants, .groups = 1, .sender_step = sender_step, .seed = seed,
-                              .leave = TEST_LEAVE, .end = TEST_END};
-    const uint32_t count = sender_step == 0 ? 0 : (participants + sender_step - 1) / sender_step;
     struct course course;
-    printf("%u participants, %u of whom send RTP\n", participants, count);
+    printf("%u participants, of whom %s; a datagram comes after %u ms\n", plan.participants, name,
+           plan.delay / MILLISECOND);
     fflush(stdout);
     const struct findings findings = run_library(&plan, &course);
     free(course.seconds);
     print_findings(stdout, &findings);
-    return !findings.is_broken;
+    return findings.broken == 0;
+}
+
+/* The plan of a crowd none of whom sends RTP, and whose datagrams come at once. */
+static struct plan plan_of(uint32_t participants, uint64_t seed)
+{
+    return (struct plan){.participants = participants, .groups = 1, .turn = RTP_TURN, .leave = TEST_LEAVE,
+                         .end = TEST_END, .seed = seed};
+}
+
+/* A few at a time take short turns to send RTP. */
+static struct plan with_turns(struct plan plan)
+{
+    plan.sender_step = 1;
+    plan.turns = plan.participants / FEW > 1 ? plan.participants / FEW : 2;
+    plan.turn = SHORT_TURN;
+    return plan;
+}
+
+static struct plan with_turnover(struct plan plan)
+{
+    plan.batch = plan.participants < 2 * BATCH ? plan.participants / 2 : BATCH;
+    plan.every = EVERY;
+    return plan;
+}
+
+static struct plan with_delay(struct plan plan, uint32_t milliseconds)
+{
+    plan.delay = milliseconds * MILLISECOND;
+    return plan;
 }
 
 /* Those who send RTP are an odd step apart, so that some of them stay and some leave, as they do in turn. */
 static bool test_crowd(uint32_t participants, uint64_t seed)
 {
+    const struct plan silent = plan_of(participants, seed);
     const uint32_t few = participants / FEW | 1;
-    return test_group(participants, 0, seed)
-        && test_group(participants, few > MANY ? few : MANY, seed)
-        && (participants > ROOM + 1 || few <= MANY || test_group(participants, MANY, seed));
+    struct plan some = silent, many = silent;
+    some.sender_step = few > MANY ? few : MANY;
+    many.sender_step = MANY;
+    return test_group(silent, "none sends RTP")
+        && test_group(some, "some send RTP")
+        && (participants > ROOM + 1 || few <= MANY || test_group(many, "every third sends RTP"))
+        && test_group(with_delay(silent, 500), "none sends RTP")
+        && test_group(with_delay(with_turns(silent), 100), "a few at a time send RTP")
+        && test_group(with_delay(with_turnover(silent), 100), "some leave as others join")
+        && test_group(with_delay(with_turns(with_turnover(silent)), 500),
+                      "some leave as others join, and a few at a time send RTP");
+}
+
+static bool do_mode(const char *mode, uint32_t participants, uint64_t seed)
+{
+    if (strcmp(mode, "windows") == 0)
+        return test_crowd(participants, seed);
+    return draw_crowds(participants, seed);
 }
 
 int main(int count, char **words)
 {
-    const bool is_test = count > 1 && strcmp(words[1], "windows") == 0;
-    const int numbers = 1 + is_test;
+    const bool has_mode = count > 1 && (strcmp(words[1], "windows") == 0);
+    const int numbers = 1 + has_mode;
     const uint32_t participants = count > numbers ? (uint32_t)strtoul(words[numbers], NULL, 10) : MOST;
     const uint64_t seed = count > numbers + 1 ? strtoull(words[numbers + 1], NULL, 10) : 3550;
     if (count > numbers + 2 || participants < 2 || participants > MOST) {
@@ -613,6 +763,6 @@ int main(int count, char **words)
                         "       crowd windows [PARTICIPANTS [SEED]]\n", MOST);
         return 2;
     }
-    const bool is_kept = is_test ? test_crowd(participants, seed) : draw_crowds(participants, seed);
+    const bool is_kept = do_mode(has_mode ? words[1] : "", participants, seed);
     return !is_kept || ferror(stdout) != 0 || fflush(stdout) != 0;
 }
