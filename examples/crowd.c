@@ -14,15 +14,19 @@
  * `crowd windows` does this for sessions of one group: without RTP, with some five who send it, and, if a table has room
  * for all, with every third sending it, for a minute, after which they pause as long; with all of them sending it for a
  * while, about five at a time; with fifty who leave every half minute as others join; and where a datagram reaches the
- * others after 100 or 500 ms.
+ * others after 100 or 500 ms. `crowd faults` plants faults into what was written down of two sessions, each of which
+ * the right laws have to find, and `crowd record` prints two sessions for compare/crowd-windows.
  *
  *     cc -std=c11 -O2 crowd*.c -o crowd $(pkg-config --cflags --libs jalwedd) -lm
  *     crowd [PARTICIPANTS [SEED]] > crowd-10000.svg          figures on standard error
  *     crowd windows [PARTICIPANTS [SEED]]
+ *     crowd faults
+ *     crowd record
  *
  * A participant with room for 1,024 others takes 150 KB of heap, so 10,000 of them take 1.5 GB. The picture takes a
  * minute of one core, and `crowd windows` half a minute with 1,000 participants.
  */
+#include "crowd_faults.h"
 #include "crowd_svg.h"
 #include "crowd_windows.h"
 #include "jalwedd.h"
@@ -34,6 +38,7 @@
 enum {
     SECOND = 1000000,
     MOST = 10000,
+    SEED = 3550,
     ROOM = 1024,                        /* in a table, for others */
     SENDER_BW = 100,                    /* of 64,000 bits a second: 5 per cent is for RTCP, a quarter of that for */
     RECEIVER_BW = 300,                  /* senders, and the rest for the others */
@@ -54,7 +59,10 @@ enum {
     EVERY = 30,                         /* every so many seconds */
     MILLISECOND = 1000,
     TEST_LEAVE = 900,                   /* seconds */
-    TEST_END = 1200
+    TEST_END = 1200,
+    FAULTY = 100,                       /* participants of the sessions into which faults are planted */
+    FAULTY_LEAVE = 250,
+    FAULTY_END = 300
 };
 
 static const uint64_t NEVER = UINT64_MAX;
@@ -601,6 +609,24 @@ static struct findings find(const struct crowd *crowd)
     return findings;
 }
 
+/* What went out in a run of one group, to be freed with `forget`. */
+static struct record run_record(const struct plan *plan)
+{
+    struct crowd crowd = set_up(plan);
+    run_with(&crowd);
+    const struct record record = record_of(&crowd, 0);
+    crowd.groups[0].sent = NULL;        /* the record keeps it */
+    free(crowd.course.seconds);
+    tear_down(&crowd);
+    return record;
+}
+
+static void forget(const struct record *record)
+{
+    free(record->sent);
+    free(record->starts);
+}
+
 /* A run of the library, and what its windows came to. */
 static struct findings run_library(const struct plan *plan, struct course *course)
 {
@@ -745,24 +771,61 @@ static bool test_crowd(uint32_t participants, uint64_t seed)
                       "some leave as others join, and a few at a time send RTP");
 }
 
-static bool do_mode(const char *mode, uint32_t participants, uint64_t seed)
+static bool print_record(const struct plan *plan)
 {
-    if (strcmp(mode, "windows") == 0)
-        return test_crowd(participants, seed);
-    return draw_crowds(participants, seed);
+    struct findings findings = {.broken = 0};
+    const struct record record = run_record(plan);
+    test_windows(&findings, &TERMS, &record);
+    print_session(stdout, &TERMS, &record, &findings);
+    forget(&record);
+    return findings.broken == 0;
+}
+
+/* Two short sessions, and what their windows came to, for compare/crowd-windows to compute again. */
+static bool print_records(void)
+{
+    struct plan few = with_delay(with_turns(with_turnover(plan_of(10, SEED))), 100);
+    struct plan more = with_delay(plan_of(60, SEED), 500);
+    few.every = 10, few.leave = 35, few.end = 50;
+    more.sender_step = 60 / FEW | 1, more.leave = 30, more.end = 42;
+    return print_record(&few) && print_record(&more);
+}
+
+/* Plants faults into two sessions. Gives whether all were found. */
+static bool test_faults(void)
+{
+    struct plan plan = plan_of(FAULTY, SEED);
+    plan.leave = FAULTY_LEAVE, plan.end = FAULTY_END;
+    const struct record silent = run_record(&plan);
+    plan.sender_step = MANY;
+    const struct record many = run_record(&plan);
+    printf("faults that are planted into sessions of %u participants\n", FAULTY);
+    const bool is_found = find_faults(stdout, &TERMS, &silent, &many);
+    forget(&silent);
+    forget(&many);
+    return is_found;
 }
 
 int main(int count, char **words)
 {
-    const bool has_mode = count > 1 && (strcmp(words[1], "windows") == 0);
-    const int numbers = 1 + has_mode;
+    const char *mode = count > 1 ? words[1] : "";
+    const bool is_test = strcmp(mode, "windows") == 0;
+    const int numbers = 1 + is_test;
     const uint32_t participants = count > numbers ? (uint32_t)strtoul(words[numbers], NULL, 10) : MOST;
-    const uint64_t seed = count > numbers + 1 ? strtoull(words[numbers + 1], NULL, 10) : 3550;
-    if (count > numbers + 2 || participants < 2 || participants > MOST) {
+    const uint64_t seed = count > numbers + 1 ? strtoull(words[numbers + 1], NULL, 10) : SEED;
+    bool is_kept;
+    if (count == 2 && strcmp(mode, "faults") == 0) {
+        is_kept = test_faults();
+    } else if (count == 2 && strcmp(mode, "record") == 0) {
+        is_kept = print_records();
+    } else if (count > numbers + 2 || participants < 2 || participants > MOST) {
         fprintf(stderr, "usage: crowd [PARTICIPANTS [SEED]] > FILE.svg      2 to %u participants\n"
-                        "       crowd windows [PARTICIPANTS [SEED]]\n", MOST);
+                        "       crowd windows [PARTICIPANTS [SEED]]\n"
+                        "       crowd faults\n"
+                        "       crowd record\n", MOST);
         return 2;
+    } else {
+        is_kept = is_test ? test_crowd(participants, seed) : draw_crowds(participants, seed);
     }
-    const bool is_kept = do_mode(has_mode ? words[1] : "", participants, seed);
     return !is_kept || ferror(stdout) != 0 || fflush(stdout) != 0;
 }

@@ -408,3 +408,32 @@ void print_findings(FILE *to, const struct findings *findings)
         print_waits(to, SECONDS[width], &findings->of[width]);
     fprintf(to, "    no window breaks a law\n");
 }
+
+static void print_sent(FILE *to, const struct sent *sent)
+{
+    fprintf(to, "sent %llu %u %u %u %u %u %d %d ", (unsigned long long)sent->moment, sent->from, sent->octets,
+            sent->members, sent->senders, sent->average, sent->sends_rtp, sent->is_bye);
+    fprintf(to, "%lld\n", sent->since == UINT64_MAX ? -1ll : (long long)sent->since);
+}
+
+static void print_figures(FILE *to, uint32_t seconds, const struct fullest *fullest)
+{
+    fprintf(to, "width %u %llu %llu %llu", seconds, (unsigned long long)fullest->kept_reports,
+            (unsigned long long)fullest->kept, (unsigned long long)fullest->kept_percent);
+    for (uint32_t those = 0; those < THOSE; those++)
+        fprintf(to, " %llu", (unsigned long long)fullest->percents[those]);
+    for (uint32_t law = KEPT_AVERAGES; law < LAWS; law++)
+        fprintf(to, " %.17g", fullest->used[law]);
+    fprintf(to, "\n");
+}
+
+void print_session(FILE *to, const struct terms *terms, const struct record *record, const struct findings *findings)
+{
+    fprintf(to, "session %u %u\n", terms->sender_bw, terms->receiver_bw);
+    for (uint32_t who = 0; who < record->participants; who++)
+        fprintf(to, "start %u %llu\n", who, (unsigned long long)record->starts[who]);
+    for (uint32_t place = 0; place < record->count; place++)
+        print_sent(to, &record->sent[place]);
+    for (uint32_t width = 0; width < WIDTHS; width++)
+        print_figures(to, SECONDS[width], &findings->of[width]);
+}

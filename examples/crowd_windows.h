@@ -117,6 +117,9 @@ void test_windows(struct findings *findings, const struct terms *terms, const st
 /* Two lines for each width. */
 void print_findings(FILE *to, const struct findings *findings);
 
+/* All that went out in a session, and what its windows came to by the laws of crowd_waits.c, for another program. */
+void print_session(FILE *to, const struct terms *terms, const struct record *record, const struct findings *findings);
+
 /* ---- For the other files */
 
 /* Tests the laws of those who wait, join and leave. */
