@@ -17,7 +17,7 @@
  *   for a minute and then pause as long;
  * - with all of them sending it for 20 seconds, about five at a time;
  * - with fifty who leave every half minute as others join;
- * - where a datagram reaches the others after 100 or 500 ms.
+ * - where a datagram reaches the others after 100 or 500 ms: these are held against the law on delays too.
  *
  * `crowd faults` plants faults into what was written down of two sessions, each of which the right laws have to find,
  * and `crowd record` prints two sessions for compare/crowd-windows.
@@ -194,10 +194,11 @@ static bool print_record(const struct plan *plan)
     return findings.broken == 0;
 }
 
-/* Two short sessions, and what their windows came to, for compare/crowd-windows to compute again. */
+/* Two short sessions, and what their windows came to, for compare/crowd-windows to compute again. The delay of
+ * the first is nearly as long as the shortest wait, so that often fewer have waited for longer than it than wait. */
 static bool print_records(void)
 {
-    struct plan few = with_delay(with_turns(with_turnover(plan_of(10, SEED))), 100);
+    struct plan few = with_delay(with_turns(with_turnover(plan_of(10, SEED))), 1800);
     struct plan more = with_delay(plan_of(60, SEED), 500);
     few.every = 10, few.leave = 35, few.end = 50;
     more.sender_step = 60 / FEW | 1, more.leave = 30, more.end = 42;

@@ -532,7 +532,7 @@ static void tear_down(struct crowd *crowd)
 static struct record record_of(const struct crowd *crowd, uint32_t group)
 {
     struct record record = {.sent = crowd->groups[group].sent, .count = crowd->groups[group].sent_count,
-                            .participants = crowd->course.participants};
+                            .participants = crowd->course.participants, .delay = crowd->delay};
     record.starts = zeros(record.participants, sizeof *record.starts);
     for (uint32_t at = 0; at < record.participants; at++)
         record.starts[at] = crowd->all[at].joins;

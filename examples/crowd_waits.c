@@ -15,8 +15,22 @@
 
 static const uint64_t SECOND = 1000000;
 
+/* Successive reports of a participant lie at least so many microseconds apart: half of five seconds, over 1.21828. */
+static const uint32_t LEAST_WAIT = 2052074;
+
+/* No product passes 128 bits where a session has at most so many participants, and so many octets a second. The
+ * greatest is that of delays_stretch_the_window.octets. Of its factors LEAST_WAIT is below 2^21, PACE below 2^18, a
+ * width below 2^29 microseconds, and the bandwidth at most 2^14. Each participant waits once at a time, and counts
+ * itself: so the percent of those who wait is at most 100 times the participants, below 2^23. A compound has at most
+ * 65,535 octets, and an average at least one: so that percent is below 2^23 too. Together they are below 2^128. What is
+ * used is less: LEAST_WAIT by 10^13, below 2^44, by the averages of fewer than 2^32 reports, each below 2^24. */
+enum { MOST_PARTICIPANTS = 1 << 16, MOST_BANDWIDTH = 1 << 14 };
+
 /* What a compound ends. The first three are those whom a law looks at. */
 enum kind { WAIT = WAITING, JOIN = JOINING, LEAVE = LEAVING_TOGETHER, NOTHING };
+
+/* From when on a wait is open: as it begins, and the session's delay later. */
+enum opening { AT_ONCE, AFTER_DELAY, OPENINGS };
 
 /* What a compound ends: its participant's wait since its report before, its join since its start, or its leave; or
  * nothing, if it is a BYE that went out at once. */
@@ -25,7 +39,7 @@ struct span {
     enum kind kind;
     uint32_t before;            /* one more than the place of its participant's compound before, or 0 */
     uint32_t next;              /* the place of its participant's next report, or the count of all */
-    uint32_t after;             /* the place of the first compound after `since` */
+    uint32_t after[OPENINGS];   /* the place of the first compound after `since`, and after the delay from then on */
     uint32_t later;             /* the place of the first compound after this one's moment */
     uint32_t members, alike;    /* how many its participant counts at its end: of a leave both are the BYEs */
 };
@@ -45,6 +59,15 @@ struct peaks {
 
 enum { OF_ALL = 2, PEAKS };     /* of those who do not send, of those who do, and of both */
 
+/* The waits of a window, by when they are open, as it is gone through. */
+struct waits {
+    enum those those;
+    uint32_t delay;             /* each is opened so many microseconds after it began */
+    uint32_t unopened;          /* the place of the first compound since which no more than that went by */
+    uint32_t open[PEAKS];       /* how many are open */
+    struct peaks peaks[PEAKS];  /* of how many are whenever a wait ends */
+};
+
 /* A window begins after the window before, and at `from` or sooner. */
 struct window {
     uint64_t from;
@@ -57,7 +80,8 @@ struct scan {
     const struct record *record;
     struct span *spans;
     struct ends *ends;
-    struct peaks peaks[PEAKS];
+    struct waits waits[OPENINGS];
+    uint32_t openings;          /* the first only, where there is no delay: then both are the same */
     uint64_t *edges;            /* all that a window can begin at, by rising moments */
     struct window *windows;     /* of one width */
     uint32_t edge_count, window_count, width;
@@ -165,38 +189,68 @@ static bool add_compounds(const struct scan *scan, const struct window *window, 
     return is_wait;
 }
 
-/* Whenever a wait ends, those who wait are counted. */
-static void add_peaks(struct scan *scan, uint32_t place, const uint32_t waiting[PEAKS])
+/* Whether the wait that ends at a place is open then. No wait of the library is as short as the delay, but those of
+ * planted faults may be: by the law's definition such a wait is never open. */
+static bool is_open_at_end(const struct scan *scan, enum opening opening, uint32_t place)
 {
-    for (uint32_t role = 0; role < PEAKS; role++)
-        add_peak(&scan->peaks[role], place, waiting[role]);
+    return scan->spans[place].after[opening] <= place;
 }
 
-/* The waits that end at one moment: each is held against the most that waited at once since it began. */
-static void end_waits(struct scan *scan, const struct window *window, uint32_t place, uint32_t later,
-                      uint32_t waiting[PEAKS], struct held *held)
+/* Opens the waits that are open at the moment of a place, and were not when one ended before. */
+static void open_waits(struct scan *scan, enum opening opening, const struct window *window, uint32_t place)
 {
-    for (uint32_t at = place; at < later; at++) {
-        const struct span *span = &scan->spans[at];
-        const bool sends_rtp = scan->record->sent[at].sends_rtp;
-        if (!is_wait_in(window, span))
+    const struct sent *sent = scan->record->sent;
+    struct waits *waits = &scan->waits[opening];
+    for (; sent[waits->unopened].moment + waits->delay < sent[place].moment; waits->unopened++) {
+        const uint32_t next = scan->spans[waits->unopened].next;
+        if (next >= window->end || !is_open_at_end(scan, opening, next))
             continue;
-        take_greater(&held->of[WAITING], peak_since(&scan->peaks[OF_ALL], span->after), span->members);
-        take_greater(&held->of[WAITING], peak_since(&scan->peaks[sends_rtp], span->after), span->alike);
-        waiting[sends_rtp]--;
-        waiting[OF_ALL]--;
+        waits->open[sent[next].sends_rtp]++;
+        waits->open[OF_ALL]++;
     }
 }
 
-static void begin_waits(const struct scan *scan, const struct window *window, uint32_t place, uint32_t later,
-                        uint32_t waiting[PEAKS])
+static void add_peaks(struct waits *waits, uint32_t place)
 {
-    for (uint32_t at = place; at < later; at++) {
-        const uint32_t next = scan->spans[at].next;
-        if (next >= window->end)
+    for (uint32_t role = 0; role < PEAKS; role++)
+        add_peak(&waits->peaks[role], place, waits->open[role]);
+}
+
+/* The waits that end at one moment: each is held against the most that were open at once while it was. */
+static void end_waits(struct scan *scan, enum opening opening, const struct window *window, uint32_t place,
+                      struct held *held)
+{
+    struct waits *waits = &scan->waits[opening];
+    for (uint32_t at = place; at < scan->spans[place].later; at++) {
+        const struct span *span = &scan->spans[at];
+        const bool sends_rtp = scan->record->sent[at].sends_rtp;
+        if (!is_wait_in(window, span) || !is_open_at_end(scan, opening, at))
             continue;
-        waiting[scan->record->sent[next].sends_rtp]++;
-        waiting[OF_ALL]++;
+        const uint32_t after = span->after[opening];
+        take_greater(&held->of[waits->those], peak_since(&waits->peaks[OF_ALL], after), span->members);
+        take_greater(&held->of[waits->those], peak_since(&waits->peaks[sends_rtp], after), span->alike);
+        waits->open[sends_rtp]--;
+        waits->open[OF_ALL]--;
+    }
+}
+
+/* Whenever a wait ends, those that are open are counted, and those that end are closed. */
+static void count_waits(struct scan *scan, const struct window *window, uint32_t place, struct held *held)
+{
+    for (enum opening opening = AT_ONCE; opening < scan->openings; opening++) {
+        open_waits(scan, opening, window, place);
+        add_peaks(&scan->waits[opening], place);
+        end_waits(scan, opening, window, place, held);
+    }
+}
+
+static void close_waits(struct scan *scan, const struct window *window)
+{
+    for (enum opening opening = AT_ONCE; opening < scan->openings; opening++) {
+        struct waits *waits = &scan->waits[opening];
+        waits->unopened = window->begin;
+        waits->open[0] = waits->open[1] = waits->open[OF_ALL] = 0;
+        waits->peaks[0].count = waits->peaks[1].count = waits->peaks[OF_ALL].count = 0;
     }
 }
 
@@ -222,23 +276,21 @@ static void end_joins(const struct scan *scan, const struct window *window, uint
 {
     for (uint32_t at = place; at < later; at++) {
         const struct span *span = &scan->spans[at];
+        const struct ends *before = &scan->ends[span->after[AT_ONCE]];
         const uint32_t end = end_of(&scan->record->sent[at]);
         if (is_end_in(window, span))
-            take_greater(&held->of[span->kind], held->ended[end] - scan->ends[span->after].of[end], span->alike);
+            take_greater(&held->of[span->kind], held->ended[end] - before->of[end], span->alike);
     }
 }
 
 static struct held held_in(struct scan *scan, const struct window *window)
 {
     struct held held = {.least = {UINT32_MAX, UINT32_MAX}};
-    uint32_t waiting[PEAKS] = {0, 0, 0};
-    scan->peaks[0].count = scan->peaks[1].count = scan->peaks[OF_ALL].count = 0;
+    close_waits(scan, window);
     for (uint32_t place = window->begin, later; place < window->end; place = later) {
         later = scan->spans[place].later;
         if (add_compounds(scan, window, place, later, &held))
-            add_peaks(scan, place, waiting);
-        end_waits(scan, window, place, later, waiting, &held);
-        begin_waits(scan, window, place, later, waiting);
+            count_waits(scan, window, place, &held);
         count_ends(scan, window, place, later, &held);
         end_joins(scan, window, place, later, &held);
     }
@@ -251,6 +303,29 @@ static struct held held_in(struct scan *scan, const struct window *window)
 static wide carried(const struct scan *scan, uint64_t percent, uint32_t bandwidth, uint32_t size)
 {
     return (wide)percent * PACE * SECONDS[scan->width] * bandwidth / (100ull * WHOLE * size);
+}
+
+/* The parts of delays_stretch_the_window, as in `fill_parts`. Without a delay it says the same as
+ * sessions_keep_to_their_bandwidth, and is not tested: nothing is used. */
+static void fill_stretched(const struct scan *scan, const struct held *least, const struct held *most,
+                           struct part parts[LAWS])
+{
+    if (scan->openings == 1) {
+        for (uint32_t law = AFTER_AVERAGES; law <= AFTER_COMPOUNDS; law++)
+            parts[law] = (struct part){0, 0};
+        return;
+    }
+    const uint32_t others = scan->terms->receiver_bw, both = scan->terms->sender_bw + others;
+    const uint64_t oldest = (uint64_t)least->greatest * (least->reports - least->waits);
+    const wide pace = (wide)LEAST_WAIT * percent_of(least->of[WAITING_AFTER]) * PACE * SECONDS[scan->width] * SECOND;
+    const wide whole = (wide)(LEAST_WAIT - scan->record->delay) * 100 * WHOLE * SECOND;
+    const wide in_compounds = pace * both / (whole * (least->least[0] / 256));
+    parts[AFTER_AVERAGES] = (struct part){whole * (most->averages[0] + most->averages[1]), pace * 256 * both};
+    parts[AFTER_OTHERS] = (struct part){whole * most->averages[0], pace * 256 * others};
+    parts[AFTER_OCTETS] = (struct part){most->octets > oldest ? most->octets - oldest : 0,
+                                        pace * percent_of(least->surplus) * both / (100 * whole)};
+    parts[AFTER_REPORTS] = (struct part){most->waits, in_compounds};
+    parts[AFTER_COMPOUNDS] = (struct part){most->compounds, 10 * least->participants + in_compounds};
 }
 
 /* Of a window whose use `most` has at most, and which allows what `least` has at least. */
@@ -278,6 +353,7 @@ static void fill_parts(const struct scan *scan, const struct held *least, const 
     parts[JOINED_SENDERS] = (struct part){most->ended[1], carried(scan, joining, both, of_joins)};
     parts[JOINED_REPORTS] = (struct part){most->waits + most->ended[0] + most->ended[1], 2 * once + once_of_others};
     parts[LEFT_BYES] = (struct part){most->ended[LEAVES], in_byes};
+    fill_stretched(scan, least, most, parts);
 }
 
 /* Whether a window whose use `most` has at most, and which allows what `least` has at least, shows nothing that none
@@ -316,11 +392,15 @@ static void test_window(struct scan *scan, const struct window *window)
     for (uint32_t law = KEPT_AVERAGES; law < LAWS; law++)
         hold(scan->findings, &spot, law, parts[law].used, parts[law].allowed);
     note_percents(&held, fullest);
+    if (percent_of(held.of[WAITING_AFTER]) > percent_of(held.of[WAITING]))
+        stop("more wait after the delay than at once", window->begin);
     if (held.reports <= fullest->kept_reports)
         return;
     fullest->kept_reports = held.reports;
     fullest->kept_percent = percent_of(held.of[WAITING]);
     fullest->kept = held.reports - held.waits + (uint64_t)parts[KEPT_REPORTS].allowed;
+    fullest->stretched_percent = percent_of(held.of[WAITING_AFTER]);
+    fullest->stretched = held.reports - held.waits + (uint64_t)parts[AFTER_REPORTS].allowed;
 }
 
 static void test_run(struct scan *scan, uint32_t first, uint32_t count)
@@ -420,7 +500,8 @@ static struct span span_of(const struct record *record, uint32_t place, uint32_t
         span.members = sent->members;
         span.alike = alike(sent);
     }
-    span.after = place_after(record, span.since);
+    span.after[AT_ONCE] = place_after(record, span.since);
+    span.after[AFTER_DELAY] = place_after(record, span.since + record->delay);
     return span;
 }
 
@@ -442,18 +523,32 @@ static void find_spans(struct scan *scan)
     free(newest);
 }
 
+/* Waits that are open from a delay on, with room for so many peaks in each role. */
+static struct waits waits_after(uint32_t delay, enum those those, size_t count)
+{
+    struct waits waits = {.those = those, .delay = delay};
+    uint32_t *room = zeros(2 * PEAKS * count, sizeof *room);
+    for (uint32_t role = 0; role < PEAKS; role++)
+        waits.peaks[role] = (struct peaks){.places = room + 2 * role * count, .numbers = room + (2 * role + 1) * count};
+    return waits;
+}
+
 void test_waits(struct findings *findings, const struct terms *terms, const struct record *record)
 {
     const size_t count = (size_t)record->count + 1;
-    struct scan scan = {.findings = findings, .terms = terms, .record = record};
+    struct scan scan = {.findings = findings, .terms = terms, .record = record, .openings = OPENINGS};
+    if (record->participants > MOST_PARTICIPANTS || (uint64_t)terms->sender_bw + terms->receiver_bw > MOST_BANDWIDTH)
+        stop("products may pass 128 bits: too large a bandwidth, or too many participants", record->participants);
+    if (record->delay >= LEAST_WAIT)
+        stop("the laws say nothing of so long a delay", record->delay);
+    if (record->delay == 0)
+        scan.openings = 1;
+    scan.waits[AT_ONCE] = waits_after(0, WAITING, count);
+    scan.waits[AFTER_DELAY] = waits_after(record->delay, WAITING_AFTER, count);
     scan.spans = zeros(count, sizeof *scan.spans);
     scan.ends = zeros(count, sizeof *scan.ends);
     scan.edges = zeros(2 * count, sizeof *scan.edges);
     scan.windows = zeros(3 * count, sizeof *scan.windows);
-    uint32_t *room = zeros(2 * PEAKS * count, sizeof *room);
-    scan.peaks[0] = (struct peaks){.places = room, .numbers = room + count};
-    scan.peaks[1] = (struct peaks){.places = room + 2 * count, .numbers = room + 3 * count};
-    scan.peaks[OF_ALL] = (struct peaks){.places = room + 4 * count, .numbers = room + 5 * count};
     find_spans(&scan);
     find_edges(&scan);
     for (scan.width = 0; scan.width < WIDTHS && !is_over(findings); scan.width++) {
@@ -461,7 +556,8 @@ void test_waits(struct findings *findings, const struct terms *terms, const stru
         if (scan.window_count > 0)
             test_run(&scan, 0, scan.window_count);
     }
-    free(room);
+    free(scan.waits[AT_ONCE].peaks[0].places);          /* the room of all its peaks */
+    free(scan.waits[AFTER_DELAY].peaks[0].places);
     free(scan.windows);
     free(scan.edges);
     free(scan.ends);

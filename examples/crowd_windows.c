@@ -21,7 +21,9 @@ static const char *const NAMES[LAWS] = {
     "sessions_keep_to_their_bandwidth.others", "sessions_keep_to_their_bandwidth.octets",
     "sessions_keep_to_their_bandwidth.reports", "sessions_keep_to_their_bandwidth.compounds",
     "joining_together_does_not_flood.others", "joining_together_does_not_flood.senders",
-    "joining_together_does_not_flood.reports", "leaving_together_does_not_flood.byes"};
+    "joining_together_does_not_flood.reports", "leaving_together_does_not_flood.byes",
+    "delays_stretch_the_window.averages", "delays_stretch_the_window.others", "delays_stretch_the_window.octets",
+    "delays_stretch_the_window.reports", "delays_stretch_the_window.compounds"};
 
 /* Numbers that come and go, and the least of those that are there, or COUNTED + 1 where none is. */
 struct tally {
@@ -321,7 +323,7 @@ static void test_spacing(const struct session *session, struct findings *finding
 /* Whether it can come from one who goes by the terms. */
 static bool is_sound(const struct terms *terms, const struct sent *sent)
 {
-    if (sent->octets < terms->size)
+    if (sent->octets < terms->size || sent->octets > UINT16_MAX || sent->average > 256 * UINT16_MAX)
         return false;
     if (sent->is_bye)
         return sent->since == UINT64_MAX || (sent->since < sent->moment && sent->members > 0);
@@ -335,7 +337,7 @@ static void read_session(struct session *session, struct findings *findings)
     for (uint32_t place = session->count; place-- > 0;) {
         const struct sent *here = &session->sent[place];
         if (here->from >= session->participants || !is_sound(session->terms, here))
-            stop("a compound has too few octets, or its participant counts what it cannot", place);
+            stop("a compound has too few or too many octets, or its participant counts what it cannot", place);
         findings->byes += here->is_bye;
         if (here->is_bye)
             continue;
@@ -355,6 +357,7 @@ void test_windows(struct findings *findings, const struct terms *terms, const st
     session.next = zeros((size_t)record->count + 1, sizeof *session.next);
     read_session(&session, findings);
     findings->reporters += session.reporters;
+    findings->delay = record->delay;
     findings->greatest = session.greatest > findings->greatest ? session.greatest : findings->greatest;
     test_spacing(&session, findings);
     sweep_all(&session, findings);
@@ -384,6 +387,25 @@ static void print_waits(FILE *to, uint32_t seconds, const struct fullest *fulles
             used[JOINED_REPORTS], used[LEFT_BYES]);
 }
 
+static void print_stretched(FILE *to, uint32_t seconds, const struct fullest *fullest)
+{
+    const double *used = fullest->used;
+    fprintf(to, "    %5u %8llu %7llu %8llu %8llu", seconds, (unsigned long long)fullest->stretched,
+            (unsigned long long)fullest->stretched_percent, (unsigned long long)fullest->percents[WAITING_AFTER],
+            (unsigned long long)fullest->percents[WAITING]);
+    fprintf(to, "  %8.1f %6.1f %6.1f %7.1f %8.1f\n", used[AFTER_AVERAGES], used[AFTER_OTHERS], used[AFTER_OCTETS],
+            used[AFTER_REPORTS], used[AFTER_COMPOUNDS]);
+}
+
+/* By delays_stretch_the_window, of a session with a delay. */
+static void print_all_stretched(FILE *to, const struct findings *findings)
+{
+    fprintf(to, "          in it are        percent at most            delays_stretch_the_window\n"
+            "    width  allowed percent    after  at once  averages others octets reports with BYE\n");
+    for (uint32_t width = 0; width < WIDTHS; width++)
+        print_stretched(to, SECONDS[width], &findings->of[width]);
+}
+
 void print_findings(FILE *to, const struct findings *findings)
 {
     if (is_over(findings)) {
@@ -406,6 +428,8 @@ void print_findings(FILE *to, const struct findings *findings)
             "senders reports   BYEs\n");
     for (uint32_t width = 0; width < WIDTHS; width++)
         print_waits(to, SECONDS[width], &findings->of[width]);
+    if (findings->delay > 0)
+        print_all_stretched(to, findings);
     fprintf(to, "    no window breaks a law\n");
 }
 
@@ -429,7 +453,7 @@ static void print_figures(FILE *to, uint32_t seconds, const struct fullest *full
 
 void print_session(FILE *to, const struct terms *terms, const struct record *record, const struct findings *findings)
 {
-    fprintf(to, "session %u %u\n", terms->sender_bw, terms->receiver_bw);
+    fprintf(to, "session %u %u %u\n", terms->sender_bw, terms->receiver_bw, record->delay);
     for (uint32_t who = 0; who < record->participants; who++)
         fprintf(to, "start %u %llu\n", who, (unsigned long long)record->starts[who]);
     for (uint32_t place = 0; place < record->count; place++)

@@ -1,7 +1,7 @@
 /* What the participants of a session send in windows of time, held against what crates/rtcp_session proves about it:
  * the laws `windows_hold_their_intervals`, `windows_keep_to_the_share` and `crowds_do_not_flood` (crowd_windows.c), and
- * `sessions_keep_to_their_bandwidth`, `joining_together_does_not_flood` and `leaving_together_does_not_flood`
- * (crowd_waits.c). */
+ * `sessions_keep_to_their_bandwidth`, `joining_together_does_not_flood`, `leaving_together_does_not_flood` and
+ * `delays_stretch_the_window` (crowd_waits.c). */
 #ifndef CROWD_WINDOWS_H
 #define CROWD_WINDOWS_H
 
@@ -41,6 +41,7 @@ struct record {
     struct sent *sent;
     uint64_t *starts;
     uint32_t count, participants;       /* the participants' numbers lie below this */
+    uint32_t delay;                     /* microseconds until a datagram comes to the others */
 };
 
 /* What the participants of a session go by. */
@@ -77,18 +78,28 @@ enum law {
     JOINED_REPORTS,     /* both, and the later reports: what both bandwidths carry twice, and that of the others */
     LEFT_BYES,          /* leaving_together_does_not_flood: the BYEs of those who left in the window, after a backoff:
                            what the bandwidth of such as do not send carries */
+
+    AFTER_AVERAGES,     /* delays_stretch_the_window, of a session with a delay: the same as from KEPT_AVERAGES on, but
+                           2,052,074 / (2,052,074 - delay) times what is carried, and by the percent of those who have
+                           waited for longer than the delay */
+    AFTER_OTHERS,
+    AFTER_OCTETS,
+    AFTER_REPORTS,
+    AFTER_COMPOUNDS,
     LAWS
 };
 
-/* Whom a law looks at: those who wait for their next report, who join, who leave. */
-enum those { WAITING, JOINING, LEAVING_TOGETHER, THOSE };
+/* Whom a law looks at: those who wait for their next report, who join, who leave, and who have waited for longer than
+ * the session's delay. */
+enum those { WAITING, JOINING, LEAVING_TOGETHER, WAITING_AFTER, THOSE };
 
 /* What all windows of one width came to. */
 struct fullest {
     uint64_t reports, from;             /* of the one with the most reports, and when the first of them went out */
     uint64_t allowed, percent;          /* for it, by crowds_do_not_flood */
     uint64_t kept_reports;              /* the same number of reports, as crowd_waits.c finds it, */
-    uint64_t kept, kept_percent;        /* and for it, by sessions_keep_to_their_bandwidth */
+    uint64_t kept, kept_percent;        /* and for it, by sessions_keep_to_their_bandwidth, */
+    uint64_t stretched, stretched_percent;      /* and by delays_stretch_the_window */
     uint64_t percents[THOSE];           /* the greatest of any window */
     double used[LAWS];                  /* the most that was used of what each law allows, per cent */
 };
@@ -100,6 +111,7 @@ struct findings {
     uint64_t reports, byes;
     uint32_t reporters;         /* how many ever report */
     uint32_t greatest;          /* the octets of the greatest report */
+    uint32_t delay;             /* of the last session */
     uint32_t broken;            /* a bit for each law that is broken, by its place */
     bool goes_on;               /* nothing is said of a law that is broken, and all others are tested still */
 };
@@ -114,7 +126,7 @@ struct spot {
  * tested then. */
 void test_windows(struct findings *findings, const struct terms *terms, const struct record *record);
 
-/* Two lines for each width. */
+/* Two lines for each width, and one more where there was a delay. */
 void print_findings(FILE *to, const struct findings *findings);
 
 /* All that went out in a session, and what its windows came to by the laws of crowd_waits.c, for another program. */
