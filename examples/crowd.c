@@ -19,7 +19,7 @@
  * - with fifty who leave every half minute as others join;
  * - where a datagram reaches the others after 100 or 500 ms: these are held against the law on delays too.
  *
- * `crowd faults` plants faults into what was written down of two sessions, each of which the right laws have to find,
+ * `crowd faults` plants faults into what was written down of three sessions, each of which the right laws have to find,
  * and `crowd record` prints two sessions for compare/crowd-windows.
  *
  *     cc -std=c11 -O2 crowd*.c -o crowd $(pkg-config --cflags --libs jalwedd) -lm
@@ -205,18 +205,19 @@ static bool print_records(void)
     return print_record(&few) && print_record(&more);
 }
 
-/* Plants faults into two sessions. Gives whether all were found. */
+/* Plants faults into three sessions. Gives whether all were found. */
 static bool test_faults(void)
 {
     struct plan plan = plan_of(FAULTY, SEED);
     plan.leave = FAULTY_LEAVE, plan.end = FAULTY_END;
-    const struct record silent = run_record(&plan);
-    plan.sender_step = MANY;
-    const struct record many = run_record(&plan);
+    struct plan many = plan;
+    many.sender_step = MANY;
+    const struct plan delayed = with_delay(plan, 500);
+    const struct record records[PLANTED] = {run_record(&plan), run_record(&many), run_record(&delayed)};
     printf("faults that are planted into sessions of %u participants\n", FAULTY);
-    const bool is_found = find_faults(stdout, &TERMS, &silent, &many);
-    forget(&silent);
-    forget(&many);
+    const bool is_found = find_faults(stdout, &TERMS, records);
+    for (enum planted at = SILENT; at < PLANTED; at++)
+        forget(&records[at]);
     return is_found;
 }
 

@@ -27,13 +27,15 @@ enum {
     OF_JOINS = 1 << JOINED_OTHERS | 1 << JOINED_REPORTS,
     OF_SENDERS = 1 << JOINED_SENDERS,
     ALL_JOINS = 1 << JOINED_REPORTS,
-    BYES = 1 << LEFT_BYES
+    BYES = 1 << LEFT_BYES,
+    AFTER_WAITS = 1 << AFTER_AVERAGES | 1 << AFTER_OTHERS | 1 << AFTER_OCTETS | 1 << AFTER_REPORTS,
+    AFTER_BYES = 1 << AFTER_COMPOUNDS
 };
 
 struct fault {
     const char *name;
     void (*plant)(struct record *record);
-    bool in_many;               /* it is planted where every third sends RTP */
+    enum planted into;
     uint32_t finds, may;        /* bits of the laws that have to find it, and of those that may, by the draws */
 };
 
@@ -150,6 +152,24 @@ static void repeat(struct record *record, uint32_t times, chosen *is_chosen)
     }
 }
 
+/* After each of the chosen reports come more of its participant, by which it counts only itself: so many with it, all
+ * within the delay. */
+static void report_again(struct record *record, uint32_t times, chosen *is_chosen)
+{
+    const uint32_t count = record->count;
+    for (uint32_t place = 0; place < count; place++) {
+        struct sent sent = record->sent[place];
+        const uint64_t step = record->delay / times;
+        const bool is_again = is_chosen(&sent);
+        sent.members = 1;
+        sent.senders = sent.sends_rtp;
+        for (uint32_t more = 1; is_again && more < times; more++) {
+            sent.moment += step;
+            record->sent[record->count++] = sent;
+        }
+    }
+}
+
 /* ---- The faults */
 
 static void one_often(struct record *record)
@@ -213,19 +233,30 @@ static void byes_repeated(struct record *record)
     repeat(record, OFTEN, is_bye);
 }
 
+static void one_again(struct record *record)
+{
+    report_again(record, 3, is_of_one);
+}
+
 static const struct fault FAULTS[] = {
-    {"one reports five times as often", one_often, false, OF_ONE | OF_OTHERS, OWN | OF_REPORTS | ALL_JOINS},
-    {"all report three times as often", all_often, false, OWN | OF_OTHERS | OF_REPORTS, CROWD | ALL_JOINS},
-    {"those who send RTP report four times as often", senders_often, true, 1 << INTERVALS | OF_REPORTS, ALL_JOINS},
-    {"all averages are three times as large", larger_averages, false, OWN | OF_OTHERS | OF_REPORTS, ALL_JOINS},
-    {"all averages are a third larger", averages_of_all_bandwidth, false, OF_ONE | OF_OTHERS, OWN},
-    {"one counts four times as many members", one_larger_count, false, OF_ONE, OWN | OF_OTHERS | OF_REPORTS | OF_JOINS},
-    {"all count four times as many members", larger_counts, false, OWN | OF_OTHERS | OF_REPORTS | OF_JOINS, CROWD},
-    {"first reports come ten times as soon", joins_bunched, false, OF_JOINS, 0},
-    {"those of participants who send RTP do, and all count all", senders_bunched, true, OF_SENDERS, OF_JOINS},
-    {"BYEs come ten times as soon after the leave", byes_bunched, false, BYES, 0},
-    {"those who leave count four times as many BYEs", larger_leaves, false, BYES, 0},
-    {"each BYE goes out thirty times", byes_repeated, false, WITH_BYES, CROWD}};
+    {"one reports five times as often", one_often, SILENT, OF_ONE | OF_OTHERS, OWN | OF_REPORTS | ALL_JOINS},
+    {"all report three times as often", all_often, SILENT, OWN | OF_OTHERS | OF_REPORTS, CROWD | ALL_JOINS},
+    {"those who send RTP report four times as often", senders_often, IN_MANY, 1 << INTERVALS | OF_REPORTS, ALL_JOINS},
+    {"all averages are three times as large", larger_averages, SILENT, OWN | OF_OTHERS | OF_REPORTS, ALL_JOINS},
+    {"all averages are a third larger", averages_of_all_bandwidth, SILENT, OF_ONE | OF_OTHERS, OWN},
+    {"one counts four times as many members", one_larger_count, SILENT, OF_ONE,
+     OWN | OF_OTHERS | OF_REPORTS | OF_JOINS},
+    {"all count four times as many members", larger_counts, SILENT, OWN | OF_OTHERS | OF_REPORTS | OF_JOINS, CROWD},
+    {"first reports come ten times as soon", joins_bunched, SILENT, OF_JOINS, 0},
+    {"those of participants who send RTP do, and all count all", senders_bunched, IN_MANY, OF_SENDERS, OF_JOINS},
+    {"BYEs come ten times as soon after the leave", byes_bunched, SILENT, BYES, 0},
+    {"those who leave count four times as many BYEs", larger_leaves, SILENT, BYES, 0},
+    {"each BYE goes out thirty times", byes_repeated, SILENT, WITH_BYES, CROWD},
+    {"all report three times as often, and are heard late", all_often, DELAYED,
+     OWN | OF_OTHERS | OF_REPORTS | AFTER_WAITS, CROWD | ALL_JOINS},
+    {"each BYE goes out thirty times, and is heard late", byes_repeated, DELAYED, WITH_BYES | AFTER_BYES, CROWD},
+    {"one reports again before it can be heard, and counts only itself", one_again, DELAYED,
+     1 << INTERVALS | AFTER_WAITS, 1 << SHARE}};
 
 /* ---- Whether they are found */
 
@@ -256,12 +287,12 @@ static void print_laws(FILE *to, uint32_t laws)
             fprintf(to, "      %s\n", name_of(law));
 }
 
-bool find_faults(FILE *to, const struct terms *terms, const struct record *silent, const struct record *many)
+bool find_faults(FILE *to, const struct terms *terms, const struct record records[PLANTED])
 {
     bool is_right = true;
     for (uint32_t at = 0; at < sizeof FAULTS / sizeof *FAULTS; at++) {
         const struct fault *fault = &FAULTS[at];
-        const uint32_t laws = found(fault, terms, fault->in_many ? many : silent);
+        const uint32_t laws = found(fault, terms, &records[fault->into]);
         const bool is_found = (fault->finds & ~laws) == 0 && (laws & ~(fault->finds | fault->may)) == 0;
         fprintf(to, "    %s: %s\n", fault->name, is_found ? "found by" : "not found as it has to be, but by");
         print_laws(to, laws);

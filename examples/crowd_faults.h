@@ -4,8 +4,12 @@
 
 #include "crowd_windows.h"
 
-/* Plants each fault alone into a session in which none sends RTP, or into one in which every third does, and prints the
- * laws that find it. Gives whether these are the right ones for each. */
-bool find_faults(FILE *to, const struct terms *terms, const struct record *silent, const struct record *many);
+/* The sessions into which faults are planted: in which none sends RTP, or every third does, or none does and a datagram
+ * comes after half a second. */
+enum planted { SILENT, IN_MANY, DELAYED, PLANTED };
+
+/* Plants each fault alone into one of these, and prints the laws that find it. Gives whether these are the right ones
+ * for each. */
+bool find_faults(FILE *to, const struct terms *terms, const struct record records[PLANTED]);
 
 #endif
