@@ -1,17 +1,21 @@
 /* The control half of an RTP participant (RFC 3550), proved: pass in the datagrams that arrive, the packets that are
  * sent and the time, and get back the reports to send, the members and the next deadline. It opens no socket, reads no
- * clock, draws no random number, starts no thread, and allocates only in jalwedd_new.
+ * clock, draws no random number, starts no thread, takes no lock, and allocates only in jalwedd_new. Two threads that
+ * call with one handle at the same time may lose the participant: see ONE CALL AT A TIME, below.
  *
  * A host keeps two sockets, a monotonic clock, and a source of random words:
  *
  *     jalwedd_handle session = JALWEDD_EMPTY;
  *     jalwedd_new(&session, &config, cname, cname_size, items, item_count, random_word(), &step);
  *     for (;;) {
- *         wait until step.next, or until a datagram comes
+ *         wait until step.next or for a second, whichever ends first, or until a datagram comes
  *         jalwedd_arrive_rtcp(&session, now, peer, random_word(), datagram, size, &step, octets);    a datagram, or
- *         jalwedd_tick(&session, now, random_word(), random_word(), &step, octets);                  at step.next
+ *         jalwedd_tick(&session, now, random_word(), random_word(), &step, octets);         at the end of that wait
  *         if (step.kind) send the first step.size of the octets to the others
  *     }
+ *
+ * Tick at step.next, and at least once a second: only a tick drops those who left or fell silent, and step.next may be
+ * minutes away. jalwedd_tick says what follows from ticks that come less often.
  *
  * WHAT THE HOST MUST ENSURE, as nothing tests it:
  * - Each pointer is valid, aligned, and not NULL, even if its size is 0: then any aligned address will do, such as that
@@ -20,8 +24,8 @@
  *   octets, a CNAME of more than 255 and a list of more than 7 items are not read: such a call is refused. So is a size
  *   of -1, as returned by recv. But jalwedd_change reads a listing as far as its SSRCs rise, whatever its count says.
  * - Output arguments (all that are not const) do not overlap each other or any input.
- * - One call at a time uses a handle, also of those that only read: they write to it for a while. Several handles may
- *   be used side by side, by several threads too.
+ * - One call at a time uses a handle, also of those that only read. Several handles may be used side by side, by
+ *   several threads too.
  * - The host does not change a handle's contents, and frees it before it goes out of scope. It may be moved, if the old
  *   copy is not used again. A child of fork does not use it: two processes would act as one participant.
  *
@@ -29,14 +33,22 @@
  * each call returns, with a status. A call whose status is not JALWEDD_TAKEN does not change the participant, and hands
  * out nothing. The step is written whatever the status, so step.next is always valid.
  *
+ * ONE CALL AT A TIME: a call takes the participant out of its handle, and puts it back before it returns. If a second
+ * thread calls meanwhile, it finds the handle empty: JALWEDD_IS_EMPTY, with step.next JALWEDD_NEVER. A loop that runs
+ * until then ends, and the participant may be lost for good, without a further sign. So threads that share a handle
+ * hold a lock around reading the clock *and* the call. A call whose clock was read before the lock was taken may be
+ * refused as JALWEDD_BACKWARDS; if it passed an RTP packet that came, this one counts as lost.
+ *
  * No call takes more than 8,192 octets of stack (as measured, at 1,000 members).
  *
  * Moments are microseconds since the session began, from 0 to 2^50, and never go back. Moment 0 of a participant is its
  * jalwedd_new. Words are random, from 0 to 2^32 - 1, each used once.
  *
  * A participant has one SSRC. A host that sends several streams into a session is as many participants there, each with
- * a handle: pass to each of them what came, and also what the others of this host sent, as if it had come, so that all
- * count the same members (RFC 3550, 6.2).
+ * a handle, and all with one CNAME and NTP timestamps of one clock: the ntp_base of one that begins later is
+ * jalwedd_ntp_of(ntp_base, now) of the first. Pass to each of them what came, and also what the others of this host
+ * sent, as if it had come, so that all count the same members (RFC 3550, 6.2). But a participant is not given its own
+ * datagrams: if a multicast group brings them back, it takes another SSRC (8.2).
  *
  * A structure of this header never grows or changes its layout under one SONAME of the shared object.
  */
@@ -166,8 +178,9 @@ enum { JALWEDD_NOTHING = 0, JALWEDD_REPORT = 1, JALWEDD_BYE = 2 };
 
 /* The result of a call. For an empty handle, next is JALWEDD_NEVER and all else 0. */
 typedef struct jalwedd_step {
-    uint64_t next;          /* when to call jalwedd_tick, or JALWEDD_NEVER once the participant has left. It may lie
-                               before the moment of the call: then tick at once */
+    uint64_t next;          /* when something may be due to be sent, or JALWEDD_NEVER once the participant has left.
+                               Call jalwedd_tick then, and at least once a second before that. It may lie before the
+                               moment of the call: then tick at once */
     uint32_t members;       /* the members of the session, the participant included (6.2.1); in the backoff after a
                                leave, it and one for each BYE packet that came since (6.3.7); 0 once it has left */
     uint32_t senders;       /* how many of the members send RTP packets: 0 from a leave on */
@@ -300,14 +313,15 @@ void jalwedd_memory(void *(*allocate)(size_t size), void (*release)(void *at));
 uint32_t jalwedd_new(jalwedd_handle *handle, const jalwedd_config *config, const uint8_t *cname, size_t cname_size,
                      const jalwedd_item *items, size_t item_count, uint32_t word, jalwedd_step *step);
 
-/* Frees the participant of a handle and leaves the handle empty. It sends no BYE: call jalwedd_leave before it. For
- * NULL, as for an empty handle, it does nothing.
+/* Frees the participant of a handle and leaves the handle empty. It sends nothing: for a BYE call jalwedd_leave before
+ * it. It may also end a leave whose BYE is not yet due. For NULL, as for an empty handle, it does nothing.
  * Statuses: TAKEN; IS_EMPTY. */
 uint32_t jalwedd_free(jalwedd_handle *handle);
 
 /* An RTCP datagram came at the moment `now`; `datagram` is its UDP payload (RFC 3550, 6.1). `peer` is a number for
- * where it came from, distinct for each address and port: for IPv4 these themselves, for IPv6 the index of address and
- * port in a list that the host keeps. `word` seeds a new SSRC if one is needed (8.2).
+ * where it came from, distinct for each address and port: for IPv4 these themselves, for IPv6 a hash of both with a
+ * random key, such as SipHash. (A list of them would grow with each address that is forged.) `word` seeds a new SSRC if
+ * one is needed (8.2).
  * Hands out nothing, or, if it changes the SSRC, the BYE of the old one if anything was sent under it. Read its reports
  * about the host's own stream before the call (jalwedd_about), as they name the SSRC before a change.
  * Statuses: TAKEN; LEFT to NO_COMPOUND; OWN_SSRC; IS_EMPTY. */
@@ -321,22 +335,34 @@ uint32_t jalwedd_arrive_rtp(jalwedd_handle *handle, uint64_t now, uint64_t peer,
                             const uint8_t *datagram, size_t size, jalwedd_step *step, uint8_t octets[JALWEDD_OCTETS]);
 
 /* The host sent an RTP packet at the moment `now`, with this RTP timestamp and `payload` octets of payload, not
- * counting padding (6.3.8, 6.4.1). Hands out nothing.
+ * counting padding (6.3.8, 6.4.1). Hands out nothing, and leaves `octets` as they are; but they have to be there.
  * Statuses: TAKEN; LEFT to TOO_MANY; IS_EMPTY. */
 uint32_t jalwedd_sent_rtp(jalwedd_handle *handle, uint64_t now, uint32_t timestamp, uint32_t payload,
                           jalwedd_step *step, uint8_t octets[JALWEDD_OCTETS]);
 
-/* Hands out what is due at the moment `now`, and drops sources that were silent for too long (6.3.5, 6.3.6). Call it at
- * step.next; a call before that hands out nothing. `first_word` is for the draw that decides whether a report or BYE
- * goes out now or is put off (6.3.6, 6.3.7), and `second_word` for the draw of the interval after a report.
- * Hands out nothing, a report, or, after a leave, the BYE.
+/* Hands out what is due at the moment `now`, and drops sources that were silent for too long, and those that said
+ * goodbye 5 seconds ago or more (6.3.5 to 6.3.7). Call it at step.next, and at least once a second: no other call drops
+ * anyone, and the time to step.next grows with the members and with the sizes of compounds that come. Then a source
+ * that said goodbye and comes back is ignored for at most 6 seconds, and one that fell silent gives up its entry once
+ * it may. With ticks at step.next alone this may take minutes, or hours under attack, in which a full table admits
+ * nobody. A host that sends nothing, such as a recorder, ticks too, as otherwise nobody is ever dropped; it need not
+ * send the reports.
+ * `first_word` is for the draw that decides whether a report or BYE goes out now or is put off (6.3.6, 6.3.7), and
+ * `second_word` for the draw of the interval after a report.
+ * Hands out nothing, a report, or, after a leave, the BYE. Before step.next it hands out nothing, and takes less than a
+ * microsecond, or less than ten if it drops someone of 1,000 (as measured).
  * Statuses: TAKEN; LEFT to TOO_MANY; IS_EMPTY. */
 uint32_t jalwedd_tick(jalwedd_handle *handle, uint64_t now, uint32_t first_word, uint32_t second_word,
                       jalwedd_step *step, uint8_t octets[JALWEDD_OCTETS]);
 
 /* Leaves the session at the moment `now` (6.3.7). The BYE is handed out at once, or, in a session of more than 50
- * members, by a later tick: go on until step.next is JALWEDD_NEVER. A participant that sent nothing under its present
- * SSRC leaves silently. `word` is for the draw of when that tick is due.
+ * members, by a later tick: go on until step.next is JALWEDD_NEVER, but for some seconds at most, and then call
+ * jalwedd_free. A participant that sent nothing under its present SSRC leaves silently. `word` is for the draw of when
+ * that tick is due.
+ * If nobody else leaves, that tick comes within 3.1 seconds at usual bandwidths. But each BYE packet that comes counts
+ * as one more who is leaving, even if it names nobody: the formula then spaces the BYEs of so many, and one datagram of
+ * such packets can hold this one back for days. A host need not wait: 6.3.7 lets a participant leave without a BYE, and
+ * the others drop it once it was silent for too long.
  * Hands out nothing, or the BYE.
  * Statuses: TAKEN; LEFT to TOO_MANY; IS_EMPTY. */
 uint32_t jalwedd_leave(jalwedd_handle *handle, uint64_t now, uint32_t word, jalwedd_step *step,
@@ -350,7 +376,7 @@ uint32_t jalwedd_ssrc(jalwedd_handle *handle);
 
 /* How many entries the participant's table holds: members, sources that are not yet valid, and those that left and are
  * held for a while. If this equals config.capacity the table is full, as under a flood of invented SSRCs, and admits no
- * other source until one is dropped. 0 once the participant leaves, and for an empty handle. */
+ * other source until a tick drops one. 0 once the participant leaves, and for an empty handle. */
 uint32_t jalwedd_entries(jalwedd_handle *handle);
 
 /* Gives what is known about the source with the lowest SSRC >= `from`: among members, sources that are not yet valid,
@@ -394,7 +420,9 @@ uint32_t jalwedd_about(const uint8_t *datagram, size_t size, uint32_t ssrc, uint
 /* Each gives the part of one kind at `index`, from 0 on, in the order of the datagram: of its sender reports, of the
  * blocks of all its reports, of the items of all its source descriptions, of the sources that its BYEs name, and of its
  * APP packets. Go on with 0, 1, .. until the status is not TAKEN: then each was given once. The output is left as it is
- * then.
+ * then. Like jalwedd_about, each call reads the datagram from its start. So to read all parts takes a time that grows
+ * with the square of the size: up to 2 milliseconds for 1,472 octets, and 4 seconds for 65,504 (as measured). On an
+ * open network, pass on no RTCP datagram of more than 1,500 octets.
  * Statuses: TAKEN; NO_COMPOUND; NO_PART. */
 uint32_t jalwedd_sender(const uint8_t *datagram, size_t size, uint32_t index, jalwedd_sender_info *sender);
 uint32_t jalwedd_block(const uint8_t *datagram, size_t size, uint32_t index, jalwedd_report *report);
