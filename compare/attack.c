@@ -375,7 +375,7 @@ static void fill(uint32_t header, uint32_t words)
 
 /* The reports in an hour of a host among 200 others, each of whom reports once a minute, where so many datagrams of a
  * size come each 3 seconds. */
-static uint32_t reports_by_size(uint32_t count, size_t size)
+static uint32_t reports_by_size(uint32_t count, size_t octets)
 {
     struct host host = begun(1024, true, 1);
     fill(0x80cc0000, 2);
@@ -383,7 +383,7 @@ static uint32_t reports_by_size(uint32_t count, size_t size)
         for (uint32_t other = 0; other < 10; other++)
             name(&host, INVENTED + (turn * 10 + other) % 200);
         for (uint32_t datagram = 0; datagram < count; datagram++)
-            rtcp(&host, 0xbad, full, size);
+            rtcp(&host, 0xbad, full, octets);
         pass(&host, (turn + 1) * 3ull * SECOND);
     }
     jalwedd_free(&host.session);
@@ -395,6 +395,7 @@ static void averages(void)
     printf("Datagrams that move the average size, by which 201 members space their reports; reports in an hour:\n");
     told("none come", reports_by_size(0, 0), "", 0);
     told("100 a second of 8 octets", reports_by_size(300, 8), "", 1 + 3600 / 2.052074);
+    told("one each 3 seconds of 1,472 octets", reports_by_size(1, MTU), "", 0);
     told("one each 3 seconds of 65,504 octets", reports_by_size(1, FULL), "", 0);
 }
 
@@ -417,34 +418,36 @@ static void statistics(void)
 
 /* ---- Parts by index */
 
+static size_t size;                     /* of the datagram in `full` */
+
 static bool is_check(uint32_t index)
 {
     jalwedd_fault fault;
-    return jalwedd_check(full, FULL, &fault) == JALWEDD_TAKEN && index < 1000;
+    return jalwedd_check(full, size, &fault) == JALWEDD_TAKEN && index < 1000;
 }
 
 static bool is_item(uint32_t index)
 {
     jalwedd_item_place item;
-    return jalwedd_sdes_item(full, FULL, index, &item) == JALWEDD_TAKEN;
+    return jalwedd_sdes_item(full, size, index, &item) == JALWEDD_TAKEN;
 }
 
 static bool is_goodbye(uint32_t index)
 {
     jalwedd_goodbye_place goodbye;
-    return jalwedd_goodbye(full, FULL, index, &goodbye) == JALWEDD_TAKEN;
+    return jalwedd_goodbye(full, size, index, &goodbye) == JALWEDD_TAKEN;
 }
 
 static bool is_app(uint32_t index)
 {
     jalwedd_app_place app;
-    return jalwedd_app(full, FULL, index, &app) == JALWEDD_TAKEN;
+    return jalwedd_app(full, size, index, &app) == JALWEDD_TAKEN;
 }
 
 static bool is_block(uint32_t index)
 {
     jalwedd_report report;
-    return jalwedd_block(full, FULL, index, &report) == JALWEDD_TAKEN;
+    return jalwedd_block(full, size, index, &report) == JALWEDD_TAKEN;
 }
 
 /* Asks for each part as the header says, and returns how long that took. */
@@ -463,13 +466,23 @@ static void walk(const char *what, bool (*is_part)(uint32_t index))
     printf("    %u %s: %.1f ms, %.0f times its check of %.4f ms\n", parts, what, all * 1e3, all / check, check * 1e3);
 }
 
+/* One chunk of as many items as there is room for, each a NOTE of 0 octets. */
+static void put_items(size_t octets)
+{
+    size = octets;
+    uint8_t *chunk = put_packet(put_report(full, VICTIM), 1, 202, (uint32_t)size / 4 - 3, VICTIM) - (size - 16);
+    for (size_t at = 0; at < size - 16; at++)
+        chunk[at] = at < size - 18 && at % 2 == 0 ? 7 : 0;
+}
+
 static void parts(void)
 {
     printf("The parts of one datagram of 65,504 octets, each asked for by its index:\n");
-    uint8_t *chunk = put_packet(put_report(full, VICTIM), 1, 202, FULL / 4 - 3, VICTIM) - (FULL - 16);
-    for (size_t at = 0; at < FULL - 16; at++)
-        chunk[at] = at < FULL - 18 && at % 2 == 0 ? 7 : 0;
+    put_items(FULL);
     walk("SDES items", is_item);
+    put_items(MTU);
+    walk("SDES items of a datagram of 1,472 octets", is_item);
+    size = FULL;
     fill(0x9fcb0000, 31);
     walk("sources of BYEs", is_goodbye);
     fill(0x80cc0000, 2);
