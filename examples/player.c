@@ -1,6 +1,6 @@
 /* A player that sends a stream of silence and takes part in its RTP session: two UDP sockets, `poll`, and the library.
  * Each second it prints the sources, how their packets are received, and what they report about its own. At ctrl-C it
- * leaves with a BYE.
+ * leaves with a BYE, or without one if that is not due within 5 seconds (RFC 3550, 6.3.7).
  *
  *     player SEED RTP-PORT PEER-RTP-PORT [RECORD]      on 127.0.0.1, with RTCP at the ports one above
  *
@@ -25,7 +25,16 @@
 #include <time.h>
 #include <unistd.h>
 
-enum { PACKET = 160, PACKET_TIME = 20000, SECOND = 1000000, MOST_OCTETS = 65535, CNAME = 1, NOTES = 32 };
+enum {
+    PACKET = 160,
+    PACKET_TIME = 20000,
+    SECOND = 1000000,
+    LEAVE_TIME = 5 * SECOND,            /* others can delay the BYE for longer than a player is willing to wait */
+    MOST_OCTETS = 65535,
+    LARGEST_RTCP = 1500,                /* a larger datagram is dropped: to read its parts could take seconds */
+    CNAME = 1,
+    NOTES = 32
+};
 
 /* What a source says and the library does not keep. */
 struct note {
@@ -43,6 +52,7 @@ struct player {
     int rtp, rtcp;
     struct sockaddr_in to_rtp, to_rtcp;
     uint64_t begin;
+    uint64_t ticked;                    /* the moment of the latest tick */
     uint16_t sequence;
     uint32_t timestamp;
     struct note notes[NOTES];
@@ -215,7 +225,7 @@ static void receive(struct player *player, int from, uint64_t now, uint8_t *octe
     struct sockaddr_in peer;
     socklen_t length = sizeof peer;
     const ssize_t came = recvfrom(from, datagram, MOST_OCTETS, 0, (struct sockaddr *)&peer, &length);
-    if (came < 0)
+    if (came < 0 || (from == player->rtcp && came > LARGEST_RTCP))
         return;
     const size_t size = from == player->rtp ? (size_t)came : put_report_before(datagram, (size_t)came);
     const uint64_t number = (uint64_t)ntohl(peer.sin_addr.s_addr) << 16 | ntohs(peer.sin_port);
@@ -238,6 +248,7 @@ static void tick(struct player *player, uint64_t now, uint8_t *octets)
     const uint32_t first_word = random_word(), second_word = random_word();
     jalwedd_record_tick(&player->calls, now, first_word, second_word);
     jalwedd_tick(&player->session, now, first_word, second_word, &player->step, octets);
+    player->ticked = now;
     send_out(player, octets);
 }
 
@@ -249,19 +260,30 @@ static void leave(struct player *player, uint64_t now, uint8_t *octets)
     send_out(player, octets);
 }
 
-/* One turn: waits for a datagram until `next`, or until the next packet is to go out. */
-static void turn(struct player *player, uint64_t next_packet)
+static uint64_t sooner(uint64_t one, uint64_t other)
+{
+    return one < other ? one : other;
+}
+
+/* When to tick: at `next`, and at least once a second, as only a tick drops those who left or fell silent. */
+static uint64_t next_tick(const struct player *player)
+{
+    return sooner(player->step.next, player->ticked + SECOND);
+}
+
+/* One turn: waits for a datagram until the next tick, until the next packet is to go out, or until the end. */
+static void turn(struct player *player, uint64_t next_packet, uint64_t end)
 {
     static uint8_t octets[JALWEDD_OCTETS];
     struct pollfd sockets[2] = {{player->rtcp, POLLIN, 0}, {player->rtp, POLLIN, 0}};
-    const uint64_t until = player->step.next < next_packet ? player->step.next : next_packet;
+    const uint64_t until = sooner(next_tick(player), sooner(next_packet, end));
     uint64_t now = microseconds() - player->begin;
     const int came = poll(sockets, 2, until <= now ? 0 : (int)((until - now + 999) / 1000));
     now = microseconds() - player->begin;
     for (int at = 0; came > 0 && at < 2; at++)
         if (sockets[at].revents & POLLIN)
             receive(player, sockets[at].fd, now, octets);
-    if (player->step.next <= now)
+    if (next_tick(player) <= now)
         tick(player, now, octets);
     if (next_packet > now)
         return;
@@ -275,13 +297,14 @@ static void play(struct player *player)
     uint8_t octets[JALWEDD_OCTETS];
     for (uint64_t next_packet = 0; !is_over && player->step.next != JALWEDD_NEVER; fflush(stdout)) {
         const uint16_t sent = player->sequence;
-        turn(player, next_packet);
+        turn(player, next_packet, UINT64_MAX);
         if (player->sequence != sent)
             next_packet += PACKET_TIME;
     }
-    leave(player, microseconds() - player->begin, octets);
-    while (player->step.next != JALWEDD_NEVER)
-        turn(player, UINT64_MAX);
+    const uint64_t left = microseconds() - player->begin;
+    leave(player, left, octets);
+    while (player->step.next != JALWEDD_NEVER && microseconds() - player->begin < left + LEAVE_TIME)
+        turn(player, UINT64_MAX, left + LEAVE_TIME);
 }
 
 /* ---- Begin and end */
@@ -341,7 +364,7 @@ int main(int count, char **words)
         return 1;
     signal(SIGINT, stop);
     play(&player);
-    jalwedd_free(&player.session);
+    jalwedd_free(&player.session);      /* sends nothing, so a BYE that is not yet due is never sent */
     if (count == 5 && !end_record(&player.calls)) {
         fprintf(stderr, "the record is not whole\n");
         return 1;
