@@ -1,6 +1,7 @@
 /* A conference server: 200 sessions of 5 to 20 members on a virtual clock, with a participant in each. The server keeps
  * no table of its own. When a step has `others_changed`, it lists the sources again, and the role changes between the
- * two listings say who joined, left, timed out, began to send or stopped. The members lose packets, fall silent, and
+ * two listings say who joined, left, timed out, began to send or stopped. It ticks each session at step.next and at
+ * each full second, as only a tick drops those who left or fell silent. The members lose packets, fall silent, and
  * take the server's SSRC; in some sessions a flood of invented SSRCs fills the table.
  *
  * Each second of each session, the server's listing and counts are compared with what docs/PROTOCOL.md requires
@@ -267,7 +268,8 @@ static void compare_tallies(const struct session *session)
         compare(session, WORDS[at], session->tally[at], session->known.tally[at]);
 }
 
-/* Each second. The tick before it, due or not, drops those who are silent for too long. */
+/* Each second, after a tick that may be due or not: a host ticks at least once a second, so that those who left or were
+ * silent for too long are dropped in time. */
 static void compare_all(struct session *session)
 {
     const jalwedd_step *step = &session->step;
@@ -284,8 +286,8 @@ static void compare_all(struct session *session)
     compare(session, "entries", step->entries, known->count);
 }
 
-/* One second: the datagrams that come in it, and the calls that are due. The sessions advance side by side, a second at
- * a time: nothing goes from one to another. */
+/* One second: the datagrams that come in it, the ticks at step.next, and one at its end. The sessions advance side by
+ * side, a second at a time: nothing goes from one to another. */
 static void run_second(struct session *session, uint64_t end)
 {
     const struct members *members = &session->members;
@@ -355,7 +357,8 @@ static struct session *begin_all(uint64_t seed, uint32_t shown)
     return all;
 }
 
-/* The participants leave. From then on they list nobody. */
+/* The participants leave. From then on they list nobody. With so few members a BYE is handed out at once; a server of
+ * larger sessions would tick for some seconds more, and then free the participants whose BYE is not yet due. */
 static void end_all(struct session *all)
 {
     static uint8_t octets[JALWEDD_OCTETS];
