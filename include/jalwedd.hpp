@@ -5,6 +5,7 @@
  *     if (session.join(config, "player@example.com", random_word(), step) != JALWEDD_TAKEN)
  *         return refused();
  *     session.arrive_rtcp(now, peer, random_word(), datagram, size, step, octets);    as the calls of jalwedd.h
+ *     session.tick(now, random_word(), random_word(), step, octets);    at step.next, and at least once a second
  *     for (const jalwedd_source_state& source : session.sources())
  *         show(source.ssrc, source.received, source.lost);
  *     for (const jalwedd::sdes_item& item : jalwedd::sdes_items(datagram, size))
@@ -17,7 +18,8 @@
  *
  * WHAT THE HOST MUST ENSURE, as nothing tests it, is what jalwedd.h says, except for this:
  * - A pointer may be null if its size or count is 0, such as that of an empty std::vector.
- * - A participant is freed by its destructor, and moving it leaves the old one empty.
+ * - A participant is freed by its destructor, and moving it leaves the old one empty. Two threads that call one at the
+ *   same time may lose it: they hold a lock around reading the clock *and* the call.
  * - A range borrows what it was made from: a participant, listings or a datagram. The range, its iterators and the
  *   texts that they gave are not used once that has changed, was moved or is gone.
  *
@@ -189,7 +191,7 @@ public:
     participant(const participant&) = delete;
     participant& operator=(const participant&) = delete;
 
-    /// Frees the participant. It sends no BYE: call leave before it.
+    /// Frees the participant. It sends nothing: for a BYE call leave before it.
     ~participant() { jalwedd_free(&handle_); }
 
     /// Begins to take part in a session: its moment 0 is now. `cname` has 1 to 255 octets, and there are at most 7
@@ -210,7 +212,8 @@ public:
         return join(config, cname, nullptr, 0, word, step);
     }
 
-    /// Frees the participant, and leaves this empty. It sends no BYE: call leave before it.
+    /// Frees the participant, and leaves this empty. It sends nothing: for a BYE call leave before it. It may also end
+    /// a leave whose BYE is not yet due.
     /// Statuses: TAKEN; IS_EMPTY.
     std::uint32_t free() noexcept { return jalwedd_free(&handle_); }
 
@@ -232,7 +235,7 @@ public:
     }
 
     /// The host sent an RTP packet at the moment `now`, with this RTP timestamp and `payload` octets of payload. Hands
-    /// out nothing.
+    /// out nothing, and leaves `octets` as they are.
     /// Statuses: TAKEN; LEFT to TOO_MANY; IS_EMPTY.
     std::uint32_t sent_rtp(std::uint64_t now, std::uint32_t timestamp, std::uint32_t payload, jalwedd_step& step,
                            std::uint8_t (&octets)[JALWEDD_OCTETS]) noexcept
@@ -240,7 +243,9 @@ public:
         return jalwedd_sent_rtp(&handle_, now, timestamp, payload, &step, octets);
     }
 
-    /// Hands out what is due at the moment `now`: nothing, a report, or, after a leave, the BYE. Call it at step.next.
+    /// Hands out what is due at the moment `now`: nothing, a report, or, after a leave, the BYE; and drops sources that
+    /// were silent for too long or left. Call it at step.next, and at least once a second: no other call drops anyone,
+    /// and step.next may be minutes away.
     /// Statuses: TAKEN; LEFT to TOO_MANY; IS_EMPTY.
     std::uint32_t tick(std::uint64_t now, std::uint32_t first_word, std::uint32_t second_word, jalwedd_step& step,
                        std::uint8_t (&octets)[JALWEDD_OCTETS]) noexcept
@@ -248,7 +253,8 @@ public:
         return jalwedd_tick(&handle_, now, first_word, second_word, &step, octets);
     }
 
-    /// Leaves the session at the moment `now`. Hands out nothing, or the BYE: go on until step.next is JALWEDD_NEVER.
+    /// Leaves the session at the moment `now`. Hands out nothing, or the BYE: go on until step.next is JALWEDD_NEVER,
+    /// but for some seconds at most, since BYE packets of others can delay this one for days. Then call free.
     /// Statuses: TAKEN; LEFT to TOO_MANY; IS_EMPTY.
     std::uint32_t leave(std::uint64_t now, std::uint32_t word, jalwedd_step& step,
                         std::uint8_t (&octets)[JALWEDD_OCTETS]) noexcept
@@ -262,7 +268,8 @@ public:
     /// How many of the members send RTP packets: 0 from a leave on, and if it is empty.
     [[nodiscard]] std::uint32_t senders() noexcept { return jalwedd_senders(&handle_); }
 
-    /// When to call tick, in microseconds since join: JALWEDD_NEVER once it has left, and if it is empty.
+    /// When to call tick, in microseconds since join: JALWEDD_NEVER once it has left, and if it is empty. Call it at
+    /// least once a second before that.
     [[nodiscard]] std::uint64_t next() noexcept { return jalwedd_next(&handle_); }
 
     /// Its SSRC: 0 if it is empty.
@@ -437,6 +444,8 @@ using apps = parts<jalwedd_app_place, jalwedd_app>;
 }
 
 /// What the reports of a datagram say about the source `ssrc` (jalwedd_report): the blocks about it, in their order.
+/// Here and below each step of a range reads the datagram from its start, so the time for all grows with the square of
+/// its size: seconds for 65,504 octets. On an open network drop RTCP datagrams of more than 1,500 octets.
 /// Its status: TAKEN; NO_COMPOUND; NO_BLOCK.
 [[nodiscard]] inline range<inside::about> about(const std::uint8_t* datagram, std::size_t size,
                                                 std::uint32_t ssrc) noexcept
