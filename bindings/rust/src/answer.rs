@@ -7,8 +7,9 @@ use crate::sys;
 /// The state of a participant after a call, whether or not the call was refused.
 #[derive(Clone, Copy, Debug, PartialEq, Eq, Hash)]
 pub struct Step {
-    /// When to call [`Participant::tick`](crate::Participant::tick), or `None` once the participant has left.
-    /// It may lie before the moment of the call: then tick at once.
+    /// When something may be due to be sent, or `None` once the participant has left. Call
+    /// [`Participant::tick`](crate::Participant::tick) then, and at least once a second before that. It may lie
+    /// before the moment of the call: then tick at once.
     pub next_tick: Option<Moment>,
     /// How many members the session has, the participant included (RFC 3550, 6.2.1). In the backoff after a
     /// leave, the participant and one for each BYE packet that came since (6.3.7). 0 once it has left.

@@ -11,7 +11,7 @@
 #![cfg_attr(not(feature = "std"), doc = "```ignore")]
 //! use jalwedd::{Answer, Clock, Config, Moment, Participant, Refusal};
 //! use std::hash::{BuildHasher, RandomState};
-//! use std::net::{SocketAddr, UdpSocket};
+//! use std::net::UdpSocket;
 //! use std::time::Duration;
 //!
 //! fn main() -> Result<(), Box<dyn std::error::Error>> {
@@ -32,27 +32,38 @@
 //!         rate: 8000,       // units a second of the RTP timestamps
 //!     };
 //!     let mut session = Participant::new(&config, b"player@example.com", &[], word())?;
-//!     let mut end = Some(Moment::from(Duration::from_secs(60)));
-//!     let mut datagram = [0; 65_535];
+//!     let (mut ticked, mut leave) = (clock.now(), Some(Moment::from(Duration::from_secs(60))));
+//!     let end = Moment::from(Duration::from_secs(65));
+//!     let (peers, mut datagram) = (RandomState::new(), [0; 1_501]);
 //!     while let Some(next) = session.next_tick() {
+//!         let next = next.min(ticked.saturating_add(Duration::from_secs(1))); // at least once a second
 //!         let wait = next.saturating_duration_since(clock.now());
 //!         rtcp.set_read_timeout(Some(wait.max(Duration::from_millis(1))))?;
 //!         let came = rtcp.recv_from(&mut datagram);
 //!         let now = clock.now();
-//!         if let Ok((size, SocketAddr::V4(from))) = came {
-//!             let peer = u64::from(from.ip().to_bits()) << 16 | u64::from(from.port());
+//!         if let Ok((size @ ..=1_500, from)) = came {
+//!             let peer = peers.hash_one((from.ip(), from.port()));
 //!             send(session.arrive_rtcp(now, peer, word(), &datagram[..size]))?;
 //!         }
 //!         if next <= now {
 //!             send(session.tick(now, word(), word()))?; // even if datagrams keep coming
+//!             ticked = now;
 //!         }
-//!         if end.take_if(|end| *end <= now).is_some() {
+//!         if leave.take_if(|leave| *leave <= now).is_some() {
 //!             send(session.leave(now, word()))?; // `next_tick` is `None` once the BYE has gone out
+//!         }
+//!         if end <= now {
+//!             break; // without a BYE, which others can delay for days
 //!         }
 //!     }
 //!     Ok(())
 //! }
 //! ```
+//!
+//! Tick at [`next_tick`](Participant::next_tick), and at least once a second: only a tick drops those who left
+//! or fell silent, and the next one may be minutes away. This host drops datagrams of more than 1,500 octets:
+//! to read the parts of one of 65,504 could take seconds. docs/EMBEDDING.md in the repository says what else a
+//! host faces on an open network.
 //!
 //! With media, the host also calls [`arrive_rtp`](Participant::arrive_rtp) for each RTP datagram that comes,
 //! and [`sent_rtp`](Participant::sent_rtp) for each RTP packet that it sends.
@@ -65,9 +76,9 @@
 //!
 //! - A [`Moment`] counts microseconds since the session began. Moments never go back.
 //! - A `word` is 32 random bits, used once. Random words spread the reports of many participants.
-//! - A `peer` is a number for the address and port that a datagram came from, different for each. For IPv4 it
-//!   is the address and the port themselves, as above; for IPv6 it is their index in a list that the host
-//!   keeps.
+//! - A `peer` is a number for the address and port that a datagram came from, different for each: a hash of
+//!   both with a random key, as above, or, for IPv4, the address and the port themselves. (A list of peers
+//!   would grow with each address that is forged.)
 //!
 //! Whatever a datagram holds, whatever the numbers are, and in whatever order the calls come, each call
 //! returns. A call that is refused ([`Refusal`]) changes nothing and hands out nothing.
@@ -80,6 +91,9 @@
 //! crate's version or a later one with the same first two numbers. The library is written in Rattle, and
 //! proved to meet its contracts. This crate is plain Rust and is not proved: its tests were run on x86-64,
 //! and all of its `unsafe` is in two files, `raw.rs` and `sys.rs`.
+//!
+//! Without a package, `DOCS_RS=1` lets `cargo doc`, `cargo check` and rust-analyzer work: the build script
+//! then looks for none, and nothing is linked.
 //!
 //! The feature `std`, on by default, adds `Clock`. Without it the crate needs only `core` and `alloc`. The
 //! library allocates with `malloc` and `free`, or with the functions passed to [`sys::jalwedd_memory`]. A

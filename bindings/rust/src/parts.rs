@@ -73,6 +73,10 @@ pub fn apps(datagram: &[u8]) -> Result<Parts<'_, App<'_>>, Fault> {
 
 /// The parts of one kind of a datagram, in their order, each once: see [`senders`], [`blocks`], [`items`],
 /// [`goodbyes`] and [`apps`].
+///
+/// Each step reads the datagram from its start, so the time for all grows with the square of its size: up to 2
+/// milliseconds for 1,472 octets, and 4 seconds for 65,504 (as measured). On an open network, drop an RTCP
+/// datagram of more than 1,500 octets.
 #[derive(Clone)]
 pub struct Parts<'a, T> {
     datagram: &'a [u8],

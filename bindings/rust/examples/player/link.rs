@@ -9,6 +9,9 @@ use std::time::Duration;
 
 const MOST_OCTETS: usize = 65_535;
 
+/// A larger RTCP datagram is dropped: to read its parts could take seconds.
+const LARGEST_RTCP: usize = 1_500;
+
 /// How many datagrams are queued before the session takes them: any more stay in the sockets.
 const KEPT: usize = 64;
 
@@ -70,6 +73,9 @@ fn read(socket: &UdpSocket, at: Port, to_session: &SyncSender<Arrival>) {
     let mut room = [0; MOST_OCTETS];
     loop {
         let Ok((size, SocketAddr::V4(from))) = socket.recv_from(&mut room) else { continue };
+        if at == Port::Rtcp && size > LARGEST_RTCP {
+            continue;
+        }
         let peer = (u64::from(from.ip().to_bits()) << 16) | u64::from(from.port());
         if to_session.send(Arrival { at, peer, datagram: room[..size].to_vec() }).is_err() {
             return;

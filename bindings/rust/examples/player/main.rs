@@ -1,7 +1,7 @@
 //! A player that sends a stream of silence and takes part in its RTP session: two UDP sockets, a thread that
 //! reads each, and the participant. Each second it prints the sources, how their packets are received, and
-//! what they report about its own. At ctrl-C it leaves with a BYE. On 127.0.0.1, with RTCP at the ports one
-//! above:
+//! what they report about its own. At ctrl-C it leaves with a BYE, or without one if that is not due within 5
+//! seconds (RFC 3550, 6.3.7). On 127.0.0.1, with RTCP at the ports one above:
 //!
 //!     cargo run --example player SEED RTP-PORT PEER-RTP-PORT [RECORD]
 //!
@@ -37,6 +37,12 @@ const PACKET_TIME: Duration = Duration::from_millis(20);
 
 const PACKETS_A_SECOND: u16 = 50;
 
+/// Only a tick drops those who left or fell silent, and the next that is due may be minutes away.
+const LONGEST_BETWEEN_TICKS: Duration = Duration::from_secs(1);
+
+/// Others can delay the BYE for longer than a player is willing to wait.
+const LEAVE_TIME: Duration = Duration::from_secs(5);
+
 const USAGE: &str = "usage: player SEED RTP-PORT PEER-RTP-PORT [RECORD]";
 
 const CNAME: &[u8] = b"player@example.com";
@@ -47,8 +53,12 @@ struct Player {
     link: Link,
     clock: Clock,
     words: Words,
+    /// The moment of the latest tick.
+    ticked: Moment,
     /// The moment of the next packet, until it leaves.
     next_packet: Option<Moment>,
+    /// When it goes even without its BYE, once it leaves.
+    end: Option<Moment>,
     sequence: u16,
     timestamp: u32,
     notes: Notes,
@@ -95,7 +105,9 @@ fn begin(mut words: Words, link: Link, record: Option<&String>) -> Result<Player
         link,
         clock,
         words,
+        ticked: Moment::ZERO,
         next_packet,
+        end: None,
         sequence: 0,
         timestamp: 0,
         notes,
@@ -109,25 +121,34 @@ impl Player {
         while !interrupt::came() && self.session.next_tick().is_some() {
             self.turn();
         }
-        self.next_packet = None;
-        let call = Call::Leave { now: self.clock.now(), word: self.words.draw() };
-        self.make(call);
-        while self.session.next_tick().is_some() {
+        let (now, word) = (self.clock.now(), self.words.draw());
+        let end = now.saturating_add(LEAVE_TIME);
+        (self.next_packet, self.end) = (None, Some(end));
+        self.make(Call::Leave { now, word });
+        while self.session.next_tick().is_some() && self.clock.now() < end {
             self.turn();
         }
     }
 
+    /// When to tick, unless it has left: when that is due, and at least once a second.
+    fn next_tick(&self) -> Option<Moment> {
+        let at_latest = self.ticked.saturating_add(LONGEST_BETWEEN_TICKS);
+        self.session.next_tick().map(|next| next.min(at_latest))
+    }
+
     /// One turn: waits for a datagram until something is to be done.
     fn turn(&mut self) {
-        let until = self.session.next_tick().into_iter().chain(self.next_packet).min().unwrap_or_default();
+        let moments = [self.next_tick(), self.next_packet, self.end];
+        let until = moments.into_iter().flatten().min().unwrap_or_default();
         let came = self.link.wait(until.saturating_duration_since(self.clock.now()));
         let now = self.clock.now();
         if let Some(arrival) = came {
             self.receive(now, &arrival);
         }
-        if self.session.next_tick().is_some_and(|next| next <= now) {
+        if self.next_tick().is_some_and(|next| next <= now) {
             let (first_word, second_word) = (self.words.draw(), self.words.draw());
             self.make(Call::Tick { now, first_word, second_word });
+            self.ticked = now;
         }
         if self.next_packet.is_some_and(|next| next <= now) {
             self.send_packet(now);
