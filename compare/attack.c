@@ -99,6 +99,8 @@ static void returning(void)
     printf("Someone else says goodbye for a source that goes on sending; how long it is ignored:\n");
     ignored_runs("alone, ticked each second", 2, SECOND / 50, true, 6.1);
     ignored_runs("among 1,000, ticked each second", 1000, SECOND / 50, true, 6.1);
+    ignored_runs("alone, ticked at next alone", 2, SECOND / 50, false, 0);
+    ignored_runs("among 1,000, ticked at next alone", 1000, SECOND / 50, false, 0);
     printf("A tick that is not yet due:\n");
     told("alone", early_tick(2) * 1e6, "us", 0);
     told("among 1,000", early_tick(1000) * 1e6, "us", 0);
