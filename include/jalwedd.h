@@ -45,10 +45,10 @@
  * jalwedd_new. Words are random, from 0 to 2^32 - 1, each used once.
  *
  * A participant has one SSRC. A host that sends several streams into a session is as many participants there, each with
- * a handle, and all with one CNAME and NTP timestamps of one clock: the ntp_base of one that begins later is
+ * a handle. All have one CNAME, and NTP timestamps of one clock: the ntp_base of one that begins later is
  * jalwedd_ntp_of(ntp_base, now) of the first. Pass to each of them what came, and also what the others of this host
- * sent, as if it had come, so that all count the same members (RFC 3550, 6.2). But a participant is not given its own
- * datagrams: if a multicast group brings them back, it takes another SSRC (8.2).
+ * sent, as if it had come, so that all count the same members (RFC 3550, 6.2). But do not pass its own datagrams to a
+ * participant: if a multicast group brings them back, it would take another SSRC (8.2).
  *
  * A structure of this header never grows or changes its layout under one SONAME of the shared object.
  */
@@ -356,13 +356,13 @@ uint32_t jalwedd_tick(jalwedd_handle *handle, uint64_t now, uint32_t first_word,
                       jalwedd_step *step, uint8_t octets[JALWEDD_OCTETS]);
 
 /* Leaves the session at the moment `now` (6.3.7). The BYE is handed out at once, or, in a session of more than 50
- * members, by a later tick: go on until step.next is JALWEDD_NEVER, but for some seconds at most, and then call
+ * members, by a later tick. Go on until step.next is JALWEDD_NEVER, but for some seconds at most, and then call
  * jalwedd_free. A participant that sent nothing under its present SSRC leaves silently. `word` is for the draw of when
  * that tick is due.
  * If nobody else leaves, that tick comes within 3.1 seconds at usual bandwidths. But each BYE packet that comes counts
- * as one more who is leaving, even if it names nobody: the formula then spaces the BYEs of so many, and one datagram of
- * such packets can hold this one back for days. A host need not wait: 6.3.7 lets a participant leave without a BYE, and
- * the others drop it once it was silent for too long.
+ * as one more who is leaving, even if it names nobody, and the formula spaces the BYEs of so many. One datagram of such
+ * packets can hold this BYE back for days. A host need not wait: 6.3.7 lets a participant leave without a BYE, and the
+ * others drop it once it was silent for too long.
  * Hands out nothing, or the BYE.
  * Statuses: TAKEN; LEFT to TOO_MANY; IS_EMPTY. */
 uint32_t jalwedd_leave(jalwedd_handle *handle, uint64_t now, uint32_t word, jalwedd_step *step,

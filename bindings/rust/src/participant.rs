@@ -31,7 +31,7 @@ use core::fmt;
 /// # Ok::<(), Box<dyn std::error::Error>>(())
 /// ```
 ///
-/// A host that sends several streams into a session is as many participants, with one CNAME and NTP
+/// A host that sends several streams into a session is as many participants. All have one CNAME, and NTP
 /// timestamps of one clock: the [`Config::ntp_base`] of one that begins later is [`ntp_of`](crate::ntp_of) the
 /// moment by that clock. Each is told of what came, and also of what the others of the host sent, as if it had
 /// come, with a `peer` of their own: so all count the same members (RFC 3550, 6.2). But no participant is told
@@ -171,7 +171,7 @@ impl Participant {
 
     /// Leaves the session at the moment `now` (RFC 3550, 6.3.7).
     ///
-    /// The BYE is handed out at once, or, in a session of more than 50 members, by a later tick: go on until
+    /// The BYE is handed out at once, or, in a session of more than 50 members, by a later tick. Go on until
     /// [`next_tick`](Participant::next_tick) is `None`, but for some seconds at most, and then drop the
     /// participant. One that sent nothing under its present SSRC leaves silently. `word` is random, for the
     /// draw of when that tick is due.
