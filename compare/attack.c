@@ -1,6 +1,6 @@
-/* What someone can cost a host who can send datagrams to it: each attack of docs/EMBEDDING.md, "Facing an open network",
- * against the library on a virtual clock. It prints what each costs, and the most of that which the page says, if it
- * says one; beyond it the program ends with status 1. (compare/attack) */
+/* What a host may face from those who can send datagrams to it: each attack of docs/EMBEDDING.md, "Facing an open
+ * network", against the library on a virtual clock. It prints what each costs, and the most of that which the page
+ * says, if it says one; beyond it the program ends with status 1. (compare/attack) */
 #define _POSIX_C_SOURCE 199309L
 #include "attack_host.h"
 

@@ -36,8 +36,9 @@
  * ONE CALL AT A TIME: a call takes the participant out of its handle, and puts it back before it returns. If a second
  * thread calls meanwhile, it finds the handle empty: JALWEDD_IS_EMPTY, with step.next JALWEDD_NEVER. A loop that runs
  * until then ends, and the participant may be lost for good, without a further sign. So threads that share a handle
- * hold a lock around reading the clock *and* the call. A call whose clock was read before the lock was taken may be
- * refused as JALWEDD_BACKWARDS; if it passed an RTP packet that came, this one counts as lost.
+ * hold a lock around reading the clock *and* the call, and a debug build asserts that no status is JALWEDD_IS_EMPTY. A
+ * call whose clock was read before the lock was taken may be refused as JALWEDD_BACKWARDS; if it passed an RTP packet
+ * that came, this one counts as lost.
  *
  * No call takes more than 8,192 octets of stack (as measured, at 1,000 members).
  *
