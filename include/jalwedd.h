@@ -8,9 +8,9 @@
  *     jalwedd_handle session = JALWEDD_EMPTY;
  *     jalwedd_new(&session, &config, cname, cname_size, items, item_count, random_word(), &step);
  *     for (;;) {
- *         wait until step.next or for a second, whichever ends first, or until a datagram comes
+ *         wait until step.next, or a second after the latest tick, or until a datagram comes
  *         jalwedd_arrive_rtcp(&session, now, peer, random_word(), datagram, size, &step, octets);    a datagram, or
- *         jalwedd_tick(&session, now, random_word(), random_word(), &step, octets);         at the end of that wait
+ *         jalwedd_tick(&session, now, random_word(), random_word(), &step, octets);    at the first of these moments
  *         if (step.kind) send the first step.size of the octets to the others
  *     }
  *
