@@ -334,7 +334,8 @@ hears_late other ssrc = joined_with ssrc (ticked 3693734 0 0 ∷ named_came 1531
 abbrev late_pair : List Joined
 late_pair = hears_late 187 170 ∷ hears_late 170 187 ∷ []
 
-they_wait : map (λ wait. wait.since ∷ wait.until ∷ (load_at wait.next).members ∷ []) (all_waits 1231252 2462489 late_pair)
+they_wait : map (λ wait. wait.since ∷ wait.until ∷ (load_at wait.next).members ∷ [])
+    (all_waits 1231252 2462489 late_pair)
     ≡ (1231252 ∷ 3693741 ∷ 2 ∷ []) ∷ (1231252 ∷ 3693741 ∷ 2 ∷ []) ∷ []
 they_wait = refl
 

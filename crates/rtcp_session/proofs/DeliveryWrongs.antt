@@ -84,7 +84,8 @@ without_name law =
       never_silent = each (λ (past : List TraceStep). not (is_dropped 8 1 past))
           (λ (past : List TraceStep). is_dropped 8 1 past ≡ false) (λ past. not_so (is_dropped 8 1 past))
           (pasts_of only_heard) refl;
-      no_bye = each (λ (step : TraceStep). not (says_goodbye 1 step)) (λ (step : TraceStep). says_goodbye 1 step ≡ false)
+      no_bye = each (λ (step : TraceStep). not (says_goodbye 1 step))
+          (λ (step : TraceStep). says_goodbye 1 step ≡ false)
           (λ step. not_so (says_goodbye 1 step)) only_heard refl;
     }))
 

@@ -352,5 +352,6 @@ joined_reports terms from width all some is averages first_averages counts =
     let waits = waits_keep terms from width all some is averages in
     let senders = few_senders_join terms from width all some is.each first_averages counts in
     let others = few_others_join terms from width all some is.each first_averages counts in
-    let roles = length-filter_both (reports_next_as true) (reports_next_as false) (λ wait. refl) (joins_within from width all) in
+    let roles = length-filter_both (reports_next_as true) (reports_next_as false) (λ wait. refl)
+    (joins_within from width all) in
     omega (arith, total, waits, senders, others, roles)

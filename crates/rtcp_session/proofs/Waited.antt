@@ -156,7 +156,8 @@ role_append : (sender : Bool) (one other : List Wait) →
 role_append true one other =
     ap length (filter-append (reports_next_as true) one other) ∙ length-append (waits_as true one) (waits_as true other)
 role_append false one other =
-    ap length (filter-append (reports_next_as false) one other) ∙ length-append (waits_as false one) (waits_as false other)
+    ap length (filter-append (reports_next_as false) one other)
+    ∙ length-append (waits_as false one) (waits_as false other)
 
 as_many_so : (sender : Bool) (start : ℕ) (all : List Decided) →
     length (waits_as sender (waits_over start all)) ≡ length (sent_as sender (later_ones all))

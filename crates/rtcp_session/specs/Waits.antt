@@ -114,8 +114,8 @@ octets_in width bandwidth of_average terms =
 
 -- ---- Who is heard
 
--- Those who wait at a moment are at most so many percent of those whom a participant had heard when it sent this report,
--- itself included; and so in its role.
+-- Those who wait at a moment are at most so many percent of those whom a participant had heard when it sent this
+-- report, itself included; and so in its role.
 pub record HearsWaiting (percent : ℕ) (waits : List Wait) (moment : ℕ) (decided : Decided) : Type 0 where
   pub members : List ℕ
   pub heard : AreHeard is_member decided.setup decided.outcome members
