@@ -145,12 +145,20 @@ comes_of joined wait its is =
       before = omega (arith, some);
     }
 
-abbrev pub keeps : (wait its : Wait) → Bool
-keeps wait its =
+abbrev pub always_room : (wait its : Wait) → Bool
+always_room wait its =
     list_all (λ past. has_room wait.next.setup.capacity its.next.setup.ssrc past) (pasts_of wait.next.outcome.trace)
-    && (list_all (λ past. not (is_dropped wait.next.setup.capacity its.next.setup.ssrc past))
+
+abbrev pub never_drops : (wait its : Wait) → Bool
+never_drops wait its =
+    list_all (λ past. not (is_dropped wait.next.setup.capacity its.next.setup.ssrc past))
     (pasts_of wait.next.outcome.trace)
-    && list_all (λ step. not (says_goodbye its.next.setup.ssrc step)) wait.next.outcome.trace)
+
+abbrev pub takes_no_bye : (wait its : Wait) → Bool
+takes_no_bye wait its = list_all (λ step. not (says_goodbye its.next.setup.ssrc step)) wait.next.outcome.trace
+
+abbrev pub keeps : (wait its : Wait) → Bool
+keeps wait its = always_room wait its && (never_drops wait its && takes_no_bye wait its)
 
 abbrev pub is_same : Bool → Bool → Bool
 is_same true other = other
@@ -175,25 +183,41 @@ pub not_so : (b : Bool) → not b ≡ true → b ≡ false
 not_so true is = absurd cc
 not_so false is = refl
 
+-- what is asked of each moment up to the report
+pub room_of : (wait its : Wait) → always_room wait its ≡ true →
+    All (λ past. has_room wait.next.setup.capacity its.next.setup.ssrc past ≡ true) (pasts_of wait.next.outcome.trace)
+room_of wait its =
+    let capacity = wait.next.setup.capacity in
+    let ssrc = its.next.setup.ssrc in
+    each (has_room capacity ssrc) (λ (past : List TraceStep). has_room capacity ssrc past ≡ true) (λ past is. is)
+    (pasts_of wait.next.outcome.trace)
+
+pub never_dropped_of : (wait its : Wait) → never_drops wait its ≡ true →
+    All (λ past. is_dropped wait.next.setup.capacity its.next.setup.ssrc past ≡ false)
+    (pasts_of wait.next.outcome.trace)
+never_dropped_of wait its =
+    let capacity = wait.next.setup.capacity in
+    let ssrc = its.next.setup.ssrc in
+    each (λ (past : List TraceStep). not (is_dropped capacity ssrc past))
+    (λ (past : List TraceStep). is_dropped capacity ssrc past ≡ false)
+    (λ past. not_so (is_dropped capacity ssrc past)) (pasts_of wait.next.outcome.trace)
+
+pub no_bye_of : (wait its : Wait) → takes_no_bye wait its ≡ true →
+    All (λ step. says_goodbye its.next.setup.ssrc step ≡ false) wait.next.outcome.trace
+no_bye_of wait its =
+    let ssrc = its.next.setup.ssrc in
+    each (λ (step : TraceStep). not (says_goodbye ssrc step)) (λ (step : TraceStep). says_goodbye ssrc step ≡ false)
+    (λ step. not_so (says_goodbye ssrc step)) wait.next.outcome.trace
+
 pub kept_of : (wait its : Wait) → keeps wait its ≡ true →
     IsKept wait.next.setup.capacity its.next.setup.ssrc wait.next.outcome.trace
 kept_of wait its is =
-    let capacity = wait.next.setup.capacity in
-    let ssrc = its.next.setup.ssrc in
-    let trace = wait.next.outcome.trace in
-    let room : Bool = list_all (λ past. has_room capacity ssrc past) (pasts_of trace) in
-    let heard : Bool = list_all (λ past. not (is_dropped capacity ssrc past)) (pasts_of trace) in
-    let stays : Bool = list_all (λ step. not (says_goodbye ssrc step)) trace in
-    let parts = and_parts room (heard && stays) is in
-    let more = and_parts heard stays parts.1 in
+    let parts = and_parts (always_room wait its) (never_drops wait its && takes_no_bye wait its) is in
+    let more = and_parts (never_drops wait its) (takes_no_bye wait its) parts.1 in
     record {
-      room = each (has_room capacity ssrc) (λ (past : List TraceStep). has_room capacity ssrc past ≡ true)
-          (λ past is. is) (pasts_of trace) parts.0;
-      never_silent = each (λ (past : List TraceStep). not (is_dropped capacity ssrc past))
-          (λ (past : List TraceStep). is_dropped capacity ssrc past ≡ false)
-          (λ past. not_so (is_dropped capacity ssrc past)) (pasts_of trace) more.0;
-      no_bye = each (λ (step : TraceStep). not (says_goodbye ssrc step))
-          (λ (step : TraceStep). says_goodbye ssrc step ≡ false) (λ step. not_so (says_goodbye ssrc step)) trace more.1;
+      room = room_of wait its parts.0;
+      never_silent = never_dropped_of wait its more.0;
+      no_bye = no_bye_of wait its more.1;
     }
 
 pub role_of : (wait its : Wait) → knows_role wait its ≡ true →

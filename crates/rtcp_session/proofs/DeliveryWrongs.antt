@@ -1,25 +1,25 @@
 -- What would be wrong of sessions whose compounds come within a delay: each statement here is a law with a number moved
 -- or a premise left out, and there is a session, or a trace, where it does not hold.
-use Rattle.std.proofs.Common.{◌≡◌, ◌==◌, ℕ, ◌+◌, ◌-◌, ◌*◌, ◌<◌, ◌≤◌, ◌&&◌, not, List, [], ◌∷◌, nat_le, length, All, Contains, Bool, true, false, Ok, refl, arith}
+use Rattle.std.proofs.Common.{◌≡◌, ◌==◌, ℕ, ◌+◌, ◌-◌, ◌*◌, ◌<◌, ◌≤◌, ◌&&◌, not, List, [], ◌∷◌, nat_le, length, All, Contains, Bool, true, false, None, Ok, refl, arith}
 use Rattle.std.specs.List.{AllPairs}
 use Rattle.std.proofs.lemmas.Bool.{and_parts, both_ways, leb-true}
 use Rattle.std.proofs.lemmas.List.Elements.{All-head, All-map, All-weaker}
 use Rattle.rtcp_wire.specs.declared.fact.Fact.TheVariants.{Heard, Named, Gone, Media}
-use Rattle.rtcp_wire.specs.Values.{RtcpPacket, rr, sdes}
+use Rattle.rtcp_wire.specs.Values.{RtcpPacket, rr, sdes, bye}
 use Rattle.rtcp_wire.specs.Facts.{facts_of}
 use Rattle.rtcp_members.specs.Traces.{TraceStep, fact_came, check_made, horizons_at}
 use Rattle.rtcp_members.specs.Entries.{entry_at, is_member, is_sender, is_such}
-use Rattle.rtcp_engine.specs.Acts.{arrived, rtcp, ticked}
+use Rattle.rtcp_engine.specs.Acts.{Act, arrived, rtcp, ticked}
 use Rattle.rtcp_engine.specs.Taken.{IsHistory}
 use Rattle.rtcp_engine.specs.Histories.{History}
 use Rattle.rtcp_session.specs.Windows.{Joined, Decided, decided_at, load_at}
 use Rattle.rtcp_session.specs.Crowds.{total_reports, Terms}
 use Rattle.rtcp_session.specs.Waits.{Wait, all_waits, averages_of, rtcp_bw, waits_as, HasBandwidth, HasAverage}
-use Rattle.rtcp_session.specs.Deliveries.{least_wait, carried_after, IsCountedAfter, is_named_in, says_goodbye, pasts_of, has_room, is_dropped, IsKept, HasHeard, KnowEachOther, IsDelivered}
+use Rattle.rtcp_session.specs.Deliveries.{least_wait, carried_after, IsCountedAfter, is_named_in, says_goodbye, pasts_of, has_room, is_dropped, IsKept, KnowEachOther, IsDelivered}
 use Rattle.rtcp_session.proofs.CrowdRows.{setup_of, named_came, joined_with, terms, pair, stands, each}
 use Rattle.rtcp_session.proofs.WaitRows.{bandwidths, average_of_pair, unaware, average_of_unaware}
 use Rattle.rtcp_session.proofs.WrongRows.{who_is_deaf, four, one_in_four}
-use Rattle.rtcp_session.proofs.DeliveryRows.{not_so, comes, HeardBefore, comes_of, keeps, differs, knows_role, kept_of, role_of, EachOther, each_two_of, delivered_of, counted_after_of}
+use Rattle.rtcp_session.proofs.DeliveryRows.{not_so, comes, HeardBefore, comes_of, always_room, never_drops, takes_no_bye, keeps, differs, knows_role, room_of, never_dropped_of, no_bye_of, kept_of, role_of, EachOther, each_two_of, delivered_of, counted_after_of}
 
 -- ---- Members
 
@@ -240,8 +240,10 @@ record Unkept (joined : Joined) (wait its : Wait) : Type 0 where
       is_such is_sender (entry_at wait.next.setup.capacity wait.next.setup.rate wait.next.outcome.trace
       its.next.setup.ssrc) ≡ (load_at wait.next).we_sent
 
-unkept_of : (joined : Joined) (wait its : Wait) →
-    (comes joined wait its && (differs wait its && knows_role wait its)) ≡ true → Unkept joined wait its
+abbrev unkept : Joined → (wait its : Wait) → Bool
+unkept joined wait its = comes joined wait its && (differs wait its && knows_role wait its)
+
+unkept_of : (joined : Joined) (wait its : Wait) → unkept joined wait its ≡ true → Unkept joined wait its
 unkept_of joined wait its is =
     let parts = and_parts (comes joined wait its) (differs wait its && knows_role wait its) is in
     let more = and_parts (differs wait its) (knows_role wait its) parts.1 in
@@ -272,9 +274,88 @@ without_keeping : ((delay : ℕ) (terms : Terms) (from width : ℕ) (all : List 
     ≤ least_wait * (2 * 121828 * width * (256 * terms.receiver_bw))) → ⊥
 without_keeping law =
     let fits = law 0 terms 2462496 2462489 with_little_room (omega arith) (bandwidths terms 0 0 with_little_room refl)
-    (each_two_of Unkept (λ joined wait its. comes joined wait its && (differs wait its && knows_role wait its))
-    unkept_of 0 2462496 2462489 with_little_room refl) in
+    (each_two_of Unkept unkept unkept_of 0 2462496 2462489 with_little_room refl) in
     let its : averages_of (waits_as false (all_waits 2462496 2462489 with_little_room)) ≡ 49152 = refl in
+    omega (arith, fits, its)
+
+-- but that each never dropped the other: four hear all the others, and then for 99 seconds nobody but one of them,
+record Dropped (joined : Joined) (wait its : Wait) : Type 0 where
+  rest : Unkept joined wait its
+  room : All (λ past. has_room wait.next.setup.capacity its.next.setup.ssrc past ≡ true)
+      (pasts_of wait.next.outcome.trace)
+  no_bye : All (λ step. says_goodbye its.next.setup.ssrc step ≡ false) wait.next.outcome.trace
+
+abbrev dropped : Joined → (wait its : Wait) → Bool
+dropped joined wait its = unkept joined wait its && (always_room wait its && takes_no_bye wait its)
+
+dropped_of : (joined : Joined) (wait its : Wait) → dropped joined wait its ≡ true → Dropped joined wait its
+dropped_of joined wait its is =
+    let parts = and_parts (unkept joined wait its) (always_room wait its && takes_no_bye wait its) is in
+    let more = and_parts (always_room wait its) (takes_no_bye wait its) parts.1 in
+    record {
+      rest = unkept_of joined wait its parts.0;
+      room = room_of wait its more.0;
+      no_bye = no_bye_of wait its more.1;
+    }
+
+abbrev drops_two : (ssrc one another third : ℕ) → Joined
+drops_two ssrc one another third =
+    joined_with ssrc (ticked 102462489 0 0 ∷ ticked 100000000 0 0 ∷ named_came 99000000 third ∷ named_came 120 third
+    ∷ named_came 110 another ∷ named_came 100 one ∷ [])
+
+abbrev each_drops_two : List Joined
+each_drops_two = drops_two 1 2 3 4 ∷ drops_two 2 3 4 1 ∷ drops_two 3 4 1 2 ∷ drops_two 4 1 2 3 ∷ []
+
+without_holding : ((delay : ℕ) (terms : Terms) (from width : ℕ) (all : List Joined) → delay < least_wait →
+    All (HasBandwidth terms) all → AllPairs (EachOther Dropped delay from width) all →
+    (least_wait - delay) * (100000 * 1000000 * averages_of (waits_as false (all_waits from width all)))
+    ≤ least_wait * (2 * 121828 * width * (256 * terms.receiver_bw))) → ⊥
+without_holding law =
+    let fits = law 0 terms 100000007 2462489 each_drops_two (omega arith) (bandwidths terms 0 0 each_drops_two refl)
+    (each_two_of Dropped dropped dropped_of 0 100000007 2462489 each_drops_two refl) in
+    let its : averages_of (waits_as false (all_waits 100000007 2462489 each_drops_two)) ≡ 49152 = refl in
+    omega (arith, fits, its)
+
+-- but that each took no BYE of the other: four hear all the others, and then a BYE of two of them,
+record TookBye (joined : Joined) (wait its : Wait) : Type 0 where
+  rest : Unkept joined wait its
+  room : All (λ past. has_room wait.next.setup.capacity its.next.setup.ssrc past ≡ true)
+      (pasts_of wait.next.outcome.trace)
+  never_silent : All (λ past. is_dropped wait.next.setup.capacity its.next.setup.ssrc past ≡ false)
+      (pasts_of wait.next.outcome.trace)
+
+abbrev took_bye : Joined → (wait its : Wait) → Bool
+took_bye joined wait its = unkept joined wait its && (always_room wait its && never_drops wait its)
+
+took_bye_of : (joined : Joined) (wait its : Wait) → took_bye joined wait its ≡ true → TookBye joined wait its
+took_bye_of joined wait its is =
+    let parts = and_parts (unkept joined wait its) (always_room wait its && never_drops wait its) is in
+    let more = and_parts (always_room wait its) (never_drops wait its) parts.1 in
+    record {
+      rest = unkept_of joined wait its parts.0;
+      room = room_of wait its more.0;
+      never_silent = never_dropped_of wait its more.1;
+    }
+
+abbrev bye_came : (moment ssrc : ℕ) → Act
+bye_came moment ssrc = arrived moment 1 0 (rtcp 20 (Ok (rr ssrc [] [] ∷ bye (ssrc ∷ []) None ∷ [])))
+
+abbrev takes_two_byes : (ssrc one another third : ℕ) → Joined
+takes_two_byes ssrc one another third =
+    joined_with ssrc (ticked 4924978 0 0 ∷ ticked 2462489 0 0 ∷ bye_came 140 another ∷ bye_came 130 one
+    ∷ named_came 120 third ∷ named_came 110 another ∷ named_came 100 one ∷ [])
+
+abbrev each_takes_two : List Joined
+each_takes_two = takes_two_byes 1 2 3 4 ∷ takes_two_byes 2 3 4 1 ∷ takes_two_byes 3 4 1 2 ∷ takes_two_byes 4 1 2 3 ∷ []
+
+without_presence : ((delay : ℕ) (terms : Terms) (from width : ℕ) (all : List Joined) → delay < least_wait →
+    All (HasBandwidth terms) all → AllPairs (EachOther TookBye delay from width) all →
+    (least_wait - delay) * (100000 * 1000000 * averages_of (waits_as false (all_waits from width all)))
+    ≤ least_wait * (2 * 121828 * width * (256 * terms.receiver_bw))) → ⊥
+without_presence law =
+    let fits = law 0 terms 2462496 2462489 each_takes_two (omega arith) (bandwidths terms 0 0 each_takes_two refl)
+    (each_two_of TookBye took_bye took_bye_of 0 2462496 2462489 each_takes_two refl) in
+    let its : averages_of (waits_as false (all_waits 2462496 2462489 each_takes_two)) ≡ 49152 = refl in
     omega (arith, fits, its)
 
 -- but that each knows the other's role: two that send do not know it of each other,
