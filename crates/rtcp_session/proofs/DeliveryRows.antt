@@ -145,20 +145,27 @@ comes_of joined wait its is =
       before = omega (arith, some);
     }
 
-abbrev pub always_room : (wait its : Wait) → Bool
-always_room wait its =
-    list_all (λ past. has_room wait.next.setup.capacity its.next.setup.ssrc past) (pasts_of wait.next.outcome.trace)
+abbrev pub always_room : (capacity ssrc : ℕ) → List TraceStep → Bool
+always_room capacity ssrc trace = list_all (has_room capacity ssrc) (pasts_of trace)
 
-abbrev pub never_drops : (wait its : Wait) → Bool
-never_drops wait its =
-    list_all (λ past. not (is_dropped wait.next.setup.capacity its.next.setup.ssrc past))
-    (pasts_of wait.next.outcome.trace)
+abbrev pub never_drops : (capacity ssrc : ℕ) → List TraceStep → Bool
+never_drops capacity ssrc trace = list_all (λ past. not (is_dropped capacity ssrc past)) (pasts_of trace)
 
-abbrev pub takes_no_bye : (wait its : Wait) → Bool
-takes_no_bye wait its = list_all (λ step. not (says_goodbye its.next.setup.ssrc step)) wait.next.outcome.trace
+abbrev pub takes_no_bye : (ssrc : ℕ) → List TraceStep → Bool
+takes_no_bye ssrc trace = list_all (λ step. not (says_goodbye ssrc step)) trace
+
+-- the same of the report that ends a wait, and of the source of another
+abbrev pub has_room_for : (wait its : Wait) → Bool
+has_room_for wait its = always_room wait.next.setup.capacity its.next.setup.ssrc wait.next.outcome.trace
+
+abbrev pub never_drops_it : (wait its : Wait) → Bool
+never_drops_it wait its = never_drops wait.next.setup.capacity its.next.setup.ssrc wait.next.outcome.trace
+
+abbrev pub takes_no_bye_of : (wait its : Wait) → Bool
+takes_no_bye_of wait its = takes_no_bye its.next.setup.ssrc wait.next.outcome.trace
 
 abbrev pub keeps : (wait its : Wait) → Bool
-keeps wait its = always_room wait its && (never_drops wait its && takes_no_bye wait its)
+keeps wait its = has_room_for wait its && (never_drops_it wait its && takes_no_bye_of wait its)
 
 abbrev pub is_same : Bool → Bool → Bool
 is_same true other = other
@@ -183,41 +190,37 @@ pub not_so : (b : Bool) → not b ≡ true → b ≡ false
 not_so true is = absurd cc
 not_so false is = refl
 
--- what is asked of each moment up to the report
-pub room_of : (wait its : Wait) → always_room wait its ≡ true →
-    All (λ past. has_room wait.next.setup.capacity its.next.setup.ssrc past ≡ true) (pasts_of wait.next.outcome.trace)
-room_of wait its =
-    let capacity = wait.next.setup.capacity in
-    let ssrc = its.next.setup.ssrc in
+pub room_of : (capacity ssrc : ℕ) (trace : List TraceStep) → always_room capacity ssrc trace ≡ true →
+    All (λ past. has_room capacity ssrc past ≡ true) (pasts_of trace)
+room_of capacity ssrc trace =
     each (has_room capacity ssrc) (λ (past : List TraceStep). has_room capacity ssrc past ≡ true) (λ past is. is)
-    (pasts_of wait.next.outcome.trace)
+    (pasts_of trace)
 
-pub never_dropped_of : (wait its : Wait) → never_drops wait its ≡ true →
-    All (λ past. is_dropped wait.next.setup.capacity its.next.setup.ssrc past ≡ false)
-    (pasts_of wait.next.outcome.trace)
-never_dropped_of wait its =
-    let capacity = wait.next.setup.capacity in
-    let ssrc = its.next.setup.ssrc in
+pub never_dropped_of : (capacity ssrc : ℕ) (trace : List TraceStep) → never_drops capacity ssrc trace ≡ true →
+    All (λ past. is_dropped capacity ssrc past ≡ false) (pasts_of trace)
+never_dropped_of capacity ssrc trace =
     each (λ (past : List TraceStep). not (is_dropped capacity ssrc past))
     (λ (past : List TraceStep). is_dropped capacity ssrc past ≡ false)
-    (λ past. not_so (is_dropped capacity ssrc past)) (pasts_of wait.next.outcome.trace)
+    (λ past. not_so (is_dropped capacity ssrc past)) (pasts_of trace)
 
-pub no_bye_of : (wait its : Wait) → takes_no_bye wait its ≡ true →
-    All (λ step. says_goodbye its.next.setup.ssrc step ≡ false) wait.next.outcome.trace
-no_bye_of wait its =
-    let ssrc = its.next.setup.ssrc in
+pub no_bye_of : (ssrc : ℕ) (trace : List TraceStep) → takes_no_bye ssrc trace ≡ true →
+    All (λ step. says_goodbye ssrc step ≡ false) trace
+no_bye_of ssrc trace =
     each (λ (step : TraceStep). not (says_goodbye ssrc step)) (λ (step : TraceStep). says_goodbye ssrc step ≡ false)
-    (λ step. not_so (says_goodbye ssrc step)) wait.next.outcome.trace
+    (λ step. not_so (says_goodbye ssrc step)) trace
 
 pub kept_of : (wait its : Wait) → keeps wait its ≡ true →
     IsKept wait.next.setup.capacity its.next.setup.ssrc wait.next.outcome.trace
 kept_of wait its is =
-    let parts = and_parts (always_room wait its) (never_drops wait its && takes_no_bye wait its) is in
-    let more = and_parts (never_drops wait its) (takes_no_bye wait its) parts.1 in
+    let capacity = wait.next.setup.capacity in
+    let ssrc = its.next.setup.ssrc in
+    let trace = wait.next.outcome.trace in
+    let parts = and_parts (has_room_for wait its) (never_drops_it wait its && takes_no_bye_of wait its) is in
+    let more = and_parts (never_drops_it wait its) (takes_no_bye_of wait its) parts.1 in
     record {
-      room = room_of wait its parts.0;
-      never_silent = never_dropped_of wait its more.0;
-      no_bye = no_bye_of wait its more.1;
+      room = room_of capacity ssrc trace parts.0;
+      never_silent = never_dropped_of capacity ssrc trace more.0;
+      no_bye = no_bye_of ssrc trace more.1;
     }
 
 pub role_of : (wait its : Wait) → knows_role wait its ≡ true →

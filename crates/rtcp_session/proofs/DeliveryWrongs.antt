@@ -19,7 +19,7 @@ use Rattle.rtcp_session.specs.Deliveries.{least_wait, carried_after, IsCountedAf
 use Rattle.rtcp_session.proofs.CrowdRows.{setup_of, named_came, joined_with, terms, pair, stands, each}
 use Rattle.rtcp_session.proofs.WaitRows.{bandwidths, average_of_pair, unaware, average_of_unaware}
 use Rattle.rtcp_session.proofs.WrongRows.{who_is_deaf, four, one_in_four}
-use Rattle.rtcp_session.proofs.DeliveryRows.{not_so, comes, HeardBefore, comes_of, always_room, never_drops, takes_no_bye, keeps, differs, knows_role, room_of, never_dropped_of, no_bye_of, kept_of, role_of, EachOther, each_two_of, delivered_of, counted_after_of}
+use Rattle.rtcp_session.proofs.DeliveryRows.{not_so, comes, HeardBefore, comes_of, has_room_for, never_drops_it, takes_no_bye_of, keeps, differs, knows_role, room_of, never_dropped_of, no_bye_of, kept_of, role_of, EachOther, each_two_of, delivered_of, counted_after_of}
 
 -- ---- Members
 
@@ -33,11 +33,7 @@ without_room : ((capacity rate ssrc : ℕ) (trace : List TraceStep) → is_named
     is_such is_member (entry_at capacity rate trace ssrc) ≡ true) → ⊥
 without_room law =
     both_ways (is_such is_member (entry_at 1 8000 two_named 2)) refl
-    (law 1 8000 2 two_named refl (each (λ (past : List TraceStep). not (is_dropped 1 2 past))
-    (λ (past : List TraceStep). is_dropped 1 2 past ≡ false) (λ past. not_so (is_dropped 1 2 past))
-    (pasts_of two_named) refl)
-    (each (λ (step : TraceStep). not (says_goodbye 2 step)) (λ (step : TraceStep). says_goodbye 2 step ≡ false)
-    (λ step. not_so (says_goodbye 2 step)) two_named refl))
+    (law 1 8000 2 two_named refl (never_dropped_of 1 2 two_named refl) (no_bye_of 2 two_named refl))
 
 -- one that is silent for too long is none,
 abbrev fell_silent : List TraceStep
@@ -49,10 +45,7 @@ without_hearing : ((capacity rate ssrc : ℕ) (trace : List TraceStep) → is_na
     is_such is_member (entry_at capacity rate trace ssrc) ≡ true) → ⊥
 without_hearing law =
     both_ways (is_such is_member (entry_at 8 8000 fell_silent 1)) refl
-    (law 8 8000 1 fell_silent refl (each (has_room 8 1) (λ (past : List TraceStep). has_room 8 1 past ≡ true)
-    (λ past is. is) (pasts_of fell_silent) refl)
-    (each (λ (step : TraceStep). not (says_goodbye 1 step)) (λ (step : TraceStep). says_goodbye 1 step ≡ false)
-    (λ step. not_so (says_goodbye 1 step)) fell_silent refl))
+    (law 8 8000 1 fell_silent refl (room_of 8 1 fell_silent refl) (no_bye_of 1 fell_silent refl))
 
 -- nor one that said goodbye,
 abbrev said_goodbye : List TraceStep
@@ -64,11 +57,7 @@ without_staying : ((capacity rate ssrc : ℕ) (trace : List TraceStep) → is_na
     is_such is_member (entry_at capacity rate trace ssrc) ≡ true) → ⊥
 without_staying law =
     both_ways (is_such is_member (entry_at 8 8000 said_goodbye 1)) refl
-    (law 8 8000 1 said_goodbye refl (each (has_room 8 1) (λ (past : List TraceStep). has_room 8 1 past ≡ true)
-    (λ past is. is) (pasts_of said_goodbye) refl)
-    (each (λ (past : List TraceStep). not (is_dropped 8 1 past))
-    (λ (past : List TraceStep). is_dropped 8 1 past ≡ false) (λ past. not_so (is_dropped 8 1 past))
-    (pasts_of said_goodbye) refl))
+    (law 8 8000 1 said_goodbye refl (room_of 8 1 said_goodbye refl) (never_dropped_of 8 1 said_goodbye refl))
 
 -- nor one that was only heard.
 abbrev only_heard : List TraceStep
@@ -79,14 +68,9 @@ without_name : ((capacity rate ssrc : ℕ) (trace : List TraceStep) → IsKept c
 without_name law =
     both_ways (is_such is_member (entry_at 8 8000 only_heard 1)) refl
     (law 8 8000 1 only_heard (record {
-      room = each (has_room 8 1) (λ (past : List TraceStep). has_room 8 1 past ≡ true) (λ past is. is)
-          (pasts_of only_heard) refl;
-      never_silent = each (λ (past : List TraceStep). not (is_dropped 8 1 past))
-          (λ (past : List TraceStep). is_dropped 8 1 past ≡ false) (λ past. not_so (is_dropped 8 1 past))
-          (pasts_of only_heard) refl;
-      no_bye = each (λ (step : TraceStep). not (says_goodbye 1 step))
-          (λ (step : TraceStep). says_goodbye 1 step ≡ false)
-          (λ step. not_so (says_goodbye 1 step)) only_heard refl;
+      room = room_of 8 1 only_heard refl;
+      never_silent = never_dropped_of 8 1 only_heard refl;
+      no_bye = no_bye_of 1 only_heard refl;
     }))
 
 -- Two packets in a row make a sender.
@@ -286,16 +270,16 @@ record Dropped (joined : Joined) (wait its : Wait) : Type 0 where
   no_bye : All (λ step. says_goodbye its.next.setup.ssrc step ≡ false) wait.next.outcome.trace
 
 abbrev dropped : Joined → (wait its : Wait) → Bool
-dropped joined wait its = unkept joined wait its && (always_room wait its && takes_no_bye wait its)
+dropped joined wait its = unkept joined wait its && (has_room_for wait its && takes_no_bye_of wait its)
 
 dropped_of : (joined : Joined) (wait its : Wait) → dropped joined wait its ≡ true → Dropped joined wait its
 dropped_of joined wait its is =
-    let parts = and_parts (unkept joined wait its) (always_room wait its && takes_no_bye wait its) is in
-    let more = and_parts (always_room wait its) (takes_no_bye wait its) parts.1 in
+    let parts = and_parts (unkept joined wait its) (has_room_for wait its && takes_no_bye_of wait its) is in
+    let more = and_parts (has_room_for wait its) (takes_no_bye_of wait its) parts.1 in
     record {
       rest = unkept_of joined wait its parts.0;
-      room = room_of wait its more.0;
-      no_bye = no_bye_of wait its more.1;
+      room = room_of wait.next.setup.capacity its.next.setup.ssrc wait.next.outcome.trace more.0;
+      no_bye = no_bye_of its.next.setup.ssrc wait.next.outcome.trace more.1;
     }
 
 abbrev drops_two : (ssrc one another third : ℕ) → Joined
@@ -325,16 +309,16 @@ record TookBye (joined : Joined) (wait its : Wait) : Type 0 where
       (pasts_of wait.next.outcome.trace)
 
 abbrev took_bye : Joined → (wait its : Wait) → Bool
-took_bye joined wait its = unkept joined wait its && (always_room wait its && never_drops wait its)
+took_bye joined wait its = unkept joined wait its && (has_room_for wait its && never_drops_it wait its)
 
 took_bye_of : (joined : Joined) (wait its : Wait) → took_bye joined wait its ≡ true → TookBye joined wait its
 took_bye_of joined wait its is =
-    let parts = and_parts (unkept joined wait its) (always_room wait its && never_drops wait its) is in
-    let more = and_parts (always_room wait its) (never_drops wait its) parts.1 in
+    let parts = and_parts (unkept joined wait its) (has_room_for wait its && never_drops_it wait its) is in
+    let more = and_parts (has_room_for wait its) (never_drops_it wait its) parts.1 in
     record {
       rest = unkept_of joined wait its parts.0;
-      room = room_of wait its more.0;
-      never_silent = never_dropped_of wait its more.1;
+      room = room_of wait.next.setup.capacity its.next.setup.ssrc wait.next.outcome.trace more.0;
+      never_silent = never_dropped_of wait.next.setup.capacity its.next.setup.ssrc wait.next.outcome.trace more.1;
     }
 
 abbrev bye_came : (moment ssrc : ℕ) → Act

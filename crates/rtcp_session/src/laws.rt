@@ -1,7 +1,7 @@
 //! Laws of what several participants of a session send together. Each is an empty function whose postcondition is
 //! the law.
 
-ghost use Rattle.std.specs.Prelude.{◌≡◌, ◌≤◌, ℕ, ◌+◌, ◌-◌, ◌*◌, ◌/◌, true, false, nat_le, not, List, map, filter, All, length, Result};
+ghost use Rattle.std.specs.Prelude.{◌≡◌, ◌≤◌, ℕ, ◌+◌, ◌-◌, ◌*◌, ◌/◌, false, nat_le, not, List, map, filter, All, length, Result};
 ghost use Rattle.std.specs.List.{sum_by};
 ghost use Rattle.rtcp_wire.specs.declared.fault.WireFault.{WireFault};
 ghost use Rattle.rtcp_wire.specs.Values.{RtcpPacket};
@@ -15,7 +15,7 @@ ghost use Rattle.rtcp_engine.specs.Outcomes.{Outcome, first_size_of, load_of, on
 ghost use Rattle.rtcp_engine.specs.Histories.{History};
 ghost use Rattle.rtcp_engine.specs.Taken.{IsHistory};
 ghost use Rattle.rtcp_engine.specs.Sent.{reports_in, sent_at};
-ghost use Rattle.rtcp_engine.specs.Spacing.{count_within, HalfPasses};
+ghost use Rattle.rtcp_engine.specs.Spacing.{count_within};
 ghost use Rattle.rtcp_session.specs.Windows.{
   in_window,
   later_ones,
