@@ -1,10 +1,9 @@
 -- Worked rows: sessions whose compounds come within a delay, and what is known of a source by a trace.
-use Rattle.std.proofs.Common.{◌≡◌, ◌==◌, ℕ, zero, suc, ◌+◌, ◌-◌, ◌<◌, ◌≤◌, ◌&&◌, ◌||◌, not, List, [], ◌∷◌, map, nat_le, nat_lt, All, Contains, Bool, true, false, Ok, Err, refl, ap, arith}
+use Rattle.std.proofs.Common.{◌≡◌, ◌==◌, ℕ, zero, suc, ◌+◌, ◌-◌, ◌<◌, ◌&&◌, ◌||◌, not, List, [], ◌∷◌, map, nat_le, nat_lt, All, Contains, Bool, true, false, Ok, Err, refl, ap, arith}
 use Rattle.std.specs.List.{list_all, list_any, AllPairs}
 use Rattle.std.proofs.lemmas.Bool.{and_parts, ltb-true, leb-true, eqb-true, lt-ltb}
 use Rattle.rtcp_wire.specs.declared.fact.Fact.{Fact}
 use Rattle.rtcp_wire.specs.declared.fact.Fact.TheVariants.{Heard, Told, Named, Gone, Media}
-use Rattle.rtcp_wire.specs.Values.{RtcpPacket}
 use Rattle.rtcp_wire.specs.Facts.{facts_of}
 use Rattle.rtcp_members.specs.Traces.{TraceStep}
 use Rattle.rtcp_members.specs.Entries.{entry_at, is_such, is_sender}
@@ -54,74 +53,58 @@ brings moment ssrc start (rtp_sent at timestamp octets) = false
 brings moment ssrc start (ticked at first_word second_word) = false
 brings moment ssrc start (left at word) = false
 
-record Brought (moment ssrc start : ℕ) (acts : List Act) : Type 0 where
-  at : ℕ
-  peer : ℕ
-  word : ℕ
-  size : ℕ
-  packets : List RtcpPacket
-  taken : Contains acts (arrived at peer word (rtcp size (Ok packets)))
-  named : Contains (facts_of packets) (Named ssrc)
-  in_time : start + at ≤ moment
+module _ (moment ssrc : ℕ) (joined : Joined) where
+  -- so far, by the acts up to one of them
+  abbrev up_to : List Act → Joined
+  up_to acts = record joined { history = record joined.history { acts = acts } }
 
-one_brought : (moment ssrc start : ℕ) (act : Act) (earlier : List Act) → brings moment ssrc start act ≡ true →
-    Brought moment ssrc start (act ∷ earlier)
-one_brought moment ssrc start (arrived at peer word (rtcp size (Ok packets))) earlier is =
-    let parts = and_parts (list_any (is_name ssrc) (facts_of packets)) (nat_le (start + at) moment) is in
-    record {
-      at = at;
-      peer = peer;
-      word = word;
-      size = size;
-      packets = packets;
-      taken = (0, omega arith, refl);
-      named = named_in ssrc (facts_of packets) parts.0;
-      in_time = leb-true (start + at) moment parts.1;
-    }
-one_brought moment ssrc start (arrived at peer word (rtcp size (Err fault))) earlier is = absurd cc
-one_brought moment ssrc start (arrived at peer word (rtp reading)) earlier is = absurd cc
-one_brought moment ssrc start (rtp_sent at timestamp octets) earlier is = absurd cc
-one_brought moment ssrc start (ticked at first_word second_word) earlier is = absurd cc
-one_brought moment ssrc start (left at word) earlier is = absurd cc
+  one_brought : (act : Act) (earlier : List Act) → brings moment ssrc joined.start act ≡ true →
+      HasHeard moment ssrc (up_to (act ∷ earlier))
+  one_brought (arrived at peer word (rtcp size (Ok packets))) earlier is =
+      let parts = and_parts (list_any (is_name ssrc) (facts_of packets)) (nat_le (joined.start + at) moment) is in
+      record {
+        at = at;
+        peer = peer;
+        word = word;
+        size = size;
+        packets = packets;
+        taken = (0, omega arith, refl);
+        named = named_in ssrc (facts_of packets) parts.0;
+        in_time = leb-true (joined.start + at) moment parts.1;
+      }
+  one_brought (arrived at peer word (rtcp size (Err fault))) earlier is = absurd cc
+  one_brought (arrived at peer word (rtp reading)) earlier is = absurd cc
+  one_brought (rtp_sent at timestamp octets) earlier is = absurd cc
+  one_brought (ticked at first_word second_word) earlier is = absurd cc
+  one_brought (left at word) earlier is = absurd cc
 
-brought : (moment ssrc start : ℕ) (acts : List Act) → list_any (brings moment ssrc start) acts ≡ true →
-    Brought moment ssrc start acts
-brought moment ssrc start [] is = absurd cc
-brought moment ssrc start (act ∷ earlier) is =
-    by (brings moment ssrc start act) refl is (brought moment ssrc start earlier)
-  where
-    by : (b : Bool) → brings moment ssrc start act ≡ b → (b || list_any (brings moment ssrc start) earlier) ≡ true →
-        (list_any (brings moment ssrc start) earlier ≡ true → Brought moment ssrc start earlier) →
-        Brought moment ssrc start (act ∷ earlier)
-    by true here is rest = one_brought moment ssrc start act earlier here
-    by false here is rest =
-        let found = rest is in
-        record {
-          at = found.at;
-          peer = found.peer;
-          word = found.word;
-          size = found.size;
-          packets = found.packets;
-          taken = later act earlier (arrived found.at found.peer found.word (rtcp found.size (Ok found.packets)))
-              found.taken;
-          named = found.named;
-          in_time = found.in_time;
-        }
+  brought : (acts : List Act) → list_any (brings moment ssrc joined.start) acts ≡ true →
+      HasHeard moment ssrc (up_to acts)
+  brought [] is = absurd cc
+  brought (act ∷ earlier) is =
+      by (brings moment ssrc joined.start act) refl is (brought earlier)
+    where
+      by : (b : Bool) → brings moment ssrc joined.start act ≡ b →
+          (b || list_any (brings moment ssrc joined.start) earlier) ≡ true →
+          (list_any (brings moment ssrc joined.start) earlier ≡ true → HasHeard moment ssrc (up_to earlier)) →
+          HasHeard moment ssrc (up_to (act ∷ earlier))
+      by true here is rest = one_brought act earlier here
+      by false here is rest =
+          let found = rest is in
+          record {
+            at = found.at;
+            peer = found.peer;
+            word = found.word;
+            size = found.size;
+            packets = found.packets;
+            taken = later act earlier
+                (arrived found.at found.peer found.word (rtcp found.size (Ok found.packets))) found.taken;
+            named = found.named;
+            in_time = found.in_time;
+          }
 
-pub heard_of : (moment ssrc : ℕ) (joined : Joined) →
-    list_any (brings moment ssrc joined.start) joined.history.acts ≡ true → HasHeard moment ssrc joined
-heard_of moment ssrc joined is =
-    let found = brought moment ssrc joined.start joined.history.acts is in
-    record {
-      at = found.at;
-      peer = found.peer;
-      word = found.word;
-      size = found.size;
-      packets = found.packets;
-      taken = found.taken;
-      named = found.named;
-      in_time = found.in_time;
-    }
+  pub heard_of : list_any (brings moment ssrc joined.start) joined.history.acts ≡ true → HasHeard moment ssrc joined
+  heard_of is = brought joined.history.acts is
 
 -- ---- Who knows whom
 
