@@ -1,0 +1,9 @@
+mod OctetParts
+mod Packets
+mod Calls
+mod Entering
+mod Rests
+mod BlockWalks
+mod GoodbyeWalks
+mod ItemWalks
+mod SinglePackets

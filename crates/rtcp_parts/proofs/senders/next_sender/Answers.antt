@@ -1,0 +1,19 @@
+-- The walk is over a datagram that is a compound, or its fault is told.
+use Rattle.std.proofs.Common.{Err}
+use Rattle.rtcp_parts.proofs.Calls.{begun_within, gives, refuses}
+use Rattle.rtcp_parts.proofs.senders.next_sender.Goals as goal
+
+pub take_sender-sender-requires : goal.take_sender-sender-requires
+take_sender-sender-requires c = begun_within _ c.args.cursor.now c.in-Ok.at c.in-Ok.ensures.begins
+
+pub returns-in-Err : goal.returns-in-Err
+returns-in-Err c =
+    refuses c.args.datagram.now c.args.cursor.now (Err c.in-Err.fault)
+    (λ packets accepted. absurd (cc (c.in-Err.ensures.accepted packets accepted)))
+    (λ fault first begins. cc (c.in-Err.ensures.refused fault first begins))
+    (λ begun. absurd (cc (c.in-Err.ensures.later begun))) (tt {0})
+
+pub returns : goal.returns
+returns c =
+    gives c.args.datagram.now c.args.cursor.now c.in-Ok.at _ c.in-Ok.ensures.begins _
+    (λ fault first begins. cc (c.in-Ok.ensures.refused fault first begins)) c.take_sender-sender.ensures

@@ -1,0 +1,152 @@
+//! The SDES items of a datagram, one after the other (RFC 3550, 6.5).
+
+ghost use Rattle.std.specs.Prelude.{◌≡◌, ◌≤◌, ◌<◌, ◌+◌, length, true, IfOk, IfSome};
+ghost use Rattle.rtcp_wire.specs.Contents.{packet_items};
+ghost use Rattle.rtcp_wire.specs.Placed.{PlacesItem};
+ghost use Rattle.rtcp_parts.specs.Cursors.{LeavesItems, is_within};
+ghost use Rattle.rtcp_parts.specs.Walks.{Enters, Gives, GoesOn, HasNoItem, Opens, PassesOn, Takes, TakesNext};
+
+use crate::cursor::{Cursor, begun};
+use crate::octets::{ID_SIZE, u32_at};
+use crate::packet::{Wanted, packet_from};
+use rtcp_wire::{PlacedItem, Span, WireFault};
+
+/// Source descriptions with at least one chunk.
+const WITH_CHUNKS: Wanted = Wanted {
+    first: 202,
+    last: 202,
+    least: 1,
+};
+
+/// The next item of a walk over those of all chunks of all source descriptions of a datagram, in their order; `None`
+/// after the last one, and again from then on.
+///
+/// # Errors
+///
+/// The datagram's first fault, where a walk begins over one that is not a compound. The cursor is then left as it was.
+pub fn next_item(datagram: &[u8], cursor: &mut Cursor) -> Result<Option<PlacedItem>, WireFault>
+    ensures gives { Gives packet_items LeavesItems (PlacesItem datagram.now)
+        datagram.now cursor.old cursor.new result }
+    ensures within { IfOk result (λ given. IfSome given (λ item.
+        item.text.place + item.text.size ≤ length datagram.now)) }
+{
+    let mut at = match begun(datagram, cursor) {
+        Ok(at) => at,
+        Err(fault) => return Err(fault),
+    };
+    let item = item_from(datagram, &mut at);
+    *cursor = at;
+    Ok(item)
+}
+
+/// Takes the next item, of this chunk or of a later one.
+fn item_from(datagram: &[u8], cursor: &mut Cursor) -> Option<PlacedItem>
+    requires { is_within (length datagram.now) cursor.old ≡ true }
+    ensures takes { TakesNext packet_items LeavesItems (PlacesItem datagram.now)
+        datagram.now cursor.old cursor.new result }
+    ensures within { IfSome result (λ item. item.text.place + item.text.size ≤ length datagram.now) }
+{
+    'chunks: loop {
+        if let Some(item) = take_item(datagram, cursor) {
+            return Some(item);
+        }
+        if !pass_on(datagram, cursor) {
+            return None;
+        }
+    }
+}
+
+/// Takes the next item of the chunk that a walk is in.
+fn take_item(datagram: &[u8], cursor: &mut Cursor) -> Option<PlacedItem>
+    requires { is_within (length datagram.now) cursor.old ≡ true }
+    ensures takes { Takes packet_items LeavesItems (PlacesItem datagram.now) HasNoItem
+        datagram.now cursor.old cursor.new result }
+    ensures within { IfSome result (λ item. item.text.place + item.text.size ≤ length datagram.now) }
+{
+    if cursor.left == 0 {
+        return None;
+    }
+    let (head, texts) = cursor.rest(datagram).split_at_checked(2)?;
+    if head[0] == 0 {
+        return None;
+    }
+    let (text, _) = texts.split_at_checked(usize::from(head[1]))?;
+    let place = cursor.place as usize + 2;
+    cursor.place += 2 + text.len() as u64;
+    Some(PlacedItem {
+        ssrc: cursor.ssrc,
+        kind: head[0],
+        text: Span {
+            place,
+            size: text.len(),
+        },
+    })
+}
+
+/// Moves a walk that has no more items in its chunk to the next chunk, of this packet or of a later one; or returns
+/// `false`, where there is none.
+fn pass_on(datagram: &[u8], cursor: &mut Cursor) -> bool
+    requires { is_within (length datagram.now) cursor.old ≡ true }
+    ensures { PassesOn packet_items LeavesItems HasNoItem datagram.now cursor.old cursor.new result }
+{
+    *cursor = if cursor.left > 1 {
+        chunk_after(datagram, cursor)
+    } else {
+        description_from(datagram, cursor.next)
+    };
+    cursor.left != 0
+}
+
+/// A walk at the chunk after the one that has no more items. Its zero octet is followed by what is left of a word.
+fn chunk_after(datagram: &[u8], cursor: &Cursor) -> Cursor
+    requires within { is_within (length datagram.now) cursor.now ≡ true }
+    requires others { 1 < cursor.now.left }
+    ensures { GoesOn packet_items LeavesItems HasNoItem datagram.now cursor.now result }
+{
+    if cursor.place == cursor.end {
+        return Cursor::ended(datagram.len());
+    }
+    let fill = (cursor.end - cursor.place - 1) % 4;
+    let chunk = Cursor {
+        place: cursor.place + 1 + fill,
+        left: cursor.left - 1,
+        ..*cursor
+    };
+    opened(datagram, &chunk)
+}
+
+/// A walk at the first chunk of a source description after so many octets, or after the last packet.
+fn description_from(datagram: &[u8], from: u64) -> Cursor
+    requires { from ≤ length datagram.now }
+    ensures { Enters packet_items LeavesItems datagram.now from result }
+{
+    match packet_from(datagram, from as usize, WITH_CHUNKS) {
+        Some(packet) => {
+            let chunk = Cursor {
+                next: packet.next as u64,
+                place: packet.place as u64,
+                end: (packet.place + packet.body.len()) as u64,
+                left: u32::from(packet.count),
+                ssrc: 0,
+            };
+            opened(datagram, &chunk)
+        }
+        None => Cursor::ended(datagram.len()),
+    }
+}
+
+/// A walk at the first item of the first of the chunks that are left.
+fn opened(datagram: &[u8], chunks: &Cursor) -> Cursor
+    requires { is_within (length datagram.now) chunks.now ≡ true }
+    ensures { Opens datagram.now chunks.now result }
+{
+    let rest = chunks.rest(datagram);
+    if rest.len() < ID_SIZE {
+        return Cursor::ended(datagram.len());
+    }
+    Cursor {
+        place: chunks.place + 4,
+        ssrc: u32_at(rest, 0),
+        ..*chunks
+    }
+}

@@ -1,0 +1,35 @@
+//! The parts of an RTCP datagram (RFC 3550, 6.4 to 6.7), one after the other, by a [`Cursor`] that its caller keeps: a
+//! value of plain numbers, for callers that cannot keep an iterator, such as hosts in C. It opens no socket, reads no
+//! clock, draws no random number and does not allocate.
+//!
+//! ```
+//! let datagram = [
+//!     0x80, 0xc9, 0, 1, 0, 0, 0, 7, // a receiver report of source 7, without blocks
+//!     0x81, 0xca, 0, 3, 0, 0, 0, 7, 1, 2, b'a', b'b', 0, 0, 0, 0, // its CNAME, "ab"
+//! ];
+//! let mut cursor = Cursor::default();
+//! while let Ok(Some(item)) = next_item(&datagram, &mut cursor) {
+//!     assert_eq!(rt; (item.ssrc, item.kind, item.text.place, item.text.size), (7, 1, 18, 2));
+//! }
+//! ```
+//!
+//! The first call of a walk tests the whole datagram, and the others trust it: so a walk takes a time that grows with
+//! the octets of the datagram alone. Nothing else rests on that test. Whatever the cursor holds and whatever the octets
+//! are, each call returns, and what it gives lies in the datagram.
+#![tactic(auto)]
+
+mod apps;
+mod blocks;
+mod cursor;
+mod goodbyes;
+mod items;
+mod octets;
+mod packet;
+mod senders;
+
+pub use apps::{PlacedApp, next_app};
+pub use blocks::next_block;
+pub use cursor::Cursor;
+pub use goodbyes::next_goodbye;
+pub use items::next_item;
+pub use senders::{Sender, next_sender};

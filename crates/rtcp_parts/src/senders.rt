@@ -1,0 +1,87 @@
+//! The sender reports of a datagram, one after the other (RFC 3550, 6.4.1).
+
+ghost use Rattle.std.specs.Prelude.{◌≡◌, ◌≤◌, ◌<◌, length, take, true, MatchOption};
+ghost use Rattle.byteorder.specs.Endian.{big_number};
+ghost use Rattle.rtcp_wire.specs.Contents.{packet_senders};
+ghost use Rattle.rtcp_wire.specs.Grammar.{sender_in};
+ghost use Rattle.rtcp_parts.specs.Cursors.{LeavesNone, is_within};
+ghost use Rattle.rtcp_parts.specs.Senders.{ShowsSender};
+ghost use Rattle.rtcp_parts.specs.Walks.{Gives, TakesNext};
+
+use crate::cursor::{Cursor, begun};
+use crate::octets::u32_at;
+use crate::packet::{Wanted, packet_from};
+use byteorder::{BigEndian, ByteOrder};
+use rtcp_wire::WireFault;
+
+/// The octets of a sender report's body before its blocks.
+const SENDER_SIZE: usize = 24;
+
+/// Sender reports.
+const REPORTS: Wanted = Wanted {
+    first: 200,
+    last: 200,
+    least: 0,
+};
+
+/// What a sender report says of its sender (RFC 3550, 6.4.1).
+#[derive(Clone, Copy, Debug, PartialEq, Eq)]
+pub struct Sender {
+    /// The SSRC of the source that sent it.
+    pub ssrc: u32,
+    /// When it was sent, as an NTP timestamp: seconds since 1900 in the upper 32 bits, and 1/2^32 of a second in the
+    /// lower ones.
+    pub ntp: u64,
+    /// The same moment in units of the sender's RTP timestamps.
+    pub rtp: u32,
+    /// How many RTP packets were sent up to then.
+    pub packets: u32,
+    /// How many octets their payloads have, without headers and padding.
+    pub octets: u32,
+}
+
+/// The next sender of a walk over the sender reports of a datagram, in their order; `None` after the last one, and
+/// again from then on.
+///
+/// # Errors
+///
+/// The datagram's first fault, where a walk begins over one that is not a compound. The cursor is then left as it was.
+pub fn next_sender(datagram: &[u8], cursor: &mut Cursor) -> Result<Option<Sender>, WireFault>
+    ensures { Gives packet_senders LeavesNone ShowsSender datagram.now cursor.old cursor.new result }
+{
+    let mut at = match begun(datagram, cursor) {
+        Ok(at) => at,
+        Err(fault) => return Err(fault),
+    };
+    let sender = take_sender(datagram, &mut at);
+    *cursor = at;
+    Ok(sender)
+}
+
+/// Takes the sender of the next sender report.
+fn take_sender(datagram: &[u8], cursor: &mut Cursor) -> Option<Sender>
+    requires { is_within (length datagram.now) cursor.old ≡ true }
+    ensures { TakesNext packet_senders LeavesNone ShowsSender datagram.now cursor.old cursor.new result }
+{
+    let next = cursor.next as usize;
+    *cursor = Cursor::ended(datagram.len());
+    let packet = packet_from(datagram, next, REPORTS)?;
+    let sender = sender_from(packet.body)?;
+    *cursor = Cursor::ended(packet.next);
+    Some(sender)
+}
+
+/// The sender that a sender report's body begins with.
+fn sender_from(body: &[u8]) -> Option<Sender>
+    ensures { MatchOption result (length body.now < 24)
+        (λ sender. (24 ≤ length body.now) × ShowsSender (sender_in (take 24 body.now)) sender) }
+{
+    let (octets, _) = body.split_at_checked(SENDER_SIZE)?;
+    Some(Sender {
+        ssrc: u32_at(octets, 0),
+        ntp: BigEndian::read_u64(octets.split_at(4).1),
+        rtp: u32_at(octets, 12),
+        packets: u32_at(octets, 16),
+        octets: u32_at(octets, 20),
+    })
+}
