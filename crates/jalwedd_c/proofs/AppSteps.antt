@@ -6,7 +6,8 @@ use Rattle.rtcp_wire.specs.Grammar.{Joins, IsSpelling, body_of, padding_of, size
 use Rattle.rtcp_wire.specs.Placed.{IsRest, StandsIn}
 use Rattle.rtcp_wire.specs.Values.{RtcpPacket, app}
 use Rattle.jalwedd_c.specs.declared.app.AppPlace.{AppPlace}
-use Rattle.jalwedd_c.specs.Apps.{AppValue, SaysApp, ShowsApp, all_apps, packet_apps}
+use Rattle.rtcp_parts.specs.Apps.{AppValue, all_apps, packet_apps}
+use Rattle.jalwedd_c.specs.Apps.{SaysApp, ShowsApp}
 use Rattle.jalwedd_c.proofs.Options.{some_same}
 
 -- ---- Sizes

@@ -7,5 +7,8 @@ mod Never
 mod Ranges
 mod Turns
 mod Held
+mod Serving
+mod Refusing
 mod HeadPlaces
 mod AppSteps
+mod Walking

@@ -1,6 +1,5 @@
 -- 2^64 - 1 stands for no moment, and for nothing else.
-use Rattle.std.proofs.Common.{◌≡◌, ◌↔◌, ◌≤◌, ◌<◌, ◌-◌, ◌^◌, ℕ, Option, Some, None, IfSome, refl, sym, subst, ◌∙◌, arith}
-use Rattle.rtcp_source.specs.Summary.{ToldValue}
+use Rattle.std.proofs.Common.{◌≡◌, ◌↔◌, ◌≤◌, ◌<◌, ◌+◌, ◌-◌, ◌^◌, ℕ, Option, Some, None, IfSome, refl, sym, subst, ◌∙◌, arith}
 use Rattle.rtcp_members.specs.Told.{StateValue}
 use Rattle.rtcp_members.proofs.LawLemmas as tables
 use Rattle.rtcp_engine.specs.Histories.{History, last_moment, life_at, setup_at}
@@ -16,19 +15,19 @@ use Rattle.jalwedd_c.proofs.Options.{some_same}
 
 -- ---- Moments of taken calls
 
-pub in_range : {A : Type 0} (moment : A → ℕ) (latest : ℕ) (known : Option A) → latest ≤ 2 ^ 50 →
-    IfSome known (λ x. moment x ≤ latest) → IfSome known (λ x. moment x < 2 ^ 64 - 1)
-in_range moment latest None range past = tt
-in_range moment latest (Some x) range past = omega (arith, range, past)
+pub in_range : {A : Type 0} (start : ℕ) (moment : A → ℕ) (latest : ℕ) (known : Option A) → start < 2 ^ 63 →
+    latest ≤ 2 ^ 50 → IfSome known (λ x. moment x ≤ latest) → IfSome known (λ x. start + moment x < 2 ^ 64 - 1)
+in_range start moment latest None low range past = tt
+in_range start moment latest (Some x) low range past = omega (arith, low, range, past)
 
 -- ---- What stands for none
 
 -- a moment is told of what is known, and else this one
-or_never : {A : Type 0} (moment : A → ℕ) (shown : Option A → ℕ) (known : Option A) (n : ℕ) → shown None ≡ 2 ^ 64 - 1 →
-    ((x : A) → shown (Some x) ≡ moment x) → n ≡ shown known → IfSome known (λ x. moment x < 2 ^ 64 - 1) →
-    (n ≡ 2 ^ 64 - 1) ↔ (known ≡ None)
-or_never moment shown None n none some is before = (λ never. refl, λ same. is ∙ none)
-or_never moment shown (Some x) n none some is before =
+or_never : {A : Type 0} (start : ℕ) (moment : A → ℕ) (shown : Option A → ℕ) (known : Option A) (n : ℕ) →
+    shown None ≡ 2 ^ 64 - 1 → ((x : A) → shown (Some x) ≡ start + moment x) → n ≡ shown known →
+    IfSome known (λ x. start + moment x < 2 ^ 64 - 1) → (n ≡ 2 ^ 64 - 1) ↔ (known ≡ None)
+or_never start moment shown None n none some is before = (λ never. refl, λ same. is ∙ none)
+or_never start moment shown (Some x) n none some is before =
     (λ never. absurd (omega (arith, is, some x, never, before)), λ same. absurd cc)
 
 -- ---- What a host is given
@@ -42,16 +41,16 @@ told_once setup after (backing_off outcome backoff) a b one other = one ∙ sym 
 told_once setup after (gone outcome) a b one other = one ∙ sym other
 
 -- So a source that says what is told says whatever may be told.
-pub shows_this : (setup : Setup) (after : Option ℕ) (life : Life) (told state : StateValue) (shown : Source) →
-    TellsInLife setup after life (Some told) → IsShown shown told → TellsInLife setup after life (Some state) →
-    IsShown shown state
-shows_this setup after life told state shown tells shows this =
+pub shows_this : (setup : Setup) (after : Option ℕ) (life : Life) (told state : StateValue) (start : ℕ) (shown : Source)
+    → TellsInLife setup after life (Some told) → IsShown start shown told → TellsInLife setup after life (Some state)
+    → IsShown start shown state
+shows_this setup after life told state start shown tells shows this =
     let same = told_once setup after life (Some told) (Some state) tells this in
-    subst (IsShown shown) (some_same told state same) shows
+    subst (IsShown start shown) (some_same told state same) shows
 
 module _ (history : History) (is : IsHistory history) (after : Option ℕ) (state : StateValue)
     (tells : TellsInLife (setup_at history) after (life_at history) (Some state))
-    (shown : Source) (shows : IsShown shown state) where
+    (start : ℕ) (low : start < 2 ^ 63) (shown : Source) (shows : IsShown start shown state) where
   abbrev latest : ℕ
   latest = last_moment history.acts
 
@@ -60,12 +59,12 @@ module _ (history : History) (is : IsHistory history) (after : Option ℕ) (stat
 
   pub shows_left : (shown.left ≡ 2 ^ 64 - 1) ↔ (state.left ≡ None)
   shows_left =
-      or_never (λ left. left) moment_shown state.left shown.left refl (λ left. refl) shows.left
-      (in_range (λ left. left) latest state.left range
+      or_never start (λ left. left) (moment_shown start) state.left shown.left refl (λ left. refl) shows.left
+      (in_range start (λ left. left) latest state.left low range
       (engine.told_moments_have_passed-left history is after state tells))
 
   pub shows_told : (shown.told ≡ 2 ^ 64 - 1) ↔ (state.told ≡ None)
   shows_told =
-      or_never (λ told. told.moment) (λ told. (told_shown told).moment) state.told shown.told refl (λ told. refl)
-      shows.told (in_range (λ told. told.moment) latest state.told range
+      or_never start (λ told. told.moment) (λ told. (told_shown start told).moment) state.told shown.told refl
+      (λ told. refl) shows.told (in_range start (λ told. told.moment) latest state.told low range
       (engine.told_moments_have_passed-told history is after state tells))

@@ -13,7 +13,8 @@ use Rattle.jalwedd_c.specs.declared.head.HeadPlace.{HeadPlace}
 use Rattle.jalwedd_c.specs.declared.parts.GoodbyePlace.{GoodbyePlace}
 use Rattle.jalwedd_c.specs.declared.parts.ItemPlace.{ItemPlace}
 use Rattle.jalwedd_c.specs.declared.reading.Report.{Report}
-use Rattle.jalwedd_c.specs.Apps.{AppValue, ShowsApp, packet_apps, all_apps}
+use Rattle.rtcp_parts.specs.Apps.{AppValue, packet_apps, all_apps}
+use Rattle.jalwedd_c.specs.Apps.{ShowsApp}
 use Rattle.jalwedd_c.specs.Heads.{ShowsHead}
 use Rattle.jalwedd_c.specs.Parts.{ShowsGoodbye, ShowsItem, ShowsReason}
 use Rattle.jalwedd_c.specs.Readings.{ShowsBlock}

@@ -1,10 +1,11 @@
 -- How answers are told to a host in C: a status, a step, and the octets of a compound.
-use Rattle.std.specs.Prelude.{ℕ, ◌≡◌, ◌↔◌, ◌^◌, ◌-◌, ◌++◌, List, [], length, drop, Bool, true, false, Option, Some, None, Ok, Err, is_some}
+use Rattle.std.specs.Prelude.{ℕ, ◌≡◌, ◌↔◌, ◌^◌, ◌+◌, ◌-◌, ◌++◌, List, [], length, drop, Bool, true, false, Option, Some, None, Ok, Err, is_some}
 use Rattle.rtcp_engine.specs.declared.refusal.Refusal.{Refusal}
 use Rattle.rtcp_engine.specs.declared.refusal.Refusal.TheVariants.{Left, Backwards, TooFar, TooMany, Wire, Rtp, OwnSsrc}
 use Rattle.rtcp_engine.specs.declared.step.OutKind.{OutKind}
 use Rattle.rtcp_engine.specs.declared.step.OutKind.TheVariants.{Report, Bye}
 use Rattle.rtcp_engine.specs.Histories.{History, life_at, setup_at}
+use Rattle.rtcp_engine.specs.Leaving.{Life}
 use Rattle.rtcp_engine.specs.Lives.{entries_in_life, members_in_life, senders_in_life, next_in_life}
 use Rattle.rtcp_engine.specs.Steps.{OutValue, AnswerValue}
 use Rattle.jalwedd_c.specs.declared.showing.Handed.{Handed}
@@ -25,6 +26,10 @@ status_of_refusal OwnSsrc = 7
 abbrev pub status_of : AnswerValue → ℕ
 status_of (Ok step) = 0
 status_of (Err refusal) = status_of_refusal refusal
+
+-- Why a call before the start is refused: the participant has left (E1), or it comes before moment 0 (E2).
+abbrev pub early_refusal : Life → Refusal
+early_refusal life = elim (next_in_life life) [ None ↦ Left | Some next ↦ Backwards ]
 
 -- ---- Compounds
 
@@ -71,18 +76,18 @@ HandsNothing step = (step.kind ≡ 0) × (step.size ≡ 0) × (step.changed ≡ 
 
 -- ---- The participant
 
--- 2^64 - 1 stands for no moment.
-abbrev pub moment_shown : Option ℕ → ℕ
-moment_shown None = 2 ^ 64 - 1
-moment_shown (Some moment) = moment
+-- A moment on the host's clock, which shows `start` at moment 0. 2^64 - 1 stands for no moment.
+abbrev pub moment_shown : (start : ℕ) → Option ℕ → ℕ
+moment_shown start None = 2 ^ 64 - 1
+moment_shown start (Some moment) = start + moment
 
 -- A step says who is there after a history, and when to ask again: 2^64 - 1 exactly where the participant has left, and
 -- there is no moment to ask.
-abbrev pub Shows : Step → History → Type 0
-Shows step history =
+abbrev pub Shows : (start : ℕ) → Step → History → Type 0
+Shows start step history =
     (step.members ≡ members_in_life (setup_at history) (life_at history))
     × (step.senders ≡ senders_in_life (setup_at history) (life_at history))
-    × (step.next ≡ moment_shown (next_in_life (life_at history)))
+    × (step.next ≡ moment_shown start (next_in_life (life_at history)))
     × ((step.next ≡ 2 ^ 64 - 1) ↔ (next_in_life (life_at history) ≡ None))
     × (step.ssrc ≡ (setup_at history).ssrc)
     × (step.entries ≡ entries_in_life (setup_at history) (life_at history))

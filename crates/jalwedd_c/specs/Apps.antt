@@ -1,29 +1,10 @@
 -- How packets that an application defines are told to a host in C (RFC 3550, 6.7).
-use Rattle.std.specs.Prelude.{◌≡◌, ℕ, ◌+◌, List, [], ◌∷◌, flat_map, length}
+use Rattle.std.specs.Prelude.{◌≡◌, ℕ, ◌+◌, List, length}
 use Rattle.rtcp_wire.specs.Grammar.{IsSpelling}
 use Rattle.rtcp_wire.specs.Placed.{StandsIn}
-use Rattle.rtcp_wire.specs.Values.{RtcpPacket, sr, rr, sdes, bye, app, other}
+use Rattle.rtcp_wire.specs.Values.{app}
+use Rattle.rtcp_parts.specs.Apps.{AppValue}
 use Rattle.jalwedd_c.specs.declared.app.AppPlace.{AppPlace}
-
--- what such a packet says: its source, its subtype, its name of four octets, and its data
-pub record AppValue : Type 0 where
-  pub ssrc : ℕ
-  pub subtype : ℕ
-  pub name : List ℕ
-  pub content : List ℕ
-
-abbrev pub packet_apps : RtcpPacket → List AppValue
-packet_apps (sr sender blocks extension) = []
-packet_apps (rr reporter blocks extension) = []
-packet_apps (sdes chunks) = []
-packet_apps (bye ids reason) = []
-packet_apps (app subtype source name content) =
-    record { ssrc = source; subtype = subtype; name = name; content = content } ∷ []
-packet_apps (other kind count body) = []
-
--- what all packets of applications say
-abbrev pub all_apps : List RtcpPacket → List AppValue
-all_apps packets = flat_map packet_apps packets
 
 -- What one says, and where its data stand: after the header, the SSRC and the name of a packet in the datagram that
 -- says so.

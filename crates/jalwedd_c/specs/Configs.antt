@@ -1,5 +1,6 @@
 -- How a host in C configures a participant.
-use Rattle.std.specs.Prelude.{ℕ, nat_le, if◌then◌else◌, not, List, length, map, take, Option, Some, None, option_map}
+use Rattle.std.specs.Prelude.{ℕ, ◌^◌, nat_le, if◌then◌else◌, not, List, length, map, take, Option, Some, None, option_map}
+use Rattle.std.specs.Option.{option_or}
 use Rattle.rtcp_wire.specs.Values.{ItemValue}
 use Rattle.rtcp_engine.specs.declared.config.ConfigError.{ConfigError}
 use Rattle.rtcp_engine.specs.declared.config.ConfigError.TheVariants.{Cname, Capacity, Limit, Bandwidth, Rate, Item}
@@ -40,9 +41,17 @@ oversize cname items =
     else (if not (nat_le (length items) 7) then Some 16
     else None)
 
--- The status of a configuration that is refused, if it is.
-abbrev pub refusal_of : Config → (cname : List ℕ) → List ItemGiven → Option ℕ
-refusal_of config cname items = elim (oversize cname items) [
+-- The status of a setup that is refused, if it is.
+abbrev pub refusal_of_setup : Config → (cname : List ℕ) → List ItemGiven → Option ℕ
+refusal_of_setup config cname items = elim (oversize cname items) [
   | None ↦ option_map status_of_error (error_in (setup_given config cname items))
   | Some status ↦ Some status
 ]
+
+-- C7: a start is below 2^63.
+abbrev pub refusal_of_start : (start : ℕ) → Option ℕ
+refusal_of_start start = if nat_le (2 ^ 63) start then Some 17 else None
+
+-- The status of a configuration that is refused, if it is: the first that applies.
+abbrev pub refusal_of : Config → (cname : List ℕ) → List ItemGiven → Option ℕ
+refusal_of config cname items = option_or (refusal_of_setup config cname items) (refusal_of_start config.start)

@@ -1,13 +1,20 @@
 -- What a handle holds: a participant, or nothing.
-use Rattle.std.specs.Prelude.{Option, Some, None}
+use Rattle.std.specs.Prelude.{ℕ, ◌≡◌, ◌<◌, ◌^◌, Option, Some, None}
 use Rattle.rtcp_engine.specs.Histories.{History}
 use Rattle.rtcp_engine.specs.States.{StandsAt, KeepsCapacity}
 use Rattle.jalwedd_c.specs.declared.session.Session.{Session}
 
--- Its participant equals the one computed from a whole history.
-abbrev pub LeadsTo : Option Session → History → Type 0
-LeadsTo None history = ⊥
-LeadsTo (Some session) history = StandsAt session.participant history
+-- The participant of a session equals the one computed from a whole history, whose moments the session counts from this
+-- start: the host's clock at moment 0, in microseconds.
+pub record Leads (session : Session) (start : ℕ) (history : History) : Type 0 where
+  pub stands : StandsAt session.participant history
+  pub counts : session.start ≡ start
+  pub range : start < 2 ^ 63
+
+-- A handle holds such a session.
+abbrev pub LeadsTo : Option Session → (start : ℕ) → History → Type 0
+LeadsTo None start history = ⊥
+LeadsTo (Some session) start history = Leads session start history
 
 -- The table of its participant holds no more sources than it may.
 abbrev pub KeepsWithin : Option Session → Type 0

@@ -8,5 +8,6 @@ pub mod Readings
 pub mod Parts
 pub mod Heads
 pub mod Apps
+pub mod Walks
 pub mod Sources
 pub mod Changes

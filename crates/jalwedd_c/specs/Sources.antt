@@ -1,5 +1,5 @@
 -- How a source is told to a host in C.
-use Rattle.std.specs.Prelude.{ℕ, ◌≡◌, ◌-◌, ◌^◌, min, pos, Option, Some, None, is_some, if◌then◌else◌, ◌==◌}
+use Rattle.std.specs.Prelude.{ℕ, ◌≡◌, ◌+◌, ◌-◌, ◌^◌, min, pos, Option, Some, None, is_some, if◌then◌else◌, ◌==◌}
 use Rattle.rtcp_source.specs.declared.reception.Reception.{Reception}
 use Rattle.rtcp_source.specs.declared.reception.Told.{Told}
 use Rattle.rtcp_source.specs.Summary.{ToldValue}
@@ -21,9 +21,9 @@ abbrev pub reception_shown : Option ReceptionValue → ReceptionValue
 reception_shown None = none_received
 reception_shown (Some reception) = reception
 
-abbrev pub told_shown : Option ToldValue → ToldValue
-told_shown None = record { ntp = 0; rtp = 0; moment = 2 ^ 64 - 1 }
-told_shown (Some told) = told
+abbrev pub told_shown : (start : ℕ) → Option ToldValue → ToldValue
+told_shown start None = record { ntp = 0; rtp = 0; moment = 2 ^ 64 - 1 }
+told_shown start (Some told) = record told { moment = start + told.moment }
 
 abbrev pub block_shown : Option LastBlockValue → LastBlockValue
 block_shown None = record { fraction = 0; highest = 0 }
@@ -37,11 +37,11 @@ IsReceived shown reception =
     × (shown.highest ≡ (reception_shown reception).highest)
     × (shown.jitter ≡ (reception_shown reception).jitter)
 
-abbrev pub IsLastTold : Told → Option ToldValue → Type 0
-IsLastTold shown told =
-    (shown.ntp ≡ (told_shown told).ntp)
-    × (shown.rtp ≡ (told_shown told).rtp)
-    × (shown.moment ≡ (told_shown told).moment)
+abbrev pub IsLastTold : (start : ℕ) → Told → Option ToldValue → Type 0
+IsLastTold start shown told =
+    (shown.ntp ≡ (told_shown start told).ntp)
+    × (shown.rtp ≡ (told_shown start told).rtp)
+    × (shown.moment ≡ (told_shown start told).moment)
 
 abbrev pub IsBlockShown : BlockShown → Option LastBlockValue → Type 0
 IsBlockShown shown block =
@@ -49,26 +49,26 @@ IsBlockShown shown block =
     × (shown.fraction ≡ (block_shown block).fraction)
     × (shown.highest ≡ (block_shown block).highest)
 
--- A source says what is known of it.
-pub record IsShown (shown : Source) (state : StateValue) : Type 0 where
+-- A source says what is known of it, with its moments on the host's clock, which shows `start` at moment 0.
+pub record IsShown (start : ℕ) (shown : Source) (state : StateValue) : Type 0 where
   pub ssrc : shown.ssrc ≡ state.ssrc
   pub member : shown.member ≡ one_if state.member
   pub sender : shown.sender ≡ one_if state.sender
-  pub heard : shown.heard ≡ state.heard
-  pub left : shown.left ≡ moment_shown state.left
+  pub heard : shown.heard ≡ start + state.heard
+  pub left : shown.left ≡ moment_shown start state.left
   pub received : shown.received ≡ (reception_shown state.reception).received
   pub octets : shown.octets ≡ (reception_shown state.reception).octets
   pub lost : shown.lost ≡ (reception_shown state.reception).lost
   pub highest : shown.highest ≡ (reception_shown state.reception).highest
   pub jitter : shown.jitter ≡ (reception_shown state.reception).jitter
-  pub ntp : shown.ntp ≡ (told_shown state.told).ntp
-  pub told : shown.told ≡ (told_shown state.told).moment
-  pub rtp : shown.rtp ≡ (told_shown state.told).rtp
+  pub ntp : shown.ntp ≡ (told_shown start state.told).ntp
+  pub told : shown.told ≡ (told_shown start state.told).moment
+  pub rtp : shown.rtp ≡ (told_shown start state.told).rtp
   pub has_block : shown.has_block ≡ one_if (is_some state.last_block)
   pub fraction : shown.fraction ≡ (block_shown state.last_block).fraction
   pub block_highest : shown.block_highest ≡ (block_shown state.last_block).highest
 
 -- A status and a source say what is told: 0 and what is known of a source; or 9, and the source is as it was.
-abbrev pub ShowsSource : (status : ℕ) (before after : Source) → Option StateValue → Type 0
-ShowsSource status before after None = (status ≡ 9) × (after ≡ before)
-ShowsSource status before after (Some state) = (status ≡ 0) × IsShown after state
+abbrev pub ShowsSource : (start status : ℕ) (before after : Source) → Option StateValue → Type 0
+ShowsSource start status before after None = (status ≡ 9) × (after ≡ before)
+ShowsSource start status before after (Some state) = (status ≡ 0) × IsShown start after state

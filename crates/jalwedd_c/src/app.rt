@@ -4,7 +4,8 @@ ghost use Rattle.std.specs.Prelude.{◌≡◌, ◌+◌, ◌≤◌, drop, length}
 ghost use Rattle.rtcp_wire.specs.Grammar.{IsAccepted, size_of};
 ghost use Rattle.rtcp_wire.specs.Placed.{GivesAt, IsFound};
 ghost use Rattle.rtcp_wire.specs.Views.{packet_value};
-ghost use Rattle.jalwedd_c.specs.Apps.{SaysApp, ShowsApp, all_apps, packet_apps};
+ghost use Rattle.rtcp_parts.specs.Apps.{all_apps, packet_apps};
+ghost use Rattle.jalwedd_c.specs.Apps.{SaysApp, ShowsApp};
 ghost use Rattle.jalwedd_c.specs.Parts.{Locates};
 
 use crate::status::{NO_COMPOUND, NO_PART, TAKEN};
@@ -31,6 +32,9 @@ pub struct AppPlace {
 
 /// Tells of the packets of applications in a datagram, in their order, the one at `index`, from 0 on, and where its
 /// data stand. Ask with 0, 1, .. until the status is not 0. Else `app` is left as it is.
+///
+/// Each call reads the datagram from its start: to read all parts so takes a time that grows with the square of its
+/// octets. `jalwedd_next_app` reads it once.
 ///
 /// Statuses: 0; 5 where the datagram is not a compound; 8 where it has no such packet.
 #[unsafe(no_mangle)]

@@ -1,29 +1,29 @@
 //! The begin of a participant, and its end.
 
-ghost use Rattle.std.specs.Prelude.{◌≡◌, ◌≢◌, ◌⊎◌, Some, None};
+ghost use Rattle.std.specs.Prelude.{◌≡◌, ◌≢◌, ◌⊎◌, ℕ, Some, None};
 ghost use Rattle.rtcp_engine.specs.Histories.{History};
-ghost use Rattle.rtcp_engine.specs.States.{StandsAt};
 ghost use Rattle.rtcp_engine.specs.Taken.{begun};
 ghost use Rattle.jalwedd_c.specs.Answers.{HandsNothing, Shows};
 ghost use Rattle.jalwedd_c.specs.Configs.{refusal_of, setup_given};
+ghost use Rattle.jalwedd_c.specs.Handles.{Leads};
 ghost use Rattle.jalwedd_c.specs.Promises.{AnswersLive, AnswersVacant, Begins};
 
-use crate::config::{Config, Item, blank, fill};
+use crate::config::{Config, Item, START_LIMIT, blank, fill};
 use crate::handle::Handle;
 use crate::session::Session;
 use crate::showing::Handed;
-use crate::status::{EMPTY, LIVE, NO_MEMORY, TAKEN, of_error};
+use crate::status::{EMPTY, LIVE, NO_MEMORY, START, TAKEN, of_error};
 use crate::step::Step;
 use rtcp_engine::Participant;
 use rtcp_members::HeapTable;
 use std::alloc::Global;
 
-/// Puts a participant of a session that begins now, at moment 0, into an empty handle. `word` is a random word, for the
-/// draw of the first interval. Call `jalwedd_tick` at the step's `next`. This call alone takes memory, in two blocks:
-/// 144 octets for each source of the capacity, and 2,560.
+/// Puts a participant of a session that begins now, when the host's clock shows the configuration's `start`, into an
+/// empty handle. `word` is a random word, for the draw of the first interval. Call `jalwedd_tick` at the step's `next`.
+/// This call alone takes memory, in two blocks: 144 octets for each source of the capacity, and 2,568.
 ///
-/// Statuses: 0; 21 where the handle holds a participant, which is then the one that the step tells of; 11 to 16 by the
-/// first of C1 to C6 that applies, where a CNAME of more than 255 octets and more than 7 items are tested before the
+/// Statuses: 0; 21 where the handle holds a participant, which is then the one that the step tells of; 11 to 17 by the
+/// first of C1 to C7 that applies, where a CNAME of more than 255 octets and more than 7 items are tested before the
 /// others; 22.
 #[unsafe(no_mangle)]
 pub extern "C" fn jalwedd_new(
@@ -36,7 +36,8 @@ pub extern "C" fn jalwedd_new(
     step: &mut Step,
 ) -> u32
     ensures begins { result ≡ 0 →
-        Begins (begun (setup_given config.now cname.now items.now) word) handle.new.owned.held step.new }
+        Begins config.now.start (begun (setup_given config.now cname.now items.now) word)
+        handle.new.owned.held step.new }
     ensures vacant { handle.old.owned.held ≡ None →
         AnswersVacant (refusal_of config.now cname.now items.now) handle.new.owned.held result step.new }
     ensures live { AnswersLive handle.old.owned.held result step.new }
@@ -56,16 +57,18 @@ pub extern "C" fn jalwedd_new(
     if let Some(error) = given.error() {
         return of_error(error);
     }
+    if config.start >= START_LIMIT {
+        return START;
+    }
     let table = match HeapTable::with_room(alloc, given.capacity, given.rate) {
         Ok(table) => table,
         Err(_) => return NO_MEMORY,
     };
-    begin(
-        alloc,
-        handle,
-        Participant::with_table(given, table, word),
-        step,
-    )
+    let session = Session {
+        participant: Participant::with_table(given, table, word),
+        start: config.start,
+    };
+    begin(alloc, handle, session, step)
 }
 
 /// Frees the participant of a handle, which is empty then: it is told nothing of it, and nothing goes out.
@@ -83,22 +86,18 @@ pub extern "C" fn jalwedd_free(alloc: Global, handle: &mut Handle) -> u32
     }
 }
 
-/// Puts a participant into an empty handle.
-fn begin(
-    alloc: Global,
-    handle: &mut Handle,
-    participant: Participant<HeapTable>,
-    step: &mut Step,
-) -> u32
+/// Puts a session into an empty handle.
+fn begin(alloc: Global, handle: &mut Handle, session: Session, step: &mut Step) -> u32
     requires { handle.old.owned.held ≡ None }
-    ensures begun { result ≡ 0 → handle.new.owned.held ≡ Some (record { participant = participant }) }
-    ensures shows { (history : History) → StandsAt participant history → result ≡ 0 → Shows step.new history }
+    ensures begun { result ≡ 0 → handle.new.owned.held ≡ Some session }
+    ensures shows { (start : ℕ) (history : History) → Leads session start history → result ≡ 0 →
+        Shows start step.new history }
     ensures untouched { result ≢ 0 → step.new ≡ step.old }
     ensures nothing_handed { result ≡ 0 → HandsNothing step.new }
     ensures status { (result ≡ 0) ⊎ (result ≡ 22) }
     ensures kept { result ≢ 0 → handle.new.owned.held ≡ None }
 {
-    match Box::new(alloc, Session { participant }) {
+    match Box::new(alloc, session) {
         Ok(session) => {
             *step = session.step(Handed::nothing(TAKEN));
             handle.put(session);

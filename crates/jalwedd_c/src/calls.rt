@@ -1,6 +1,7 @@
-//! The calls of a session: what came, what was sent, what time it is, and the leave.
+//! The calls of a session: what came, what was sent, what time it is, and the leave. Each is told what the host's clock
+//! shows, and counts from the start.
 
-ghost use Rattle.std.specs.Prelude.{◌≡◌, ◌≢◌, ◌≤◌, ◌<◌, List, Some, None, Result, length};
+ghost use Rattle.std.specs.Prelude.{◌≡◌, ◌≢◌, ◌≤◌, ◌<◌, ◌+◌, ℕ, List, Some, None, Result, length};
 ghost use Rattle.rtcp_wire.specs.declared.fault.WireFault.{WireFault as FirstFault};
 ghost use Rattle.rtcp_wire.specs.declared.rtp.fault.RtpFault.{RtpFault as HeadFault};
 ghost use Rattle.rtcp_wire.specs.Values.{RtcpPacket};
@@ -8,10 +9,9 @@ ghost use Rattle.rtcp_wire.specs.RtpHeads.{RtpValue};
 ghost use Rattle.rtcp_engine.specs.Acts.{rtcp_came, rtp_came, rtp_sent, ticked, left, IsReading, IsRtpReading};
 ghost use Rattle.rtcp_engine.specs.Histories.{History};
 ghost use Rattle.rtcp_engine.specs.InTime.{IsOverdue};
-ghost use Rattle.rtcp_engine.specs.States.{StandsAt};
 ghost use Rattle.jalwedd_c.specs.Answers.{IsBlank};
-ghost use Rattle.jalwedd_c.specs.Handles.{KeepsWithin, LeadsTo};
-ghost use Rattle.jalwedd_c.specs.Promises.{Serves, Spares, TurnsAway};
+ghost use Rattle.jalwedd_c.specs.Handles.{KeepsWithin, Leads, LeadsTo};
+ghost use Rattle.jalwedd_c.specs.Promises.{ComesEarly, Serves, Spares, TurnsAway};
 
 use crate::handle::Handle;
 use crate::session::Session;
@@ -23,11 +23,12 @@ use std::alloc::Global;
 /// The most octets of a UDP datagram.
 pub(crate) const LONGEST: usize = 65_535;
 
-/// An RTCP datagram came at the moment `now`, in microseconds since the session began, with the octets that UDP
-/// carried, at most 65,535. `peer` is a number for where it came from, which two peers do not share, and `word` a
-/// random word for a new SSRC (RFC 3550, 8.2).
+/// An RTCP datagram came when the host's clock showed `now`, in microseconds, with the octets that UDP carried, at most
+/// 65,535. `peer` is a number for where it came from, which two peers do not share, and `word` a random word for a new
+/// SSRC (RFC 3550, 8.2).
 ///
-/// Statuses: 0; 1 to 5 and 7, by the first of E1 to E5 and E7 that applies; 20 where the handle is empty.
+/// Statuses: 0; 1 to 5 and 7, by the first of E1 to E5 and E7 that applies, where a call before the start is refused
+/// by E1 or E2; 20 where the handle is empty.
 #[unsafe(no_mangle)]
 pub extern "C" fn jalwedd_arrive_rtcp(
     alloc: Global,
@@ -39,18 +40,23 @@ pub extern "C" fn jalwedd_arrive_rtcp(
     step: &mut Step,
     octets: &mut [u8; 1472],
 ) -> u32
-    ensures serves { (history : History) (reading : Result (List RtcpPacket) FirstFault) →
-        LeadsTo handle.old.owned.held history → IsReading datagram.now reading →
-        Serves history (rtcp_came now peer word datagram.now reading)
+    ensures serves { (start moment : ℕ) (history : History) (reading : Result (List RtcpPacket) FirstFault) →
+        LeadsTo handle.old.owned.held start history → now ≡ start + moment → IsReading datagram.now reading →
+        Serves start history (rtcp_came moment peer word datagram.now reading)
         handle.new.owned.held result step.new octets.old octets.new }
+    ensures early { ComesEarly handle.old.owned.held handle.new.owned.held now result step.new
+        octets.old octets.new }
     ensures spares { Spares handle.old.owned.held handle.new.owned.held result step.new octets.old octets.new }
 {
     let Some(mut session) = handle.take(alloc) else {
         return empty(step);
     };
-    match session.participant.arrive_rtcp_told(now, peer, datagram) {
+    let Some(moment) = session.moment_of(now) else {
+        return handle.put_back_early(session, step);
+    };
+    match session.participant.arrive_rtcp_told(moment, peer, datagram) {
         Some(reply) => handle.put_back(session, &reply, &[], step, octets),
-        None => own_rtcp(handle, session, now, peer, word, datagram, step, octets),
+        None => own_rtcp(handle, session, moment, peer, word, datagram, step, octets),
     }
 }
 
@@ -61,7 +67,7 @@ pub extern "C" fn jalwedd_arrive_rtcp(
 fn own_rtcp(
     handle: &mut Handle,
     mut session: Box<Session>,
-    now: u64,
+    moment: u64,
     peer: u64,
     word: u32,
     datagram: &[u8],
@@ -69,9 +75,9 @@ fn own_rtcp(
     octets: &mut [u8; 1472],
 ) -> u32
     requires { handle.old.owned.held ≡ None }
-    ensures serves { (history : History) (reading : Result (List RtcpPacket) FirstFault) →
-        StandsAt session.value.participant history → IsReading datagram.now reading →
-        Serves history (rtcp_came now peer word datagram.now reading)
+    ensures serves { (start : ℕ) (history : History) (reading : Result (List RtcpPacket) FirstFault) →
+        Leads session.value start history → IsReading datagram.now reading →
+        Serves start history (rtcp_came moment peer word datagram.now reading)
         handle.new.owned.held result step.new octets.old octets.new }
     ensures within { KeepsWithin handle.new.owned.held }
     ensures refused { result ≢ 0 → handle.new.owned.held ≡ Some session.value }
@@ -79,7 +85,7 @@ fn own_rtcp(
     let mut room = ArrayVec::new();
     let reply = session
         .participant
-        .arrive_rtcp_into(now, peer, word, datagram, &mut room);
+        .arrive_rtcp_into(moment, peer, word, datagram, &mut room);
     handle.put_back(session, &reply, &room, step, octets)
 }
 
@@ -87,7 +93,7 @@ fn own_rtcp(
 /// none is read, so that a host may give a size of -1 for what it did not receive.
 ///
 /// Statuses: 0; 20 where the handle is empty; else 23 where the datagram has more than 65,535 octets; else 1 to 4, 6
-/// and 7, by the first of E1 to E4, E6 and E7 that applies.
+/// and 7, by the first of E1 to E4, E6 and E7 that applies, where a call before the start is refused by E1 or E2.
 #[unsafe(no_mangle)]
 pub extern "C" fn jalwedd_arrive_rtp(
     alloc: Global,
@@ -99,10 +105,12 @@ pub extern "C" fn jalwedd_arrive_rtp(
     step: &mut Step,
     octets: &mut [u8; 1472],
 ) -> u32
-    ensures serves { (history : History) (reading : Result RtpValue HeadFault) → length datagram.now ≤ 65535 →
-        LeadsTo handle.old.owned.held history → IsRtpReading datagram.now reading →
-        Serves history (rtp_came now peer word reading)
+    ensures serves { (start moment : ℕ) (history : History) (reading : Result RtpValue HeadFault) →
+        length datagram.now ≤ 65535 → LeadsTo handle.old.owned.held start history → now ≡ start + moment →
+        IsRtpReading datagram.now reading → Serves start history (rtp_came moment peer word reading)
         handle.new.owned.held result step.new octets.old octets.new }
+    ensures early { length datagram.now ≤ 65535 →
+        ComesEarly handle.old.owned.held handle.new.owned.held now result step.new octets.old octets.new }
     ensures turns_away { 65535 < length datagram.now →
         TurnsAway handle.old.owned.held result step.new octets.old octets.new }
     ensures spares { Spares handle.old.owned.held handle.new.owned.held result step.new octets.old octets.new }
@@ -113,9 +121,12 @@ pub extern "C" fn jalwedd_arrive_rtp(
     if datagram.len() > LONGEST {
         return handle.put_back_untold(session, TOO_LONG, step);
     }
-    match session.participant.arrive_rtp_told(now, peer, datagram) {
+    let Some(moment) = session.moment_of(now) else {
+        return handle.put_back_early(session, step);
+    };
+    match session.participant.arrive_rtp_told(moment, peer, datagram) {
         Some(reply) => handle.put_back(session, &reply, &[], step, octets),
-        None => own_rtp(handle, session, now, peer, word, datagram, step, octets),
+        None => own_rtp(handle, session, moment, peer, word, datagram, step, octets),
     }
 }
 
@@ -126,7 +137,7 @@ pub extern "C" fn jalwedd_arrive_rtp(
 fn own_rtp(
     handle: &mut Handle,
     mut session: Box<Session>,
-    now: u64,
+    moment: u64,
     peer: u64,
     word: u32,
     datagram: &[u8],
@@ -134,9 +145,9 @@ fn own_rtp(
     octets: &mut [u8; 1472],
 ) -> u32
     requires { handle.old.owned.held ≡ None }
-    ensures serves { (history : History) (reading : Result RtpValue HeadFault) →
-        StandsAt session.value.participant history → IsRtpReading datagram.now reading →
-        Serves history (rtp_came now peer word reading)
+    ensures serves { (start : ℕ) (history : History) (reading : Result RtpValue HeadFault) →
+        Leads session.value start history → IsRtpReading datagram.now reading →
+        Serves start history (rtp_came moment peer word reading)
         handle.new.owned.held result step.new octets.old octets.new }
     ensures within { KeepsWithin handle.new.owned.held }
     ensures refused { result ≢ 0 → handle.new.owned.held ≡ Some session.value }
@@ -144,14 +155,15 @@ fn own_rtp(
     let mut room = ArrayVec::new();
     let reply = session
         .participant
-        .arrive_rtp_into(now, peer, word, datagram, &mut room);
+        .arrive_rtp_into(moment, peer, word, datagram, &mut room);
     handle.put_back(session, &reply, &room, step, octets)
 }
 
-/// The host sent an RTP packet at the moment `now`, with this RTP timestamp and so many octets of payload, without
-/// padding (RFC 3550, 6.3.8, 6.4.1). This never hands out anything.
+/// The host sent an RTP packet when its clock showed `now`, in microseconds, with this RTP timestamp and so many octets
+/// of payload, without padding (RFC 3550, 6.3.8, 6.4.1). This never hands out anything.
 ///
-/// Statuses: 0; 1 to 4, by the first of E1 to E4 that applies; 20 where the handle is empty.
+/// Statuses: 0; 1 to 4, by the first of E1 to E4 that applies, where a call before the start is refused by E1 or E2; 20
+/// where the handle is empty.
 #[unsafe(no_mangle)]
 pub extern "C" fn jalwedd_sent_rtp(
     alloc: Global,
@@ -162,23 +174,30 @@ pub extern "C" fn jalwedd_sent_rtp(
     step: &mut Step,
     octets: &mut [u8; 1472],
 ) -> u32
-    ensures serves { (history : History) → LeadsTo handle.old.owned.held history →
-        Serves history (rtp_sent now timestamp size)
+    ensures serves { (start moment : ℕ) (history : History) → LeadsTo handle.old.owned.held start history →
+        now ≡ start + moment → Serves start history (rtp_sent moment timestamp size)
         handle.new.owned.held result step.new octets.old octets.new }
+    ensures early { ComesEarly handle.old.owned.held handle.new.owned.held now result step.new
+        octets.old octets.new }
     ensures nothing { (step.new.kind ≡ 0) × (octets.new ≡ octets.old) }
     ensures spares { Spares handle.old.owned.held handle.new.owned.held result step.new octets.old octets.new }
 {
     let Some(mut session) = handle.take(alloc) else {
         return empty(step);
     };
-    let reply = session.participant.sent_rtp_told(now, timestamp, size);
+    let Some(moment) = session.moment_of(now) else {
+        return handle.put_back_early(session, step);
+    };
+    let reply = session.participant.sent_rtp_told(moment, timestamp, size);
     handle.put_back(session, &reply, &[], step, octets)
 }
 
-/// Asks at the moment `now` whether a report is due, or the BYE of a participant that backs off, with two random words:
-/// one for the draw that decides it, and one for that of the next interval (RFC 3550, 6.3.5, 6.3.6).
+/// Asks, when the host's clock shows `now`, in microseconds, whether a report is due, or the BYE of a participant that
+/// backs off (RFC 3550, 6.3.5, 6.3.6). There are two random words: one for the draw that decides it, and one for that
+/// of the next interval.
 ///
-/// Statuses: 0; 1 to 4, by the first of E1 to E4 that applies; 20 where the handle is empty.
+/// Statuses: 0; 1 to 4, by the first of E1 to E4 that applies, where a call before the start is refused by E1 or E2; 20
+/// where the handle is empty.
 #[unsafe(no_mangle)]
 pub extern "C" fn jalwedd_tick(
     alloc: Global,
@@ -189,27 +208,34 @@ pub extern "C" fn jalwedd_tick(
     step: &mut Step,
     octets: &mut [u8; 1472],
 ) -> u32
-    ensures serves { (history : History) → LeadsTo handle.old.owned.held history →
-        Serves history (ticked now first_word second_word)
+    ensures serves { (start moment : ℕ) (history : History) → LeadsTo handle.old.owned.held start history →
+        now ≡ start + moment → Serves start history (ticked moment first_word second_word)
         handle.new.owned.held result step.new octets.old octets.new }
-    ensures not_too_late { (history : History) → LeadsTo handle.old.owned.held history →
-        IsOverdue history (ticked now first_word second_word) → result ≡ 0 → step.new.kind ≢ 0 }
+    ensures not_too_late { (start moment : ℕ) (history : History) → LeadsTo handle.old.owned.held start history →
+        now ≡ start + moment → IsOverdue history (ticked moment first_word second_word) → result ≡ 0 →
+        step.new.kind ≢ 0 }
+    ensures early { ComesEarly handle.old.owned.held handle.new.owned.held now result step.new
+        octets.old octets.new }
     ensures spares { Spares handle.old.owned.held handle.new.owned.held result step.new octets.old octets.new }
 {
     let Some(mut session) = handle.take(alloc) else {
         return empty(step);
     };
+    let Some(moment) = session.moment_of(now) else {
+        return handle.put_back_early(session, step);
+    };
     let mut room = ArrayVec::new();
     let reply = session
         .participant
-        .tick_into(now, first_word, second_word, &mut room);
+        .tick_into(moment, first_word, second_word, &mut room);
     handle.put_back(session, &reply, &room, step, octets)
 }
 
-/// Leaves the session at the moment `now`, with a random word for the draw of a backoff (RFC 3550, 6.3.7). The BYE goes
-/// out at once, or from a tick: go on until the step's `next` is 2^64 - 1.
+/// Leaves the session when the host's clock shows `now`, in microseconds, with a random word for the draw of a backoff
+/// (RFC 3550, 6.3.7). The BYE goes out at once, or from a tick: go on until the step's `next` is 2^64 - 1.
 ///
-/// Statuses: 0; 1 to 4, by the first of E1 to E4 that applies; 20 where the handle is empty.
+/// Statuses: 0; 1 to 4, by the first of E1 to E4 that applies, where a call before the start is refused by E1 or E2; 20
+/// where the handle is empty.
 #[unsafe(no_mangle)]
 pub extern "C" fn jalwedd_leave(
     alloc: Global,
@@ -219,16 +245,21 @@ pub extern "C" fn jalwedd_leave(
     step: &mut Step,
     octets: &mut [u8; 1472],
 ) -> u32
-    ensures serves { (history : History) → LeadsTo handle.old.owned.held history →
-        Serves history (left now word)
+    ensures serves { (start moment : ℕ) (history : History) → LeadsTo handle.old.owned.held start history →
+        now ≡ start + moment → Serves start history (left moment word)
         handle.new.owned.held result step.new octets.old octets.new }
+    ensures early { ComesEarly handle.old.owned.held handle.new.owned.held now result step.new
+        octets.old octets.new }
     ensures spares { Spares handle.old.owned.held handle.new.owned.held result step.new octets.old octets.new }
 {
     let Some(mut session) = handle.take(alloc) else {
         return empty(step);
     };
+    let Some(moment) = session.moment_of(now) else {
+        return handle.put_back_early(session, step);
+    };
     let mut room = ArrayVec::new();
-    let reply = session.participant.leave_into(now, word, &mut room);
+    let reply = session.participant.leave_into(moment, word, &mut room);
     handle.put_back(session, &reply, &room, step, octets)
 }
 

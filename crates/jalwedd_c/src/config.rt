@@ -8,12 +8,19 @@ ghost use Rattle.jalwedd_c.specs.Configs.{item_given, oversize, setup_given};
 use crate::status::{CNAME, ITEM};
 use arrayvec::ArrayVec;
 
+/// A start is below this.
+pub(crate) const START_LIMIT: u64 = 9_223_372_036_854_775_808;
+
 /// The session as its host knows it, beside the CNAME and the items.
 #[repr(C)]
 #[derive(Clone, Copy, Debug)]
 pub struct Config {
-    /// The NTP timestamp of moment 0: seconds since 1900 in the upper 32 bits, their fraction in the lower.
+    /// The NTP timestamp of the start: seconds since 1900 in the upper 32 bits, their fraction in the lower (RFC 3550,
+    /// section 4).
     pub ntp_base: u64,
+    /// What the host's clock shows at the start, in microseconds, below 2^63. That clock may count from anywhere, and
+    /// must not go back. Each call is given what it shows, and each moment that is told is one of it.
+    pub start: u64,
     /// The SSRC, which is to be chosen at random (RFC 3550, 8.1).
     pub ssrc: u32,
     /// How many other sources can be kept track of, from 1 to 1,024.

@@ -1,23 +1,24 @@
 //! What a host keeps.
 
-ghost use Rattle.std.specs.Prelude.{◌≡◌, ◌≤◌, MatchOption, Some, None, length, option_map};
-ghost use Rattle.rtcp_members.specs.ListViews.{state_value};
+ghost use Rattle.std.specs.Prelude.{◌≡◌, ◌≤◌, ℕ, MatchOption, Option, Some, None, length};
+ghost use Rattle.rtcp_members.specs.Told.{StateValue};
 ghost use Rattle.rtcp_engine.specs.Histories.{History, life_at, setup_at};
 ghost use Rattle.rtcp_engine.specs.Lives.{TellsInLife, entries_in_life};
 ghost use Rattle.rtcp_engine.specs.Views.{reply_value};
-ghost use Rattle.jalwedd_c.specs.Answers.{HandsNothing, HandsOut, IsBlank, Shows, status_of};
-ghost use Rattle.jalwedd_c.specs.Handles.{LeadsTo};
-ghost use Rattle.jalwedd_c.specs.Sources.{after_of};
+ghost use Rattle.jalwedd_c.specs.Answers.{HandsNothing, HandsOut, IsBlank, Shows};
+ghost use Rattle.jalwedd_c.specs.Answers.{early_refusal, status_of, status_of_refusal};
+ghost use Rattle.jalwedd_c.specs.Handles.{Leads, LeadsTo};
+ghost use Rattle.jalwedd_c.specs.Sources.{IsShown, after_of};
 
 use crate::owned::Owned;
 use crate::owned::loose::Loose;
 use crate::session::Session;
 use crate::showing::{Handed, hand_out};
-use crate::source::before;
-use crate::status::TAKEN;
+use crate::source::{Source, before};
+use crate::status::{TAKEN, of_refusal};
 use crate::step::Step;
 use rtcp_engine::Reply;
-use rtcp_members::SourceState;
+use rtcp_engine::laws::told_moments_have_passed;
 use std::alloc::Global;
 use std::mem;
 
@@ -72,7 +73,8 @@ impl Handle {
         ensures held { self.new.owned.held ≡ Some session.value }
         ensures status { result ≡ status_of (reply_value room.now reply.now) }
         ensures handed { HandsOut step.new octets.old octets.new (reply_value room.now reply.now) }
-        ensures shown { (history : History) → LeadsTo self.new.owned.held history → Shows step.new history }
+        ensures shown { (start : ℕ) (history : History) → Leads session.value start history →
+            Shows start step.new history }
     {
         let handed = hand_out(reply, room, octets);
         *step = session.step(handed);
@@ -91,16 +93,35 @@ impl Handle {
         ensures held { self.new.owned.held ≡ Some session.value }
         ensures status { result ≡ status }
         ensures nothing { HandsNothing step.new }
-        ensures shown { (history : History) → LeadsTo self.new.owned.held history → Shows step.new history }
+        ensures shown { (start : ℕ) (history : History) → Leads session.value start history →
+            Shows start step.new history }
     {
         *step = session.step(Handed::nothing(status));
         self.put(session);
         status
     }
 
+    /// Puts back a session to which a call came before the start, says how its participant stands, and returns the
+    /// status.
+    // Out of line, so that no call that is taken pays for it.
+    #[cold]
+    #[inline(never)]
+    pub(crate) fn put_back_early(&mut self, session: Box<Session>, step: &mut Step) -> u32
+        requires { self.old.owned.held ≡ None }
+        ensures held { self.new.owned.held ≡ Some session.value }
+        ensures status { (start : ℕ) (history : History) → Leads session.value start history →
+            result ≡ status_of_refusal (early_refusal (life_at history)) }
+        ensures nothing { HandsNothing step.new }
+        ensures shown { (start : ℕ) (history : History) → Leads session.value start history →
+            Shows start step.new history }
+    {
+        let status = of_refusal(&session.early_refusal());
+        self.put_back_untold(session, status, step)
+    }
+
     /// How many entries the table holds: none where the handle is empty.
     pub(crate) fn entries(&mut self, alloc: Global) -> u32
-        ensures entries { (history : History) → LeadsTo self.old.owned.held history →
+        ensures entries { (start : ℕ) (history : History) → LeadsTo self.old.owned.held start history →
             result ≡ entries_in_life (setup_at history) (life_at history) }
         ensures none { self.old.owned.held ≡ None → result ≡ 0 }
         ensures kept { self.new.owned.held ≡ self.old.owned.held }
@@ -116,18 +137,26 @@ impl Handle {
     }
 
     /// What is known of the source of least SSRC from `from` on: nothing where the handle is empty.
-    pub(crate) fn source(&mut self, alloc: Global, from: u64) -> Option<SourceState>
-        ensures told { (history : History) → LeadsTo self.old.owned.held history →
-            TellsInLife (setup_at history) (after_of from) (life_at history)
-            (option_map state_value result) }
+    pub(crate) fn source(&mut self, alloc: Global, from: u64) -> Option<Source>
+        ensures told { (start : ℕ) (history : History) → LeadsTo self.old.owned.held start history →
+            MatchOption result (TellsInLife (setup_at history) (after_of from) (life_at history) None)
+            (λ shown. (state : StateValue)
+            × TellsInLife (setup_at history) (after_of from) (life_at history) (Some state)
+            × IsShown start shown state) }
         ensures none { self.old.owned.held ≡ None → result ≡ None }
         ensures kept { self.new.owned.held ≡ self.old.owned.held }
     {
         match self.take(alloc) {
             Some(mut session) => {
+                // what is told lies in the past, so the clock can show it
+                told_moments_have_passed();
                 let state = session.participant.next_source(before(from));
+                let start = session.start;
                 self.put(session);
-                state
+                match state {
+                    Some(state) => Some(Source::of(&state, start)),
+                    None => None,
+                }
             }
             None => None,
         }
@@ -135,7 +164,8 @@ impl Handle {
 
     /// What there is to tell at any time: a blank step where it is empty.
     pub(crate) fn step(&mut self, alloc: Global) -> Step
-        ensures shown { (history : History) → LeadsTo self.old.owned.held history → Shows result history }
+        ensures shown { (start : ℕ) (history : History) → LeadsTo self.old.owned.held start history →
+            Shows start result history }
         ensures blank { self.old.owned.held ≡ None → IsBlank result }
         ensures kept { self.new.owned.held ≡ self.old.owned.held }
     {

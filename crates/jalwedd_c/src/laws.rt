@@ -1,7 +1,8 @@
 //! Laws of what a host is told. Each is a function that does nothing, whose postcondition is the law.
 
-ghost use Rattle.std.specs.Prelude.{◌≡◌, ◌+◌, ◌%◌, ◌<◌, ◌≤◌, ◌≤ℤ◌, ℕ, pos, negsuc, List, Option, Some, slice_get};
+ghost use Rattle.std.specs.Prelude.{◌≡◌, ◌+◌, ◌%◌, ◌^◌, ◌<◌, ◌≤◌, ◌≤ℤ◌, ℕ, pos, negsuc, List, Option, Some, slice_get};
 ghost use Rattle.rtcp_wire.specs.Contents.{all_blocks, all_goodbyes, all_items};
+ghost use Rattle.rtcp_wire.specs.Contents.{packet_blocks, packet_goodbyes, packet_items, packet_senders};
 ghost use Rattle.rtcp_wire.specs.Grammar.{AreOctets, IsAccepted};
 ghost use Rattle.rtcp_wire.specs.RtpHeads.{RtpValue, IsReserved, IsRtpHead};
 ghost use Rattle.rtcp_wire.specs.Values.{ItemValue, ReportBlock, RtcpPacket};
@@ -19,19 +20,22 @@ ghost use Rattle.jalwedd_c.specs.declared.head.HeadPlace.{HeadPlace};
 ghost use Rattle.jalwedd_c.specs.declared.parts.GoodbyePlace.{GoodbyePlace};
 ghost use Rattle.jalwedd_c.specs.declared.parts.ItemPlace.{ItemPlace};
 ghost use Rattle.jalwedd_c.specs.declared.reading.Report.{Report};
-ghost use Rattle.jalwedd_c.specs.Apps.{AppValue, ShowsApp, all_apps};
+ghost use Rattle.rtcp_parts.specs.Apps.{AppValue, all_apps, packet_apps};
+ghost use Rattle.rtcp_parts.specs.Cursors.{LeavesBlocks, LeavesGoodbyes, LeavesItems, LeavesNone};
+ghost use Rattle.jalwedd_c.specs.Apps.{ShowsApp};
 ghost use Rattle.jalwedd_c.specs.Heads.{ShowsHead};
-ghost use Rattle.jalwedd_c.specs.Parts.{ShowsGoodbye, ShowsItem};
+ghost use Rattle.jalwedd_c.specs.Parts.{ShowsGoodbye, ShowsItem, ShowsSender};
 ghost use Rattle.jalwedd_c.specs.Readings.{ShowsBlock};
+ghost use Rattle.jalwedd_c.specs.Walks.{TellsAll};
 
 use rtcp_engine::difference_laws::changes_tell_each_once;
 use rtcp_engine::laws::told_moments_have_passed;
 
-/// After any history, what a host is given of a source says what the participant lists of it.
+/// After any history, and whatever the start, what a host is given of a source says what the participant lists of it.
 pub fn told_sources_are_listed()
     ensures { (history : History) → IsHistory history → (after : Option ℕ) (state : StateValue) →
-        TellsInLife (setup_at history) after (life_at history) (Some state) →
-        (shown : Source) → IsShown shown state → listed_by shown ≡ listed_of state }
+        TellsInLife (setup_at history) after (life_at history) (Some state) → (start : ℕ) → start < 2 ^ 63 →
+        (shown : Source) → IsShown start shown state → listed_by shown ≡ listed_of state }
 {
     told_moments_have_passed();
 }
@@ -47,6 +51,16 @@ pub fn changes_are_told_in_turn()
 {
     changes_tell_each_once();
 }
+
+/// Begun with a cursor of zeros, and gone on with until no part is told, a walk over a datagram that is a compound
+/// tells of each part of its kind once, in their order.
+pub fn walks_tell_of_each_part()
+    ensures senders { TellsAll packet_senders LeavesNone (λ datagram. ShowsSender) }
+    ensures blocks { TellsAll packet_blocks LeavesBlocks (λ datagram. ShowsBlock) }
+    ensures items { TellsAll packet_items LeavesItems ShowsItem }
+    ensures goodbyes { TellsAll packet_goodbyes LeavesGoodbyes ShowsGoodbye }
+    ensures apps { TellsAll packet_apps LeavesNone ShowsApp }
+{}
 
 /// What a host is told of the parts of a datagram is in the ranges that the header states: items have a type from 1 to
 /// 255 and a text of at most 255 octets, reasons at most 255 octets, packets of applications a subtype of at most 31

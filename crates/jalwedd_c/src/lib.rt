@@ -4,9 +4,12 @@
 //!
 //! Statuses: 0 taken; 1 to 7 a call that the participant refused, by E1 to E7, of which 5 is also a datagram
 //! that is not a compound, and 6 one without a valid RTP head; 8 no such block, or no such other part of a
-//! datagram; 9 no such source, or no other one that changed; 10 a listing whose SSRCs do not rise; 11 to 16 a
-//! configuration that is refused, by C1 to C6; 20 a handle that holds no participant; 21 one that already holds one;
+//! datagram; 9 no such source, or no other one that changed; 10 a listing whose SSRCs do not rise; 11 to 17 a
+//! configuration that is refused, by C1 to C7; 20 a handle that holds no participant; 21 one that already holds one;
 //! 22 no memory; 23 an RTP datagram of more octets than UDP carries.
+//!
+//! Time is what a clock of the host's shows, in microseconds. It may count from anywhere, and must not go back. A
+//! session begins at the `start` of its [`Config`], and a call before that is refused as one that comes too early.
 //!
 //! C callers are not proved, so no call has preconditions on values: moments out of order, too many calls and bad
 //! configurations are statuses. What a caller must ensure, and nothing tests: pointers are valid for the sizes given;
@@ -35,6 +38,7 @@ mod step;
 #[cfg(test)]
 mod tests;
 mod views;
+mod walks;
 
 pub use app::AppPlace;
 pub use change::RoleChange;
@@ -44,5 +48,6 @@ pub use head::HeadPlace;
 pub use owned::Owned;
 pub use parts::{GoodbyePlace, ItemPlace, SenderInfo};
 pub use reading::{Fault, Report};
+pub use rtcp_parts::Cursor;
 pub use source::Source;
 pub use step::Step;

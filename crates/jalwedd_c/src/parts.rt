@@ -1,6 +1,6 @@
 //! The parts of a datagram, one after the other: senders, report blocks, SDES items and goodbyes.
 
-ghost use Rattle.std.specs.Prelude.{ℕ, List, Option};
+ghost use Rattle.std.specs.Prelude.{◌≡◌, ℕ, List, Option, MatchOption};
 ghost use Rattle.rtcp_wire.specs.Contents.{all_blocks, all_goodbyes, all_items, all_senders};
 ghost use Rattle.rtcp_wire.specs.Placed.{PlacesGoodbye, PlacesItem};
 ghost use Rattle.rtcp_wire.specs.Values.{ItemValue};
@@ -60,6 +60,9 @@ pub struct GoodbyePlace {
 /// Tells of the sender reports of a datagram, in their order, the one at `index`, from 0 on. Ask with 0, 1, .. until
 /// the status is not 0. Else `sender` is left as it is.
 ///
+/// Each call reads the datagram from its start: to read all parts so takes a time that grows with the square of its
+/// octets. `jalwedd_next_sender` reads it once.
+///
 /// Statuses: 0; 5 where the datagram is not a compound; 8 where it has no such report.
 #[unsafe(no_mangle)]
 pub extern "C" fn jalwedd_sender(datagram: &[u8], index: u32, sender: &mut SenderInfo) -> u32
@@ -79,6 +82,9 @@ pub extern "C" fn jalwedd_sender(datagram: &[u8], index: u32, sender: &mut Sende
 
 /// Tells of the blocks of all reports of a datagram, in their order, the one at `index`, from 0 on. Ask with 0, 1, ..
 /// until the status is not 0. Else `report` is left as it is.
+///
+/// Each call reads the datagram from its start: to read all parts so takes a time that grows with the square of its
+/// octets. `jalwedd_next_block` reads it once.
 ///
 /// Statuses: 0; 5 where the datagram is not a compound; 8 where it has no such block.
 #[unsafe(no_mangle)]
@@ -103,6 +109,9 @@ pub extern "C" fn jalwedd_block(datagram: &[u8], index: u32, report: &mut Report
 /// Tells of the items of all chunks of all source descriptions of a datagram, in their order, the one at `index`, from
 /// 0 on, and where its text stands. Ask with 0, 1, .. until the status is not 0. Else `item` is left as it is.
 ///
+/// Each call reads the datagram from its start: to read all parts so takes a time that grows with the square of its
+/// octets. `jalwedd_next_sdes_item` reads it once.
+///
 /// Statuses: 0; 5 where the datagram is not a compound; 8 where it has no such item.
 #[unsafe(no_mangle)]
 pub extern "C" fn jalwedd_sdes_item(datagram: &[u8], index: u32, item: &mut ItemPlace) -> u32
@@ -120,6 +129,9 @@ pub extern "C" fn jalwedd_sdes_item(datagram: &[u8], index: u32, item: &mut Item
 
 /// Tells of the sources that all goodbyes of a datagram name, in their order, the one at `index`, from 0 on, and where
 /// the reason of its goodbye stands. Ask with 0, 1, .. until the status is not 0. Else `goodbye` is left as it is.
+///
+/// Each call reads the datagram from its start: to read all parts so takes a time that grows with the square of its
+/// octets. `jalwedd_next_goodbye` reads it once.
 ///
 /// Statuses: 0; 5 where the datagram is not a compound; 8 where it has no such source.
 #[unsafe(no_mangle)]
@@ -148,9 +160,10 @@ fn sender_info(report: &SenderReport<'_>) -> SenderInfo
     }
 }
 
-fn item_place(placed: &PlacedItem) -> ItemPlace
-    ensures { (datagram : List ℕ) (item : ℕ × ItemValue) → PlacesItem datagram item placed.now →
+pub(crate) fn item_place(placed: &PlacedItem) -> ItemPlace
+    ensures shows { (datagram : List ℕ) (item : ℕ × ItemValue) → PlacesItem datagram item placed.now →
         ShowsItem datagram result item }
+    ensures place { (result.offset ≡ placed.now.text.place) × (result.size ≡ placed.now.text.size) }
 {
     ItemPlace {
         offset: placed.text.place as u64,
@@ -160,9 +173,12 @@ fn item_place(placed: &PlacedItem) -> ItemPlace
     }
 }
 
-fn goodbye_place(placed: &PlacedGoodbye) -> GoodbyePlace
-    ensures { (datagram : List ℕ) (goodbye : ℕ × Option (List ℕ)) → PlacesGoodbye datagram goodbye placed.now →
+pub(crate) fn goodbye_place(placed: &PlacedGoodbye) -> GoodbyePlace
+    ensures shows { (datagram : List ℕ) (goodbye : ℕ × Option (List ℕ)) → PlacesGoodbye datagram goodbye placed.now →
         ShowsGoodbye datagram result goodbye }
+    ensures place { MatchOption placed.now.reason
+        ((result.offset ≡ 0) × (result.size ≡ 0))
+        (λ reason. (result.offset ≡ reason.place) × (result.size ≡ reason.size)) }
 {
     match placed.reason {
         Some(text) => GoodbyePlace {

@@ -71,6 +71,9 @@ pub extern "C" fn jalwedd_check(datagram: &[u8], fault: &mut Fault) -> u32
 /// Tells what the reports of a datagram say of the source `ssrc`: of the blocks that name it, in their order, the one
 /// at `index`, from 0 on. Ask with 0, 1, .. until the status is not 0. Else `report` is left as it is.
 ///
+/// Each call reads the datagram from its start: to read all parts so takes a time that grows with the square of its
+/// octets. With `jalwedd_next_block` a host reads it once.
+///
 /// Statuses: 0; 5 where the datagram is not a compound; 8 where it has no such block.
 #[unsafe(no_mangle)]
 pub extern "C" fn jalwedd_about(datagram: &[u8], ssrc: u32, index: u32, report: &mut Report) -> u32

@@ -1,12 +1,13 @@
 //! What is told of one source.
 
-ghost use Rattle.std.specs.Prelude.{◌≡◌, option_map};
+ghost use Rattle.std.specs.Prelude.{◌≡◌, ◌<◌, ◌+◌, ◌-◌, ◌^◌, ℕ, IfSome, option_map};
 ghost use Rattle.rtcp_members.specs.ListViews.{state_value};
+ghost use Rattle.rtcp_members.specs.Past.{IsToldBy};
 ghost use Rattle.rtcp_source.specs.Views.{last_block_value, reception_value, told_value};
 ghost use Rattle.jalwedd_c.specs.Answers.{moment_shown, one_if};
 ghost use Rattle.jalwedd_c.specs.Sources.{IsBlockShown, IsReceived, IsLastTold, IsShown, after_of};
 
-use crate::step::NEVER;
+use crate::step::{NEVER, on_clock};
 use rtcp_members::SourceState;
 use rtcp_source::{LastBlock, Reception, Told};
 
@@ -14,11 +15,11 @@ use rtcp_source::{LastBlock, Reception, Told};
 #[repr(C)]
 #[derive(Clone, Copy, Debug, PartialEq, Eq)]
 pub struct Source {
-    /// When it was last heard before it left, in microseconds since the session began.
+    /// When it was last heard before it left, in microseconds of the host's clock.
     pub heard: u64,
-    /// When it said goodbye: 2^64 - 1 where it did not leave.
+    /// When it said goodbye, by that clock: 2^64 - 1 where it did not leave.
     pub left: u64,
-    /// When its last sender report came: 2^64 - 1 where none came.
+    /// When its last sender report came, by that clock: 2^64 - 1 where none came.
     pub told: u64,
     /// The NTP timestamp of that report, or 0.
     pub ntp: u64,
@@ -58,16 +59,17 @@ struct BlockShown {
 }
 
 impl Source {
-    /// How what is known of a source is told.
-    pub(crate) fn of(state: &SourceState) -> Source
-        ensures { IsShown result (state_value state.now) }
+    /// How what is known of a source is told, where the host's clock showed `start` at moment 0.
+    pub(crate) fn of(state: &SourceState, start: u64) -> Source
+        ensures { (latest : ℕ) → start + latest < 2 ^ 64 - 1 → IsToldBy latest (state_value state.now) →
+            IsShown start result (state_value state.now) }
     {
         let reception = received(state.reception);
-        let told = last_told(state.told);
+        let told = last_told(state.told, start);
         let block = last_block(state.last_block);
         Source {
-            heard: state.heard,
-            left: state.left.unwrap_or(NEVER),
+            heard: start.saturating_add(state.heard),
+            left: on_clock(start, state.left),
             told: told.moment,
             ntp: told.ntp,
             received: reception.received,
@@ -113,11 +115,15 @@ fn received(reception: Option<Reception>) -> Reception
 }
 
 /// 2^64 - 1 and zeros where no sender report came.
-fn last_told(told: Option<Told>) -> Told
-    ensures { IsLastTold result (option_map told_value told) }
+fn last_told(told: Option<Told>, start: u64) -> Told
+    ensures { IfSome told (λ t. start + t.moment < 2 ^ 64 - 1) →
+        IsLastTold start result (option_map told_value told) }
 {
     match told {
-        Some(told) => told,
+        Some(told) => Told {
+            moment: start.saturating_add(told.moment),
+            ..told
+        },
         None => Told {
             ntp: 0,
             rtp: 0,

@@ -36,6 +36,9 @@ pub(crate) const CNAME: u32 = 11;
 /// An item is refused (C6), or there are too many.
 pub(crate) const ITEM: u32 = 16;
 
+/// The start is refused (C7).
+pub(crate) const START: u32 = 17;
+
 /// The handle holds no participant.
 pub(crate) const EMPTY: u32 = 20;
 

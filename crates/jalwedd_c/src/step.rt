@@ -1,6 +1,7 @@
 //! What a call tells of the participant.
 
-ghost use Rattle.jalwedd_c.specs.Answers.{IsBlank};
+ghost use Rattle.std.specs.Prelude.{◌≡◌, ◌↔◌, ◌<◌, ◌+◌, ◌-◌, ◌^◌, None, IfSome};
+ghost use Rattle.jalwedd_c.specs.Answers.{IsBlank, moment_shown};
 
 /// What `next` is where there is no moment to tick at.
 pub(crate) const NEVER: u64 = u64::MAX;
@@ -9,8 +10,8 @@ pub(crate) const NEVER: u64 = u64::MAX;
 #[repr(C)]
 #[derive(Clone, Copy, Debug, PartialEq, Eq)]
 pub struct Step {
-    /// When to call `jalwedd_tick` next, in microseconds since the session began, or 2^64 - 1 once the participant has
-    /// left. It may lie before the moment of the call: then a report or the BYE is overdue.
+    /// When to call `jalwedd_tick` next, in microseconds of the host's clock: 2^64 - 1 once the participant has left.
+    /// It may lie before the moment of the call: then a report or the BYE is overdue.
     pub next: u64,
     /// The members of the session, the participant included (RFC 3550, 6.2.1); in the backoff after a leave, the
     /// participant and one for each BYE packet that came since (6.3.7); 0 once it has left.
@@ -48,5 +49,16 @@ impl Step {
             entries: 0,
             others_changed: 0,
         }
+    }
+}
+
+/// What the host's clock shows at a moment, or 2^64 - 1 where there is none. The clock showed `start` at moment 0.
+pub(crate) fn on_clock(start: u64, moment: Option<u64>) -> u64
+    ensures shown { IfSome moment (λ m. start + m < 2 ^ 64 - 1) → result ≡ moment_shown start moment }
+    ensures never { IfSome moment (λ m. start + m < 2 ^ 64 - 1) → (result ≡ 2 ^ 64 - 1) ↔ (moment ≡ None) }
+{
+    match moment {
+        Some(moment) => start.saturating_add(moment),
+        None => NEVER,
     }
 }

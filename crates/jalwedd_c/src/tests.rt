@@ -16,10 +16,13 @@ use std::test::*;
 
 mod apps;
 mod changes;
+mod clocks;
 mod heads;
+mod walks;
 
 const CONFIG: Config = Config {
     ntp_base: 0,
+    start: 0,
     ssrc: 0xaa,
     capacity: 1_024,
     limit: 1_472,

@@ -4,7 +4,7 @@ use Rattle.rtcp_wire.specs.declared.app.Application.{Application}
 use Rattle.rtcp_wire.specs.declared.packet.PacketView.{PacketView}
 use Rattle.rtcp_wire.specs.declared.packet.PacketView.TheVariants.{App}
 use Rattle.rtcp_wire.specs.Views.{packet_value}
-use Rattle.jalwedd_c.specs.Apps.{packet_apps}
+use Rattle.rtcp_parts.specs.Apps.{packet_apps}
 use Rattle.jalwedd_c.proofs.app.app_in_packet.Goals as goal
 
 only_one : (packet : PacketView) (app : Application) (index : ℕ) → packet ≡ App app → index ≡ 0

@@ -4,8 +4,8 @@ use Rattle.jalwedd_c.proofs.Never.{in_range}
 use Rattle.jalwedd_c.proofs.laws.told_sources_are_listed.Goals as goal
 
 pub returns : goal.returns
-returns c history is after state tells shown shows =
+returns c history is after state tells start low shown shows =
     let passed = c.told_moments_have_passed.ensures in
     let left = passed.left history is after state tells in
-    listed_as_known shown state shows
-    (in_range (λ left. left) (last_moment history.acts) state.left (passed.range history is) left)
+    listed_as_known start shown state shows
+    (in_range start (λ left. left) (last_moment history.acts) state.left low (passed.range history is) left)

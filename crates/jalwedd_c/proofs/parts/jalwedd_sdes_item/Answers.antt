@@ -14,7 +14,7 @@ returns-in-Ok-Some c =
       found = λ packets part accepted at.
           let gives = c.in-Ok-Some.ensures.gives packets accepted in
           let given = subst (GivesAt (PlacesItem datagram) (all_items packets) c.args.index) is gives in
-          let shown = c.item_place.ensures datagram given.0 given.2 in
+          let shown = c.item_place.ensures.shows datagram given.0 given.2 in
           (refl, subst (ShowsItem datagram c.item_place.result) (some_same given.0 part (sym given.1 ∙ at)) shown);
       none = search rules;
       refused = λ first is. absurd (cc (c.in-Ok-Some.ensures.finds first is));

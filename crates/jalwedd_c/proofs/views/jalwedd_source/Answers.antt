@@ -1,25 +1,26 @@
 -- The source given is the one that the history tells of, and its moments are those of taken calls.
-use Rattle.rtcp_members.specs.ListViews.{state_value}
 use Rattle.rtcp_engine.specs.Histories.{life_at, setup_at}
 use Rattle.jalwedd_c.specs.Sources.{after_of}
-use Rattle.jalwedd_c.proofs.Held.{history_of}
+use Rattle.jalwedd_c.proofs.Held.{history_of, start_of}
 use Rattle.jalwedd_c.proofs.Never.{shows_left, shows_this, shows_told}
 use Rattle.jalwedd_c.proofs.views.jalwedd_source.Goals as goal
 
 pub returns-in-Some-clause-never_left : goal.returns-in-Some-clause-never_left
-returns-in-Some-clause-never_left c history state leads tells =
+returns-in-Some-clause-never_left c start history state leads tells =
+    let held = c.args.handle.now.owned.held in
     let after = after_of c.args.from in
-    let told = c.in-Some.ensures.told history leads in
-    let given = state_value c.in-Some.state in
-    let shown = c.of.result in
-    let shows = shows_this (setup_at history) after (life_at history) given state shown told c.of.ensures tells in
-    shows_left history (history_of c.args.handle.now.owned.held history leads) after state tells shown shows
+    let shown = c.in-Some.shown in
+    let told = c.in-Some.ensures.told start history leads in
+    let shows = shows_this (setup_at history) after (life_at history) told.0 state start shown told.1 told.2 tells in
+    let low = start_of held start history leads in
+    shows_left history (history_of held start history leads) after state tells start low shown shows
 
 pub returns-in-Some-clause-never_told : goal.returns-in-Some-clause-never_told
-returns-in-Some-clause-never_told c history state leads tells =
+returns-in-Some-clause-never_told c start history state leads tells =
+    let held = c.args.handle.now.owned.held in
     let after = after_of c.args.from in
-    let told = c.in-Some.ensures.told history leads in
-    let given = state_value c.in-Some.state in
-    let shown = c.of.result in
-    let shows = shows_this (setup_at history) after (life_at history) given state shown told c.of.ensures tells in
-    shows_told history (history_of c.args.handle.now.owned.held history leads) after state tells shown shows
+    let shown = c.in-Some.shown in
+    let told = c.in-Some.ensures.told start history leads in
+    let shows = shows_this (setup_at history) after (life_at history) told.0 state start shown told.1 told.2 tells in
+    let low = start_of held start history leads in
+    shows_told history (history_of held start history leads) after state tells start low shown shows

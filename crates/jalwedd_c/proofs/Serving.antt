@@ -1,0 +1,79 @@
+-- A call of a session is one of its participant, at the moment counted from the start.
+use Rattle.std.proofs.Common.{◌≡◌, ◌+◌, ℕ, List, Option, Some, Result, sym, ap, subst, ◌∙◌, arith}
+use Rattle.rtcp_engine.specs.declared.refusal.Refusal.{Refusal}
+use Rattle.rtcp_engine.specs.declared.step.Told.{Told}
+use Rattle.rtcp_engine.specs.Acts.{Act}
+use Rattle.rtcp_engine.specs.Answers.{answer_of, followed_by}
+use Rattle.rtcp_engine.specs.Histories.{History, life_at}
+use Rattle.rtcp_engine.specs.Promises.{Takes}
+use Rattle.rtcp_engine.specs.States.{ParticipantValue, StandsAt}
+use Rattle.rtcp_engine.specs.Views.{reply_value}
+use Rattle.jalwedd_c.specs.declared.session.Session.{Session}
+use Rattle.jalwedd_c.specs.declared.step.Step.{Step}
+use Rattle.jalwedd_c.specs.Answers.{HandsNothing, HandsOut, Shows, early_refusal, status_of, status_of_refusal}
+use Rattle.jalwedd_c.specs.Handles.{Leads, LeadsTo}
+use Rattle.jalwedd_c.specs.Promises.{ComesEarly, Serves}
+use Rattle.jalwedd_c.proofs.Held.{leads_as, session_of}
+
+-- A session counts a moment from its own start, which is that of the history.
+pub same_moment : (session looked : Session) (start : ℕ) (history : History) → Leads session start history →
+    looked ≡ session → (now moment other : ℕ) → now ≡ looked.start + moment → now ≡ start + other → moment ≡ other
+same_moment session looked start history leads is now moment other counted told =
+    let same : looked.start ≡ session.start = λ i. (is i).start in
+    omega (arith, same, leads.counts, counted, told)
+
+-- A session with the same start, whose participant took an act, is put back, and the step shows it.
+pub serves : (session before after : Session) (start : ℕ) (history : History) → Leads session start history →
+    before ≡ session → after.start ≡ before.start → (act : Act) (reply : Result Told Refusal) (room shown_room : List ℕ)
+    → Takes before.participant act (reply_value room reply) after.participant → shown_room ≡ room
+    → (held : Option Session) → held ≡ Some after → (result : ℕ) (step : Step) (was octets : List ℕ)
+    → result ≡ status_of (reply_value shown_room reply) → HandsOut step was octets (reply_value shown_room reply)
+    → ((start : ℕ) (history : History) → Leads after start history → Shows start step history)
+    → Serves start history act held result step was octets
+serves session before after start history leads is counts act reply room shown_room takes room_is held held_is result
+    step was octets status handed shown =
+    let from = leads_as session before start history (sym is) leads in
+    let answer : reply_value shown_room reply ≡ answer_of history act =
+    ap (λ (r : List ℕ). reply_value r reply) room_is ∙ takes.answer history from.stands in
+    let now : Leads after start (followed_by history act) = record {
+      stands = takes.stands history from.stands;
+      counts = counts ∙ from.counts;
+      range = from.range;
+    } in
+    record {
+      status = status ∙ ap status_of answer;
+      handed = subst (HandsOut step was octets) answer handed;
+      stands = subst (λ (h : Option Session). LeadsTo h start (followed_by history act)) (sym held_is) now;
+      shows = shown start (followed_by history act) now;
+      bounded = takes.bounded history from.stands;
+    }
+
+-- A session whose participant was passed by leads where it did.
+pub passed_by : (session before : Session) (participant : ParticipantValue) (start : ℕ) (history : History) →
+    Leads session start history → before ≡ session → participant ≡ before.participant →
+    Leads (record { participant = participant; start = before.start }) start history
+passed_by session before participant start history leads is same =
+    let from = leads_as session before start history (sym is) leads in
+    record {
+      stands = subst (λ (p : ParticipantValue). StandsAt p history) (sym same) from.stands;
+      counts = from.counts;
+      range = from.range;
+    }
+
+-- A call before the start leaves the session as it was.
+pub refuses_early : (session : Session) (held after : Option Session) (result : ℕ) (step : Step) (was octets : List ℕ)
+    → held ≡ Some session → after ≡ Some session
+    → ((start : ℕ) (history : History) → Leads session start history →
+    result ≡ status_of_refusal (early_refusal (life_at history))) → HandsNothing step
+    → ((start : ℕ) (history : History) → Leads session start history → Shows start step history) → octets ≡ was
+    → (now : ℕ) → ComesEarly held after now result step was octets
+refuses_early session held after result step was octets is after_is status nothing shown same now start history leads
+    early =
+    let holds = session_of held session start history is leads in
+    record {
+      status = status start history holds;
+      nothing = nothing;
+      octets_kept = same;
+      shows = shown start history holds;
+      kept = after_is ∙ sym is;
+    }

@@ -1,0 +1,149 @@
+//! The parts of a datagram, one after the other, by a cursor of the host's: the datagram is tested once.
+
+ghost use Rattle.std.specs.Prelude.{◌≡◌, ◌≤◌, ◌+◌, ℕ, List, length};
+ghost use Rattle.rtcp_wire.specs.Values.{SenderValue};
+ghost use Rattle.rtcp_parts.specs.Senders.{ShowsSender as SaysSender};
+ghost use Rattle.rtcp_wire.specs.Contents.{packet_blocks, packet_goodbyes, packet_items, packet_senders};
+ghost use Rattle.rtcp_parts.specs.Apps.{AppValue, PlacesApp, packet_apps};
+ghost use Rattle.rtcp_parts.specs.Cursors.{LeavesBlocks, LeavesGoodbyes, LeavesItems, LeavesNone};
+ghost use Rattle.jalwedd_c.specs.Apps.{ShowsApp};
+ghost use Rattle.jalwedd_c.specs.Parts.{ShowsGoodbye, ShowsItem, ShowsSender};
+ghost use Rattle.jalwedd_c.specs.Readings.{ShowsBlock};
+ghost use Rattle.jalwedd_c.specs.Walks.{Continues};
+
+use crate::app::AppPlace;
+use crate::parts::{GoodbyePlace, ItemPlace, SenderInfo, goodbye_place, item_place};
+use crate::reading::{Report, shown};
+use crate::status::{NO_COMPOUND, NO_PART, TAKEN};
+use rtcp_parts::{Cursor, PlacedApp, Sender};
+
+/// Tells of the next part of a walk over the sender reports of a datagram, in their order, and moves the cursor after
+/// it. Begin with a cursor of zeros, and go on with it until the status is not 0: then each part was told once. Else
+/// `sender` is left as it is. Only the call that begins a walk tests the datagram, so that the time of a whole walk
+/// grows with its octets alone.
+///
+/// Statuses: 0; 5 where a walk begins over a datagram that is not a compound, and the cursor is then as it was; 8 after
+/// the last part, and again from then on.
+#[unsafe(no_mangle)]
+pub extern "C" fn jalwedd_next_sender(
+    datagram: &[u8],
+    cursor: &mut Cursor,
+    sender: &mut SenderInfo,
+) -> u32
+    ensures { Continues packet_senders LeavesNone ShowsSender
+        datagram.now cursor.old cursor.new result sender.old sender.new }
+{
+    match rtcp_parts::next_sender(datagram, cursor) {
+        Ok(Some(next)) => {
+            *sender = sender_info(&next);
+            TAKEN
+        }
+        Ok(None) => NO_PART,
+        Err(_) => NO_COMPOUND,
+    }
+}
+
+/// The same, of a walk over the blocks of all reports.
+#[unsafe(no_mangle)]
+pub extern "C" fn jalwedd_next_block(
+    datagram: &[u8],
+    cursor: &mut Cursor,
+    report: &mut Report,
+) -> u32
+    ensures { Continues packet_blocks LeavesBlocks ShowsBlock
+        datagram.now cursor.old cursor.new result report.old report.new }
+{
+    match rtcp_parts::next_block(datagram, cursor) {
+        Ok(Some((reporter, block))) => {
+            *report = shown(reporter, &block);
+            TAKEN
+        }
+        Ok(None) => NO_PART,
+        Err(_) => NO_COMPOUND,
+    }
+}
+
+/// The same, of a walk over the items of all chunks of all source descriptions, and where the text of each stands.
+#[unsafe(no_mangle)]
+pub extern "C" fn jalwedd_next_sdes_item(
+    datagram: &[u8],
+    cursor: &mut Cursor,
+    item: &mut ItemPlace,
+) -> u32
+    ensures tells { Continues packet_items LeavesItems (ShowsItem datagram.now)
+        datagram.now cursor.old cursor.new result item.old item.new }
+    ensures within { result ≡ 0 → item.new.offset + item.new.size ≤ length datagram.now }
+{
+    match rtcp_parts::next_item(datagram, cursor) {
+        Ok(Some(placed)) => {
+            *item = item_place(&placed);
+            TAKEN
+        }
+        Ok(None) => NO_PART,
+        Err(_) => NO_COMPOUND,
+    }
+}
+
+/// The same, of a walk over the sources that all goodbyes name, and where the reason of its goodbye stands.
+#[unsafe(no_mangle)]
+pub extern "C" fn jalwedd_next_goodbye(
+    datagram: &[u8],
+    cursor: &mut Cursor,
+    goodbye: &mut GoodbyePlace,
+) -> u32
+    ensures tells { Continues packet_goodbyes LeavesGoodbyes (ShowsGoodbye datagram.now)
+        datagram.now cursor.old cursor.new result goodbye.old goodbye.new }
+    ensures within { result ≡ 0 → goodbye.new.offset + goodbye.new.size ≤ length datagram.now }
+{
+    match rtcp_parts::next_goodbye(datagram, cursor) {
+        Ok(Some(placed)) => {
+            *goodbye = goodbye_place(&placed);
+            TAKEN
+        }
+        Ok(None) => NO_PART,
+        Err(_) => NO_COMPOUND,
+    }
+}
+
+/// The same, of a walk over the packets of applications, and where the data of each stand.
+#[unsafe(no_mangle)]
+pub extern "C" fn jalwedd_next_app(datagram: &[u8], cursor: &mut Cursor, app: &mut AppPlace) -> u32
+    ensures tells { Continues packet_apps LeavesNone (ShowsApp datagram.now)
+        datagram.now cursor.old cursor.new result app.old app.new }
+    ensures within { result ≡ 0 → app.new.offset + app.new.size ≤ length datagram.now }
+{
+    match rtcp_parts::next_app(datagram, cursor) {
+        Ok(Some(placed)) => {
+            *app = app_place(&placed);
+            TAKEN
+        }
+        Ok(None) => NO_PART,
+        Err(_) => NO_COMPOUND,
+    }
+}
+
+fn sender_info(sender: &Sender) -> SenderInfo
+    ensures { (value : SenderValue) → SaysSender value sender.now → ShowsSender result value }
+{
+    SenderInfo {
+        ntp: sender.ntp,
+        ssrc: sender.ssrc,
+        rtp: sender.rtp,
+        packets: sender.packets,
+        octets: sender.octets,
+    }
+}
+
+fn app_place(placed: &PlacedApp) -> AppPlace
+    ensures shows { (datagram : List ℕ) (part : AppValue) → PlacesApp datagram part placed.now →
+        ShowsApp datagram result part }
+    ensures place { (result.offset ≡ placed.now.content.place) × (result.size ≡ placed.now.content.size) }
+{
+    AppPlace {
+        offset: placed.content.place as u64,
+        size: placed.content.size as u64,
+        ssrc: placed.ssrc,
+        subtype: u32::from(placed.subtype),
+        name: placed.name,
+    }
+}
