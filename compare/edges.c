@@ -50,7 +50,7 @@ void rattle_dealloc(void *at)
     free(at);
 }
 
-static const jalwedd_config CONFIG = {0, 0xaa, 1024, 1472, 100, 300, 8000};
+static const jalwedd_config CONFIG = {0, 0, 0xaa, 1024, 1472, 100, 300, 8000};
 
 /* an RR of 7 without blocks, and its SDES with the CNAME "a" */
 static const uint8_t OF_SEVEN[] = {0x80, 0xc9, 0, 1, 0, 0, 0, 7, 0x81, 0xca, 0, 2, 0, 0, 0, 7, 1, 1, 0x61, 0};

@@ -68,6 +68,13 @@ def came(kind, moment, octets, peer=1, word=0):
 # Options
 
 
+def random_start(rng):
+    """The moment at which a session starts by the clock of its host: 0, after ten minutes, at a time of day, just below
+    2^63, or any."""
+    return choose(rng, (2, 0), (1, 600 * SECOND), (1, 1_700_000_000_000_000 + rng.getrandbits(40)),
+                  (1, 2**63 - 1 - rng.getrandbits(rng.randrange(1, 20))), (1, rng.getrandbits(63)))
+
+
 def random_options(rng, own, capacities):
     ssrc = f"{own:08x}" if rng.randrange(2) else f"{own:08X}"
     options = [["--ssrc", ssrc], ["--cname", "c" * rng.choice([1, 2, 3, 4, 5, 20, 254, 255])]]

@@ -4,117 +4,47 @@
  * With `sources` each answer, refused or not, also says whether others changed and how many entries there are, and is
  * followed by a line for each source that the library lists. With `record` it records its calls in the file CALLS, and
  * the command that plays them again in COMMAND.
+ * With `--start MOMENT`, an option of its own, its clock counts from elsewhere: it adds the start to each moment that
+ * it passes, and subtracts it from those that it is told. Then some lines have a call before the start beforehand,
+ * which has to change nothing. Of each datagram it reads all parts with cursors, which has to give what the calls by
+ * index do.
  * usage: host replay|sources OPTION.. < EVENTS                    (compare/embedding)
  *        host record CALLS COMMAND OPTION.. < EVENTS              (compare/record) */
 #define JALWEDD_RECORD_STDIO
 #include "jalwedd_record.h"
+#include "host_options.h"
+#include "walks.h"
 
 #include <inttypes.h>
 #include <stdio.h>
-#include <stdlib.h>
-#include <string.h>
 
-enum { MOST_OCTETS = 65600, MOST_ITEMS = 7, MOST_SOURCES = 1025 }; /* one source more than there may be */
+enum { MOST_SOURCES = 1025 };       /* one source more than there may be */
 
 static int tells_sources;
 
+/* The host's clock at the start of the session. */
+static uint64_t start;
+
 /* Nothing is recorded unless main says where to. */
 static jalwedd_record calls, command;
-
-struct options {
-    jalwedd_config config;
-    const char *cname;
-    jalwedd_item items[MOST_ITEMS];
-    size_t item_count;
-    uint64_t session_bps;
-    const char *sender_bw, *receiver_bw;
-    uint32_t word;
-};
-
-static const char *const ITEMS[] = {"--name", "--email", "--phone", "--loc", "--tool", "--note"};
 
 static const char *const REASONS[] = {"",       "Short",   "Version", "FirstType", "FirstPadding", "Length",
                                       "Padding", "Body",    "Item",    "Reason",    "TooLong"};
 
 static const char *const REFUSALS[] = {"", "Left", "Backwards", "TooFar", "TooMany", "Wire", "Rtp", "OwnSsrc"};
 
-/* Reads hex, `-` as nothing, into `octets`, and returns how many there are. */
-static size_t unhex(const char *text, uint8_t *octets, size_t room)
+/* A moment that is told, as one from the start on. */
+static uint64_t since_start(uint64_t told)
 {
-    size_t size = 0;
-    if (strcmp(text, "-") == 0)
-        return 0;
-    for (; text[0] != '\0' && text[1] != '\0' && size < room; text += 2) {
-        const char pair[3] = {text[0], text[1], '\0'};
-        octets[size++] = (uint8_t)strtoul(pair, NULL, 16);
-    }
-    return size;
+    if (told != JALWEDD_NEVER && told < start)
+        printf("the moment %" PRIu64 " lies before the start\n", told);
+    return told == JALWEDD_NEVER ? told : told - start;
 }
 
-static void add_item(struct options *options, uint8_t kind, const char *text, int is_hex)
+/* The moment of the host's clock that is so much later than the start, or the last one that there is. */
+static uint64_t by_clock(uint64_t moment)
 {
-    jalwedd_item *item = &options->items[options->item_count++];
-    item->kind = kind;
-    if (is_hex) {
-        item->size = (uint8_t)unhex(text, item->text, sizeof item->text);
-        return;
-    }
-    item->size = (uint8_t)strlen(text);
-    memcpy(item->text, text, item->size);
-}
-
-static uint32_t at_most_32_bits(uint64_t number)
-{
-    return number > UINT32_MAX ? UINT32_MAX : (uint32_t)number;
-}
-
-static void read_number(struct options *options, const char *name, const char *value)
-{
-    const uint64_t decimal = strtoull(value, NULL, 10);
-    if (strcmp(name, "--ssrc") == 0)
-        options->config.ssrc = (uint32_t)strtoul(value, NULL, 16);
-    else if (strcmp(name, "--ntp") == 0)
-        options->config.ntp_base = strtoull(value, NULL, 16);
-    else if (strcmp(name, "--word") == 0)
-        options->word = (uint32_t)strtoul(value, NULL, 16);
-    else if (strcmp(name, "--capacity") == 0)
-        options->config.capacity = (uint32_t)decimal;
-    else if (strcmp(name, "--limit") == 0)
-        options->config.limit = (uint32_t)decimal;
-    else if (strcmp(name, "--rate") == 0)
-        options->config.rate = (uint32_t)decimal;
-    else if (strcmp(name, "--session-bps") == 0)
-        options->session_bps = decimal;
-    else if (strcmp(name, "--sender-bw") == 0)
-        options->sender_bw = value;
-    else if (strcmp(name, "--receiver-bw") == 0)
-        options->receiver_bw = value;
-}
-
-/* Reads the options. Items go out in the order of their types, whatever the order of the options is. */
-static void read_options(struct options *options, int count, char **words)
-{
-    options->config = (jalwedd_config){.capacity = 1024, .limit = 1472, .rate = 8000};
-    options->session_bps = 64000;
-    options->cname = "";
-    for (int at = 0; at + 1 < count; at += 2) {
-        if (strcmp(words[at], "--cname") == 0)
-            options->cname = words[at + 1];
-        else
-            read_number(options, words[at], words[at + 1]);
-    }
-    for (uint8_t item = 0; item < 6; item++)
-        for (int at = 0; at + 1 < count; at += 2)
-            if (strcmp(words[at], ITEMS[item]) == 0)
-                add_item(options, item + 2, words[at + 1], 0);
-    for (int at = 0; at + 1 < count; at += 2)
-        if (strcmp(words[at], "--priv") == 0)
-            add_item(options, 8, words[at + 1], 1);
-    const uint64_t rtcp_bw = options->session_bps / 160;
-    const uint64_t for_senders = options->sender_bw ? strtoull(options->sender_bw, NULL, 10) : rtcp_bw / 4;
-    const uint64_t for_others = options->receiver_bw ? strtoull(options->receiver_bw, NULL, 10) : rtcp_bw - rtcp_bw / 4;
-    options->config.sender_bw = at_most_32_bits(for_senders);
-    options->config.receiver_bw = at_most_32_bits(for_others);
+    return moment > UINT64_MAX - start ? UINT64_MAX : start + moment;
 }
 
 static void write_counts(const char *first, const jalwedd_step *step)
@@ -123,7 +53,7 @@ static void write_counts(const char *first, const jalwedd_step *step)
     if (step->next == JALWEDD_NEVER)
         printf("-");
     else
-        printf("%" PRIu64, step->next);
+        printf("%" PRIu64, since_start(step->next));
 }
 
 static void write_moment(const char *name, uint64_t moment)
@@ -131,7 +61,7 @@ static void write_moment(const char *name, uint64_t moment)
     if (moment == JALWEDD_NEVER)
         printf(" %s=-", name);
     else
-        printf(" %s=%" PRIu64, name, moment);
+        printf(" %s=%" PRIu64, name, since_start(moment));
 }
 
 static void write_source(const jalwedd_source_state *source)
@@ -208,6 +138,64 @@ static void write_answer(uint32_t status, const jalwedd_step *step, const uint8_
         printf(" ssrc=%08" PRIx32, step->ssrc);
 }
 
+/* ---- Calls before the start */
+
+/* One of the five calls, at this moment, which is recorded too. */
+static uint32_t call_of(uint64_t kind, jalwedd_handle *session, uint64_t now, jalwedd_step *step, uint8_t *octets)
+{
+    static const uint8_t report[] = {0x80, 0xc9, 0, 1, 0, 0, 0, 7}, packet[12] = {0x80, 0, 0, 1};
+    switch (kind % 5) {
+    case 0:
+        jalwedd_record_arrive_rtcp(&calls, now, 7, 9, report, sizeof report);
+        return jalwedd_arrive_rtcp(session, now, 7, 9, report, sizeof report, step, octets);
+    case 1:
+        jalwedd_record_arrive_rtp(&calls, now, 7, 9, packet, sizeof packet);
+        return jalwedd_arrive_rtp(session, now, 7, 9, packet, sizeof packet, step, octets);
+    case 2:
+        jalwedd_record_sent_rtp(&calls, now, 7, 160);
+        return jalwedd_sent_rtp(session, now, 7, 160, step, octets);
+    case 3:
+        jalwedd_record_tick(&calls, now, 7, 9);
+        return jalwedd_tick(session, now, 7, 9, step, octets);
+    default:
+        jalwedd_record_leave(&calls, now, 9);
+        return jalwedd_leave(session, now, 9, step, octets);
+    }
+}
+
+/* Makes a call before the start, which is refused and changes nothing. */
+static void come_early(jalwedd_handle *session, uint64_t random)
+{
+    static jalwedd_source_state before[MOST_SOURCES], after[MOST_SOURCES];
+    static uint8_t octets[JALWEDD_OCTETS], untouched[JALWEDD_OCTETS];
+    const jalwedd_step wanted = {.next = jalwedd_next(session), .members = jalwedd_members(session),
+                                 .senders = jalwedd_senders(session), .ssrc = jalwedd_ssrc(session),
+                                 .entries = jalwedd_entries(session)};
+    const uint64_t now = random % 7 == 0 ? 0 : random % 7 == 1 ? start - 1 : random / 7 % start;
+    const size_t count = walk(session, 0, before);
+    jalwedd_step step;
+    memset(octets, 0x5a, sizeof octets);
+    memset(untouched, 0x5a, sizeof untouched);
+    const uint32_t status = call_of(random >> 40, session, now, &step, octets);
+    if (status != (wanted.next == JALWEDD_NEVER ? JALWEDD_LEFT : JALWEDD_BACKWARDS))
+        printf("a call before the start has the status %" PRIu32 "\n", status);
+    if (memcmp(&step, &wanted, sizeof step) != 0 || memcmp(octets, untouched, sizeof octets) != 0
+        || walk(session, 0, after) != count || memcmp(before, after, count * sizeof *before) != 0)
+        printf("a call before the start changes something\n");
+}
+
+/* The next word of splitmix64. */
+static uint64_t random_word(void)
+{
+    static uint64_t state;
+    uint64_t word = state += 0x9e3779b97f4a7c15u;
+    word = (word ^ word >> 30) * 0xbf58476d1ce4e5b9u;
+    word = (word ^ word >> 27) * 0x94d049bb133111ebu;
+    return word ^ word >> 31;
+}
+
+/* ---- The events */
+
 /* Tells the participant the event of a line, of at most five fields. */
 static void tell(jalwedd_handle *session, char **fields)
 {
@@ -215,7 +203,9 @@ static void tell(jalwedd_handle *session, char **fields)
     jalwedd_step step;
     jalwedd_fault fault = {0, 0};
     uint32_t status;
-    const uint64_t now = strtoull(fields[1], NULL, 10);
+    const uint64_t now = by_clock(strtoull(fields[1], NULL, 10)), random = random_word();
+    if (start != 0 && random % 4 == 0)
+        come_early(session, random / 4);
     if (strcmp(fields[0], "rtcp") == 0 || strcmp(fields[0], "rtp") == 0) {
         /* a block of just its size, so that a sanitizer sees what is read past it */
         uint8_t *room = malloc(MOST_OCTETS);
@@ -224,6 +214,9 @@ static void tell(jalwedd_handle *session, char **fields)
         memcpy(datagram, room, size);
         const uint64_t peer = strtoull(fields[2], NULL, 10);
         const uint32_t word = (uint32_t)strtoul(fields[3], NULL, 16);
+        const char *how = walks_differ(datagram, size);
+        if (how != NULL)
+            printf("%s\n", how);
         if (fields[0][2] == 'c') {
             jalwedd_record_arrive_rtcp(&calls, now, peer, word, datagram, size);
             status = jalwedd_arrive_rtcp(session, now, peer, word, datagram, size, &step, octets);
@@ -255,8 +248,8 @@ static void tell(jalwedd_handle *session, char **fields)
 /* Has calls and command recorded in these files. */
 static void record_in(const char *of_calls, const char *of_command)
 {
-    calls = (jalwedd_record){.write = jalwedd_record_to_file, .to = fopen(of_calls, "w")};
-    command = (jalwedd_record){.write = jalwedd_record_to_file, .to = fopen(of_command, "w")};
+    calls = (jalwedd_record){.write = jalwedd_record_to_file, .to = fopen(of_calls, "w"), .start = start};
+    command = (jalwedd_record){.write = jalwedd_record_to_file, .to = fopen(of_command, "w"), .start = start};
     if (calls.to == NULL || command.to == NULL) {
         perror("host");
         exit(1);
@@ -282,11 +275,16 @@ int main(int count, char **words)
     jalwedd_step step;
     int given = 2;
     tells_sources = count > 1 && strcmp(words[1], "sources") == 0;
-    if (count > 3 && strcmp(words[1], "record") == 0) {
-        record_in(words[2], words[3]);
+    const int is_recorded = count > 3 && strcmp(words[1], "record") == 0;
+    if (is_recorded)
         given = 4;
-    }
     read_options(&options, count - given, words + given);
+    for (int at = given; at + 1 < count; at += 2)
+        if (strcmp(words[at], "--start") == 0)
+            start = strtoull(words[at + 1], NULL, 10);
+    options.config.start = start;
+    if (is_recorded)
+        record_in(words[2], words[3]);
     const uint32_t status = jalwedd_new(&session, &options.config, (const uint8_t *)options.cname,
                                         strlen(options.cname), options.items, options.item_count, options.word, &step);
     if (status != JALWEDD_TAKEN) {

@@ -1,6 +1,6 @@
-/* Tests the ranges of jalwedd.hpp over the parts of a datagram: each gives what the loop over its call gives, for the
- * datagrams of the samples, for random ones and for damaged ones. Those of a datagram that is written out here, and the
- * counts and texts of the random ones, are also compared with what was written.
+/* Tests the ranges of jalwedd.hpp over the parts of a datagram, which walk with a cursor: each gives what the loop over
+ * the call by index gives, for the datagrams of the samples, for random ones and for damaged ones. Those of a datagram
+ * that is written out here, and the counts and texts of the random ones, are also compared with what was written.
  * Ends with 0, or prints the line of the test that fails. (package/compile)
  * usage: hpp_datagrams SAMPLES        the folder samples/ */
 #include "hpp_tests.hpp"
@@ -13,9 +13,12 @@
 
 using parts_iterator = decltype(jalwedd::goodbyes(nullptr, 0).begin());
 static_assert(std::is_same_v<std::iterator_traits<parts_iterator>::iterator_category, std::input_iterator_tag>);
+static_assert(std::is_same_v<decltype(*parts_iterator()), jalwedd::goodbye>);
 #if __cplusplus >= 202002L
-static_assert(std::ranges::input_range<decltype(jalwedd::goodbyes(nullptr, 0))>);
+static_assert(std::ranges::forward_range<decltype(jalwedd::goodbyes(nullptr, 0))>);
+static_assert(std::ranges::forward_range<decltype(jalwedd::about(nullptr, 0, 0))>);
 static_assert(std::ranges::common_range<decltype(jalwedd::goodbyes(nullptr, 0))>);
+static_assert(!std::ranges::forward_range<decltype(jalwedd::changes(nullptr, 0, nullptr, 0))>);
 #endif
 
 /* ---- Parts */
@@ -181,7 +184,11 @@ static int iterated()
     HOLDS(std::distance(gone.begin(), gone.end()) == 4 && decltype(at)() == gone.end());
     const auto found = std::find_if(gone.begin(), gone.end(), [](const jalwedd::goodbye& one) { return !one.reason; });
     HOLDS(found != gone.end() && found->ssrc == 4);
+    auto one = copy, other = std::next(copy, 2); /* each goes on by itself, more than once */
+    HOLDS(other->ssrc == 5 && one->ssrc == 9 && (++one)->ssrc == 7 && ++one == other && one->ssrc == 5);
+    HOLDS(std::next(copy)->ssrc == 7 && std::next(copy, 4) == gone.end() && copy == gone.begin());
 #if __cplusplus >= 202002L
+    HOLDS(std::ranges::max_element(gone, {}, &jalwedd::goodbye::ssrc)->ssrc == 9);
     HOLDS(std::ranges::distance(gone) == 4 && std::ranges::count(gone, 5u, &jalwedd::goodbye::ssrc) == 1);
 #endif
     return 0;

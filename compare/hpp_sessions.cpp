@@ -16,7 +16,11 @@
 using jalwedd::participant;
 using listing = std::vector<jalwedd_source_state>;
 
-constexpr jalwedd_config CONFIG = {0xeead0eea00000000, 0xaa, 1024, 1472, 100, 300, 8000};
+/* the moment at which sessions start by the host's clock, and 1,026,037 microseconds after it the first tick of those
+ * that draw by the word 0, as docs/PROTOCOL.md has it */
+constexpr std::uint64_t START = 600'000'000, FIRST = START + 1'026'037;
+
+constexpr jalwedd_config CONFIG = {0xeead0eea00000000, START, 0xaa, 1024, 1472, 100, 300, 8000};
 
 static_assert(!std::is_copy_constructible_v<participant> && !std::is_copy_assignable_v<participant>);
 static_assert(std::is_nothrow_move_constructible_v<participant> && std::is_nothrow_move_assignable_v<participant>);
@@ -130,12 +134,15 @@ static int refused()
     HOLDS(session.join(CONFIG, "a", &wrong, 1, 0, step) == JALWEDD_ITEM);
     config.capacity = 1025;
     HOLDS(session.join(config, "a", 0, step) == JALWEDD_CAPACITY && session.is_empty() && held.empty());
+    config = CONFIG;
+    config.start = std::uint64_t{1} << 63;
+    HOLDS(session.join(config, "a", &wrong, 1, 0, step) == JALWEDD_ITEM);
+    HOLDS(session.join(config, "a", 0, step) == JALWEDD_START && session.is_empty() && is_blank(step));
     refuses = true;
     HOLDS(session.join(CONFIG, "a", 0, step) == JALWEDD_NO_MEMORY && session.is_empty());
     refuses = false;
-    /* the draw of 0 from 2.5 seconds, as docs/PROTOCOL.md has it */
-    HOLDS(session.join(CONFIG, longest, items.data(), 7, 0, step) == JALWEDD_TAKEN && step.next == 1'026'037);
-    HOLDS(!session.is_empty() && session.next() == 1'026'037 && session.members() == 1 && session.ssrc() == 0xaa);
+    HOLDS(session.join(CONFIG, longest, items.data(), 7, 0, step) == JALWEDD_TAKEN && step.next == FIRST);
+    HOLDS(!session.is_empty() && session.next() == FIRST && session.members() == 1 && session.ssrc() == 0xaa);
     HOLDS(session.join(CONFIG, "a", 0, step) == JALWEDD_IS_LIVE && step.ssrc == 0xaa && held.size() == 2);
     HOLDS(session.free() == JALWEDD_TAKEN && session.free() == JALWEDD_IS_EMPTY && held.empty());
     return 0;
@@ -174,7 +181,7 @@ static int moved()
     HOLDS(first.ssrc() == 7 && second.is_empty() && second.ssrc() == 0 && held.size() == 2);
     participant& same_one = first;
     first = std::move(same_one);
-    HOLDS(!first.is_empty() && first.ssrc() == 7 && first.next() == 1'026'037 && held.size() == 2);
+    HOLDS(!first.is_empty() && first.ssrc() == 7 && first.next() == FIRST && held.size() == 2);
     std::swap(first, second);
     HOLDS(first.is_empty() && second.ssrc() == 7 && held.size() == 2);
     second = std::move(first);
@@ -226,6 +233,20 @@ static const std::uint8_t* octets_of(std::string_view text)
     return reinterpret_cast<const std::uint8_t*>(text.data());
 }
 
+/* A clock that is read before the session starts. */
+static int before_the_start()
+{
+    participant session = made(7);
+    jalwedd_step step;
+    std::uint8_t out[JALWEDD_OCTETS];
+    HOLDS(session.tick(START - 1, 0, 0, step, out) == JALWEDD_BACKWARDS && step.next == FIRST && step.kind == 0);
+    HOLDS(session.sent_rtp(0, 0, 160, step, out) == JALWEDD_BACKWARDS && session.senders() == 0);
+    HOLDS(session.sent_rtp(START, 0, 160, step, out) == JALWEDD_TAKEN && session.senders() == 1);
+    HOLDS(session.leave(START, 0, step, out) == JALWEDD_TAKEN && session.next() == JALWEDD_NEVER);
+    HOLDS(session.tick(START - 1, 0, 0, step, out) == JALWEDD_LEFT && step.next == JALWEDD_NEVER);
+    return 0;
+}
+
 /* Without items, and with another word than 0. */
 static int joined_without_items()
 {
@@ -236,7 +257,7 @@ static int joined_without_items()
     const std::uint8_t* const cname = octets_of(CNAME);
     HOLDS(session.join(CONFIG, CNAME, 0x87654321, step) == JALWEDD_TAKEN);
     HOLDS(jalwedd_new(&other, &CONFIG, cname, CNAME.size(), &none, 0, 0x87654321, &other_step) == JALWEDD_TAKEN);
-    HOLDS(same(step, other_step) && step.next != 1'026'037);
+    HOLDS(same(step, other_step) && step.next != FIRST && step.next > START);
     HOLDS(jalwedd_free(&other) == JALWEDD_TAKEN);
     return 0;
 }
@@ -301,14 +322,14 @@ static int called(pair& both, const std::string& call, std::uint64_t now, std::i
     return 0;
 }
 
-/* Makes the call of a line of `rtcp replay`. */
+/* Makes the call of a line of `rtcp replay`, whose moments count from the start. */
 static int told(pair& both, const std::string& line)
 {
     std::istringstream words(line);
     std::string call;
     std::uint64_t now = 0;
     words >> call >> now;
-    PASSES((call == "rtcp" || call == "rtp" ? arrived : called)(both, call, now, words));
+    PASSES((call == "rtcp" || call == "rtp" ? arrived : called)(both, call, START + now, words));
     HOLDS(same(both.step, both.other_step));
     HOLDS(std::memcmp(both.out, both.other_out, JALWEDD_OCTETS) == 0);
     both.reports += both.other_step.kind != JALWEDD_NOTHING;
@@ -373,12 +394,13 @@ static int answered_alike(const std::vector<std::string>& lines)
     return 0;
 }
 
-/* Packets and reports that take the SSRC, and their peers do so again; a member with the greatest SSRC; and calls that
- * are refused. */
+/* Packets and reports that take the SSRC, and their peers do so again; members whose SSRCs are next to each other, and
+ * one with the greatest SSRC; and calls that are refused. */
 static const std::vector<std::string> COLLISIONS = {
     "tick 1026037 00000000 00000000",
     "sent 1100000 12345 160",
     "rtcp 1100000 6 000000ba 80c900010000000781ca00020000000701016100",
+    "rtcp 1100000 6 000000ba 80c900010000000881ca00020000000801016100",
     "rtp 1200000 7 000000bb 8000000100000000000000aa",
     "rtp 1300000 7 000000bc 8000000200000000000000bb",
     "rtp 1300000 8 000000cc 8000000200000000000000bb",
@@ -422,7 +444,7 @@ static int changed()
 
 static int all_of(const std::string& samples)
 {
-    PASSES(empty() || refused() || items() || moved() || contained() || joined_without_items());
+    PASSES(empty() || refused() || items() || moved() || contained() || before_the_start() || joined_without_items());
     for (const char* name : {"conversation", "gstreamer", "leaving", "loop"})
         PASSES(answered_alike(lines_of(samples + "/" + name + ".replay")));
     PASSES(answered_alike(COLLISIONS));

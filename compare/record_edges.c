@@ -1,7 +1,8 @@
-/* Tests the edge cases of jalwedd_record.h: the exact text of each call; the longest datagram, and longer ones; each
- * write failing in turn; no write, and full files; and which texts and items have no option. Ends with status 0 if all
- * is as the header says. With `commands` it reads configurations from compare/record, and writes the command of each to
- * standard output and its status to standard error.
+/* Tests the edge cases of jalwedd_record.h: the exact text of each call, also where the session does not start at 0;
+ * the longest datagram, and longer ones; each write failing in turn; no write, and full files; the comment that has the
+ * start; and which texts and items have no option. Ends with status 0 if all is as the header says. With `commands` it
+ * reads configurations from compare/record, and writes the command of each to standard output and its status to
+ * standard error.
  * usage: record_edges [commands < CONFIGURATIONS]        (compare/record) */
 #define JALWEDD_RECORD_STDIO
 #include "jalwedd_record.h"
@@ -34,7 +35,7 @@ static int to_memory(void *to, const char *text, size_t size)
 
 static jalwedd_record begun(size_t failing)
 {
-    const jalwedd_record record = {to_memory, &memory, 0};
+    const jalwedd_record record = {to_memory, &memory, 0, 0};
     memory.size = memory.longest = memory.writes = 0;
     memory.failing = failing;
     return record;
@@ -47,18 +48,43 @@ static int is_text(const char *text)
 
 /* ---- Lines */
 
-static int lines(void)
+static void seven_calls(jalwedd_record *record)
 {
     const uint8_t datagram[] = {0x80, 0xc9, 0x00, 0x01, 0xff, 0x0f};
+    jalwedd_record_arrive_rtcp(record, 0, 0, 0, datagram, sizeof datagram);
+    jalwedd_record_arrive_rtp(record, UINT64_MAX, UINT64_MAX, UINT32_MAX, datagram, 1);
+    jalwedd_record_arrive_rtcp(record, 10, 139637976798093, 0x89abcdef, datagram, 0);
+    jalwedd_record_sent_rtp(record, 1000000, UINT32_MAX, 0);
+    jalwedd_record_sent_rtp(record, 9, 0, UINT32_MAX);
+    jalwedd_record_tick(record, 1026037, 1, 0x80000000);
+    jalwedd_record_leave(record, 4503599627370496, 0xabcdef);
+}
+
+/* Those before the start have no line, and those at it have the moment 0. */
+static int later_lines(void)
+{
     jalwedd_record record = begun(SIZE_MAX);
     int wrong = 0;
-    jalwedd_record_arrive_rtcp(&record, 0, 0, 0, datagram, sizeof datagram);
-    jalwedd_record_arrive_rtp(&record, UINT64_MAX, UINT64_MAX, UINT32_MAX, datagram, 1);
-    jalwedd_record_arrive_rtcp(&record, 10, 139637976798093, 0x89abcdef, datagram, 0);
-    jalwedd_record_sent_rtp(&record, 1000000, UINT32_MAX, 0);
-    jalwedd_record_sent_rtp(&record, 9, 0, UINT32_MAX);
-    jalwedd_record_tick(&record, 1026037, 1, 0x80000000);
-    jalwedd_record_leave(&record, 4503599627370496, 0xabcdef);
+    record.start = 10;
+    seven_calls(&record);
+    wrong |= HOLDS(is_text("rtp 18446744073709551605 18446744073709551615 ffffffff 80\n"
+                           "rtcp 0 139637976798093 89abcdef -\n"
+                           "sent 999990 4294967295 0\n"
+                           "tick 1026027 00000001 80000000\n"
+                           "leave 4503599627370486 00abcdef\n"));
+    record = begun(SIZE_MAX);
+    record.start = UINT64_MAX;
+    seven_calls(&record);
+    wrong |= HOLDS(is_text("rtp 0 18446744073709551615 ffffffff 80\n")) | HOLDS(memory.writes == 1);
+    return wrong | HOLDS(!record.failed);
+}
+
+static int lines(void)
+{
+    jalwedd_record record = begun(SIZE_MAX);
+    int wrong = later_lines();
+    record = begun(SIZE_MAX);
+    seven_calls(&record);
     wrong |= HOLDS(is_text("rtcp 0 0 00000000 80c90001ff0f\n"
                            "rtp 18446744073709551615 18446744073709551615 ffffffff 80\n"
                            "rtcp 10 139637976798093 89abcdef -\n"
@@ -145,8 +171,8 @@ static int failures(void)
 
 static int none(void)
 {
-    const jalwedd_config config = {0, 1, 2, 3, 4, 5, 6};
-    jalwedd_record record = {NULL, NULL, 0};
+    const jalwedd_config config = {0, 7, 1, 2, 3, 4, 5, 6};
+    jalwedd_record record = {NULL, NULL, 0, 0};
     three_calls(&record);
     return HOLDS(!record.failed) |
            HOLDS(jalwedd_record_command(&record, &config, (const uint8_t *)"a", 1, NULL, 0, 0) == JALWEDD_TAKEN) |
@@ -157,7 +183,7 @@ static int files(void)
 {
     char line[40];
     FILE *file = tmpfile(), *full = fopen("/dev/full", "w");
-    jalwedd_record record = {jalwedd_record_to_file, file, 0}, to_full = {jalwedd_record_to_file, full, 0};
+    jalwedd_record record = {jalwedd_record_to_file, file, 0, 0}, to_full = {jalwedd_record_to_file, full, 0, 0};
     int wrong = HOLDS(file != NULL && full != NULL);
     if (wrong)
         return wrong;
@@ -175,7 +201,7 @@ static int files(void)
 
 /* ---- Commands */
 
-static const jalwedd_config CONFIG = {0x0123456789abcdef, 0xaa, 1024, 1472, 100, 300, 8000};
+static const jalwedd_config CONFIG = {0x0123456789abcdef, 0, 0xaa, 1024, 1472, 100, 300, 8000};
 
 static jalwedd_item item(uint8_t kind, const char *text, size_t size)
 {
@@ -191,6 +217,26 @@ static uint32_t commanded(const char *cname, size_t cname_size, const jalwedd_it
 {
     jalwedd_record record = begun(SIZE_MAX);
     return jalwedd_record_command(&record, &CONFIG, (const uint8_t *)cname, cname_size, items, item_count, 0xfedcba98);
+}
+
+/* The start is no option, but a comment before the command. */
+static int comments(void)
+{
+    static const char *const command = "rtcp replay --ssrc 000000aa --cname 'a' --capacity 1024 --limit 1472 "
+                                       "--sender-bw 100 --receiver-bw 300 --rate 8000 --ntp 0123456789abcdef "
+                                       "--word 00000007 --lines 4294967295\n";
+    static const uint64_t starts[] = {1, 600000000, INT64_MAX, UINT64_MAX};
+    char wanted[400];
+    int wrong = 0;
+    for (size_t at = 0; at < 4; at++) {
+        jalwedd_record record = begun(SIZE_MAX);
+        jalwedd_config config = CONFIG;
+        config.start = starts[at];
+        snprintf(wanted, sizeof wanted, "# start %llu\n%s", (unsigned long long)starts[at], command);
+        wrong |= HOLDS(jalwedd_record_command(&record, &config, (const uint8_t *)"a", 1, NULL, 0, 7) == JALWEDD_TAKEN);
+        wrong |= HOLDS(is_text(wanted)) | HOLDS(!record.failed);
+    }
+    return wrong;
 }
 
 static int commands(void)
@@ -251,11 +297,11 @@ static int command_given(jalwedd_record *record)
 
 int main(int count, char **words)
 {
-    jalwedd_record record = {jalwedd_record_to_file, stdout, 0};
+    jalwedd_record record = {jalwedd_record_to_file, stdout, 0, 0};
     if (count == 2 && strcmp(words[1], "commands") == 0) {
         while (command_given(&record))
             continue;
         return record.failed;
     }
-    return lines() | sizes() | failures() | none() | files() | commands();
+    return lines() | sizes() | failures() | none() | files() | comments() | commands();
 }

@@ -14,7 +14,7 @@ enum { STACK = 1 << 20, PAINT = 0xa5, OTHERS = 1000 };
 static jalwedd_handle session = JALWEDD_EMPTY;
 static jalwedd_step step;
 static uint8_t octets[JALWEDD_OCTETS];
-static const jalwedd_config CONFIG = {0, 0xaa, 1024, 1472, 100, 300, 8000};
+static const jalwedd_config CONFIG = {0, 0, 0xaa, 1024, 1472, 100, 300, 8000};
 static const jalwedd_item item = {2, 4, "name"};
 
 static void nothing(void)

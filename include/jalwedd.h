@@ -3,9 +3,10 @@
  * clock, draws no random number, starts no thread, takes no lock, and allocates only in jalwedd_new. Two threads that
  * call with one handle at the same time may lose the participant: see ONE CALL AT A TIME, below.
  *
- * A host keeps two sockets, a monotonic clock, and a source of random words:
+ * A host keeps two sockets, a monotonic clock, and a source of random words. `now` is what its clock says, as it is:
  *
  *     jalwedd_handle session = JALWEDD_EMPTY;
+ *     config.start = now, config.ntp_base = the time of day as an NTP timestamp;
  *     jalwedd_new(&session, &config, cname, cname_size, items, item_count, random_word(), &step);
  *     for (;;) {
  *         wait until step.next, or a second after the latest tick, or until a datagram comes
@@ -42,14 +43,17 @@
  *
  * No call takes more than 8,192 octets of stack (as measured, at 1,000 members).
  *
- * Moments are microseconds since the session began, from 0 to 2^50, and never go back. Moment 0 of a participant is its
- * jalwedd_new. Words are random, from 0 to 2^32 - 1, each used once.
+ * Moments are those of the host's clock, in microseconds: of any that does not go back, whatever it counts from. A
+ * session starts with jalwedd_new, at the moment config.start, 0 to 2^63 - 1. All moments that are passed in lie
+ * between the start and 2^50 after it, and never go back; those that are told are of the same clock. Words are random,
+ * from 0 to 2^32 - 1, each used once.
  *
  * A participant has one SSRC. A host that sends several streams into a session is as many participants there, each with
- * a handle. All have one CNAME, and NTP timestamps of one clock: the ntp_base of one that begins later is
- * jalwedd_ntp_of(ntp_base, now) of the first. Pass to each of them what came, and also what the others of this host
- * sent, as if it had come, so that all count the same members (RFC 3550, 6.2). But do not pass its own datagrams to a
- * participant: if a multicast group brings them back, it would take another SSRC (8.2).
+ * a handle. All have one CNAME, one clock, and NTP timestamps of one time of day. One that starts after the first, at
+ * the moment `now`, has the start `now` and the ntp_base jalwedd_ntp_of(first.ntp_base, now - first.start). Pass to
+ * each of them what came, and also what the others of this host sent, as if it had come, so that all count the same
+ * members (RFC 3550, 6.2). But do not pass its own datagrams to a participant: if a multicast group brings them back,
+ * it would take another SSRC (8.2).
  *
  * A structure of this header never grows or changes its layout under one SONAME of the shared object.
  */
@@ -67,10 +71,10 @@ extern "C" {
  * earlier one, under the same SONAME. */
 
 #define JALWEDD_VERSION_MAJOR 0
-#define JALWEDD_VERSION_MINOR 3
+#define JALWEDD_VERSION_MINOR 4
 #define JALWEDD_VERSION_PATCH 0
 
-/* The version of the linked library: 0x000300 for 0.3.0. */
+/* The version of the linked library: 0x000400 for 0.4.0. */
 uint32_t jalwedd_version(void);
 
 /* ---- Statuses. Two of them have two names, of which a switch can use only one: NO_BLOCK or NO_PART, and NO_SOURCE or
@@ -81,15 +85,17 @@ enum {
 
     /* A call that the participant refused: the first of these that applies. */
     JALWEDD_LEFT = 1,           /* E1: it has left the session (RFC 3550, 6.3.7) */
-    JALWEDD_BACKWARDS = 2,      /* E2: the moment lies before that of the latest call that was taken */
-    JALWEDD_TOO_FAR = 3,        /* E3: the moment lies beyond 2^50 */
+    JALWEDD_BACKWARDS = 2,      /* E2: the moment lies before the start, or before that of the latest call that was
+                                   taken */
+    JALWEDD_TOO_FAR = 3,        /* E3: the moment lies more than 2^50 after the start */
     JALWEDD_TOO_MANY = 4,       /* E4: a session has fewer than 2^40 calls, and 2^40 - 1 were taken */
     JALWEDD_NO_COMPOUND = 5,    /* E5: the RTCP datagram is not a compound (6.1): jalwedd_check says why */
     JALWEDD_NO_RTP = 6,         /* E6: the RTP datagram has no valid head (5.1) */
     JALWEDD_OWN_SSRC = 7,       /* E7: the datagram uses our SSRC, and its peer may not change it (again) (8.2) */
 
     JALWEDD_NO_BLOCK = 8,       /* jalwedd_about: there is no such block */
-    JALWEDD_NO_PART = 8,        /* jalwedd_sender, _block, _sdes_item, _goodbye, _app: no such part */
+    JALWEDD_NO_PART = 8,        /* jalwedd_next_sender to _next_app: no further part; jalwedd_sender to _app: no such
+                                   part */
     JALWEDD_NO_SOURCE = 9,      /* jalwedd_source: there is no such source */
     JALWEDD_NO_CHANGE = 9,      /* jalwedd_change: no further source changed its role */
     JALWEDD_NOT_RISING = 10,    /* jalwedd_change: the SSRCs of a listing do not rise */
@@ -102,6 +108,7 @@ enum {
     JALWEDD_BANDWIDTH = 14,     /* C4: one of the bandwidths is out of range 16 to 2^30 */
     JALWEDD_RATE = 15,          /* C5: the rate is out of range 1 to 2^20 */
     JALWEDD_ITEM = 16,          /* C6: the type of an item is out of range 2 to 8, or there are more than 7 items */
+    JALWEDD_START = 17,         /* C7: the start is 2^63 or later */
 
     JALWEDD_IS_EMPTY = 20,      /* the handle holds no participant */
     JALWEDD_IS_LIVE = 21,       /* jalwedd_new: the handle holds a participant already */
@@ -115,8 +122,8 @@ static inline const char *jalwedd_text(uint32_t status)
     switch (status) {
     case JALWEDD_TAKEN:       return "taken";
     case JALWEDD_LEFT:        return "the participant has left";
-    case JALWEDD_BACKWARDS:   return "the moment lies before the last one";
-    case JALWEDD_TOO_FAR:     return "the moment lies beyond 2^50 microseconds";
+    case JALWEDD_BACKWARDS:   return "the moment lies before the start or the last one";
+    case JALWEDD_TOO_FAR:     return "the moment lies beyond 2^50 microseconds after the start";
     case JALWEDD_TOO_MANY:    return "too many calls for one session";
     case JALWEDD_NO_COMPOUND: return "no RTCP compound";
     case JALWEDD_NO_RTP:      return "no RTP packet";
@@ -130,6 +137,7 @@ static inline const char *jalwedd_text(uint32_t status)
     case JALWEDD_BANDWIDTH:   return "a bandwidth is out of range";
     case JALWEDD_RATE:        return "the clock rate is out of range";
     case JALWEDD_ITEM:        return "an item cannot be sent, or there are too many";
+    case JALWEDD_START:       return "the start is out of range";
     case JALWEDD_IS_EMPTY:    return "the handle holds no participant";
     case JALWEDD_IS_LIVE:     return "the handle holds a participant already";
     case JALWEDD_NO_MEMORY:   return "there is no memory";
@@ -149,8 +157,10 @@ typedef struct jalwedd_handle {
 
 /* The session and the participant, as the host configures them. */
 typedef struct jalwedd_config {
-    uint64_t ntp_base;      /* the NTP timestamp of moment 0: seconds since 1900 in the upper 32 bits, their fraction
+    uint64_t ntp_base;      /* the NTP timestamp of the start: seconds since 1900 in the upper 32 bits, their fraction
                                in the lower */
+    uint64_t start;         /* the moment of jalwedd_new by the host's clock, in microseconds, 0 to 2^63 - 1: read it
+                               together with the time of day of ntp_base */
     uint32_t ssrc;          /* the SSRC, to be chosen at random (8.1) */
     uint32_t capacity;      /* how many other sources are kept track of, 1 to 1,024 */
     uint32_t limit;         /* the maximum size of a compound in octets, without UDP and IP headers: 576 to 1,472, a
@@ -179,9 +189,9 @@ enum { JALWEDD_NOTHING = 0, JALWEDD_REPORT = 1, JALWEDD_BYE = 2 };
 
 /* The result of a call. For an empty handle, next is JALWEDD_NEVER and all else 0. */
 typedef struct jalwedd_step {
-    uint64_t next;          /* when something may be due to be sent, or JALWEDD_NEVER once the participant has left.
-                               Call jalwedd_tick then, and at least once a second before that. It may lie before the
-                               moment of the call: then tick at once */
+    uint64_t next;          /* when something may be due to be sent, by the host's clock, or JALWEDD_NEVER once the
+                               participant has left. Call jalwedd_tick then, and at least once a second before that. It
+                               may lie before the moment of the call: then tick at once */
     uint32_t members;       /* the members of the session, the participant included (6.2.1); in the backoff after a
                                leave, it and one for each BYE packet that came since (6.3.7); 0 once it has left */
     uint32_t senders;       /* how many of the members send RTP packets: 0 from a leave on */
@@ -249,6 +259,18 @@ typedef struct jalwedd_app_place {
     uint8_t name[4];        /* its name, usually ASCII: no zero octet follows it */
 } jalwedd_app_place;
 
+/* Where a walk over the parts of one kind in a datagram stands: JALWEDD_BEGIN at first. The fields are private to the
+ * library. */
+typedef struct jalwedd_cursor {
+    uint64_t next;
+    uint64_t place;
+    uint64_t end;
+    uint32_t left;
+    uint32_t ssrc;
+} jalwedd_cursor;
+
+#define JALWEDD_BEGIN {0, 0, 0, 0, 0}
+
 /* The head of an RTP datagram (5.1), and where its CSRCs and its payload are in the datagram. */
 typedef struct jalwedd_head_place {
     uint64_t csrcs_offset;  /* the offset of the CSRCs, in octets: 12, even if there are none */
@@ -264,7 +286,7 @@ typedef struct jalwedd_head_place {
 
 /* What is known about a source. */
 typedef struct jalwedd_source_state {
-    uint64_t heard;         /* when it was last heard before it left */
+    uint64_t heard;         /* when it was last heard before it left, by the host's clock, as the next two */
     uint64_t left;          /* when it said goodbye, or JALWEDD_NEVER */
     uint64_t told;          /* when its latest sender report came, or JALWEDD_NEVER */
     uint64_t ntp;           /* the NTP timestamp of that report, or 0 */
@@ -300,17 +322,18 @@ typedef struct jalwedd_role_change {
 
 /* ---- A participant */
 
-/* The memory, in octets, that a participant of this capacity takes: a block of 2,560 octets, and one of 144 octets for
+/* The memory, in octets, that a participant of this capacity takes: a block of 2,568 octets, and one of 144 octets for
  * each source of the capacity. */
-#define JALWEDD_MEMORY(capacity) (2560 + 144 * (size_t)(capacity))
+#define JALWEDD_MEMORY(capacity) (2568 + 144 * (size_t)(capacity))
 
 /* Makes the library use `allocate` and `release` in place of malloc and free. `allocate` returns a block of `size`
  * octets, aligned as by malloc, or NULL. Call this at most once, before the first jalwedd_new. */
 void jalwedd_memory(void *(*allocate)(size_t size), void (*release)(void *at));
 
-/* Makes a participant in an empty handle; its session begins now, at moment 0. `word` is for the draw of the first
- * interval. Allocates JALWEDD_MEMORY(config->capacity) octets in two blocks; no other call allocates.
- * Statuses: TAKEN; IS_LIVE, and the step is that of the participant already there; CNAME to ITEM; NO_MEMORY. */
+/* Makes a participant in an empty handle; its session starts at the moment config->start, which is now. `word` is for
+ * the draw of the first interval. Allocates JALWEDD_MEMORY(config->capacity) octets in two blocks; no other call
+ * allocates.
+ * Statuses: TAKEN; IS_LIVE, and the step is that of the participant already there; CNAME to START; NO_MEMORY. */
 uint32_t jalwedd_new(jalwedd_handle *handle, const jalwedd_config *config, const uint8_t *cname, size_t cname_size,
                      const jalwedd_item *items, size_t item_count, uint32_t word, jalwedd_step *step);
 
@@ -322,9 +345,9 @@ uint32_t jalwedd_free(jalwedd_handle *handle);
 /* An RTCP datagram came at the moment `now`; `datagram` is its UDP payload (RFC 3550, 6.1). `peer` is a number for
  * where it came from, distinct for each address and port: for IPv4 these themselves, for IPv6 a hash of both with a
  * random key, such as SipHash. (A list of them would grow with each address that is forged.) `word` seeds a new SSRC if
- * one is needed (8.2).
+ * one is needed (8.2). On an open network, pass on no datagram of more than 1,500 octets: one can name 8,057 sources.
  * Hands out nothing, or, if it changes the SSRC, the BYE of the old one if anything was sent under it. Read its reports
- * about the host's own stream before the call (jalwedd_about), as they name the SSRC before a change.
+ * about the host's own stream before the call (jalwedd_next_block), as they name the SSRC before a change.
  * Statuses: TAKEN; LEFT to NO_COMPOUND; OWN_SSRC; IS_EMPTY. */
 uint32_t jalwedd_arrive_rtcp(jalwedd_handle *handle, uint64_t now, uint64_t peer, uint32_t word,
                              const uint8_t *datagram, size_t size, jalwedd_step *step, uint8_t octets[JALWEDD_OCTETS]);
@@ -413,17 +436,42 @@ uint32_t jalwedd_change(const jalwedd_source_state *before, size_t before_count,
  * Statuses: TAKEN; NO_COMPOUND. */
 uint32_t jalwedd_check(const uint8_t *datagram, size_t size, jalwedd_fault *fault);
 
+/* A walk over the parts of one kind in a datagram, of which each call gives the next, in the order of the datagram.
+ * These are its sender reports, the blocks of all its reports, the items of all its source descriptions, the sources
+ * that its BYEs name, or its APP packets. Each call takes the cursor past what it gives. So from JALWEDD_BEGIN on,
+ * until the status is not TAKEN, each part is given once:
+ *
+ *     jalwedd_cursor cursor = JALWEDD_BEGIN;
+ *     while (jalwedd_next_sdes_item(datagram, size, &cursor, &item) == JALWEDD_TAKEN)
+ *         name(item.ssrc, item.kind, datagram + item.offset, item.size);
+ *
+ * For the blocks about one source, walk over all blocks and compare report.ssrc with it. The first call of a walk
+ * checks the datagram, as jalwedd_check does, and no other checks it again. So a walk takes a time that grows with the
+ * size of the datagram alone.
+ * After the last part the status is NO_PART, also when asked again. Whenever it is not TAKEN the output is left as it
+ * is; with NO_COMPOUND, which only the first call of a walk returns, the cursor too. A cursor may be copied, and the
+ * copy goes on from there. It belongs to one datagram, with its size, and to one kind. With other octets, with another
+ * kind, or changed by the host, it is safe all the same. Each call then reads and gives only what lies in the datagram,
+ * each part takes the cursor on, and each walk ends; but which parts are given is not specified.
+ * Statuses: TAKEN; NO_COMPOUND; NO_PART. */
+uint32_t jalwedd_next_sender(const uint8_t *datagram, size_t size, jalwedd_cursor *cursor, jalwedd_sender_info *sender);
+uint32_t jalwedd_next_block(const uint8_t *datagram, size_t size, jalwedd_cursor *cursor, jalwedd_report *report);
+uint32_t jalwedd_next_sdes_item(const uint8_t *datagram, size_t size, jalwedd_cursor *cursor,
+                                jalwedd_item_place *item);
+uint32_t jalwedd_next_goodbye(const uint8_t *datagram, size_t size, jalwedd_cursor *cursor,
+                              jalwedd_goodbye_place *goodbye);
+uint32_t jalwedd_next_app(const uint8_t *datagram, size_t size, jalwedd_cursor *cursor, jalwedd_app_place *app);
+
 /* Gives what the reports of a datagram say about the source `ssrc`: of the blocks about it, in their order, the one at
- * `index`, from 0 on. Go on until the status is not TAKEN; then `report` is left as it is.
+ * `index`, from 0 on. Go on until the status is not TAKEN; then `report` is left as it is. Each call reads the datagram
+ * from its start: to read all blocks, walk with jalwedd_next_block.
  * Statuses: TAKEN; NO_COMPOUND; NO_BLOCK. */
 uint32_t jalwedd_about(const uint8_t *datagram, size_t size, uint32_t ssrc, uint32_t index, jalwedd_report *report);
 
-/* Each gives the part of one kind at `index`, from 0 on, in the order of the datagram: of its sender reports, of the
- * blocks of all its reports, of the items of all its source descriptions, of the sources that its BYEs name, and of its
- * APP packets. Go on with 0, 1, .. until the status is not TAKEN: then each was given once. The output is left as it is
- * then. Like jalwedd_about, each call reads the datagram from its start. So to read all parts takes a time that grows
- * with the square of the size: up to 2 milliseconds for 1,472 octets, and 4 seconds for 65,504 (as measured). On an
- * open network, pass on no RTCP datagram of more than 1,500 octets.
+/* Each gives the part of one kind at `index`, from 0 on, in the order of the datagram, or leaves the output as it is:
+ * of 0, 1, .. each gives what a walk with a cursor gives. Each call reads the datagram from its start. So to read all
+ * parts takes a time that grows with the square of the size: up to 2 milliseconds for 1,472 octets, and 4 seconds for
+ * 65,504 (as measured). Walk with a cursor instead, and ask by index only for the first part or two.
  * Statuses: TAKEN; NO_COMPOUND; NO_PART. */
 uint32_t jalwedd_sender(const uint8_t *datagram, size_t size, uint32_t index, jalwedd_sender_info *sender);
 uint32_t jalwedd_block(const uint8_t *datagram, size_t size, uint32_t index, jalwedd_report *report);
@@ -438,11 +486,12 @@ uint32_t jalwedd_app(const uint8_t *datagram, size_t size, uint32_t index, jalwe
 uint32_t jalwedd_rtp_head(const uint8_t *datagram, size_t size, jalwedd_head_place *head);
 
 /* The round-trip time by a report, in 1/65,536 of a second and modulo 2^32: `arrival` is the middle 32 bits of the NTP
- * timestamp of the moment at which it came, (uint32_t)(jalwedd_ntp_of(ntp_base, now) >> 16). A report whose lsr is 0
- * gives none; with a coarse remote clock the result may be negative: cast it to int32_t. */
+ * timestamp of the moment at which it came, (uint32_t)(jalwedd_ntp_of(ntp_base, now - start) >> 16). A report whose lsr
+ * is 0 gives none; with a coarse remote clock the result may be negative: cast it to int32_t. */
 uint32_t jalwedd_round_trip(uint32_t arrival, uint32_t lsr, uint32_t dlsr);
 
-/* The NTP timestamp of the moment `now` (section 4), in a session whose moment 0 has the timestamp `ntp_base`. */
+/* The NTP timestamp of the moment `now` (section 4), counted in microseconds from the one that has the timestamp
+ * `ntp_base`. That is the start: at a moment `now` of the host's clock pass config.ntp_base and now - config.start. */
 uint64_t jalwedd_ntp_of(uint64_t ntp_base, uint64_t now);
 
 #ifdef __cplusplus

@@ -2,6 +2,7 @@
  * the sources of a session, what changed between two listings, and the parts of a datagram.
  *
  *     jalwedd::participant session;
+ *     config.start = now;                                                             of the host's clock, as below
  *     if (session.join(config, "player@example.com", random_word(), step) != JALWEDD_TAKEN)
  *         return refused();
  *     session.arrive_rtcp(now, peer, random_word(), datagram, size, step, octets);    as the calls of jalwedd.h
@@ -41,6 +42,7 @@
 #include <iterator>
 #include <optional>
 #include <string_view>
+#include <type_traits>
 #include <utility>
 
 namespace jalwedd {
@@ -63,7 +65,9 @@ const Element* address(const Element* at, std::size_t count) noexcept
 
 /// What a call gives one after the other, for `for (const auto& element : range)`.
 ///
-/// Its iterators are input iterators, each with a copy of its element. `Call` is a type that hosts do not name.
+/// Each iterator has a copy of its element. Those over the parts of a datagram may be copied, and each copy goes on
+/// from there: in C++20 they are forward iterators, which give elements by value. Those over sources and changes are
+/// input iterators. `Call` is a type that hosts do not name.
 template <typename Call>
 class range {
 public:
@@ -74,25 +78,27 @@ public:
     class iterator {
     public:
         /// What the standard library asks of an iterator.
+        using iterator_concept = typename Call::iterator_concept;
         using iterator_category = std::input_iterator_tag;
         using value_type = typename Call::value_type;
         using difference_type = std::ptrdiff_t;
         using pointer = const value_type*;
-        using reference = const value_type&;
+        using reference = std::conditional_t<std::is_same_v<iterator_concept, std::input_iterator_tag>,
+                                             const value_type&, value_type>;
 
         /// An iterator at the end.
         iterator() noexcept = default;
 
-        /// The element, which lasts until the iterator goes on. Not at the end.
+        /// The element, or a copy of it over the parts of a datagram. Not at the end.
         reference operator*() const noexcept { return element_; }
 
-        /// The same as a pointer.
+        /// A pointer to the element, which lasts until the iterator goes on. Not at the end.
         pointer operator->() const noexcept { return &element_; }
 
         /// Goes on to the next element, or to the end. Not at the end.
         iterator& operator++() noexcept
         {
-            from_ = call_.give(from_, element_) == JALWEDD_TAKEN ? call_.after(from_, element_) : 0;
+            given_ = call_.give(position_, element_) == JALWEDD_TAKEN ? given_ + 1 : 0;
             return *this;
         }
 
@@ -107,7 +113,7 @@ public:
         /// Whether both are at the same element of a range, or at the end.
         friend bool operator==(const iterator& one, const iterator& other) noexcept
         {
-            return one.from_ == other.from_;
+            return one.given_ == other.given_;
         }
 
         /// Whether they are not.
@@ -118,8 +124,9 @@ public:
         explicit iterator(const Call& call) noexcept : call_(call) { ++*this; }
 
         Call call_{};
+        typename Call::position position_{}; /* where the next call goes on */
         value_type element_{};
-        std::uint64_t from_ = 0; /* where the next call goes on: 0 at the end, and never after an element */
+        std::size_t given_ = 0; /* how many elements there were with this one: 0 at the end */
     };
 
     /// Made by participant::sources and by the functions below.
@@ -134,8 +141,9 @@ public:
     /// The status of the call for the first element: JALWEDD_TAKEN, or why there is none.
     [[nodiscard]] std::uint32_t status() const noexcept
     {
+        typename Call::position position{};
         value_type element{};
-        return call_.give(0, element);
+        return call_.give(position, element);
     }
 
 private:
@@ -148,17 +156,16 @@ namespace inside {
 
 /* By rising SSRC. */
 struct sources {
+    using iterator_concept = std::input_iterator_tag;
     using value_type = jalwedd_source_state;
+    using position = std::uint64_t;
     jalwedd_handle* handle = nullptr;
 
-    std::uint32_t give(std::uint64_t from, value_type& source) const noexcept
+    std::uint32_t give(position& from, value_type& source) const noexcept
     {
-        return jalwedd_source(handle, from, &source);
-    }
-
-    static std::uint64_t after(std::uint64_t, const value_type& source) noexcept
-    {
-        return std::uint64_t{source.ssrc} + 1;
+        const std::uint32_t status = jalwedd_source(handle, from, &source);
+        from = status == JALWEDD_TAKEN ? std::uint64_t{source.ssrc} + 1 : from;
+        return status;
     }
 };
 
@@ -194,9 +201,10 @@ public:
     /// Frees the participant. It sends nothing: for a BYE call leave before it.
     ~participant() { jalwedd_free(&handle_); }
 
-    /// Begins to take part in a session: its moment 0 is now. `cname` has 1 to 255 octets, and there are at most 7
-    /// items. Allocates JALWEDD_MEMORY(config.capacity) octets, and no other call allocates.
-    /// Statuses: TAKEN; IS_LIVE, and the participant that is there goes on; CNAME to ITEM; NO_MEMORY.
+    /// Begins to take part in a session, at the moment config.start of the host's clock, which is now. `cname` has 1 to
+    /// 255 octets, and there are at most 7 items. Allocates JALWEDD_MEMORY(config.capacity) octets, and no other call
+    /// allocates.
+    /// Statuses: TAKEN; IS_LIVE, and the participant that is there goes on; CNAME to START; NO_MEMORY.
     [[nodiscard]] std::uint32_t join(const jalwedd_config& config, std::string_view cname, const jalwedd_item* items,
                                      std::size_t item_count, std::uint32_t word, jalwedd_step& step) noexcept
     {
@@ -217,8 +225,9 @@ public:
     /// Statuses: TAKEN; IS_EMPTY.
     std::uint32_t free() noexcept { return jalwedd_free(&handle_); }
 
-    /// An RTCP datagram came from `peer` at the moment `now`, in microseconds since join. Hands out nothing, or, if it
-    /// changes the SSRC, the BYE of the old one. Read its reports about the host's own stream before (about).
+    /// An RTCP datagram came from `peer` at the moment `now` of the host's clock, in microseconds. Hands out nothing,
+    /// or, if it changes the SSRC, the BYE of the old one. Read its reports about the host's own stream before (about).
+    /// On an open network, pass on no datagram of more than 1,500 octets.
     /// Statuses: TAKEN; LEFT to NO_COMPOUND; OWN_SSRC; IS_EMPTY.
     std::uint32_t arrive_rtcp(std::uint64_t now, std::uint64_t peer, std::uint32_t word, const std::uint8_t* datagram,
                               std::size_t size, jalwedd_step& step, std::uint8_t (&octets)[JALWEDD_OCTETS]) noexcept
@@ -268,8 +277,8 @@ public:
     /// How many of the members send RTP packets: 0 from a leave on, and if it is empty.
     [[nodiscard]] std::uint32_t senders() noexcept { return jalwedd_senders(&handle_); }
 
-    /// When to call tick, in microseconds since join: JALWEDD_NEVER once it has left, and if it is empty. Call it at
-    /// least once a second before that.
+    /// When to call tick, by the host's clock: JALWEDD_NEVER once it has left, and if it is empty. Call it at least
+    /// once a second before that.
     [[nodiscard]] std::uint64_t next() noexcept { return jalwedd_next(&handle_); }
 
     /// Its SSRC: 0 if it is empty.
@@ -322,21 +331,20 @@ namespace inside {
 
 /* By rising SSRC. */
 struct changes {
+    using iterator_concept = std::input_iterator_tag;
     using value_type = jalwedd_role_change;
+    using position = std::uint64_t;
     const jalwedd_source_state* earlier = nullptr;
     std::size_t earlier_count = 0;
     const jalwedd_source_state* later = nullptr;
     std::size_t later_count = 0;
 
-    std::uint32_t give(std::uint64_t from, value_type& change) const noexcept
+    std::uint32_t give(position& from, value_type& change) const noexcept
     {
-        return jalwedd_change(address(earlier, earlier_count), earlier_count, address(later, later_count), later_count,
-                              from, &change);
-    }
-
-    static std::uint64_t after(std::uint64_t, const value_type& change) noexcept
-    {
-        return std::uint64_t{change.ssrc} + 1;
+        const std::uint32_t status = jalwedd_change(address(earlier, earlier_count), earlier_count,
+                                                    address(later, later_count), later_count, from, &change);
+        from = status == JALWEDD_TAKEN ? std::uint64_t{change.ssrc} + 1 : from;
+        return status;
     }
 };
 
@@ -369,42 +377,27 @@ struct goodbye {
 
 namespace inside {
 
-/* Parts of one kind, each by its index. */
-template <typename Part, auto function>
-struct parts {
-    using value_type = Part;
-    const std::uint8_t* datagram = nullptr;
-    std::size_t size = 0;
-
-    std::uint32_t give(std::uint64_t index, value_type& part) const noexcept
-    {
-        return function(address(datagram, size), size, static_cast<std::uint32_t>(index), &part);
-    }
-
-    static std::uint64_t after(std::uint64_t index, const value_type&) noexcept { return index + 1; }
-};
-
 /* Octets of a datagram as text. */
 inline std::string_view text_at(const std::uint8_t* datagram, std::uint64_t offset, std::uint64_t size) noexcept
 {
     return {reinterpret_cast<const char*>(datagram) + offset, static_cast<std::size_t>(size)};
 }
 
-inline std::uint32_t sdes_item_at(const std::uint8_t* datagram, std::size_t size, std::uint32_t index,
-                                  sdes_item* item) noexcept
+inline std::uint32_t next_sdes_item(const std::uint8_t* datagram, std::size_t size, jalwedd_cursor* cursor,
+                                    sdes_item* item) noexcept
 {
     jalwedd_item_place place{};
-    const std::uint32_t status = jalwedd_sdes_item(datagram, size, index, &place);
+    const std::uint32_t status = jalwedd_next_sdes_item(datagram, size, cursor, &place);
     if (status == JALWEDD_TAKEN)
         *item = {place.ssrc, place.kind, text_at(datagram, place.offset, place.size)};
     return status;
 }
 
-inline std::uint32_t goodbye_at(const std::uint8_t* datagram, std::size_t size, std::uint32_t index,
-                                goodbye* source) noexcept
+inline std::uint32_t next_goodbye(const std::uint8_t* datagram, std::size_t size, jalwedd_cursor* cursor,
+                                  goodbye* source) noexcept
 {
     jalwedd_goodbye_place place{};
-    const std::uint32_t status = jalwedd_goodbye(datagram, size, index, &place);
+    const std::uint32_t status = jalwedd_next_goodbye(datagram, size, cursor, &place);
     if (status != JALWEDD_TAKEN)
         return status;
     *source = {place.ssrc, std::nullopt};
@@ -413,26 +406,40 @@ inline std::uint32_t goodbye_at(const std::uint8_t* datagram, std::size_t size, 
     return status;
 }
 
-/* The blocks about a source, each by its index. */
-struct about {
-    using value_type = jalwedd_report;
+/* Parts of one kind, one walk over the datagram for all of them. */
+template <typename Part, auto next>
+struct parts {
+    using iterator_concept = std::forward_iterator_tag;
+    using value_type = Part;
+    using position = jalwedd_cursor;
     const std::uint8_t* datagram = nullptr;
     std::size_t size = 0;
-    std::uint32_t ssrc = 0;
 
-    std::uint32_t give(std::uint64_t index, value_type& report) const noexcept
+    std::uint32_t give(position& cursor, value_type& part) const noexcept
     {
-        return jalwedd_about(address(datagram, size), size, ssrc, static_cast<std::uint32_t>(index), &report);
+        return next(address(datagram, size), size, &cursor, &part);
     }
-
-    static std::uint64_t after(std::uint64_t index, const value_type&) noexcept { return index + 1; }
 };
 
-using senders = parts<jalwedd_sender_info, jalwedd_sender>;
-using blocks = parts<jalwedd_report, jalwedd_block>;
-using sdes_items = parts<sdes_item, sdes_item_at>;
-using goodbyes = parts<goodbye, goodbye_at>;
-using apps = parts<jalwedd_app_place, jalwedd_app>;
+using senders = parts<jalwedd_sender_info, jalwedd_next_sender>;
+using blocks = parts<jalwedd_report, jalwedd_next_block>;
+using sdes_items = parts<sdes_item, next_sdes_item>;
+using goodbyes = parts<goodbye, next_goodbye>;
+using apps = parts<jalwedd_app_place, jalwedd_next_app>;
+
+/* Of all blocks those about one source. */
+struct about : blocks {
+    std::uint32_t ssrc = 0;
+
+    std::uint32_t give(position& cursor, value_type& report) const noexcept
+    {
+        std::uint32_t status;
+        do
+            status = blocks::give(cursor, report);
+        while (status == JALWEDD_TAKEN && report.ssrc != ssrc);
+        return status;
+    }
+};
 
 } // namespace inside
 
@@ -444,13 +451,13 @@ using apps = parts<jalwedd_app_place, jalwedd_app>;
 }
 
 /// What the reports of a datagram say about the source `ssrc` (jalwedd_report): the blocks about it, in their order.
-/// Here and below each step of a range reads the datagram from its start, so the time for all grows with the square of
-/// its size: seconds for 65,504 octets. On an open network drop RTCP datagrams of more than 1,500 octets.
+/// Here and below `begin` checks the datagram, and no step reads it from its start again: the time for all grows with
+/// its size alone.
 /// Its status: TAKEN; NO_COMPOUND; NO_BLOCK.
 [[nodiscard]] inline range<inside::about> about(const std::uint8_t* datagram, std::size_t size,
                                                 std::uint32_t ssrc) noexcept
 {
-    return range<inside::about>(inside::about{datagram, size, ssrc});
+    return range<inside::about>(inside::about{{datagram, size}, ssrc});
 }
 
 /// The sender reports of a datagram (jalwedd_sender_info), in their order.

@@ -7,8 +7,8 @@
  *     #define JALWEDD_RECORD_STDIO
  *     #include <jalwedd_record.h>
  *
- *     jalwedd_record calls = {jalwedd_record_to_file, fopen("session", "w"), 0};
- *     jalwedd_record command = {jalwedd_record_to_file, fopen("session.sh", "w"), 0};
+ *     jalwedd_record calls = {jalwedd_record_to_file, fopen("session", "w"), 0, config.start};
+ *     jalwedd_record command = {jalwedd_record_to_file, fopen("session.sh", "w"), 0, config.start};
  *
  *     jalwedd_record_command(&command, &config, cname, cname_size, items, item_count, word);  with those of jalwedd_new
  *
@@ -20,6 +20,8 @@
  * WHAT THE HOST MUST ENSURE, as nothing tests it:
  * - It records all calls of one participant in their order, from the jalwedd_new that is taken to jalwedd_free,
  *   whatever their status: a refused call changes nothing, and the program refuses it again.
+ * - The record's start is config.start of that participant: the program counts moments from 0, so a line has the time
+ *   from the start to the moment of its call. A call before the start changes nothing, and has no line.
  * - It draws each random word once, and passes it to both functions.
  * - Pointers and sizes are as jalwedd.h demands. One call at a time uses a record.
  *
@@ -45,7 +47,7 @@ extern "C" {
 
 /* ---- Values */
 
-/* Where to write a text. The host sets all three fields before the first call. */
+/* Where to write a text. The host sets all four fields before the first call. */
 typedef struct jalwedd_record {
     int (*write)(void *to, const char *text, size_t size); /* writes `size` bytes of text, which is not terminated, and
                                returns 0, or another number if it fails. A line may come in several pieces. If it is
@@ -53,13 +55,14 @@ typedef struct jalwedd_record {
     void *to;               /* passed to `write`, for the host's use */
     int failed;             /* 0 at first, and 1 after a write that failed: then nothing more is written. If the text
                                does not end with a line feed, the last line is cut short: delete it before playing */
+    uint64_t start;         /* config.start of the participant: 0 for one that starts at 0 */
 } jalwedd_record;
 
 /* ---- Calls */
 
 /* Writes the line of the call of that name, for the same arguments (jalwedd.h). Call it before or after that call. Any
- * arguments have a line, even if the call refuses them, except a datagram of more than 65,535 octets. If a write fails,
- * record->failed is 1. */
+ * arguments have a line, even if the call refuses them, except a moment before the start, and a datagram of more than
+ * 65,535 octets. If a write fails, record->failed is 1. */
 static inline void jalwedd_record_arrive_rtcp(jalwedd_record *record, uint64_t now, uint64_t peer, uint32_t word,
                                               const uint8_t *datagram, size_t size);
 static inline void jalwedd_record_arrive_rtp(jalwedd_record *record, uint64_t now, uint64_t peer, uint32_t word,
@@ -70,8 +73,10 @@ static inline void jalwedd_record_tick(jalwedd_record *record, uint64_t now, uin
 static inline void jalwedd_record_leave(jalwedd_record *record, uint64_t now, uint32_t word);
 
 /* Writes the command that plays the calls again, as one line for a POSIX shell: `rtcp replay` with an option for each
- * argument of jalwedd_new. It reads the calls from standard input. Numbers that jalwedd_new refuses are written all the
- * same, and rtcp replay refuses them too. If a write fails, record->failed is 1.
+ * argument of jalwedd_new but the start. It reads the calls from standard input. If the start is not 0, a line before
+ * it is a comment that has it, such as `# start 600000000`. Its sum with a moment of the record is a moment of the
+ * host's clock. Numbers that jalwedd_new refuses are written all the same, and rtcp replay refuses them too, but
+ * for a start. If a write fails, record->failed is 1.
  * Some texts and items that jalwedd_new takes have no option. Then the status names them, and nothing is written:
  * - CNAME: the CNAME has more than 255 octets, is not UTF-8, contains a zero octet, or has several octets of which the
  *   first is `-`.
@@ -169,6 +174,16 @@ static inline int jalwedd_record_begin(jalwedd_record_line *line, jalwedd_record
     return 1;
 }
 
+/* Begins the line of a call, with the moment as its first field, or returns 0 if it has none. */
+static inline int jalwedd_record_begin_call(jalwedd_record_line *line, jalwedd_record *record, const char *call,
+                                            uint64_t now)
+{
+    if (now < record->start || !jalwedd_record_begin(line, record, call))
+        return 0;
+    jalwedd_record_decimal(line, now - record->start);
+    return 1;
+}
+
 static inline void jalwedd_record_end(jalwedd_record_line *line)
 {
     jalwedd_record_byte(line, '\n');
@@ -181,9 +196,8 @@ static inline void jalwedd_record_arrival(jalwedd_record *record, const char *ca
                                           uint32_t word, const uint8_t *datagram, size_t size)
 {
     jalwedd_record_line line;
-    if (size > 65535 || !jalwedd_record_begin(&line, record, call))
+    if (size > 65535 || !jalwedd_record_begin_call(&line, record, call, now))
         return;
-    jalwedd_record_decimal(&line, now);
     jalwedd_record_decimal(&line, peer);
     jalwedd_record_word(&line, word);
     jalwedd_record_text(&line, size == 0 ? " -" : " ");
@@ -206,9 +220,8 @@ static inline void jalwedd_record_arrive_rtp(jalwedd_record *record, uint64_t no
 static inline void jalwedd_record_sent_rtp(jalwedd_record *record, uint64_t now, uint32_t timestamp, uint32_t payload)
 {
     jalwedd_record_line line;
-    if (!jalwedd_record_begin(&line, record, "sent"))
+    if (!jalwedd_record_begin_call(&line, record, "sent", now))
         return;
-    jalwedd_record_decimal(&line, now);
     jalwedd_record_decimal(&line, timestamp);
     jalwedd_record_decimal(&line, payload);
     jalwedd_record_end(&line);
@@ -218,9 +231,8 @@ static inline void jalwedd_record_tick(jalwedd_record *record, uint64_t now, uin
                                        uint32_t second_word)
 {
     jalwedd_record_line line;
-    if (!jalwedd_record_begin(&line, record, "tick"))
+    if (!jalwedd_record_begin_call(&line, record, "tick", now))
         return;
-    jalwedd_record_decimal(&line, now);
     jalwedd_record_word(&line, first_word);
     jalwedd_record_word(&line, second_word);
     jalwedd_record_end(&line);
@@ -229,9 +241,8 @@ static inline void jalwedd_record_tick(jalwedd_record *record, uint64_t now, uin
 static inline void jalwedd_record_leave(jalwedd_record *record, uint64_t now, uint32_t word)
 {
     jalwedd_record_line line;
-    if (!jalwedd_record_begin(&line, record, "leave"))
+    if (!jalwedd_record_begin_call(&line, record, "leave", now))
         return;
-    jalwedd_record_decimal(&line, now);
     jalwedd_record_word(&line, word);
     jalwedd_record_end(&line);
 }
@@ -324,8 +335,14 @@ static inline uint32_t jalwedd_record_command(jalwedd_record *record, const jalw
         return JALWEDD_CNAME;
     if (!jalwedd_record_are_options(items, item_count))
         return JALWEDD_ITEM;
-    if (!jalwedd_record_begin(&line, record, "rtcp replay --ssrc"))
+    if (!jalwedd_record_begin(&line, record, ""))
         return JALWEDD_TAKEN;
+    if (config->start != 0) {
+        jalwedd_record_text(&line, "# start");
+        jalwedd_record_decimal(&line, config->start);
+        jalwedd_record_byte(&line, '\n');
+    }
+    jalwedd_record_text(&line, "rtcp replay --ssrc");
     jalwedd_record_word(&line, config->ssrc);
     jalwedd_record_text(&line, " --cname");
     jalwedd_record_quoted(&line, cname, cname_size);
