@@ -25,8 +25,8 @@ use core::iter::FusedIterator;
 /// ```
 /// # use jalwedd::{Config, Moment, Participant};
 /// # let (sender_bw, receiver_bw) = (100, 300);
-/// # let config =
-/// #     Config { ntp_base: 0, ssrc: 0xaa, capacity: 9, limit: 1472, sender_bw, receiver_bw, rate: 8000 };
+/// # let (ntp_base, start, ssrc, capacity, limit, rate) = (0, Moment::ZERO, 0xaa, 9, 1472, 8000);
+/// # let config = Config { ntp_base, start, ssrc, capacity, limit, sender_bw, receiver_bw, rate };
 /// # let mut session = Participant::new(&config, b"a", &[], 0)?;
 /// # let datagram = [0x80, 0xc9, 0, 1, 0, 0, 0, 7, 0x81, 0xca, 0, 2, 0, 0, 0, 7, 1, 1, 0x61, 0];
 /// let before: Vec<_> = session.sources().collect();

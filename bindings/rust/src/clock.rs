@@ -14,7 +14,9 @@ const NTP_TO_UNIX: u64 = 2_208_988_800;
 /// use jalwedd::{ntp_of, Clock};
 ///
 /// let clock = Clock::start();
-/// let now = ntp_of(clock.ntp_base(), clock.now()); // the time of day, as an NTP timestamp
+/// let now = clock.now();
+/// let time_of_day = ntp_of(clock.ntp_base(), now); // as an NTP timestamp
+/// // `Config { start: now, ntp_base: time_of_day, .. }` is for a participant that begins now
 /// ```
 #[derive(Clone, Copy, Debug)]
 pub struct Clock {
@@ -23,7 +25,8 @@ pub struct Clock {
 }
 
 impl Clock {
-    /// Starts at moment 0, and reads the time of day together with it. The participant begins then.
+    /// Starts at moment 0, and reads the time of day together with it. A participant that begins then has the
+    /// start [`Moment::ZERO`].
     pub fn start() -> Clock {
         let since_1970 = SystemTime::now().duration_since(UNIX_EPOCH).unwrap_or_default();
         Clock { begin: Instant::now(), ntp_base: ntp_of_unix(since_1970) }
@@ -34,9 +37,9 @@ impl Clock {
         self.begin.elapsed().into()
     }
 
-    /// The NTP timestamp of moment 0, for [`Config::ntp_base`](crate::Config::ntp_base): seconds since 1900
-    /// in the upper 32 bits, their fraction in the lower (RFC 3550, section 4). A time of day before 1970
-    /// counts as the beginning of 1970.
+    /// The NTP timestamp of moment 0, which is the [`Config::ntp_base`](crate::Config::ntp_base) of a participant
+    /// that begins then: seconds since 1900 in the upper 32 bits, their fraction in the lower (RFC 3550, section
+    /// 4). A time of day before 1970 counts as the beginning of 1970.
     pub fn ntp_base(&self) -> u64 {
         self.ntp_base
     }

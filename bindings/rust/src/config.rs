@@ -1,6 +1,7 @@
 //! The configuration of a participant.
 
 use crate::errors::TextTooLong;
+use crate::moment::Moment;
 use crate::sys;
 use core::fmt;
 
@@ -8,9 +9,13 @@ use core::fmt;
 /// [`Participant::new`](crate::Participant::new) refuses a value that is out of its range.
 #[derive(Clone, Copy, Debug, PartialEq, Eq, Hash)]
 pub struct Config {
-    /// The NTP timestamp of moment 0 (RFC 3550, section 4): seconds since 1900 in the upper 32 bits, their
+    /// The NTP timestamp of the start (RFC 3550, section 4): seconds since 1900 in the upper 32 bits, their
     /// fraction in the lower.
     pub ntp_base: u64,
+    /// The moment by the host's clock at which the participant begins, up to 2^63 - 1 microseconds:
+    /// [`Moment::ZERO`], the default of a moment, for a clock that begins with the session. Read it together with
+    /// the time of day of `ntp_base`.
+    pub start: Moment,
     /// The participant's SSRC, chosen at random (RFC 3550, 8.1). The host's RTP packets go out under it.
     pub ssrc: u32,
     /// How many other sources are kept track of, 1 to 1,024. The participant takes 144 octets of memory for
@@ -30,8 +35,9 @@ pub struct Config {
 
 impl Config {
     pub(crate) fn declared(&self) -> sys::jalwedd_config {
-        let Config { ntp_base, ssrc, capacity, limit, sender_bw, receiver_bw, rate } = *self;
-        sys::jalwedd_config { ntp_base, ssrc, capacity, limit, sender_bw, receiver_bw, rate }
+        let Config { ntp_base, start, ssrc, capacity, limit, sender_bw, receiver_bw, rate } = *self;
+        let start = start.as_micros();
+        sys::jalwedd_config { ntp_base, start, ssrc, capacity, limit, sender_bw, receiver_bw, rate }
     }
 }
 

@@ -2,6 +2,7 @@
 
 use crate::errors::{Fault, FaultReason};
 use crate::moment::Moment;
+use crate::parts::{blocks, Parts};
 use crate::{raw, sys};
 use core::iter::FusedIterator;
 use core::time::Duration;
@@ -20,7 +21,7 @@ pub fn check(datagram: &[u8]) -> Result<(), Fault> {
 /// (RFC 3550, 6.4.1).
 ///
 /// With [`Participant::ssrc`](crate::Participant::ssrc) this is how others receive the host's stream, which a
-/// participant does not keep.
+/// participant does not keep. It is one walk over all [`blocks`].
 ///
 /// ```
 /// // A receiver report of source 7, with one block about source 0xaa: 3 packets lost.
@@ -37,25 +38,21 @@ pub fn check(datagram: &[u8]) -> Result<(), Fault> {
 ///
 /// The first [`Fault`] of a datagram that is not a compound.
 pub fn about(datagram: &[u8], ssrc: u32) -> Result<Reports<'_>, Fault> {
-    check(datagram)?;
-    Ok(Reports { datagram, ssrc, index: 0 })
+    Ok(Reports { blocks: blocks(datagram)?, ssrc })
 }
 
 /// The reports of a datagram about one source: see [`about`].
 #[derive(Clone, Debug)]
 pub struct Reports<'a> {
-    datagram: &'a [u8],
+    blocks: Parts<'a, Report>,
     ssrc: u32,
-    index: u32,
 }
 
 impl Iterator for Reports<'_> {
     type Item = Report;
 
     fn next(&mut self) -> Option<Report> {
-        let report = raw::about(self.datagram, self.ssrc, self.index)?;
-        self.index += 1;
-        Some(Report::of(&report))
+        self.blocks.find(|report| report.ssrc == self.ssrc)
     }
 }
 
@@ -120,7 +117,9 @@ pub fn round_trip(arrival: u32, lsr: u32, dlsr: u32) -> u32 {
 /// The NTP timestamp of the moment `now` (RFC 3550, section 4): seconds since 1900 in the upper 32 bits,
 /// modulo 2^32, and their fraction in the lower.
 ///
-/// `ntp_base` is that of moment 0, as in [`Config::ntp_base`](crate::Config::ntp_base).
+/// `ntp_base` is that of [`Moment::ZERO`] by the same clock, such as `Clock::ntp_base`. With
+/// [`Config::ntp_base`](crate::Config::ntp_base), which is that of [`Config::start`](crate::Config::start), pass
+/// the time since the start: `now.saturating_duration_since(start).into()`.
 pub fn ntp_of(ntp_base: u64, now: Moment) -> u64 {
     sys::jalwedd_ntp_of(ntp_base, now.as_micros())
 }

@@ -58,6 +58,8 @@ error! {
         Rate = sys::JALWEDD_RATE, "the rate is not 1 to 2^20 units a second";
         /// C6: there are more than 7 items.
         Item = sys::JALWEDD_ITEM, "there are more than 7 items";
+        /// C7: [`Config::start`](crate::Config::start) is 2^63 microseconds or later.
+        Start = sys::JALWEDD_START, "the start is 2^63 microseconds or later";
         /// There is no memory for its two blocks.
         NoMemory = sys::JALWEDD_NO_MEMORY, "there is no memory for a participant";
     }
@@ -69,10 +71,11 @@ error! {
     Refusal, "status" {
         /// E1: the participant has left the session (RFC 3550, 6.3.7).
         Left = sys::JALWEDD_LEFT, "the participant has left the session";
-        /// E2: the moment lies before that of the latest call that was taken.
-        Backwards = sys::JALWEDD_BACKWARDS, "the moment lies before that of the last call";
-        /// E3: the moment lies beyond [`Moment::LAST`](crate::Moment::LAST).
-        TooFar = sys::JALWEDD_TOO_FAR, "the moment lies beyond 2^50 microseconds";
+        /// E2: the moment lies before [`Config::start`](crate::Config::start), or before that of the latest call
+        /// that was taken.
+        Backwards = sys::JALWEDD_BACKWARDS, "the moment lies before the start or the last call";
+        /// E3: the moment lies beyond [`Moment::LAST`](crate::Moment::LAST), counted from the start.
+        TooFar = sys::JALWEDD_TOO_FAR, "the moment lies over 2^50 microseconds after the start";
         /// E4: a session has fewer than 2^40 calls, and 2^40 - 1 were taken.
         TooMany = sys::JALWEDD_TOO_MANY, "the session has had too many calls";
         /// E5: the RTCP datagram is not a compound (RFC 3550, 6.1): [`check`](crate::check) says why.
@@ -170,7 +173,7 @@ mod tests {
     #[test]
     fn a_status_that_has_no_name_is_an_error() {
         assert_eq!(named(Refusal::of, Refusal::Unknown), [1, 2, 3, 4, 5, 6, 7, 23]);
-        assert_eq!(named(NewError::of, NewError::Unknown), [11, 12, 13, 14, 15, 16, 22]);
+        assert_eq!(named(NewError::of, NewError::Unknown), [11, 12, 13, 14, 15, 16, 17, 22]);
         assert_eq!(named(FaultReason::of, FaultReason::Unknown), [1, 2, 3, 4, 5, 6, 7, 8, 9, 10]);
         assert_eq!(Refusal::of(u32::MAX), Refusal::Unknown(u32::MAX));
         assert_eq!(NewError::of(99).to_string(), "unknown status 99");

@@ -24,6 +24,7 @@
 //!     let clock = Clock::start();
 //!     let config = Config {
 //!         ntp_base: clock.ntp_base(),
+//!         start: Moment::ZERO, // where this clock counts from
 //!         ssrc: word(),
 //!         capacity: 1024,   // how many other sources to keep track of
 //!         limit: 1472,      // maximum octets of a compound
@@ -62,8 +63,8 @@
 //!
 //! Tick at [`next_tick`](Participant::next_tick), and at least once a second: only a tick drops those who left
 //! or fell silent, and the next one may be minutes away. This host drops datagrams of more than 1,500 octets:
-//! to read the parts of one of 65,504 could take seconds. docs/EMBEDDING.md in the repository says what else a
-//! host faces on an open network.
+//! one of 65,504 could name 8,057 sources. docs/EMBEDDING.md in the repository says what else a host faces on an
+//! open network.
 //!
 //! With media, the host also calls [`arrive_rtp`](Participant::arrive_rtp) for each RTP datagram that comes,
 //! and [`sent_rtp`](Participant::sent_rtp) for each RTP packet that it sends.
@@ -74,7 +75,8 @@
 //!
 //! # Arguments
 //!
-//! - A [`Moment`] counts microseconds since the session began. Moments never go back.
+//! - A [`Moment`] is one of the host's clock, in microseconds, and [`Config::start`] the one at which the
+//!   participant begins. Moments never go back.
 //! - A `word` is 32 random bits, used once. Random words spread the reports of many participants.
 //! - A `peer` is a number for the address and port that a datagram came from, different for each: a hash of
 //!   both with a random key, as above, or, for IPv4, the address and the port themselves. (A list of peers

@@ -1,13 +1,15 @@
-//! Moments of a session.
+//! Moments of the host's clock.
 
 use crate::sys;
 use core::time::Duration;
 
-/// A moment of a session: whole microseconds since the session began.
+/// A moment of the host's clock, in whole microseconds. The clock may count from anywhere, and does not go back.
 ///
-/// A participant takes moments up to [`Moment::LAST`], 2^50 microseconds, which are 35 years, and refuses a
-/// call at a later one ([`Refusal::TooFar`](crate::Refusal::TooFar)). A `Moment` itself goes on to 2^64 - 1
-/// microseconds, since the next tick may lie beyond the last moment at which it is taken.
+/// A participant begins at [`Config::start`](crate::Config::start). It takes calls from then on, and up to 2^50
+/// microseconds later, which are 35 years: [`Moment::LAST`], counted from the start. It refuses a call before the
+/// start ([`Refusal::Backwards`](crate::Refusal::Backwards)), and one after that
+/// ([`Refusal::TooFar`](crate::Refusal::TooFar)). A `Moment` itself goes on to 2^64 - 1 microseconds, since the
+/// next tick may lie beyond the last moment at which it is taken.
 ///
 /// ```
 /// use jalwedd::Moment;
@@ -21,18 +23,19 @@ use core::time::Duration;
 pub struct Moment(u64);
 
 impl Moment {
-    /// Moment 0: the session begins.
+    /// Moment 0, from which the host's clock counts.
     pub const ZERO: Moment = Moment(0);
 
-    /// The last moment at which a participant takes a call: 2^50 microseconds.
+    /// The last moment at which a participant takes a call, counted from its start: 2^50 microseconds. It is a
+    /// moment of the host's clock if [`Config::start`](crate::Config::start) is [`Moment::ZERO`].
     pub const LAST: Moment = Moment(1 << 50);
 
-    /// The moment that many microseconds after the beginning of the session.
+    /// The moment that many microseconds after moment 0.
     pub const fn from_micros(micros: u64) -> Moment {
         Moment(micros)
     }
 
-    /// The microseconds from the beginning of the session to this moment.
+    /// The microseconds from moment 0 to this moment.
     pub const fn as_micros(self) -> u64 {
         self.0
     }
@@ -56,15 +59,15 @@ impl Moment {
 }
 
 impl From<Duration> for Moment {
-    /// The moment that long after the beginning of the session, rounded down to whole microseconds: 2^64 - 1
-    /// of them if that does not fit 64 bits.
-    fn from(since_begin: Duration) -> Moment {
-        Moment(u64::try_from(since_begin.as_micros()).unwrap_or(u64::MAX))
+    /// The moment that long after moment 0, rounded down to whole microseconds: 2^64 - 1 of them if that does not
+    /// fit 64 bits.
+    fn from(since_zero: Duration) -> Moment {
+        Moment(u64::try_from(since_zero.as_micros()).unwrap_or(u64::MAX))
     }
 }
 
 impl From<Moment> for Duration {
-    /// The time from the beginning of the session to the moment, exactly.
+    /// The time from moment 0 to the moment, exactly.
     fn from(moment: Moment) -> Duration {
         Duration::from_micros(moment.0)
     }

@@ -21,21 +21,23 @@ use core::fmt;
 /// use jalwedd::{Config, Kind, Moment, Participant};
 ///
 /// let (sender_bw, receiver_bw) = (100, 300); // of a session of 64,000 bits a second
-/// let config =
-///     Config { ntp_base: 0, ssrc: 0xaa, capacity: 1024, limit: 1472, sender_bw, receiver_bw, rate: 8000 };
+/// let start = Moment::from_micros(600_000_000); // by the host's clock
+/// let (ntp_base, ssrc, capacity, limit, rate) = (0, 0xaa, 1024, 1472, 8000);
+/// let config = Config { ntp_base, start, ssrc, capacity, limit, sender_bw, receiver_bw, rate };
 /// let mut session = Participant::new(&config, b"a", &[], 0)?;
 /// let next = session.next_tick().expect("it has not left");
-/// assert_eq!((session.members(), next), (1, Moment::from_micros(1_026_037)));
+/// assert_eq!((session.members(), next), (1, Moment::from_micros(601_026_037)));
 /// let report = session.tick(next, 0, 0)?.out.expect("a report is due");
 /// assert_eq!((report.kind, report.octets.len()), (Kind::Report, 20));
 /// # Ok::<(), Box<dyn std::error::Error>>(())
 /// ```
 ///
-/// A host that sends several streams into a session is as many participants. All have one CNAME, and NTP
-/// timestamps of one clock: the [`Config::ntp_base`] of one that begins later is [`ntp_of`](crate::ntp_of) the
-/// moment by that clock. Each is told of what came, and also of what the others of the host sent, as if it had
-/// come, with a `peer` of their own: so all count the same members (RFC 3550, 6.2). But no participant is told
-/// of its own datagrams: if a multicast group brings them back, it takes another SSRC (8.2).
+/// A host that sends several streams into a session is as many participants. All have one CNAME, one clock, and
+/// NTP timestamps of one time of day. One that begins at the moment `now` has the [`Config::start`] `now`, and as
+/// its [`Config::ntp_base`] [`ntp_of`](crate::ntp_of) that moment. Each is told of what came, and also of what the
+/// others of the host sent, with a `peer` of their own: so all count the same members (RFC 3550, 6.2). But no
+/// participant is told of its own datagrams: if a multicast group brings them back, it takes another
+/// SSRC (8.2).
 ///
 /// A participant cannot be copied, and no child of `fork` goes on with it, as two would speak as one:
 ///
@@ -66,13 +68,13 @@ pub struct Participant {
 }
 
 impl Participant {
-    /// Begins to take part in a session, at [`Moment::ZERO`].
+    /// Begins to take part in a session, at [`Config::start`].
     ///
     /// `cname` is its CNAME, 1 to 255 octets, for example `user@host` (RFC 3550, 6.5.1). `items` are at most
     /// 7 further items to send. `word` is random, for the draw of the first interval (6.3.1). No report goes
     /// out before the first [`tick`](Participant::tick).
     ///
-    /// The library allocates two blocks here, of 2,560 octets and of 144 for each source of
+    /// The library allocates two blocks here, of 2,568 octets and of 144 for each source of
     /// [`Config::capacity`], and none in any other call.
     ///
     /// # Errors

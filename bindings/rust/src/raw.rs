@@ -146,44 +146,44 @@ pub(crate) fn check(datagram: &[u8]) -> Result<(), sys::jalwedd_fault> {
     }
 }
 
-/// The block at `index` of those about `ssrc`, if there is one.
-pub(crate) fn about(datagram: &[u8], ssrc: u32, index: u32) -> Option<sys::jalwedd_report> {
-    taken(|report| {
-        // SAFETY: VALID, APART
-        unsafe { sys::jalwedd_about(datagram.as_ptr(), datagram.len(), ssrc, index, report) }
-    })
-    .ok()
-}
-
-pub(crate) fn sender(datagram: &[u8], index: u32) -> Option<sys::jalwedd_sender_info> {
-    part(sys::jalwedd_sender, datagram, index)
-}
-
-pub(crate) fn block(datagram: &[u8], index: u32) -> Option<sys::jalwedd_report> {
-    part(sys::jalwedd_block, datagram, index)
-}
-
-pub(crate) fn sdes_item(datagram: &[u8], index: u32) -> Option<sys::jalwedd_item_place> {
-    part(sys::jalwedd_sdes_item, datagram, index)
-}
-
-pub(crate) fn goodbye(datagram: &[u8], index: u32) -> Option<sys::jalwedd_goodbye_place> {
-    part(sys::jalwedd_goodbye, datagram, index)
-}
-
-pub(crate) fn app(datagram: &[u8], index: u32) -> Option<sys::jalwedd_app_place> {
-    part(sys::jalwedd_app, datagram, index)
-}
-
-/// The part at `index` of those that the call tells, if there is one. The call is one of the five above.
-fn part<T: Default>(
-    call: unsafe extern "C" fn(*const u8, usize, u32, *mut T) -> u32,
+pub(crate) fn next_sender(
     datagram: &[u8],
-    index: u32,
+    cursor: &mut sys::jalwedd_cursor,
+) -> Option<sys::jalwedd_sender_info> {
+    next_part(sys::jalwedd_next_sender, datagram, cursor)
+}
+
+pub(crate) fn next_block(datagram: &[u8], cursor: &mut sys::jalwedd_cursor) -> Option<sys::jalwedd_report> {
+    next_part(sys::jalwedd_next_block, datagram, cursor)
+}
+
+pub(crate) fn next_sdes_item(
+    datagram: &[u8],
+    cursor: &mut sys::jalwedd_cursor,
+) -> Option<sys::jalwedd_item_place> {
+    next_part(sys::jalwedd_next_sdes_item, datagram, cursor)
+}
+
+pub(crate) fn next_goodbye(
+    datagram: &[u8],
+    cursor: &mut sys::jalwedd_cursor,
+) -> Option<sys::jalwedd_goodbye_place> {
+    next_part(sys::jalwedd_next_goodbye, datagram, cursor)
+}
+
+pub(crate) fn next_app(datagram: &[u8], cursor: &mut sys::jalwedd_cursor) -> Option<sys::jalwedd_app_place> {
+    next_part(sys::jalwedd_next_app, datagram, cursor)
+}
+
+/// The part after the cursor, which moves past it, if there is one. The call is one of the five above.
+fn next_part<T: Default>(
+    call: unsafe extern "C" fn(*const u8, usize, *mut sys::jalwedd_cursor, *mut T) -> u32,
+    datagram: &[u8],
+    cursor: &mut sys::jalwedd_cursor,
 ) -> Option<T> {
     taken(|part| {
         // SAFETY: VALID, APART
-        unsafe { call(datagram.as_ptr(), datagram.len(), index, part) }
+        unsafe { call(datagram.as_ptr(), datagram.len(), cursor, part) }
     })
     .ok()
 }

@@ -11,23 +11,24 @@
 //! use std::fmt::Write;
 //!
 //! # let (ntp_base, ssrc, capacity, limit) = (0, 0xaa, 1024, 1472);
-//! # let (sender_bw, receiver_bw, rate) = (100, 300, 8000);
-//! # let config = Config { ntp_base, ssrc, capacity, limit, sender_bw, receiver_bw, rate };
+//! # let (start, sender_bw, receiver_bw, rate) = (Moment::from_micros(600_000_000), 100, 300, 8000);
+//! # let config = Config { ntp_base, start, ssrc, capacity, limit, sender_bw, receiver_bw, rate };
 //! let mut session = Participant::new(&config, b"user@host", &[], 7)?;
 //! let replay = command(&config, b"user@host", &[], 7)?; // for a shell: sh session.sh < session
 //! let mut record = String::new(); // or a file, by std::io::Write
 //!
-//! let now = Moment::from_micros(2_000_000);
+//! let now = Moment::from_micros(602_000_000);
 //! let call = Call::Tick { now, first_word: 1, second_word: 2 };
-//! write!(record, "{call}")?;
+//! write!(record, "{}", call.line(config.start))?;
 //! let report = call.make(&mut session)?.out.expect("a report is due");
 //! assert_eq!((report.kind, record.as_str()), (Kind::Report, "tick 2000000 00000001 00000002\n"));
-//! assert!(replay.starts_with("rtcp replay --ssrc 000000aa --cname 'user@host' --capacity 1024 "));
+//! assert!(replay.starts_with("# start 600000000\nrtcp replay --ssrc 000000aa --cname 'user@host' "));
 //! # Ok::<(), Box<dyn core::error::Error>>(())
 //! ```
 //!
 //! Record all calls of one participant, in their order, including those that it refuses: a refused call
-//! changes nothing, and the program refuses it again. The program plays as many lines as `--lines` says, in
+//! changes nothing, and the program refuses it again. The program counts moments from 0, so a line has the time
+//! from the participant's start to the moment of its call. The program plays as many lines as `--lines` says, in
 //! the command that is written all.
 
 use crate::answer::Answer;
@@ -52,9 +53,7 @@ const PRIV: u8 = 8;
 
 /// A call of a [`Participant`], with its arguments.
 ///
-/// `Display` writes its line, with the line feed. Any arguments have a line, even if the call refuses them,
-/// except a datagram of more than 65,535 octets: for that nothing is written, and each participant refuses
-/// it. All other datagrams are written whole, including the media.
+/// [`line`](Call::line) is what a record has of it, and [`make`](Call::make) makes it.
 #[derive(Clone, Copy, Debug, PartialEq, Eq, Hash)]
 pub enum Call<'a> {
     /// [`Participant::arrive_rtcp`].
@@ -121,24 +120,54 @@ impl Call<'_> {
             Call::Leave { now, word } => session.leave(now, word),
         }
     }
+
+    /// When it is made, by the host's clock.
+    pub fn now(&self) -> Moment {
+        match *self {
+            Call::ArriveRtcp { now, .. }
+            | Call::ArriveRtp { now, .. }
+            | Call::SentRtp { now, .. }
+            | Call::Tick { now, .. }
+            | Call::Leave { now, .. } => now,
+        }
+    }
 }
 
-impl fmt::Display for Call<'_> {
+impl<'a> Call<'a> {
+    /// Its line in the record of a participant with this [`Config::start`].
+    pub fn line(self, start: Moment) -> Line<'a> {
+        Line { call: self, start }
+    }
+}
+
+/// The line of a [`Call`] in a record.
+///
+/// `Display` writes it, with the line feed. Any arguments have a line, even if the call refuses them, except a
+/// moment before the start, and a datagram of more than 65,535 octets: for these nothing is written, and each
+/// participant refuses them. All other datagrams are written whole, including the media.
+#[derive(Clone, Copy, Debug, PartialEq, Eq, Hash)]
+pub struct Line<'a> {
+    call: Call<'a>,
+    start: Moment,
+}
+
+impl fmt::Display for Line<'_> {
     fn fmt(&self, to: &mut fmt::Formatter<'_>) -> fmt::Result {
-        match *self {
-            Call::ArriveRtcp { now, peer, word, datagram } => {
-                write_arrival(to, "rtcp", now, peer, word, datagram)
+        let Some(moment) = self.call.now().as_micros().checked_sub(self.start.as_micros()) else {
+            return Ok(());
+        };
+        match self.call {
+            Call::ArriveRtcp { peer, word, datagram, .. } => {
+                write_arrival(to, "rtcp", moment, peer, word, datagram)
             }
-            Call::ArriveRtp { now, peer, word, datagram } => {
-                write_arrival(to, "rtp", now, peer, word, datagram)
+            Call::ArriveRtp { peer, word, datagram, .. } => {
+                write_arrival(to, "rtp", moment, peer, word, datagram)
             }
-            Call::SentRtp { now, timestamp, payload } => {
-                writeln!(to, "sent {} {timestamp} {payload}", now.as_micros())
+            Call::SentRtp { timestamp, payload, .. } => writeln!(to, "sent {moment} {timestamp} {payload}"),
+            Call::Tick { first_word, second_word, .. } => {
+                writeln!(to, "tick {moment} {first_word:08x} {second_word:08x}")
             }
-            Call::Tick { now, first_word, second_word } => {
-                writeln!(to, "tick {} {first_word:08x} {second_word:08x}", now.as_micros())
-            }
-            Call::Leave { now, word } => writeln!(to, "leave {} {word:08x}", now.as_micros()),
+            Call::Leave { word, .. } => writeln!(to, "leave {moment} {word:08x}"),
         }
     }
 }
@@ -146,7 +175,7 @@ impl fmt::Display for Call<'_> {
 fn write_arrival(
     to: &mut fmt::Formatter<'_>,
     kind: &str,
-    now: Moment,
+    moment: u64,
     peer: u64,
     word: u32,
     datagram: &[u8],
@@ -154,12 +183,7 @@ fn write_arrival(
     if datagram.len() > MOST_OCTETS {
         return Ok(());
     }
-    write!(
-        to,
-        "{kind} {} {peer} {word:08x} {}",
-        now.as_micros(),
-        if datagram.is_empty() { "-" } else { "" }
-    )?;
+    write!(to, "{kind} {moment} {peer} {word:08x} {}", if datagram.is_empty() { "-" } else { "" })?;
     write_hex(to, datagram)?;
     to.write_char('\n')
 }
@@ -169,29 +193,36 @@ fn write_hex(to: &mut impl Write, octets: &[u8]) -> fmt::Result {
 }
 
 /// The command that plays the calls of a session again, as one line for a POSIX shell, with the line feed:
-/// `rtcp replay` with an option for each argument of [`Participant::new`]. It reads the calls from standard
-/// input.
+/// `rtcp replay` with an option for each argument of [`Participant::new`] but the start. It reads the calls from
+/// standard input.
+///
+/// If the start is not 0, a line before it is a comment that has it, such as `# start 600000000`. Its sum with a
+/// moment of the record is a moment of the host's clock.
 ///
 /// # Errors
 ///
 /// [`NoOption`] if a text or an item has no option. Numbers that `Participant::new` refuses are written all
-/// the same, and the program refuses them too.
+/// the same, and the program refuses them too, but for a start.
 pub fn command(config: &Config, cname: &[u8], items: &[Item], word: u32) -> Result<String, NoOption> {
-    let Config { ntp_base, ssrc, capacity, limit, sender_bw, receiver_bw, rate } = *config;
+    let Config { ntp_base, start, ssrc, capacity, limit, sender_bw, receiver_bw, rate } = *config;
     let cname = quoted(cname).ok_or(NoOption::Cname)?;
     if !items.is_sorted_by(|one, next| one.kind() < next.kind()) {
         return Err(NoOption::Item);
     }
-    let mut line = format!(
+    let mut text = match start {
+        Moment::ZERO => String::new(),
+        start => format!("# start {}\n", start.as_micros()),
+    };
+    text += &format!(
         "rtcp replay --ssrc {ssrc:08x} --cname {cname} --capacity {capacity} --limit {limit} \
          --sender-bw {sender_bw} --receiver-bw {receiver_bw} --rate {rate} --ntp {ntp_base:016x}"
     );
     for item in items {
         let value = value_of(item).ok_or(NoOption::Item)?;
-        line += &format!(" --{} {value}", OPTIONS[usize::from(item.kind() - 2)]);
+        text += &format!(" --{} {value}", OPTIONS[usize::from(item.kind() - 2)]);
     }
-    line += &format!(" --word {word:08x} --lines 4294967295\n");
-    Ok(line)
+    text += &format!(" --word {word:08x} --lines 4294967295\n");
+    Ok(text)
 }
 
 /// The value of an item's option, if it has one.
@@ -256,14 +287,23 @@ mod tests {
             Call::Tick { now: at(1_026_037), first_word: 1, second_word: 0x8000_0000 },
             Call::Leave { now: at(1 << 50), word: 0x00ab_cdef },
         ];
-        let record = calls.iter().fold(String::new(), |record, call| record + &call.to_string());
+        let recorded = |start: Moment| {
+            calls.iter().fold(String::new(), |record, call| record + &call.line(start).to_string())
+        };
         let lines = "rtcp 0 0 00000000 80c90001ff0f\n\
                      rtp 18446744073709551615 18446744073709551615 ffffffff 80\n\
                      rtcp 10 139637976798093 89abcdef -\n\
                      sent 1000000 4294967295 0\n\
                      tick 1026037 00000001 80000000\n\
                      leave 1125899906842624 00abcdef\n";
-        assert_eq!(record, lines);
+        assert_eq!(recorded(Moment::ZERO), lines);
+        // those before the start have none, and the others what is left after it
+        let later = "rtp 18446744073709551604 18446744073709551615 ffffffff 80\n\
+                     sent 999989 4294967295 0\n\
+                     tick 1026026 00000001 80000000\n\
+                     leave 1125899906842613 00abcdef\n";
+        assert_eq!(recorded(at(11)), later);
+        assert_eq!(recorded(at(u64::MAX)), "rtp 0 18446744073709551615 ffffffff 80\n");
     }
 
     #[test]
@@ -271,12 +311,13 @@ mod tests {
         let octets = vec![0xa5; MOST_OCTETS + 1];
         for (size, written) in [(MOST_OCTETS, 17 + 2 * MOST_OCTETS + 1), (MOST_OCTETS + 1, 0)] {
             let call = Call::ArriveRtp { now: at(1), peer: 2, word: 3, datagram: &octets[..size] };
-            assert_eq!(call.to_string().len(), written);
+            assert_eq!(call.line(Moment::ZERO).to_string().len(), written);
         }
     }
 
     const CONFIG: Config = Config {
         ntp_base: 0x0123_4567_89ab_cdef,
+        start: Moment::ZERO,
         ssrc: 0xaa,
         capacity: 1024,
         limit: 1472,
@@ -304,6 +345,9 @@ mod tests {
                     --phone '-' --loc '$HOME `\\\n' --note '\u{e9}' --priv '0027ff' --word fedcba98 \
                     --lines 4294967295\n";
         assert_eq!(command(&CONFIG, b"-", &items, 0xfedc_ba98).as_deref(), Ok(line));
+        let later = Config { start: at(1_700_000_000_000_000), ..CONFIG };
+        let with_start = format!("# start 1700000000000000\n{line}");
+        assert_eq!(command(&later, b"-", &items, 0xfedc_ba98), Ok(with_start));
     }
 
     #[test]

@@ -8,7 +8,7 @@ use core::ptr::null_mut;
 // ---- The version
 
 pub const JALWEDD_VERSION_MAJOR: u32 = 0;
-pub const JALWEDD_VERSION_MINOR: u32 = 3;
+pub const JALWEDD_VERSION_MINOR: u32 = 4;
 pub const JALWEDD_VERSION_PATCH: u32 = 0;
 
 // ---- Statuses
@@ -32,6 +32,7 @@ pub const JALWEDD_LIMIT: u32 = 13;
 pub const JALWEDD_BANDWIDTH: u32 = 14;
 pub const JALWEDD_RATE: u32 = 15;
 pub const JALWEDD_ITEM: u32 = 16;
+pub const JALWEDD_START: u32 = 17;
 pub const JALWEDD_IS_EMPTY: u32 = 20;
 pub const JALWEDD_IS_LIVE: u32 = 21;
 pub const JALWEDD_NO_MEMORY: u32 = 22;
@@ -51,6 +52,7 @@ pub const JALWEDD_EMPTY: jalwedd_handle = jalwedd_handle { at: null_mut() };
 #[derive(Clone, Copy, Debug)]
 pub struct jalwedd_config {
     pub ntp_base: u64,
+    pub start: u64,
     pub ssrc: u32,
     pub capacity: u32,
     pub limit: u32,
@@ -146,6 +148,18 @@ pub struct jalwedd_app_place {
     pub subtype: u32,
     pub name: [u8; 4],
 }
+
+#[repr(C)]
+#[derive(Clone, Copy, Debug, Default)]
+pub struct jalwedd_cursor {
+    pub next: u64,
+    pub place: u64,
+    pub end: u64,
+    pub left: u32,
+    pub ssrc: u32,
+}
+
+pub const JALWEDD_BEGIN: jalwedd_cursor = jalwedd_cursor { next: 0, place: 0, end: 0, left: 0, ssrc: 0 };
 
 #[repr(C)]
 #[derive(Clone, Copy, Debug, Default)]
@@ -291,6 +305,41 @@ unsafe extern "C" {
     // ---- Datagrams
 
     pub fn jalwedd_check(datagram: *const u8, size: usize, fault: *mut jalwedd_fault) -> u32;
+
+    pub fn jalwedd_next_sender(
+        datagram: *const u8,
+        size: usize,
+        cursor: *mut jalwedd_cursor,
+        sender: *mut jalwedd_sender_info,
+    ) -> u32;
+
+    pub fn jalwedd_next_block(
+        datagram: *const u8,
+        size: usize,
+        cursor: *mut jalwedd_cursor,
+        report: *mut jalwedd_report,
+    ) -> u32;
+
+    pub fn jalwedd_next_sdes_item(
+        datagram: *const u8,
+        size: usize,
+        cursor: *mut jalwedd_cursor,
+        item: *mut jalwedd_item_place,
+    ) -> u32;
+
+    pub fn jalwedd_next_goodbye(
+        datagram: *const u8,
+        size: usize,
+        cursor: *mut jalwedd_cursor,
+        goodbye: *mut jalwedd_goodbye_place,
+    ) -> u32;
+
+    pub fn jalwedd_next_app(
+        datagram: *const u8,
+        size: usize,
+        cursor: *mut jalwedd_cursor,
+        app: *mut jalwedd_app_place,
+    ) -> u32;
 
     pub fn jalwedd_about(
         datagram: *const u8,

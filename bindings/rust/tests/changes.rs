@@ -93,8 +93,8 @@ fn changes_of_a_session() {
     let named = |ssrc| [0x80, 0xc9, 0, 1, 0, 0, 0, ssrc, 0x81, 0xca, 0, 2, 0, 0, 0, ssrc, 1, 1, 0x61, 0];
     let bye = [0x80, 0xc9, 0, 1, 0, 0, 0, 8, 0x81, 0xcb, 0, 1, 0, 0, 0, 8];
     let (sender_bw, receiver_bw) = (100, 300);
-    let config =
-        Config { ntp_base: 0, ssrc: 0xaa, capacity: 9, limit: 1472, sender_bw, receiver_bw, rate: 8000 };
+    let (ntp_base, start, ssrc, capacity, limit, rate) = (0, Moment::ZERO, 0xaa, 9, 1472, 8000);
+    let config = Config { ntp_base, start, ssrc, capacity, limit, sender_bw, receiver_bw, rate };
     let mut session = Participant::new(&config, b"a", &[], 0).unwrap();
     let nobody: Vec<_> = session.sources().collect();
     session.arrive_rtcp(Moment::ZERO, 1, 0, &named(8)).unwrap();

@@ -161,6 +161,19 @@ fn a_head_that_is_refused_tells_nothing() {
     assert_eq!(rtp_head(&[0x80; 65_536]), Err(Refusal::TooLong));
 }
 
+/// A clone goes on from where the walk stands, and an end remains one.
+#[test]
+fn a_walk_may_be_cloned() {
+    let datagram = parts();
+    let mut walk = goodbyes(&datagram).unwrap();
+    let whole = walk.clone();
+    assert_eq!((walk.next().map(|gone| gone.ssrc), walk.clone().count(), whole.count()), (Some(9), 3, 4));
+    assert_eq!((walk.by_ref().count(), walk.next(), walk.next()), (3, None, None));
+    let about_a1 = about(&TWO_BLOCKS, 0xa1).unwrap();
+    assert_eq!((about_a1.clone().count(), about_a1.count()), (2, 2));
+    assert!(format!("{:?}", senders(&datagram).unwrap()).starts_with("[SenderReport { ssrc: 9, ntp: "));
+}
+
 #[test]
 fn a_datagram_that_is_refused_tells_no_parts() {
     assert_eq!(senders(&PARTS).unwrap_err(), Fault { reason: FaultReason::Length, offset: 104 });

@@ -15,8 +15,8 @@ macro_rules! assert_layout {
 #[test]
 fn structures() {
     assert_layout!(jalwedd_handle, 8, 8, at: 0);
-    assert_layout!(jalwedd_config, 32, 8, ntp_base: 0, ssrc: 8, capacity: 12, limit: 16, sender_bw: 20,
-        receiver_bw: 24, rate: 28);
+    assert_layout!(jalwedd_config, 40, 8, ntp_base: 0, start: 8, ssrc: 16, capacity: 20, limit: 24,
+        sender_bw: 28, receiver_bw: 32, rate: 36);
     assert_layout!(jalwedd_item, 257, 1, kind: 0, size: 1, text: 2);
     assert_layout!(jalwedd_step, 40, 8, next: 0, members: 8, senders: 12, ssrc: 16, changed: 20, kind: 24,
         size: 28, entries: 32, others_changed: 36);
@@ -27,6 +27,7 @@ fn structures() {
     assert_layout!(jalwedd_item_place, 24, 8, offset: 0, size: 8, ssrc: 16, kind: 20);
     assert_layout!(jalwedd_goodbye_place, 24, 8, offset: 0, size: 8, ssrc: 16, has_reason: 20);
     assert_layout!(jalwedd_app_place, 32, 8, offset: 0, size: 8, ssrc: 16, subtype: 20, name: 24);
+    assert_layout!(jalwedd_cursor, 32, 8, next: 0, place: 8, end: 16, left: 24, ssrc: 28);
     assert_layout!(jalwedd_head_place, 48, 8, csrcs_offset: 0, payload_offset: 8, payload_size: 16, ssrc: 24,
         timestamp: 28, sequence: 32, payload_type: 36, marker: 40, csrcs: 44);
     assert_layout!(jalwedd_source_state, 88, 8, heard: 0, left: 8, told: 16, ntp: 24, received: 32,

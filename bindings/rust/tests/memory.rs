@@ -37,12 +37,12 @@ fn two_blocks_are_taken_by_new_and_given_back_by_drop() {
     // SAFETY: no participant has begun, and both functions do as malloc and free
     unsafe { sys::jalwedd_memory(take, give_back) };
     let (sender_bw, receiver_bw) = (100, 300);
-    let config =
-        Config { ntp_base: 0, ssrc: 0xaa, capacity: 20, limit: 1472, sender_bw, receiver_bw, rate: 8000 };
+    let (ntp_base, start, ssrc, capacity, limit, rate) = (0, Moment::ZERO, 0xaa, 20, 1472, 8000);
+    let config = Config { ntp_base, start, ssrc, capacity, limit, sender_bw, receiver_bw, rate };
     let mut session = Participant::new(&config, b"a", &[], 0).unwrap();
     let mut taken = sizes();
     taken.sort_unstable();
-    assert_eq!(taken, [2560, 20 * 144]);
+    assert_eq!(taken, [2568, 20 * 144]);
     let report = [0x80, 0xc9, 0, 1, 0, 0, 0, 7, 0x81, 0xca, 0, 2, 0, 0, 0, 7, 1, 1, 0x61, 0];
     session.arrive_rtcp(Moment::ZERO, 1, 0, &report).unwrap();
     session.tick(session.next_tick().unwrap(), 0, 0).unwrap();

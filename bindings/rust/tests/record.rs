@@ -6,8 +6,11 @@ use jalwedd::{Config, Item, ItemKind, Moment, Participant, Refusal};
 use std::error::Error;
 use std::fmt::Write;
 
+const START: u64 = 600_000_000;
+
 const CONFIG: Config = Config {
     ntp_base: 0,
+    start: at(START),
     ssrc: 0xaa,
     capacity: 1024,
     limit: 1472,
@@ -30,12 +33,17 @@ const fn at(micros: u64) -> Moment {
     Moment::from_micros(micros)
 }
 
+/// The moment so long after the start.
+const fn after(micros: u64) -> Moment {
+    at(START + micros)
+}
+
 fn came(micros: u64, peer: u64, word: u32, datagram: &[u8]) -> Call<'_> {
-    Call::ArriveRtcp { now: at(micros), peer, word, datagram }
+    Call::ArriveRtcp { now: after(micros), peer, word, datagram }
 }
 
 fn tick(micros: u64) -> Call<'static> {
-    Call::Tick { now: at(micros), first_word: 0, second_word: 0 }
+    Call::Tick { now: after(micros), first_word: 0, second_word: 0 }
 }
 
 /// What is answered to a call: what it hands out in hex and the SSRC, or a refusal.
@@ -52,7 +60,7 @@ fn played(calls: &[Call<'_>]) -> Result<(String, Vec<Told>), Box<dyn Error>> {
     let (mut session, mut record) = (Participant::new(&CONFIG, b"a", &[], 0)?, String::new());
     let mut answers = Vec::new();
     for &call in calls {
-        write!(record, "{call}")?;
+        write!(record, "{}", call.line(CONFIG.start))?;
         answers.push(answer(&mut session, call));
     }
     Ok((record, answers))
@@ -60,7 +68,7 @@ fn played(calls: &[Call<'_>]) -> Result<(String, Vec<Told>), Box<dyn Error>> {
 
 #[test]
 fn a_session_with_a_datagram_that_is_refused() -> Result<(), Box<dyn Error>> {
-    let leave = Call::Leave { now: at(2_000_000), word: 0 };
+    let leave = Call::Leave { now: after(2_000_000), word: 0 };
     let calls = [came(0, 1, 0, &NAMED), tick(1_026_037), came(1_026_037, 1, 0, &[]), leave, tick(3_078_111)];
     let (record, answers) = played(&calls)?;
     let lines = "rtcp 0 1 00000000 80c900010000000781ca00020000000701016100\n\
@@ -83,7 +91,7 @@ fn a_session_in_which_the_identifier_changes() -> Result<(), Box<dyn Error>> {
         came(0, 7, 0xcc, &second),
         tick(1_026_037),
         came(1_026_037, 8, 0xaa, &second),
-        Call::Leave { now: at(1_026_037), word: 0 },
+        Call::Leave { now: after(1_026_037), word: 0 },
     ];
     let (record, answers) = played(&calls)?;
     let lines = "rtcp 0 7 000000bb 80c90001000000aa\n\
@@ -111,9 +119,9 @@ fn a_session_in_which_the_identifier_changes() -> Result<(), Box<dyn Error>> {
 fn calls_of_media_are_made_as_they_are_recorded() -> Result<(), Box<dyn Error>> {
     let packet = [0x80, 0, 0, 1, 0, 0, 0, 0, 0, 0, 0, 9];
     let calls = [
-        Call::ArriveRtp { now: at(0), peer: 1, word: 5, datagram: &packet[..11] },
-        Call::ArriveRtp { now: at(0), peer: 1, word: 5, datagram: &packet },
-        Call::SentRtp { now: at(1), timestamp: 160, payload: 32 },
+        Call::ArriveRtp { now: after(0), peer: 1, word: 5, datagram: &packet[..11] },
+        Call::ArriveRtp { now: after(0), peer: 1, word: 5, datagram: &packet },
+        Call::SentRtp { now: after(1), timestamp: 160, payload: 32 },
         tick(0),
         tick(1_026_037),
     ];
@@ -131,11 +139,24 @@ fn calls_of_media_are_made_as_they_are_recorded() -> Result<(), Box<dyn Error>> 
     Ok(())
 }
 
+/// A clock that was read before the participant began: the call changes nothing.
+#[test]
+fn a_call_before_the_start_is_refused_and_has_no_line() -> Result<(), Box<dyn Error>> {
+    let early = Call::Tick { now: at(START - 1), first_word: 0, second_word: 0 };
+    let leave = Call::Leave { now: after(1_026_037), word: 0 };
+    let (record, answers) = played(&[early, tick(1_026_037), leave, early])?;
+    assert_eq!(record, "tick 1026037 00000000 00000000\nleave 1026037 00000000\n");
+    let told = |octets: &str| Ok((octets.to_string(), 0xaa));
+    assert_eq!(answers, [Err(Refusal::Backwards), told(REPORT), told(BYE), Err(Refusal::Left)]);
+    Ok(())
+}
+
 #[test]
 fn the_command_of_what_a_participant_begins_with() -> Result<(), Box<dyn Error>> {
     let items = [Item::new(ItemKind::Tool, b"jalwedd")?];
     Participant::new(&CONFIG, b"player@example.com", &items, 0xabcd)?;
-    let line = "rtcp replay --ssrc 000000aa --cname 'player@example.com' --capacity 1024 --limit 1472 \
+    let line = "# start 600000000\n\
+                rtcp replay --ssrc 000000aa --cname 'player@example.com' --capacity 1024 --limit 1472 \
                 --sender-bw 100 --receiver-bw 300 --rate 8000 --ntp 0000000000000000 --tool 'jalwedd' \
                 --word 0000abcd --lines 4294967295\n";
     assert_eq!(command(&CONFIG, b"player@example.com", &items, 0xabcd)?, line);

@@ -10,6 +10,7 @@ use std::time::Duration;
 
 const CONFIG: Config = Config {
     ntp_base: 0,
+    start: Moment::ZERO,
     ssrc: 0xaa,
     capacity: 1024,
     limit: 1472,
@@ -86,6 +87,26 @@ fn a_session_from_its_begin_to_its_bye() {
     assert_eq!(session.step(), moved(step(None, 0, 0, 0)));
     assert_eq!(session.tick(SECOND, 0, 0), Err(Refusal::Left));
     assert_eq!(session.next_tick(), None);
+}
+
+/// Moments are those of the host's clock, whatever it counts from: all that is told is later by the start.
+#[test]
+fn a_session_that_does_not_start_at_0() {
+    for start in [600_000_000, 1_700_000_000_000_000, (1 << 63) - 1] {
+        let after = |moment: Moment| at(start + moment.as_micros());
+        let config = Config { start: at(start), ..CONFIG };
+        let mut session = Participant::new(&config, b"a", &[], 0).unwrap();
+        assert_eq!(session.step(), step(Some(after(FIRST)), 1, 0, 0));
+        assert_eq!(session.tick(at(start - 1), 0, 0), Err(Refusal::Backwards));
+        assert_eq!(session.tick(Moment::ZERO, 0, 0), Err(Refusal::Backwards));
+        session.arrive_rtcp(after(at(5)), 1, 0, &named(1).next().unwrap()).unwrap();
+        assert_eq!(session.sources().next().unwrap().heard, after(at(5)));
+        assert_eq!(out(session.tick(after(FIRST), 0, 0)), report(REPORT));
+        assert_eq!(session.step(), step(Some(after(SECOND)), 2, 0, 1));
+        assert_eq!(session.tick(after(at((1 << 50) + 1)), 0, 0), Err(Refusal::TooFar));
+        assert_eq!(out(session.leave(after(Moment::LAST), 0)), bye(BYE));
+        assert_eq!((session.next_tick(), session.tick(at(start - 1), 0, 0)), (None, Err(Refusal::Left)));
+    }
 }
 
 #[test]
@@ -180,6 +201,10 @@ fn a_configuration_may_be_refused() {
     assert_eq!(refused(Config { limit: 574, ..CONFIG }, b"a", &[]), NewError::Limit);
     assert_eq!(refused(Config { receiver_bw: 15, ..CONFIG }, b"a", &[]), NewError::Bandwidth);
     assert_eq!(refused(Config { rate: 0, ..CONFIG }, b"a", &[]), NewError::Rate);
+    let late = Config { start: at(1 << 63), ..CONFIG };
+    assert_eq!(refused(late, b"a", &[]), NewError::Start);
+    assert_eq!(refused(Config { rate: 0, ..late }, b"a", &[name; 8]), NewError::Item);
+    assert_eq!(refused(Config { rate: 0, ..late }, b"a", &[]), NewError::Rate);
     assert_eq!(NewError::Rate.to_string(), "the rate is not 1 to 2^20 units a second");
 }
 
@@ -274,6 +299,7 @@ fn the_library_says_what_the_step_does() {
     let (mut handle, mut step) = (sys::JALWEDD_EMPTY, sys::jalwedd_step::default());
     let config = sys::jalwedd_config {
         ntp_base: 0,
+        start: 0,
         ssrc: 0xaa,
         capacity: 1,
         limit: 576,

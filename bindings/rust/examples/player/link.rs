@@ -9,7 +9,7 @@ use std::time::Duration;
 
 const MOST_OCTETS: usize = 65_535;
 
-/// A larger RTCP datagram is dropped: to read its parts could take seconds.
+/// A larger RTCP datagram is dropped: one of 65,504 octets could name 8,057 sources.
 const LARGEST_RTCP: usize = 1_500;
 
 /// How many datagrams are queued before the session takes them: any more stay in the sockets.

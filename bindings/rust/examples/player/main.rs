@@ -85,6 +85,7 @@ fn begin(mut words: Words, link: Link, record: Option<&String>) -> Result<Player
     // of a session of 64,000 bits a second 5 per cent are for RTCP, and a quarter of that for senders
     let config = Config {
         ntp_base: clock.ntp_base(),
+        start: Moment::ZERO,
         ssrc: words.draw(),
         capacity: 1024,
         limit: 1472,
@@ -166,7 +167,7 @@ impl Player {
                 let reported = with_report_before(datagram);
                 let datagram = reported.as_deref().unwrap_or(datagram);
                 // first, as the call may change the SSRC that the reports name; a faulty datagram has none
-                let arrival = ntp_of(self.config.ntp_base, now);
+                let arrival = ntp_of(self.clock.ntp_base(), now);
                 let _ = self.notes.take(self.session.ssrc(), arrival, datagram);
                 self.make(Call::ArriveRtcp { now, peer, word, datagram });
             }
@@ -175,7 +176,7 @@ impl Player {
 
     /// Records a call and makes it, and sends what it hands out.
     fn make(&mut self, call: Call<'_>) {
-        self.recorder.write(call);
+        self.recorder.write(&call.line(self.config.start));
         self.link.send_out(call.make(&mut self.session));
     }
 

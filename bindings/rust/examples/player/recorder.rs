@@ -1,6 +1,6 @@
 //! The record of the session, in two files.
 
-use jalwedd::record::Call;
+use jalwedd::record::Line;
 use std::fs::{self, File};
 use std::io::{self, BufWriter, Write};
 
@@ -19,9 +19,9 @@ impl Recorder {
         Ok(Recorder { calls: Some(BufWriter::new(File::create(name)?)), failed: None })
     }
 
-    pub fn write(&mut self, call: Call<'_>) {
+    pub fn write(&mut self, line: &Line<'_>) {
         if let (Some(calls), None) = (&mut self.calls, &self.failed) {
-            self.failed = write!(calls, "{call}").err();
+            self.failed = write!(calls, "{line}").err();
         }
     }
 
