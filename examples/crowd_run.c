@@ -201,7 +201,7 @@ static void compare_members(struct crowd *crowd, struct participant *who, uint32
 static void take_step(struct crowd *crowd, struct participant *who)
 {
     const uint64_t host = who->leaves < who->rtp_due ? who->leaves : who->rtp_due;
-    uint64_t due = who->joins + who->step.next;
+    uint64_t due = who->step.next;
     if (who->step.next == JALWEDD_NEVER) {
         who->phase = GONE;
         due = NEVER;
@@ -223,14 +223,13 @@ static uint32_t moved(uint32_t average, uint32_t octets)
 static uint32_t tell(struct crowd *crowd, struct participant *who, const struct datagram *came)
 {
     static uint8_t unused[JALWEDD_OCTETS];      /* only a change of SSRC hands out a compound here: none collide */
-    const uint64_t moment = came->comes - who->joins;
     const uint8_t *octets = &crowd->groups[who->group].octets[came->at];
     const uint32_t word = random_word(crowd);
     if (came->is_rtp)
-        return jalwedd_arrive_rtp(&who->session, moment, came->from, word, octets, came->size, &who->step, unused);
+        return jalwedd_arrive_rtp(&who->session, came->comes, came->from, word, octets, came->size, &who->step, unused);
     who->average = moved(who->average, came->size + HEADERS);
     who->byes += came->is_bye;
-    return jalwedd_arrive_rtcp(&who->session, moment, came->from, word, octets, came->size, &who->step, unused);
+    return jalwedd_arrive_rtcp(&who->session, came->comes, came->from, word, octets, came->size, &who->step, unused);
 }
 
 /* Passes to a participant the datagrams of the others of its group that it has not been told yet. */
@@ -281,9 +280,9 @@ static uint32_t join(struct crowd *crowd, struct participant *who)
 {
     const uint32_t number = (uint32_t)(who - crowd->all);
     /* an odd factor keeps all SSRCs distinct, and spreads them */
-    const jalwedd_config config = {.ntp_base = (uint64_t)3900000000u << 32, .ssrc = (number + 1) * 2654435769u,
-                                   .capacity = ROOM, .limit = 1472, .sender_bw = SENDER_BW,
-                                   .receiver_bw = RECEIVER_BW, .rate = RATE};
+    const jalwedd_config config = {.ntp_base = (uint64_t)3900000000u << 32, .start = who->joins,
+                                   .ssrc = (number + 1) * 2654435769u, .capacity = ROOM, .limit = 1472,
+                                   .sender_bw = SENDER_BW, .receiver_bw = RECEIVER_BW, .rate = RATE};
     const jalwedd_item none = {0};
     char cname[32];
     const int size = snprintf(cname, sizeof cname, "p%04x@example.com", number);
@@ -299,7 +298,7 @@ static uint32_t leave(struct crowd *crowd, struct participant *who, uint32_t wor
     who->phase = LEAVING;
     who->left = crowd->now;
     who->byes = 1;
-    const uint32_t status = jalwedd_leave(&who->session, crowd->now - who->joins, word, &who->step, octets);
+    const uint32_t status = jalwedd_leave(&who->session, crowd->now, word, &who->step, octets);
     crowd->course.silent += who->step.next == JALWEDD_NEVER && who->step.kind == JALWEDD_NOTHING;
     return status;
 }
@@ -307,8 +306,7 @@ static uint32_t leave(struct crowd *crowd, struct participant *who, uint32_t wor
 /* Sends an RTP packet; the others are told only its head. */
 static uint32_t send_rtp(struct crowd *crowd, struct participant *who, uint8_t *octets)
 {
-    const uint64_t moment = crowd->now - who->joins;
-    const uint32_t timestamp = (uint32_t)(moment * RATE / SECOND), ssrc = who->step.ssrc;
+    const uint32_t timestamp = (uint32_t)((crowd->now - who->joins) * RATE / SECOND), ssrc = who->step.ssrc;
     const uint8_t head[RTP_HEAD] = {
         0x80, 0, (uint8_t)(who->sequence >> 8), (uint8_t)who->sequence,
         (uint8_t)(timestamp >> 24), (uint8_t)(timestamp >> 16), (uint8_t)(timestamp >> 8), (uint8_t)timestamp,
@@ -317,7 +315,7 @@ static uint32_t send_rtp(struct crowd *crowd, struct participant *who, uint8_t *
     who->sequence++;
     const uint64_t pause = crowd->turn * (crowd->turns > 1 ? crowd->turns - 1 : 1);
     who->rtp_due += (who->sequence % crowd->turn == 0 ? pause + (crowd->turns > 1) : 1) * RTP_EACH * SECOND;
-    return jalwedd_sent_rtp(&who->session, moment, timestamp, RATE * RTP_EACH, &who->step, octets);
+    return jalwedd_sent_rtp(&who->session, crowd->now, timestamp, RATE * RTP_EACH, &who->step, octets);
 }
 
 /* Does what is due for a participant; the compound, if it hands one out, goes to `octets`. */
@@ -332,7 +330,7 @@ static uint32_t act(struct crowd *crowd, struct participant *who, uint8_t *octet
     if (who->phase == PRESENT && who->rtp_due <= crowd->now)
         return send_rtp(crowd, who, octets);
     crowd->drawn = another;
-    return jalwedd_tick(&who->session, crowd->now - who->joins, word, another, &who->step, octets);
+    return jalwedd_tick(&who->session, crowd->now, word, another, &who->step, octets);
 }
 
 /* The next interval is drawn after a report, with the average as the report has moved it: if what was written down is
@@ -342,7 +340,7 @@ static void check_average(const struct crowd *crowd, const struct participant *w
     const uint64_t factor = ((1ull << 31) + crowd->drawn) * WHOLE, divisor = (1ull << 31) * PACE;
     const wide product = (wide)interval_by(&TERMS, report, moved(report->average, report->octets)) * factor;
     const uint64_t interval = (uint64_t)((product + divisor - 1) / divisor);
-    if (who->step.next != crowd->now - who->joins + interval)
+    if (who->step.next != crowd->now + interval)
         stop("the average is not that of the library", report->average);
 }
 

@@ -31,7 +31,7 @@ enum {
     SECOND = 1000000,
     LEAVE_TIME = 5 * SECOND,            /* others can delay the BYE for longer than a player is willing to wait */
     MOST_OCTETS = 65535,
-    LARGEST_RTCP = 1500,                /* a larger datagram is dropped: to read its parts could take seconds */
+    LARGEST_RTCP = 1500,                /* a larger datagram is dropped: one could name 8,057 sources */
     CNAME = 1,
     NOTES = 32
 };
@@ -51,7 +51,6 @@ struct player {
     jalwedd_step step;
     int rtp, rtcp;
     struct sockaddr_in to_rtp, to_rtcp;
-    uint64_t begin;
     uint64_t ticked;                    /* the moment of the latest tick */
     uint16_t sequence;
     uint32_t timestamp;
@@ -74,6 +73,7 @@ static uint32_t random_word(void)
     return ((uint32_t)random() << 16) ^ (uint32_t)random();
 }
 
+/* The moment of now, by a clock that never goes back: the library takes it as it is. */
 static uint64_t microseconds(void)
 {
     struct timespec now;
@@ -159,8 +159,9 @@ static void note_cname(struct note *note, const uint8_t *text, size_t size)
 
 static void take_cnames(struct player *player, const uint8_t *datagram, size_t size)
 {
+    jalwedd_cursor cursor = JALWEDD_BEGIN;
     jalwedd_item_place item;
-    for (uint32_t at = 0; jalwedd_sdes_item(datagram, size, at, &item) == JALWEDD_TAKEN; at++)
+    while (jalwedd_next_sdes_item(datagram, size, &cursor, &item) == JALWEDD_TAKEN)
         if (item.kind == CNAME)
             note_cname(note_of(player, item.ssrc), datagram + item.offset, item.size);
 }
@@ -168,12 +169,16 @@ static void take_cnames(struct player *player, const uint8_t *datagram, size_t s
 /* How the stream is received by others. */
 static void take_reports(struct player *player, uint64_t now, const uint8_t *datagram, size_t size)
 {
+    const uint64_t arrival = jalwedd_ntp_of(player->config.ntp_base, now - player->config.start);
+    jalwedd_cursor cursor = JALWEDD_BEGIN;
     jalwedd_report report;
-    for (uint32_t at = 0; jalwedd_about(datagram, size, player->step.ssrc, at, &report) == JALWEDD_TAKEN; at++) {
+    while (jalwedd_next_block(datagram, size, &cursor, &report) == JALWEDD_TAKEN) {
+        if (report.ssrc != player->step.ssrc)
+            continue;
         struct note *note = note_of(player, report.reporter);
         note->has_report = true;
         note->report = report;
-        note->arrival = (uint32_t)(jalwedd_ntp_of(player->config.ntp_base, now) >> 16);
+        note->arrival = (uint32_t)(arrival >> 16);
     }
 }
 
@@ -211,7 +216,8 @@ static void print_source(struct player *player, const jalwedd_source_state *sour
 static void print_sources(struct player *player, uint64_t now)
 {
     jalwedd_source_state source;
-    printf("%.1f s: %u members, of whom %u send\n", now / 1e6, player->step.members, player->step.senders);
+    printf("%.1f s: %u members, of whom %u send\n", (now - player->config.start) / 1e6, player->step.members,
+           player->step.senders);
     for (uint64_t from = 0; jalwedd_source(&player->session, from, &source) == JALWEDD_TAKEN;
          from = (uint64_t)source.ssrc + 1)
         print_source(player, &source);
@@ -277,9 +283,9 @@ static void turn(struct player *player, uint64_t next_packet, uint64_t end)
     static uint8_t octets[JALWEDD_OCTETS];
     struct pollfd sockets[2] = {{player->rtcp, POLLIN, 0}, {player->rtp, POLLIN, 0}};
     const uint64_t until = sooner(next_tick(player), sooner(next_packet, end));
-    uint64_t now = microseconds() - player->begin;
+    uint64_t now = microseconds();
     const int came = poll(sockets, 2, until <= now ? 0 : (int)((until - now + 999) / 1000));
-    now = microseconds() - player->begin;
+    now = microseconds();
     for (int at = 0; came > 0 && at < 2; at++)
         if (sockets[at].revents & POLLIN)
             receive(player, sockets[at].fd, now, octets);
@@ -295,23 +301,24 @@ static void turn(struct player *player, uint64_t next_packet, uint64_t end)
 static void play(struct player *player)
 {
     uint8_t octets[JALWEDD_OCTETS];
-    for (uint64_t next_packet = 0; !is_over && player->step.next != JALWEDD_NEVER; fflush(stdout)) {
+    uint64_t next_packet = player->config.start;
+    for (; !is_over && player->step.next != JALWEDD_NEVER; fflush(stdout)) {
         const uint16_t sent = player->sequence;
         turn(player, next_packet, UINT64_MAX);
         if (player->sequence != sent)
             next_packet += PACKET_TIME;
     }
-    const uint64_t left = microseconds() - player->begin;
+    const uint64_t left = microseconds();
     leave(player, left, octets);
-    while (player->step.next != JALWEDD_NEVER && microseconds() - player->begin < left + LEAVE_TIME)
+    while (player->step.next != JALWEDD_NEVER && microseconds() < left + LEAVE_TIME)
         turn(player, UINT64_MAX, left + LEAVE_TIME);
 }
 
 /* ---- Begin and end */
 
-static jalwedd_record record_in(const char *name)
+static jalwedd_record record_in(const char *name, uint64_t start)
 {
-    const jalwedd_record record = {.write = jalwedd_record_to_file, .to = fopen(name, "w")};
+    const jalwedd_record record = {.write = jalwedd_record_to_file, .to = fopen(name, "w"), .start = start};
     if (record.to == NULL) {
         perror(name);
         exit(1);
@@ -338,8 +345,8 @@ static bool begin(struct player *player, const char *record)
         return true;
     char name[4096];
     snprintf(name, sizeof name, "%s.sh", record);
-    jalwedd_record command = record_in(name);
-    player->calls = record_in(record);
+    jalwedd_record command = record_in(name, player->config.start);
+    player->calls = record_in(record, player->config.start);
     jalwedd_record_command(&command, &player->config, cname, sizeof cname - 1, &tool, 1, word);
     return end_record(&command);
 }
@@ -356,10 +363,12 @@ int main(int count, char **words)
     player.rtcp = bound(atoi(words[2]) + 1);
     player.to_rtp = local(atoi(words[3]));
     player.to_rtcp = local(atoi(words[3]) + 1);
-    player.begin = microseconds();
-    /* of a session of 64,000 bits a second 5 per cent are for RTCP, and a quarter of that for senders */
-    player.config = (jalwedd_config){.ntp_base = ntp_now(), .ssrc = random_word(), .capacity = 1024, .limit = 1472,
-                                     .sender_bw = 100, .receiver_bw = 300, .rate = 8000};
+    /* of a session of 64,000 bits a second 5 per cent are for RTCP, and a quarter of that for senders; both clocks are
+     * read together, at the start */
+    player.config = (jalwedd_config){.ntp_base = ntp_now(), .start = microseconds(), .ssrc = random_word(),
+                                     .capacity = 1024, .limit = 1472, .sender_bw = 100, .receiver_bw = 300,
+                                     .rate = 8000};
+    player.ticked = player.config.start;
     if (!begin(&player, count == 5 ? words[4] : NULL))
         return 1;
     signal(SIGINT, stop);

@@ -1,8 +1,9 @@
-/* A conference server: 200 sessions of 5 to 20 members on a virtual clock, with a participant in each. The server keeps
- * no table of its own. When a step has `others_changed`, it lists the sources again, and the role changes between the
- * two listings say who joined, left, timed out, began to send or stopped. It ticks each session at step.next and at
- * each full second, as only a tick drops those who left or fell silent. The members lose packets, fall silent, and
- * take the server's SSRC; in some sessions a flood of invented SSRCs fills the table.
+/* A conference server: 200 sessions of 5 to 20 members on a virtual clock, with a participant in each. They start one
+ * after the other by the server's clock. The server keeps no table of its own. When a step has `others_changed`, it
+ * lists the sources again, and the role changes between the two listings say who joined, left, timed out, began to send
+ * or stopped. It ticks each session at step.next and at each full second, as only a tick drops those who left or fell
+ * silent. The members lose packets, fall silent, and take the server's SSRC; in some sessions a flood of invented SSRCs
+ * fills the table.
  *
  * Each second of each session, the server's listing and counts are compared with what docs/PROTOCOL.md requires
  * (server_rules.c), given the datagrams that came (server_members.c). The first difference ends the program with
@@ -41,7 +42,8 @@ struct session {
     jalwedd_step step;
     struct listing listing;             /* who was there after the last call that changed others */
     uint32_t tally[EVENTS];             /* how often each happened */
-    uint64_t now, random;
+    uint64_t start;                     /* when it starts by the server's clock */
+    uint64_t now, random;               /* the time since then, by which its members act */
     uint32_t number;
     bool is_shown, is_full;
     struct roles roles;                 /* from here on for the comparison alone */
@@ -63,6 +65,18 @@ static void compare(const struct session *session, const char *what, uint64_t is
     printf("session %u after %.6f s: %s: %llu in place of %llu\n", session->number, (double)session->now / SECOND,
            what, (unsigned long long)is, (unsigned long long)has_to_be);
     exit(1);
+}
+
+/* The moment of the server's clock that is so much later than the session's start. */
+static uint64_t by_clock(const struct session *session, uint64_t since_start)
+{
+    return since_start == NEVER ? NEVER : session->start + since_start;
+}
+
+/* When the next tick is due, as a time since the start. */
+static uint64_t next_of(const struct session *session)
+{
+    return session->step.next == JALWEDD_NEVER ? NEVER : session->step.next - session->start;
 }
 
 /* ---- Roles by the changes */
@@ -159,11 +173,12 @@ static void take_step(struct session *session)
 static void begin(struct session *session, uint32_t number, uint64_t seed)
 {
     const jalwedd_item none = {0};
-    *session = (struct session){.number = number, .random = seed};
+    *session = (struct session){.number = number, .random = seed, .start = (600 + number) * (uint64_t)SECOND};
     const uint32_t ssrc = random_word(&session->random);
     /* of a session of 64 million bits a second */
-    const jalwedd_config config = {.ntp_base = (uint64_t)3900000000u << 32, .ssrc = ssrc, .capacity = ROOM,
-                                   .limit = 1472, .sender_bw = 100000, .receiver_bw = 300000, .rate = RATE};
+    const jalwedd_config config = {.ntp_base = (uint64_t)(3900000000u + number) << 32, .start = session->start,
+                                   .ssrc = ssrc, .capacity = ROOM, .limit = 1472, .sender_bw = 100000,
+                                   .receiver_bw = 300000, .rate = RATE};
     const uint8_t cname[] = "server@example.com";
     if (jalwedd_new(&session->participant, &config, cname, sizeof cname - 1, &none, 0, random_word(&session->random),
                     &session->step) != JALWEDD_TAKEN)
@@ -175,10 +190,11 @@ static void begin(struct session *session, uint32_t number, uint64_t seed)
 /* What the blocks of a report say is what is known of the latest block about a source. */
 static void compare_report(struct session *session, const uint8_t *octets, uint32_t blocks)
 {
+    jalwedd_cursor cursor = JALWEDD_BEGIN;
     jalwedd_report block;
     jalwedd_source_state source;
     uint32_t count = 0;
-    for (; jalwedd_block(octets, session->step.size, count, &block) == JALWEDD_TAKEN; count++) {
+    for (; jalwedd_next_block(octets, session->step.size, &cursor, &block) == JALWEDD_TAKEN; count++) {
         const uint32_t status = jalwedd_source(&session->participant, block.ssrc, &source);
         compare(session, "status of the source of a block", status, JALWEDD_TAKEN);
         compare(session, "SSRC of a block", block.ssrc, source.ssrc);
@@ -192,8 +208,9 @@ static void tick(struct session *session)
 {
     static uint8_t octets[JALWEDD_OCTETS];
     const uint32_t word = random_word(&session->random), another = random_word(&session->random);
-    compare(session, "status of a tick", jalwedd_tick(&session->participant, session->now, word, another,
-                                                      &session->step, octets), JALWEDD_TAKEN);
+    const uint64_t now = by_clock(session, session->now);
+    const uint32_t status = jalwedd_tick(&session->participant, now, word, another, &session->step, octets);
+    compare(session, "status of a tick", status, JALWEDD_TAKEN);
     take_step(session);
     know_tick(&session->known, session->now);
     compare(session, "others changed", session->step.others_changed, session->known.others_changed);
@@ -210,7 +227,8 @@ static void hear(struct session *session)
         return;
     const uint32_t word = random_word(&session->random);
     const uint32_t status = (came.is_rtp ? jalwedd_arrive_rtp : jalwedd_arrive_rtcp)(
-        &session->participant, session->now, came.peer, word, came.octets, came.size, &session->step, octets);
+        &session->participant, by_clock(session, session->now), came.peer, word, came.octets, came.size,
+        &session->step, octets);
     take_step(session);
     compare(session, "status", status, know_datagram(&session->known, session->now, &came, word));
     compare(session, "others changed", session->step.others_changed, session->known.others_changed);
@@ -223,7 +241,8 @@ static void speak(struct session *session)
     const uint64_t second = session->now / SECOND;
     if (session->number % 4 != 0 || second % 60 >= 10)
         return;
-    jalwedd_sent_rtp(&session->participant, session->now, (uint32_t)(second * RATE), 160, &session->step, octets);
+    jalwedd_sent_rtp(&session->participant, by_clock(session, session->now), (uint32_t)(second * RATE), 160,
+                     &session->step, octets);
     take_step(session);
     know_sent(&session->known, session->now);
     compare(session, "others changed", session->step.others_changed, session->known.others_changed);
@@ -235,8 +254,8 @@ static void compare_source(const struct session *session, const jalwedd_source_s
                            const jalwedd_source_state *has_to_be)
 {
     compare(session, "SSRC", is->ssrc, has_to_be->ssrc);
-    compare(session, "moment of the goodbye", is->left, has_to_be->left);
-    compare(session, "moment of the last sighting", is->heard, has_to_be->heard);
+    compare(session, "moment of the goodbye", is->left, by_clock(session, has_to_be->left));
+    compare(session, "moment of the last sighting", is->heard, by_clock(session, has_to_be->heard));
     compare(session, "member", is->member, has_to_be->member);
     compare(session, "sender", is->sender, has_to_be->sender);
     compare(session, "packets received", is->received, has_to_be->received);
@@ -244,7 +263,7 @@ static void compare_source(const struct session *session, const jalwedd_source_s
     compare(session, "octets received", is->octets, has_to_be->octets);
     compare(session, "highest sequence number", is->highest, has_to_be->highest);
     compare(session, "jitter", is->jitter, has_to_be->jitter);
-    compare(session, "moment of the last sender report", is->told, has_to_be->told);
+    compare(session, "moment of the last sender report", is->told, by_clock(session, has_to_be->told));
     compare(session, "its NTP timestamp", is->ntp, has_to_be->ntp);
     compare(session, "its RTP timestamp", is->rtp, has_to_be->rtp);
     compare(session, "whether there was a block", is->has_block, has_to_be->has_block);
@@ -292,9 +311,9 @@ static void run_second(struct session *session, uint64_t end)
 {
     const struct members *members = &session->members;
     speak(session);
-    while (members->due < end || session->step.next < end) {
-        const bool is_tick = session->step.next <= members->due;
-        const uint64_t due = is_tick ? session->step.next : members->due;
+    while (members->due < end || next_of(session) < end) {
+        const bool is_tick = next_of(session) <= members->due;
+        const uint64_t due = is_tick ? next_of(session) : members->due;
         if (due > session->now)         /* a departure may bring the next tick sooner than now */
             session->now = due;
         if (is_tick)
@@ -365,7 +384,8 @@ static void end_all(struct session *all)
     struct listing listing;
     for (uint32_t at = 0; at < SESSIONS; at++) {
         struct session *session = &all[at];
-        jalwedd_leave(&session->participant, session->now, random_word(&session->random), &session->step, octets);
+        jalwedd_leave(&session->participant, by_clock(session, session->now), random_word(&session->random),
+                      &session->step, octets);
         list(&session->participant, &listing);
         compare(session, "sources after a leave", listing.count + session->step.entries, 0);
         jalwedd_free(&session->participant);

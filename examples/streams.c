@@ -1,7 +1,7 @@
 /* A host that sends two streams into one session, such as those of two microphones: one participant each, over the same
- * two UDP sockets, with one CNAME and one NTP base. Each participant is passed what comes, and what the other stream
- * sends, as if it had come; so both count the same members. Each second it prints who is there by each. At ctrl-C both
- * leave with a BYE, or without one if that is not due within 5 seconds (RFC 3550, 6.3.7).
+ * two UDP sockets, with one CNAME, one clock and one time of day. Each participant is passed what comes, and what the
+ * other stream sends, as if it had come; so both count the same members. Each second it prints who is there by each. At
+ * ctrl-C both leave with a BYE, or without one if that is not due within 5 seconds (RFC 3550, 6.3.7).
  *
  *     streams SEED RTP-PORT PEER-RTP-PORT      on 127.0.0.1, with RTCP at the ports one above
  */
@@ -41,7 +41,7 @@ struct host {
     struct stream streams[STREAMS];
     int rtp, rtcp;
     struct sockaddr_in to_rtp, to_rtcp;
-    uint64_t begin, now;                /* moments of both participants: they begin together */
+    uint64_t start, now;                /* by the clock of the host, which is that of both participants */
 };
 
 /* A datagram that came, or that a stream of this host sent. */
@@ -67,6 +67,7 @@ static uint32_t random_word(void)
     return ((uint32_t)random() << 16) ^ (uint32_t)random();
 }
 
+/* The moment of now, by a clock that never goes back: the library takes it as it is. */
 static uint64_t microseconds(void)
 {
     struct timespec now;
@@ -177,9 +178,9 @@ static void turn(struct host *host, uint64_t until)
     struct pollfd sockets[2] = {{host->rtcp, POLLIN, 0}, {host->rtp, POLLIN, 0}};
     for (int at = 0; at < STREAMS; at++)
         until = sooner(until, next_tick(&host->streams[at]));
-    host->now = microseconds() - host->begin;
+    host->now = microseconds();
     const int came = poll(sockets, 2, until <= host->now ? 0 : (int)((until - host->now + 999) / 1000));
-    host->now = microseconds() - host->begin;
+    host->now = microseconds();
     for (int at = 0; came > 0 && at < 2; at++)
         if (sockets[at].revents & POLLIN)
             receive(host, sockets[at].fd);
@@ -192,22 +193,22 @@ static void print_members(const struct host *host)
 {
     for (int at = 0; at < STREAMS; at++) {
         const jalwedd_step *step = &host->streams[at].step;
-        printf("%.1f s: by %08x %u members, of whom %u send\n", host->now / 1e6, step->ssrc, step->members,
-               step->senders);
+        printf("%.1f s: by %08x %u members, of whom %u send\n", (host->now - host->start) / 1e6, step->ssrc,
+               step->members, step->senders);
     }
     fflush(stdout);
 }
 
 static void play(struct host *host)
 {
-    for (uint64_t next_packet = 0; !is_over;) {
+    for (uint64_t next_packet = host->start; !is_over;) {
         turn(host, next_packet);
         if (next_packet > host->now)
             continue;
         for (int at = 0; at < STREAMS; at++)
             send_packet(host, at);
         next_packet += PACKET_TIME;
-        if (next_packet % SECOND == 0)
+        if ((next_packet - host->start) % SECOND == 0)
             print_members(host);
     }
     for (int at = 0; at < STREAMS; at++)
@@ -240,13 +241,17 @@ static bool begin(struct host *host)
 {
     const jalwedd_item tool = {.kind = 6, .size = 7, .text = "jalwedd"};
     const uint8_t cname[] = "streams@example.com";
-    /* of a session of 64,000 bits a second 5 per cent are for RTCP, and a quarter of that for senders */
-    jalwedd_config config = {.ntp_base = ntp_now(), .capacity = 1024, .limit = 1472, .sender_bw = 100,
-                             .receiver_bw = 300, .rate = 8000};
+    const uint64_t start = microseconds(), ntp_base = ntp_now(); /* read together */
     bool is_begun = true;
-    host->begin = microseconds();
+    host->start = start;
     for (int at = 0; at < STREAMS; at++) {
-        config.ssrc = random_word();
+        const uint64_t now = microseconds();
+        /* of a session of 64,000 bits a second 5 per cent are for RTCP, and a quarter of that for senders. Each stream
+         * has a start of its own, and NTP timestamps of one time of day */
+        const jalwedd_config config = {.ntp_base = jalwedd_ntp_of(ntp_base, now - start), .start = now,
+                                       .ssrc = random_word(), .capacity = 1024, .limit = 1472, .sender_bw = 100,
+                                       .receiver_bw = 300, .rate = 8000};
+        host->now = host->streams[at].ticked = now;
         is_begun &= jalwedd_new(&host->streams[at].session, &config, cname, sizeof cname - 1, &tool, 1, random_word(),
                                 &host->streams[at].step) == JALWEDD_TAKEN;
     }
