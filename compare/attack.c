@@ -365,14 +365,14 @@ static void storms(void)
 
 static uint8_t full[FULL];
 
-/* Packets of this header, so many words after it, up to the end; what is left over is one APP packet. */
-static void fill(uint32_t header, uint32_t words)
+/* Packets of this header, so many words after it, up to so many octets; what is left over is one APP packet. */
+static void fill(uint32_t header, uint32_t words, size_t octets)
 {
     uint8_t *at = put_report(full, VICTIM);
     memset(at, 0, sizeof full - 8);
-    for (; at + 4 * (words + 1) + 12 <= full + FULL; at += 4 * (words + 1))
+    for (; at + 4 * (words + 1) + 12 <= full + octets; at += 4 * (words + 1))
         put_word(at, header | words);
-    put_word(at, 0x80cc0000 | ((uint32_t)(full + FULL - at) / 4 - 1));
+    put_word(at, 0x80cc0000 | ((uint32_t)(full + octets - at) / 4 - 1));
 }
 
 /* The reports in an hour of a host among 200 others, each of whom reports once a minute, where so many datagrams of a
@@ -380,7 +380,7 @@ static void fill(uint32_t header, uint32_t words)
 static uint32_t reports_by_size(uint32_t count, size_t octets)
 {
     struct host host = begun(1024, true, 1);
-    fill(0x80cc0000, 2);
+    fill(0x80cc0000, 2, FULL);
     for (uint32_t turn = 0; turn < 3600 / 3; turn++) {
         for (uint32_t other = 0; other < 10; other++)
             name(&host, INVENTED + (turn * 10 + other) % 200);
@@ -418,79 +418,131 @@ static void statistics(void)
     jalwedd_free(&host.session);
 }
 
-/* ---- Parts by index */
+/* ---- Parts, with a cursor and by index */
 
 static size_t size;                     /* of the datagram in `full` */
 
-static bool is_check(uint32_t index)
+/* A walk with a cursor and one by index over the parts of a kind: how many there are. */
+#define WALKS(kind, part)                                                                                              \
+    static uint32_t walk_##kind(void)                                                                                  \
+    {                                                                                                                  \
+        jalwedd_cursor cursor = JALWEDD_BEGIN;                                                                         \
+        part given;                                                                                                    \
+        uint32_t count = 0;                                                                                            \
+        while (jalwedd_next_##kind(full, size, &cursor, &given) == JALWEDD_TAKEN)                                      \
+            count++;                                                                                                   \
+        return count;                                                                                                  \
+    }                                                                                                                  \
+    static uint32_t index_##kind(void)                                                                                 \
+    {                                                                                                                  \
+        part given;                                                                                                    \
+        uint32_t count = 0;                                                                                            \
+        while (jalwedd_##kind(full, size, count, &given) == JALWEDD_TAKEN)                                             \
+            count++;                                                                                                   \
+        return count;                                                                                                  \
+    }
+
+WALKS(sdes_item, jalwedd_item_place)
+WALKS(goodbye, jalwedd_goodbye_place)
+WALKS(app, jalwedd_app_place)
+WALKS(block, jalwedd_report)
+
+static uint32_t check_whole(void)
 {
     jalwedd_fault fault;
-    return jalwedd_check(full, size, &fault) == JALWEDD_TAKEN && index < 1000;
+    return jalwedd_check(full, size, &fault) == JALWEDD_TAKEN;
 }
 
-static bool is_item(uint32_t index)
+/* A datagram of this size that is full of SDES items: of no other does the check take longer, as it reads each item. */
+static uint8_t full_of_items[FULL];
+
+static uint32_t check_items(void)
 {
-    jalwedd_item_place item;
-    return jalwedd_sdes_item(full, size, index, &item) == JALWEDD_TAKEN;
+    jalwedd_fault fault;
+    return jalwedd_check(full_of_items, size, &fault) == JALWEDD_TAKEN;
 }
 
-static bool is_goodbye(uint32_t index)
+/* The least times that these take, of so many rounds in which each has its turn: other work on the machine only adds to
+ * a time, and it adds to all of them alike. */
+static void least_times(uint32_t (*const works[])(void), double least[], size_t count, uint32_t rounds)
 {
-    jalwedd_goodbye_place goodbye;
-    return jalwedd_goodbye(full, size, index, &goodbye) == JALWEDD_TAKEN;
+    for (size_t work = 0; work < count; work++)
+        least[work] = 1e9;
+    for (uint32_t round = 0; round < rounds; round++)
+        for (size_t work = 0; work < count; work++) {
+            const double begin = seconds();
+            works[work]();
+            const double taken = seconds() - begin;
+            least[work] = taken < least[work] ? taken : least[work];
+        }
 }
 
-static bool is_app(uint32_t index)
+/* The times of a check and of a walk over all parts, which the page bounds by the longest check. If the check reads
+ * each part, the walk is bounded by that of its datagram too; of BYEs and reports the check reads only heads. */
+static void walk(const char *what, uint32_t (*walked)(void), uint32_t (*indexed)(void), bool reads_each)
 {
-    jalwedd_app_place app;
-    return jalwedd_app(full, size, index, &app) == JALWEDD_TAKEN;
-}
-
-static bool is_block(uint32_t index)
-{
-    jalwedd_report report;
-    return jalwedd_block(full, size, index, &report) == JALWEDD_TAKEN;
-}
-
-/* Asks for each part as the header says, and returns how long that took. */
-static double walked(bool (*is_part)(uint32_t index), uint32_t *parts)
-{
-    const double begin = seconds();
-    for (*parts = 0; is_part(*parts);)
-        ++*parts;
-    return seconds() - begin;
-}
-
-static void walk(const char *what, bool (*is_part)(uint32_t index))
-{
-    uint32_t checks, parts;
-    const double check = walked(is_check, &checks) / checks, all = walked(is_part, &parts);
-    printf("    %u %s: %.1f ms, %.0f times its check of %.4f ms\n", parts, what, all * 1e3, all / check, check * 1e3);
+    uint32_t (*const works[])(void) = {check_items, check_whole, walked};
+    double least[3], by_index;
+    least_times(works, least, 3, size == MTU ? 20000 : 2000);
+    least_times(&indexed, &by_index, 1, size == MTU ? 20 : 1);
+    const uint32_t parts = walked();
+    printf("    %u %s: %.4f ms by the cursor, %.4f ms for the check, %.2f ms by index\n", parts, what, least[2] * 1e3,
+           least[1] * 1e3, by_index * 1e3);
+    holds("by index there are as many", parts != 0 && indexed() == parts);
+    told("by the cursor", least[2] / least[0], "times the longest check of that size", 5);
+    told("by the cursor", least[2] / least[1], "times its check", reads_each ? 5 : 0);
+    told("by index", by_index / least[1], "times its check", 0);
 }
 
 /* One chunk of as many items as there is room for, each a NOTE of 0 octets. */
-static void put_items(size_t octets)
+static void put_items(void)
 {
-    size = octets;
     uint8_t *chunk = put_packet(put_report(full, VICTIM), 1, 202, (uint32_t)size / 4 - 3, VICTIM) - (size - 16);
     for (size_t at = 0; at < size - 16; at++)
         chunk[at] = at < size - 18 && at % 2 == 0 ? 7 : 0;
 }
 
+static void parts_of(size_t octets)
+{
+    printf("The parts of a datagram of %zu octets, which is full of one kind of part:\n", octets);
+    size = octets;
+    put_items();
+    memcpy(full_of_items, full, size);
+    walk("SDES items", walk_sdes_item, index_sdes_item, true);
+    fill(0x9fcb0000, 31, octets);
+    walk("sources of BYEs", walk_goodbye, index_goodbye, false);
+    fill(0x80cc0000, 2, octets);
+    walk("APP packets", walk_app, index_app, true);
+    fill(0x9fc90000, 1 + 31 * 6, octets);
+    walk("report blocks", walk_block, index_block, false);
+}
+
 static void parts(void)
 {
-    printf("The parts of one datagram of 65,504 octets, each asked for by its index:\n");
-    put_items(FULL);
-    walk("SDES items", is_item);
-    put_items(MTU);
-    walk("SDES items of a datagram of 1,472 octets", is_item);
-    size = FULL;
-    fill(0x9fcb0000, 31);
-    walk("sources of BYEs", is_goodbye);
-    fill(0x80cc0000, 2);
-    walk("APP packets", is_app);
-    fill(0x9fc90000, 1 + 31 * 6);
-    walk("report blocks", is_block);
+    parts_of(MTU);
+    parts_of(FULL);
+}
+
+/* ---- A session that does not start at 0 */
+
+/* A host whose clock stands at ten minutes at the start, ticks at next alone until its first report. */
+static void first_reports(void)
+{
+    enum { SEEDS = 1000 };
+    const uint64_t start = 600ull * SECOND;
+    uint64_t least = NEVER, most = 0;
+    for (uint64_t seed = 1; seed <= SEEDS; seed++) {
+        struct host host = begun_at(start, 1024, false, seed);
+        while (host.reports == 0)
+            pass(&host, due(&host));
+        least = host.reported - start < least ? host.reported - start : least;
+        most = host.reported - start > most ? host.reported - start : most;
+        jalwedd_free(&host.session);
+    }
+    printf("The first report of a session that starts at 600 s by the host's clock, alone, in %d sessions:\n", SEEDS);
+    told("earliest, after the start", (double)least / SECOND, "s", 0);
+    told("latest, after the start", (double)most / SECOND, "s", 3.0782);
+    holds("none comes before 1.026037 s", least >= 1026037);
 }
 
 int main(void)
@@ -504,5 +556,6 @@ int main(void)
     averages();
     statistics();
     parts();
+    first_reports();
     return is_beyond;
 }

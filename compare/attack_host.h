@@ -38,11 +38,12 @@ static uint32_t random_word(struct host *host)
     return (uint32_t)((word ^ word >> 31) >> 32);
 }
 
-/* In a session of 64,000 bits a second. */
-static struct host begun(uint32_t capacity, bool ticks_each_second, uint64_t seed)
+/* In a session of 64,000 bits a second, which starts at this moment by the host's clock. */
+static struct host begun_at(uint64_t start, uint32_t capacity, bool ticks_each_second, uint64_t seed)
 {
-    struct host host = {.random = seed * 1000003, .ticks_each_second = ticks_each_second, .least_gap = NEVER};
-    const jalwedd_config config = {.ssrc = 1, .capacity = capacity, .limit = 1472, .sender_bw = 100,
+    struct host host = {.now = start, .ticked = start, .random = seed * 1000003,
+                        .ticks_each_second = ticks_each_second, .least_gap = NEVER};
+    const jalwedd_config config = {.start = start, .ssrc = 1, .capacity = capacity, .limit = 1472, .sender_bw = 100,
                                    .receiver_bw = 300, .rate = 8000};
     const jalwedd_item none = {0};
     if (jalwedd_new(&host.session, &config, (const uint8_t *)"a", 1, &none, 0, random_word(&host), &host.step)
@@ -51,6 +52,11 @@ static struct host begun(uint32_t capacity, bool ticks_each_second, uint64_t see
         exit(1);
     }
     return host;
+}
+
+static struct host begun(uint32_t capacity, bool ticks_each_second, uint64_t seed)
+{
+    return begun_at(0, capacity, ticks_each_second, seed);
 }
 
 static void count_out(struct host *host)
