@@ -46,4 +46,5 @@ mod PartsAgain
 mod WritableAgain
 mod PartRanges
 mod RtpRanges
+mod WrongRows
 pub mod LawLemmas

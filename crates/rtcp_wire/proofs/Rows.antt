@@ -81,7 +81,7 @@ description_spelled = record {
 }
 
 -- a goodbye of source 7 with four octets of padding
-abbrev padded : List ℕ
+abbrev pub padded : List ℕ
 padded = 161 ∷ 203 ∷ 0 ∷ 2 ∷ 0 ∷ 0 ∷ 0 ∷ 7 ∷ 0 ∷ 0 ∷ 0 ∷ 4 ∷ []
 
 -- Its padding is no part of its body.
