@@ -1,4 +1,5 @@
 mod Rows
+mod WrongRows
 mod Quarters
 mod Quotients
 mod Averaging
