@@ -41,6 +41,7 @@ mod TurnsSamples
 mod TraceTables
 mod Rows
 mod NewsRows
+mod WrongRows
 mod StayLaws
 mod SenderLaws
 mod NewsOfTraces
