@@ -5,4 +5,5 @@ mod Prefixes
 mod WholeReports
 mod Following
 mod Fitting
+mod WrongRows
 pub mod LawLemmas
