@@ -30,4 +30,5 @@ mod IdentifierSearch
 mod Usable
 mod Waiting
 mod Windows
+mod WrongRows
 pub mod LawLemmas
