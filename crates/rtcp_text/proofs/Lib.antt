@@ -19,3 +19,4 @@ mod SessionLemmas
 mod SpaceLemmas
 mod TailLemmas
 mod TextLemmas
+mod WrongRows
