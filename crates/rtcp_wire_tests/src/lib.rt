@@ -3,10 +3,9 @@
 //! written from docs/ alone.
 //!
 //! - `tests`: the example on the front page of rtcp_wire, a named report, first faults, prefixes, and the texts of
-//! errors; - `types` and `body_faults`: a packet of each type, and the faults of bodies; - `facts` and `about`: what a
-//! compound says about sources, and what its reports say about one; - `changes` and `damage`: each change of one octet
-//! of a datagram, and each of its prefixes; - `writing`: packets that are written and read back;
-//! - `rtp`: the heads of RTP packets.
+//! errors; - `types`: a packet of each type; - `facts` and `about`: what a compound says about sources, and what its
+//! reports say about one; - `changes` and `damage`: each change of one octet of a datagram, and each of its prefixes;
+//! - `writing`: packets that are written; - `rtp`: the heads of RTP packets.
 //!
 //! The library itself is empty.
 #![tactic(auto)]

@@ -1,4 +1,4 @@
-//! What reports say of one source, and that views borrow.
+//! What reports say of one source.
 
 use super::*;
 
@@ -53,63 +53,98 @@ const TWO_REPORTS: [u8; 136] = [
     0, 0, 0, 0, // DLSR
 ];
 
-/// Which source reports of `ssrc`, and the highest sequence number that it reports, for each block.
-fn told_of(alloc: Global, datagram: &[u8], ssrc: u32) -> Result<Vec<(u32, u32)>, Fail> {
-    let mut told = Vec::new(alloc);
-    for (reporter, block) in Compound::read(datagram)?.about(ssrc) {
-        told.push((reporter, block.highest))?;
-    }
-    Ok(told)
-}
+/// A block with nothing but a source and its highest sequence number.
+const BLANK: Block = Block {
+    ssrc: 0,
+    fraction: 0,
+    lost: 0,
+    highest: 0,
+    jitter: 0,
+    lsr: 0,
+    dlsr: 0,
+};
 
-#[test]
-fn one_block(rt: HostRuntime) -> Result<(), Fail> {
-    let compound = Compound::read(&ONE_BLOCK)?;
-    let block = Block {
-        ssrc: 0xaa,
-        fraction: 25,
-        lost: 3,
-        highest: 11,
-        jitter: 0,
-        lsr: 0xb705_2000,
-        dlsr: 0x0005_4000,
-    };
-    let mut about = compound.about(0xaa);
-    let found = [about.next(), about.next(), about.next()];
-    assert_eq!(rt; found, [Some((7, block)), None, None]);
+/// A datagram, a source, and who reports what of it, in the order of the datagram.
+type About = (&'static [u8], u32, &'static [(u32, Block)]);
+
+static ABOUT: [About; 5] = [
+    (
+        &ONE_BLOCK,
+        0xaa,
+        &[(
+            7,
+            Block {
+                ssrc: 0xaa,
+                fraction: 25,
+                lost: 3,
+                highest: 11,
+                jitter: 0,
+                lsr: 0xb705_2000,
+                dlsr: 0x0005_4000,
+            },
+        )],
+    ),
     // The source that reports is not one that it reports of.
-    assert_eq!(rt; compound.about(7).next(), None);
-    Ok(())
-}
+    (&ONE_BLOCK, 7, &[]),
+    // Blocks of two reports, with others before and after them.
+    (
+        &TWO_REPORTS,
+        13,
+        &[
+            (
+                9,
+                Block {
+                    ssrc: 13,
+                    highest: 22,
+                    ..BLANK
+                },
+            ),
+            (
+                11,
+                Block {
+                    ssrc: 13,
+                    highest: 23,
+                    ..BLANK
+                },
+            ),
+        ],
+    ),
+    (
+        &TWO_REPORTS,
+        5,
+        &[
+            (
+                9,
+                Block {
+                    ssrc: 5,
+                    highest: 21,
+                    ..BLANK
+                },
+            ),
+            (
+                11,
+                Block {
+                    ssrc: 5,
+                    highest: 24,
+                    ..BLANK
+                },
+            ),
+        ],
+    ),
+    (&TWO_REPORTS, 9, &[]),
+];
 
-/// Blocks of two reports, in the order of the datagram, with others before and after them.
+/// Each block about a source, and then none.
 #[test]
-fn two_reports(rt: HostRuntime) -> Result<(), Fail> {
-    for (ssrc, expected) in [
-        (13, [(9, 22), (11, 23)].as_slice()),
-        (5, &[(9, 21), (11, 24)]),
-        (9, &[]),
-    ] {
-        let told = told_of(rt.alloc(), &TWO_REPORTS, ssrc)?;
-        assert_eq!(rt; told.as_slice(), expected, "of source {ssrc}");
-    }
-    Ok(())
-}
-
-/// The text of the CNAME is the octet at offset 18 of the datagram, whatever it is.
-#[test]
-fn text_in_the_datagram(rt: HostRuntime) -> Result<(), Fail> {
-    for octet in 0..=255u8 {
-        let mut datagram = NAMED;
-        datagram[18] = octet;
-        match second_packet(&rt, &datagram) {
-            PacketView::Sdes(description) => {
-                let chunk = description.chunks().next().ok_or("no chunk")?;
-                let item = chunk.items().next().ok_or("no item")?;
-                assert_eq!(rt; item.text, &datagram[18..19]);
-            }
-            _ => panic!(rt; "the second packet is a source description"),
+fn each_block(rt: HostRuntime) -> Result<(), Fail> {
+    for (datagram, ssrc, wanted) in &ABOUT {
+        let compound = Compound::read(datagram)?;
+        let mut about = compound.about(*ssrc);
+        for block in *wanted {
+            assert_eq!(rt; about.next(), Some(*block), "about {ssrc}");
         }
+        let ends = (about.next().is_none(), about.next().is_none());
+        assert_eq!(rt; ends, (true, true), "about {ssrc}");
     }
     Ok(())
 }

@@ -62,13 +62,24 @@ fn fact_count(compound: &Compound<'_>) -> usize
     rtcp_wire::facts(compound).count()
 }
 
-#[test]
-fn each_type(rt: HostRuntime) -> Result<(), Fail> {
-    let compound = Compound::read(&CALL)?;
-    let found = collected(rt.alloc(), &compound)?;
-    assert_eq!(rt;
-        found.as_slice(),
-        [
+/// A source description of no chunks and a goodbye of no identifiers, between other packets and at the end.
+const EMPTY_PACKETS: [u8; 36] = [
+    0x80, 0xc9, 0, 1, // a receiver report of two words
+    0, 0, 0, 7, // its SSRC
+    0x80, 0xca, 0, 0, // a source description of no chunks
+    0x80, 0xcb, 0, 0, // a goodbye of no sources
+    0x80, 0xcc, 0, 2, // an application's packet of three words
+    0, 0, 0, 8, // its SSRC
+    0x61, 0x62, 0x63, 0x64, // its name
+    0x80, 0xcb, 0, 0, // a goodbye of no sources
+    0x80, 0xca, 0, 0, // a source description of no chunks
+];
+
+/// Compounds, and their facts.
+static FACTS: [(&[u8], &[Fact]); 3] = [
+    (
+        &CALL,
+        &[
             Fact::Heard(9),
             Fact::Told(9, 0x1_0000_0005, 2),
             Fact::Heard(9),
@@ -77,48 +88,29 @@ fn each_type(rt: HostRuntime) -> Result<(), Fail> {
             Fact::Gone(9),
             Fact::Gone(7),
             Fact::Heard(11),
-        ]
-        .as_slice()
-    );
-    assert_eq!(rt;
-        visited(rt.alloc(), &compound)?.as_slice(),
-        found.as_slice()
-    );
-    Ok(())
-}
+        ],
+    ),
+    (&[0x80, 0xc9, 0, 1, 0, 0, 0, 7], &[Fact::Heard(7)]),
+    // What is empty gives nothing.
+    (&EMPTY_PACKETS, &[Fact::Heard(7), Fact::Heard(8)]),
+];
 
+/// The facts of each compound, collected and one by one, and then none.
 #[test]
-fn report_alone(rt: HostRuntime) -> Result<(), Fail> {
-    let compound = Compound::read(&[0x80, 0xc9, 0, 1, 0, 0, 0, 7])?;
-    let mut count = 0u8;
-    for fact in rtcp_wire::facts(&compound) {
-        assert_eq!(rt; fact, Fact::Heard(7));
-        count = count.saturating_add(1);
+fn each_fact(rt: HostRuntime) -> Result<(), Fail> {
+    for (octets, wanted) in &FACTS {
+        let compound = Compound::read(octets)?;
+        let found = (
+            collected(rt.alloc(), &compound)?,
+            visited(rt.alloc(), &compound)?,
+        );
+        let found = (found.0.as_slice(), found.1.as_slice());
+        assert_eq!(rt; found, (*wanted, *wanted), "{octets:?}");
+        let mut left = rtcp_wire::facts(&compound);
+        for fact in *wanted {
+            assert_eq!(rt; left.next(), Some(*fact), "{octets:?}");
+        }
+        assert_eq!(rt; [left.next(), left.next()], [None, None], "{octets:?}");
     }
-    assert_eq!(rt; count, 1);
-    Ok(())
-}
-
-/// A source description of no chunks and a goodbye of no identifiers give nothing, between other packets and
-/// at the end.
-#[test]
-fn empty_packets(rt: HostRuntime) -> Result<(), Fail> {
-    let octets = [
-        0x80, 0xc9, 0, 1, // a receiver report of two words
-        0, 0, 0, 7, // its SSRC
-        0x80, 0xca, 0, 0, // a source description of no chunks
-        0x80, 0xcb, 0, 0, // a goodbye of no sources
-        0x80, 0xcc, 0, 2, // an application's packet of three words
-        0, 0, 0, 8, // its SSRC
-        0x61, 0x62, 0x63, 0x64, // its name
-        0x80, 0xcb, 0, 0, // a goodbye of no sources
-        0x80, 0xca, 0, 0, // a source description of no chunks
-    ];
-    let compound = Compound::read(&octets)?;
-    let mut left = rtcp_wire::facts(&compound);
-    assert_eq!(rt;
-        [left.next(), left.next(), left.next(), left.next()],
-        [Some(Fact::Heard(7)), Some(Fact::Heard(8)), None, None]
-    );
     Ok(())
 }
