@@ -2,6 +2,7 @@ use arrayvec::ArrayVec;
 use rtcp_engine::*;
 use rtcp_members::{InlineTable, ListTable, MemberTable, SortedTable};
 use rtcp_wire::{Compound, FaultReason, RtpFault, WireFault};
+use std::alloc::{AllocError, Global};
 use std::process::Abort;
 use std::test::*;
 
@@ -21,4 +22,7 @@ mod runs;
 mod session;
 mod sorted;
 
-use session::{BYE, OURS, REPORT, Session, bye_of, config, fill_with_byes, report_of};
+use session::{
+    BYE, Call, OURS, REPORT, REPORT_OF_BB, Row, Script, Seen, Session, Setup, USUAL, config,
+    seen_of,
+};

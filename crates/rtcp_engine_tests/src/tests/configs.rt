@@ -2,69 +2,95 @@
 
 use super::*;
 
-/// The configuration is refused for this reason.
-fn refuses(rt: &impl Abort, config: Config, reason: ConfigError) {
-    match Participant::<ListTable>::new(config, 0) {
-        Ok(_) => panic!(rt; "the configuration is taken"),
-        Err(error) => assert!(rt; error == reason),
+/// What is not usual in a configuration.
+#[derive(Clone, Copy)]
+enum Unusual {
+    Nothing,
+    /// No CNAME, and a capacity of 0.
+    Empty,
+    Capacity(u32),
+    Limit(u32),
+    /// Of the senders, and of the others.
+    Bandwidths(u32, u32),
+    Rate(u32),
+    /// One extra item of this type, without text.
+    Extra(u8),
+}
+
+/// Configurations, and why they are refused, if they are.
+static CONFIGS: [(Unusual, Option<ConfigError>); 33] = [
+    (Unusual::Nothing, None),
+    // of several reasons the first
+    (Unusual::Empty, Some(ConfigError::Cname)),
+    (Unusual::Capacity(0), Some(ConfigError::Capacity)),
+    (Unusual::Capacity(1_025), Some(ConfigError::Capacity)),
+    (Unusual::Capacity(1), None),
+    (Unusual::Capacity(1_024), None),
+    (Unusual::Limit(575), Some(ConfigError::Limit)),
+    (Unusual::Limit(572), Some(ConfigError::Limit)),
+    (Unusual::Limit(578), Some(ConfigError::Limit)),
+    (Unusual::Limit(1_473), Some(ConfigError::Limit)),
+    (Unusual::Limit(1_476), Some(ConfigError::Limit)),
+    (Unusual::Limit(576), None),
+    (Unusual::Limit(1_472), None),
+    (Unusual::Bandwidths(0, 300), Some(ConfigError::Bandwidth)),
+    (Unusual::Bandwidths(100, 0), Some(ConfigError::Bandwidth)),
+    (Unusual::Bandwidths(15, 300), Some(ConfigError::Bandwidth)),
+    (Unusual::Bandwidths(100, 15), Some(ConfigError::Bandwidth)),
+    (
+        Unusual::Bandwidths((1 << 30) + 1, 300),
+        Some(ConfigError::Bandwidth),
+    ),
+    (
+        Unusual::Bandwidths(100, (1 << 30) + 1),
+        Some(ConfigError::Bandwidth),
+    ),
+    (Unusual::Bandwidths(16, 300), None),
+    (Unusual::Bandwidths(100, 16), None),
+    (Unusual::Bandwidths(1 << 30, 300), None),
+    (Unusual::Bandwidths(100, 1 << 30), None),
+    (Unusual::Rate(0), Some(ConfigError::Rate)),
+    (Unusual::Rate((1 << 20) + 1), Some(ConfigError::Rate)),
+    (Unusual::Rate(1), None),
+    (Unusual::Rate(1 << 20), None),
+    (Unusual::Extra(0), Some(ConfigError::Item)),
+    (Unusual::Extra(1), Some(ConfigError::Item)),
+    (Unusual::Extra(9), Some(ConfigError::Item)),
+    (Unusual::Extra(255), Some(ConfigError::Item)),
+    (Unusual::Extra(2), None),
+    (Unusual::Extra(8), None),
+];
+
+/// The configuration that is unusual so.
+fn configured(unusual: Unusual) -> Config {
+    let mut config = config();
+    match unusual {
+        Unusual::Nothing => {}
+        Unusual::Empty => {
+            config.cname = ArrayVec::new();
+            config.capacity = 0;
+        }
+        Unusual::Capacity(capacity) => config.capacity = capacity,
+        Unusual::Limit(limit) => config.limit = limit,
+        Unusual::Bandwidths(senders, others) => {
+            config.sender_bw = senders;
+            config.receiver_bw = others;
+        }
+        Unusual::Rate(rate) => config.rate = rate,
+        Unusual::Extra(kind) => {
+            let text = ArrayVec::new();
+            let _ = config.extras.try_push(Item { kind, text });
+        }
     }
+    config
 }
 
-/// The configuration is taken.
-fn takes(rt: &impl Abort, config: Config) {
-    assert!(rt; Participant::<ListTable>::new(config, 0).is_ok());
-}
-
-/// One extra item of this type.
-fn extra(kind: u8) -> ArrayVec<Item, 7> {
-    let mut extras = ArrayVec::new();
-    let _ = extras.try_push(Item {
-        kind,
-        text: ArrayVec::new(),
-    });
-    extras
-}
-
+/// The ends of each range, and what lies beyond them.
 #[test]
-fn first_reason(rt: HostRuntime) {
-    let empty = Config {
-        cname: ArrayVec::new(),
-        capacity: 0,
-        ..config()
-    };
-    refuses(&rt, empty, ConfigError::Cname);
-}
-
-#[test]
-fn capacities(rt: HostRuntime) {
-    for capacity in [0, 1_025] {
-        refuses(
-            &rt,
-            Config {
-                capacity,
-                ..config()
-            },
-            ConfigError::Capacity,
-        );
-    }
-    for capacity in [1, 1_024] {
-        takes(
-            &rt,
-            Config {
-                capacity,
-                ..config()
-            },
-        );
-    }
-}
-
-#[test]
-fn limits(rt: HostRuntime) {
-    for limit in [575, 572, 578, 1_473, 1_476] {
-        refuses(&rt, Config { limit, ..config() }, ConfigError::Limit);
-    }
-    for limit in [576, 1_472] {
-        takes(&rt, Config { limit, ..config() });
+fn configurations(rt: HostRuntime) {
+    for (row, (unusual, reason)) in CONFIGS.iter().enumerate() {
+        let found = Participant::<ListTable>::new(configured(*unusual), 0).err();
+        assert!(rt; found == *reason, "row {row}");
     }
 }
 
@@ -74,50 +100,4 @@ fn shares(rt: HostRuntime) {
     assert_eq!(&rt; (rtcp_bw_of(10_239), rtcp_bw_of(10_240)), (63, 64));
     assert_eq!(&rt; [shares_of(63), shares_of(64)], [(15, 48), (16, 48)]);
     assert_eq!(&rt; [shares_of(0), shares_of(400)], [(0, 0), (100, 300)]);
-}
-
-#[test]
-fn bandwidths(rt: HostRuntime) {
-    for bandwidth in [0, 15, (1 << 30) + 1] {
-        for (sender_bw, receiver_bw) in [(bandwidth, 300), (100, bandwidth)] {
-            let config = with_bandwidths(sender_bw, receiver_bw);
-            refuses(&rt, config, ConfigError::Bandwidth);
-        }
-    }
-    for bandwidth in [16, 1 << 30] {
-        for (sender_bw, receiver_bw) in [(bandwidth, 300), (100, bandwidth)] {
-            takes(&rt, with_bandwidths(sender_bw, receiver_bw));
-        }
-    }
-}
-
-/// The usual configuration with these bandwidths.
-fn with_bandwidths(sender_bw: u32, receiver_bw: u32) -> Config {
-    Config {
-        sender_bw,
-        receiver_bw,
-        ..config()
-    }
-}
-
-#[test]
-fn rates(rt: HostRuntime) {
-    for rate in [0, (1 << 20) + 1] {
-        refuses(&rt, Config { rate, ..config() }, ConfigError::Rate);
-    }
-    for rate in [1, 1 << 20] {
-        takes(&rt, Config { rate, ..config() });
-    }
-}
-
-#[test]
-fn extra_items(rt: HostRuntime) {
-    for kind in [0, 1, 9, 255] {
-        let extras = extra(kind);
-        refuses(&rt, Config { extras, ..config() }, ConfigError::Item);
-    }
-    for kind in [2, 8] {
-        let extras = extra(kind);
-        takes(&rt, Config { extras, ..config() });
-    }
 }

@@ -20,59 +20,88 @@ const OURS: &[u8] = &[0x80, 0xc9, 0, 1, 0, 0, 0, 0xab];
 /// An RTP packet of it.
 const OUR_PACKET: &[u8] = &[0x80, 0, 0, 1, 0, 0, 0, 0, 0, 0, 0, 0xab];
 
-/// Datagrams to damage: some are read whole, and some have a fault already.
-static SAMPLES: [&[u8]; 17] = [
-    // a receiver report with no blocks
-    &[0x80, 0xc9, 0, 1, 0, 0, 0, 7],
-    // with a CNAME, and with an octet more
-    NAMED,
-    &[
-        0x80, 0xc9, 0, 1, 0, 0, 0, 7, 0x81, 0xca, 0, 2, 0, 0, 0, 7, 1, 1, 0x61, 0, 0,
-    ],
-    // padding: of the first packet, and of a goodbye
-    &[0xa0, 0xc9, 0, 2, 0, 0, 0, 7, 0, 0, 0, 4],
-    &[
-        0x80, 0xc9, 0, 1, 0, 0, 0, 7, 0xa1, 0xcb, 0, 2, 0, 0, 0, 7, 0, 0, 0, 4,
-    ],
-    // a report that lacks its last octet, and one that lacks its block
-    &[0x80, 0xc9, 0, 1, 0, 0, 0],
-    &[0x81, 0xc9, 0, 1, 0, 0, 0, 7],
-    // an item, and a reason, that run past their bodies
-    &[
-        0x80, 0xc9, 0, 1, 0, 0, 0, 7, 0x81, 0xca, 0, 2, 0, 0, 0, 7, 1, 5, 0x61, 0,
-    ],
-    &[
-        0x80, 0xc9, 0, 1, 0, 0, 0, 7, 0x81, 0xcb, 0, 2, 0, 0, 0, 7, 5, 0x61, 0x62, 0x63,
-    ],
-    // a sender report
-    &[
-        0x80, 0xc8, 0, 6, 0, 0, 0, 9, 0, 0, 0xb7, 5, 0x20, 0, 0, 0, 0, 0, 0, 10, 0, 0, 0, 3, 0, 0,
-        1, 0xe0,
-    ],
-    // two RTP packets
-    PACKET,
-    &[0x80, 0, 0, 11, 0, 0, 0, 0, 0, 0, 0, 9],
-    // a goodbye
-    &[0x80, 0xc9, 0, 1, 0, 0, 0, 1, 0x81, 0xcb, 0, 1, 0, 0, 0, 1],
-    // a packet of an application
-    &[
-        0x80, 0xc9, 0, 1, 0, 0, 0, 7, 0x85, 0xcc, 0, 3, 0, 0, 0, 7, 0x41, 0x42, 0x43, 0x44, 1, 2,
-        3, 4,
-    ],
-    // goodbyes with a reason, with an empty one, and of nobody
-    &[
-        0x80, 0xc9, 0, 1, 0, 0, 0, 7, 0x81, 0xcb, 0, 2, 0, 0, 0, 7, 2, 0x61, 0x62, 0,
-    ],
-    &[
-        0x80, 0xc9, 0, 1, 0, 0, 0, 7, 0x81, 0xcb, 0, 2, 0, 0, 0, 7, 0, 0, 0, 0,
-    ],
-    &[0x80, 0xc9, 0, 1, 0, 0, 0, 7, 0x80, 0xcb, 0, 0],
-];
+/// Datagrams to damage, of which some are read whole and some have a fault already, and what comes of it. The numbers
+/// are those of the model in compare/, which is written from docs/ alone, for participants that begin with this part.
+pub(crate) struct Part {
+    samples: &'static [&'static [u8]],
+    /// How many of the damaged samples are refused as RTCP, and how many as RTP, for a fault or for the own SSRC.
+    refused: (u32, u32),
+    /// How many compounds are handed out while the participant is present.
+    reports: u32,
+}
 
-/// How many of the damaged samples are refused as RTCP, and how many as RTP, for a fault or for the own SSRC.
-/// These numbers, and that of the reports, are those of compare/damage, whose model is written from docs/
-/// alone.
-const REFUSED: (u32, u32) = (44_085, 63_401);
+/// Names and padding.
+pub(crate) static NAMES: Part = Part {
+    samples: &[
+        // a receiver report with no blocks
+        &[0x80, 0xc9, 0, 1, 0, 0, 0, 7],
+        // with a CNAME, and with an octet more
+        NAMED,
+        &[
+            0x80, 0xc9, 0, 1, 0, 0, 0, 7, 0x81, 0xca, 0, 2, 0, 0, 0, 7, 1, 1, 0x61, 0, 0,
+        ],
+        // padding: of the first packet, and of a goodbye
+        &[0xa0, 0xc9, 0, 2, 0, 0, 0, 7, 0, 0, 0, 4],
+        &[
+            0x80, 0xc9, 0, 1, 0, 0, 0, 7, 0xa1, 0xcb, 0, 2, 0, 0, 0, 7, 0, 0, 0, 4,
+        ],
+    ],
+    refused: (13_854, 20_003),
+    reports: 335,
+};
+
+/// What is cut short, and a sender report.
+pub(crate) static CUT_SHORT: Part = Part {
+    samples: &[
+        // a report that lacks its last octet, and one that lacks its block
+        &[0x80, 0xc9, 0, 1, 0, 0, 0],
+        &[0x81, 0xc9, 0, 1, 0, 0, 0, 7],
+        // an item, and a reason, that run past their bodies
+        &[
+            0x80, 0xc9, 0, 1, 0, 0, 0, 7, 0x81, 0xca, 0, 2, 0, 0, 0, 7, 1, 5, 0x61, 0,
+        ],
+        &[
+            0x80, 0xc9, 0, 1, 0, 0, 0, 7, 0x81, 0xcb, 0, 2, 0, 0, 0, 7, 5, 0x61, 0x62, 0x63,
+        ],
+        // a sender report
+        &[
+            0x80, 0xc8, 0, 6, 0, 0, 0, 9, 0, 0, 0xb7, 5, 0x20, 0, 0, 0, 0, 0, 0, 10, 0, 0, 0, 3, 0,
+            0, 1, 0xe0,
+        ],
+    ],
+    refused: (14_615, 20_515),
+    reports: 341,
+};
+
+/// RTP packets, a goodbye, and a packet of an application.
+pub(crate) static PACKETS: Part = Part {
+    samples: &[
+        PACKET,
+        &[0x80, 0, 0, 11, 0, 0, 0, 0, 0, 0, 0, 9],
+        &[0x80, 0xc9, 0, 1, 0, 0, 0, 1, 0x81, 0xcb, 0, 1, 0, 0, 0, 1],
+        &[
+            0x80, 0xc9, 0, 1, 0, 0, 0, 7, 0x85, 0xcc, 0, 3, 0, 0, 0, 7, 0x41, 0x42, 0x43, 0x44, 1,
+            2, 3, 4,
+        ],
+    ],
+    refused: (9_700, 10_306),
+    reports: 196,
+};
+
+/// Goodbyes with a reason, with an empty one, and of nobody.
+pub(crate) static GOODBYES: Part = Part {
+    samples: &[
+        &[
+            0x80, 0xc9, 0, 1, 0, 0, 0, 7, 0x81, 0xcb, 0, 2, 0, 0, 0, 7, 2, 0x61, 0x62, 0,
+        ],
+        &[
+            0x80, 0xc9, 0, 1, 0, 0, 0, 7, 0x81, 0xcb, 0, 2, 0, 0, 0, 7, 0, 0, 0, 0,
+        ],
+        &[0x80, 0xc9, 0, 1, 0, 0, 0, 7, 0x80, 0xcb, 0, 0],
+    ],
+    refused: (5_916, 12_577),
+    reports: 183,
+};
 
 /// Two participants that are told the same, but for what is refused.
 #[derive(Drop)]
@@ -92,14 +121,13 @@ struct Pair<T: MemberTable> {
 }
 
 /// While a participant is present, and the table is often full.
-pub(crate) fn present<T: InlineTable + Drop>(rt: &impl Abort) {
-    let harmed = Session::new(rt, small());
-    let spared = Session::new(rt, small());
+pub(crate) fn present<T: InlineTable + Drop>(rt: &impl Abort, part: &Part) {
+    let harmed = Session::new(rt, small(), 0);
+    let spared = Session::new(rt, small(), 0);
     let mut pair = Pair::<T>::new(harmed, spared, 0, true);
     pair.change_ssrc(rt);
-    pair.damage_samples(rt);
-    assert_eq!(rt; pair.damaged, REFUSED);
-    assert_eq!(rt; pair.sent, 1_060);
+    pair.damage_samples(rt, part.samples);
+    assert_eq!(rt; (pair.damaged, pair.sent), (part.refused, part.reports));
 }
 
 /// The usual configuration, but for a table of 60 sources and the least bandwidth, so that the interval shows
@@ -114,17 +142,17 @@ fn small() -> Config {
 }
 
 /// While a participant backs off, until both say goodbye.
-pub(crate) fn backing_off<T: InlineTable + Drop>(rt: &impl Abort) {
+pub(crate) fn backing_off<T: InlineTable + Drop>(rt: &impl Abort, part: &Part) {
     let harmed = leaving::backing_off::<T>(rt);
     let spared = leaving::backing_off::<T>(rt);
     let mut pair = Pair::new(harmed, spared, 10_000_000, false);
     pair.change_ssrc(rt);
-    assert_eq!(rt; pair.sent, 1);
-    pair.damage_samples(rt);
-    assert_eq!(rt; pair.damaged, REFUSED);
+    pair.damage_samples(rt, part.samples);
+    assert_eq!(rt; (pair.damaged, pair.sent), (part.refused, 1));
     pair.wait(rt);
     assert_eq!(rt; pair.sent, 2);
-    pair.harmed.is_gone(rt);
+    pair.harmed
+        .plays(rt, "gone", &[(Call::Ask, Seen::LeavesSilently)]);
 }
 
 impl<T: MemberTable + Drop> Pair<T> {
@@ -143,14 +171,13 @@ impl<T: MemberTable + Drop> Pair<T> {
     /// Both change their SSRC, as the peer that sends all datagrams names it. So from now on what names it is
     /// refused.
     fn change_ssrc(&mut self, rt: &impl Abort) {
-        let now = self.now;
-        self.tell_both(rt, came(now, OURS_AT_FIRST));
+        self.tell_both(rt, Call::Rtcp(self.now, 1, 0xab, OURS_AT_FIRST));
         assert_eq!(rt; self.harmed.participant.ssrc(), 0xab);
     }
 
     /// Damages each sample. What is whole is a sample that is read, or else the named report.
-    fn damage_samples(&mut self, rt: &impl Abort) {
-        for octets in SAMPLES {
+    fn damage_samples(&mut self, rt: &impl Abort, samples: &[&[u8]]) {
+        for octets in samples {
             let whole = if Compound::read(octets).is_ok() {
                 octets
             } else {
@@ -168,28 +195,22 @@ impl<T: MemberTable + Drop> Pair<T> {
         let before = self.now.saturating_sub(1);
         self.refuse_moment(rt, before, whole, Refusal::Backwards);
         self.refuse_moment(rt, (1 << 50) + 1, whole, Refusal::TooFar);
-        let now = self.later();
-        let ours = self.harm(rt, came(now, OURS), whole);
+        let ours = self.harm(rt, Call::Rtcp(self.later(), 1, 0xab, OURS), whole);
         assert!(rt; ours == Some(Refusal::OwnSsrc));
-        let now = self.later();
-        let ours = self.harm(rt, packet_came(now, OUR_PACKET), whole);
+        let ours = self.harm(rt, Call::Rtp(self.later(), 1, 0xab, OUR_PACKET), whole);
         assert!(rt; ours == Some(Refusal::OwnSsrc));
     }
 
     /// Each call at a moment for which it is refused.
     fn refuse_moment(&mut self, rt: &impl Abort, now: u64, whole: &[u8], refusal: Refusal) {
-        for event in [
-            came(now, NAMED),
-            packet_came(now, PACKET),
-            Event::SentRtp {
-                now,
-                rtp_ts: 0,
-                octets: 160,
-            },
-            Event::Tick { now, w1: 0, w2: 0 },
-            Event::Leave { now, w: 0 },
+        for call in [
+            Call::Rtcp(now, 1, 0xab, NAMED),
+            Call::Rtp(now, 1, 0xab, PACKET),
+            Call::Sent(now, 0),
+            Call::Tick(now, 0, 0),
+            Call::Leave(now, 0),
         ] {
-            let found = self.harm(rt, event, whole);
+            let found = self.harm(rt, call, whole);
             assert!(rt; found == Some(refusal));
         }
     }
@@ -222,12 +243,12 @@ impl<T: MemberTable + Drop> Pair<T> {
 
     /// A datagram comes as RTCP, and as RTP.
     fn come(&mut self, rt: &impl Abort, bytes: &[u8], whole: &[u8]) {
-        let now = self.later();
-        if self.harm(rt, came(now, bytes), whole).is_some() {
+        let refusal = self.harm(rt, Call::Rtcp(self.later(), 1, 0xab, bytes), whole);
+        if refusal.is_some() {
             self.damaged.0 = self.damaged.0.saturating_add(1);
         }
-        let now = self.later();
-        if self.harm(rt, packet_came(now, bytes), whole).is_some() {
+        let refusal = self.harm(rt, Call::Rtp(self.later(), 1, 0xab, bytes), whole);
+        if refusal.is_some() {
             self.damaged.1 = self.damaged.1.saturating_add(1);
         }
     }
@@ -239,18 +260,18 @@ impl<T: MemberTable + Drop> Pair<T> {
 
     /// Tells the first one an event. Where it refuses it, nothing of it is seen, and both go on; where it
     /// takes it, the other one takes it too.
-    fn harm(&mut self, rt: &impl Abort, event: Event<'_>, whole: &[u8]) -> Option<Refusal> {
-        let before = counts(&self.harmed);
-        match tell(&mut self.harmed, event) {
+    fn harm(&mut self, rt: &impl Abort, call: Call<'_>, whole: &[u8]) -> Option<Refusal> {
+        let before = self.harmed.counts();
+        match self.harmed.call(call) {
             Err(refusal) => {
-                assert!(rt; counts(&self.harmed) == before);
+                assert!(rt; self.harmed.counts() == before);
                 self.refused = self.refused.saturating_add(1);
                 self.go_on(rt, whole);
                 Some(refusal)
             }
             Ok(step) => {
                 self.now = self.later();
-                self.repeat(rt, step, event);
+                self.repeat(rt, &step, call);
                 None
             }
         }
@@ -267,17 +288,10 @@ impl<T: MemberTable + Drop> Pair<T> {
         let [high, low] = ((self.refused / 4 % 65_536) as u16).to_be_bytes();
         let packet = [0x80, 0, high, low, 0, 0, 0, 0, 0, 0, 0, 9];
         match self.refused % 4 {
-            0 => self.tell_both(rt, came(now, whole)),
-            1 => self.tell_both(
-                rt,
-                Event::SentRtp {
-                    now,
-                    rtp_ts: 0,
-                    octets: 160,
-                },
-            ),
-            2 => self.tell_both(rt, packet_came(now, &packet)),
-            _ => self.tell_both(rt, Event::Tick { now, w1: 0, w2: 0 }),
+            0 => self.tell_both(rt, Call::Rtcp(now, 1, 0xab, whole)),
+            1 => self.tell_both(rt, Call::Sent(now, 0)),
+            2 => self.tell_both(rt, Call::Rtp(now, 1, 0xab, &packet)),
+            _ => self.tell_both(rt, Call::Tick(now, 0, 0)),
         }
     }
 
@@ -285,92 +299,27 @@ impl<T: MemberTable + Drop> Pair<T> {
     fn wait(&mut self, rt: &impl Abort) {
         for _ in 0..100 {
             if let Some(now) = self.spared.participant.next() {
-                self.tell_both(rt, Event::Tick { now, w1: 0, w2: 0 });
+                self.tell_both(rt, Call::Tick(now, 0, 0));
             }
         }
     }
 
     /// Tells both an event that they take.
-    fn tell_both(&mut self, rt: &impl Abort, event: Event<'_>) {
-        match tell(&mut self.harmed, event) {
-            Ok(step) => self.repeat(rt, step, event),
+    fn tell_both(&mut self, rt: &impl Abort, call: Call<'_>) {
+        match self.harmed.call(call) {
+            Ok(step) => self.repeat(rt, &step, call),
             Err(_) => panic!(rt; "it is refused"),
         }
     }
 
     /// Tells the second one the event too. Its answer is this step.
-    fn repeat(&mut self, rt: &impl Abort, step: Step, event: Event<'_>) {
-        let Ok(other) = tell(&mut self.spared, event) else {
-            panic!(rt; "the second one refuses it");
-        };
-        assert_eq!(rt; step.members, other.members);
-        assert_eq!(rt; step.senders, other.senders);
-        assert!(rt; step.next == other.next);
-        assert!(rt; step.changed == other.changed);
-        match (step.out, other.out) {
-            (Some(out), Some(other)) => {
-                assert!(rt; out.kind == other.kind);
-                assert!(rt; out.bytes.as_slice() == other.bytes.as_slice());
-                self.sent = self.sent.saturating_add(1);
-            }
-            (None, None) => {}
-            _ => panic!(rt; "one of them hands something out"),
+    fn repeat(&mut self, rt: &impl Abort, step: &Step, call: Call<'_>) {
+        match self.spared.call(call) {
+            Ok(other) => assert!(rt; seen_of(step) == seen_of(&other)),
+            Err(_) => panic!(rt; "the second one refuses it"),
         }
-    }
-}
-
-/// An RTCP datagram of the one peer.
-fn came(now: u64, bytes: &[u8]) -> Event<'_> {
-    Event::ArriveRtcp {
-        now,
-        peer: 1,
-        w: 0xab,
-        bytes,
-    }
-}
-
-/// An RTP datagram of that peer.
-fn packet_came(now: u64, bytes: &[u8]) -> Event<'_> {
-    Event::ArriveRtp {
-        now,
-        peer: 1,
-        w: 0xab,
-        bytes,
-    }
-}
-
-/// What is to be seen of a participant between its calls.
-fn counts<T: MemberTable>(session: &Session<T>) -> (u32, u32, Option<u64>) {
-    let participant = &session.participant;
-    (
-        participant.members(),
-        participant.senders(),
-        participant.next(),
-    )
-}
-
-/// Tells a participant an event.
-fn tell<T: MemberTable>(session: &mut Session<T>, event: Event<'_>) -> Answer {
-    let participant = &mut session.participant;
-    match event {
-        Event::ArriveRtcp {
-            now,
-            peer,
-            w,
-            bytes,
-        } => participant.arrive_rtcp(now, peer, w, bytes),
-        Event::ArriveRtp {
-            now,
-            peer,
-            w,
-            bytes,
-        } => participant.arrive_rtp(now, peer, w, bytes),
-        Event::SentRtp {
-            now,
-            rtp_ts,
-            octets,
-        } => participant.sent_rtp(now, rtp_ts, octets),
-        Event::Tick { now, w1, w2 } => participant.tick(now, w1, w2),
-        Event::Leave { now, w } => participant.leave(now, w),
+        if step.out.is_some() {
+            self.sent = self.sent.saturating_add(1);
+        }
     }
 }

@@ -1,37 +1,9 @@
-//! Reports neither too soon nor too late, over any table, whoever joins and leaves (RFC 3550, 6.3.4, 6.3.6).
+//! Reports not too soon, over any table, whoever joins and leaves (RFC 3550, 6.3.4, 6.3.6).
 
 use super::*;
 
 /// How many join and leave.
 const CROWD: u16 = 1_000;
-
-/// After the first report the deterministic interval is 5 seconds, and its longest draw 3 · 5,000,000 / (2 · 1.21828)
-/// microseconds, rounded up: 6,156,221. A tick that comes so long after the report sends the next one, whatever its
-/// words are, and here a tick a microsecond sooner does not.
-pub(crate) fn at_the_latest<T: InlineTable + Drop>(rt: &impl Abort) {
-    let mut session = Session::<T>::usual(rt);
-    session
-        .tick(1_026_037, 0, u32::MAX)
-        .sends(rt, 1, 0, 7_182_258, &REPORT);
-    session.tick(7_182_257, u32::MAX, 0).is(rt, 1, 0, 7_182_258);
-    session
-        .tick(7_182_258, u32::MAX, 0)
-        .sends(rt, 1, 0, 9_234_332, &REPORT);
-}
-
-/// One of two members leaves between two reports, and the second comes sooner for it.
-pub(crate) fn after_a_fall<T: InlineTable + Drop>(rt: &impl Abort) {
-    let mut session = Session::<T>::usual(rt);
-    session.named(0, 1).is(rt, 2, 0, 1_026_037);
-    session
-        .tick(1_026_037, 0, u32::MAX)
-        .sends(rt, 2, 0, 7_182_258, &REPORT);
-    session.goodbye(3_026_037, 1).is(rt, 1, 0, 5_104_147);
-    session.tick(5_104_147, u32::MAX, 0).is(rt, 1, 0, 8_182_258);
-    session
-        .tick(8_182_258, u32::MAX, 0)
-        .sends(rt, 1, 0, 10_234_332, &REPORT);
-}
 
 /// A named compound of one of the crowd, or one in which it leaves.
 fn of_the_crowd(number: u16, leaves: bool) -> ArrayVec<u8, 20> {
@@ -55,12 +27,16 @@ struct Reports {
 impl Reports {
     /// A tick with words of 0. Its report, if there is one, keeps its distance from the one before it.
     fn tick<T: MemberTable>(&mut self, rt: &impl Abort, session: &mut Session<T>, now: u64) {
-        if session.tick(now, 0, 0).reports(rt) {
-            if let Some(newest) = self.newest {
-                assert!(rt; now.saturating_sub(newest) >= 2_052_074);
+        match session.call(Call::Tick(now, 0, 0)) {
+            Ok(Step { out: None, .. }) => {}
+            Ok(Step { out: Some(out), .. }) => {
+                assert!(rt; out.kind == OutKind::Report);
+                let newest = self.newest.unwrap_or(0);
+                assert!(rt; self.count == 0 || now.saturating_sub(newest) >= 2_052_074);
+                self.newest = Some(now);
+                self.count = self.count.saturating_add(1);
             }
-            self.newest = Some(now);
-            self.count = self.count.saturating_add(1);
+            Err(_) => panic!(rt; "the tick is refused"),
         }
     }
 }
@@ -71,9 +47,9 @@ impl Reports {
 pub(crate) fn crowd_leaves<T: InlineTable + Drop>(rt: &impl Abort) {
     let mut session = Session::<T>::usual(rt);
     for number in 0..CROWD {
-        session
-            .rtcp(0, of_the_crowd(number, false).as_slice())
-            .taken(rt);
+        let named = of_the_crowd(number, false);
+        let answer = session.participant.arrive_rtcp(0, 1, 0, named.as_slice());
+        assert!(rt; answer.is_ok());
     }
     assert_eq!(rt; session.participant.members(), 1_001);
     let mut reports = Reports {
@@ -82,9 +58,11 @@ pub(crate) fn crowd_leaves<T: InlineTable + Drop>(rt: &impl Abort) {
     };
     for number in 0..CROWD {
         let now = 2_000_000 + 1_000 * u64::from(number);
-        session
-            .rtcp(now, of_the_crowd(number, true).as_slice())
-            .taken(rt);
+        let goodbye = of_the_crowd(number, true);
+        let answer = session
+            .participant
+            .arrive_rtcp(now, 1, 0, goodbye.as_slice());
+        assert!(rt; answer.is_ok());
         reports.tick(rt, &mut session, now);
     }
     assert_eq!(rt; reports.count, 0);

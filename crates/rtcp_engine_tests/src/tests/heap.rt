@@ -1,5 +1,7 @@
 //! Sessions over the table that takes its room at its making.
 
+use super::session::Call::*;
+use super::session::Seen::*;
 use super::*;
 use rtcp_members::HeapTable;
 use std::mem::size_of;
@@ -10,30 +12,26 @@ fn size(rt: HostRuntime) {
     assert!(rt; size_of::<Participant<HeapTable>>() < 2_600);
 }
 
-#[test]
-fn begins(rt: HostRuntime) {
-    let config = config();
-    if config.error().is_some() {
-        panic!(rt; "the configuration is refused");
-    }
-    let table = HeapTable::with_room(rt.alloc(), config.capacity, config.rate);
-    let table = table.expect(&rt, "no memory");
-    let participant = Participant::with_table(config, table, 0);
-    let mut session = Session { participant };
-    assert_eq!(rt; session.participant.members(), 1);
-    session
-        .rtcp_from(0, 1, 0xab, &OURS)
-        .changes(&rt, 0xab, (1, 0, 1_026_037), &[]);
-}
-
+/// A participant with such a table begins, changes its identifier, and tells who is there.
 #[test]
 fn one_source_after_the_other(rt: HostRuntime) {
+    let mut session = begun(&rt, rt.alloc());
+    let rows = [
+        (Ask, Counts(1, 0)),
+        (Rtcp(0, 1, 0xab, &OURS), Changes(0xab, 1, 0, 1_026_037, &[])),
+    ];
+    session.plays(&rt, "begins", &rows);
+    listing::one_after_the_other(&rt, begun(&rt, rt.alloc()));
+}
+
+/// A session of the usual configuration.
+fn begun(rt: &impl Abort, alloc: Global) -> Session<HeapTable> {
     let config = config();
     if config.error().is_some() {
         panic!(rt; "the configuration is refused");
     }
-    let table = HeapTable::with_room(rt.alloc(), config.capacity, config.rate);
-    let table = table.expect(&rt, "no memory");
+    let table = HeapTable::with_room(alloc, config.capacity, config.rate);
+    let table = table.expect(rt, "no memory");
     let participant = Participant::with_table(config, table, 0);
-    listing::one_after_the_other(&rt, Session { participant });
+    Session { participant }
 }

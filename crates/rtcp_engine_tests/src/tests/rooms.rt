@@ -5,6 +5,12 @@ use super::*;
 /// What stands in the room before.
 const BEFORE: [u8; 3] = [1, 2, 3];
 
+/// The BYE of the participant with SSRC 000000bb.
+const BYE_OF_BB: [u8; 28] = [
+    0x80, 0xc9, 0x00, 0x01, 0x00, 0x00, 0x00, 0xbb, 0x81, 0xca, 0x00, 0x02, 0x00, 0x00, 0x00, 0xbb,
+    0x01, 0x01, 0x61, 0x00, 0x81, 0xcb, 0x00, 0x01, 0x00, 0x00, 0x00, 0xbb,
+];
+
 /// A room in which something stands.
 fn room() -> ArrayVec<u8, 1_472> {
     let mut room = ArrayVec::new();
@@ -62,7 +68,7 @@ pub(crate) fn byes_in_place<T: InlineTable + Drop>(rt: &impl Abort) {
     assert!(rt; participant.sent_rtp_told(0, 0, 160).is_ok());
     let left = participant.leave_into(0, 0, &mut octets);
     assert!(rt; left == Ok(told(Some(OutKind::Bye), 0, 0, None)));
-    assert!(rt; octets.as_slice() == bye_of(0xbb).as_slice());
+    assert!(rt; octets.as_slice() == BYE_OF_BB.as_slice());
 }
 
 /// A call that is refused leaves the room alone, and so does one that has no compound.

@@ -1,246 +1,275 @@
 //! Worked sessions, over any table.
 
+use super::session::Call::*;
+use super::session::Seen::*;
 use super::*;
 
-const GREATEST: u32 = u32::MAX;
-
-/// The first interval is drawn by the start word.
-pub(crate) fn starts<T: InlineTable + Drop>(rt: &impl Abort) {
-    for (word, next) in [(0, 1_026_037), (GREATEST, 3_078_111)] {
-        match Participant::<T>::new(config(), word) {
-            Ok(participant) => {
-                assert_eq!(rt; participant.members(), 1);
-                assert_eq!(rt; participant.senders(), 0);
-                assert!(rt; participant.next() == Some(next));
-            }
-            Err(_) => panic!(rt; "the configuration is refused"),
-        }
-    }
-}
-
-/// A report goes out when its moment has come and no sooner, and once.
-pub(crate) fn reports_once<T: InlineTable + Drop>(rt: &impl Abort) {
-    let mut session = Session::<T>::usual(rt);
-    session.tick(1_026_036, 0, 0).is(rt, 1, 0, 1_026_037);
-    session
-        .tick(1_026_037, 0, 0)
-        .sends(rt, 1, 0, 3_078_111, &REPORT);
-    session.tick(1_026_037, 0, 0).is(rt, 1, 0, 3_078_111);
-}
-
-/// The interval drawn at the tick has not passed.
-pub(crate) fn put_off<T: InlineTable + Drop>(rt: &impl Abort) {
-    let mut session = Session::<T>::usual(rt);
-    session.tick(1_026_037, GREATEST, 0).is(rt, 1, 0, 3_078_111);
-}
-
-/// A receiver report names no member until its source gives a CNAME.
-pub(crate) fn heard_and_named<T: InlineTable + Drop>(rt: &impl Abort) {
-    let mut session = Session::<T>::usual(rt);
-    let heard = [0x80, 0xc9, 0, 1, 0, 0, 0, 7];
-    session.rtcp(0, &heard).is(rt, 1, 0, 1_026_037);
-    session.named(0, 7).is(rt, 2, 0, 1_026_037);
-}
-
-/// A source is a member and a sender once a packet of it is counted, and then it is reported.
-pub(crate) fn one_sender<T: InlineTable + Drop>(rt: &impl Abort) {
-    let mut session = Session::<T>::usual(rt);
-    session.packet(0, 9, 10).is(rt, 1, 0, 1_026_037);
-    session.packet(0, 9, 11).is(rt, 2, 1, 1_026_037);
-    let report = [
-        0x81, 0xc9, 0x00, 0x07, 0x00, 0x00, 0x00, 0xaa, 0x00, 0x00, 0x00, 0x09, 0x00, 0x00, 0x00,
-        0x00, 0x00, 0x00, 0x00, 0x0b, 0x00, 0x00, 0x00, 0x00, 0x00, 0x00, 0x00, 0x00, 0x00, 0x00,
-        0x00, 0x00, 0x81, 0xca, 0x00, 0x02, 0x00, 0x00, 0x00, 0xaa, 0x01, 0x01, 0x61, 0x00,
-    ];
-    session
-        .tick(1_026_037, 0, 0)
-        .sends(rt, 2, 1, 3_078_111, &report);
-}
-
-/// The participant sends a packet, and reports as a sender.
-fn own_report<T: InlineTable + Drop>(rt: &impl Abort) -> Session<T> {
-    let mut session = Session::<T>::usual(rt);
-    let sent = session.participant.sent_rtp(0, 1_000, 160);
-    assert!(rt; sent.is_ok());
-    assert_eq!(rt; session.participant.senders(), 1);
-    let report = [
-        0x80, 0xc8, 0x00, 0x06, 0x00, 0x00, 0x00, 0xaa, 0x00, 0x00, 0x00, 0x01, 0x06, 0xaa, 0x5c,
-        0x5f, 0x00, 0x00, 0x23, 0xf8, 0x00, 0x00, 0x00, 0x01, 0x00, 0x00, 0x00, 0xa0, 0x81, 0xca,
-        0x00, 0x02, 0x00, 0x00, 0x00, 0xaa, 0x01, 0x01, 0x61, 0x00,
-    ];
-    session
-        .tick(1_026_037, 0, 0)
-        .sends(rt, 1, 1, 3_078_111, &report);
-    session
-}
-
-/// It is a sender for two intervals of a receiver, the moment of the last packet included.
-pub(crate) fn still_sender<T: InlineTable + Drop>(rt: &impl Abort) {
-    let mut session = own_report::<T>(rt);
-    let report = [
-        0x80, 0xc8, 0x00, 0x06, 0x00, 0x00, 0x00, 0xaa, 0x00, 0x00, 0x00, 0x0a, 0x00, 0x00, 0x00,
-        0x00, 0x00, 0x01, 0x3c, 0x68, 0x00, 0x00, 0x00, 0x01, 0x00, 0x00, 0x00, 0xa0, 0x81, 0xca,
-        0x00, 0x02, 0x00, 0x00, 0x00, 0xaa, 0x01, 0x01, 0x61, 0x00,
-    ];
-    session
-        .tick(10_000_000, 0, 0)
-        .sends(rt, 1, 1, 12_052_074, &report);
-}
-
-/// And then it is none.
-pub(crate) fn no_sender<T: InlineTable + Drop>(rt: &impl Abort) {
-    let mut session = own_report::<T>(rt);
-    session
-        .tick(10_000_001, 0, 0)
-        .sends(rt, 1, 0, 12_052_075, &REPORT);
-}
-
-/// A source is held for five intervals of a receiver after its last sighting.
-pub(crate) fn still_held<T: InlineTable + Drop>(rt: &impl Abort) {
-    let mut session = Session::<T>::usual(rt);
-    session.named(1_000_000, 7).is(rt, 2, 0, 1_026_037);
-    session
-        .tick(13_500_000, 0, 0)
-        .sends(rt, 2, 0, 15_552_074, &REPORT);
-}
-
-/// And then it is dropped, in the tick that finds it so.
-pub(crate) fn silent<T: InlineTable + Drop>(rt: &impl Abort) {
-    let mut session = Session::<T>::usual(rt);
-    session.named(1_000_000, 7).is(rt, 2, 0, 1_026_037);
-    session
-        .tick(13_500_001, 0, 0)
-        .sends(rt, 1, 0, 15_552_075, &REPORT);
-}
-
-/// A full table takes nobody until one that left is no longer held.
-pub(crate) fn full<T: InlineTable + Drop>(rt: &impl Abort) {
-    let mut session = Session::<T>::new(
-        rt,
-        Config {
-            capacity: 2,
-            ..config()
-        },
-    );
-    session.named(0, 1).is(rt, 2, 0, 1_026_037);
-    session.named(0, 2).is(rt, 3, 0, 1_026_037);
-    session.named(0, 3).is(rt, 3, 0, 1_026_037);
-    let goodbye = [0x80, 0xc9, 0, 1, 0, 0, 0, 1, 0x81, 0xcb, 0, 1, 0, 0, 0, 1];
-    let left = session.participant.arrive_rtcp(1_000_000, 1, 0, &goodbye);
-    assert!(rt; left.is_ok());
-    assert_eq!(rt; session.participant.members(), 2);
-    let late = session
-        .participant
-        .arrive_rtcp(1_000_000, 1, 0, &REPORT_OF_3);
-    assert!(rt; late.is_ok());
-    assert_eq!(rt; session.participant.members(), 2);
-    session
-        .tick(6_000_000, 1 << 31, 1 << 31)
-        .sends(rt, 2, 0, 10_104_147, &REPORT);
-    let back = session
-        .participant
-        .arrive_rtcp(6_000_000, 1, 0, &REPORT_OF_3);
-    assert!(rt; back.is_ok());
-    assert_eq!(rt; session.participant.members(), 3);
-}
-
 /// The named compound of source 3.
-const REPORT_OF_3: [u8; 20] = [
+const REPORT_OF_3: &[u8] = &[
     0x80, 0xc9, 0x00, 0x01, 0x00, 0x00, 0x00, 0x03, 0x81, 0xca, 0x00, 0x02, 0x00, 0x00, 0x00, 0x03,
     0x01, 0x01, 0x61, 0x00,
 ];
 
-/// The last moment that is taken, one beyond it, and one before it.
-pub(crate) fn last_moments<T: InlineTable + Drop>(rt: &impl Abort) {
-    let mut session = Session::<T>::usual(rt);
-    session
-        .tick(1 << 50, 0, 0)
-        .sends(rt, 1, 0, 1_125_899_908_894_698, &REPORT);
-    session
-        .tick((1 << 50) + 1, 0, 0)
-        .refused(rt, Refusal::TooFar);
-    session.tick(0, 0, 0).refused(rt, Refusal::Backwards);
-    session
-        .tick(1 << 50, 0, 0)
-        .is(rt, 1, 0, 1_125_899_908_894_698);
-}
+/// The report of the participant with SSRC 000000ab.
+const REPORT_OF_AB: &[u8] = &[
+    0x80, 0xc9, 0x00, 0x01, 0x00, 0x00, 0x00, 0xab, 0x81, 0xca, 0x00, 0x02, 0x00, 0x00, 0x00, 0xab,
+    0x01, 0x01, 0x61, 0x00,
+];
 
-/// What is refused changes nothing.
-pub(crate) fn refused<T: InlineTable + Drop>(rt: &impl Abort) {
-    let mut session = Session::<T>::usual(rt);
-    session
-        .rtcp_from(0, 1, 0xab, &OURS)
-        .changes(rt, 0xab, (1, 0, 1_026_037), &[]);
-    let own = [0x80, 0xc9, 0, 1, 0, 0, 0, 0xab];
-    session.rtcp(9, &own).refused(rt, Refusal::OwnSsrc);
-    let short = WireFault {
-        reason: FaultReason::Short,
-        place: 0,
-    };
-    session.rtcp(9, &[]).refused(rt, Refusal::Wire(short));
-    let reserved = [0x80, 0x48, 0, 1, 0, 0, 0, 0, 0, 0, 0, 10];
-    session
-        .rtp(9, &reserved)
-        .refused(rt, Refusal::Rtp(RtpFault::PayloadType));
-    session.packet(9, 0xab, 1).refused(rt, Refusal::OwnSsrc);
-    // So the last moment is still 0, and the average that of the start.
-    session.tick(0, 0, 0).is(rt, 1, 0, 1_026_037);
-    session
-        .tick(1_026_037, 0, 0)
-        .sends(rt, 1, 0, 3_078_111, &report_of(0xab));
-}
+/// The report of one sender, source 9.
+const ONE_SENDER: &[u8] = &[
+    0x81, 0xc9, 0x00, 0x07, 0x00, 0x00, 0x00, 0xaa, 0x00, 0x00, 0x00, 0x09, 0x00, 0x00, 0x00, 0x00,
+    0x00, 0x00, 0x00, 0x0b, 0x00, 0x00, 0x00, 0x00, 0x00, 0x00, 0x00, 0x00, 0x00, 0x00, 0x00, 0x00,
+    0x81, 0xca, 0x00, 0x02, 0x00, 0x00, 0x00, 0xaa, 0x01, 0x01, 0x61, 0x00,
+];
 
-/// The third report carries the extra item.
-pub(crate) fn third_report<T: InlineTable + Drop>(rt: &impl Abort) {
-    let mut text = ArrayVec::new();
-    let _ = text.try_push(b't');
-    let mut extras = ArrayVec::new();
-    let _ = extras.try_push(Item { kind: 6, text });
-    let mut session = Session::<T>::new(rt, Config { extras, ..config() });
-    session
-        .tick(1_026_037, 0, 0)
-        .sends(rt, 1, 0, 3_078_111, &REPORT);
-    session
-        .tick(3_078_111, 0, 0)
-        .sends(rt, 1, 0, 5_130_185, &REPORT);
-    let report = [
-        0x80, 0xc9, 0x00, 0x01, 0x00, 0x00, 0x00, 0xaa, 0x81, 0xca, 0x00, 0x03, 0x00, 0x00, 0x00,
-        0xaa, 0x01, 0x01, 0x61, 0x06, 0x01, 0x74, 0x00, 0x00,
-    ];
-    session
-        .tick(5_130_185, 0, 0)
-        .sends(rt, 1, 0, 7_182_259, &report);
-}
+/// The participant's report as a sender, at 1,026,037.
+const OWN_REPORT: &[u8] = &[
+    0x80, 0xc8, 0x00, 0x06, 0x00, 0x00, 0x00, 0xaa, 0x00, 0x00, 0x00, 0x01, 0x06, 0xaa, 0x5c, 0x5f,
+    0x00, 0x00, 0x23, 0xf8, 0x00, 0x00, 0x00, 0x01, 0x00, 0x00, 0x00, 0xa0, 0x81, 0xca, 0x00, 0x02,
+    0x00, 0x00, 0x00, 0xaa, 0x01, 0x01, 0x61, 0x00,
+];
 
-/// Contributing sources are heard where their packet is counted, and the participant itself is none of them.
-pub(crate) fn contributing<T: InlineTable + Drop>(rt: &impl Abort) {
-    let mut session = Session::<T>::new(
-        rt,
-        Config {
-            capacity: 2,
-            ..config()
+/// The same at 10,000,000.
+const LATER_OWN_REPORT: &[u8] = &[
+    0x80, 0xc8, 0x00, 0x06, 0x00, 0x00, 0x00, 0xaa, 0x00, 0x00, 0x00, 0x0a, 0x00, 0x00, 0x00, 0x00,
+    0x00, 0x01, 0x3c, 0x68, 0x00, 0x00, 0x00, 0x01, 0x00, 0x00, 0x00, 0xa0, 0x81, 0xca, 0x00, 0x02,
+    0x00, 0x00, 0x00, 0xaa, 0x01, 0x01, 0x61, 0x00,
+];
+
+/// The report of the participant with its extra item.
+const WITH_TOOL: &[u8] = &[
+    0x80, 0xc9, 0x00, 0x01, 0x00, 0x00, 0x00, 0xaa, 0x81, 0xca, 0x00, 0x03, 0x00, 0x00, 0x00, 0xaa,
+    0x01, 0x01, 0x61, 0x06, 0x01, 0x74, 0x00, 0x00,
+];
+
+/// Source 1 leaves.
+const GOODBYE: &[u8] = &[0x80, 0xc9, 0, 1, 0, 0, 0, 1, 0x81, 0xcb, 0, 1, 0, 0, 0, 1];
+
+/// A packet of source 9 with the CSRCs aa and 5.
+const MIXED: &[u8] = &[
+    0x82, 0, 0, 10, 0, 0, 0, 0, 0, 0, 0, 9, 0, 0, 0, 0xaa, 0, 0, 0, 5,
+];
+
+/// The next one.
+const NEXT_MIXED: &[u8] = &[
+    0x82, 0, 0, 11, 0, 0, 0, 0, 0, 0, 0, 9, 0, 0, 0, 0xaa, 0, 0, 0, 5,
+];
+
+/// An empty datagram's fault.
+const SHORT: WireFault = WireFault {
+    reason: FaultReason::Short,
+    place: 0,
+};
+
+/// Reports, members, senders and refusals, while the participant is present.
+pub(crate) static SESSIONS: [Script; 18] = [
+    Script {
+        name: "the first interval is drawn by the start word, the least one",
+        setup: USUAL,
+        rows: &[(Ask, Is(1, 0, 1_026_037))],
+    },
+    Script {
+        name: "and the greatest one",
+        setup: Setup {
+            word: u32::MAX,
+            ..USUAL
         },
-    );
-    // A packet of source 9 with the CSRCs aa and 5: the first one is not counted, and so 5 is not heard.
-    let first = [
-        0x82, 0, 0, 10, 0, 0, 0, 0, 0, 0, 0, 9, 0, 0, 0, 0xaa, 0, 0, 0, 5,
-    ];
-    let second = [
-        0x82, 0, 0, 11, 0, 0, 0, 0, 0, 0, 0, 9, 0, 0, 0, 0xaa, 0, 0, 0, 5,
-    ];
-    session.rtp(0, &first).is(rt, 1, 0, 1_026_037);
-    session.rtp(0, &second).is(rt, 2, 1, 1_026_037);
-    // Now the table is full with 9 and 5, so that 6 is not admitted and 5 is.
-    session.named(0, 6).is(rt, 2, 1, 1_026_037);
-    session.named(0, 5).is(rt, 3, 1, 1_026_037);
-}
-
-/// The largest compound, of 16,382 packets, is taken: a source that is heard, and goodbyes of nobody.
-pub(crate) fn largest<T: InlineTable + Drop>(rt: &impl Abort) {
-    let mut bytes = [0; 65_532];
-    fill_with_byes(&mut bytes);
-    let mut session = Session::<T>::usual(rt);
-    session.rtcp(0, &bytes).is(rt, 1, 0, 1_026_037);
-    // The average is that of a compound of 65,532 octets for a sixteenth now, and so the report is put off.
-    session.tick(1_026_037, 0, 0).is(rt, 1, 0, 5_667_144);
-}
+        rows: &[(Ask, Is(1, 0, 3_078_111))],
+    },
+    Script {
+        name: "a report goes out when its moment has come and no sooner, and once",
+        setup: USUAL,
+        rows: &[
+            (Tick(1_026_036, 0, 0), Is(1, 0, 1_026_037)),
+            (Tick(1_026_037, 0, 0), Sends(1, 0, 3_078_111, &REPORT)),
+            (Tick(1_026_037, 0, 0), Is(1, 0, 3_078_111)),
+        ],
+    },
+    Script {
+        name: "the interval drawn at the tick has not passed",
+        setup: USUAL,
+        rows: &[(Tick(1_026_037, u32::MAX, 0), Is(1, 0, 3_078_111))],
+    },
+    Script {
+        name: "a receiver report names no member until its source gives a CNAME",
+        setup: USUAL,
+        rows: &[
+            (
+                Rtcp(0, 1, 0, &[0x80, 0xc9, 0, 1, 0, 0, 0, 7]),
+                Is(1, 0, 1_026_037),
+            ),
+            (Named(0, 7), Is(2, 0, 1_026_037)),
+        ],
+    },
+    Script {
+        name: "a source is a member and a sender once a packet of it is counted, and then it is reported",
+        setup: USUAL,
+        rows: &[
+            (Packet(0, 9, 10), Is(1, 0, 1_026_037)),
+            (Packet(0, 9, 11), Is(2, 1, 1_026_037)),
+            (Tick(1_026_037, 0, 0), Sends(2, 1, 3_078_111, ONE_SENDER)),
+        ],
+    },
+    Script {
+        name: "the participant sends a packet, and reports as a sender; it is one for two intervals of a receiver, the \
+            moment of the last packet included",
+        setup: USUAL,
+        rows: &[
+            (Sent(0, 1_000), Counts(1, 1)),
+            (Tick(1_026_037, 0, 0), Sends(1, 1, 3_078_111, OWN_REPORT)),
+            (
+                Tick(10_000_000, 0, 0),
+                Sends(1, 1, 12_052_074, LATER_OWN_REPORT),
+            ),
+        ],
+    },
+    Script {
+        name: "and then it is none",
+        setup: USUAL,
+        rows: &[
+            (Sent(0, 1_000), Counts(1, 1)),
+            (Tick(1_026_037, 0, 0), Sends(1, 1, 3_078_111, OWN_REPORT)),
+            (Tick(10_000_001, 0, 0), Sends(1, 0, 12_052_075, &REPORT)),
+        ],
+    },
+    Script {
+        name: "a source is held for five intervals of a receiver after its last sighting",
+        setup: USUAL,
+        rows: &[
+            (Named(1_000_000, 7), Is(2, 0, 1_026_037)),
+            (Tick(13_500_000, 0, 0), Sends(2, 0, 15_552_074, &REPORT)),
+        ],
+    },
+    Script {
+        name: "and then it is dropped, in the tick that finds it so",
+        setup: USUAL,
+        rows: &[
+            (Named(1_000_000, 7), Is(2, 0, 1_026_037)),
+            (Tick(13_500_001, 0, 0), Sends(1, 0, 15_552_075, &REPORT)),
+        ],
+    },
+    Script {
+        name: "a full table takes nobody until one that left is no longer held",
+        setup: Setup {
+            capacity: 2,
+            ..USUAL
+        },
+        rows: &[
+            (Named(0, 1), Is(2, 0, 1_026_037)),
+            (Named(0, 2), Is(3, 0, 1_026_037)),
+            (Named(0, 3), Is(3, 0, 1_026_037)),
+            (Rtcp(1_000_000, 1, 0, GOODBYE), Counts(2, 0)),
+            (Rtcp(1_000_000, 1, 0, REPORT_OF_3), Counts(2, 0)),
+            (
+                Tick(6_000_000, 1 << 31, 1 << 31),
+                Sends(2, 0, 10_104_147, &REPORT),
+            ),
+            (Rtcp(6_000_000, 1, 0, REPORT_OF_3), Counts(3, 0)),
+        ],
+    },
+    Script {
+        name: "the last moment that is taken, one beyond it, and one before it",
+        setup: USUAL,
+        rows: &[
+            (
+                Tick(1 << 50, 0, 0),
+                Sends(1, 0, 1_125_899_908_894_698, &REPORT),
+            ),
+            (Tick((1 << 50) + 1, 0, 0), Refused(Refusal::TooFar)),
+            (Tick(0, 0, 0), Refused(Refusal::Backwards)),
+            (Tick(1 << 50, 0, 0), Is(1, 0, 1_125_899_908_894_698)),
+        ],
+    },
+    // After what is refused at 9 the last moment is still 0, and the average that of the start.
+    Script {
+        name: "what is refused changes nothing",
+        setup: USUAL,
+        rows: &[
+            (Rtcp(0, 1, 0xab, &OURS), Changes(0xab, 1, 0, 1_026_037, &[])),
+            (
+                Rtcp(9, 1, 0, &[0x80, 0xc9, 0, 1, 0, 0, 0, 0xab]),
+                Refused(Refusal::OwnSsrc),
+            ),
+            (Rtcp(9, 1, 0, &[]), Refused(Refusal::Wire(SHORT))),
+            (
+                Rtp(9, 1, 0, &[0x80, 0x48, 0, 1, 0, 0, 0, 0, 0, 0, 0, 10]),
+                Refused(Refusal::Rtp(RtpFault::PayloadType)),
+            ),
+            (Packet(9, 0xab, 1), Refused(Refusal::OwnSsrc)),
+            (Tick(0, 0, 0), Is(1, 0, 1_026_037)),
+            (Tick(1_026_037, 0, 0), Sends(1, 0, 3_078_111, REPORT_OF_AB)),
+        ],
+    },
+    Script {
+        name: "the third report carries the extra item",
+        setup: Setup {
+            has_tool: true,
+            ..USUAL
+        },
+        rows: &[
+            (Tick(1_026_037, 0, 0), Sends(1, 0, 3_078_111, &REPORT)),
+            (Tick(3_078_111, 0, 0), Sends(1, 0, 5_130_185, &REPORT)),
+            (Tick(5_130_185, 0, 0), Sends(1, 0, 7_182_259, WITH_TOOL)),
+        ],
+    },
+    // The first packet is not counted, and so 5 is not heard. Then the table is full with 9 and 5, so that 6 is not
+    // admitted and 5 is.
+    Script {
+        name: "contributing sources are heard where their packet is counted, and the participant is none of them",
+        setup: Setup {
+            capacity: 2,
+            ..USUAL
+        },
+        rows: &[
+            (Rtp(0, 1, 0, MIXED), Is(1, 0, 1_026_037)),
+            (Rtp(0, 1, 0, NEXT_MIXED), Is(2, 1, 1_026_037)),
+            (Named(0, 6), Is(2, 1, 1_026_037)),
+            (Named(0, 5), Is(3, 1, 1_026_037)),
+        ],
+    },
+    // The average is that of a compound of 65,532 octets for a sixteenth then, and so the report is put off.
+    Script {
+        name: "the largest compound, of 16,382 packets, is taken: a source that is heard, and goodbyes of nobody",
+        setup: USUAL,
+        rows: &[
+            (Byes(0, 65_532), Is(1, 0, 1_026_037)),
+            (Tick(1_026_037, 0, 0), Is(1, 0, 5_667_144)),
+        ],
+    },
+    // After the first report the deterministic interval is 5 seconds, and its longest draw
+    // 3 · 5,000,000 / (2 · 1.21828) microseconds, rounded up: 6,156,221.
+    Script {
+        name: "a tick so long after a report sends the next one, whatever its words are, and one a microsecond sooner \
+            does not",
+        setup: USUAL,
+        rows: &[
+            (
+                Tick(1_026_037, 0, u32::MAX),
+                Sends(1, 0, 7_182_258, &REPORT),
+            ),
+            (Tick(7_182_257, u32::MAX, 0), Is(1, 0, 7_182_258)),
+            (
+                Tick(7_182_258, u32::MAX, 0),
+                Sends(1, 0, 9_234_332, &REPORT),
+            ),
+        ],
+    },
+    Script {
+        name: "one of two members leaves between two reports, and the second comes sooner for it",
+        setup: USUAL,
+        rows: &[
+            (Named(0, 1), Is(2, 0, 1_026_037)),
+            (
+                Tick(1_026_037, 0, u32::MAX),
+                Sends(2, 0, 7_182_258, &REPORT),
+            ),
+            (Goodbye(3_026_037, 1), Is(1, 0, 5_104_147)),
+            (Tick(5_104_147, u32::MAX, 0), Is(1, 0, 8_182_258)),
+            (
+                Tick(8_182_258, u32::MAX, 0),
+                Sends(1, 0, 10_234_332, &REPORT),
+            ),
+        ],
+    },
+];

@@ -45,9 +45,11 @@ fn tick(now: u64) -> Event<'static> {
 #[test]
 fn every_kind(rt: HostRuntime) {
     let mut session = Session::<ListTable>::usual(&rt);
-    session
-        .rtcp_from(0, 1, 0xab, &OURS)
-        .changes(&rt, 0xab, (1, 0, 1_026_037), &[]);
+    let changed = (
+        Call::Rtcp(0, 1, 0xab, &OURS),
+        Seen::Changes(0xab, 1, 0, 1_026_037, &[]),
+    );
+    session.plays(&rt, "changes", &[changed]);
     let own = [0x80, 0xc9, 0, 1, 0, 0, 0, 0xab];
     let packet = [0x80, 0, 0, 1, 0, 0, 0, 0, 0, 0, 0, 9];
     let events = [
@@ -85,8 +87,11 @@ fn every_kind(rt: HostRuntime) {
         assert!(&rt; kind == expected);
     }
     // The tick at 6 was taken though its answer is lost.
-    session.tick(5, 0, 0).refused(&rt, Refusal::Backwards);
-    session.tick(6, 0, 0).is(&rt, 1, 1, 1_026_037);
+    let rows = [
+        (Call::Tick(5, 0, 0), Seen::Refused(Refusal::Backwards)),
+        (Call::Tick(6, 0, 0), Seen::Is(1, 1, 1_026_037)),
+    ];
+    session.plays(&rt, "after the run", &rows);
 }
 
 /// A run without events, and one whose answers all fit.
@@ -137,5 +142,5 @@ fn left(rt: HostRuntime) {
         _ => panic!(&rt; "there is no BYE to send"),
     }
     assert!(&rt; matches!(sink.answers.get(2), Some(Err(Refusal::Left))));
-    session.is_gone(&rt);
+    session.plays(&rt, "gone", &[(Call::Ask, Seen::LeavesSilently)]);
 }

@@ -1,4 +1,4 @@
-//! A participant under test, whichever its table, and what it is expected to answer.
+//! A participant under test, whichever its table, and the sessions that it plays.
 
 use super::*;
 
@@ -8,7 +8,13 @@ pub(crate) const REPORT: [u8; 20] = [
     0x01, 0x01, 0x61, 0x00,
 ];
 
-/// The BYE of that participant: its report, and a BYE packet.
+/// The same with SSRC 000000bb.
+pub(crate) const REPORT_OF_BB: [u8; 20] = [
+    0x80, 0xc9, 0x00, 0x01, 0x00, 0x00, 0x00, 0xbb, 0x81, 0xca, 0x00, 0x02, 0x00, 0x00, 0x00, 0xbb,
+    0x01, 0x01, 0x61, 0x00,
+];
+
+/// The BYE of the participant with SSRC 000000aa: its report, and a BYE packet.
 pub(crate) const BYE: [u8; 28] = [
     0x80, 0xc9, 0x00, 0x01, 0x00, 0x00, 0x00, 0xaa, 0x81, 0xca, 0x00, 0x02, 0x00, 0x00, 0x00, 0xaa,
     0x01, 0x01, 0x61, 0x00, 0x81, 0xcb, 0x00, 0x01, 0x00, 0x00, 0x00, 0xaa,
@@ -17,20 +23,95 @@ pub(crate) const BYE: [u8; 28] = [
 /// A receiver report of that participant, without blocks and without a name.
 pub(crate) const OURS: [u8; 8] = [0x80, 0xc9, 0x00, 0x01, 0x00, 0x00, 0x00, 0xaa];
 
-/// The report of a participant whose SSRC is this one below 256, with CNAME `a` and no news.
-pub(crate) fn report_of(ssrc: u8) -> [u8; 20] {
-    [
-        0x80, 0xc9, 0x00, 0x01, 0x00, 0x00, 0x00, ssrc, 0x81, 0xca, 0x00, 0x02, 0x00, 0x00, 0x00,
-        ssrc, 0x01, 0x01, 0x61, 0x00,
-    ]
+/// A session from its start.
+pub(crate) struct Script {
+    /// What it shows.
+    pub(crate) name: &'static str,
+    /// How the participant begins.
+    pub(crate) setup: Setup,
+    /// The calls, and what is seen of each.
+    pub(crate) rows: &'static [Row],
 }
 
-/// The BYE of that participant.
-pub(crate) fn bye_of(ssrc: u8) -> [u8; 28] {
-    [
-        0x80, 0xc9, 0x00, 0x01, 0x00, 0x00, 0x00, ssrc, 0x81, 0xca, 0x00, 0x02, 0x00, 0x00, 0x00,
-        ssrc, 0x01, 0x01, 0x61, 0x00, 0x81, 0xcb, 0x00, 0x01, 0x00, 0x00, 0x00, ssrc,
-    ]
+/// A call, and what is seen of it.
+pub(crate) type Row = (Call<'static>, Seen<'static>);
+
+/// How a participant begins.
+#[derive(Clone, Copy)]
+pub(crate) struct Setup {
+    /// The word of its start.
+    pub(crate) word: u32,
+    /// How many sources its table takes.
+    pub(crate) capacity: u32,
+    /// Octets a second of RTCP for senders, and for others.
+    pub(crate) bandwidths: (u32, u32),
+    /// Whether it has an extra item: a TOOL with the text `t`.
+    pub(crate) has_tool: bool,
+}
+
+/// The usual one: SSRC 000000aa, CNAME `a`, and a clock of 8,000 units a second.
+pub(crate) const USUAL: Setup = Setup {
+    word: 0,
+    capacity: 1_024,
+    bandwidths: (100, 300),
+    has_tool: false,
+};
+
+/// A call.
+#[derive(Clone, Copy)]
+pub(crate) enum Call<'a> {
+    /// None: what the participant says between calls.
+    Ask,
+    /// A tick at a moment, with two words.
+    Tick(u64, u32, u32),
+    /// A leave at a moment, with a word.
+    Leave(u64, u32),
+    /// An RTP packet of 160 octets that the host sent at a moment, with a timestamp.
+    Sent(u64, u32),
+    /// An RTCP datagram: its moment, its peer, a word, and its octets.
+    Rtcp(u64, u64, u32, &'a [u8]),
+    /// An RTP datagram.
+    Rtp(u64, u64, u32, &'a [u8]),
+    /// A compound of peer 1 in which a source gives its name.
+    Named(u64, u8),
+    /// A compound of peer 1 in which a source leaves.
+    Goodbye(u64, u8),
+    /// An RTP packet of a source, which is peer 1, with a sequence number and a timestamp of 0.
+    Packet(u64, u8, u8),
+    /// Each source from one to another gives its name.
+    Join(u64, u8, u8),
+    /// Each of them leaves.
+    Part(u64, u8, u8),
+    /// An empty report of source 1, and BYE packets of nobody up to so many octets.
+    Byes(u64, usize),
+}
+
+/// What is seen of a call.
+#[derive(Clone, Copy, PartialEq, Eq)]
+pub(crate) enum Seen<'a> {
+    /// It was taken.
+    Taken,
+    /// It was taken, and these are the members and the senders.
+    Counts(u32, u32),
+    /// It was taken, and so many places of the table are taken.
+    Entries(u32),
+    /// It was taken, and changed the role of another source or did not.
+    OthersChanged(bool),
+    /// It was taken, there is nothing to send, and these are the members, the senders and the next moment.
+    Is(u32, u32, u64),
+    /// The same, but a report of these octets is to be sent.
+    Sends(u32, u32, u64, &'a [u8]),
+    /// The participant has a new SSRC. These are the counts, the next moment, and the BYE of the old one, if one is
+    /// to be sent.
+    Changes(u32, u32, u32, u64, &'a [u8]),
+    /// The participant is gone, and has nothing to send.
+    LeavesSilently,
+    /// The participant is gone, and this BYE is to be sent.
+    SaysBye(&'a [u8]),
+    /// It was refused for this reason.
+    Refused(Refusal),
+    /// It was taken, and is none of these.
+    Odd,
 }
 
 /// A configuration with SSRC 000000aa, CNAME `a`, 100 and 300 octets a second of RTCP for senders and for
@@ -51,14 +132,24 @@ pub(crate) fn config() -> Config {
     }
 }
 
-/// Makes a compound of an empty report of source 1, and of BYE packets of nobody up to the end.
-pub(crate) fn fill_with_byes(bytes: &mut [u8]) {
-    for (octets, packet) in bytes.chunks_exact_mut(4).zip(0..16_383) {
-        octets.copy_from_slice(match packet {
-            0 => &[0x80, 0xc9, 0, 1],
-            1 => &[0, 0, 0, 1],
-            _ => &[0x80, 0xcb, 0, 0],
-        });
+/// The configuration of a participant that begins so.
+fn configured(setup: &Setup) -> Config {
+    let mut config = config();
+    config.capacity = setup.capacity;
+    (config.sender_bw, config.receiver_bw) = setup.bandwidths;
+    if setup.has_tool {
+        let mut text = ArrayVec::new();
+        let _ = text.try_push(b't');
+        let _ = config.extras.try_push(Item { kind: 6, text });
+    }
+    config
+}
+
+/// Each session, over a table of this type.
+pub(crate) fn play<T: InlineTable + Drop>(rt: &impl Abort, scripts: &[Script]) {
+    for script in scripts {
+        let mut session = Session::<T>::new(rt, configured(&script.setup), script.setup.word);
+        session.plays(rt, script.name, script.rows);
     }
 }
 
@@ -69,9 +160,9 @@ pub(crate) struct Session<T: MemberTable> {
 }
 
 impl<T: InlineTable> Session<T> {
-    /// A session of this configuration, with the start word 0.
-    pub(crate) fn new(rt: &impl Abort, config: Config) -> Session<T> {
-        match Participant::new(config, 0) {
+    /// A session of this configuration, with this start word.
+    pub(crate) fn new(rt: &impl Abort, config: Config, word: u32) -> Session<T> {
+        match Participant::new(config, word) {
             Ok(participant) => Session { participant },
             Err(_) => panic!(rt; "the configuration is refused"),
         }
@@ -79,211 +170,153 @@ impl<T: InlineTable> Session<T> {
 
     /// A session of the usual configuration.
     pub(crate) fn usual(rt: &impl Abort) -> Session<T> {
-        Session::new(rt, config())
+        Session::new(rt, config(), 0)
     }
 }
 
 impl<T: MemberTable> Session<T> {
-    /// A tick with two words.
-    pub(crate) fn tick(&mut self, now: u64, w1: u32, w2: u32) -> Seen {
-        answered(self.participant.tick(now, w1, w2))
+    /// The calls of these rows are seen to do what the rows say, and between them the participant says what the
+    /// last one answered.
+    pub(crate) fn plays(&mut self, rt: &impl Abort, name: &str, rows: &[Row]) {
+        for (number, (call, wanted)) in rows.iter().enumerate() {
+            let before = self.participant.ssrc();
+            let answer = self.call(*call);
+            let found = seen_in(&answer, wanted);
+            assert!(rt; found == *wanted, "{name}: row {number}");
+            if let Ok(step) = &answer {
+                let told = (step.members, step.senders, step.entries, step.next);
+                assert!(rt; self.counts() == told, "{name}: counts after row {number}");
+            }
+            let ssrc = match &answer {
+                Ok(step) => step.changed.unwrap_or(before),
+                Err(_) => before,
+            };
+            assert_eq!(rt; self.participant.ssrc(), ssrc, "{name}: row {number}");
+        }
     }
 
-    /// A leave with a word.
-    pub(crate) fn leave(&mut self, now: u64, w: u32) -> Seen {
-        answered(self.participant.leave(now, w))
+    /// What the participant says between calls: members, senders, entries, and the next moment.
+    pub(crate) fn counts(&self) -> (u32, u32, u32, Option<u64>) {
+        (
+            self.participant.members(),
+            self.participant.senders(),
+            self.participant.entries(),
+            self.participant.next(),
+        )
     }
 
-    /// An RTP packet that the host sent, with 160 octets.
-    pub(crate) fn sent(&mut self, now: u64) -> Seen {
-        answered(self.participant.sent_rtp(now, 0, 160))
+    /// The answer to a call: of several, that to the last one, or to the first one that is refused.
+    pub(crate) fn call(&mut self, call: Call<'_>) -> Answer {
+        match call {
+            Call::Ask => Ok(self.said()),
+            Call::Tick(now, w1, w2) => self.participant.tick(now, w1, w2),
+            Call::Leave(now, w) => self.participant.leave(now, w),
+            Call::Sent(now, rtp_ts) => self.participant.sent_rtp(now, rtp_ts, 160),
+            Call::Rtcp(now, peer, w, bytes) => self.participant.arrive_rtcp(now, peer, w, bytes),
+            Call::Rtp(now, peer, w, bytes) => self.participant.arrive_rtp(now, peer, w, bytes),
+            Call::Named(now, ssrc) => self.named(now, ssrc),
+            Call::Goodbye(now, ssrc) => self.goodbye(now, ssrc),
+            Call::Packet(now, ssrc, sequence) => self.packet(now, ssrc, sequence),
+            Call::Join(now, first, last) => self.join(now, first, last),
+            Call::Part(now, first, last) => self.part(now, first, last),
+            Call::Byes(now, size) => self.byes(now, size),
+        }
     }
 
-    /// The participant has left for good.
-    pub(crate) fn is_gone(&self, rt: &impl Abort) {
-        assert_eq!(rt; self.participant.members(), 0);
-        assert_eq!(rt; self.participant.senders(), 0);
-        assert!(rt; self.participant.next().is_none());
+    /// What the participant says between calls, as if a call had changed nothing.
+    fn said(&self) -> Step {
+        let (members, senders, entries, next) = self.counts();
+        Step {
+            members,
+            senders,
+            entries,
+            next,
+            changed: None,
+            others_changed: false,
+            out: None,
+        }
     }
 
-    /// An RTCP datagram of peer 1, with the word 0.
-    pub(crate) fn rtcp(&mut self, now: u64, bytes: &[u8]) -> Seen {
-        self.rtcp_from(now, 1, 0, bytes)
-    }
-
-    /// An RTCP datagram of a peer, with a word.
-    pub(crate) fn rtcp_from(&mut self, now: u64, peer: u64, w: u32, bytes: &[u8]) -> Seen {
-        answered(self.participant.arrive_rtcp(now, peer, w, bytes))
-    }
-
-    /// An RTP datagram of peer 1, with the word 0.
-    pub(crate) fn rtp(&mut self, now: u64, bytes: &[u8]) -> Seen {
-        self.rtp_from(now, 1, 0, bytes)
-    }
-
-    /// An RTP datagram of a peer, with a word.
-    pub(crate) fn rtp_from(&mut self, now: u64, peer: u64, w: u32, bytes: &[u8]) -> Seen {
-        answered(self.participant.arrive_rtp(now, peer, w, bytes))
-    }
-
-    /// A named compound of a source below 256.
-    pub(crate) fn named(&mut self, now: u64, ssrc: u8) -> Seen {
+    fn named(&mut self, now: u64, ssrc: u8) -> Answer {
         let bytes = [
             0x80, 0xc9, 0x00, 0x01, 0x00, 0x00, 0x00, ssrc, 0x81, 0xca, 0x00, 0x02, 0x00, 0x00,
             0x00, ssrc, 0x01, 0x01, 0x61, 0x00,
         ];
-        self.rtcp(now, &bytes)
+        self.participant.arrive_rtcp(now, 1, 0, &bytes)
     }
 
-    /// A compound in which a source below 256 leaves.
-    pub(crate) fn goodbye(&mut self, now: u64, ssrc: u8) -> Seen {
+    fn goodbye(&mut self, now: u64, ssrc: u8) -> Answer {
         let bytes = [
             0x80, 0xc9, 0x00, 0x01, 0x00, 0x00, 0x00, ssrc, 0x81, 0xcb, 0x00, 0x01, 0x00, 0x00,
             0x00, ssrc,
         ];
-        self.rtcp(now, &bytes)
+        self.participant.arrive_rtcp(now, 1, 0, &bytes)
     }
 
-    /// An RTP packet of a source below 256, with a timestamp of 0.
-    pub(crate) fn packet(&mut self, now: u64, ssrc: u8, sequence: u8) -> Seen {
+    fn packet(&mut self, now: u64, ssrc: u8, sequence: u8) -> Answer {
         let bytes = [0x80, 0, 0, sequence, 0, 0, 0, 0, 0, 0, 0, ssrc];
-        self.rtp(now, &bytes)
+        self.participant.arrive_rtp(now, 1, 0, &bytes)
+    }
+
+    fn join(&mut self, now: u64, first: u8, last: u8) -> Answer {
+        for ssrc in first..last {
+            if let Err(refusal) = self.named(now, ssrc) {
+                return Err(refusal);
+            }
+        }
+        self.named(now, last)
+    }
+
+    fn part(&mut self, now: u64, first: u8, last: u8) -> Answer {
+        for ssrc in first..last {
+            if let Err(refusal) = self.goodbye(now, ssrc) {
+                return Err(refusal);
+            }
+        }
+        self.goodbye(now, last)
+    }
+
+    fn byes(&mut self, now: u64, size: usize) -> Answer {
+        let mut bytes = [0; 65_532];
+        for (octets, packet) in bytes.chunks_exact_mut(4).zip(0..16_383) {
+            octets.copy_from_slice(match packet {
+                0 => &[0x80, 0xc9, 0, 1],
+                1 => &[0, 0, 0, 1],
+                _ => &[0x80, 0xcb, 0, 0],
+            });
+        }
+        let datagram = bytes.get(..size).unwrap_or(&[]);
+        self.participant.arrive_rtcp(now, 1, 0, datagram)
     }
 }
 
-/// What was answered.
-#[derive(Drop)]
-pub(crate) struct Seen {
-    answer: Answer,
+/// What is seen of an answer, said as the row says it.
+fn seen_in<'a>(answer: &'a Answer, row: &Seen<'_>) -> Seen<'a> {
+    match (answer, row) {
+        (Err(refusal), _) => Seen::Refused(*refusal),
+        (Ok(_), Seen::Taken) => Seen::Taken,
+        (Ok(step), Seen::Counts(..)) => Seen::Counts(step.members, step.senders),
+        (Ok(step), Seen::Entries(_)) => Seen::Entries(step.entries),
+        (Ok(step), Seen::OthersChanged(_)) => Seen::OthersChanged(step.others_changed),
+        (Ok(step), _) => seen_of(step),
+    }
 }
 
-fn answered(answer: Answer) -> Seen {
-    Seen { answer }
-}
-
-impl Seen {
-    /// The call was taken, there is nothing to send, and these are the counts and the next moment.
-    pub(crate) fn is(self, rt: &impl Abort, members: u32, senders: u32, next: u64) {
-        match self.answer {
-            Ok(step) => {
-                assert!(rt; step.out.is_none());
-                assert!(rt; step.changed.is_none());
-                assert_eq!(rt; step.members, members);
-                assert_eq!(rt; step.senders, senders);
-                assert!(rt; step.next == Some(next));
-            }
-            Err(_) => panic!(rt; "the call is refused"),
+/// What is seen of a call that was taken, all of it.
+pub(crate) fn seen_of(step: &Step) -> Seen<'_> {
+    let (members, senders) = (step.members, step.senders);
+    let (kind, octets) = match &step.out {
+        Some(out) => (Some(out.kind), out.bytes.as_slice()),
+        None => (None, [].as_slice()),
+    };
+    match (step.next, step.changed, kind) {
+        (Some(next), None, None) => Seen::Is(members, senders, next),
+        (Some(next), None, Some(OutKind::Report)) => Seen::Sends(members, senders, next, octets),
+        (Some(next), Some(ssrc), None | Some(OutKind::Bye)) => {
+            Seen::Changes(ssrc, members, senders, next, octets)
         }
-    }
-
-    /// The call was taken, and changed the role of another source or did not.
-    pub(crate) fn others_changed(self, rt: &impl Abort, changed: bool) {
-        match self.answer {
-            Ok(step) => assert_eq!(rt; step.others_changed, changed),
-            Err(_) => panic!(rt; "the call is refused"),
-        }
-    }
-
-    /// The call was taken, and a report of these octets is to be sent.
-    pub(crate) fn sends(
-        self,
-        rt: &impl Abort,
-        members: u32,
-        senders: u32,
-        next: u64,
-        octets: &[u8],
-    ) {
-        match self.answer {
-            Ok(step) => {
-                assert!(rt; step.changed.is_none());
-                assert_eq!(rt; step.members, members);
-                assert_eq!(rt; step.senders, senders);
-                assert!(rt; step.next == Some(next));
-                match step.out {
-                    Some(out) => {
-                        assert!(rt; out.kind == OutKind::Report);
-                        assert!(rt; out.bytes.as_slice() == octets);
-                    }
-                    None => panic!(rt; "there is nothing to send"),
-                }
-            }
-            Err(_) => panic!(rt; "the call is refused"),
-        }
-    }
-
-    /// The call was taken, and the participant has a new SSRC. These are the counts and the next moment, and the BYE
-    /// of the old one, if one is to be sent.
-    pub(crate) fn changes(self, rt: &impl Abort, ssrc: u32, counts: (u32, u32, u64), bye: &[u8]) {
-        match self.answer {
-            Ok(step) => {
-                assert!(rt; step.changed == Some(ssrc));
-                assert!(rt; (step.members, step.senders) == (counts.0, counts.1));
-                assert!(rt; step.next == Some(counts.2));
-                match step.out {
-                    Some(out) => {
-                        assert!(rt; out.kind == OutKind::Bye);
-                        assert!(rt; out.bytes.as_slice() == bye);
-                    }
-                    None => assert!(rt; bye.is_empty()),
-                }
-            }
-            Err(_) => panic!(rt; "the call is refused"),
-        }
-    }
-
-    /// The call was taken. Whether a report is to be sent.
-    pub(crate) fn reports(self, rt: &impl Abort) -> bool {
-        match self.answer {
-            Ok(step) => step.out.is_some_and(|out| out.kind == OutKind::Report),
-            Err(_) => panic!(rt; "the call is refused"),
-        }
-    }
-
-    /// The call was taken.
-    pub(crate) fn taken(self, rt: &impl Abort) {
-        assert!(rt; self.answer.is_ok());
-    }
-
-    /// The call was taken, and with it the participant is gone. What is to be sent then.
-    fn last(self, rt: &impl Abort) -> Option<Out> {
-        match self.answer {
-            Ok(step) => {
-                assert!(rt; step.changed.is_none());
-                assert_eq!(rt; step.members, 0);
-                assert_eq!(rt; step.senders, 0);
-                assert!(rt; step.next.is_none());
-                step.out
-            }
-            Err(_) => panic!(rt; "the call is refused"),
-        }
-    }
-
-    /// The participant is gone, and has nothing to send.
-    pub(crate) fn leaves_silently(self, rt: &impl Abort) {
-        assert!(rt; self.last(rt).is_none());
-    }
-
-    /// The participant is gone, and its BYE is to be sent.
-    pub(crate) fn says_bye(self, rt: &impl Abort) {
-        self.says_bye_of(rt, &BYE);
-    }
-
-    /// The participant is gone, and this BYE is to be sent.
-    pub(crate) fn says_bye_of(self, rt: &impl Abort, bye: &[u8]) {
-        match self.last(rt) {
-            Some(out) => {
-                assert!(rt; out.kind == OutKind::Bye);
-                assert!(rt; out.bytes.as_slice() == bye);
-            }
-            None => panic!(rt; "there is nothing to send"),
-        }
-    }
-
-    /// The call was refused for this reason.
-    pub(crate) fn refused(self, rt: &impl Abort, reason: Refusal) {
-        match self.answer {
-            Ok(_) => panic!(rt; "the call is taken"),
-            Err(refusal) => assert!(rt; refusal == reason),
-        }
+        (None, None, None) if (members, senders) == (0, 0) => Seen::LeavesSilently,
+        (None, None, Some(OutKind::Bye)) if (members, senders) == (0, 0) => Seen::SaysBye(octets),
+        _ => Seen::Odd,
     }
 }
