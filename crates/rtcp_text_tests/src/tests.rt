@@ -10,7 +10,6 @@ mod event_lines;
 mod flushes;
 mod leaves;
 mod records;
-mod replay_ends;
 mod rows;
 mod sessions;
 mod texts;

@@ -1,10 +1,13 @@
 //! Readers and writers that fail, or that give and take little at a time.
 
 use super::same;
-use rtcp_text::{Counted, TextFault, check};
+use super::sessions::plain;
+use rtcp_text::replay::replay;
+use rtcp_text::{Counted, ReplayFault, TextFault, check};
 use std::alloc::Global;
 use std::io;
 use std::io::{ErrorKind, Read, Write};
+use std::process::Abort;
 
 /// Gives at most `piece` octets a call, and fails at the call after `calls` others.
 #[derive(Drop)]
@@ -55,104 +58,169 @@ impl Write for Narrow {
     }
 }
 
-const LINES: &[u8] = b"80c9000100000007\n\n80c9000100000008";
-
-const TEXT: &[u8] = b"ok RR(00000007,[],0)\nF1 Short at 0\nok RR(00000008,[],0)\n";
-
-/// What is written when so many octets of the lines came: the last line is ended by the end alone.
-fn answered(octets: u32) -> &'static [u8] {
-    match octets {
-        0..17 => b"",
-        17 => b"ok RR(00000007,[],0)\n",
-        _ => b"ok RR(00000007,[],0)\nF1 Short at 0\n",
-    }
+/// A run, of `check` or of `replay` by a plain participant, with an octet at each call.
+struct Run {
+    is_replay: bool,
+    /// Its last line lacks its line feed.
+    lines: &'static [u8],
+    text: &'static [u8],
+    /// The calls after which a reader and a writer would fail that are asked for all.
+    most: (u32, u32),
+    /// How many calls of a reader, and how many of a writer, there are that fail in their turn.
+    calls: (u32, u32),
+    /// From how many octets of the lines on so many octets are written: the last line is ended by the end alone.
+    answered: &'static [(u32, usize)],
+    /// How many calls of a writer that takes a whole answer at each are made before one fails, and the octets of the
+    /// answers that it holds.
+    answers: &'static [(u32, usize)],
 }
 
-/// What a check answers, how many calls of the reader and of the writer failed, and the writer.
-fn checked<R: Read + Drop, W: Write>(
+static RUNS: [Run; 2] = [
+    Run {
+        is_replay: false,
+        lines: b"80c9000100000007\n\n80c9000100000008",
+        text: b"ok RR(00000007,[],0)\nF1 Short at 0\nok RR(00000008,[],0)\n",
+        most: (100, 100),
+        calls: (35, 56),
+        answered: &[(0, 0), (17, 21), (18, 35)],
+        answers: &[(0, 0), (1, 21), (2, 35)],
+    },
+    // The session of docs/FORMATS.md, with the start that is written first.
+    Run {
+        is_replay: true,
+        lines: b"rtcp 0 1 00000000 80c900010000000781ca00020000000701016100\n\
+            tick 1026037 00000000 00000000\n\
+            rtcp 1026037 1 00000000 -",
+        text: b"start members=1 senders=0 next=1026037\n\
+            ok members=2 senders=0 next=1026037 out=-\n\
+            ok members=2 senders=0 next=3078111 out=report:80c90001000000aa81ca0002000000aa01016100\n\
+            refused E5 Wire: F1 Short at 0\n",
+        most: (116, 200),
+        calls: (116, 200),
+        answered: &[(0, 39), (59, 81), (90, 169)],
+        answers: &[(0, 0), (1, 39), (2, 81), (3, 169)],
+    },
+];
+
+/// How a run ended, how many calls of the reader and of the writer failed, and the writer.
+pub(super) type Ended<W> = (Result<(), ReplayFault>, (u64, u64), W);
+
+/// A write failed.
+const WRITE: Result<(), ReplayFault> = Err(ReplayFault::Run(TextFault::Write));
+
+/// What comes of a run.
+pub(super) fn ran<R: Read + Drop, W: Write>(
     alloc: Global,
+    is_replay: bool,
     reader: R,
     writer: W,
-) -> (Result<(), TextFault>, (u64, u64), W) {
+) -> Ended<W> {
     let mut reader = Counted::new(reader);
     let mut writer = Counted::new(writer);
-    let outcome = check::check(alloc, &mut reader, &mut writer);
+    let outcome = if is_replay {
+        replay(alloc, &mut reader, &mut writer, plain(), 0)
+    } else {
+        match check::check(alloc, &mut reader, &mut writer) {
+            Ok(()) => Ok(()),
+            Err(fault) => Err(ReplayFault::Run(fault)),
+        }
+    };
     let failures = (reader.failures(), writer.failures());
     (outcome, failures, writer.into_inner())
 }
 
-#[test]
-fn one_octet_at_a_time(rt: HostRuntime) {
+/// What comes of one whose reader gives an octet a call, and fails at the call after `calls` others.
+fn read<W: Write>(alloc: Global, run: &Run, calls: u32, writer: W) -> Ended<W> {
     let reader = Pieces {
-        rest: LINES,
+        rest: run.lines,
         piece: 1,
-        calls: 100,
+        calls,
     };
+    ran(alloc, run.is_replay, reader, writer)
+}
+
+/// Each run comes to its end an octet at a time, and ends at each call that fails.
+#[test]
+fn each_call_fails(rt: HostRuntime) {
+    for run in &RUNS {
+        one_octet_at_a_time(&rt, rt.alloc(), run);
+        failed_reads(&rt, rt.alloc(), run);
+        failed_writes(&rt, rt.alloc(), run, true);
+        failed_writes(&rt, rt.alloc(), run, false);
+        failed_answers(&rt, rt.alloc(), run);
+    }
+}
+
+fn one_octet_at_a_time(rt: &impl Abort, alloc: Global, run: &Run) {
+    let (reads, calls) = run.most;
     let writer = Narrow {
-        taken: Vec::new(rt.alloc()),
+        taken: Vec::new(alloc),
         piece: 1,
-        calls: 100,
+        calls,
         fails: true,
     };
-    let (outcome, failures, writer) = checked(rt.alloc(), reader, writer);
-    assert_eq!(rt; outcome, Ok(()));
-    assert_eq!(rt; failures, (0, 0));
-    same(&rt, &writer.taken, TEXT, "the text");
+    let (outcome, failures, writer) = read(alloc, run, reads, writer);
+    assert_eq!(rt; (outcome, failures), (Ok(()), (0, 0)));
+    same(rt, &writer.taken, run.text, "the text");
 }
 
 /// At each call of the reader, the end of the input included.
-#[test]
-fn failed_reads(rt: HostRuntime) {
-    for calls in 0u32..35 {
-        let reader = Pieces {
-            rest: LINES,
-            piece: 1,
-            calls,
-        };
-        let (outcome, failures, written) = checked(rt.alloc(), reader, Vec::new(rt.alloc()));
-        assert_eq!(rt; outcome, Err(TextFault::Read), "{calls}");
-        assert_eq!(rt; failures, (1, 0), "{calls}");
-        same(&rt, &written, answered(calls), "the lines that came");
+fn failed_reads(rt: &impl Abort, alloc: Global, run: &Run) {
+    for calls in 0..run.calls.0 {
+        let (outcome, failures, written) = read(alloc, run, calls, Vec::new(alloc));
+        let wanted = (Err(ReplayFault::Run(TextFault::Read)), (1, 0));
+        assert_eq!(rt; (outcome, failures), wanted, "{calls}");
+        let octets = answered(run, calls);
+        assert!(rt;
+            run.text.starts_with(&written) && written.len() == octets,
+            "{calls}"
+        );
     }
+}
+
+/// How many octets are written where so many of the lines came.
+fn answered(run: &Run, calls: u32) -> usize {
+    let mut octets = 0;
+    for (from, written) in run.answered {
+        if *from <= calls {
+            octets = *written;
+        }
+    }
+    octets
 }
 
 /// At each call of the writer, by an error or by taking nothing.
-#[test]
-fn failed_writes(rt: HostRuntime) {
-    for calls in 0u32..56 {
-        for fails in [true, false] {
-            let writer = Narrow {
-                taken: Vec::new(rt.alloc()),
-                piece: 1,
-                calls,
-                fails,
-            };
-            let (outcome, failures, writer) = checked(rt.alloc(), LINES, writer);
-            assert_eq!(rt; outcome, Err(TextFault::Write), "{calls}");
-            assert_eq!(rt; failures, (0, 1), "{calls}");
-            assert!(rt; TEXT.starts_with(&writer.taken), "{calls}");
-            assert_eq!(rt; writer.taken.len(), calls as usize, "{calls}");
-        }
+fn failed_writes(rt: &impl Abort, alloc: Global, run: &Run, fails: bool) {
+    for calls in 0..run.calls.1 {
+        let writer = Narrow {
+            taken: Vec::new(alloc),
+            piece: 1,
+            calls,
+            fails,
+        };
+        let (outcome, failures, writer) = ran(alloc, run.is_replay, run.lines, writer);
+        assert_eq!(rt; (outcome, failures), (WRITE, (0, 1)), "{calls}, {fails}");
+        let taken = &writer.taken;
+        let is_taken = run.text.starts_with(taken) && taken.len() == calls as usize;
+        assert!(rt; is_taken, "{calls}, {fails}");
     }
 }
 
-/// A writer that takes a whole answer at each call holds exactly the answers to the lines before the failed one.
-#[test]
-fn failed_answers(rt: HostRuntime) {
-    for (calls, octets) in [(0, 0), (1, 21), (2, 35)] {
+/// A writer that takes a whole answer at each call holds exactly the answers before the failed one.
+fn failed_answers(rt: &impl Abort, alloc: Global, run: &Run) {
+    for (calls, octets) in run.answers {
         let writer = Narrow {
-            taken: Vec::new(rt.alloc()),
-            piece: TEXT.len(),
-            calls,
+            taken: Vec::new(alloc),
+            piece: run.text.len(),
+            calls: *calls,
             fails: true,
         };
-        let (outcome, _, writer) = checked(rt.alloc(), LINES, writer);
-        assert_eq!(rt; outcome, Err(TextFault::Write), "{calls}");
-        same(
-            &rt,
-            &writer.taken,
-            TEXT.split_at(octets).0,
-            "the answers before",
+        let (outcome, _, writer) = ran(alloc, run.is_replay, run.lines, writer);
+        assert_eq!(rt; outcome, WRITE, "{calls}");
+        let taken = &writer.taken;
+        assert!(rt;
+            run.text.starts_with(taken) && taken.len() == *octets,
+            "{calls}"
         );
     }
 }

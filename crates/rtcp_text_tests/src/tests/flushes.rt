@@ -1,19 +1,20 @@
 //! What stands flushed when the reader is asked for more.
 
-use rtcp_text::{Counted, LineFault, TextFault, check};
+use super::ends::ran;
+use rtcp_text::{LineFault, ReplayFault, TextFault};
 use std::cell::Cell;
 use std::io;
 use std::io::{ErrorKind, Read, Write};
 
 /// How many octets a writer took, and how many of them stood flushed.
 #[derive(Drop)]
-pub(super) struct Seen {
-    pub(super) written: Cell<usize>,
-    pub(super) flushed: Cell<usize>,
+struct Seen {
+    written: Cell<usize>,
+    flushed: Cell<usize>,
 }
 
 impl Seen {
-    pub(super) fn none() -> Self {
+    fn none() -> Self {
         Seen {
             written: Cell::new(0),
             flushed: Cell::new(0),
@@ -23,10 +24,10 @@ impl Seen {
 
 /// Gives a block a call, and fails where not all that was written stands flushed by then.
 #[derive(Drop)]
-pub(super) struct Blocks<'a> {
-    pub(super) blocks: &'a [&'a [u8]],
-    pub(super) given: usize,
-    pub(super) seen: &'a Seen,
+struct Blocks<'a> {
+    blocks: &'a [&'a [u8]],
+    given: usize,
+    seen: &'a Seen,
 }
 
 impl Read for Blocks<'_> {
@@ -45,9 +46,9 @@ impl Read for Blocks<'_> {
 
 /// Notes what it takes, and at each flush what it took. The flush after `flushes` others fails.
 #[derive(Drop)]
-pub(super) struct Noting<'a> {
-    pub(super) flushes: u32,
-    pub(super) seen: &'a Seen,
+struct Noting<'a> {
+    flushes: u32,
+    seen: &'a Seen,
 }
 
 impl Write for Noting<'_> {
@@ -67,53 +68,74 @@ impl Write for Noting<'_> {
     }
 }
 
-/// The answers to two lines, to none, to one that came in two blocks, and to the first part of a last line.
-const BLOCKS: [&[u8]; 4] = [b"80c9000100000007\n\n", b"80c9", b"000100000008\n8", b"0"];
+/// Blocks of a run of `check`: lines for the answers to two lines, to none, to one that came in two blocks, and to the
+/// first part of a last line.
+const BLOCKS: &[&[u8]] = &[b"80c9000100000007\n\n", b"80c9", b"000100000008\n8", b"0"];
 
-/// What a check of the blocks answers, and how much was written and stands flushed, where so many flushes
-/// succeed.
-fn checked(
-    rt: &HostRuntime,
-    blocks: &[&[u8]],
-    flushes: u32,
-) -> (Result<(), TextFault>, usize, usize) {
-    let seen = Seen::none();
-    let mut reader = Counted::new(Blocks {
-        blocks,
-        given: 0,
-        seen: &seen,
-    });
-    let mut writer = Counted::new(Noting {
-        flushes,
-        seen: &seen,
-    });
-    let outcome = check::check(rt.alloc(), &mut reader, &mut writer);
-    (outcome, seen.written.get(), seen.flushed.get())
-}
+/// Blocks with the line feeds of three lines, and a line that is no hex in the same block.
+const NO_HEX: &[&[u8]] = &[b"\n", b"\n\nq\n"];
 
-/// Each read finds the answers to all lines that came before it flushed. What follows the last read is left.
+/// Blocks of a run of `replay`: a line and the first words of one, its other words, its line feed and a word, and the
+/// last octet.
+const EVENTS: &[&[u8]] = &[
+    b"rtcp 0 1 00000000 80c900010000000781ca00020000000701016100\ntick 1026037 ",
+    b"00000000 00000000",
+    b"\nrtcp 1026037 1 00000000 ",
+    b"-",
+];
+
+const WRITE: Result<(), ReplayFault> = Err(ReplayFault::Run(TextFault::Write));
+
+/// The fourth line is no hex.
+const HEX: Result<(), ReplayFault> = Err(ReplayFault::Run(TextFault::Text {
+    line: 4,
+    fault: LineFault::Hex,
+}));
+
+/// Blocks, whether they are of a replay, and how many flushes succeed; how the run ends, and how much was written and
+/// stands flushed.
+type Flushed = (
+    &'static [&'static [u8]],
+    bool,
+    u32,
+    (Result<(), ReplayFault>, usize, usize),
+);
+
+static FLUSHES: [Flushed; 13] = [
+    // 21 and 14 octets, then 21, then 14 for the line that the end of the input ends.
+    (BLOCKS, false, 100, (Ok(()), 70, 56)),
+    (NO_HEX, false, 100, (HEX, 42, 14)),
+    // A flush that fails, before the first block or between two, is the fault `Write` and ends the run.
+    (BLOCKS, false, 0, (WRITE, 0, 0)),
+    (BLOCKS, false, 1, (WRITE, 35, 0)),
+    (BLOCKS, false, 2, (WRITE, 35, 35)),
+    (BLOCKS, false, 3, (WRITE, 56, 35)),
+    (BLOCKS, false, 4, (WRITE, 56, 56)),
+    // In a replay the start stands flushed, too.
+    (EVENTS, true, 0, (WRITE, 39, 0)),
+    (EVENTS, true, 1, (WRITE, 81, 39)),
+    (EVENTS, true, 2, (WRITE, 81, 81)),
+    (EVENTS, true, 3, (WRITE, 169, 81)),
+    (EVENTS, true, 4, (WRITE, 169, 169)),
+    (EVENTS, true, 5, (Ok(()), 200, 169)),
+];
+
+/// Each read finds the answers to all lines that came before it flushed, and what follows the last read is left.
 #[test]
 fn answers_stand_flushed(rt: HostRuntime) {
-    // 21 and 14 octets, then 21, then 14 for the line that the end of the input ends
-    assert_eq!(rt; checked(&rt, &BLOCKS, 100), (Ok(()), 70, 56));
-    // the line feeds of three lines, and a line that is no hex in the same block
-    let refused = Err(TextFault::Text {
-        line: 4,
-        fault: LineFault::Hex,
-    });
-    assert_eq!(rt; checked(&rt, &[b"\n", b"\n\nq\n"], 100), (refused, 42, 14));
-}
-
-/// A flush that fails, before the first block or between two, is the fault `Write` and ends the run.
-#[test]
-fn failed_flushes(rt: HostRuntime) {
-    let rows = [(0, 0, 0), (1, 35, 0), (2, 35, 35), (3, 56, 35), (4, 56, 56)];
-    for (flushes, written, flushed) in rows {
-        let found = checked(&rt, &BLOCKS, flushes);
-        assert_eq!(rt;
-            found,
-            (Err(TextFault::Write), written, flushed),
-            "{flushes}"
-        );
+    for (blocks, is_replay, flushes, wanted) in &FLUSHES {
+        let seen = Seen::none();
+        let reader = Blocks {
+            blocks,
+            given: 0,
+            seen: &seen,
+        };
+        let writer = Noting {
+            flushes: *flushes,
+            seen: &seen,
+        };
+        let (ended, _, _) = ran(rt.alloc(), *is_replay, reader, writer);
+        let found = (ended, seen.written.get(), seen.flushed.get());
+        assert_eq!(rt; found, *wanted, "{flushes} flushes of {blocks:?}");
     }
 }

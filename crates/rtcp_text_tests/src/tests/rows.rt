@@ -21,12 +21,10 @@ fn answers_with(
     same(rt, &writer.into_inner(), text.as_bytes(), lines);
 }
 
-fn refused(line: u64, fault: LineFault) -> Result<(), TextFault> {
-    Err(TextFault::Text { line, fault })
-}
-
 /// Lines and their answers.
-static ANSWERS: [(&str, &str); 28] = [
+static ANSWERS: [(&str, &str); 29] = [
+    // no lines
+    ("", ""),
     // the empty datagram
     ("\n", "F1 Short at 0\n"),
     // a receiver report alone, in either case of hex, with and without the last line feed
@@ -112,13 +110,6 @@ static ANSWERS: [(&str, &str); 28] = [
     ),
 ];
 
-#[test]
-fn answers(rt: HostRuntime) {
-    for (line, answer) in &ANSWERS {
-        answers_with(&rt, rt.alloc(), line, Ok(()), answer);
-    }
-}
-
 /// Lines of a real conference, and their answers: the numbers are read off the octets.
 static CAPTURED: [(&str, &str); 3] = [
     (
@@ -134,18 +125,6 @@ static CAPTURED: [(&str, &str); 3] = [
         "ok SR(eb411fa0,eead14f80037c569,e12fc0fe,100,102400,[],0) SDES([eb411fa0{1=75736572305f6578616d706c652e6e6574,2=537065616b657230,6=4753747265616d6572,7=68616c6c30}]) BYE([eb411fa0],-)\n",
     ),
 ];
-
-#[test]
-fn captured(rt: HostRuntime) {
-    for (line, answer) in &CAPTURED {
-        answers_with(&rt, rt.alloc(), line, Ok(()), answer);
-    }
-}
-
-#[test]
-fn no_lines(rt: HostRuntime) {
-    answers_with(&rt, rt.alloc(), "", Ok(()), "");
-}
 
 /// Texts with a line that is no hex, its number, and the answers to the lines before.
 static NO_HEX: [(&str, u64, &str); 4] = [
@@ -163,49 +142,59 @@ static NO_HEX: [(&str, u64, &str); 4] = [
     ("80c900010000000g", 1, ""),
 ];
 
-/// A line that is no hex ends the run, and the answers to the lines before it stay.
+/// Each line is answered, and a text without lines is not. A line that is no hex ends the run, and the answers to the
+/// lines before it stay.
 #[test]
-fn lines_that_are_no_hex(rt: HostRuntime) {
-    for (lines, number, answers) in &NO_HEX {
-        answers_with(
-            &rt,
-            rt.alloc(),
-            lines,
-            refused(*number, LineFault::Hex),
-            answers,
-        );
+fn answers(rt: HostRuntime) {
+    for (lines, answers) in ANSWERS.iter().chain(&CAPTURED) {
+        answers_with(&rt, rt.alloc(), lines, Ok(()), answers);
+    }
+    for (lines, line, answers) in &NO_HEX {
+        let fault = TextFault::Text {
+            line: *line,
+            fault: LineFault::Hex,
+        };
+        answers_with(&rt, rt.alloc(), lines, Err(fault), answers);
     }
 }
 
-/// A line has at most 131,200 bytes: that many zeros are a datagram of 65,600 octets.
-#[test]
-fn longest_line(rt: HostRuntime) -> Result<(), Fail> {
-    let zeros = "0".repeat(rt.alloc(), 131_200)?;
-    answers_with(&rt, rt.alloc(), &zeros, Ok(()), "F10 TooLong at 0\n");
-    let zeros = "0".repeat(rt.alloc(), 131_201)?;
-    answers_with(
-        &rt,
-        rt.alloc(),
-        &zeros,
-        refused(1, LineFault::LineTooLong),
-        "",
-    );
-    Ok(())
-}
+/// A part and how often it is repeated, for a text; how its check ends; and an answer and how often that is given.
+type Long = (
+    (&'static str, usize),
+    Result<(), TextFault>,
+    (&'static str, usize),
+);
 
-/// At most 65,536 lines are looked at: any octet after them begins a line too many, a line feed included.
+static LONG: [Long; 4] = [
+    // A line has at most 131,200 bytes: that many zeros are a datagram of 65,600 octets.
+    (("0", 131_200), Ok(()), ("F10 TooLong at 0\n", 1)),
+    (
+        ("0", 131_201),
+        Err(TextFault::Text {
+            line: 1,
+            fault: LineFault::LineTooLong,
+        }),
+        ("", 0),
+    ),
+    // At most 65,536 lines are looked at: any octet after them begins a line too many, a line feed included.
+    (("\n", 65_536), Ok(()), ("F1 Short at 0\n", 65_536)),
+    (
+        ("\n", 65_537),
+        Err(TextFault::Text {
+            line: 65_537,
+            fault: LineFault::TooManyLines,
+        }),
+        ("F1 Short at 0\n", 65_536),
+    ),
+];
+
+/// The longest line, the most lines, and one more of each.
 #[test]
-fn most_lines(rt: HostRuntime) -> Result<(), Fail> {
-    let answers = "F1 Short at 0\n".repeat(rt.alloc(), 65_536)?;
-    let lines = "\n".repeat(rt.alloc(), 65_536)?;
-    answers_with(&rt, rt.alloc(), &lines, Ok(()), &answers);
-    let lines = "\n".repeat(rt.alloc(), 65_537)?;
-    answers_with(
-        &rt,
-        rt.alloc(),
-        &lines,
-        refused(65_537, LineFault::TooManyLines),
-        &answers,
-    );
+fn long_texts(rt: HostRuntime) -> Result<(), Fail> {
+    for ((part, parts), outcome, (answer, answers)) in &LONG {
+        let lines = part.repeat(rt.alloc(), *parts)?;
+        let text = answer.repeat(rt.alloc(), *answers)?;
+        answers_with(&rt, rt.alloc(), &lines, *outcome, &text);
+    }
     Ok(())
 }
