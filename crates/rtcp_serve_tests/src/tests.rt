@@ -7,7 +7,7 @@ use rtcp_serve::{Cause, End, Link, Port, serve};
 use std::process::Abort;
 use std::test::*;
 
-mod collisions;
+mod draws;
 mod example;
 mod log;
 mod logs;

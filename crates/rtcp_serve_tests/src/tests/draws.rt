@@ -1,0 +1,39 @@
+//! The words that a session draws.
+
+use super::memory_link::{Coming, MemoryLink};
+use super::reader::reads_with;
+use super::session::{REPORT, participant};
+use super::*;
+use rand_core::{Rng, SeedableRng};
+use rand_pcg::Pcg32;
+
+/// The words are drawn in their order: one for each datagram as it comes, on either port, and two at the end of a
+/// turn. The fifth one is the new SSRC.
+#[test]
+fn draws_in_order(rt: HostRuntime) -> Result<(), Fail> {
+    let coming = [
+        Coming::Named(7),
+        Coming::Datagram(8, &[0x80, 0, 0, 1, 0, 0, 0, 0, 0, 0, 0, 9]),
+        Coming::Datagram(9, &REPORT),
+    ];
+    let mut link = MemoryLink::new(rt.alloc(), &[0], &coming, &[], 100)?;
+    let (mut given, mut words) = (Pcg32::seed_from_u64(5), Pcg32::seed_from_u64(5));
+    let mut changed = participant(&rt);
+    let mut buf = [0; 65_535];
+    let end = serve(&mut link, &mut changed, &mut given, 2, &mut buf);
+    assert_eq!(rt; (end.cause, end.received, end.refused), (Cause::Done, 3, 0));
+    let mut fifth = 0;
+    for _ in 0..5 {
+        fifth = words.next_u32();
+    }
+    assert_eq!(rt; changed.ssrc(), fifth);
+    // Two words of the second turn and the one for the leave remain.
+    for _ in 0..3 {
+        let _ = words.next_u32();
+    }
+    assert_eq!(rt; given.next_u32(), words.next_u32());
+    let again = Pcg32::seed_from_u64(5);
+    let cause = reads_with(&rt, rt.alloc(), &link, participant(&rt), again, 2);
+    assert_eq!(rt; cause, end.cause);
+    Ok(())
+}
