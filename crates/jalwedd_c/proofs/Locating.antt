@@ -4,8 +4,8 @@ use Rattle.rtcp_wire.specs.declared.fault.WireFault.{WireFault}
 use Rattle.rtcp_wire.specs.Faults.{IsFirstFault}
 use Rattle.rtcp_wire.specs.Grammar.{IsAccepted}
 use Rattle.rtcp_wire.specs.Values.{RtcpPacket}
-use Rattle.jalwedd_c.specs.Parts.{Locates}
-use Rattle.jalwedd_c.proofs.Options.{some_same}
+use Rattle.jalwedd_host.specs.Parts.{Locates}
+use Rattle.jalwedd_host.proofs.LawLemmas.{some_same}
 
 same_part : {Part : Type 0} (parts : List RtcpPacket → List Part) {datagram : List ℕ} (index : ℕ)
     {read : List RtcpPacket} {here there : Option Part}

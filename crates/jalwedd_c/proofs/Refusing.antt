@@ -3,10 +3,10 @@ use Rattle.std.proofs.Common.{◌≡◌, ◌<◌, ◌^◌, ℕ, List, Option, So
 use Rattle.std.specs.Option.{option_or}
 use Rattle.std.proofs.lemmas.Bool.Decides.{nat_tests}
 use Rattle.rtcp_engine.specs.Refused.{error_in}
-use Rattle.jalwedd_c.specs.declared.config.Config.{Config}
-use Rattle.jalwedd_c.specs.declared.config.Item.{Item as ItemGiven}
-use Rattle.jalwedd_c.specs.Configs.{oversize, refusal_of, refusal_of_setup, refusal_of_start}
-use Rattle.jalwedd_c.specs.Configs.{setup_given, status_of_error}
+use Rattle.jalwedd_host.specs.declared.config.Config.{Config}
+use Rattle.jalwedd_host.specs.declared.config.Item.{Item as ItemGiven}
+use Rattle.jalwedd_host.specs.Configs.{oversize, refusal_of, refusal_of_setup, refusal_of_start}
+use Rattle.jalwedd_host.specs.Configs.{setup_given, status_of_error}
 
 start_taken : (start : ℕ) → start < 2 ^ 63 → refusal_of_start start ≡ None
 start_taken start low = grind (arith, nat_tests, low)

@@ -8,12 +8,12 @@ use Rattle.rtcp_engine.specs.Histories.{History, life_at}
 use Rattle.rtcp_engine.specs.Promises.{Takes}
 use Rattle.rtcp_engine.specs.States.{ParticipantValue, StandsAt}
 use Rattle.rtcp_engine.specs.Views.{reply_value}
-use Rattle.jalwedd_c.specs.declared.session.Session.{Session}
-use Rattle.jalwedd_c.specs.declared.step.Step.{Step}
-use Rattle.jalwedd_c.specs.Answers.{HandsNothing, HandsOut, Shows, early_refusal, status_of, status_of_refusal}
-use Rattle.jalwedd_c.specs.Handles.{Leads, LeadsTo}
-use Rattle.jalwedd_c.specs.Promises.{ComesEarly, Serves}
-use Rattle.jalwedd_c.proofs.Held.{leads_as, session_of}
+use Rattle.jalwedd_host.specs.declared.session.Session.{Session}
+use Rattle.jalwedd_host.specs.declared.step.Step.{Step}
+use Rattle.jalwedd_host.specs.Answers.{HandsNothing, HandsOut, Shows, early_refusal, status_of, status_of_refusal}
+use Rattle.jalwedd_host.specs.Handles.{Leads, LeadsTo}
+use Rattle.jalwedd_host.specs.Promises.{ComesEarly, Serves}
+use Rattle.jalwedd_host.proofs.LawLemmas.{leads_as, session_of}
 
 -- A session counts a moment from its own start, which is that of the history.
 pub same_moment : (session looked : Session) (start : ℕ) (history : History) → Leads session start history →

@@ -3,17 +3,17 @@
 ghost use Rattle.std.specs.Prelude.{◌≡◌, ◌≢◌, ◌⊎◌, ℕ, Some, None};
 ghost use Rattle.rtcp_engine.specs.Histories.{History};
 ghost use Rattle.rtcp_engine.specs.Taken.{begun};
-ghost use Rattle.jalwedd_c.specs.Answers.{HandsNothing, Shows};
-ghost use Rattle.jalwedd_c.specs.Configs.{refusal_of, setup_given};
-ghost use Rattle.jalwedd_c.specs.Handles.{Leads};
-ghost use Rattle.jalwedd_c.specs.Promises.{AnswersLive, AnswersVacant, Begins};
+ghost use Rattle.jalwedd_host.specs.Answers.{HandsNothing, Shows};
+ghost use Rattle.jalwedd_host.specs.Configs.{refusal_of, setup_given};
+ghost use Rattle.jalwedd_host.specs.Handles.{Leads};
+ghost use Rattle.jalwedd_host.specs.Promises.{AnswersLive, AnswersVacant, Begins};
 
-use crate::config::{Config, Item, START_LIMIT, blank, fill};
-use crate::handle::Handle;
-use crate::session::Session;
-use crate::showing::Handed;
-use crate::status::{EMPTY, LIVE, NO_MEMORY, START, TAKEN, of_error};
-use crate::step::Step;
+use jalwedd_host::config::{Config, Item, START_LIMIT, blank, fill};
+use jalwedd_host::handle::Handle;
+use jalwedd_host::session::Session;
+use jalwedd_host::showing::Handed;
+use jalwedd_host::status::{EMPTY, LIVE, NO_MEMORY, START, TAKEN, of_error};
+use jalwedd_host::step::Step;
 use rtcp_engine::Participant;
 use rtcp_members::HeapTable;
 use std::alloc::Global;

@@ -9,15 +9,15 @@ ghost use Rattle.rtcp_wire.specs.RtpHeads.{RtpValue};
 ghost use Rattle.rtcp_engine.specs.Acts.{rtcp_came, rtp_came, rtp_sent, ticked, left, IsReading, IsRtpReading};
 ghost use Rattle.rtcp_engine.specs.Histories.{History};
 ghost use Rattle.rtcp_engine.specs.InTime.{IsOverdue};
-ghost use Rattle.jalwedd_c.specs.Answers.{IsBlank};
-ghost use Rattle.jalwedd_c.specs.Handles.{KeepsWithin, Leads, LeadsTo};
-ghost use Rattle.jalwedd_c.specs.Promises.{ComesEarly, Serves, Spares, TurnsAway};
+ghost use Rattle.jalwedd_host.specs.Answers.{IsBlank};
+ghost use Rattle.jalwedd_host.specs.Handles.{KeepsWithin, Leads, LeadsTo};
+ghost use Rattle.jalwedd_host.specs.Promises.{ComesEarly, Serves, Spares, TurnsAway};
 
-use crate::handle::Handle;
-use crate::session::Session;
-use crate::status::{EMPTY, TOO_LONG};
-use crate::step::Step;
 use arrayvec::ArrayVec;
+use jalwedd_host::handle::Handle;
+use jalwedd_host::session::Session;
+use jalwedd_host::status::{EMPTY, TOO_LONG};
+use jalwedd_host::step::Step;
 use std::alloc::Global;
 
 /// The most octets of a UDP datagram.

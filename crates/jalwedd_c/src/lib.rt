@@ -2,6 +2,9 @@
 //! include/jalwedd.h. A host has a [`Handle`], zeros at first, and passes it to each call; a call returns a status,
 //! and writes a [`Step`] whatever that is. docs/EMBEDDING.md shows a host.
 //!
+//! Only the exported functions are here, with their contracts, since what is exported has to stand in the static library
+//! itself. `jalwedd_host` has all that they share: the structures, the session behind a handle, and the definitions.
+//!
 //! Statuses: 0 taken; 1 to 7 a call that the participant refused, by E1 to E7, of which 5 is also a datagram
 //! that is not a compound, and 6 one without a valid RTP head; 8 no such block, or no such other part of a
 //! datagram; 9 no such source, or no other one that changed; 10 a listing whose SSRCs do not rise; 11 to 17 a
@@ -23,31 +26,23 @@ mod app;
 mod begin;
 mod calls;
 mod change;
-mod config;
-mod handle;
 mod head;
-pub mod laws;
-mod owned;
 mod parts;
 mod reading;
-mod session;
-mod showing;
-mod source;
-mod status;
-mod step;
 #[cfg(test)]
 mod tests;
 mod views;
 mod walks;
 
-pub use app::AppPlace;
-pub use change::RoleChange;
-pub use config::{Config, Item};
-pub use handle::Handle;
-pub use head::HeadPlace;
-pub use owned::Owned;
-pub use parts::{GoodbyePlace, ItemPlace, SenderInfo};
-pub use reading::{Fault, Report};
+pub use jalwedd_host::app::AppPlace;
+pub use jalwedd_host::change::RoleChange;
+pub use jalwedd_host::config::{Config, Item};
+pub use jalwedd_host::handle::Handle;
+pub use jalwedd_host::head::HeadPlace;
+pub use jalwedd_host::laws;
+pub use jalwedd_host::owned::Owned;
+pub use jalwedd_host::parts::{GoodbyePlace, ItemPlace, SenderInfo};
+pub use jalwedd_host::reading::{Fault, Report};
+pub use jalwedd_host::source::Source;
+pub use jalwedd_host::step::Step;
 pub use rtcp_parts::Cursor;
-pub use source::Source;
-pub use step::Step;

@@ -7,10 +7,10 @@ use crate::calls::{
 };
 use crate::parts::{jalwedd_block, jalwedd_goodbye, jalwedd_sdes_item, jalwedd_sender};
 use crate::reading::{jalwedd_about, jalwedd_check, jalwedd_ntp_of, jalwedd_round_trip};
-use crate::step::NEVER;
 use crate::views::{
     jalwedd_entries, jalwedd_members, jalwedd_next, jalwedd_senders, jalwedd_source, jalwedd_ssrc,
 };
+use jalwedd_host::step::NEVER;
 use std::alloc::Global;
 use std::test::*;
 

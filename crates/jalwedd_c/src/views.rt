@@ -3,15 +3,15 @@
 ghost use Rattle.std.specs.Prelude.{◌≡◌, ◌^◌, ◌-◌, ◌↔◌, ℕ, Option, Some, None};
 ghost use Rattle.rtcp_engine.specs.Histories.{History, life_at, setup_at};
 ghost use Rattle.rtcp_engine.specs.Lives.{members_in_life, senders_in_life, entries_in_life, next_in_life, TellsInLife};
-ghost use Rattle.jalwedd_c.specs.Answers.{moment_shown};
+ghost use Rattle.jalwedd_host.specs.Answers.{moment_shown};
 ghost use Rattle.rtcp_members.specs.Told.{StateValue};
-ghost use Rattle.jalwedd_c.specs.Handles.{LeadsTo};
-ghost use Rattle.jalwedd_c.specs.Promises.{TellsOf};
-ghost use Rattle.jalwedd_c.specs.Sources.{ShowsSource, after_of};
+ghost use Rattle.jalwedd_host.specs.Handles.{LeadsTo};
+ghost use Rattle.jalwedd_host.specs.Promises.{TellsOf};
+ghost use Rattle.jalwedd_host.specs.Sources.{ShowsSource, after_of};
 
-use crate::handle::Handle;
-use crate::source::Source;
-use crate::status::{NO_SOURCE, TAKEN};
+use jalwedd_host::handle::Handle;
+use jalwedd_host::source::Source;
+use jalwedd_host::status::{NO_SOURCE, TAKEN};
 use std::alloc::Global;
 
 /// The members of the session, the participant included (RFC 3550, 6.2.1). In the backoff after a leave, the

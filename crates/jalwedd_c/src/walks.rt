@@ -1,21 +1,20 @@
 //! The parts of a datagram, one after the other, by a cursor of the host's: the datagram is tested once.
 
-ghost use Rattle.std.specs.Prelude.{◌≡◌, ◌≤◌, ◌+◌, ℕ, List, length};
-ghost use Rattle.rtcp_wire.specs.Values.{SenderValue};
-ghost use Rattle.rtcp_parts.specs.Senders.{ShowsSender as SaysSender};
+ghost use Rattle.std.specs.Prelude.{◌≡◌, ◌≤◌, ◌+◌, length};
 ghost use Rattle.rtcp_wire.specs.Contents.{packet_blocks, packet_goodbyes, packet_items, packet_senders};
-ghost use Rattle.rtcp_parts.specs.Apps.{AppValue, PlacesApp, packet_apps};
+ghost use Rattle.rtcp_parts.specs.Apps.{packet_apps};
 ghost use Rattle.rtcp_parts.specs.Cursors.{LeavesBlocks, LeavesGoodbyes, LeavesItems, LeavesNone};
-ghost use Rattle.jalwedd_c.specs.Apps.{ShowsApp};
-ghost use Rattle.jalwedd_c.specs.Parts.{ShowsGoodbye, ShowsItem, ShowsSender};
-ghost use Rattle.jalwedd_c.specs.Readings.{ShowsBlock};
-ghost use Rattle.jalwedd_c.specs.Walks.{Continues};
+ghost use Rattle.jalwedd_host.specs.Apps.{ShowsApp};
+ghost use Rattle.jalwedd_host.specs.Parts.{ShowsGoodbye, ShowsItem, ShowsSender};
+ghost use Rattle.jalwedd_host.specs.Readings.{ShowsBlock};
+ghost use Rattle.jalwedd_host.specs.Walks.{Continues};
 
-use crate::app::AppPlace;
-use crate::parts::{GoodbyePlace, ItemPlace, SenderInfo, goodbye_place, item_place};
-use crate::reading::{Report, shown};
-use crate::status::{NO_COMPOUND, NO_PART, TAKEN};
-use rtcp_parts::{Cursor, PlacedApp, Sender};
+use jalwedd_host::app::AppPlace;
+use jalwedd_host::parts::{GoodbyePlace, ItemPlace, SenderInfo, goodbye_place, item_place};
+use jalwedd_host::reading::{Report, shown};
+use jalwedd_host::status::{NO_COMPOUND, NO_PART, TAKEN};
+use jalwedd_host::walks::{app_place, sender_info};
+use rtcp_parts::Cursor;
 
 /// Tells of the next part of a walk over the sender reports of a datagram, in their order, and moves the cursor after
 /// it. Begin with a cursor of zeros, and go on with it until the status is not 0: then each part was told once. Else
@@ -119,31 +118,5 @@ pub extern "C" fn jalwedd_next_app(datagram: &[u8], cursor: &mut Cursor, app: &m
         }
         Ok(None) => NO_PART,
         Err(_) => NO_COMPOUND,
-    }
-}
-
-fn sender_info(sender: &Sender) -> SenderInfo
-    ensures { (value : SenderValue) → SaysSender value sender.now → ShowsSender result value }
-{
-    SenderInfo {
-        ntp: sender.ntp,
-        ssrc: sender.ssrc,
-        rtp: sender.rtp,
-        packets: sender.packets,
-        octets: sender.octets,
-    }
-}
-
-fn app_place(placed: &PlacedApp) -> AppPlace
-    ensures shows { (datagram : List ℕ) (part : AppValue) → PlacesApp datagram part placed.now →
-        ShowsApp datagram result part }
-    ensures place { (result.offset ≡ placed.now.content.place) × (result.size ≡ placed.now.content.size) }
-{
-    AppPlace {
-        offset: placed.content.place as u64,
-        size: placed.content.size as u64,
-        ssrc: placed.ssrc,
-        subtype: u32::from(placed.subtype),
-        name: placed.name,
     }
 }

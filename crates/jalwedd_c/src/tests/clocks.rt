@@ -228,7 +228,7 @@ fn too_early(rt: HostRuntime) {
 /// The block of a session has the octets that `jalwedd_new` documents.
 #[test]
 fn memory(rt: HostRuntime) {
-    assert_eq!(rt; size_of::<crate::session::Session>(), 2_568);
+    assert_eq!(rt; size_of::<jalwedd_host::session::Session>(), 2_568);
 }
 
 /// A start of 2^63 or later is refused, after all else that is.

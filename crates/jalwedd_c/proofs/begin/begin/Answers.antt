@@ -1,5 +1,5 @@
 use Rattle.std.proofs.Common.{sym, ◌∙◌}
-use Rattle.jalwedd_c.proofs.Held.{leads_as}
+use Rattle.jalwedd_host.proofs.LawLemmas.{leads_as}
 use Rattle.jalwedd_c.proofs.begin.begin.Goals as goal
 
 pub returns-in-Ok-clause-shows : goal.returns-in-Ok-clause-shows

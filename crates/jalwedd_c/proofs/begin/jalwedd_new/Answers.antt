@@ -3,11 +3,11 @@ use Rattle.std.proofs.Common.{◌≡◌, ℕ, Option, Some, None, inl, inr, refl
 use Rattle.rtcp_engine.specs.Refused.{error_in}
 use Rattle.rtcp_engine.specs.States.{StandsAt}
 use Rattle.rtcp_engine.specs.Taken.{begun}
-use Rattle.jalwedd_c.specs.declared.session.Session.{Session}
-use Rattle.jalwedd_c.specs.Answers.{IsBlank}
-use Rattle.jalwedd_c.specs.Configs.{setup_given}
-use Rattle.jalwedd_c.specs.Handles.{KeepsWithin, Leads, LeadsTo}
-use Rattle.jalwedd_c.proofs.Held.{leads_as, session_of}
+use Rattle.jalwedd_host.specs.declared.session.Session.{Session}
+use Rattle.jalwedd_host.specs.Answers.{IsBlank}
+use Rattle.jalwedd_host.specs.Configs.{setup_given}
+use Rattle.jalwedd_host.specs.Handles.{KeepsWithin, Leads, LeadsTo}
+use Rattle.jalwedd_host.proofs.LawLemmas.{leads_as, session_of}
 use Rattle.jalwedd_c.proofs.Refusing.{not_refused}
 use Rattle.jalwedd_c.proofs.begin.jalwedd_new.Goals as goal
 

@@ -2,8 +2,8 @@
 -- whatever that holds.
 use Rattle.std.proofs.Common.{ℕ, [], refl, subst}
 use Rattle.rtcp_engine.specs.Acts.{rtcp_came}
-use Rattle.jalwedd_c.specs.Promises.{Serves}
-use Rattle.jalwedd_c.proofs.Held.{session_of}
+use Rattle.jalwedd_host.specs.Promises.{Serves}
+use Rattle.jalwedd_host.proofs.LawLemmas.{session_of}
 use Rattle.jalwedd_c.proofs.Serving.{passed_by, refuses_early, same_moment, serves}
 use Rattle.jalwedd_c.proofs.calls.jalwedd_arrive_rtcp.Goals as goal
 

@@ -1,8 +1,8 @@
 -- The moment is counted from the start of the session that is held.
 use Rattle.std.proofs.Common.{◌≡◌, ℕ, refl, subst}
 use Rattle.rtcp_engine.specs.Acts.{left}
-use Rattle.jalwedd_c.specs.Promises.{Serves}
-use Rattle.jalwedd_c.proofs.Held.{session_of}
+use Rattle.jalwedd_host.specs.Promises.{Serves}
+use Rattle.jalwedd_host.proofs.LawLemmas.{session_of}
 use Rattle.jalwedd_c.proofs.Serving.{refuses_early, same_moment, serves}
 use Rattle.jalwedd_c.proofs.calls.jalwedd_leave.Goals as goal
 

@@ -2,8 +2,8 @@
 use Rattle.std.proofs.Common.{◌≡◌, ℕ, rules, sym, refl, subst}
 use Rattle.rtcp_engine.specs.Acts.{ticked}
 use Rattle.rtcp_engine.specs.InTime.{IsOverdue}
-use Rattle.jalwedd_c.specs.Promises.{Serves}
-use Rattle.jalwedd_c.proofs.Held.{leads_as, session_of}
+use Rattle.jalwedd_host.specs.Promises.{Serves}
+use Rattle.jalwedd_host.proofs.LawLemmas.{leads_as, session_of}
 use Rattle.jalwedd_c.proofs.Serving.{refuses_early, same_moment, serves}
 use Rattle.jalwedd_c.proofs.calls.jalwedd_tick.Goals as goal
 

@@ -2,8 +2,8 @@
 use Rattle.std.proofs.Common.{rules, ◌≡◌, Some, refl, sym, subst, ◌∙◌}
 use Rattle.rtcp_wire.specs.Contents.{all_items}
 use Rattle.rtcp_wire.specs.Placed.{GivesAt, PlacesItem}
-use Rattle.jalwedd_c.specs.Parts.{ShowsItem}
-use Rattle.jalwedd_c.proofs.Options.{some_same}
+use Rattle.jalwedd_host.specs.Parts.{ShowsItem}
+use Rattle.jalwedd_host.proofs.LawLemmas.{some_same}
 use Rattle.jalwedd_c.proofs.parts.jalwedd_sdes_item.Goals as goal
 
 pub returns-in-Ok-Some : goal.returns-in-Ok-Some

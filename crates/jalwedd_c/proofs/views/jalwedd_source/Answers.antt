@@ -1,8 +1,8 @@
 -- The source given is the one that the history tells of, and its moments are those of taken calls.
 use Rattle.rtcp_engine.specs.Histories.{life_at, setup_at}
-use Rattle.jalwedd_c.specs.Sources.{after_of}
-use Rattle.jalwedd_c.proofs.Held.{history_of, start_of}
-use Rattle.jalwedd_c.proofs.Never.{shows_left, shows_this, shows_told}
+use Rattle.jalwedd_host.specs.Sources.{after_of}
+use Rattle.jalwedd_host.proofs.LawLemmas.{history_of, start_of}
+use Rattle.jalwedd_host.proofs.LawLemmas.{shows_left, shows_this, shows_told}
 use Rattle.jalwedd_c.proofs.views.jalwedd_source.Goals as goal
 
 pub returns-in-Some-clause-never_left : goal.returns-in-Some-clause-never_left

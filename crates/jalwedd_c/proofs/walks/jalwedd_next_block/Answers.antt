@@ -1,6 +1,6 @@
 -- What is told is what was given.
 use Rattle.std.proofs.Common.{Ok, ap, subst, ◌∙◌}
-use Rattle.jalwedd_c.specs.Readings.{ShowsBlock}
+use Rattle.jalwedd_host.specs.Readings.{ShowsBlock}
 use Rattle.jalwedd_c.proofs.Walking.{refused, told, untold}
 use Rattle.jalwedd_c.proofs.walks.jalwedd_next_block.Goals as goal
 

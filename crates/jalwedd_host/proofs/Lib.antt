@@ -1,0 +1,12 @@
+pub mod LawLemmas
+pub mod Host
+pub mod Values
+mod Options
+mod Listing
+mod Never
+mod Ranges
+mod Turns
+mod Held
+mod HeadPlaces
+mod AppSteps
+mod WholeWalks

@@ -1,0 +1,24 @@
+-- Each call goes on where the one before stopped.
+use Rattle.rtcp_wire.specs.Contents.{packet_blocks, packet_goodbyes, packet_items, packet_senders}
+use Rattle.rtcp_parts.specs.Apps.{packet_apps}
+use Rattle.rtcp_parts.specs.Cursors.{LeavesBlocks, LeavesGoodbyes, LeavesItems, LeavesNone}
+use Rattle.jalwedd_host.specs.Apps.{ShowsApp}
+use Rattle.jalwedd_host.specs.Parts.{ShowsGoodbye, ShowsItem, ShowsSender}
+use Rattle.jalwedd_host.specs.Readings.{ShowsBlock}
+use Rattle.jalwedd_host.proofs.WholeWalks.{tells_all}
+use Rattle.jalwedd_host.proofs.laws.walks_tell_of_each_part.Goals as goal
+
+pub returns-clause-senders : goal.returns-clause-senders
+returns-clause-senders c = tells_all packet_senders LeavesNone (λ datagram. ShowsSender)
+
+pub returns-clause-blocks : goal.returns-clause-blocks
+returns-clause-blocks c = tells_all packet_blocks LeavesBlocks (λ datagram. ShowsBlock)
+
+pub returns-clause-items : goal.returns-clause-items
+returns-clause-items c = tells_all packet_items LeavesItems ShowsItem
+
+pub returns-clause-goodbyes : goal.returns-clause-goodbyes
+returns-clause-goodbyes c = tells_all packet_goodbyes LeavesGoodbyes ShowsGoodbye
+
+pub returns-clause-apps : goal.returns-clause-apps
+returns-clause-apps c = tells_all packet_apps LeavesNone ShowsApp

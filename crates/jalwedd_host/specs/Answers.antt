@@ -1,0 +1,98 @@
+-- How answers are told to a host in C: a status, a step, and the octets of a compound.
+use Rattle.std.specs.Prelude.{ℕ, ◌≡◌, ◌↔◌, ◌^◌, ◌+◌, ◌-◌, ◌++◌, List, [], length, drop, Bool, true, false, Option, Some, None, Ok, Err, is_some}
+use Rattle.rtcp_engine.specs.declared.refusal.Refusal.{Refusal}
+use Rattle.rtcp_engine.specs.declared.refusal.Refusal.TheVariants.{Left, Backwards, TooFar, TooMany, Wire, Rtp, OwnSsrc}
+use Rattle.rtcp_engine.specs.declared.step.OutKind.{OutKind}
+use Rattle.rtcp_engine.specs.declared.step.OutKind.TheVariants.{Report, Bye}
+use Rattle.rtcp_engine.specs.Histories.{History, life_at, setup_at}
+use Rattle.rtcp_engine.specs.Leaving.{Life}
+use Rattle.rtcp_engine.specs.Lives.{entries_in_life, members_in_life, senders_in_life, next_in_life}
+use Rattle.rtcp_engine.specs.Steps.{OutValue, AnswerValue}
+use Rattle.jalwedd_host.specs.declared.showing.Handed.{Handed}
+use Rattle.jalwedd_host.specs.declared.step.Step.{Step}
+
+-- ---- Statuses
+
+-- E1 to E7
+abbrev pub status_of_refusal : Refusal → ℕ
+status_of_refusal Left = 1
+status_of_refusal Backwards = 2
+status_of_refusal TooFar = 3
+status_of_refusal TooMany = 4
+status_of_refusal (Wire fault) = 5
+status_of_refusal (Rtp fault) = 6
+status_of_refusal OwnSsrc = 7
+
+abbrev pub status_of : AnswerValue → ℕ
+status_of (Ok step) = 0
+status_of (Err refusal) = status_of_refusal refusal
+
+-- Why a call before the start is refused: the participant has left (E1), or it comes before moment 0 (E2).
+abbrev pub early_refusal : Life → Refusal
+early_refusal life = elim (next_in_life life) [ None ↦ Left | Some next ↦ Backwards ]
+
+-- ---- Compounds
+
+abbrev pub kind_of : OutKind → ℕ
+kind_of Report = 1
+kind_of Bye = 2
+
+abbrev pub kind_shown : Option OutValue → ℕ
+kind_shown None = 0
+kind_shown (Some out) = kind_of out.kind
+
+abbrev pub octets_of : Option OutValue → List ℕ
+octets_of None = []
+octets_of (Some out) = out.octets
+
+abbrev pub one_if : Bool → ℕ
+one_if true = 1
+one_if false = 0
+
+-- What an answer hands out: its kind, its size, whether it changes the identifier and whether the role of
+-- another source, and its octets, which stand at the start of the host's; the others of these are as they were.
+abbrev pub IsHandedOut : (kind size changed others_changed : ℕ) → (before after : List ℕ) → AnswerValue → Type 0
+IsHandedOut kind size changed others_changed before after (Ok answer) =
+    (kind ≡ kind_shown answer.out)
+    × (size ≡ length (octets_of answer.out))
+    × (changed ≡ one_if (is_some answer.changed))
+    × (others_changed ≡ one_if answer.others_changed)
+    × (after ≡ octets_of answer.out ++ drop (length (octets_of answer.out)) before)
+IsHandedOut kind size changed others_changed before after (Err refusal) =
+    (kind ≡ 0) × (size ≡ 0) × (changed ≡ 0) × (others_changed ≡ 0) × (after ≡ before)
+
+abbrev pub IsHanded : Handed → (before after : List ℕ) → AnswerValue → Type 0
+IsHanded handed before after answer =
+    IsHandedOut handed.kind handed.size handed.changed handed.others_changed before after answer
+
+-- A step says it.
+abbrev pub HandsOut : Step → (before after : List ℕ) → AnswerValue → Type 0
+HandsOut step before after answer =
+    IsHandedOut step.kind step.size step.changed step.others_changed before after answer
+
+-- A step says that nothing is handed out, and that nothing changed.
+abbrev pub HandsNothing : Step → Type 0
+HandsNothing step = (step.kind ≡ 0) × (step.size ≡ 0) × (step.changed ≡ 0) × (step.others_changed ≡ 0)
+
+-- ---- The participant
+
+-- A moment on the host's clock, which shows `start` at moment 0. 2^64 - 1 stands for no moment.
+abbrev pub moment_shown : (start : ℕ) → Option ℕ → ℕ
+moment_shown start None = 2 ^ 64 - 1
+moment_shown start (Some moment) = start + moment
+
+-- A step says who is there after a history, and when to ask again: 2^64 - 1 exactly where the participant has left, and
+-- there is no moment to ask.
+abbrev pub Shows : (start : ℕ) → Step → History → Type 0
+Shows start step history =
+    (step.members ≡ members_in_life (setup_at history) (life_at history))
+    × (step.senders ≡ senders_in_life (setup_at history) (life_at history))
+    × (step.next ≡ moment_shown start (next_in_life (life_at history)))
+    × ((step.next ≡ 2 ^ 64 - 1) ↔ (next_in_life (life_at history) ≡ None))
+    × (step.ssrc ≡ (setup_at history).ssrc)
+    × (step.entries ≡ entries_in_life (setup_at history) (life_at history))
+
+-- A step of no participant.
+abbrev pub IsBlank : Step → Type 0
+IsBlank step = (step.next ≡ 2 ^ 64 - 1) × (step.members ≡ 0) × (step.senders ≡ 0) × (step.ssrc ≡ 0) × (step.changed ≡ 0)
+    × (step.kind ≡ 0) × (step.size ≡ 0) × (step.entries ≡ 0) × (step.others_changed ≡ 0)

@@ -1,0 +1,23 @@
+-- How the head of an RTP datagram is told to a host in C.
+use Rattle.std.specs.Prelude.{◌≡◌, ℕ, ◌+◌, List, length}
+use Rattle.rtcp_wire.specs.Placed.{StandsIn}
+use Rattle.rtcp_wire.specs.RtpHeads.{RtpValue, IsRtpHead}
+use Rattle.jalwedd_host.specs.Answers.{one_if}
+use Rattle.jalwedd_host.specs.declared.head.HeadPlace.{HeadPlace}
+
+-- What the fields of a head say, and where its CSRCs and its payload stand: the CSRCs, a word each, after the fixed
+-- part, and the payload after the extension and before the padding (RFC 3550, 5.1).
+pub record ShowsHead
+    (octets : List ℕ) (head : RtpValue) (spelled : IsRtpHead octets head) (shown : HeadPlace) : Type 0 where
+  pub payload_type : shown.payload_type ≡ head.payload_type
+  pub marker : shown.marker ≡ one_if head.marker
+  pub sequence : shown.sequence ≡ head.sequence
+  pub timestamp : shown.timestamp ≡ head.timestamp
+  pub ssrc : shown.ssrc ≡ head.ssrc
+  pub csrcs : shown.csrcs ≡ length head.csrcs
+  pub csrcs_offset : shown.csrcs_offset ≡ length spelled.fixed
+  pub csrcs_stand : StandsIn shown.csrcs_offset spelled.sources octets
+  pub payload_offset :
+      shown.payload_offset ≡ length spelled.fixed + length spelled.sources + length spelled.extension
+  pub payload_size : shown.payload_size ≡ length head.payload
+  pub payload_stands : StandsIn shown.payload_offset head.payload octets

@@ -1,0 +1,67 @@
+//! How a host is told of the head of an RTP datagram.
+
+ghost use Rattle.std.specs.Prelude.{◌≡◌, ◌≤◌, if◌then◌else◌, length};
+ghost use Rattle.rtcp_wire.specs.RtpHeads.{IsRtpHead, has_padding, last_of};
+ghost use Rattle.jalwedd_host.specs.Heads.{ShowsHead};
+
+use rtcp_wire::RtpHead;
+
+/// The octets of a head before its CSRCs (RFC 3550, 5.1).
+const FIXED_SIZE: u64 = 12;
+
+/// The head of an RTP datagram (RFC 3550, 5.1), and where its CSRCs and its payload stand.
+#[repr(C)]
+#[derive(Clone, Copy, Debug, PartialEq, Eq)]
+pub struct HeadPlace {
+    /// The octets of the datagram before its CSRCs.
+    pub csrcs_offset: u64,
+    /// The octets of the datagram before its payload.
+    pub payload_offset: u64,
+    /// The octets of its payload, without the padding after it.
+    pub payload_size: u64,
+    /// The SSRC of the source that sent it.
+    pub ssrc: u32,
+    /// Its timestamp, in units of the payload type's clock.
+    pub timestamp: u32,
+    /// Its sequence number: below 2^16.
+    pub sequence: u32,
+    /// Its payload type: below 128, and none of 72 to 76.
+    pub payload_type: u32,
+    /// 1 where its marker is set; else 0.
+    pub marker: u32,
+    /// How many CSRCs it has, of four octets each: 0 to 15.
+    pub csrcs: u32,
+}
+
+/// What a head says, and where its CSRCs and its payload stand in its datagram.
+pub fn head_place(datagram: &[u8], head: &RtpHead<'_>) -> HeadPlace
+    requires { IsRtpHead datagram.now head.now }
+    ensures { (spelled : IsRtpHead datagram.now head.now) → ShowsHead datagram.now head.now spelled result }
+{
+    let payload_size = head.payload().len();
+    let after_payload = datagram.len() - padding_size(datagram);
+    let before_payload = after_payload - payload_size;
+    HeadPlace {
+        csrcs_offset: FIXED_SIZE,
+        payload_offset: before_payload as u64,
+        payload_size: payload_size as u64,
+        ssrc: head.ssrc(),
+        timestamp: head.timestamp(),
+        sequence: u32::from(head.sequence()),
+        payload_type: u32::from(head.payload_type()),
+        marker: u32::from(head.marker()),
+        csrcs: head.csrcs().count() as u32,
+    }
+}
+
+/// The octets of the padding after the payload (RFC 3550, 5.1): the last of them counts all.
+fn padding_size(datagram: &[u8]) -> usize
+    requires { 12 ≤ length datagram.now }
+    ensures { result ≡ (if has_padding datagram.now then last_of datagram.now else 0) }
+{
+    if datagram[0] >> 5 & 1 == 1 {
+        usize::from(datagram[datagram.len() - 1])
+    } else {
+        0
+    }
+}

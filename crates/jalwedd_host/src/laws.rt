@@ -1,0 +1,88 @@
+//! Laws of what a host is told. Each is a function that does nothing, whose postcondition is the law.
+
+ghost use Rattle.std.specs.Prelude.{◌≡◌, ◌+◌, ◌%◌, ◌^◌, ◌<◌, ◌≤◌, ◌≤ℤ◌, ℕ, pos, negsuc, List, Option, Some, slice_get};
+ghost use Rattle.rtcp_wire.specs.Contents.{all_blocks, all_goodbyes, all_items};
+ghost use Rattle.rtcp_wire.specs.Contents.{packet_blocks, packet_goodbyes, packet_items, packet_senders};
+ghost use Rattle.rtcp_wire.specs.Grammar.{AreOctets, IsAccepted};
+ghost use Rattle.rtcp_wire.specs.RtpHeads.{RtpValue, IsReserved, IsRtpHead};
+ghost use Rattle.rtcp_wire.specs.Values.{ItemValue, ReportBlock, RtcpPacket};
+ghost use Rattle.rtcp_members.specs.Told.{StateValue};
+ghost use Rattle.rtcp_engine.specs.Differences.{listed_of};
+ghost use Rattle.rtcp_engine.specs.Histories.{History, life_at, setup_at};
+ghost use Rattle.rtcp_engine.specs.Lives.{TellsInLife};
+ghost use Rattle.rtcp_engine.specs.Taken.{IsHistory};
+ghost use Rattle.rtcp_engine.specs.declared.differences.change.Change.{Change};
+ghost use Rattle.jalwedd_host.specs.declared.source.Source.{Source};
+ghost use Rattle.jalwedd_host.specs.Changes.{listed_by, change_from, changes_between};
+ghost use Rattle.jalwedd_host.specs.Sources.{IsShown};
+ghost use Rattle.jalwedd_host.specs.declared.app.AppPlace.{AppPlace};
+ghost use Rattle.jalwedd_host.specs.declared.head.HeadPlace.{HeadPlace};
+ghost use Rattle.jalwedd_host.specs.declared.parts.GoodbyePlace.{GoodbyePlace};
+ghost use Rattle.jalwedd_host.specs.declared.parts.ItemPlace.{ItemPlace};
+ghost use Rattle.jalwedd_host.specs.declared.reading.Report.{Report};
+ghost use Rattle.rtcp_parts.specs.Apps.{AppValue, all_apps, packet_apps};
+ghost use Rattle.rtcp_parts.specs.Cursors.{LeavesBlocks, LeavesGoodbyes, LeavesItems, LeavesNone};
+ghost use Rattle.jalwedd_host.specs.Apps.{ShowsApp};
+ghost use Rattle.jalwedd_host.specs.Heads.{ShowsHead};
+ghost use Rattle.jalwedd_host.specs.Parts.{ShowsGoodbye, ShowsItem, ShowsSender};
+ghost use Rattle.jalwedd_host.specs.Readings.{ShowsBlock};
+ghost use Rattle.jalwedd_host.specs.Walks.{TellsAll};
+
+use rtcp_engine::difference_laws::changes_tell_each_once;
+use rtcp_engine::laws::told_moments_have_passed;
+
+/// After any history, and whatever the start, what a host is given of a source says what the participant lists of it.
+pub fn told_sources_are_listed()
+    ensures { (history : History) → IsHistory history → (after : Option ℕ) (state : StateValue) →
+        TellsInLife (setup_at history) after (life_at history) (Some state) → (start : ℕ) → start < 2 ^ 63 →
+        (shown : Source) → IsShown start shown state → listed_by shown ≡ listed_of state }
+{
+    told_moments_have_passed();
+}
+
+/// Begun with 0, and gone on with the SSRC told and 1, the changes between two listings are told in order,
+/// each once.
+pub fn changes_are_told_in_turn()
+    ensures first { (before after : List Source) →
+        change_from 0 before after ≡ slice_get (changes_between before after) 0 }
+    ensures next { (before after : List Source) (index : ℕ) (change : Change) →
+        slice_get (changes_between before after) index ≡ Some change →
+        change_from (change.ssrc + 1) before after ≡ slice_get (changes_between before after) (index + 1) }
+{
+    changes_tell_each_once();
+}
+
+/// Begun with a cursor of zeros, and gone on with until no part is told, a walk over a datagram that is a compound
+/// tells of each part of its kind once, in their order.
+pub fn walks_tell_of_each_part()
+    ensures senders { TellsAll packet_senders LeavesNone (λ datagram. ShowsSender) }
+    ensures blocks { TellsAll packet_blocks LeavesBlocks (λ datagram. ShowsBlock) }
+    ensures items { TellsAll packet_items LeavesItems ShowsItem }
+    ensures goodbyes { TellsAll packet_goodbyes LeavesGoodbyes ShowsGoodbye }
+    ensures apps { TellsAll packet_apps LeavesNone ShowsApp }
+{}
+
+/// What a host is told of the parts of a datagram is in the ranges that the header states: items have a type from 1 to
+/// 255 and a text of at most 255 octets, reasons at most 255 octets, packets of applications a subtype of at most 31
+/// and whole words of data, report blocks a number of lost packets of 24 bits with a sign, and RTP heads a payload type
+/// below 128 that is not reserved, a sequence number below 65,536 and at most 15 CSRCs.
+pub fn told_parts_are_in_range()
+    ensures item { (datagram : List ℕ) (packets : List RtcpPacket) (index : ℕ) (part : ℕ × ItemValue)
+        (place : ItemPlace) → AreOctets datagram → IsAccepted datagram packets →
+        slice_get (all_items packets) index ≡ Some part → ShowsItem datagram place part →
+        (1 ≤ place.kind) × (place.kind ≤ 255) × (place.size ≤ 255) }
+    ensures goodbye { (datagram : List ℕ) (packets : List RtcpPacket) (index : ℕ) (part : ℕ × Option (List ℕ))
+        (place : GoodbyePlace) → AreOctets datagram → IsAccepted datagram packets →
+        slice_get (all_goodbyes packets) index ≡ Some part → ShowsGoodbye datagram place part → place.size ≤ 255 }
+    ensures app { (datagram : List ℕ) (packets : List RtcpPacket) (index : ℕ) (part : AppValue) (place : AppPlace) →
+        AreOctets datagram → IsAccepted datagram packets → slice_get (all_apps packets) index ≡ Some part →
+        ShowsApp datagram place part → (place.subtype ≤ 31) × (place.size % 4 ≡ 0) }
+    ensures block { (datagram : List ℕ) (packets : List RtcpPacket) (index : ℕ) (part : ℕ × ReportBlock)
+        (report : Report) → AreOctets datagram → IsAccepted datagram packets →
+        slice_get (all_blocks packets) index ≡ Some part → ShowsBlock report part →
+        (negsuc 8388607 ≤ℤ report.lost) × (report.lost ≤ℤ pos 8388607) }
+    ensures head { (datagram : List ℕ) (head : RtpValue) (spelled : IsRtpHead datagram head) (place : HeadPlace) →
+        AreOctets datagram → ShowsHead datagram head spelled place →
+        (place.payload_type < 128) × (IsReserved place.payload_type → ⊥) × (place.sequence < 65536)
+        × (place.csrcs ≤ 15) }
+{}

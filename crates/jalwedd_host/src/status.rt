@@ -1,0 +1,81 @@
+//! Statuses: what a call answers.
+
+ghost use Rattle.std.specs.Prelude.{◌≡◌};
+ghost use Rattle.jalwedd_host.specs.Answers.{status_of_refusal};
+ghost use Rattle.jalwedd_host.specs.Configs.{status_of_error};
+
+use rtcp_engine::{ConfigError, Refusal};
+
+/// The call was taken.
+pub const TAKEN: u32 = 0;
+
+/// The datagram is not a compound.
+pub const NO_COMPOUND: u32 = 5;
+
+/// The datagram has no RTP head.
+pub const NO_RTP: u32 = 6;
+
+/// There is no such block.
+pub const NO_BLOCK: u32 = 8;
+
+/// The datagram has no such part.
+pub const NO_PART: u32 = 8;
+
+/// There is no such source.
+pub const NO_SOURCE: u32 = 9;
+
+/// No other source changed.
+pub const NO_CHANGE: u32 = 9;
+
+/// The SSRCs of a listing do not rise.
+pub const NOT_RISING: u32 = 10;
+
+/// The CNAME is refused (C1).
+pub const CNAME: u32 = 11;
+
+/// An item is refused (C6), or there are too many.
+pub const ITEM: u32 = 16;
+
+/// The start is refused (C7).
+pub const START: u32 = 17;
+
+/// The handle holds no participant.
+pub const EMPTY: u32 = 20;
+
+/// The handle holds a participant already.
+pub const LIVE: u32 = 21;
+
+/// There is no memory for a participant.
+pub const NO_MEMORY: u32 = 22;
+
+/// The datagram has more octets than UDP carries.
+pub const TOO_LONG: u32 = 23;
+
+/// The status of a call that the participant refused.
+pub(crate) fn of_refusal(refusal: &Refusal) -> u32
+    ensures { result ≡ status_of_refusal refusal.now }
+{
+    match refusal {
+        Refusal::Left => 1,
+        Refusal::Backwards => 2,
+        Refusal::TooFar => 3,
+        Refusal::TooMany => 4,
+        Refusal::Wire(_) => NO_COMPOUND,
+        Refusal::Rtp(_) => NO_RTP,
+        Refusal::OwnSsrc => 7,
+    }
+}
+
+/// The status of a configuration that is refused.
+pub fn of_error(error: ConfigError) -> u32
+    ensures { result ≡ status_of_error error }
+{
+    match error {
+        ConfigError::Cname => CNAME,
+        ConfigError::Capacity => 12,
+        ConfigError::Limit => 13,
+        ConfigError::Bandwidth => 14,
+        ConfigError::Rate => 15,
+        ConfigError::Item => ITEM,
+    }
+}

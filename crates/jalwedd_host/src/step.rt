@@ -1,0 +1,64 @@
+//! What a call tells of the participant.
+
+ghost use Rattle.std.specs.Prelude.{◌≡◌, ◌↔◌, ◌<◌, ◌+◌, ◌-◌, ◌^◌, None, IfSome};
+ghost use Rattle.jalwedd_host.specs.Answers.{IsBlank, moment_shown};
+
+/// What `next` is where there is no moment to tick at.
+pub const NEVER: u64 = u64::MAX;
+
+/// What a call tells of the participant, whether or not it was taken.
+#[repr(C)]
+#[derive(Clone, Copy, Debug, PartialEq, Eq)]
+pub struct Step {
+    /// When to call `jalwedd_tick` next, in microseconds of the host's clock: 2^64 - 1 once the participant has left.
+    /// It may lie before the moment of the call: then a report or the BYE is overdue.
+    pub next: u64,
+    /// The members of the session, the participant included (RFC 3550, 6.2.1); in the backoff after a leave, the
+    /// participant and one for each BYE packet that came since (6.3.7); 0 once it has left.
+    pub members: u32,
+    /// Those of them that send RTP packets.
+    pub senders: u32,
+    /// The participant's SSRC.
+    pub ssrc: u32,
+    /// 1 if the call changed that (8.2), else 0.
+    pub changed: u32,
+    /// What the call hands out to be sent: 0 nothing, 1 a report, 2 a BYE.
+    pub kind: u32,
+    /// The octets of it.
+    pub size: u32,
+    /// How many entries the table holds, as `jalwedd_entries` says.
+    pub entries: u32,
+    /// 1 if the call changed the role of another source (away, member or sender), if only for a moment, else 0: then
+    /// each source that `jalwedd_source` tells of has the role that it had.
+    pub others_changed: u32,
+}
+
+impl Step {
+    /// That of no participant.
+    pub fn blank() -> Step
+        ensures { IsBlank result }
+    {
+        Step {
+            next: NEVER,
+            members: 0,
+            senders: 0,
+            ssrc: 0,
+            changed: 0,
+            kind: 0,
+            size: 0,
+            entries: 0,
+            others_changed: 0,
+        }
+    }
+}
+
+/// What the host's clock shows at a moment, or 2^64 - 1 where there is none. The clock showed `start` at moment 0.
+pub(crate) fn on_clock(start: u64, moment: Option<u64>) -> u64
+    ensures shown { IfSome moment (λ m. start + m < 2 ^ 64 - 1) → result ≡ moment_shown start moment }
+    ensures never { IfSome moment (λ m. start + m < 2 ^ 64 - 1) → (result ≡ 2 ^ 64 - 1) ↔ (moment ≡ None) }
+{
+    match moment {
+        Some(moment) => start.saturating_add(moment),
+        None => NEVER,
+    }
+}
