@@ -1,15 +1,13 @@
 //! The program `rtcp`: it decodes RTCP datagrams, replays the events of a participant, and takes part in a session over
 //! UDP.
 //!
-//! Only this file touches the process: its command line and its standard streams. `udp_link` borrows its runtime for
-//! the clock and the sockets. Everything else works over any reader, writer and link: `rtcp_command` has the command
-//! line, `rtcp_text` the texts and `rtcp_serve` the sessions. This file connects the three.
+//! Only this file touches the process: its command line, its standard streams and the file of a record. `rtcp_udp`
+//! borrows its runtime for the clock and the sockets. Everything else works over any reader, writer and link:
+//! `rtcp_command` has the command line, `rtcp_text` the texts and `rtcp_serve` the sessions. This file connects them.
 #![tactic(auto)]
 
-ghost use Rattle.std.specs.Prelude.{IfOk, ◌≤◌};
+ghost use Rattle.std.specs.Prelude.{◌≡◌, ◌≤◌, IfOk};
 ghost use Rattle.rtcp_command.specs.Listening.{HasTurns};
-
-mod udp_link;
 
 use rand_core::{Rng, SeedableRng};
 use rand_pcg::Pcg32;
@@ -24,12 +22,12 @@ pub use rtcp_serve::{Cause, End, Link, LinkFault, Port, Received, serve, serve_l
 use rtcp_show::{Shown, Watcher};
 use rtcp_text::record::Recorder;
 pub use rtcp_text::{Counted, LineFault, ReplayFault, TextFault, check, replay};
+use rtcp_udp::{BindFault, UdpLink};
 use std::env;
 use std::fs::{self, File};
 use std::io::{BufWriter, Write};
 use std::net::SocketAddrV4;
 use std::process::ExitCode;
-use udp_link::UdpLink;
 
 fn main(rt: HostRuntime) -> ExitCode {
     let status = match asked(&rt) {
@@ -143,7 +141,9 @@ fn run_listen(rt: &HostRuntime, session: Session) -> Result<End, RunFault>
         None
     };
     let mut participant = Participant::with_table(session.config, table, word);
-    let link = UdpLink::bind(rt, alloc, session.rtp, session.rtcp, session.peer)?;
+    let link = UdpLink::bind(rt, alloc, session.rtp, session.rtcp, session.peer).map_err(
+        run_fault,
+    )?;
     let mut link = Recorded::new(Shown::new(link, watcher), recorder, rt.stderr());
     let mut buf = [0; 65_535];
     let end = serve(
@@ -175,4 +175,15 @@ fn begin_record(
     let line = replay_line(rt.alloc(), config, word, file).map_err(|_| RunFault::Memory)?;
     let _ = rt.stderr().write_all(&line);
     Ok(Recorder::new(rt.alloc(), writer))
+}
+
+/// The fault of a session whose link was not bound.
+fn run_fault(fault: BindFault) -> RunFault
+    ensures io { fault ≡ BindFault.Io → result ≡ RunFault.Link }
+    ensures memory { fault ≡ BindFault.Memory → result ≡ RunFault.Memory }
+{
+    match fault {
+        BindFault::Io => RunFault::Link,
+        BindFault::Memory => RunFault::Memory,
+    }
 }

@@ -1,15 +1,11 @@
 //! A link over two UDP sockets.
 
-ghost use Rattle.std.specs.Prelude.{◌≡◌, IfOk, IfSome, None};
-ghost use Rattle.rtcp_run.specs.Senders.{sender_number};
-ghost use Rattle.rtcp_serve.specs.Links.{LinkValue, IsWithin};
-
-#[cfg(test)]
-mod tests;
+ghost use Rattle.std.specs.Prelude.{◌≡◌, ◌≤◌, [], ◌∷◌, IfOk, IfSome};
+ghost use Rattle.rtcp_udp.specs.Senders.{sender_number};
+ghost use Rattle.rtcp_serve.specs.Links.{IsWithin, WereCalled, clock_read};
 
 use mio::net::UdpSocket;
 use mio::{Events, Interest, Poll, Token};
-use rtcp_command::RunFault;
 use rtcp_engine::{Answer, Event};
 use rtcp_serve::{Link, LinkFault, Port, Received};
 use std::alloc::Global;
@@ -17,6 +13,18 @@ use std::io::{self, ErrorKind};
 use std::net::{Net, SocketAddr, SocketAddrV4};
 use std::thread;
 use std::time::{Clock, Duration, Instant};
+use thiserror::Error;
+
+/// Why no link was bound.
+#[derive(Clone, Copy, Debug, PartialEq, Eq, Error)]
+pub enum BindFault {
+    /// A port could not be bound or waited for, or the clock not be read.
+    #[error("a port could not be bound or waited for, or the clock not be read")]
+    Io,
+    /// Memory was asked for and refused.
+    #[error("no memory for a link")]
+    Memory,
+}
 
 /// A link over UDP: RTP and RTCP come to a socket each, and compounds go to one peer, which may be a group. It
 /// tells no log: what a socket carried no contract knows.
@@ -49,29 +57,29 @@ impl<'r, R: Net + Clock> UdpLink<'r, R> {
     ///
     /// # Errors
     ///
-    /// - [`RunFault::Link`] where a port cannot be bound or waited for, or the clock cannot be read.
-    /// - [`RunFault::Memory`] where memory is refused.
+    /// - [`BindFault::Io`] where a port cannot be bound or waited for, or the clock cannot be read.
+    /// - [`BindFault::Memory`] where memory is refused.
     pub fn bind(
         runtime: &'r R,
         alloc: Global,
         rtp: SocketAddrV4,
         rtcp: SocketAddrV4,
         peer: SocketAddrV4,
-    ) -> Result<UdpLink<'r, R>, RunFault>
+    ) -> Result<UdpLink<'r, R>, BindFault>
         ensures receives { IfOk result (λ link. link.failed_receives ≡ 0) }
         ensures sends { IfOk result (λ link. link.failed_sends ≡ 0) }
     {
         let Ok(events) = Events::with_capacity(alloc, 2) else {
-            return Err(RunFault::Memory);
+            return Err(BindFault::Memory);
         };
         let Ok(poll) = Poll::new(runtime) else {
-            return Err(RunFault::Link);
+            return Err(BindFault::Io);
         };
         let (Ok(rtp), Ok(rtcp)) = (open(runtime, &poll, rtp), open(runtime, &poll, rtcp)) else {
-            return Err(RunFault::Link);
+            return Err(BindFault::Io);
         };
         let Ok(began) = Instant::now(runtime) else {
-            return Err(RunFault::Link);
+            return Err(BindFault::Io);
         };
         Ok(UdpLink {
             runtime,
@@ -90,16 +98,20 @@ impl<'r, R: Net + Clock> UdpLink<'r, R> {
 }
 
 impl<'r, R: Net + Clock> Link for UdpLink<'r, R> {
-    ghost value = { λ link. record {
-      log = None;
-      told = None;
-      failed_receives = link.failed_receives;
-      failed_sends = link.failed_sends;
-    } };
+    ghost use Rattle.rtcp_udp.specs.UdpLinks.{value_of};
 
-    fn now(&mut self) -> u64 {
+    ghost value = { value_of };
+
+    /// The moment by the clock, or the last one where the clock cannot be read: never one less than the last.
+    fn now(&mut self) -> u64
+        ensures called { WereCalled (clock_read result ∷ []) (value_of self.old) (value_of self.new) }
+        ensures told { (value_of self.new).told ≡ (value_of self.old).told }
+        ensures forward { self.old.last ≤ result }
+        ensures kept { self.new.last ≡ result }
+    {
         if let Ok(elapsed) = self.began.elapsed(self.runtime) {
-            self.last = u64::try_from(elapsed.as_micros()).unwrap_or(u64::MAX);
+            let now = u64::try_from(elapsed.as_micros()).unwrap_or(u64::MAX);
+            self.last = self.last.max(now);
         }
         self.last
     }

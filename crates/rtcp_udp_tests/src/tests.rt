@@ -1,12 +1,12 @@
 //! Links over the loopback interface.
 
-use super::UdpLink;
 use arrayvec::ArrayVec;
 use rand_core::{Rng, SeedableRng};
 use rand_pcg::Pcg32;
 use rtcp_engine::{Config, Participant};
 use rtcp_members::SortedTable;
 use rtcp_serve::{Cause, Link, Port, Received, serve};
+use rtcp_udp::UdpLink;
 use std::net::{Ipv4Addr, SocketAddrV4};
 use std::process::Abort;
 
