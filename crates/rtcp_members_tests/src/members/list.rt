@@ -15,58 +15,18 @@ fn example(rt: HostRuntime) {
     assert_eq!(rt; (dropped.entries, table.members()), (1, 0));
 }
 
+/// Rooms, senders, turns, and what is told of each source.
 #[test]
-fn room_for_two(rt: HostRuntime) {
-    rooms::room_for_two::<ListTable>(&rt);
+fn sessions(rt: HostRuntime) {
+    session::play::<ListTable>(&rt, &rooms::ROOMS);
+    session::play::<ListTable>(&rt, &senders::SENDERS);
+    session::play::<ListTable>(&rt, &turns::TURNS);
+    session::play::<ListTable>(&rt, &told::TOLD);
+    told::each_in_turn::<ListTable>(&rt);
 }
 
-#[test]
-fn silence(rt: HostRuntime) {
-    rooms::silence::<ListTable>(&rt);
-}
-
+/// A table of 1,024 sources.
 #[test]
 fn full(rt: HostRuntime) {
     rooms::full::<ListTable>(&rt);
-}
-
-#[test]
-fn one_sender(rt: HostRuntime) {
-    senders::one_sender::<ListTable>(&rt);
-}
-
-#[test]
-fn senders_leave(rt: HostRuntime) {
-    senders::senders_leave::<ListTable>(&rt);
-}
-
-#[test]
-fn dropped_begins_anew(rt: HostRuntime) {
-    senders::dropped_begins_anew::<ListTable>(&rt);
-}
-
-#[test]
-fn in_turn(rt: HostRuntime) {
-    turns::in_turn::<ListTable>(&rt);
-}
-
-#[test]
-fn not_after_goodbye(rt: HostRuntime) {
-    turns::not_after_goodbye::<ListTable>(&rt);
-}
-
-#[test]
-fn fractions(rt: HostRuntime) {
-    turns::fractions::<ListTable>(&rt);
-}
-
-#[test]
-fn held(rt: HostRuntime) {
-    rooms::held::<ListTable>(&rt);
-}
-
-#[test]
-fn told_in_turn(rt: HostRuntime) {
-    told::each_in_turn::<ListTable>(&rt);
-    told::blocks_are_told::<ListTable>(&rt);
 }

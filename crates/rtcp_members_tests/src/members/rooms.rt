@@ -1,39 +1,74 @@
 //! Who is admitted, held and dropped, over any table.
 
+use super::session::{Call, Script, Seen};
 use super::*;
 use std::process::Abort;
 use std::test::*;
 
-/// A full table of two, in which the first leaves.
-pub(crate) fn room_for_two<T: InlineTable + Drop>(rt: &impl Abort) {
-    let mut session: Session<T> = Session::new(2);
-    let seen = [
-        (session.place(Fact::Heard(1), 0), session.members()),
-        (session.place(Fact::Named(1), 0), session.members()),
-        (session.place(Fact::Heard(2), 0), session.members()),
-        (session.place(Fact::Heard(3), 0), session.members()),
-        (session.place(Fact::Gone(9), 0), session.members()),
-        (session.place(Fact::Gone(1), 1_000_000), session.members()),
-        (session.place(Fact::Heard(1), 1_000_001), session.members()),
-    ];
-    assert_eq!(rt;
-        seen,
-        [
-            (Some(Place::Added), 0),
-            (Some(Place::Kept), 1),
-            (Some(Place::Added), 1),
-            (Some(Place::NoRoom), 1),
-            (Some(Place::Ignored), 1),
-            (Some(Place::Left), 0),
-            (Some(Place::Ignored), 0),
-        ]
-    );
-    let held = session.check(5_999_999, 0, 0, 1_000_000);
-    let dropped = session.check(6_000_000, 0, 0, 1_000_001);
-    assert_eq!(rt; (held.entries, dropped.entries, dropped.senders), (0, 1, 0));
-    let place = session.place(Fact::Heard(3), 6_000_000);
-    assert_eq!(rt; place, Some(Place::Added));
-}
+/// Rooms, silence, and those that left.
+pub(crate) static ROOMS: [Script; 3] = [
+    Script {
+        name: "a full table of two, in which the first leaves",
+        capacity: 2,
+        rows: &[
+            (Call::Fact(Fact::Heard(1), 0), Seen::At(Place::Added)),
+            (Call::Ask, Seen::Counts(0, 0)),
+            (Call::Fact(Fact::Named(1), 0), Seen::At(Place::Kept)),
+            (Call::Ask, Seen::Counts(1, 0)),
+            (Call::Fact(Fact::Heard(2), 0), Seen::At(Place::Added)),
+            (Call::Ask, Seen::Counts(1, 0)),
+            (Call::Fact(Fact::Heard(3), 0), Seen::At(Place::NoRoom)),
+            (Call::Ask, Seen::Counts(1, 0)),
+            (Call::Fact(Fact::Gone(9), 0), Seen::At(Place::Ignored)),
+            (Call::Ask, Seen::Counts(1, 0)),
+            (Call::Fact(Fact::Gone(1), 1_000_000), Seen::At(Place::Left)),
+            (Call::Ask, Seen::Counts(0, 0)),
+            (
+                Call::Fact(Fact::Heard(1), 1_000_001),
+                Seen::At(Place::Ignored),
+            ),
+            (Call::Ask, Seen::Counts(0, 0)),
+            (Call::Check(5_999_999, 0, 0, 1_000_000), Seen::Dropped(0, 0)),
+            (Call::Check(6_000_000, 0, 0, 1_000_001), Seen::Dropped(1, 0)),
+            (
+                Call::Fact(Fact::Heard(3), 6_000_000),
+                Seen::At(Place::Added),
+            ),
+        ],
+    },
+    // A goodbye is no sighting.
+    Script {
+        name: "a source is dropped where its last sighting lies before the horizon, and not at it",
+        capacity: 2,
+        rows: &[
+            (Call::Fact(Fact::Heard(7), 0), Seen::At(Place::Added)),
+            (Call::Check(1, 0, 0, 0), Seen::Dropped(0, 0)),
+            (Call::Check(1, 1, 0, 0), Seen::Dropped(1, 0)),
+            (Call::Fact(Fact::Heard(8), 10), Seen::At(Place::Added)),
+            (Call::Fact(Fact::Gone(8), 20), Seen::At(Place::Left)),
+            (Call::Check(30, 11, 0, 0), Seen::Dropped(1, 0)),
+        ],
+    },
+    Script {
+        name: "whoever was admitted is held until a check drops it, whether it was only heard or has left",
+        capacity: 2,
+        rows: &[
+            (Call::Holds(1), Seen::Holds(false)),
+            (Call::Fact(Fact::Heard(1), 0), Seen::Any),
+            (Call::Fact(Fact::Named(2), 0), Seen::Any),
+            (Call::Fact(Fact::Heard(3), 0), Seen::Any),
+            (Call::Fact(Fact::Gone(2), 10), Seen::Any),
+            (Call::Holds(1), Seen::Holds(true)),
+            (Call::Holds(2), Seen::Holds(true)),
+            (Call::Holds(3), Seen::Holds(false)),
+            (Call::Check(20, 0, 0, 11), Seen::Any),
+            (Call::Holds(1), Seen::Holds(true)),
+            (Call::Holds(2), Seen::Holds(false)),
+            (Call::Check(20, 1, 0, 0), Seen::Any),
+            (Call::Holds(1), Seen::Holds(false)),
+        ],
+    },
+];
 
 /// A table of 1,024, named in falling order, has no room for one source more.
 pub(crate) fn full<T: InlineTable + Drop>(rt: &impl Abort) {
@@ -55,39 +90,4 @@ pub(crate) fn full<T: InlineTable + Drop>(rt: &impl Abort) {
             (Some(Place::Left), 1_023),
         ]
     );
-}
-
-/// A source is dropped where its last sighting lies before the horizon, and not at it. A goodbye is no
-/// sighting.
-pub(crate) fn silence<T: InlineTable + Drop>(rt: &impl Abort) {
-    let mut session: Session<T> = Session::new(2);
-    let place = session.place(Fact::Heard(7), 0);
-    let at = session.check(1, 0, 0, 0).entries;
-    let before = session.check(1, 1, 0, 0).entries;
-    assert_eq!(rt; (place, at, before), (Some(Place::Added), 0, 1));
-    let heard = session.place(Fact::Heard(8), 10);
-    let gone = session.place(Fact::Gone(8), 20);
-    let before = session.check(30, 11, 0, 0).entries;
-    assert_eq!(rt;
-        (heard, gone, before),
-        (Some(Place::Added), Some(Place::Left), 1)
-    );
-}
-
-/// Whoever was admitted is held until a check drops it, whether it was only heard or has left.
-pub(crate) fn held<T: InlineTable + Drop>(rt: &impl Abort) {
-    let mut session: Session<T> = Session::new(2);
-    assert!(rt; !session.holds(1));
-    session.place(Fact::Heard(1), 0);
-    session.place(Fact::Named(2), 0);
-    session.place(Fact::Heard(3), 0);
-    session.place(Fact::Gone(2), 10);
-    assert!(rt; session.holds(1));
-    assert!(rt; session.holds(2));
-    assert!(rt; !session.holds(3));
-    session.check(20, 0, 0, 11);
-    assert!(rt; session.holds(1));
-    assert!(rt; !session.holds(2));
-    session.check(20, 1, 0, 0);
-    assert!(rt; !session.holds(1));
 }

@@ -15,58 +15,18 @@ fn example(rt: HostRuntime) {
     assert_eq!(rt; (dropped.entries, table.members()), (1, 0));
 }
 
+/// Rooms, senders, turns, and what is told of each source.
 #[test]
-fn room_for_two(rt: HostRuntime) {
-    rooms::room_for_two::<SortedTable>(&rt);
+fn sessions(rt: HostRuntime) {
+    session::play::<SortedTable>(&rt, &rooms::ROOMS);
+    session::play::<SortedTable>(&rt, &senders::SENDERS);
+    session::play::<SortedTable>(&rt, &turns::TURNS);
+    session::play::<SortedTable>(&rt, &told::TOLD);
+    told::each_in_turn::<SortedTable>(&rt);
 }
 
-#[test]
-fn silence(rt: HostRuntime) {
-    rooms::silence::<SortedTable>(&rt);
-}
-
+/// A table of 1,024 sources.
 #[test]
 fn full(rt: HostRuntime) {
     rooms::full::<SortedTable>(&rt);
-}
-
-#[test]
-fn one_sender(rt: HostRuntime) {
-    senders::one_sender::<SortedTable>(&rt);
-}
-
-#[test]
-fn senders_leave(rt: HostRuntime) {
-    senders::senders_leave::<SortedTable>(&rt);
-}
-
-#[test]
-fn dropped_begins_anew(rt: HostRuntime) {
-    senders::dropped_begins_anew::<SortedTable>(&rt);
-}
-
-#[test]
-fn in_turn(rt: HostRuntime) {
-    turns::in_turn::<SortedTable>(&rt);
-}
-
-#[test]
-fn not_after_goodbye(rt: HostRuntime) {
-    turns::not_after_goodbye::<SortedTable>(&rt);
-}
-
-#[test]
-fn fractions(rt: HostRuntime) {
-    turns::fractions::<SortedTable>(&rt);
-}
-
-#[test]
-fn held(rt: HostRuntime) {
-    rooms::held::<SortedTable>(&rt);
-}
-
-#[test]
-fn told_in_turn(rt: HostRuntime) {
-    told::each_in_turn::<SortedTable>(&rt);
-    told::blocks_are_told::<SortedTable>(&rt);
 }
