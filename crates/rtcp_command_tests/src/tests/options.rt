@@ -10,20 +10,23 @@ use std::process::Abort;
 use std::test::Fail;
 
 /// The words of a command line that has all that is required.
-const REQUIRED: [&str; 6] = ["rtcp", "replay", "--ssrc", "000000aa", "--cname", "a"];
+const REQUIRED: &[&str] = &["rtcp", "replay", "--ssrc", "000000aa", "--cname", "a"];
 
-/// The required words and these options.
-fn with_required<'a>(alloc: Global, options: &[&'a str]) -> Result<Vec<&'a str>, AllocError> {
-    let mut words = Vec::new(alloc);
-    words.extend_from_slice(&REQUIRED)?;
-    words.extend_from_slice(options)?;
-    Ok(words)
+/// These words and then others.
+fn with<'a>(
+    alloc: Global,
+    words: &[&'a str],
+    options: &[&'a str],
+) -> Result<Vec<&'a str>, AllocError> {
+    let mut all = Vec::new(alloc);
+    all.extend_from_slice(words)?;
+    all.extend_from_slice(options)?;
+    Ok(all)
 }
 
-/// What an order says, with its options after the required ones: the configuration, and the numbers.
-fn replayed(alloc: Global, options: &[&str]) -> Result<(Config, WordAndLines), Fail> {
-    let words = with_required(alloc, options)?;
-    match text_order(alloc, &words)? {
+/// What an order says: the configuration, the random word of the start, and the most lines.
+fn replayed(alloc: Global, words: &[&str]) -> Result<(Config, WordAndLines), Fail> {
+    match text_order(alloc, words)? {
         TextOrder::Replay {
             config,
             word,
@@ -49,175 +52,237 @@ fn refused_at(rt: &impl Abort, alloc: Global, words: &[&str], name: &str) -> Res
     Ok(())
 }
 
-/// The capacity, the limit, the bandwidth of the others' RTCP and the rate.
-fn ranges(config: &Config) -> [u32; 4] {
+/// The capacity, the limit, the bandwidths of the senders' RTCP and of the others', and the rate.
+fn ranges(config: &Config) -> [u32; 5] {
     [
         config.capacity,
         config.limit,
+        config.sender_bw,
         config.receiver_bw,
         config.rate,
     ]
 }
 
-#[test]
-fn defaults(rt: HostRuntime) -> Result<(), Fail> {
-    let (config, WordAndLines { word, lines }) = replayed(rt.alloc(), &[])?;
-    assert_eq!(rt; config.ssrc, 0xaa);
-    same(&rt, &config.cname, b"a", "cname");
-    assert!(rt; config.extras.is_empty());
-    assert_eq!(rt; ranges(&config), [1024, 1472, 300, 8000]);
-    assert_eq!(rt; config.ntp_base, 0);
-    assert_eq!(rt; (word, lines), (0, 65_536));
-    Ok(())
+/// What options after the required ones ask for.
+struct Asked {
+    options: &'static [&'static str],
+    /// The capacity, the limit, the bandwidths of the senders' RTCP and of the others', and the rate.
+    ranges: [u32; 5],
+    ntp_base: u64,
+    /// The random word of the start, and the most lines.
+    word_and_lines: (u32, u32),
+    /// The extra items, by their types.
+    extras: &'static [(u8, &'static [u8])],
 }
 
-#[test]
-fn numbers(rt: HostRuntime) -> Result<(), Fail> {
-    let options = [
-        "--word",
-        "fFfFfFfF",
-        "--ntp",
-        "0123456789abcDEF",
-        "--rate=90000",
-        "--session-bps",
-        "00000000000000010240",
-        "--limit",
-        "4294967295",
-        "--capacity",
-        "0",
-        "--lines",
-        "4294967295",
-    ];
-    let (config, WordAndLines { word, lines }) = replayed(rt.alloc(), &options)?;
-    assert_eq!(rt; ranges(&config), [0, u32::MAX, 48, 90_000]);
-    assert_eq!(rt; config.ntp_base, 0x0123_4567_89ab_cdef);
-    assert_eq!(rt; (word, lines), (u32::MAX, u32::MAX));
-    Ok(())
-}
+/// What is asked for by none.
+const PLAIN: Asked = Asked {
+    options: &[],
+    ranges: [1_024, 1_472, 100, 300, 8_000],
+    ntp_base: 0,
+    word_and_lines: (0, 65_536),
+    extras: &[],
+};
 
-/// RTCP's bandwidth is the twentieth part of the session's, in octets. A quarter of it is for senders, and each
-/// share is the greatest number of 32 bits where it does not fit those.
-#[test]
-fn bandwidths(rt: HostRuntime) -> Result<(), Fail> {
-    let rows = [
-        ("0", 0, 0),
-        ("2560", 4, 12),
-        ("10239", 15, 48),
-        ("10240", 16, 48),
-        ("2748779069439", 4_294_967_295, 4_294_967_295),
-        ("2748779069440", 4_294_967_295, 4_294_967_295),
-        ("18446744073709551615", 4_294_967_295, 4_294_967_295),
-    ];
-    for (text, senders, others) in rows {
-        let (config, _) = replayed(rt.alloc(), &["--session-bps", text])?;
-        assert_eq!(rt; config.sender_bw, senders, "{text}");
-        assert_eq!(rt; config.receiver_bw, others, "{text}");
-    }
-    Ok(())
-}
-
-/// Each of the two bandwidths that is given replaces the share of its name.
-#[test]
-fn given_bandwidths(rt: HostRuntime) -> Result<(), Fail> {
-    let (config, _) = replayed(rt.alloc(), &["--sender-bw", "17"])?;
-    assert!(rt; (config.sender_bw, config.receiver_bw) == (17, 300));
-    let (config, _) = replayed(rt.alloc(), &["--receiver-bw", "4294967296"])?;
-    assert!(rt; (config.sender_bw, config.receiver_bw) == (100, 4_294_967_295));
-    Ok(())
-}
-
-/// An extra item is of this type, and has this text.
-fn says(rt: &impl Abort, item: &Item, kind: u8, text: &[u8]) {
-    assert_eq!(rt; item.kind, kind);
-    same(rt, &item.text, text, "an extra item");
-}
-
-/// The extra items of the test below, by their types.
-static ITEMS: [(u8, &[u8]); 7] = [
-    (2, b"\xc3\xa9"),
-    (3, b"e"),
-    (4, b"p"),
-    (5, b"l"),
-    (6, b""),
-    (7, b"n"),
-    (8, b"\x0a\x0b"),
+static ASKED: [Asked; 13] = [
+    PLAIN,
+    Asked {
+        options: &[
+            "--word",
+            "fFfFfFfF",
+            "--ntp",
+            "0123456789abcDEF",
+            "--rate=90000",
+            "--session-bps",
+            "00000000000000010240",
+            "--limit",
+            "4294967295",
+            "--capacity",
+            "0",
+            "--lines",
+            "4294967295",
+        ],
+        ranges: [0, u32::MAX, 16, 48, 90_000],
+        ntp_base: 0x0123_4567_89ab_cdef,
+        word_and_lines: (u32::MAX, u32::MAX),
+        ..PLAIN
+    },
+    // RTCP's bandwidth is the twentieth part of the session's, in octets. A quarter of it is for senders, and each share
+    // is the greatest number of 32 bits where it does not fit those.
+    Asked {
+        options: &["--session-bps", "0"],
+        ranges: [1_024, 1_472, 0, 0, 8_000],
+        ..PLAIN
+    },
+    Asked {
+        options: &["--session-bps", "2560"],
+        ranges: [1_024, 1_472, 4, 12, 8_000],
+        ..PLAIN
+    },
+    Asked {
+        options: &["--session-bps", "10239"],
+        ranges: [1_024, 1_472, 15, 48, 8_000],
+        ..PLAIN
+    },
+    Asked {
+        options: &["--session-bps", "10240"],
+        ranges: [1_024, 1_472, 16, 48, 8_000],
+        ..PLAIN
+    },
+    Asked {
+        options: &["--session-bps", "2748779069439"],
+        ranges: [1_024, 1_472, 4_294_967_295, 4_294_967_295, 8_000],
+        ..PLAIN
+    },
+    Asked {
+        options: &["--session-bps", "2748779069440"],
+        ranges: [1_024, 1_472, 4_294_967_295, 4_294_967_295, 8_000],
+        ..PLAIN
+    },
+    Asked {
+        options: &["--session-bps", "18446744073709551615"],
+        ranges: [1_024, 1_472, 4_294_967_295, 4_294_967_295, 8_000],
+        ..PLAIN
+    },
+    // Each of the two bandwidths that is given replaces the share of its name.
+    Asked {
+        options: &["--sender-bw", "17"],
+        ranges: [1_024, 1_472, 17, 300, 8_000],
+        ..PLAIN
+    },
+    Asked {
+        options: &["--receiver-bw", "4294967296"],
+        ranges: [1_024, 1_472, 100, 4_294_967_295, 8_000],
+        ..PLAIN
+    },
+    // Extra items stand in the order of their types, not of the command line, and may be empty.
+    Asked {
+        options: &[
+            "--priv", "0a0B", "--note", "n", "--tool", "", "--loc", "l", "--phone", "p", "--email",
+            "e", "--name", "\u{e9}",
+        ],
+        extras: &[
+            (2, b"\xc3\xa9"),
+            (3, b"e"),
+            (4, b"p"),
+            (5, b"l"),
+            (6, b""),
+            (7, b"n"),
+            (8, b"\x0a\x0b"),
+        ],
+        ..PLAIN
+    },
+    Asked {
+        options: &["--priv="],
+        extras: &[(8, b"")],
+        ..PLAIN
+    },
 ];
 
-/// Extra items stand in the order of their types, not of the command line, and may be empty.
+/// What is asked for.
 #[test]
-fn items(rt: HostRuntime) -> Result<(), Fail> {
-    let options = [
-        "--priv", "0a0B", "--note", "n", "--tool", "", "--loc", "l", "--phone", "p", "--email",
-        "e", "--name", "\u{e9}",
-    ];
-    let (config, _) = replayed(rt.alloc(), &options)?;
-    assert_eq!(rt; config.extras.len(), 7);
-    for (item, (kind, text)) in config.extras.iter().zip(&ITEMS) {
-        says(&rt, item, *kind, text);
+fn understood(rt: HostRuntime) -> Result<(), Fail> {
+    for (row, asked) in ASKED.iter().enumerate() {
+        let words = with(rt.alloc(), REQUIRED, asked.options)?;
+        let (config, WordAndLines { word, lines }) = replayed(rt.alloc(), &words)?;
+        assert_eq!(rt;
+            (config.ssrc, ranges(&config)),
+            (0xaa, asked.ranges),
+            "row {row}"
+        );
+        let found = (config.ntp_base, word, lines);
+        let (wanted_word, wanted_lines) = asked.word_and_lines;
+        assert_eq!(rt;
+            found,
+            (asked.ntp_base, wanted_word, wanted_lines),
+            "row {row}"
+        );
+        same(&rt, &config.cname, b"a", "cname");
+        has_extras(&rt, &config, asked.extras);
     }
-    let (config, _) = replayed(rt.alloc(), &["--priv="])?;
-    assert_eq!(rt; config.extras.len(), 1);
     Ok(())
 }
 
+/// The configuration has these extra items.
+fn has_extras(rt: &impl Abort, config: &Config, extras: &[(u8, &[u8])]) {
+    assert_eq!(rt; config.extras.len(), extras.len());
+    for (item, (kind, text)) in config.extras.iter().zip(extras) {
+        assert_eq!(rt; item.kind, *kind);
+        same(rt, &item.text, text, "an extra item");
+    }
+}
+
+/// Texts of items of 255 octets are taken, and longer ones are not.
 #[test]
 fn longest_texts(rt: HostRuntime) -> Result<(), Fail> {
     let alloc = rt.alloc();
-    let longest = "a".repeat(alloc, 255)?;
-    let longer = "a".repeat(alloc, 256)?;
-    let digits = "0a".repeat(alloc, 255)?;
-    let more_digits = "0a".repeat(alloc, 256)?;
-    for name in ["name", "email", "phone", "loc", "tool", "note"] {
+    for (name, part) in [
+        ("name", "a"),
+        ("email", "a"),
+        ("phone", "a"),
+        ("loc", "a"),
+        ("tool", "a"),
+        ("note", "a"),
+        ("priv", "0a"),
+    ] {
         let option = format!(in alloc; "--{name}")?;
-        let (config, _) = replayed(alloc, &[&option, &longest])?;
+        let longest = part.repeat(alloc, 255)?;
+        let longer = part.repeat(alloc, 256)?;
+        let (config, _) = replayed(alloc, &with(alloc, REQUIRED, &[&option, &longest])?)?;
         assert_eq!(rt; config.extras.len(), 1, "{name}");
-        refused_at(
-            &rt,
-            alloc,
-            &with_required(alloc, &[&option, &longer])?,
-            name,
-        )?;
+        let words = with(alloc, REQUIRED, &[&option, &longer])?;
+        refused_at(&rt, alloc, &words, name)?;
     }
-    let (config, _) = replayed(alloc, &["--priv", &digits])?;
-    assert_eq!(rt; config.extras.len(), 1);
-    refused_at(
-        &rt,
-        alloc,
-        &with_required(alloc, &["--priv", &more_digits])?,
-        "priv",
-    )?;
+    let longer = "a".repeat(alloc, 256)?;
     let words = ["rtcp", "replay", "--ssrc", "000000aa", "--cname", &longer];
     refused_at(&rt, alloc, &words, "cname")
 }
 
-/// Options after the required ones, and the one that is refused.
-static REFUSED: [(&[&str], &str); 25] = [
-    (&["--capacity", "4294967296"], "capacity"),
-    (&["--capacity", ""], "capacity"),
-    (&["--capacity", "+1"], "capacity"),
-    (&["--limit", "1472 "], "limit"),
-    (&["--limit", "0x5c0"], "limit"),
-    (&["--session-bps", "18446744073709551616"], "session-bps"),
-    (&["--session-bps", "000000000000000010240"], "session-bps"),
-    (&["--sender-bw", "18446744073709551616"], "sender-bw"),
-    (&["--receiver-bw", "", "--sender-bw", "0"], "receiver-bw"),
-    (&["--rate", "4294967296"], "rate"),
-    (&["--ntp", "000000000000000"], "ntp"),
-    (&["--ntp", "00000000000000000"], "ntp"),
-    (&["--ntp", "000000000000000g"], "ntp"),
-    (&["--priv", "0"], "priv"),
-    (&["--priv", "zz"], "priv"),
-    (&["--word", "0"], "word"),
-    (&["--word", "000000000"], "word"),
-    (&["--word", "0000000-"], "word"),
-    (&["--lines", "0"], "lines"),
-    (&["--lines", "4294967296"], "lines"),
-    (&["--lines", ""], "lines"),
-    // Of several, the first in the order of the options.
-    (&["--lines", "0", "--word", "0"], "word"),
-    (&["--word", "0", "--priv", "0"], "priv"),
-    (&["--priv", "0", "--rate", ""], "rate"),
+/// Words, options after them, and the option that is refused.
+static REFUSED: [(&[&str], &[&str], &str); 43] = [
+    (REQUIRED, &["--capacity", "4294967296"], "capacity"),
+    (REQUIRED, &["--capacity", ""], "capacity"),
+    (REQUIRED, &["--capacity", "+1"], "capacity"),
+    (REQUIRED, &["--limit", "1472 "], "limit"),
+    (REQUIRED, &["--limit", "0x5c0"], "limit"),
     (
+        REQUIRED,
+        &["--session-bps", "18446744073709551616"],
+        "session-bps",
+    ),
+    (
+        REQUIRED,
+        &["--session-bps", "000000000000000010240"],
+        "session-bps",
+    ),
+    (
+        REQUIRED,
+        &["--sender-bw", "18446744073709551616"],
+        "sender-bw",
+    ),
+    (
+        REQUIRED,
+        &["--receiver-bw", "", "--sender-bw", "0"],
+        "receiver-bw",
+    ),
+    (REQUIRED, &["--rate", "4294967296"], "rate"),
+    (REQUIRED, &["--ntp", "000000000000000"], "ntp"),
+    (REQUIRED, &["--ntp", "00000000000000000"], "ntp"),
+    (REQUIRED, &["--ntp", "000000000000000g"], "ntp"),
+    (REQUIRED, &["--priv", "0"], "priv"),
+    (REQUIRED, &["--priv", "zz"], "priv"),
+    (REQUIRED, &["--word", "0"], "word"),
+    (REQUIRED, &["--word", "000000000"], "word"),
+    (REQUIRED, &["--word", "0000000-"], "word"),
+    (REQUIRED, &["--lines", "0"], "lines"),
+    (REQUIRED, &["--lines", "4294967296"], "lines"),
+    (REQUIRED, &["--lines", ""], "lines"),
+    // Of several, the first in the order of the options.
+    (REQUIRED, &["--lines", "0", "--word", "0"], "word"),
+    (REQUIRED, &["--word", "0", "--priv", "0"], "priv"),
+    (REQUIRED, &["--priv", "0", "--rate", ""], "rate"),
+    (
+        REQUIRED,
         &[
             "--rate",
             "",
@@ -230,25 +295,129 @@ static REFUSED: [(&[&str], &str); 25] = [
         ],
         "capacity",
     ),
+    (
+        &["rtcp", "replay", "--ssrc", "aa", "--cname", "a"],
+        &["--rate", ""],
+        "ssrc",
+    ),
+    (
+        &["rtcp", "replay", "--ssrc", "0000000aa", "--cname", "a"],
+        &["--rate", ""],
+        "ssrc",
+    ),
+    (
+        &["rtcp", "replay", "--ssrc", "0000000g", "--cname", "a"],
+        &["--rate", ""],
+        "ssrc",
+    ),
+    (
+        &["rtcp", "replay", "--ssrc", "", "--cname", "a"],
+        &["--rate", ""],
+        "ssrc",
+    ),
+    // of `listen`
+    (
+        listen::REQUIRED,
+        &["--seed", "18446744073709551616"],
+        "seed",
+    ),
+    (listen::REQUIRED, &["--seed", ""], "seed"),
+    (listen::REQUIRED, &["--seed", "0x1"], "seed"),
+    (listen::REQUIRED, &["--turns", "0"], "turns"),
+    (listen::REQUIRED, &["--turns", "1000001"], "turns"),
+    (listen::REQUIRED, &["--turns", "4294967297"], "turns"),
+    (
+        listen::REQUIRED,
+        &["--turns", "000000000000000000001"],
+        "turns",
+    ),
+    // Of several, the first in the order of the options.
+    (listen::REQUIRED, &["--turns", "0", "--seed", "a"], "seed"),
+    (listen::REQUIRED, &["--seed", "a", "--priv", "0"], "priv"),
+    // Endpoints of `--rtp`, `--rtcp` and `--peer`, and the first that is refused. The seed is looked at after them.
+    (
+        &["rtcp", "listen", "--seed", "a", "--peer", ""],
+        &[
+            "--rtcp",
+            "",
+            "--rtp",
+            "127.0.0.01:1",
+            "--cname",
+            "a",
+            "--ssrc",
+            "000000aa",
+        ],
+        "rtp",
+    ),
+    (
+        &["rtcp", "listen", "--seed", "a", "--peer", ""],
+        &[
+            "--rtcp",
+            "127.0.0.256:1",
+            "--rtp",
+            "127.0.0.1:1",
+            "--cname",
+            "a",
+            "--ssrc",
+            "000000aa",
+        ],
+        "rtcp",
+    ),
+    (
+        &["rtcp", "listen", "--seed", "a", "--peer", "127.0.0.1:65536"],
+        &[
+            "--rtcp",
+            "127.0.0.1:2",
+            "--rtp",
+            "127.0.0.1:1",
+            "--cname",
+            "a",
+            "--ssrc",
+            "000000aa",
+        ],
+        "peer",
+    ),
+    (
+        &["rtcp", "listen", "--seed", "a", "--peer", "127.0.0.1"],
+        &[
+            "--rtcp",
+            "127.0.0.1:2",
+            "--rtp",
+            "127.0.0.1:1",
+            "--cname",
+            "a",
+            "--ssrc",
+            "000000aa",
+        ],
+        "peer",
+    ),
+    (
+        &["rtcp", "listen", "--seed", "a", "--peer", ""],
+        &[
+            "--rtcp",
+            "127.0.0.1:2",
+            "--rtp",
+            "127.0.0.1:1",
+            "--cname",
+            "a",
+            "--ssrc",
+            "000000aa",
+        ],
+        "peer",
+    ),
 ];
 
 #[test]
 fn refused_values(rt: HostRuntime) -> Result<(), Fail> {
-    for (options, name) in &REFUSED {
-        let words = with_required(rt.alloc(), options)?;
+    for (words, options, name) in &REFUSED {
+        let words = with(rt.alloc(), words, options)?;
         refused_at(&rt, rt.alloc(), &words, name)?;
-    }
-    for ssrc in ["aa", "0000000aa", "0000000g", ""] {
-        let words = [
-            "rtcp", "replay", "--ssrc", ssrc, "--cname", "a", "--rate", "",
-        ];
-        refused_at(&rt, rt.alloc(), &words, "ssrc")?;
     }
     Ok(())
 }
 
 /// Command lines that `clap` refuses, and how its text begins.
-static REFUSED_WORDS: [(&[&str], &str); 6] = [
+static REFUSED_WORDS: [(&[&str], &str); 9] = [
     (
         &["rtcp", "replay", "--cname", "a"],
         "error: the following required arguments were not provided:\n  --ssrc <HEX>\n",
@@ -272,6 +441,18 @@ static REFUSED_WORDS: [(&[&str], &str); 6] = [
     (
         &["rtcp", "replay", "--ssrc"],
         "error: a value is required for '--ssrc <HEX>' but none was supplied",
+    ),
+    (
+        &["rtcp", "listen", "--ssrc", "000000aa", "--cname", "a"],
+        "error: the following required arguments were not provided:\n  --rtp <ADDRESS:PORT>\n  --rtcp <ADDRESS:PORT>\n  --peer <ADDRESS:PORT>\n",
+    ),
+    (
+        &["rtcp", "listen", "--word", "00000000"],
+        "error: unexpected argument '--word' found",
+    ),
+    (
+        &["rtcp", "listen", "--help"],
+        "Take part in a session over UDP.\n",
     ),
 ];
 
