@@ -99,7 +99,7 @@ its_outcome (gone outcome) = outcome
 overdue_without_falls : ((history : History) (outcome : Outcome) (moment first_word second_word : ℕ) →
     IsHistory history → life_at history ≡ present outcome →
     newest_moment (reports_in (sent_at history)) + longest_wait history (ticked moment first_word second_word)
-        ≤ moment →
+    ≤ moment →
     BringsOut history (ticked moment first_word second_word)) → ⊥
 overdue_without_falls law =
     let out : false ≡ true =
