@@ -30,7 +30,7 @@ pub(crate) struct Part {
     reports: u32,
 }
 
-/// Names and padding.
+/// A report, alone and with a name.
 pub(crate) static NAMES: Part = Part {
     samples: &[
         // a receiver report with no blocks
@@ -40,14 +40,21 @@ pub(crate) static NAMES: Part = Part {
         &[
             0x80, 0xc9, 0, 1, 0, 0, 0, 7, 0x81, 0xca, 0, 2, 0, 0, 0, 7, 1, 1, 0x61, 0, 0,
         ],
-        // padding: of the first packet, and of a goodbye
+    ],
+    refused: (8_721, 12_055),
+    reports: 206,
+};
+
+/// Padding: of the first packet, and of a goodbye.
+pub(crate) static PADDING: Part = Part {
+    samples: &[
         &[0xa0, 0xc9, 0, 2, 0, 0, 0, 7, 0, 0, 0, 4],
         &[
             0x80, 0xc9, 0, 1, 0, 0, 0, 7, 0xa1, 0xcb, 0, 2, 0, 0, 0, 7, 0, 0, 0, 4,
         ],
     ],
-    refused: (13_854, 20_003),
-    reports: 335,
+    refused: (5_133, 7_948),
+    reports: 126,
 };
 
 /// What is cut short, and a sender report.

@@ -20,11 +20,18 @@ fn rooms(rt: HostRuntime) {
     rooms::asked_for_last::<ListTable>(&rt);
 }
 
-/// Damaged names and padding, while the participant is present and in a backoff.
+/// A damaged report, alone and with a name, while the participant is present and in a backoff.
 #[test]
 fn damaged_names(rt: HostRuntime) {
     damage::present::<ListTable>(&rt, &damage::NAMES);
     damage::backing_off::<ListTable>(&rt, &damage::NAMES);
+}
+
+/// Damaged padding.
+#[test]
+fn damaged_padding(rt: HostRuntime) {
+    damage::present::<ListTable>(&rt, &damage::PADDING);
+    damage::backing_off::<ListTable>(&rt, &damage::PADDING);
 }
 
 /// Damage of what is cut short already, and of a sender report.

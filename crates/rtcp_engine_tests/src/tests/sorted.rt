@@ -27,11 +27,18 @@ fn rooms(rt: HostRuntime) {
     rooms::asked_for_last::<SortedTable>(&rt);
 }
 
-/// Damaged names and padding, while the participant is present and in a backoff.
+/// A damaged report, alone and with a name, while the participant is present and in a backoff.
 #[test]
 fn damaged_names(rt: HostRuntime) {
     damage::present::<SortedTable>(&rt, &damage::NAMES);
     damage::backing_off::<SortedTable>(&rt, &damage::NAMES);
+}
+
+/// Damaged padding.
+#[test]
+fn damaged_padding(rt: HostRuntime) {
+    damage::present::<SortedTable>(&rt, &damage::PADDING);
+    damage::backing_off::<SortedTable>(&rt, &damage::PADDING);
 }
 
 /// Damage of what is cut short already, and of a sender report.
