@@ -2,155 +2,179 @@
 
 use super::*;
 use crate::change::jalwedd_change;
-use std::process::Abort;
 
-/// A source on probation, which no more is told of.
-fn unknown(ssrc: u32) -> Source {
-    Source { ssrc, ..NOBODY }
-}
+const MEMBER: Source = Source {
+    member: 1,
+    ..NOBODY
+};
 
-fn member(ssrc: u32) -> Source {
-    Source {
-        member: 1,
-        ..unknown(ssrc)
-    }
-}
+const SENDER: Source = Source {
+    sender: 1,
+    ..MEMBER
+};
 
-fn sender(ssrc: u32) -> Source {
-    Source {
-        sender: 1,
-        ..member(ssrc)
-    }
-}
+const GONE: Source = Source { left: 7, ..NOBODY };
 
-fn gone(ssrc: u32) -> Source {
-    Source {
-        left: 7,
-        ..unknown(ssrc)
-    }
-}
+const FIRST_MEMBER: Source = Source { ssrc: 1, ..MEMBER };
+
+const FIRST_SENDER: Source = Source { ssrc: 1, ..SENDER };
+
+const SECOND_GONE: Source = Source { ssrc: 2, ..GONE };
+
+const THIRD_MEMBER: Source = Source { ssrc: 3, ..MEMBER };
+
+/// Sources on probation, of which no more is told.
+const SECOND_UNKNOWN: Source = Source { ssrc: 2, ..NOBODY };
+
+const FIFTH_UNKNOWN: Source = Source { ssrc: 5, ..NOBODY };
+
+const SIXTH_UNKNOWN: Source = Source { ssrc: 6, ..NOBODY };
 
 /// The greatest SSRC.
 const LAST: u32 = u32::MAX;
 
-/// What no call wrote.
-const UNTOLD: RoleChange = RoleChange {
-    ssrc: 99,
-    was: 99,
-    is: 99,
-    left: 99,
+/// Any number but 0 is as 1.
+const LISTED: Source = Source {
+    ssrc: 1,
+    member: 7,
+    sender: u32::MAX,
+    ..NOBODY
 };
 
+/// No moment but 2^64 - 1 says that a source did not leave.
+const NOT_VALID: Source = Source {
+    ssrc: 1,
+    sender: 1,
+    left: 0,
+    ..NOBODY
+};
+
+/// 1 timed out, 2 left, 3 began to send, 4 stopped, 5 came on probation, 6 is valid now, and 7 stays. The
+/// greatest SSRC joined.
+const BEFORE: &[Source] = &[
+    FIRST_MEMBER,
+    Source { ssrc: 2, ..SENDER },
+    THIRD_MEMBER,
+    Source { ssrc: 4, ..SENDER },
+    SIXTH_UNKNOWN,
+    Source { ssrc: 7, ..MEMBER },
+];
+
+const AFTER: &[Source] = &[
+    SECOND_GONE,
+    Source { ssrc: 3, ..SENDER },
+    Source { ssrc: 4, ..MEMBER },
+    FIFTH_UNKNOWN,
+    Source { ssrc: 6, ..MEMBER },
+    Source { ssrc: 7, ..MEMBER },
+    Source {
+        ssrc: LAST,
+        ..SENDER
+    },
+];
+
+const BOTH: &[Source] = &[FIRST_MEMBER, Source { ssrc: 9, ..SENDER }];
+
 /// A change by its SSRC, the roles before and after, and whether the source left.
-fn moved(ssrc: u32, was: u32, is: u32, left: u32) -> RoleChange {
-    RoleChange {
+type Moved = (u32, u32, u32, u32);
+
+/// Two listings, and the changes between them.
+type Listings = (&'static [Source], &'static [Source], &'static [Moved]);
+
+static LISTINGS: [Listings; 11] = [
+    (
+        BEFORE,
+        AFTER,
+        &[
+            (1, 1, 0, 0),
+            (2, 2, 0, 1),
+            (3, 1, 2, 0),
+            (4, 2, 1, 0),
+            (6, 0, 1, 0),
+            (LAST, 0, 2, 0),
+        ],
+    ),
+    (&[], &[], &[]),
+    (&[FIRST_MEMBER], &[FIRST_MEMBER], &[]),
+    // One that left and is then dropped, and one that left on probation, took no part.
+    (
+        &[SECOND_GONE, FIFTH_UNKNOWN],
+        &[Source { ssrc: 5, ..GONE }],
+        &[],
+    ),
+    (&[], &[Source { ssrc: 1, ..GONE }, SECOND_UNKNOWN], &[]),
+    // Nobody was listed before, or nobody is now.
+    (&[], BOTH, &[(1, 0, 1, 0), (9, 0, 2, 0)]),
+    (BOTH, &[], &[(1, 1, 0, 0), (9, 2, 0, 0)]),
+    (&[], &[SEVEN], &[(7, 0, 1, 0)]),
+    // A host may have written any number.
+    (&[], &[LISTED], &[(1, 0, 2, 0)]),
+    (&[FIRST_SENDER], &[LISTED], &[]),
+    (&[LISTED], &[NOT_VALID], &[(1, 2, 0, 1)]),
+];
+
+/// Two listings, where to begin, the status, and the change as it is then.
+type Ask = (&'static [Source], &'static [Source], u64, u32, Moved);
+
+const RISING: &[Source] = &[FIRST_MEMBER, THIRD_MEMBER];
+
+const TWICE: &[Source] = &[FIRST_MEMBER, FIRST_SENDER];
+
+const FALLING: &[Source] = &[MEMBER, THIRD_MEMBER, Source { ssrc: 2, ..MEMBER }];
+
+static ASKS: [Ask; 8] = [
+    (BEFORE, AFTER, 2, 0, (2, 2, 0, 1)),
+    (BEFORE, AFTER, 5, 0, (6, 0, 1, 0)),
+    (BEFORE, AFTER, 1 << 32, 9, UNTOLD),
+    (BEFORE, AFTER, u64::MAX, 9, UNTOLD),
+    // A listing with an SSRC twice, or with a lower one after a higher one, is refused as a whole.
+    (TWICE, RISING, 0, 10, UNTOLD),
+    (RISING, TWICE, 0, 10, UNTOLD),
+    (FALLING, RISING, 0, 10, UNTOLD),
+    (RISING, FALLING, u64::MAX, 10, UNTOLD),
+];
+
+/// What no call wrote.
+const UNTOLD: Moved = (99, 99, 99, 99);
+
+/// What a call tells: its status, and the change as it then is.
+fn told(before: &[Source], after: &[Source], from: u64) -> (u32, Moved) {
+    let (ssrc, was, is, left) = UNTOLD;
+    let mut change = RoleChange {
         ssrc,
         was,
         is,
         left,
-    }
-}
-
-/// What a call tells: its status, and the change as it then is.
-fn told(before: &[Source], after: &[Source], from: u64) -> (u32, RoleChange) {
-    let mut change = UNTOLD;
+    };
     let status = jalwedd_change(before, after, from, &mut change);
-    (status, change)
+    (status, (change.ssrc, change.was, change.is, change.left))
 }
 
 /// Begun with 0, the changes are those, one after the other, and no more.
-fn are(rt: &impl Abort, before: &[Source], after: &[Source], wanted: &[RoleChange]) {
+fn are(before: &[Source], after: &[Source], changes: &[Moved]) -> bool {
     let mut from = 0;
-    for change in wanted {
-        assert!(rt; told(before, after, from) == (0, *change));
-        from = u64::from(change.ssrc) + 1;
+    for change in changes {
+        if told(before, after, from) != (0, *change) {
+            return false;
+        }
+        from = u64::from(change.0) + 1;
     }
-    assert!(rt; told(before, after, from) == (9, UNTOLD));
+    told(before, after, from) == (9, UNTOLD)
 }
 
-/// 1 timed out, 2 left, 3 began to send, 4 stopped, 5 came on probation, 6 is valid now, and 7 stays. The
-/// greatest SSRC joined.
+/// The changes between two listings are told in turn.
 #[test]
-fn each_kind_of_change(rt: HostRuntime) {
-    let before = [
-        member(1),
-        sender(2),
-        member(3),
-        sender(4),
-        unknown(6),
-        member(7),
-    ];
-    let after = [
-        gone(2),
-        sender(3),
-        member(4),
-        unknown(5),
-        member(6),
-        member(7),
-        sender(LAST),
-    ];
-    let wanted = [
-        moved(1, 1, 0, 0),
-        moved(2, 2, 0, 1),
-        moved(3, 1, 2, 0),
-        moved(4, 2, 1, 0),
-        moved(6, 0, 1, 0),
-        moved(LAST, 0, 2, 0),
-    ];
-    are(&rt, &before, &after, &wanted);
-    assert!(rt; told(&before, &after, 2) == (0, moved(2, 2, 0, 1)));
-    assert!(rt; told(&before, &after, 5) == (0, moved(6, 0, 1, 0)));
-    assert!(rt; told(&before, &after, 1 << 32) == (9, UNTOLD));
-    assert!(rt; told(&before, &after, u64::MAX) == (9, UNTOLD));
+fn changes(rt: HostRuntime) {
+    for (number, (before, after, wanted)) in LISTINGS.iter().enumerate() {
+        assert!(rt; are(before, after, wanted), "row {number}");
+    }
 }
 
-/// One that left and is then dropped, and one that left on probation, took no part.
+/// Begun anywhere, the next change is told; and listings that do not rise are refused.
 #[test]
-fn no_change(rt: HostRuntime) {
-    are(&rt, &[], &[], &[]);
-    are(&rt, &[member(1)], &[member(1)], &[]);
-    are(&rt, &[gone(2), unknown(5)], &[gone(5)], &[]);
-    are(&rt, &[], &[gone(1), unknown(2)], &[]);
-}
-
-/// Nobody was listed before, or nobody is now.
-#[test]
-fn empty_listings(rt: HostRuntime) {
-    let both = [member(1), sender(9)];
-    are(&rt, &[], &both, &[moved(1, 0, 1, 0), moved(9, 0, 2, 0)]);
-    are(&rt, &both, &[], &[moved(1, 1, 0, 0), moved(9, 2, 0, 0)]);
-    are(&rt, &[], &[SEVEN], &[moved(7, 0, 1, 0)]);
-}
-
-/// A listing with an SSRC twice, or with a lower one after a higher one, is refused as a whole.
-#[test]
-fn listings_that_do_not_rise(rt: HostRuntime) {
-    let (rising, twice) = ([member(1), member(3)], [member(1), sender(1)]);
-    let falling = [member(0), member(3), member(2)];
-    let statuses = [
-        told(&twice, &rising, 0),
-        told(&rising, &twice, 0),
-        told(&falling, &rising, 0),
-        told(&rising, &falling, u64::MAX),
-    ];
-    assert!(rt; statuses == [(10, UNTOLD); 4]);
-}
-
-/// A host may have written any number: each but 0 is as 1, and no moment but 2^64 - 1 says that a source did
-/// not leave.
-#[test]
-fn other_numbers(rt: HostRuntime) {
-    let listed = Source {
-        member: 7,
-        sender: u32::MAX,
-        ..unknown(1)
-    };
-    are(&rt, &[], &[listed], &[moved(1, 0, 2, 0)]);
-    are(&rt, &[sender(1)], &[listed], &[]);
-    let not_valid = Source {
-        sender: 1,
-        left: 0,
-        ..unknown(1)
-    };
-    are(&rt, &[listed], &[not_valid], &[moved(1, 2, 0, 1)]);
+fn asks(rt: HostRuntime) {
+    for (number, (before, after, from, status, change)) in ASKS.iter().enumerate() {
+        let found = told(before, after, *from);
+        assert!(rt; found == (*status, *change), "row {number}");
+    }
 }

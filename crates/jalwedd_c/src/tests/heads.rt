@@ -2,7 +2,6 @@
 
 use super::*;
 use crate::head::jalwedd_rtp_head;
-use std::process::Abort;
 
 /// What no call wrote.
 const UNTOLD: HeadPlace = HeadPlace {
@@ -25,62 +24,63 @@ const WHOLE: [u8; 33] = [
     0x02,
 ];
 
+/// Its first eleven octets.
+const SHORT: [u8; 11] = [
+    0xb2, 0xe0, 0x01, 0x02, 0x00, 0x00, 0x10, 0x00, 0x00, 0x00, 0x00,
+];
+
 /// A head with nothing after it: packet 1 of source 10, of payload type 0.
 const BARE: [u8; 12] = [
     0x80, 0x00, 0x00, 0x01, 0xff, 0xff, 0xff, 0xff, 0x00, 0x00, 0x00, 0x0a,
 ];
 
-fn told(rt: &impl Abort, datagram: &[u8]) -> HeadPlace {
-    let mut head = UNTOLD;
-    assert_eq!(rt; jalwedd_rtp_head(datagram, &mut head), 0);
-    head
-}
+/// A datagram, the status, and the head as it is then. Refused are one cut short, one of version 1, one of a reserved
+/// type, an empty one, and one that is an octet too long for UDP.
+static ROWS: [(&[u8], u32, HeadPlace); 7] = [
+    (
+        &WHOLE,
+        0,
+        HeadPlace {
+            csrcs_offset: 12,
+            payload_offset: 28,
+            payload_size: 3,
+            ssrc: 9,
+            timestamp: 0x1000,
+            sequence: 0x102,
+            payload_type: 96,
+            marker: 1,
+            csrcs: 2,
+        },
+    ),
+    (
+        &BARE,
+        0,
+        HeadPlace {
+            csrcs_offset: 12,
+            payload_offset: 12,
+            payload_size: 0,
+            ssrc: 10,
+            timestamp: 0xffff_ffff,
+            sequence: 1,
+            payload_type: 0,
+            marker: 0,
+            csrcs: 0,
+        },
+    ),
+    (&SHORT, 6, UNTOLD),
+    (&[0x40; 12], 6, UNTOLD),
+    (&[0x80, 0xc8, 0, 0, 0, 0, 0, 0, 0, 0, 0, 0], 6, UNTOLD),
+    (&[], 6, UNTOLD),
+    (&TOO_LONG, 23, UNTOLD),
+];
 
+/// Each datagram is told as its row says.
 #[test]
-fn whole(rt: HostRuntime) {
-    let wanted = HeadPlace {
-        csrcs_offset: 12,
-        payload_offset: 28,
-        payload_size: 3,
-        ssrc: 9,
-        timestamp: 0x1000,
-        sequence: 0x102,
-        payload_type: 96,
-        marker: 1,
-        csrcs: 2,
-    };
-    assert!(rt; told(&rt, &WHOLE) == wanted);
-}
-
-#[test]
-fn bare(rt: HostRuntime) {
-    let wanted = HeadPlace {
-        csrcs_offset: 12,
-        payload_offset: 12,
-        payload_size: 0,
-        ssrc: 10,
-        timestamp: 0xffff_ffff,
-        sequence: 1,
-        payload_type: 0,
-        marker: 0,
-        csrcs: 0,
-    };
-    assert!(rt; told(&rt, &BARE) == wanted);
-}
-
-/// Cut short, of version 1, of a reserved type, and one octet too long for UDP.
-#[test]
-fn refused(rt: HostRuntime) {
-    let (short, version, reserved) = (
-        &WHOLE[..11],
-        [0x40; 12],
-        [0x80, 0xc8, 0, 0, 0, 0, 0, 0, 0, 0, 0, 0],
-    );
-    let mut head = UNTOLD;
-    assert_eq!(rt; jalwedd_rtp_head(short, &mut head), 6);
-    assert_eq!(rt; jalwedd_rtp_head(&version, &mut head), 6);
-    assert_eq!(rt; jalwedd_rtp_head(&reserved, &mut head), 6);
-    assert_eq!(rt; jalwedd_rtp_head(&[], &mut head), 6);
-    assert_eq!(rt; jalwedd_rtp_head(&[0x80; 65_536], &mut head), 23);
-    assert!(rt; head == UNTOLD);
+fn heads(rt: HostRuntime) {
+    for (number, (datagram, status, wanted)) in ROWS.iter().enumerate() {
+        let mut head = UNTOLD;
+        let found = jalwedd_rtp_head(datagram, &mut head);
+        assert_eq!(rt; found, *status, "row {number}");
+        assert!(rt; head == *wanted, "row {number}");
+    }
 }
