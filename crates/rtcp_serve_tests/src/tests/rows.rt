@@ -29,8 +29,6 @@ pub(super) struct Case<'a> {
 #[derive(Drop)]
 pub(super) struct Seen<'a> {
     pub(super) end: Option<End>,
-    /// How many compounds were sent.
-    pub(super) sent: Option<u64>,
     /// How many words were drawn.
     pub(super) drawn: Option<u32>,
     /// The SSRC of the participant after it, and whether it is gone.
@@ -59,7 +57,6 @@ pub(super) enum Noted<'a> {
 /// Anything.
 pub(super) const ANYTHING: Seen<'static> = Seen {
     end: None,
-    sent: None,
     drawn: None,
     ssrc: None,
     is_gone: None,
@@ -134,10 +131,19 @@ const TO_SENDER: &[(usize, Coming)] = &[
     ),
 ];
 
+/// What its session comes to where two of its four sends fail.
+const FOUR_SENT: End = End {
+    received: 3,
+    sent: 4,
+    send_failures: 2,
+    recv_failures: 1,
+    bye: true,
+    ..IDLE
+};
+
 /// Its session. Each turn asks both ports once, in their order, and each compound goes to the link once, though the
 /// clock goes back and sends fail.
 const OF_SENDER: Case<'static> = Case {
-    name: "a sender whose clock goes back, and two of whose sends fail",
     moments: &[
         0, 1_026_037, 500_000, 3_200_000, 3_100_000, 3_000_000, 5_500_000, 100, 0, 1,
     ],
@@ -145,7 +151,7 @@ const OF_SENDER: Case<'static> = Case {
     is_sender: true,
     turns: 5,
     seen: Seen {
-        sent: Some(4),
+        end: Some(FOUR_SENT),
         drawn: Some(14),
         ..ANYTHING
     },
@@ -388,6 +394,7 @@ static CASES: [Case<'static>; 16] = [
         ..GIVES_UP
     },
     Case {
+        name: "gives up with a BYE that the link fails to send",
         failing: &[1],
         seen: Seen {
             end: Some(End {
@@ -455,19 +462,31 @@ static CASES: [Case<'static>; 16] = [
         ..PLAIN
     },
     Case {
+        name: "a sender whose clock goes back, and whose first two sends fail",
         failing: &[0, 1],
         ..OF_SENDER
     },
     Case {
+        name: "a sender whose clock goes back, and whose second and third sends fail",
         failing: &[1, 2],
         ..OF_SENDER
     },
     Case {
+        name: "a sender whose clock goes back, and whose last two sends fail",
         failing: &[2, 3],
         ..OF_SENDER
     },
     Case {
+        name: "a sender whose clock goes back, and whose last send fails",
         failing: &[3, 4],
+        seen: Seen {
+            end: Some(End {
+                send_failures: 1,
+                ..FOUR_SENT
+            }),
+            drawn: Some(14),
+            ..ANYTHING
+        },
         ..OF_SENDER
     },
 ];
@@ -522,13 +541,12 @@ fn check_end(
     left: &Participant<SortedTable>,
 ) {
     let wanted = &case.seen;
-    let found = (end, end.sent, drawn, left.ssrc(), left.next().is_none());
+    let found = (end, drawn, left.ssrc(), left.next().is_none());
     let wanted = (
         wanted.end.unwrap_or(found.0),
-        wanted.sent.unwrap_or(found.1),
-        wanted.drawn.unwrap_or(found.2),
-        wanted.ssrc.unwrap_or(found.3),
-        wanted.is_gone.unwrap_or(found.4),
+        wanted.drawn.unwrap_or(found.1),
+        wanted.ssrc.unwrap_or(found.2),
+        wanted.is_gone.unwrap_or(found.3),
     );
     assert_eq!(rt; found, wanted, "{}", case.name);
 }
