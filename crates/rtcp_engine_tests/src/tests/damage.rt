@@ -154,6 +154,7 @@ pub(crate) fn backing_off<T: InlineTable + Drop>(rt: &impl Abort, part: &Part) {
     let spared = leaving::backing_off::<T>(rt);
     let mut pair = Pair::new(harmed, spared, 10_000_000, false);
     pair.change_ssrc(rt);
+    assert_eq!(rt; pair.sent, 1);
     pair.damage_samples(rt, part.samples);
     assert_eq!(rt; (pair.damaged, pair.sent), (part.refused, 1));
     pair.wait(rt);
@@ -321,8 +322,9 @@ impl<T: MemberTable + Drop> Pair<T> {
 
     /// Tells the second one the event too. Its answer is this step.
     fn repeat(&mut self, rt: &impl Abort, step: &Step, call: Call<'_>) {
+        let seen = seen_of(step);
         match self.spared.call(call) {
-            Ok(other) => assert!(rt; seen_of(step) == seen_of(&other)),
+            Ok(other) => assert!(rt; seen != Seen::Odd && seen == seen_of(&other)),
             Err(_) => panic!(rt; "the second one refuses it"),
         }
         if step.out.is_some() {

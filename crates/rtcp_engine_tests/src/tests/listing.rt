@@ -85,6 +85,7 @@ pub(crate) fn one_after_the_other<T: MemberTable + Drop>(rt: &impl Abort, begun:
         (Some(7), None),
     ];
     are_next(rt, &mut session, &rows);
+    session.plays(rt, "all were asked for", &[(Ask, Entries(4))]);
 }
 
 /// Above each SSRC stands this source, asked for one after the other.
