@@ -132,7 +132,7 @@ fn reports(rt: HostRuntime) -> Result<(), Fail> {
                 let sent = (report.ntp, report.rtp, report.packets, report.octets);
                 ((report.ssrc, Some(sent)), report.blocks(), report.extension)
             }
-            _ => panic!(rt; "the first packet is a report"),
+            _ => panic!(rt; "the first packet is a report: {:?}", row.octets),
         };
         assert_eq!(rt; fixed, (row.ssrc, row.sent), "{:?}", row.octets);
         let blocks: Vec<Block> = blocks.collect(rt.alloc())?;
@@ -219,7 +219,7 @@ fn goodbyes(rt: HostRuntime) -> Result<(), Fail> {
                 let found = (found.as_slice(), goodbye.reason);
                 assert_eq!(rt; found, (*ids, *reason), "{datagram:?}");
             }
-            _ => panic!(rt; "it is a goodbye"),
+            _ => panic!(rt; "it is a goodbye: {datagram:?}"),
         }
     }
     Ok(())
