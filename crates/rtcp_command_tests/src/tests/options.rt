@@ -198,16 +198,16 @@ fn understood(rt: HostRuntime) -> Result<(), Fail> {
             "row {row}"
         );
         same(&rt, &config.cname, b"a", "cname");
-        has_extras(&rt, &config, asked.extras);
+        has_extras(&rt, &config, asked.extras, row);
     }
     Ok(())
 }
 
-/// The configuration has these extra items.
-fn has_extras(rt: &impl Abort, config: &Config, extras: &[(u8, &[u8])]) {
-    assert_eq!(rt; config.extras.len(), extras.len());
+/// The configuration of a row has these extra items.
+fn has_extras(rt: &impl Abort, config: &Config, extras: &[(u8, &[u8])], row: usize) {
+    assert_eq!(rt; config.extras.len(), extras.len(), "row {row}");
     for (item, (kind, text)) in config.extras.iter().zip(extras) {
-        assert_eq!(rt; item.kind, *kind);
+        assert_eq!(rt; item.kind, *kind, "row {row}");
         same(rt, &item.text, text, "an extra item");
     }
 }
