@@ -60,6 +60,7 @@ impl Write for Narrow {
 
 /// A run, of `check` or of `replay` by a plain participant, with an octet at each call.
 struct Run {
+    name: &'static str,
     is_replay: bool,
     /// Its last line lacks its line feed.
     lines: &'static [u8],
@@ -77,6 +78,7 @@ struct Run {
 
 static RUNS: [Run; 2] = [
     Run {
+        name: "check",
         is_replay: false,
         lines: b"80c9000100000007\n\n80c9000100000008",
         text: b"ok RR(00000007,[],0)\nF1 Short at 0\nok RR(00000008,[],0)\n",
@@ -87,6 +89,7 @@ static RUNS: [Run; 2] = [
     },
     // The session of docs/FORMATS.md, with the start that is written first.
     Run {
+        name: "replay",
         is_replay: true,
         lines: b"rtcp 0 1 00000000 80c900010000000781ca00020000000701016100\n\
             tick 1026037 00000000 00000000\n\
@@ -160,8 +163,8 @@ fn one_octet_at_a_time(rt: &impl Abort, alloc: Global, run: &Run) {
         fails: true,
     };
     let (outcome, failures, writer) = read(alloc, run, reads, writer);
-    assert_eq!(rt; (outcome, failures), (Ok(()), (0, 0)));
-    same(rt, &writer.taken, run.text, "the text");
+    assert_eq!(rt; (outcome, failures), (Ok(()), (0, 0)), "{}", run.name);
+    same(rt, &writer.taken, run.text, run.name);
 }
 
 /// At each call of the reader, the end of the input included.
@@ -169,11 +172,12 @@ fn failed_reads(rt: &impl Abort, alloc: Global, run: &Run) {
     for calls in 0..run.calls.0 {
         let (outcome, failures, written) = read(alloc, run, calls, Vec::new(alloc));
         let wanted = (Err(ReplayFault::Run(TextFault::Read)), (1, 0));
-        assert_eq!(rt; (outcome, failures), wanted, "{calls}");
+        assert_eq!(rt; (outcome, failures), wanted, "{}: {calls}", run.name);
         let octets = answered(run, calls);
         assert!(rt;
             run.text.starts_with(&written) && written.len() == octets,
-            "{calls}"
+            "{}: {calls}",
+            run.name
         );
     }
 }
@@ -199,10 +203,16 @@ fn failed_writes(rt: &impl Abort, alloc: Global, run: &Run, fails: bool) {
             fails,
         };
         let (outcome, failures, writer) = ran(alloc, run.is_replay, run.lines, writer);
-        assert_eq!(rt; (outcome, failures), (WRITE, (0, 1)), "{calls}, {fails}");
+        let wanted = (WRITE, (0, 1));
+        assert_eq!(rt;
+            (outcome, failures),
+            wanted,
+            "{}: {calls}, {fails}",
+            run.name
+        );
         let taken = &writer.taken;
         let is_taken = run.text.starts_with(taken) && taken.len() == calls as usize;
-        assert!(rt; is_taken, "{calls}, {fails}");
+        assert!(rt; is_taken, "{}: {calls}, {fails}", run.name);
     }
 }
 
@@ -216,11 +226,12 @@ fn failed_answers(rt: &impl Abort, alloc: Global, run: &Run) {
             fails: true,
         };
         let (outcome, _, writer) = ran(alloc, run.is_replay, run.lines, writer);
-        assert_eq!(rt; outcome, WRITE, "{calls}");
+        assert_eq!(rt; outcome, WRITE, "{}: {calls}", run.name);
         let taken = &writer.taken;
         assert!(rt;
             run.text.starts_with(taken) && taken.len() == *octets,
-            "{calls}"
+            "{}: {calls}",
+            run.name
         );
     }
 }

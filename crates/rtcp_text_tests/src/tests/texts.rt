@@ -64,6 +64,8 @@ enum Said {
     Accepted(&'static [&'static [u8]]),
     Fault(FaultReason, usize),
     Event(Event<'static>),
+    /// The lines of several, one after the other.
+    Events(&'static [Event<'static>]),
     /// The line of a start, with the next moment.
     Start(u64),
     /// The line of a call that was taken, by its members, its senders, the next moment, the new SSRC and the octets of
@@ -80,7 +82,7 @@ const ITEM: WireFault = WireFault {
 };
 
 /// Each kind of text, as docs/FORMATS.md describes them.
-static TEXTS: [(Said, &str); 52] = [
+static TEXTS: [(Said, &str); 53] = [
     // numbers
     (Said::Number(0), "0"),
     (Said::Number(9), "9"),
@@ -209,6 +211,20 @@ static TEXTS: [(Said, &str); 52] = [
         }),
         "leave 2000000 00000001\n",
     ),
+    (
+        Said::Events(&[
+            Event::Tick {
+                now: 1_026_037,
+                w1: 0,
+                w2: 0x89ab_cdef,
+            },
+            Event::Leave {
+                now: 2_000_000,
+                w: 1,
+            },
+        ]),
+        "tick 1026037 00000000 89abcdef\nleave 2000000 00000001\n",
+    ),
     // answers
     (
         Said::Start(1_026_037),
@@ -272,6 +288,14 @@ fn push_last(alloc: Global, out: &mut Vec<u8>, parts: &[&[u8]]) -> Result<(), Fa
     Ok(())
 }
 
+/// Writes the lines of events, one after the other.
+fn push_events(out: &mut Vec<u8>, events: &[Event<'_>]) -> Result<(), AllocError> {
+    for event in events {
+        push_event(out, event)?;
+    }
+    Ok(())
+}
+
 /// Writes the answer to a call that was taken.
 fn push_step(
     out: &mut Vec<u8>,
@@ -311,6 +335,7 @@ fn text_of(alloc: Global, said: &Said) -> Result<Vec<u8>, Fail> {
         }
         Said::Fault(reason, place) => push_fault(&mut out, &WireFault { reason, place })?,
         Said::Event(event) => push_event(&mut out, &event)?,
+        Said::Events(events) => push_events(&mut out, events)?,
         Said::Start(next) => push_start(&mut out, Some(next))?,
         Said::Step(members, senders, next, changed, report) => {
             push_step(&mut out, (members, senders), next, changed, report)?
