@@ -6,7 +6,7 @@
 //! `rtcp_command` has the command line, `rtcp_text` the texts and `rtcp_serve` the sessions. This file connects them.
 #![tactic(auto)]
 
-ghost use Rattle.std.specs.Prelude.{◌≡◌, ◌≤◌, IfOk};
+ghost use Rattle.std.specs.Prelude.{◌≡◌, ◌≤◌, ◌<◌, ◌^◌, IfOk};
 ghost use Rattle.rtcp_command.specs.Listening.{HasTurns};
 
 use rand_core::{Rng, SeedableRng};
@@ -140,22 +140,40 @@ fn run_listen(rt: &HostRuntime, session: Session) -> Result<End, RunFault>
     } else {
         None
     };
-    let mut participant = Participant::with_table(session.config, table, word);
+    let participant = Participant::with_table(session.config, table, word);
     let link = UdpLink::bind(rt, alloc, session.rtp, session.rtcp, session.peer).map_err(
         run_fault,
     )?;
-    let mut link = Recorded::new(Shown::new(link, watcher), recorder, rt.stderr());
-    let mut buf = [0; 65_535];
-    let end = serve(
-        &mut link,
-        &mut participant,
-        &mut rng,
-        session.turns,
-        &mut buf,
-    );
-    let line = end_line(alloc, &end).map_err(|_| RunFault::Memory)?;
-    rt.stdout().write_all(&line).map_err(|_| RunFault::Write)?;
+    let link = Recorded::new(Shown::new(link, watcher), recorder, rt.stderr());
+    let end = serve_on(link, participant, rng, session.turns);
+    write_end(rt, &end)?;
     Ok(end)
+}
+
+/// Serves a session on a link, with these words, and gives its end.
+fn serve_on<L: Link + Drop>(
+    mut link: L,
+    mut participant: Participant<HeapTable>,
+    mut rng: Pcg32,
+    turns: u32,
+) -> End
+    requires turns { (1 ≤ turns) × (turns ≤ 1000000) }
+    requires receives { (L.value link).failed_receives < 2 ^ 63 }
+    requires sends { (L.value link).failed_sends < 2 ^ 63 }
+{
+    let mut buf = [0; 65_535];
+    serve(&mut link, &mut participant, &mut rng, turns, &mut buf)
+}
+
+/// Writes the line of an end to standard output.
+///
+/// # Errors
+///
+/// - [`RunFault::Memory`] where memory is refused.
+/// - [`RunFault::Write`] where it cannot be written.
+fn write_end(rt: &HostRuntime, end: &End) -> Result<(), RunFault> {
+    let line = end_line(rt.alloc(), end).map_err(|_| RunFault::Memory)?;
+    rt.stdout().write_all(&line).map_err(|_| RunFault::Write)
 }
 
 /// Creates the file of a record, and writes to standard error the command that plays it again. A failed write there is
