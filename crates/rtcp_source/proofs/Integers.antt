@@ -65,24 +65,24 @@ IsHigh run = HasCounted run → 65536 ≤ greatest_ordinal run.counted
 abbrev run_in : (counted before : List CountedPacket) (strays : List ℕ) → PacketRun
 run_in counted before strays = record { counted = counted; strays = strays; reported = before }
 
-high_next : (seq transit octets : ℕ) (counted before : List CountedPacket) (strays : List ℕ)
+high_next : (seq transit octets rate : ℕ) (counted before : List CountedPacket) (strays : List ℕ)
     → let run : PacketRun = run_in counted before strays in
-    IsHigh run → IsHigh (run_with (taken_in run seq) seq transit octets run)
-high_next seq transit octets [] before strays high =
+    IsHigh run → IsHigh (run_with (taken_in run seq) seq transit octets rate run)
+high_next seq transit octets rate [] before strays high =
     elim (follows (newest strays) seq) as (λ b. IsHigh
-    (run_with (if b then Became else Probation) seq transit octets (run_in [] before strays))) [
+    (run_with (if b then Became else Probation) seq transit octets rate (run_in [] before strays))) [
       | true ↦ λ some. omega arith
       | false ↦ high
     ]
-high_next seq transit octets (p ∷ earlier) before strays high =
+high_next seq transit octets rate (p ∷ earlier) before strays high =
     let run : PacketRun = run_in (p ∷ earlier) before strays in
     let low : 65536 ≤ greatest_ordinal (p ∷ earlier) = high (omega arith) in
     elim (is_near (greatest_ordinal (p ∷ earlier)) seq) as (λ near. IsHigh
     (run_with (if near then Counted else (if follows (newest strays) seq then Restarted else Bad)) seq transit
-    octets run)) [
+    octets rate run)) [
       | true ↦ λ some. omega (arith, low)
       | false ↦ elim (follows (newest strays) seq) as (λ b. IsHigh
-          (run_with (if b then Restarted else Bad) seq transit octets run)) [
+          (run_with (if b then Restarted else Bad) seq transit octets rate run)) [
             | true ↦ λ some. omega arith
             | false ↦ high
           ]
@@ -90,8 +90,9 @@ high_next seq transit octets (p ∷ earlier) before strays high =
 
 pub greatest_high : (given : List Given) → HasCounted (run_of given) → 65536 ≤ greatest_ordinal (run_of given).counted
 greatest_high [] = λ some. omega (arith, some)
-greatest_high (packet_came seq timestamp arrival octets ∷ given) =
-    let run : PacketRun = run_of given in high_next seq (transit_of timestamp arrival) octets run.counted run.reported
+greatest_high (packet_came seq timestamp arrival octets rate ∷ given) =
+    let run : PacketRun = run_of given in high_next seq (transit_of timestamp arrival) octets rate run.counted
+    run.reported
     run.strays (greatest_high given)
 greatest_high (report_came ntp rtp moment ∷ given) = greatest_high given
 greatest_high (block_made ∷ given) = greatest_high given
@@ -149,15 +150,15 @@ ordinal_at : (seq : ℕ) (integer : ℤ) → seq < 65536 → (greatest : ℕ) �
     ordinal_near (greatest + 65536) seq ≡ ordinal_of integer
 ordinal_at seq integer small greatest near = (has_ordinal greatest seq integer small near).1
 
-pub enters_run : (given : List Given) (seq timestamp arrival octets : ℕ) (integer : ℤ) → seq < 65536 →
+pub enters_run : (given : List Given) (seq timestamp arrival octets rate : ℕ) (integer : ℤ) → seq < 65536 →
     HasCounted (run_of given) → IsIntegerNear (greatest_integer (run_of given)) seq integer
-    → run_of (packet_came seq timestamp arrival octets ∷ given) ≡ with_counted
-    (packet_at (ordinal_of integer) (transit_of timestamp arrival) octets) (run_of given)
-enters_run given seq timestamp arrival octets integer small some near =
+    → run_of (packet_came seq timestamp arrival octets rate ∷ given) ≡ with_counted
+    (packet_at (ordinal_of integer) (transit_of timestamp arrival) octets rate) (run_of given)
+enters_run given seq timestamp arrival octets rate integer small some near =
     let run : PacketRun = run_of given in
     let counted : taken_in run seq ≡ Counted = (counted_exactly given seq small some).1 (integer, near) in
     let ordinal : ordinal_near (greatest_ordinal run.counted) seq ≡ ordinal_of integer =
     by_integer (λ ordinal greatest. IsIntegerNear greatest seq integer → ordinal_near ordinal seq ≡ ordinal_of integer)
     (ordinal_at seq integer small) (greatest_ordinal run.counted) (greatest_high given some) near in
-    ap (λ taken. run_with taken seq (transit_of timestamp arrival) octets run) counted
-    ∙ ap (λ (ordinal : ℕ). with_counted (packet_at ordinal (transit_of timestamp arrival) octets) run) ordinal
+    ap (λ taken. run_with taken seq (transit_of timestamp arrival) octets rate run) counted
+    ∙ ap (λ (ordinal : ℕ). with_counted (packet_at ordinal (transit_of timestamp arrival) octets rate) run) ordinal

@@ -15,6 +15,8 @@ pub use Rattle.rtcp_source.proofs.Integers.{counted_exactly as counted_by_intege
 pub use Rattle.rtcp_source.proofs.Integers.{enters_run as counted_by_integer-enters}
 pub use Rattle.rtcp_source.proofs.Integers.{same_integer as counted_by_integer-one, has_ordinal as integer_is_found}
 pub use Rattle.rtcp_source.proofs.Integers.{has_integer as ordinal_has_integer}
+pub use Rattle.rtcp_source.proofs.Rates.{jitter_since_change as jitter_is_of_one_rate-newest}
+pub use Rattle.rtcp_source.proofs.Rates.{jitter_of_one_rate as jitter_is_of_one_rate-alone}
 
 -- ---- What is kept of a source
 

@@ -4,3 +4,4 @@ mod Summing
 mod Integers
 mod News
 mod Rows
+mod Rates

@@ -13,34 +13,34 @@ IsOrdered run = length run.reported ≤ length run.counted
 abbrev news_in : PacketRun → Bool
 news_in run = nat_lt (length run.reported) (length run.counted)
 
-ordered_with : (taken : Taken) (seq transit octets : ℕ) (run : PacketRun) → IsOrdered run →
-    IsOrdered (run_with taken seq transit octets run)
-ordered_with Counted seq transit octets run before = omega (arith, before)
-ordered_with Became seq transit octets run before = omega arith
-ordered_with Restarted seq transit octets run before = omega arith
-ordered_with Probation seq transit octets run before = before
-ordered_with Bad seq transit octets run before = before
+ordered_with : (taken : Taken) (seq transit octets rate : ℕ) (run : PacketRun) → IsOrdered run →
+    IsOrdered (run_with taken seq transit octets rate run)
+ordered_with Counted seq transit octets rate run before = omega (arith, before)
+ordered_with Became seq transit octets rate run before = omega arith
+ordered_with Restarted seq transit octets rate run before = omega arith
+ordered_with Probation seq transit octets rate run before = before
+ordered_with Bad seq transit octets rate run before = before
 
 ordered : (given : List Given) → IsOrdered (run_of given)
 ordered [] = omega arith
-ordered (packet_came seq timestamp arrival octets ∷ given) = ordered_with (taken_in (run_of given) seq) seq
-    (transit_of timestamp arrival) octets (run_of given) (ordered given)
+ordered (packet_came seq timestamp arrival octets rate ∷ given) = ordered_with (taken_in (run_of given) seq) seq
+    (transit_of timestamp arrival) octets rate (run_of given) (ordered given)
 ordered (report_came ntp rtp moment ∷ given) = ordered given
 ordered (block_made ∷ given) = omega arith
 
-news_with : (taken : Taken) (seq transit octets : ℕ) (run : PacketRun) → IsOrdered run →
-    news_in (run_with taken seq transit octets run) ≡ is_counted taken || news_in run
-news_with Counted seq transit octets run before = grind (arith, nat_tests, before)
-news_with Became seq transit octets run before = refl
-news_with Restarted seq transit octets run before = refl
-news_with Probation seq transit octets run before = refl
-news_with Bad seq transit octets run before = refl
+news_with : (taken : Taken) (seq transit octets rate : ℕ) (run : PacketRun) → IsOrdered run →
+    news_in (run_with taken seq transit octets rate run) ≡ is_counted taken || news_in run
+news_with Counted seq transit octets rate run before = grind (arith, nat_tests, before)
+news_with Became seq transit octets rate run before = refl
+news_with Restarted seq transit octets rate run before = refl
+news_with Probation seq transit octets rate run before = refl
+news_with Bad seq transit octets rate run before = refl
 
 news_in_run : (given : List Given) → news_in (run_of given) ≡ has_news_since given
 news_in_run [] = refl
-news_in_run (packet_came seq timestamp arrival octets ∷ given) =
+news_in_run (packet_came seq timestamp arrival octets rate ∷ given) =
     rw (
-      news_with (taken_in (run_of given) seq) seq (transit_of timestamp arrival) octets (run_of given)
+      news_with (taken_in (run_of given) seq) seq (transit_of timestamp arrival) octets rate (run_of given)
           (ordered given),
       news_in_run given,
     ) refl

@@ -8,7 +8,7 @@ use Rattle.rtcp_source.specs.Blocks.{block_for, block_over}
 -- packets of one transit, the newest number first
 abbrev with_numbers : List ℕ → List Given → List Given
 with_numbers [] given = given
-with_numbers (seq ∷ seqs) given = packet_came seq 0 0 0 ∷ with_numbers seqs given
+with_numbers (seq ∷ seqs) given = packet_came seq 0 0 0 8000 ∷ with_numbers seqs given
 
 abbrev numbers : List ℕ → List Given
 numbers seqs = with_numbers seqs []
@@ -35,6 +35,33 @@ half_lost : Gives 0 (with_numbers (9 ∷ 7 ∷ 5 ∷ []) (block_made ∷ numbers
 half_lost = (refl, refl)
 
 -- The jitter returns to 0 at a restart.
-still : Gives 0 (packet_came 5001 0 999 0 ∷ packet_came 5000 0 0 0 ∷ packet_came 3 0 999 0 ∷ packet_came 2 0 0
-    0 ∷ packet_came 1 0 0 0 ∷ []) (plain_block 0 0 5001)
+still : Gives 0 (packet_came 5001 0 999 0 8000 ∷ packet_came 5000 0 0 0 8000 ∷ packet_came 3 0 999 0 8000
+    ∷ packet_came 2 0 0 0 8000 ∷ packet_came 1 0 0 0 8000 ∷ []) (plain_block 0 0 5001)
 still = (refl, refl)
+
+-- a block of packets without loss, and no sender report
+abbrev jittery_block : (highest jitter : ℕ) → Option ReportBlock
+jittery_block highest jitter =
+    Some (record {
+      ssrc = 9;
+      fraction = 0;
+      lost = pos 0;
+      highest = highest;
+      jitter = jitter;
+      lsr = 0;
+      dlsr = 0;
+    })
+
+-- A packet each 20 milliseconds, by a clock of 8,000 a second and then by one of 48,000: the transits of the two lie
+-- 4,000,000 units apart, and none of this is jitter.
+abbrev switched : List Given
+switched =
+    packet_came 4 4002880 3840 0 48000 ∷ packet_came 3 4001920 2880 0 48000 ∷ packet_came 2 160 320 0 8000
+    ∷ packet_came 1 0 160 0 8000 ∷ []
+
+no_jitter : Gives 0 switched (jittery_block 4 0)
+no_jitter = (refl, refl)
+
+-- From then on jitter counts in units of the new clock: 40 of them late.
+late_by_the_new_clock : Gives 0 (packet_came 5 4003840 4840 0 48000 ∷ switched) (jittery_block 5 2)
+late_by_the_new_clock = (refl, refl)

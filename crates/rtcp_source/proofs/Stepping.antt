@@ -22,10 +22,10 @@ summarised packets kept run =
       last_block = kept.1;
     }
 
-abbrev Moves : (seq transit octets packets : ℕ) → Kept → PacketRun → Taken → Type 0
-Moves seq transit octets packets kept run taken =
-    summarised (packets + 1) kept (run_with taken seq transit octets run)
-    ≡ source_with taken seq transit octets (summarised packets kept run)
+abbrev Moves : (seq transit octets rate packets : ℕ) → Kept → PacketRun → Taken → Type 0
+Moves seq transit octets rate packets kept run taken =
+    summarised (packets + 1) kept (run_with taken seq transit octets rate run)
+    ≡ source_with taken seq transit octets rate (summarised packets kept run)
 
 one_more : (n : ℕ) → suc n ≡ n + 1
 one_more n = omega arith
@@ -33,28 +33,29 @@ one_more n = omega arith
 abbrev run_over : (counted before : List CountedPacket) (strays : List ℕ) → PacketRun
 run_over counted before strays = record { counted = counted; strays = strays; reported = before }
 
-counted_moves : (seq transit octets packets : ℕ) (kept : Kept) (p : CountedPacket) (earlier before : List CountedPacket)
-    (strays : List ℕ) → Moves seq transit octets packets kept (run_over (p ∷ earlier) before strays) Counted
-counted_moves seq transit octets packets kept p earlier before strays =
+counted_moves : (seq transit octets rate packets : ℕ) (kept : Kept) (p : CountedPacket)
+    (earlier before : List CountedPacket)
+    (strays : List ℕ) → Moves seq transit octets rate packets kept (run_over (p ∷ earlier) before strays) Counted
+counted_moves seq transit octets rate packets kept p earlier before strays =
     rw (one_more (length (p ∷ earlier))) refl
 
-moves : (seq transit octets packets : ℕ) (kept : Kept) (counted before : List CountedPacket) (strays : List ℕ)
+moves : (seq transit octets rate packets : ℕ) (kept : Kept) (counted before : List CountedPacket) (strays : List ℕ)
     → let run : PacketRun = run_over counted before strays in
-    Moves seq transit octets packets kept run (taken_in run seq)
-moves seq transit octets packets kept [] before strays =
+    Moves seq transit octets rate packets kept run (taken_in run seq)
+moves seq transit octets rate packets kept [] before strays =
     elim (follows (newest strays) seq)
-    as (λ b. Moves seq transit octets packets kept (run_over [] before strays) (if b then Became else Probation)) [
+    as (λ b. Moves seq transit octets rate packets kept (run_over [] before strays) (if b then Became else Probation)) [
       | true ↦ refl
       | false ↦ refl
     ]
-moves seq transit octets packets kept (p ∷ earlier) before strays =
+moves seq transit octets rate packets kept (p ∷ earlier) before strays =
     let run : PacketRun = run_over (p ∷ earlier) before strays in
     elim (is_near (greatest_ordinal (p ∷ earlier)) seq)
-    as (λ near. Moves seq transit octets packets kept run
+    as (λ near. Moves seq transit octets rate packets kept run
     (if near then Counted else (if follows (newest strays) seq then Restarted else Bad))) [
-      | true ↦ counted_moves seq transit octets packets kept p earlier before strays
+      | true ↦ counted_moves seq transit octets rate packets kept p earlier before strays
       | false ↦ elim (follows (newest strays) seq)
-          as (λ b. Moves seq transit octets packets kept run (if b then Restarted else Bad)) [
+          as (λ b. Moves seq transit octets rate packets kept run (if b then Restarted else Bad)) [
             | true ↦ refl
             | false ↦ refl
           ]
@@ -68,14 +69,14 @@ same_taking seq packets kept [] before strays = refl
 same_taking seq packets kept (p ∷ earlier) before strays = refl
 
 -- One packet more moves the summary as it moves the numbers.
-pub packet_moves : (seq timestamp arrival octets : ℕ) (given : List Given)
-    → summary_of (packet_came seq timestamp arrival octets ∷ given)
-    ≡ after_packet seq timestamp arrival octets (summary_of given)
-packet_moves seq timestamp arrival octets given =
+pub packet_moves : (seq timestamp arrival octets rate : ℕ) (given : List Given)
+    → summary_of (packet_came seq timestamp arrival octets rate ∷ given)
+    ≡ after_packet seq timestamp arrival octets rate (summary_of given)
+packet_moves seq timestamp arrival octets rate given =
     let run : PacketRun = run_of given in
     let kept : Kept = (last_told given, last_block given) in
     rw (same_taking seq (packet_count given) kept run.counted run.reported run.strays)
-    (moves seq (transit_of timestamp arrival) octets (packet_count given) kept run.counted run.reported run.strays)
+    (moves seq (transit_of timestamp arrival) octets rate (packet_count given) kept run.counted run.reported run.strays)
 
 same_numbers : (counted before : List CountedPacket) →
     numbers_of counted counted ≡ run_reported (numbers_of counted before)
@@ -99,8 +100,9 @@ block_moves given =
       last_block = said;
     }) (same_numbers run.counted run.reported) (same_said run.counted run.reported)
 
-pub stands_after : (seq timestamp arrival octets : ℕ) (source next : SourceValue)
-    → next ≡ after_packet seq timestamp arrival octets source
-    → (given : List Given) → StandsAt source given → StandsAt next (packet_came seq timestamp arrival octets ∷ given)
-stands_after seq timestamp arrival octets source next step given stands =
-    rw (step, stands, packet_moves seq timestamp arrival octets given) refl
+pub stands_after : (seq timestamp arrival octets rate : ℕ) (source next : SourceValue)
+    → next ≡ after_packet seq timestamp arrival octets rate source
+    → (given : List Given) → StandsAt source given →
+    StandsAt next (packet_came seq timestamp arrival octets rate ∷ given)
+stands_after seq timestamp arrival octets rate source next step given stands =
+    rw (step, stands, packet_moves seq timestamp arrival octets rate given) refl

@@ -6,23 +6,26 @@ use Rattle.rtcp_source.specs.declared.taken.Taken.TheVariants.{Probation, Counte
 
 -- What a source was given.
 pub data Given : Type 0 where
-  -- an RTP packet: its sequence number, its timestamp, its arrival in units of the media's clock, and how many octets
-  -- of payload it has (5.1)
-  packet_came : (seq timestamp arrival octets : ℕ) → Given
+  -- an RTP packet: its sequence number, its timestamp, its arrival in units of the clock of its payload type, how many
+  -- octets of payload it has, and how many units a second that clock has (5.1)
+  packet_came : (seq timestamp arrival octets rate : ℕ) → Given
   -- a sender report: its NTP timestamp, its RTP timestamp, and the moment at which it came (6.4.1)
   report_came : (ntp rtp moment : ℕ) → Given
   -- a report block was made of the source (6.4.1)
   block_made : Given
 
 -- A counted packet. Its ordinal is 65536 above its integer, which may be negative. Its transit is its arrival
--- less its timestamp, modulo 2^32 (6.4.1, A.8). Its octets are those of its payload.
+-- less its timestamp, modulo 2^32 (6.4.1, A.8). Its octets are those of its payload. Its rate is that of the clock in
+-- which its transit is counted.
 pub record CountedPacket : Type 0 where
   pub ordinal : ℕ
   pub transit : ℕ
   pub octets : ℕ
+  pub rate : ℕ
 
-abbrev pub packet_at : (ordinal transit octets : ℕ) → CountedPacket
-packet_at ordinal transit octets = record { ordinal = ordinal; transit = transit; octets = octets }
+abbrev pub packet_at : (ordinal transit octets rate : ℕ) → CountedPacket
+packet_at ordinal transit octets rate =
+    record { ordinal = ordinal; transit = transit; octets = octets; rate = rate }
 
 -- The last run of packets: those counted in it, the numbers of the strays since it started, newest first, and
 -- the packets that had been counted in it when a block was last made. Before the first run no packet is
@@ -92,22 +95,22 @@ taken_in run seq = taken_as (greatest_of run.counted) (newest run.strays) seq
 
 -- A run that starts with this packet. It forgets earlier strays, as in A.1: only strays after it can lead to
 -- another restart.
-abbrev pub run_started : (seq transit octets : ℕ) → PacketRun
-run_started seq transit octets =
-    record { counted = packet_at (seq + 65536) transit octets ∷ []; strays = []; reported = [] }
+abbrev pub run_started : (seq transit octets rate : ℕ) → PacketRun
+run_started seq transit octets rate =
+    record { counted = packet_at (seq + 65536) transit octets rate ∷ []; strays = []; reported = [] }
 
 -- A run with one counted packet more.
 abbrev pub with_counted : CountedPacket → PacketRun → PacketRun
 with_counted packet run = record run { counted = packet ∷ run.counted }
 
 -- The run after one packet more.
-abbrev pub run_with : Taken → (seq transit octets : ℕ) → PacketRun → PacketRun
-run_with Counted seq transit octets run =
-    with_counted (packet_at (ordinal_near (greatest_ordinal run.counted) seq) transit octets) run
-run_with Became seq transit octets run = run_started seq transit octets
-run_with Restarted seq transit octets run = run_started seq transit octets
-run_with Probation seq transit octets run = record run { strays = seq ∷ run.strays }
-run_with Bad seq transit octets run = record run { strays = seq ∷ run.strays }
+abbrev pub run_with : Taken → (seq transit octets rate : ℕ) → PacketRun → PacketRun
+run_with Counted seq transit octets rate run =
+    with_counted (packet_at (ordinal_near (greatest_ordinal run.counted) seq) transit octets rate) run
+run_with Became seq transit octets rate run = run_started seq transit octets rate
+run_with Restarted seq transit octets rate run = run_started seq transit octets rate
+run_with Probation seq transit octets rate run = record run { strays = seq ∷ run.strays }
+run_with Bad seq transit octets rate run = record run { strays = seq ∷ run.strays }
 
 -- arrival less timestamp, modulo 2^32
 abbrev pub transit_of : (timestamp arrival : ℕ) → ℕ
@@ -116,8 +119,8 @@ transit_of timestamp arrival = (arrival + 2 ^ 32 - timestamp) % 2 ^ 32
 -- The last run of what was given.
 abbrev pub run_of : List Given → PacketRun
 run_of [] = record { counted = []; strays = []; reported = [] }
-run_of (packet_came seq timestamp arrival octets ∷ given) =
-    let run = run_of given in run_with (taken_in run seq) seq (transit_of timestamp arrival) octets run
+run_of (packet_came seq timestamp arrival octets rate ∷ given) =
+    let run = run_of given in run_with (taken_in run seq) seq (transit_of timestamp arrival) octets rate run
 run_of (report_came ntp rtp moment ∷ given) = run_of given
 run_of (block_made ∷ given) = let run = run_of given in record run { reported = run.counted }
 
@@ -131,7 +134,7 @@ is_counted Bad = false
 -- A source has news where some packet was counted since its last block, or at all if no block was made.
 abbrev pub has_news_since : List Given → Bool
 has_news_since [] = false
-has_news_since (packet_came seq timestamp arrival octets ∷ given) =
+has_news_since (packet_came seq timestamp arrival octets rate ∷ given) =
     is_counted (taken_in (run_of given) seq) || has_news_since given
 has_news_since (report_came ntp rtp moment ∷ given) = has_news_since given
 has_news_since (block_made ∷ given) = false

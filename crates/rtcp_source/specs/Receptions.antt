@@ -16,10 +16,15 @@ pub record ReceptionValue : Type 0 where
   pub lost : ℤ
   -- the extended highest sequence number
   pub highest : ℕ
-  -- the jitter, in units of the media's clock
+  -- the jitter, in units of the clock of the newest packet, and how many of these a second has
   pub jitter : ℕ
+  pub rate : ℕ
 
 -- ---- By the packets of the last run
+
+abbrev pub newest_rate : List CountedPacket → ℕ
+newest_rate [] = 0
+newest_rate (p ∷ earlier) = p.rate
 
 abbrev pub reception_of_packets : List CountedPacket → ReceptionValue
 reception_of_packets counted =
@@ -29,6 +34,7 @@ reception_of_packets counted =
       lost = lost_of (expected_of counted) (length counted);
       highest = highest_of (greatest_ordinal counted);
       jitter = jitter_of counted / 16;
+      rate = newest_rate counted;
     }
 
 -- There is none where no packet was counted.
@@ -50,6 +56,7 @@ reception_of_run run =
       lost = lost_of (expected_in run) run.received;
       highest = highest_of run.greatest;
       jitter = run.jitter / 16;
+      rate = run.rate;
     }
 
 abbrev pub reception_in : SourceValue → Option ReceptionValue

@@ -1,10 +1,10 @@
 -- How the numbers that are kept of a source change with one thing more that it is given.
-use Rattle.std.specs.Prelude.{ℕ, ◌+◌, ◌-◌, max, Option, Some, None, option_map}
+use Rattle.std.specs.Prelude.{ℕ, ◌==◌, ◌+◌, ◌-◌, max, Option, Some, None, option_map}
 use Rattle.rtcp_source.specs.declared.taken.Taken.{Taken}
 use Rattle.rtcp_source.specs.declared.taken.Taken.TheVariants.{Probation, Counted, Became, Restarted, Bad}
 use Rattle.rtcp_source.specs.Packets.{ordinal_near, taken_as, transit_of}
 use Rattle.rtcp_source.specs.LastBlocks.{LastBlockValue, fraction_of, highest_of}
-use Rattle.rtcp_source.specs.Summary.{RunValue, SourceValue, transit_distance, jitter_with, with_octets}
+use Rattle.rtcp_source.specs.Summary.{RunValue, SourceValue, transit_distance, jitter_on, with_octets}
 use Rattle.rtcp_source.specs.Blocks.{expected_in}
 
 -- a source that was given nothing
@@ -20,8 +20,8 @@ abbrev pub taken_by : SourceValue → (seq : ℕ) → Taken
 taken_by source seq = taken_as (greatest_in source.run) source.stray seq
 
 -- A run that starts with a packet. Its jitter is 0.
-abbrev pub run_from : (seq transit octets : ℕ) → RunValue
-run_from seq transit octets =
+abbrev pub run_from : (seq transit octets rate : ℕ) → RunValue
+run_from seq transit octets rate =
     record {
       first = seq + 65536;
       greatest = seq + 65536;
@@ -29,39 +29,41 @@ run_from seq transit octets =
       expected_before = 0;
       received_before = 0;
       transit = transit;
+      rate = rate;
       jitter = 0;
       octets = with_octets 0 octets;
     }
 
 -- The run after one counted packet more.
-abbrev pub run_after : (seq transit octets : ℕ) → RunValue → RunValue
-run_after seq transit octets run =
+abbrev pub run_after : (seq transit octets rate : ℕ) → RunValue → RunValue
+run_after seq transit octets rate run =
     record run {
       greatest = max (ordinal_near run.greatest seq) run.greatest;
       received = run.received + 1;
       transit = transit;
-      jitter = jitter_with run.jitter (transit_distance transit run.transit);
+      rate = rate;
+      jitter = jitter_on (rate == run.rate) run.jitter (transit_distance transit run.transit);
       octets = with_octets run.octets octets;
     }
 
-abbrev pub counted_in : (seq transit octets : ℕ) → Option RunValue → Option RunValue
-counted_in seq transit octets None = None
-counted_in seq transit octets (Some run) = Some (run_after seq transit octets run)
+abbrev pub counted_in : (seq transit octets rate : ℕ) → Option RunValue → Option RunValue
+counted_in seq transit octets rate None = None
+counted_in seq transit octets rate (Some run) = Some (run_after seq transit octets rate run)
 
 -- The source after one packet more. A run that starts forgets the strays before it.
-abbrev pub source_with : Taken → (seq transit octets : ℕ) → SourceValue → SourceValue
-source_with Counted seq transit octets source =
-    record source { packets = source.packets + 1; run = counted_in seq transit octets source.run }
-source_with Became seq transit octets source =
-    record source { packets = source.packets + 1; run = Some (run_from seq transit octets); stray = None }
-source_with Restarted seq transit octets source =
-    record source { packets = source.packets + 1; run = Some (run_from seq transit octets); stray = None }
-source_with Probation seq transit octets source = record source { packets = source.packets + 1; stray = Some seq }
-source_with Bad seq transit octets source = record source { packets = source.packets + 1; stray = Some seq }
+abbrev pub source_with : Taken → (seq transit octets rate : ℕ) → SourceValue → SourceValue
+source_with Counted seq transit octets rate source =
+    record source { packets = source.packets + 1; run = counted_in seq transit octets rate source.run }
+source_with Became seq transit octets rate source =
+    record source { packets = source.packets + 1; run = Some (run_from seq transit octets rate); stray = None }
+source_with Restarted seq transit octets rate source =
+    record source { packets = source.packets + 1; run = Some (run_from seq transit octets rate); stray = None }
+source_with Probation seq transit octets rate source = record source { packets = source.packets + 1; stray = Some seq }
+source_with Bad seq transit octets rate source = record source { packets = source.packets + 1; stray = Some seq }
 
-abbrev pub after_packet : (seq timestamp arrival octets : ℕ) → SourceValue → SourceValue
-after_packet seq timestamp arrival octets source =
-    source_with (taken_by source seq) seq (transit_of timestamp arrival) octets source
+abbrev pub after_packet : (seq timestamp arrival octets rate : ℕ) → SourceValue → SourceValue
+after_packet seq timestamp arrival octets rate source =
+    source_with (taken_by source seq) seq (transit_of timestamp arrival) octets rate source
 
 abbrev pub after_told : (ntp rtp moment : ℕ) → SourceValue → SourceValue
 after_told ntp rtp moment source =

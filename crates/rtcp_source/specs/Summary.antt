@@ -1,5 +1,5 @@
 -- What is kept of what a source was given: counts, extremes and folds of the lists of its last run.
-use Rattle.std.specs.Prelude.{◌≡◌, ℕ, ◌+◌, ◌-◌, ◌/◌, ◌%◌, ◌^◌, min, List, [], ◌∷◌, length, Option, Some, None}
+use Rattle.std.specs.Prelude.{◌≡◌, ◌==◌, ℕ, ◌+◌, ◌-◌, ◌/◌, ◌%◌, ◌^◌, min, Bool, if◌then◌else◌, List, [], ◌∷◌, length, Option, Some, None}
 use Rattle.rtcp_source.specs.Packets.{Given, packet_came, report_came, block_made, CountedPacket, greatest_ordinal, first_ordinal, newest, run_of}
 use Rattle.rtcp_source.specs.LastBlocks.{LastBlockValue, expected_of, last_block}
 
@@ -13,9 +13,10 @@ pub record RunValue : Type 0 where
   -- how many were expected, and counted, when a block was last made of it
   pub expected_before : ℕ
   pub received_before : ℕ
-  -- the transit of its newest packet
+  -- the transit of its newest packet, and the rate of that packet's clock
   pub transit : ℕ
-  -- its jitter, in 1/16 of a unit of the media's clock
+  pub rate : ℕ
+  -- its jitter, in 1/16 of a unit of that clock
   pub jitter : ℕ
   -- how many octets of payload were counted in it, modulo 2^64
   pub octets : ℕ
@@ -48,12 +49,38 @@ transit_distance transit before =
 abbrev pub jitter_with : (jitter distance : ℕ) → ℕ
 jitter_with jitter distance = jitter + distance - (jitter + 8) / 16
 
+-- The jitter with one packet more, whose clock has the rate of the one before it, or not. Transits in units of two
+-- clocks have no distance: with the first packet of another rate the jitter begins anew, in its units (RFC 7160, 4.3).
+abbrev pub jitter_on : (same_rate : Bool) (jitter distance : ℕ) → ℕ
+jitter_on same_rate jitter distance = if same_rate then jitter_with jitter distance else 0
+
 -- The jitter of a run: folded from 0 over the distances of successive transits. That it returns to 0 at a
 -- restart is this project's choice: A.1 leaves it open.
 abbrev pub jitter_of : List CountedPacket → ℕ
 jitter_of [] = 0
 jitter_of (p ∷ []) = 0
-jitter_of (p ∷ q ∷ earlier) = jitter_with (jitter_of (q ∷ earlier)) (transit_distance p.transit q.transit)
+jitter_of (p ∷ q ∷ earlier) =
+    jitter_on (p.rate == q.rate) (jitter_of (q ∷ earlier)) (transit_distance p.transit q.transit)
+
+-- The same in other words: the jitter is that of RFC 3550 (A.8), of the newest packets that have one rate.
+abbrev pub interarrival_jitter : List CountedPacket → ℕ
+interarrival_jitter [] = 0
+interarrival_jitter (p ∷ []) = 0
+interarrival_jitter (p ∷ q ∷ earlier) =
+    jitter_with (interarrival_jitter (q ∷ earlier)) (transit_distance p.transit q.transit)
+
+-- the packets since the rate changed last, or all
+abbrev pub since_change : List CountedPacket → List CountedPacket
+since_change [] = []
+since_change (p ∷ []) = p ∷ []
+since_change (p ∷ q ∷ earlier) = if p.rate == q.rate then p ∷ since_change (q ∷ earlier) else p ∷ []
+
+-- Each packet that was given has this rate.
+abbrev pub HasOneRate : (rate : ℕ) → List Given → Type 0
+HasOneRate rate [] = Unit {0}
+HasOneRate rate (packet_came seq timestamp arrival octets other ∷ given) = (other ≡ rate) × HasOneRate rate given
+HasOneRate rate (report_came ntp rtp moment ∷ given) = HasOneRate rate given
+HasOneRate rate (block_made ∷ given) = HasOneRate rate given
 
 -- so many octets more, modulo 2^64
 abbrev pub with_octets : (total more : ℕ) → ℕ
@@ -76,19 +103,20 @@ numbers_of (p ∷ earlier) before =
       expected_before = expected_of before;
       received_before = length before;
       transit = p.transit;
+      rate = p.rate;
       jitter = jitter_of (p ∷ earlier);
       octets = octets_of (p ∷ earlier);
     })
 
 abbrev pub packet_count : List Given → ℕ
 packet_count [] = 0
-packet_count (packet_came seq timestamp arrival octets ∷ given) = packet_count given + 1
+packet_count (packet_came seq timestamp arrival octets rate ∷ given) = packet_count given + 1
 packet_count (report_came ntp rtp moment ∷ given) = packet_count given
 packet_count (block_made ∷ given) = packet_count given
 
 abbrev pub last_told : List Given → Option ToldValue
 last_told [] = None
-last_told (packet_came seq timestamp arrival octets ∷ given) = last_told given
+last_told (packet_came seq timestamp arrival octets rate ∷ given) = last_told given
 last_told (report_came ntp rtp moment ∷ given) = Some (record { ntp = ntp; rtp = rtp; moment = moment })
 last_told (block_made ∷ given) = last_told given
 

@@ -4,13 +4,13 @@ ghost use Rattle.std.specs.Prelude.{◌≡◌, [], ◌∷◌, ◌+◌, ◌≤◌
 ghost use Rattle.rtcp_wire.specs.Values.{ReportBlock};
 ghost use Rattle.std.specs.Int.{cast_signed, w32};
 ghost use Rattle.rtcp_source.specs.declared.taken.Taken.TheVariants.{Counted};
-ghost use Rattle.rtcp_source.specs.Packets.{Given, packet_came, report_came, block_made, HasCounted, packet_at, with_counted, greatest_ordinal, is_near, ordinal_near, taken_in, transit_of, run_of, has_news_since};
+ghost use Rattle.rtcp_source.specs.Packets.{Given, CountedPacket, packet_came, report_came, block_made, HasCounted, packet_at, with_counted, greatest_ordinal, is_near, ordinal_near, taken_in, transit_of, run_of, has_news_since};
 ghost use Rattle.rtcp_source.specs.Integers.{IsIntegerNear, HasIntegerNear, HasOrdinalNear, IsOrdinalOfInteger, ordinal_of, greatest_integer};
 ghost use Rattle.rtcp_source.specs.LastBlocks.{last_block};
 ghost use Rattle.rtcp_source.specs.Blocks.{block_for, block_over, lsr_of, dlsr_of, news_of};
 ghost use Rattle.rtcp_source.specs.Receptions.{reception_in, reception_over, figures_of, figures_in, said_by};
 ghost use Rattle.rtcp_source.specs.Steps.{no_source, taken_by, after_packet, after_told, after_block_made};
-ghost use Rattle.rtcp_source.specs.Summary.{summary_of, last_told, transit_distance};
+ghost use Rattle.rtcp_source.specs.Summary.{summary_of, last_told, transit_distance, HasOneRate, interarrival_jitter, jitter_of, since_change};
 
 /// What is kept of a source gives the same results as the list of all that it was given: what a packet is,
 /// whether there is news, how its packets are received, and the report block.
@@ -43,8 +43,8 @@ pub fn last_report_is_that_of_blocks()
 pub fn last_block_is_that_block()
     ensures said { (ssrc t : ℕ) (given : List Given) →
         last_block (block_made ∷ given) ≡ option_map said_by (block_over ssrc t given) }
-    ensures packet { (seq timestamp arrival octets : ℕ) (given : List Given) →
-        last_block (packet_came seq timestamp arrival octets ∷ given) ≡ last_block given }
+    ensures packet { (seq timestamp arrival octets rate : ℕ) (given : List Given) →
+        last_block (packet_came seq timestamp arrival octets rate ∷ given) ≡ last_block given }
     ensures report { (ntp rtp moment : ℕ) (given : List Given) →
         last_block (report_came ntp rtp moment ∷ given) ≡ last_block given }
 {}
@@ -52,9 +52,9 @@ pub fn last_block_is_that_block()
 /// What is kept of a source after one thing more is computed from what was kept before it.
 pub fn summary_moves()
     ensures none { summary_of [] ≡ no_source }
-    ensures packet { (seq timestamp arrival octets : ℕ) (given : List Given) →
-        summary_of (packet_came seq timestamp arrival octets ∷ given)
-        ≡ after_packet seq timestamp arrival octets (summary_of given) }
+    ensures packet { (seq timestamp arrival octets rate : ℕ) (given : List Given) →
+        summary_of (packet_came seq timestamp arrival octets rate ∷ given)
+        ≡ after_packet seq timestamp arrival octets rate (summary_of given) }
     ensures report { (ntp rtp moment : ℕ) (given : List Given) →
         summary_of (report_came ntp rtp moment ∷ given) ≡ after_told ntp rtp moment (summary_of given) }
     ensures block { (given : List Given) →
@@ -69,10 +69,10 @@ pub fn counted_by_integer()
         65536 ≤ greatest_ordinal (run_of given).counted }
     ensures counted { (given : List Given) (seq : ℕ) → seq < 65536 → HasCounted (run_of given) →
         (taken_in (run_of given) seq ≡ Counted) ↔ HasIntegerNear (greatest_integer (run_of given)) seq }
-    ensures enters { (given : List Given) (seq timestamp arrival octets : ℕ) (integer : ℤ) → seq < 65536 →
+    ensures enters { (given : List Given) (seq timestamp arrival octets rate : ℕ) (integer : ℤ) → seq < 65536 →
         HasCounted (run_of given) → IsIntegerNear (greatest_integer (run_of given)) seq integer →
-        run_of (packet_came seq timestamp arrival octets ∷ given)
-        ≡ with_counted (packet_at (ordinal_of integer) (transit_of timestamp arrival) octets) (run_of given) }
+        run_of (packet_came seq timestamp arrival octets rate ∷ given)
+        ≡ with_counted (packet_at (ordinal_of integer) (transit_of timestamp arrival) octets rate) (run_of given) }
     ensures one { (greatest : ℤ) (seq : ℕ) (a b : ℤ) →
         IsIntegerNear greatest seq a → IsIntegerNear greatest seq b → a ≡ b }
 {}
@@ -99,4 +99,13 @@ pub fn distance_is_signed()
     ensures { (transit before : ℕ) → transit < 2 ^ 32 → before < 2 ^ 32 →
         transit_distance transit before
         ≡ unsigned_abs (cast_signed w32 ((transit + 2 ^ 32 - before) % 2 ^ 32)) }
+{}
+
+/// The jitter of a run is that of RFC 3550 (A.8) over the packets since the rate of their clock changed last: in the
+/// units of that clock, and without a difference of transits by two clocks (RFC 7160, 4.3). Where all packets that a
+/// source was given have one rate, it is that of the whole run.
+pub fn jitter_is_of_one_rate()
+    ensures newest { (counted : List CountedPacket) → jitter_of counted ≡ interarrival_jitter (since_change counted) }
+    ensures alone { (rate : ℕ) (given : List Given) → HasOneRate rate given →
+        jitter_of (run_of given).counted ≡ interarrival_jitter (run_of given).counted }
 {}

@@ -1,7 +1,7 @@
 //! What is told of a source on request, and never sent (RFC 3550, 6.4.1).
 
-/// How the packets of a source are received. All but `received` and `octets` are as in a report block (RFC 3550,
-/// 6.4.1, A.3, A.8).
+/// How the packets of a source are received. All but `received`, `octets` and `rate` are as in a report block (RFC
+/// 3550, 6.4.1, A.3, A.8).
 #[derive(Clone, Copy, Debug, PartialEq, Eq)]
 pub struct Reception {
     /// How many packets were counted since the first one, or since the last restart, late and repeated ones
@@ -14,8 +14,10 @@ pub struct Reception {
     pub lost: i32,
     /// The extended highest sequence number.
     pub highest: u32,
-    /// The jitter, in units of the media's clock.
+    /// The jitter, in units of the clock of the newest packet's payload type.
     pub jitter: u32,
+    /// The units a second of that clock.
+    pub rate: u32,
 }
 
 /// The last sender report of a source.

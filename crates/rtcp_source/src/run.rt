@@ -1,13 +1,13 @@
 //! A run of counted packets (RFC 3550, 6.4.1, appendices A.1, A.3 and A.8).
 
-ghost use Rattle.std.specs.Prelude.{◌≡◌, ◌+◌, ◌≤◌, ◌<◌, ◌^◌, ◌≤ℤ◌, pos, negsuc, Some};
+ghost use Rattle.std.specs.Prelude.{◌≡◌, ◌==◌, ◌+◌, ◌≤◌, ◌<◌, ◌^◌, ◌≤ℤ◌, pos, negsuc, Some};
 ghost use Rattle.rtcp_wire.specs.Views.{block_value};
 ghost use Rattle.rtcp_wire.specs.Writing.{IsWritableBlock};
 ghost use Rattle.rtcp_source.specs.LastBlocks.{fraction_of};
 ghost use Rattle.rtcp_source.specs.Blocks.{expected_in, lost_of, block_of_run, news_of};
 ghost use Rattle.rtcp_source.specs.Bounds.{IsRunBounded};
 ghost use Rattle.rtcp_source.specs.Steps.{run_from, run_after, run_reported};
-ghost use Rattle.rtcp_source.specs.Summary.{transit_distance, jitter_with};
+ghost use Rattle.rtcp_source.specs.Summary.{transit_distance, jitter_on};
 ghost use Rattle.rtcp_source.specs.Receptions.{reception_of_run};
 ghost use Rattle.rtcp_source.specs.Views.{run_value, reception_value};
 
@@ -22,6 +22,8 @@ pub(crate) struct Run {
     pub(crate) first: u32,
     /// The transit of the newest packet: its arrival less its timestamp, modulo 2^32.
     pub(crate) transit: u32,
+    /// The units a second of the clock in which its transit is counted.
+    pub(crate) rate: u32,
     /// The greatest ordinal.
     pub(crate) greatest: u64,
     /// How many packets were counted, late and repeated ones included.
@@ -30,7 +32,7 @@ pub(crate) struct Run {
     pub(crate) expected_before: u64,
     /// How many packets were counted at the last block of this run, 0 if there was none.
     pub(crate) received_before: u64,
-    /// The jitter, in 1/16 of a unit of the media's clock.
+    /// The jitter, in 1/16 of a unit of that clock.
     pub(crate) jitter: u64,
     /// How many octets of payload were counted, modulo 2^64.
     pub(crate) octets: u64,
@@ -39,8 +41,8 @@ pub(crate) struct Run {
 impl Run {
     /// The run that starts with this packet. Its jitter is 0, after a restart too: this is the project's
     /// choice, since A.1 leaves it open.
-    pub(crate) fn started(seq: u16, transit: u32, octets: u64) -> Run
-        ensures run { run_value result ≡ run_from seq transit octets }
+    pub(crate) fn started(seq: u16, transit: u32, octets: u64, rate: u32) -> Run
+        ensures run { run_value result ≡ run_from seq transit octets rate }
         ensures bounded { IsRunBounded 1 (run_value result) }
     {
         Run {
@@ -50,27 +52,42 @@ impl Run {
             expected_before: 0,
             received_before: 0,
             transit,
+            rate,
             jitter: 0,
             octets,
         }
     }
 
     /// The run with one more packet, whose number is near the greatest ordinal.
-    pub(crate) fn with(self, seq: u16, transit: u32, octets: u64) -> Run
+    pub(crate) fn with(self, seq: u16, transit: u32, octets: u64, rate: u32) -> Run
         requires few { self.received < 2 ^ 40 }
         requires bounded { IsRunBounded self.received (run_value self) }
-        ensures run { run_value result ≡ run_after seq transit octets (run_value self) }
+        ensures run { run_value result ≡ run_after seq transit octets rate (run_value self) }
         ensures bounded { IsRunBounded (self.received + 1) (run_value result) }
     {
-        let distance = distance(transit, self.transit) as u64;
         Run {
             greatest: self.greatest.max(nearest_ordinal(self.greatest, seq)),
             received: self.received + 1,
             transit,
-            jitter: self.jitter + distance - (self.jitter + 8) / 16,
+            rate,
+            jitter: self.jitter_with(transit, rate),
             octets: self.octets.wrapping_add(octets),
             ..self
         }
+    }
+
+    /// The jitter with one packet more, of this transit in units of a clock of this rate: it begins anew where the
+    /// packet before was counted in units of another clock (RFC 7160, 4.3).
+    #[inline(always)]
+    fn jitter_with(self, transit: u32, rate: u32) -> u64
+        requires { self.jitter ≤ 2 ^ 35 + 7 }
+        ensures exact { result
+            ≡ jitter_on (rate == self.rate) self.jitter (transit_distance transit self.transit) }
+        ensures bounded { result ≤ 2 ^ 35 + 7 }
+    {
+        let distance = distance(transit, self.transit) as u64;
+        let continued = self.jitter + distance - (self.jitter + 8) / 16;
+        if rate == self.rate { continued } else { 0 }
     }
 
     /// The run after a block was made of it.
@@ -124,6 +141,7 @@ impl Run {
             lost: lost(self.expected(), self.received),
             highest: ((self.greatest - FIRST) % (1 << 32)) as u32,
             jitter: (self.jitter / 16) as u32,
+            rate: self.rate,
         }
     }
 

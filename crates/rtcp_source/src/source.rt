@@ -1,10 +1,11 @@
 //! One source, from its first packet on (RFC 3550, 6.4.1, appendices A.1, A.3 and A.8).
 
-ghost use Rattle.std.specs.Prelude.{◌≡◌, ◌∷◌, [], ◌<◌, ◌^◌, List, Some, IsSome, option_map};
+ghost use Rattle.std.specs.Prelude.{◌≡◌, ◌∷◌, [], ◌<◌, ◌≤◌, ◌^◌, List, Some, IsSome, option_map};
 ghost use Rattle.rtcp_wire.specs.Views.{block_value};
 ghost use Rattle.rtcp_wire.specs.Writing.{IsWritableBlock};
 ghost use Rattle.rtcp_source.specs.Packets.{Given, packet_came, report_came, block_made, taken_in, run_of, has_news_since};
 ghost use Rattle.rtcp_source.specs.Summary.{StandsAt, StandsWith, last_told};
+ghost use Rattle.rtcp_source.specs.Bounds.{IsRunBounded};
 ghost use Rattle.rtcp_source.specs.Blocks.{block_for, block_over, news_of, middle_bits};
 ghost use Rattle.rtcp_source.specs.Receptions.{reception_in, reception_over};
 ghost use Rattle.rtcp_source.specs.Views.{run_value, told_value, reception_value, last_block_value};
@@ -13,7 +14,7 @@ ghost use Rattle.rtcp_source.specs.Steps.{no_source, taken_by, after_packet, aft
 
 use crate::reception::{LastBlock, Reception, Told};
 use crate::run::Run;
-use crate::sequence::judge;
+use crate::sequence::{FIRST, judge};
 use crate::taken::Taken;
 use rtcp_clock::short_delay;
 use rtcp_wire::Block;
@@ -23,20 +24,28 @@ use std::marker::Model;
 ///
 /// A contract compares a source with the state computed from its whole history, the list of all that it was
 /// given, newest first. Where the two are the same, the source stands at that list (`StandsAt`).
-// What may be missing stands beside a flag, and not in an `Option`, so that the entry of a source takes two cache
-// lines.
+// What may be missing stands beside a flag, and not in an `Option`, and the numbers of the last run stand among the
+// others, and not in a `Run`, so that the entry of a source takes two cache lines.
 #[derive(Drop)]
 pub struct Source {
     packets: u64,
-    run: Run,
+    greatest: u64,
+    /// How many packets were counted in the last run, 0 where none was started.
+    received: u64,
+    expected_before: u64,
+    received_before: u64,
+    jitter: u64,
+    octets: u64,
     ntp: u64,
     told_at: u64,
+    transit: u32,
+    rate: u32,
     rtp: u32,
     highest: u32,
+    /// The number of the first packet of the last run.
+    first: u16,
     stray: u16,
     fraction: u8,
-    /// Whether a run was started.
-    has_run: bool,
     /// Whether there was a stray since the last run started, or at all if none was.
     has_stray: bool,
     /// Whether a sender report came: `ntp` and `rtp` are its timestamps, `told_at` the moment of the last one.
@@ -48,20 +57,23 @@ pub struct Source {
 impl Model for Source {
     ghost use Rattle.std.specs.Prelude.{Some, None, if◌then◌else◌};
     ghost use Rattle.rtcp_source.specs.Summary.{SourceValue};
-    ghost use Rattle.rtcp_source.specs.Views.{run_value};
+    ghost use Rattle.rtcp_source.specs.Views.{run_kept};
     ghost use Rattle.rtcp_source.specs.Bounds.{IsBounded};
 
     ghost Value = { SourceValue };
 
     ghost view = { λ s. record {
       packets = s.packets;
-      run = if s.has_run then Some (run_value s.run) else None;
+      run = run_kept s.first s.greatest s.received s.expected_before s.received_before s.transit s.rate s.jitter
+          s.octets;
       stray = if s.has_stray then Some s.stray else None;
       told = if s.has_told then Some (record { ntp = s.ntp; rtp = s.rtp; moment = s.told_at }) else None;
       last_block = if s.has_block then Some (record { fraction = s.fraction; highest = s.highest }) else None;
     } };
 
-    ghost invariant = { λ s. IsBounded s.packets (if s.has_run then Some (run_value s.run) else None) };
+    ghost invariant = { λ s. IsBounded s.packets (
+        run_kept s.first s.greatest s.received s.expected_before s.received_before s.transit s.rate s.jitter
+        s.octets) };
 }
 
 impl Source {
@@ -72,14 +84,21 @@ impl Source {
     {
         Source {
             packets: 0,
-            run: Run::started(0, 0, 0),
+            greatest: 0,
+            received: 0,
+            expected_before: 0,
+            received_before: 0,
+            jitter: 0,
+            octets: 0,
             ntp: 0,
             told_at: 0,
+            transit: 0,
+            rate: 0,
             rtp: 0,
             highest: 0,
+            first: 0,
             stray: 0,
             fraction: 0,
-            has_run: false,
             has_stray: false,
             has_told: false,
             has_block: false,
@@ -90,23 +109,27 @@ impl Source {
     /// it was counted.
     ///
     /// `seq` and `rtp_ts` are the packet's sequence number and timestamp, `arrival` is its arrival in units
-    /// of the timestamp's clock, modulo 2^32, as rtcp_clock's `rtp_units` gives it, `octets` are those of its payload.
-    /// A source takes at most 2^40 packets.
-    pub fn take(&mut self, seq: u16, rtp_ts: u32, arrival: u32, octets: u64) -> Taken
+    /// of the timestamp's clock, modulo 2^32, as rtcp_clock's `rtp_units` gives it, `octets` are those of its payload,
+    /// and `rate` are the units a second of the timestamp's clock, which is that of the packet's payload type. A source
+    /// takes at most 2^40 packets.
+    pub fn take(&mut self, seq: u16, rtp_ts: u32, arrival: u32, octets: u64, rate: u32) -> Taken
         requires { self.old.packets < 2 ^ 40 }
         ensures taken { result ≡ taken_by self.old seq }
-        ensures step { self.new ≡ after_packet seq rtp_ts arrival octets self.old }
+        ensures step { self.new ≡ after_packet seq rtp_ts arrival octets rate self.old }
         ensures taken_in_run { (given : List Given) → StandsAt self.old given →
             result ≡ taken_in (run_of given) seq }
-        ensures stands { StandsWith self.old self.new (packet_came seq rtp_ts arrival octets) }
+        ensures stands { StandsWith self.old self.new (packet_came seq rtp_ts arrival octets rate) }
     {
         let transit = arrival.wrapping_sub(rtp_ts);
         let taken = judge(self.run().map(|run| run.greatest), self.stray(), seq);
+        self.packets += 1;
         match taken {
-            Taken::Counted => self.run = self.run.with(seq, transit, octets),
+            Taken::Counted => {
+                let run = self.kept().with(seq, transit, octets, rate);
+                self.keep(run);
+            }
             Taken::Became | Taken::Restarted => {
-                self.run = Run::started(seq, transit, octets);
-                self.has_run = true;
+                self.keep(Run::started(seq, transit, octets, rate));
                 self.has_stray = false;
             }
             Taken::Probation | Taken::Bad => {
@@ -114,7 +137,6 @@ impl Source {
                 self.has_stray = true;
             }
         }
-        self.packets += 1;
         taken
     }
 
@@ -152,8 +174,9 @@ impl Source {
             ),
             None => (0, 0),
         };
-        let block = self.run.block(ssrc, lsr, dlsr);
-        self.run = self.run.reported();
+        let run = self.kept();
+        let block = run.block(ssrc, lsr, dlsr);
+        self.keep(run.reported());
         self.fraction = block.fraction;
         self.highest = block.highest;
         self.has_block = true;
@@ -175,11 +198,10 @@ impl Source {
         ensures of_list { (given : List Given) → StandsAt self.now given →
             option_map reception_value result ≡ reception_over given }
     {
-        if self.has_run {
-            Some(self.run.reception())
-        } else {
-            None
+        if self.received == 0 {
+            return None;
         }
+        Some(self.kept().reception())
     }
 
     /// The last sender report of the source, if one came.
@@ -218,7 +240,50 @@ impl Source {
     fn run(&self) -> Option<Run>
         ensures { option_map run_value result ≡ self.now.run }
     {
-        if self.has_run { Some(self.run) } else { None }
+        if self.received == 0 {
+            return None;
+        }
+        Some(self.kept())
+    }
+
+    /// The last run, where one was started.
+    #[inline(always)]
+    fn kept(&self) -> Run
+        requires { IsSome self.now.run }
+        ensures run { Some (run_value result) ≡ self.now.run }
+        ensures few { result.received ≤ 2 ^ 40 }
+        ensures bounded { IsRunBounded result.received (run_value result) }
+        ensures packets { result.received ≤ self.now.packets }
+    {
+        Run {
+            first: FIRST as u32 + self.first as u32,
+            transit: self.transit,
+            rate: self.rate,
+            greatest: self.greatest,
+            received: self.received,
+            expected_before: self.expected_before,
+            received_before: self.received_before,
+            jitter: self.jitter,
+            octets: self.octets,
+        }
+    }
+
+    /// Keeps this as the last run.
+    #[inline(always)]
+    fn keep(&mut self, run: Run)
+        requires few { run.received ≤ self.old.packets }
+        requires bounded { IsRunBounded run.received (run_value run) }
+        ensures { self.new ≡ record self.old { run = Some (run_value run) } }
+    {
+        self.first = (run.first - FIRST as u32) as u16;
+        self.transit = run.transit;
+        self.rate = run.rate;
+        self.greatest = run.greatest;
+        self.received = run.received;
+        self.expected_before = run.expected_before;
+        self.received_before = run.received_before;
+        self.jitter = run.jitter;
+        self.octets = run.octets;
     }
 
     /// The number of the last stray.
@@ -226,11 +291,7 @@ impl Source {
     fn stray(&self) -> Option<u16>
         ensures { result ≡ self.now.stray }
     {
-        if self.has_stray {
-            Some(self.stray)
-        } else {
-            None
-        }
+        self.has_stray.then_some(self.stray)
     }
 }
 

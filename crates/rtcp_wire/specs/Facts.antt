@@ -13,7 +13,7 @@ subject (Heard ssrc) = ssrc
 subject (Told ssrc ntp rtp) = ssrc
 subject (Named ssrc) = ssrc
 subject (Gone ssrc) = ssrc
-subject (Media ssrc seq timestamp octets) = ssrc
+subject (Media ssrc seq timestamp octets rate) = ssrc
 
 -- whether it says that the source left
 abbrev pub is_gone : Fact → Bool
@@ -21,7 +21,7 @@ is_gone (Heard ssrc) = false
 is_gone (Told ssrc ntp rtp) = false
 is_gone (Named ssrc) = false
 is_gone (Gone ssrc) = true
-is_gone (Media ssrc seq timestamp octets) = false
+is_gone (Media ssrc seq timestamp octets rate) = false
 
 -- whether it is an RTP packet
 abbrev pub is_media : Fact → Bool
@@ -29,7 +29,7 @@ is_media (Heard ssrc) = false
 is_media (Told ssrc ntp rtp) = false
 is_media (Named ssrc) = false
 is_media (Gone ssrc) = false
-is_media (Media ssrc seq timestamp octets) = true
+is_media (Media ssrc seq timestamp octets rate) = true
 
 -- ---- The facts of packets
 

@@ -35,8 +35,9 @@ pub enum Fact {
     /// The source left (RFC 3550, 6.6).
     Gone(u32),
     /// An RTP packet of the source came, with this sequence number, this timestamp, and so many octets of payload
-    /// (RFC 3550, 5.1). No RTCP packet says so: the law `compounds_give_no_media`.
-    Media(u32, u16, u32, u64),
+    /// (RFC 3550, 5.1). The clock in which its timestamp counts has so many units a second: the session knows that by
+    /// its payload type. No RTCP packet says so: the law `compounds_give_no_media`.
+    Media(u32, u16, u32, u64, u32),
 }
 
 impl Fact {
@@ -51,7 +52,7 @@ impl Fact {
             | Fact::Told(ssrc, _, _)
             | Fact::Named(ssrc)
             | Fact::Gone(ssrc)
-            | Fact::Media(ssrc, _, _, _) => ssrc,
+            | Fact::Media(ssrc, _, _, _, _) => ssrc,
         }
     }
 
