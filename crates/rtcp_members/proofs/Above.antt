@@ -101,21 +101,21 @@ none_before after table rows is ssrc passes before =
 
 -- ---- By the trace
 
-no_stay : (rate ssrc : ℕ) (stay : Option (List TraceStep)) → option_map (entry_of rate ssrc) stay ≡ None → stay ≡ None
-no_stay rate ssrc None is = refl
-no_stay rate ssrc (Some stay) is = absurd cc
+no_stay : (ssrc : ℕ) (stay : Option (List TraceStep)) → option_map (entry_of ssrc) stay ≡ None → stay ≡ None
+no_stay ssrc None is = refl
+no_stay ssrc (Some stay) is = absurd cc
 
-by_stay : (after : Option ℕ) (capacity rate : ℕ) (trace : List TraceStep) (row : EntryRow)
+by_stay : (after : Option ℕ) (capacity : ℕ) (trace : List TraceStep) (row : EntryRow)
     (stay : Option (List TraceStep)) → is_after after row.0 ≡ true
     → ((ssrc : ℕ) → is_after after ssrc ≡ true → ssrc < row.0 → stay_of capacity trace ssrc ≡ None)
-    → stay_of capacity trace row.0 ≡ stay → option_map (entry_of rate row.0) stay ≡ Some row.1 →
-    IsNextTold after capacity rate trace (state_of row)
-by_stay after capacity rate trace row None above least present is = absurd cc
-by_stay after capacity rate trace row (Some stay) above least present is =
-    let own : row.1 ≡ entry_of rate row.0 stay = cc in
-    let received : reception_in row.1.source ≡ reception_over (given_of rate row.0 (before_mark row.0 stay)) =
+    → stay_of capacity trace row.0 ≡ stay → option_map (entry_of row.0) stay ≡ Some row.1 →
+    IsNextTold after capacity trace (state_of row)
+by_stay after capacity trace row None above least present is = absurd cc
+by_stay after capacity trace row (Some stay) above least present is =
+    let own : row.1 ≡ entry_of row.0 stay = cc in
+    let received : reception_in row.1.source ≡ reception_over (given_of row.0 (before_mark row.0 stay)) =
     ap (λ (e : EntryValue). reception_in e.source) own
-    ∙ summary_suffices-reception (given_of rate row.0 (before_mark row.0 stay)) in
+    ∙ summary_suffices-reception (given_of row.0 (before_mark row.0 stay)) in
     record {
       above = above;
       least = least;
@@ -134,31 +134,31 @@ by_stay after capacity rate trace row (Some stay) above least present is =
     }
 
 tells : (after : Option ℕ) (table : TableValue) (trace : List TraceStep) → StandsAt table trace →
-    (rows : List EntryRow) → rows_above after table ≡ rows → TellsAbove after table.capacity table.rate trace
+    (rows : List EntryRow) → rows_above after table ≡ rows → TellsAbove after table.capacity trace
     (first_state rows)
 tells after table trace stands [] is =
-    λ ssrc passes. no_stay table.rate ssrc _ (sym (stands ssrc) ∙ none_before after table [] is ssrc passes tt)
+    λ ssrc passes. no_stay ssrc _ (sym (stands ssrc) ∙ none_before after table [] is ssrc passes tt)
 tells after table trace stands (row ∷ rest) is =
-    by_stay after table.capacity table.rate trace row (stay_of table.capacity trace row.0)
+    by_stay after table.capacity trace row (stay_of table.capacity trace row.0)
     (above_after after table row rest is)
-    (λ ssrc passes less. no_stay table.rate ssrc _
+    (λ ssrc passes less. no_stay ssrc _
     (sym (stands ssrc) ∙ none_before after table (row ∷ rest) is ssrc passes less))
     refl (sym (stands row.0) ∙ above_is_there after table row rest is)
 
 pub tells_above : (after : Option ℕ) (table : TableValue) (trace : List TraceStep) → StandsAt table trace →
-    TellsAbove after table.capacity table.rate trace (state_above after table)
+    TellsAbove after table.capacity trace (state_above after table)
 tells_above after table trace stands = tells after table trace stands (rows_above after table) refl
 
 -- The trace says what is told.
-module _ (after : Option ℕ) (capacity rate : ℕ) (trace : List TraceStep) where
-  not_lesser : (a b : StateValue) → IsNextTold after capacity rate trace a → IsNextTold after capacity rate trace b →
+module _ (after : Option ℕ) (capacity : ℕ) (trace : List TraceStep) where
+  not_lesser : (a b : StateValue) → IsNextTold after capacity trace a → IsNextTold after capacity trace b →
       a.ssrc < b.ssrc → ⊥
   not_lesser a b first second less =
       let here : stay_of capacity trace a.ssrc ≡ Some first.stay = first.present in
       let none : stay_of capacity trace a.ssrc ≡ None = second.least a.ssrc first.above less in
       absurd cc
 
-  same_next : (a b : StateValue) → IsNextTold after capacity rate trace a → IsNextTold after capacity rate trace b →
+  same_next : (a b : StateValue) → IsNextTold after capacity trace a → IsNextTold after capacity trace b →
       a ≡ b
   same_next a b first second =
       let same : a.ssrc ≡ b.ssrc = elim (cases_lt a.ssrc b.ssrc) [
@@ -171,17 +171,17 @@ module _ (after : Option ℕ) (capacity rate : ℕ) (trace : List TraceStep) whe
       let here : stay_of capacity trace a.ssrc ≡ Some first.stay = first.present in
       let there : stay_of capacity trace b.ssrc ≡ Some second.stay = second.present in
       let stays : first.stay ≡ second.stay = cc in
-      first.says ∙ (λ i. told_in_stay rate (same i) (stays i)) ∙ sym second.says
+      first.says ∙ (λ i. told_in_stay (same i) (stays i)) ∙ sym second.says
 
   none_or_next : (state : StateValue) → ((ssrc : ℕ) → is_after after ssrc ≡ true → stay_of capacity trace ssrc ≡ None) →
-      IsNextTold after capacity rate trace state → ⊥
+      IsNextTold after capacity trace state → ⊥
   none_or_next state none next =
       let here : stay_of capacity trace state.ssrc ≡ Some next.stay = next.present in
       let nobody : stay_of capacity trace state.ssrc ≡ None = none state.ssrc next.above in
       absurd cc
 
-  pub told_once : (a b : Option StateValue) → TellsAbove after capacity rate trace a →
-      TellsAbove after capacity rate trace b → a ≡ b
+  pub told_once : (a b : Option StateValue) → TellsAbove after capacity trace a →
+      TellsAbove after capacity trace b → a ≡ b
   told_once None None first second = refl
   told_once None (Some b) first second = absurd (none_or_next b first second)
   told_once (Some a) None first second = absurd (none_or_next a second first)
@@ -211,7 +211,7 @@ told_none after table e = no_first (rows_above after table) e
 
 walk_by : (after : Option ℕ) (table : TableValue) (trace : List TraceStep) → StandsAt table trace →
     (rows : List EntryRow) → rows_above after table ≡ rows →
-    IsWalk after table.capacity table.rate trace (map state_of rows)
+    IsWalk after table.capacity trace (map state_of rows)
 walk_by after table trace stands [] is = tells after table trace stands [] is
 walk_by after table trace stands (row ∷ rows) is = (
   tells after table trace stands (row ∷ rows) is,
@@ -220,7 +220,7 @@ walk_by after table trace stands (row ∷ rows) is = (
 )
 
 pub states_are_walk : (after : Option ℕ) (table : TableValue) (trace : List TraceStep) → StandsAt table trace →
-    IsWalk after table.capacity table.rate trace (states_above after table)
+    IsWalk after table.capacity trace (states_above after table)
 states_are_walk after table trace stands = walk_by after table trace stands (rows_above after table) refl
 
 -- ---- Each once
@@ -239,7 +239,7 @@ counted_first : (ssrc : ℕ) (state : StateValue) (states : List StateValue) →
     times ssrc (state ∷ states) ≡ one_if (state.ssrc == ssrc) + times ssrc states
 counted_first ssrc state states = sum_by-cons (λ (s : StateValue). cond (s.ssrc == ssrc) 1 0) state states
 
-module _ (capacity rate : ℕ) (trace : List TraceStep) (ssrc : ℕ) where
+module _ (capacity : ℕ) (trace : List TraceStep) (ssrc : ℕ) where
   abbrev here : Bool
   here = is_some (stay_of capacity trace ssrc)
 
@@ -253,7 +253,7 @@ module _ (capacity rate : ℕ) (trace : List TraceStep) (ssrc : ℕ) where
       ] refl
 
   -- by where the source stands beside the one that is told
-  one_by : (after : Option ℕ) (state : StateValue) → IsNextTold after capacity rate trace state →
+  one_by : (after : Option ℕ) (state : StateValue) → IsNextTold after capacity trace state →
       one_if (state.ssrc == ssrc) + one_if (nat_lt state.ssrc ssrc && here) ≡ one_if (is_after after ssrc && here)
   one_by after state next =
       elim (cases_lt ssrc state.ssrc) [
@@ -283,26 +283,26 @@ module _ (capacity rate : ℕ) (trace : List TraceStep) (ssrc : ℕ) where
       no_more : (n : ℕ) → 0 + n ≡ n
       no_more n = omega arith
 
-  pub walk_counts : (after : Option ℕ) (states : List StateValue) → IsWalk after capacity rate trace states →
+  pub walk_counts : (after : Option ℕ) (states : List StateValue) → IsWalk after capacity trace states →
       times ssrc states ≡ one_if (is_after after ssrc && here)
   walk_counts after [] walk = sym (none_here after (walk ssrc))
   walk_counts after (state ∷ states) walk =
       counted_first ssrc state states ∙ ap (λ n. one_if (state.ssrc == ssrc) + n)
       (walk_counts (Some state.ssrc) states walk.1) ∙ one_by after state walk.0
 
-pub walk_rises : (after : Option ℕ) (capacity rate : ℕ) (trace : List TraceStep) (states : List StateValue) →
-    IsWalk after capacity rate trace states → RiseAbove after states
-walk_rises after capacity rate trace [] walk = tt
-walk_rises after capacity rate trace (state ∷ states) walk =
-    (walk.0.above, walk_rises (Some state.ssrc) capacity rate trace states walk.1)
+pub walk_rises : (after : Option ℕ) (capacity : ℕ) (trace : List TraceStep) (states : List StateValue) →
+    IsWalk after capacity trace states → RiseAbove after states
+walk_rises after capacity trace [] walk = tt
+walk_rises after capacity trace (state ∷ states) walk =
+    (walk.0.above, walk_rises (Some state.ssrc) capacity trace states walk.1)
 
 -- ---- By lists of entries
 
-pub told_of_sorted : (after : Option ℕ) (capacity rate : ℕ) (entries : List Entry) (n : ℕ) (table : TableValue)
-    (told : Option StateValue) → table_of capacity rate entries ≡ table → sorted.IsRising entries
+pub told_of_sorted : (after : Option ℕ) (capacity : ℕ) (entries : List Entry) (n : ℕ) (table : TableValue)
+    (told : Option StateValue) → table_of capacity entries ≡ table → sorted.IsRising entries
     → filter (is_above after) (rows_of entries) ≡ rows_of (drop n entries) →
     told ≡ first_state (rows_of (drop n entries)) → told ≡ state_above after table
-told_of_sorted after capacity rate entries n table told is rising rest says =
+told_of_sorted after capacity entries n table told is rising rest says =
     says ∙ ap first_state (sym rest ∙ ap (filter (is_above after)) (sym (entries_of_rising entries rising)))
     ∙ ap (state_above after) is
 
@@ -315,21 +315,21 @@ state_of_first after table ssrc (row ∷ rest) is e =
     ap (λ s. state_for s (finite.get table.entries s)) same
     ∙ ap (state_for row.0) (above_is_there after table row rest is)
 
-module _ (after : Option ℕ) (capacity rate : ℕ) (entries : List Entry) (table : TableValue)
-    (apart : IsApart (rows_of entries)) (is : table_of capacity rate entries ≡ table) where
+module _ (after : Option ℕ) (capacity : ℕ) (entries : List Entry) (table : TableValue)
+    (apart : IsApart (rows_of entries)) (is : table_of capacity entries ≡ table) where
   first_found : (o : Option ℕ) → o ≡ least (is_above after) (rows_of entries) →
-      o ≡ first_ssrc (rows_above after (table_of capacity rate entries))
+      o ≡ first_ssrc (rows_above after (table_of capacity entries))
   first_found o finds = finds ∙ sym (first_is_least (is_above after) (rows_of entries) apart)
 
   pub told_of_least : (ssrc : ℕ) (told : Option StateValue) → Some ssrc ≡ least (is_above after) (rows_of entries) →
       told ≡ state_for ssrc (finite.get (map_of entries) ssrc) → told ≡ state_above after table
   told_of_least ssrc told finds says =
-      let here : TableValue = table_of capacity rate entries in
+      let here : TableValue = table_of capacity entries in
       says ∙ state_of_first after here ssrc (rows_above after here) refl (first_found (Some ssrc) finds)
       ∙ ap (state_above after) is
 
   pub told_of_none : None ≡ least (is_above after) (rows_of entries) → None ≡ state_above after table
   told_of_none finds =
-      let here : TableValue = table_of capacity rate entries in
+      let here : TableValue = table_of capacity entries in
       ap first_state (sym (none_first (rows_above after here) (sym (first_found None finds))))
       ∙ ap (state_above after) is

@@ -13,9 +13,9 @@ use Rattle.rtcp_members.specs.ListViews.{entry_value, row_of, rows_of, map_of, t
 use Rattle.rtcp_members.proofs.Listing.{len_rows}
 use Rattle.rtcp_members.proofs.Changing.{map_push, apart_push}
 
-room_of : (capacity rate : ℕ) (entries : List Entry) → IsApart (rows_of entries) →
-    has_room (table_of capacity rate entries) ≡ nat_lt (length entries) capacity
-room_of capacity rate entries apart = ap (λ n. nat_lt n capacity)
+room_of : (capacity : ℕ) (entries : List Entry) → IsApart (rows_of entries) →
+    has_room (table_of capacity entries) ≡ nat_lt (length entries) capacity
+room_of capacity entries apart = ap (λ n. nat_lt n capacity)
     (len_rows (rows_of entries) apart ∙ length-map entries row_of)
 
 -- what becomes of the fact, and of the table, by whether there is room
@@ -29,51 +29,51 @@ absent_place table fact gone room none goes has =
 absent_after : (table : TableValue) (fact : Fact) (t : ℕ) (place : Place) →
     finite.get table.entries (subject fact) ≡ None → placed table fact ≡ place
     → after_fact fact t table ≡ (if changes place then record
-    table { entries = finite.insert table.entries (subject fact) (entry_after table.rate fact t new_entry) } else
+    table { entries = finite.insert table.entries (subject fact) (entry_after fact t new_entry) } else
     table)
 absent_after table fact t place none is =
     λ i. if changes (is i) then record table {
       entries = finite.insert table.entries (subject fact)
-          (entry_after table.rate fact t (unwrap_or (none i) new_entry));
+          (entry_after fact t (unwrap_or (none i) new_entry));
     } else table
 
-pub ignored : (capacity rate : ℕ) (entries : List Entry) (fact : Fact) (t : ℕ) →
+pub ignored : (capacity : ℕ) (entries : List Entry) (fact : Fact) (t : ℕ) →
     finite.get (map_of entries) (subject fact) ≡ None → is_gone fact ≡ true
-    → (Ignored ≡ placed (table_of capacity rate entries) fact)
-    × (table_of capacity rate entries ≡ after_fact fact t (table_of capacity rate entries))
-ignored capacity rate entries fact t none gone =
-    let is = absent_place (table_of capacity rate entries) fact true (has_room (table_of capacity rate entries)) none
+    → (Ignored ≡ placed (table_of capacity entries) fact)
+    × (table_of capacity entries ≡ after_fact fact t (table_of capacity entries))
+ignored capacity entries fact t none gone =
+    let is = absent_place (table_of capacity entries) fact true (has_room (table_of capacity entries)) none
     gone refl in
-    (sym is, sym (absent_after (table_of capacity rate entries) fact t Ignored none is))
+    (sym is, sym (absent_after (table_of capacity entries) fact t Ignored none is))
 
-pub no_room : (capacity rate : ℕ) (entries : List Entry) (fact : Fact) (t : ℕ) → IsApart (rows_of entries) →
+pub no_room : (capacity : ℕ) (entries : List Entry) (fact : Fact) (t : ℕ) → IsApart (rows_of entries) →
     finite.get (map_of entries) (subject fact) ≡ None → is_gone fact ≡ false → capacity ≤ length entries
-    → (NoRoom ≡ placed (table_of capacity rate entries) fact)
-    × (table_of capacity rate entries ≡ after_fact fact t (table_of capacity rate entries))
-no_room capacity rate entries fact t apart none gone full =
-    let is = absent_place (table_of capacity rate entries) fact false false none gone
-    (room_of capacity rate entries apart ∙ grind (arith, nat_tests, full)) in
-    (sym is, sym (absent_after (table_of capacity rate entries) fact t NoRoom none is))
+    → (NoRoom ≡ placed (table_of capacity entries) fact)
+    × (table_of capacity entries ≡ after_fact fact t (table_of capacity entries))
+no_room capacity entries fact t apart none gone full =
+    let is = absent_place (table_of capacity entries) fact false false none gone
+    (room_of capacity entries apart ∙ grind (arith, nat_tests, full)) in
+    (sym is, sym (absent_after (table_of capacity entries) fact t NoRoom none is))
 
 -- `next` is the list with an entry of the source added, at the end or in its gap
-pub admitted : (capacity rate : ℕ) (entries next : List Entry) (fact : Fact) (t : ℕ) → IsApart (rows_of entries) →
+pub admitted : (capacity : ℕ) (entries next : List Entry) (fact : Fact) (t : ℕ) → IsApart (rows_of entries) →
     finite.get (map_of entries) (subject fact) ≡ None → is_gone fact ≡ false → length entries < capacity
-    → map_of next ≡ finite.insert (map_of entries) (subject fact) (entry_after rate fact t new_entry)
-    → (Added ≡ placed (table_of capacity rate entries) fact)
-    × (table_of capacity rate next ≡ after_fact fact t (table_of capacity rate entries))
-admitted capacity rate entries next fact t apart none gone room added =
-    let is = absent_place (table_of capacity rate entries) fact false true none gone
-    (room_of capacity rate entries apart ∙ grind (arith, nat_tests, room)) in (
+    → map_of next ≡ finite.insert (map_of entries) (subject fact) (entry_after fact t new_entry)
+    → (Added ≡ placed (table_of capacity entries) fact)
+    × (table_of capacity next ≡ after_fact fact t (table_of capacity entries))
+admitted capacity entries next fact t apart none gone room added =
+    let is = absent_place (table_of capacity entries) fact false true none gone
+    (room_of capacity entries apart ∙ grind (arith, nat_tests, room)) in (
       sym is,
-      ap (λ m. record (table_of capacity rate entries) { entries = m }) added
-          ∙ sym (absent_after (table_of capacity rate entries) fact t Added none is),
+      ap (λ m. record (table_of capacity entries) { entries = m }) added
+          ∙ sym (absent_after (table_of capacity entries) fact t Added none is),
     )
 
-pub map_pushed : (rate : ℕ) (entries : List Entry) (fact : Fact) (t : ℕ) (e : Entry) →
+pub map_pushed : (entries : List Entry) (fact : Fact) (t : ℕ) (e : Entry) →
     finite.get (map_of entries) (subject fact) ≡ None → e.ssrc ≡ subject fact →
-    entry_value e ≡ entry_after rate fact t new_entry
-    → map_of (entries ++ e ∷ []) ≡ finite.insert (map_of entries) (subject fact) (entry_after rate fact t new_entry)
-map_pushed rate entries fact t e none its_ssrc its_value =
+    entry_value e ≡ entry_after fact t new_entry
+    → map_of (entries ++ e ∷ []) ≡ finite.insert (map_of entries) (subject fact) (entry_after fact t new_entry)
+map_pushed entries fact t e none its_ssrc its_value =
     map_push entries e (ap (finite.get (map_of entries)) its_ssrc ∙ none)
     ∙ (λ i. finite.insert (map_of entries) (its_ssrc i) (its_value i))
 

@@ -20,28 +20,28 @@ counts_in_run (Heard ssrc) given = refl
 counts_in_run (Told ssrc ntp rtp) given = refl
 counts_in_run (Named ssrc) given = refl
 counts_in_run (Gone ssrc) given = refl
-counts_in_run (Media ssrc seq timestamp octets) given =
+counts_in_run (Media ssrc seq timestamp octets rate) given =
     ap is_counted (summary_suffices-taken given seq) ∙ ap (λ b. b && is_counted (taken_in (run_of given) seq))
     (sym (eq-eqb ssrc ssrc refl))
 
-module _ (rate : ℕ) (fact : Fact) where
+module _ (fact : Fact) where
   counted_by_mark : (stay : List TraceStep) (mark : Option ℕ) → mark_of (subject fact) stay ≡ mark →
-      counted_of fact (Some (entry_of rate (subject fact) stay)) ≡ counted_in_stay rate fact (Some stay)
+      counted_of fact (Some (entry_of (subject fact) stay)) ≡ counted_in_stay fact (Some stay)
   counted_by_mark stay None unmarked =
-      ap (λ entry. counted_of fact (Some entry)) (entry_unmarked rate (subject fact) stay unmarked)
-      ∙ counts_in_run fact (given_of rate (subject fact) stay)
-      ∙ ap (λ m. is_none m && is_counted_fact (subject fact) fact (given_of rate (subject fact) stay)) (sym unmarked)
+      ap (λ entry. counted_of fact (Some entry)) (entry_unmarked (subject fact) stay unmarked)
+      ∙ counts_in_run fact (given_of (subject fact) stay)
+      ∙ ap (λ m. is_none m && is_counted_fact (subject fact) fact (given_of (subject fact) stay)) (sym unmarked)
   counted_by_mark stay (Some mark) marked =
-      ap (λ m. counted_of fact (Some (entry_with rate (subject fact) (before_mark (subject fact) stay) m))) marked
-      ∙ ap (λ m. is_none m && is_counted_fact (subject fact) fact (given_of rate (subject fact) stay)) (sym marked)
+      ap (λ m. counted_of fact (Some (entry_with (subject fact) (before_mark (subject fact) stay) m))) marked
+      ∙ ap (λ m. is_none m && is_counted_fact (subject fact) fact (given_of (subject fact) stay)) (sym marked)
 
-  counted_by_stay : (stay : Option (List TraceStep)) → counted_of fact (option_map (entry_of rate (subject fact)) stay)
-      ≡ counted_in_stay rate fact stay
+  counted_by_stay : (stay : Option (List TraceStep)) → counted_of fact (option_map (entry_of (subject fact)) stay)
+      ≡ counted_in_stay fact stay
   counted_by_stay None = refl
   counted_by_stay (Some stay) = counted_by_mark stay (mark_of (subject fact) stay) refl
 
 pub counted_agrees : (table : TableValue) (trace : List TraceStep) (fact : Fact) → StandsAt table trace →
-    counted table fact ≡ counted_at table.capacity table.rate trace fact
+    counted table fact ≡ counted_at table.capacity trace fact
 counted_agrees table trace fact stands =
     ap (counted_of fact) (stands (subject fact))
-    ∙ counted_by_stay table.rate fact (stay_of table.capacity trace (subject fact))
+    ∙ counted_by_stay fact (stay_of table.capacity trace (subject fact))

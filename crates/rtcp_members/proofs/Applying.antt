@@ -31,51 +31,51 @@ insert_same entries key value found =
       | false ↦ λ tied. refl
     ] refl)
 
-abbrev table_with : (capacity rate : ℕ) → EntryMap → TableValue
-table_with capacity rate entries = record { capacity = capacity; rate = rate; entries = entries }
+abbrev table_with : (capacity : ℕ) → EntryMap → TableValue
+table_with capacity entries = record { capacity = capacity; entries = entries }
 
-put_after : (capacity rate : ℕ) (fact : Fact) (t : ℕ) (entries : EntryMap) (value : EntryValue) (room : Bool) →
+put_after : (capacity : ℕ) (fact : Fact) (t : ℕ) (entries : EntryMap) (value : EntryValue) (room : Bool) →
     finite.get entries (subject fact) ≡ Some value
-    → table_with capacity rate (finite.insert entries (subject fact) (entry_with_fact rate fact t value))
-    ≡ (if changes (place_of fact (Some value) room) then table_with capacity rate
-    (finite.insert entries (subject fact) (entry_after rate fact t value)) else table_with capacity rate entries)
-put_after capacity rate fact t entries value room found =
-    elim (is_some value.mark) as (λ marked. table_with capacity rate
-    (finite.insert entries (subject fact) (if marked then value else entry_after rate fact t value))
-    ≡ (if changes (if marked then Ignored else (if is_gone fact then Left else Kept)) then table_with capacity rate
-    (finite.insert entries (subject fact) (entry_after rate fact t value)) else table_with capacity rate
+    → table_with capacity (finite.insert entries (subject fact) (entry_with_fact fact t value))
+    ≡ (if changes (place_of fact (Some value) room) then table_with capacity
+    (finite.insert entries (subject fact) (entry_after fact t value)) else table_with capacity entries)
+put_after capacity fact t entries value room found =
+    elim (is_some value.mark) as (λ marked. table_with capacity
+    (finite.insert entries (subject fact) (if marked then value else entry_after fact t value))
+    ≡ (if changes (if marked then Ignored else (if is_gone fact then Left else Kept)) then table_with capacity
+    (finite.insert entries (subject fact) (entry_after fact t value)) else table_with capacity
     entries)) [
-      | true ↦ ap (table_with capacity rate) (insert_same entries (subject fact) value found)
-      | false ↦ elim (is_gone fact) as (λ gone. table_with capacity rate
-          (finite.insert entries (subject fact) (entry_after rate fact t value))
-          ≡ (if changes (if gone then Left else Kept) then table_with capacity rate
-          (finite.insert entries (subject fact) (entry_after rate fact t value)) else table_with capacity rate
+      | true ↦ ap (table_with capacity) (insert_same entries (subject fact) value found)
+      | false ↦ elim (is_gone fact) as (λ gone. table_with capacity
+          (finite.insert entries (subject fact) (entry_after fact t value))
+          ≡ (if changes (if gone then Left else Kept) then table_with capacity
+          (finite.insert entries (subject fact) (entry_after fact t value)) else table_with capacity
           entries)) [ true ↦ refl | false ↦ refl ]
     ]
 
-found_after : (capacity rate : ℕ) (fact : Fact) (t : ℕ) (entries : EntryMap) (value : EntryValue) →
+found_after : (capacity : ℕ) (fact : Fact) (t : ℕ) (entries : EntryMap) (value : EntryValue) →
     finite.get entries (subject fact) ≡ Some value
-    → table_with capacity rate (finite.insert entries (subject fact) (entry_with_fact rate fact t value)) ≡ after_fact
-    fact t (table_with capacity rate entries)
-found_after capacity rate fact t entries value found =
-    let table : TableValue = table_with capacity rate entries in
-    put_after capacity rate fact t entries value (has_room table) found
-    ∙ ap (λ o. if changes (place_of fact o (has_room table)) then table_with capacity rate
-    (finite.insert entries (subject fact) (entry_after rate fact t (unwrap_or o new_entry))) else table_with
-    capacity rate entries) (sym found)
+    → table_with capacity (finite.insert entries (subject fact) (entry_with_fact fact t value)) ≡ after_fact
+    fact t (table_with capacity entries)
+found_after capacity fact t entries value found =
+    let table : TableValue = table_with capacity entries in
+    put_after capacity fact t entries value (has_room table) found
+    ∙ ap (λ o. if changes (place_of fact o (has_room table)) then table_with capacity
+    (finite.insert entries (subject fact) (entry_after fact t (unwrap_or o new_entry))) else table_with
+    capacity entries) (sym found)
 
-pub table_applied : (entries : List Entry) (at : ℕ) (fact : Fact) (t rate : ℕ) (d next : Entry) →
+pub table_applied : (entries : List Entry) (at : ℕ) (fact : Fact) (t : ℕ) (d next : Entry) →
     IsApart (rows_of entries) → IsRankOf (subject fact) entries at
     → next.ssrc ≡ (slice_index_or entries at d).ssrc →
-    entry_value next ≡ entry_with_fact rate fact t (entry_value (slice_index_or entries at d))
-    → (capacity : ℕ) → table_of capacity rate (set entries at next) ≡ after_fact fact t (table_of capacity rate entries)
-table_applied entries at fact t rate d next apart place same value capacity =
+    entry_value next ≡ entry_with_fact fact t (entry_value (slice_index_or entries at d))
+    → (capacity : ℕ) → table_of capacity (set entries at next) ≡ after_fact fact t (table_of capacity entries)
+table_applied entries at fact t d next apart place same value capacity =
     let there = read_there (subject fact) entries at d place in
     let its_ssrc : next.ssrc ≡ place.entry.ssrc = same ∙ ap (λ (y : Entry). y.ssrc) there in
-    ap (table_with capacity rate) (map_set entries at place.entry next apart place.stands its_ssrc
+    ap (table_with capacity) (map_set entries at place.entry next apart place.stands its_ssrc
     ∙ (λ i. finite.insert (map_of entries) (place.its_ssrc i)
-    ((value ∙ ap (λ (y : Entry). entry_with_fact rate fact t (entry_value y)) there) i)))
-    ∙ found_after capacity rate fact t (map_of entries) (entry_value place.entry) place.found
+    ((value ∙ ap (λ (y : Entry). entry_with_fact fact t (entry_value y)) there) i)))
+    ∙ found_after capacity fact t (map_of entries) (entry_value place.entry) place.found
 
 pub apart_applied : (ssrc : ℕ) (entries : List Entry) (at : ℕ) (d next : Entry) → IsApart (rows_of entries) →
     IsRankOf ssrc entries at → next.ssrc ≡ (slice_index_or entries at d).ssrc → IsApart (rows_of (set entries at next))
@@ -83,19 +83,19 @@ apart_applied ssrc entries at d next apart place same =
     apart_set entries at place.entry next apart place.stands
     (same ∙ ap (λ (y : Entry). y.ssrc) (read_there ssrc entries at d place))
 
-pub place_applied : (entries : List Entry) (at : ℕ) (fact : Fact) (rate : ℕ) (d : Entry) (its : Place) →
+pub place_applied : (entries : List Entry) (at : ℕ) (fact : Fact) (d : Entry) (its : Place) →
     IsRankOf (subject fact) entries at
     → ((room : Bool) → its ≡ place_of fact (Some (entry_value (slice_index_or entries at d))) room) → (capacity : ℕ) →
-    its ≡ placed (table_of capacity rate entries) fact
-place_applied entries at fact rate d its place says capacity =
-    says (has_room (table_of capacity rate entries))
-    ∙ ap (λ o. place_of fact o (has_room (table_of capacity rate entries)))
+    its ≡ placed (table_of capacity entries) fact
+place_applied entries at fact d its place says capacity =
+    says (has_room (table_of capacity entries))
+    ∙ ap (λ o. place_of fact o (has_room (table_of capacity entries)))
     (ap (λ (y : Entry). Some (entry_value y)) (read_there (subject fact) entries at d place) ∙ sym place.found)
 
-pub counted_applied : (entries : List Entry) (at : ℕ) (fact : Fact) (rate : ℕ) (d : Entry) (its : Bool) →
+pub counted_applied : (entries : List Entry) (at : ℕ) (fact : Fact) (d : Entry) (its : Bool) →
     IsRankOf (subject fact) entries at
     → its ≡ counted_of fact (Some (entry_value (slice_index_or entries at d))) → (capacity : ℕ) →
-    its ≡ counted (table_of capacity rate entries) fact
-counted_applied entries at fact rate d its place says capacity =
+    its ≡ counted (table_of capacity entries) fact
+counted_applied entries at fact d its place says capacity =
     says ∙ ap (counted_of fact) (ap (λ (y : Entry). Some (entry_value y)) (read_there (subject fact) entries at d place)
     ∙ sym place.found)

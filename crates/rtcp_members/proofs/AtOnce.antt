@@ -79,7 +79,7 @@ became fact t table key found room =
     if changes (place_of fact found room)
     then record table {
       entries = finite.insert table.entries key
-          (entry_after table.rate fact t (unwrap_or found new_entry));
+          (entry_after fact t (unwrap_or found new_entry));
     }
     else table
 
@@ -89,9 +89,9 @@ with_entry table ssrc e = record table { entries = finite.insert table.entries s
 
 module _ (fact : Fact) (ssrc t : ℕ) (own : subject fact ≡ ssrc) (stays : is_gone fact ≡ false) where
   found_fact : (table : TableValue) (e : EntryValue) → finite.get table.entries ssrc ≡ Some e → is_some e.mark ≡ false →
-      after_fact fact t table ≡ with_entry table ssrc (entry_after table.rate fact t e)
+      after_fact fact t table ≡ with_entry table ssrc (entry_after fact t e)
   found_fact table e is unmarked =
-      let next = with_entry table ssrc (entry_after table.rate fact t e) in
+      let next = with_entry table ssrc (entry_after fact t e) in
       (λ i. became fact t table (own i) (finite.get table.entries (own i)) (has_room table))
       ∙ ap (λ found. became fact t table ssrc found (has_room table)) is
       ∙ ap (λ marked. if changes (if marked then Ignored else (if is_gone fact then Left else Kept)) then next else
@@ -99,23 +99,23 @@ module _ (fact : Fact) (ssrc t : ℕ) (own : subject fact ≡ ssrc) (stays : is_
       ∙ ap (λ gone. if changes (if gone then Left else Kept) then next else table) stays
 
   new_fact : (table : TableValue) → finite.get table.entries ssrc ≡ None → has_room table ≡ true →
-      after_fact fact t table ≡ with_entry table ssrc (entry_after table.rate fact t new_entry)
+      after_fact fact t table ≡ with_entry table ssrc (entry_after fact t new_entry)
   new_fact table is room =
-      let next = with_entry table ssrc (entry_after table.rate fact t new_entry) in
+      let next = with_entry table ssrc (entry_after fact t new_entry) in
       (λ i. became fact t table (own i) (finite.get table.entries (own i)) (has_room table))
       ∙ ap (λ found. became fact t table ssrc found (has_room table)) is
       ∙ (λ i. if changes (if stays i then Ignored else (if room i then Added else NoRoom)) then next else table)
 
-  module _ (table : TableValue) (over : (e : EntryValue) → entry_after table.rate fact t (record e { sighting = t })
-      ≡ entry_after table.rate fact t e) where
+  module _ (table : TableValue) (over : (e : EntryValue) → entry_after fact t (record e { sighting = t })
+      ≡ entry_after fact t e) where
     twice : (e : EntryValue) → is_some e.mark ≡ false →
         after_fact fact t (with_entry table ssrc (record e { sighting = t })) ≡ with_entry table ssrc
-        (entry_after table.rate fact t e)
+        (entry_after fact t e)
     twice e unmarked =
         let seen : EntryValue = record e { sighting = t } in
         found_fact (with_entry table ssrc seen) seen (inserted table.entries ssrc seen) unmarked
         ∙ ap (λ (m : EntryMap). record table { entries = m })
-        (inserted_twice table.entries ssrc seen (entry_after table.rate fact t seen)
+        (inserted_twice table.entries ssrc seen (entry_after fact t seen)
         ∙ ap (finite.insert table.entries ssrc) (over e))
 
     heard_before : after_fact fact t (after_fact (Heard ssrc) t table) ≡ after_fact fact t table
@@ -165,7 +165,7 @@ differ_not : (members senders : ℕ) → differ members senders members senders 
 differ_not members senders = (λ i. not (eq-eqb members members refl i && eq-eqb senders senders refl i))
 
 module _ (fact : Fact) (ssrc t : ℕ) (table : TableValue) (own : subject fact ≡ ssrc) (stays : is_gone fact ≡ false)
-    (over : (e : EntryValue) → entry_after table.rate fact t (record e { sighting = t }) ≡ entry_after table.rate fact t
+    (over : (e : EntryValue) → entry_after fact t (record e { sighting = t }) ≡ entry_after fact t
     e) where
   members_stay : members_in (after_fact (Heard ssrc) t table) ≡ members_in table
   members_stay = heard_counts ssrc t table is_member (λ e. refl) refl

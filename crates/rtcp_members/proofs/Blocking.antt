@@ -18,51 +18,51 @@ use Rattle.rtcp_members.proofs.Staying.{entry_with, moved_entry, entry_unmarked,
 
 -- ---- What is said of a source
 
-own_block : (rate ssrc other : ℕ) (stay : List TraceStep) → (other == ssrc) ≡ true →
-    moved_entry rate ssrc (block_taken other) stay ≡ reported_entry (entry_with rate ssrc stay None)
-own_block rate ssrc other stay own =
+own_block : (ssrc other : ℕ) (stay : List TraceStep) → (other == ssrc) ≡ true →
+    moved_entry ssrc (block_taken other) stay ≡ reported_entry (entry_with ssrc stay None)
+own_block ssrc other stay own =
     rw own (ap (λ source. record {
-      valid = is_valid rate ssrc stay;
+      valid = is_valid ssrc stay;
       mark = None;
       sighting = last_naming ssrc stay;
-      sending = sending_of rate ssrc stay;
+      sending = sending_of ssrc stay;
       source = source;
-    }) (summary_moves-block (given_of rate ssrc stay)))
+    }) (summary_moves-block (given_of ssrc stay)))
 
-other_block : (rate ssrc other : ℕ) (stay : List TraceStep) → (other == ssrc) ≡ false →
-    moved_entry rate ssrc (block_taken other) stay ≡ entry_with rate ssrc stay None
-other_block rate ssrc other stay apart = rw apart refl
+other_block : (ssrc other : ℕ) (stay : List TraceStep) → (other == ssrc) ≡ false →
+    moved_entry ssrc (block_taken other) stay ≡ entry_with ssrc stay None
+other_block ssrc other stay apart = rw apart refl
 
 -- an entry after a block of its source, if it has no mark
 abbrev pub reported_if : EntryValue → EntryValue
 reported_if entry = if is_some entry.mark then entry else reported_entry entry
 
-module _ (capacity rate ssrc other : ℕ) (trace : List TraceStep) where
+module _ (capacity ssrc other : ℕ) (trace : List TraceStep) where
   abbrev pub said_after_block : Option (List TraceStep) → Option EntryValue
-  said_after_block stay = option_map (entry_of rate ssrc)
+  said_after_block stay = option_map (entry_of ssrc)
       (stay_with capacity (block_taken other) (names trace) (stay_of capacity trace) ssrc stay)
 
   pub own_stay : (other == ssrc) ≡ true → (stay : Option (List TraceStep)) →
-      said_after_block stay ≡ option_map reported_if (option_map (entry_of rate ssrc) stay)
+      said_after_block stay ≡ option_map reported_if (option_map (entry_of ssrc) stay)
   own_stay own None = refl
   own_stay own (Some stay) =
       elim (mark_of ssrc stay) as (λ m. mark_of ssrc stay ≡ m →
       said_after_block (Some stay) ≡ Some
-      (if is_some m then entry_of rate ssrc stay else reported_entry (entry_of rate ssrc stay))) [
-        | None ↦ λ unmarked. ap Some (entry_moves rate ssrc (block_taken other) stay unmarked
-            ∙ own_block rate ssrc other stay own ∙ ap reported_entry (sym (entry_unmarked rate ssrc stay unmarked)))
-        | Some mark ↦ λ marked. ap Some (entry_marked rate ssrc (block_taken other) stay mark marked)
+      (if is_some m then entry_of ssrc stay else reported_entry (entry_of ssrc stay))) [
+        | None ↦ λ unmarked. ap Some (entry_moves ssrc (block_taken other) stay unmarked
+            ∙ own_block ssrc other stay own ∙ ap reported_entry (sym (entry_unmarked ssrc stay unmarked)))
+        | Some mark ↦ λ marked. ap Some (entry_marked ssrc (block_taken other) stay mark marked)
       ] refl
 
   pub other_stay : (other == ssrc) ≡ false → (stay : Option (List TraceStep)) →
-      said_after_block stay ≡ option_map (entry_of rate ssrc) stay
+      said_after_block stay ≡ option_map (entry_of ssrc) stay
   other_stay apart None = refl
   other_stay apart (Some stay) =
       elim (mark_of ssrc stay) as (λ m. mark_of ssrc stay ≡ m →
-      said_after_block (Some stay) ≡ Some (entry_of rate ssrc stay)) [
-        | None ↦ λ unmarked. ap Some (entry_moves rate ssrc (block_taken other) stay unmarked
-            ∙ other_block rate ssrc other stay apart ∙ sym (entry_unmarked rate ssrc stay unmarked))
-        | Some mark ↦ λ marked. ap Some (entry_marked rate ssrc (block_taken other) stay mark marked)
+      said_after_block (Some stay) ≡ Some (entry_of ssrc stay)) [
+        | None ↦ λ unmarked. ap Some (entry_moves ssrc (block_taken other) stay unmarked
+            ∙ other_block ssrc other stay apart ∙ sym (entry_unmarked ssrc stay unmarked))
+        | Some mark ↦ λ marked. ap Some (entry_marked ssrc (block_taken other) stay mark marked)
       ] refl
 
 -- ---- The table
@@ -81,7 +81,7 @@ module _ (table : TableValue) (trace : List TraceStep) (stands : StandsAt table 
   abbrev next : TableValue
   next = with_reported reported table (Some entry)
 
-  at_reported : map.get next.entries reported ≡ entry_at table.capacity table.rate (block_taken reported ∷ trace)
+  at_reported : map.get next.entries reported ≡ entry_at table.capacity (block_taken reported ∷ trace)
       reported
   at_reported =
       map.get-insert nat_cmp_total table.entries reported (reported_entry entry) reported
@@ -89,23 +89,23 @@ module _ (table : TableValue) (trace : List TraceStep) (stands : StandsAt table 
       (unsigned_tied reported reported ∙ eq-eqb reported reported refl)
       ∙ ap (λ b. Some (if b then entry else reported_entry entry)) (sym unmarked)
       ∙ ap (option_map reported_if) (sym found ∙ stands reported)
-      ∙ sym (own_stay table.capacity table.rate reported reported trace (eq-eqb reported reported refl)
+      ∙ sym (own_stay table.capacity reported reported trace (eq-eqb reported reported refl)
       (stay_of table.capacity trace reported))
 
-  at_other : (ssrc : ℕ) → (reported == ssrc) ≡ false → map.get next.entries ssrc ≡ entry_at table.capacity table.rate
+  at_other : (ssrc : ℕ) → (reported == ssrc) ≡ false → map.get next.entries ssrc ≡ entry_at table.capacity
       (block_taken reported ∷ trace) ssrc
   at_other ssrc apart =
       map.get-insert nat_cmp_total table.entries reported (reported_entry entry) ssrc
       ∙ ap (λ b. cond b (Some (reported_entry entry)) (map.get table.entries ssrc))
       (unsigned_tied ssrc reported ∙ ne_eqb ssrc reported (λ same. eqb-false reported ssrc apart (sym same)))
       ∙ stands ssrc
-      ∙ sym (other_stay table.capacity table.rate ssrc reported trace apart (stay_of table.capacity trace ssrc))
+      ∙ sym (other_stay table.capacity ssrc reported trace apart (stay_of table.capacity trace ssrc))
 
   block_stands : StandsAt next (block_taken reported ∷ trace)
   block_stands ssrc =
       elim (reported == ssrc) as (λ b. (reported == ssrc) ≡ b →
-      map.get next.entries ssrc ≡ entry_at table.capacity table.rate (block_taken reported ∷ trace) ssrc) [
-        | true ↦ λ own. subst (λ s. map.get next.entries s ≡ entry_at table.capacity table.rate
+      map.get next.entries ssrc ≡ entry_at table.capacity (block_taken reported ∷ trace) ssrc) [
+        | true ↦ λ own. subst (λ s. map.get next.entries s ≡ entry_at table.capacity
             (block_taken reported ∷ trace) s) (eqb-true reported ssrc own) at_reported
         | false ↦ λ apart. at_other ssrc apart
       ] refl

@@ -41,22 +41,22 @@ by_counted : (b : Bounds) (counted : Bool) (t : ℕ) (sending : Option ℕ) → 
 by_counted b true t sending up h = up
 by_counted b false t sending up h = h
 
-after_by : (b : Bounds) (rate : ℕ) (fact : Fact) (t : ℕ) (valid : Bool) (mark : Option ℕ) (sighting : ℕ)
+after_by : (b : Bounds) (fact : Fact) (t : ℕ) (valid : Bool) (mark : Option ℕ) (sighting : ℕ)
     (sending : Option ℕ) (source : SourceValue) → IsUpTo b fact t →
     (b.silent ≤ sighting) × MarkStandsBy b mark sending →
-    StandsBy b (entry_with_fact rate fact t
+    StandsBy b (entry_with_fact fact t
     (record { valid = valid; mark = mark; sighting = sighting; sending = sending; source = source }))
-after_by b rate fact t valid (Some mark) sighting sending source up h = h
-after_by b rate (Heard ssrc) t valid None sighting sending source up h = (up, h.1)
-after_by b rate (Told ssrc ntp rtp) t valid None sighting sending source up h = (up, h.1)
-after_by b rate (Named ssrc) t valid None sighting sending source up h = (up, h.1)
-after_by b rate (Gone ssrc) t valid None sighting sending source up h = (h.0, up)
-after_by b rate (Media ssrc seq timestamp octets) t valid None sighting sending source up h =
+after_by b fact t valid (Some mark) sighting sending source up h = h
+after_by b (Heard ssrc) t valid None sighting sending source up h = (up, h.1)
+after_by b (Told ssrc ntp rtp) t valid None sighting sending source up h = (up, h.1)
+after_by b (Named ssrc) t valid None sighting sending source up h = (up, h.1)
+after_by b (Gone ssrc) t valid None sighting sending source up h = (h.0, up)
+after_by b (Media ssrc seq timestamp octets rate) t valid None sighting sending source up h =
     (up.0, by_counted b _ t sending up.1 h.1)
 
-pub stands_after : (b : Bounds) (rate : ℕ) (fact : Fact) (t : ℕ) (e : EntryValue) → IsUpTo b fact t → StandsBy b e →
-    StandsBy b (entry_with_fact rate fact t e)
-stands_after b rate fact t e up h = after_by b rate fact t e.valid e.mark e.sighting e.sending e.source up h
+pub stands_after : (b : Bounds) (fact : Fact) (t : ℕ) (e : EntryValue) → IsUpTo b fact t → StandsBy b e →
+    StandsBy b (entry_with_fact fact t e)
+stands_after b fact t e up h = after_by b fact t e.valid e.mark e.sighting e.sending e.source up h
 
 -- ---- Lists
 

@@ -1,5 +1,5 @@
 -- How many entries a table has after a step.
-use Rattle.std.proofs.Common.{◌≡◌, ◌≤◌, ◌+◌, ℕ, suc, Bool, true, false, cond, if◌then◌else◌, nat_lt, List, [], ◌∷◌, length, Option, Some, None, is_some, option_map, filter_map, nat_cmp, arith, refl, ◌∙◌, le_trans, le_of_eq, le_refl, zero-le}
+use Rattle.std.proofs.Common.{◌≡◌, ◌≤◌, ◌+◌, ◌-◌, ℕ, suc, Bool, true, false, cond, if◌then◌else◌, nat_lt, List, [], ◌∷◌, length, Option, Some, None, is_some, option_map, filter_map, nat_cmp, arith, refl, ◌∙◌, le_trans, le_of_eq, le_refl, zero-le}
 use Rattle.std.proofs.lemmas.Bool.{ltb-true}
 use Rattle.std.specs.List.{cons_option}
 use Rattle.std.specs.Cmp.{nat_cmp_total}
@@ -8,50 +8,52 @@ use Rattle.rtcp_wire.specs.declared.fact.Fact.{Fact}
 use Rattle.rtcp_members.specs.declared.table.Place.TheVariants.{Added, NoRoom, Ignored}
 use Rattle.rtcp_wire.specs.Facts.{subject, is_gone}
 use Rattle.rtcp_members.specs.Traces.{Horizons}
-use Rattle.rtcp_members.specs.Entries.{EntryValue}
+use Rattle.rtcp_members.specs.Entries.{EntryValue, is_such}
 use Rattle.rtcp_members.specs.Pending.{EntryRow, with_reported, after_block, after_blocks}
-use Rattle.rtcp_members.specs.Tables.{EntryMap, TableValue, KeepsBounds, changes, placed, place_of, entry_after, entry_for, after_fact, after_facts, entry_after_check, after_check, updated_row, updated, no_members}
+use Rattle.rtcp_members.specs.Tables.{EntryMap, TableValue, KeepsBounds, changes, placed, place_of, entry_after, entry_for, after_fact, after_facts, entry_after_check, after_check, after_forgetting, is_unmarked, updated_row, updated, no_members}
 
--- ---- Capacity and rate
+-- ---- Capacity
 
 kept_if : (b : Bool) (table : TableValue) (entries : EntryMap) →
     KeepsBounds table (if b then record table { entries = entries } else table)
-kept_if true table entries = record { capacity = refl; rate = refl }
-kept_if false table entries = record { capacity = refl; rate = refl }
+kept_if true table entries = record { capacity = refl }
+kept_if false table entries = record { capacity = refl }
 
 kept_twice : (old next last : TableValue) → KeepsBounds old next → KeepsBounds next last → KeepsBounds old last
 kept_twice old next last first second = record {
   capacity = second.capacity ∙ first.capacity;
-  rate = second.rate
-      ∙ first.rate;
 }
 
 pub fact_keeps_bounds : (table : TableValue) (fact : Fact) (moment : ℕ) →
     KeepsBounds table (after_fact fact moment table)
 fact_keeps_bounds table fact moment =
     kept_if (changes (placed table fact)) table
-    (map.insert table.entries (subject fact) (entry_after table.rate fact moment (entry_for table fact)))
+    (map.insert table.entries (subject fact) (entry_after fact moment (entry_for table fact)))
 
 pub facts_keep_bounds : (facts : List Fact) (table : TableValue) (moment : ℕ) →
     KeepsBounds table (after_facts facts moment table)
-facts_keep_bounds [] table moment = record { capacity = refl; rate = refl }
+facts_keep_bounds [] table moment = record { capacity = refl }
 facts_keep_bounds (fact ∷ facts) table moment =
     kept_twice table (after_fact fact moment table) _ (fact_keeps_bounds table fact moment)
     (facts_keep_bounds facts (after_fact fact moment table) moment)
 
 pub check_keeps_bounds : (table : TableValue) (horizons : Horizons) → KeepsBounds table (after_check horizons table)
-check_keeps_bounds table horizons = record { capacity = refl; rate = refl }
+check_keeps_bounds table horizons = record { capacity = refl }
+
+pub forgetting_keeps_bounds : (table : TableValue) (ssrc : ℕ) → KeepsBounds table (after_forgetting ssrc table)
+forgetting_keeps_bounds table ssrc =
+    kept_if (is_such is_unmarked (map.get table.entries ssrc)) table (map.remove table.entries ssrc)
 
 reported_keeps : (table : TableValue) (ssrc : ℕ) (entry : Option EntryValue) →
     KeepsBounds table (with_reported ssrc table entry)
-reported_keeps table ssrc None = record { capacity = refl; rate = refl }
-reported_keeps table ssrc (Some entry) = record { capacity = refl; rate = refl }
+reported_keeps table ssrc None = record { capacity = refl }
+reported_keeps table ssrc (Some entry) = record { capacity = refl }
 
 pub block_keeps_bounds : (table : TableValue) (ssrc : ℕ) → KeepsBounds table (after_block ssrc table)
 block_keeps_bounds table ssrc = reported_keeps table ssrc (map.get table.entries ssrc)
 
 pub blocks_keep_bounds : (rows : List EntryRow) (table : TableValue) → KeepsBounds table (after_blocks rows table)
-blocks_keep_bounds [] table = record { capacity = refl; rate = refl }
+blocks_keep_bounds [] table = record { capacity = refl }
 blocks_keep_bounds (row ∷ rows) table =
     kept_twice table (after_block row.0 table) _ (block_keeps_bounds table row.0)
     (blocks_keep_bounds rows (after_block row.0 table))
@@ -132,7 +134,30 @@ pub check_keeps_capacity : (table : TableValue) (horizons : Horizons) → map.le
     map.len (after_check horizons table).entries ≤ table.capacity
 check_keeps_capacity table horizons within = le_trans (len_updated (entry_after_check horizons) table.entries) within
 
+-- ---- Sources that are gone
+
+len_removed : (entries : EntryMap) (ssrc : ℕ) → map.len (map.remove entries ssrc) ≤ map.len entries
+len_removed entries ssrc =
+    rw (map.len-remove nat_cmp_total entries ssrc)
+    (elim (map.contains_key entries ssrc) as (λ b. cond b (map.len entries - 1) (map.len entries) ≤ map.len entries) [
+      | true ↦ omega arith
+      | false ↦ le_refl _
+    ])
+
+pub forgetting_adds_none : (table : TableValue) (ssrc : ℕ) →
+    map.len (after_forgetting ssrc table).entries ≤ map.len table.entries
+forgetting_adds_none table ssrc =
+    elim (is_such is_unmarked (map.get table.entries ssrc)) as (λ b. map.len
+    (if b then record table { entries = map.remove table.entries ssrc } else table).entries ≤ map.len table.entries) [
+      | true ↦ len_removed table.entries ssrc
+      | false ↦ le_refl _
+    ]
+
+pub forgetting_keeps_capacity : (table : TableValue) (ssrc : ℕ) → map.len table.entries ≤ table.capacity →
+    map.len (after_forgetting ssrc table).entries ≤ table.capacity
+forgetting_keeps_capacity table ssrc within = le_trans (forgetting_adds_none table ssrc) within
+
 -- ---- The empty table
 
-pub none_within : (capacity rate : ℕ) → map.len (no_members capacity rate).entries ≤ capacity
-none_within capacity rate = rw (map.len-empty nat_cmp EntryValue) zero-le
+pub none_within : (capacity : ℕ) → map.len (no_members capacity).entries ≤ capacity
+none_within capacity = rw (map.len-empty nat_cmp EntryValue) zero-le

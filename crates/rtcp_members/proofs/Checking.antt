@@ -44,34 +44,34 @@ left_alone horizons (e ∷ entries) all =
     sym (λ i. cond (its.1 i) (as_it_was i ∷ sym rest i) (checked horizons entries))
 
 -- A check that the bounds rule out drops nothing.
-pub nothing_dropped : (horizons : Horizons) (capacity rate : ℕ) (entries : List Entry) (bounds : Bounds)
-    (table : TableValue) → table_of capacity rate entries ≡ table → IsSortedTable capacity entries →
+pub nothing_dropped : (horizons : Horizons) (capacity : ℕ) (entries : List Entry) (bounds : Bounds)
+    (table : TableValue) → table_of capacity entries ≡ table → IsSortedTable capacity entries →
     RulesOut horizons entries bounds → (0 ≡ dropped_entries horizons table) × (0 ≡ dropped_senders horizons table)
-    × (table_of capacity rate entries ≡ after_check horizons table)
-nothing_dropped horizons capacity rate entries bounds table view sorted out =
+    × (table_of capacity entries ≡ after_check horizons table)
+nothing_dropped horizons capacity entries bounds table view sorted out =
     let same = left_alone horizons entries (all_left bounds horizons entries out) in
     let listed = listed_of capacity entries sorted in
     let count : ℕ = senders_in table in (
-      omega (arith, dropped_checked horizons entries entries same capacity rate table view listed),
+      omega (arith, dropped_checked horizons entries entries same capacity table view listed),
       omega (
         arith,
-        senders_checked horizons entries entries same capacity rate table view listed count count refl
+        senders_checked horizons entries entries same capacity table view listed count count refl
             (ap senders_in (sym view)),
       ),
-      table_checked horizons entries entries same capacity rate table view listed,
+      table_checked horizons entries entries same capacity table view listed,
     )
 
 -- One that drops some leaves so many senders fewer.
 pub senders_dropped : (horizons : Horizons) (entries next : List Entry) → next ≡ checked horizons entries →
-    (capacity rate : ℕ) (table : TableValue) → table_of capacity rate entries ≡ table →
+    (capacity : ℕ) (table : TableValue) → table_of capacity entries ≡ table →
     IsSortedTable capacity entries → (old new : Counts) → AreCounts old entries → AreCounts new next →
     old.senders - new.senders ≡ dropped_senders horizons table
-senders_dropped horizons entries next is capacity rate table view sorted old new counts counts_left =
+senders_dropped horizons entries next is capacity table view sorted old new counts counts_left =
     let listed = listed_of capacity entries sorted in
-    let left = listed_checked horizons entries next is capacity rate table view listed in
-    senders_checked horizons entries next is capacity rate table view listed old.senders new.senders
-    (counted_at is_sender capacity rate entries table old.senders listed.apart view counts.senders)
-    (counted_at is_sender capacity rate next (table_of capacity rate next) new.senders left.apart refl
+    let left = listed_checked horizons entries next is capacity table view listed in
+    senders_checked horizons entries next is capacity table view listed old.senders new.senders
+    (counted_at is_sender capacity entries table old.senders listed.apart view counts.senders)
+    (counted_at is_sender capacity next (table_of capacity next) new.senders left.apart refl
     counts_left.senders)
 
 -- ---- Still in order

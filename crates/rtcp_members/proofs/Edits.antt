@@ -46,15 +46,15 @@ module _ (ssrc : ℕ) (entries next : List Entry) (at : ℕ) (change : EntryValu
       (all_set bounds entries at made.entry all (subst (StandsBy bounds) (sym (made.value place.entry)) (stays _
       (stands_there bounds entries at place.entry ssrc place all))))
 
-module _ (fact : Fact) (t rate : ℕ) (entries next : List Entry) (at : ℕ) (place : IsRankOf (subject fact) entries at)
-    (made : IsChanged (entry_with_fact rate fact t) entries next at) where
-  pub table_edited : IsRising entries → (capacity : ℕ) → table_of capacity rate next ≡ after_fact fact t
-      (table_of capacity rate entries)
+module _ (fact : Fact) (t : ℕ) (entries next : List Entry) (at : ℕ) (place : IsRankOf (subject fact) entries at)
+    (made : IsChanged (entry_with_fact fact t) entries next at) where
+  pub table_edited : IsRising entries → (capacity : ℕ) → table_of capacity next ≡ after_fact fact t
+      (table_of capacity entries)
   table_edited rising capacity =
-      ap (table_of capacity rate) made.items
-      ∙ table_applied entries at fact t rate place.entry made.entry (rising_apart entries rising) place
+      ap (table_of capacity) made.items
+      ∙ table_applied entries at fact t place.entry made.entry (rising_apart entries rising) place
       (made.ssrc place.entry) (made.value place.entry) capacity
 
   pub stand_with_fact : (bounds : Bounds) → IsUpTo bounds fact t → AllStandBy bounds entries → AllStandBy bounds next
   stand_with_fact bounds up = stand_edited (subject fact) entries next at
-      (entry_with_fact rate fact t) place made bounds (λ value. stands_after bounds rate fact t value up)
+      (entry_with_fact fact t) place made bounds (λ value. stands_after bounds fact t value up)

@@ -33,7 +33,7 @@ module _ (table : TableValue) (trace : List TraceStep) (stands : StandsAt table 
       ∙ same_passing _ _ entry_is_present (names trace)
 
   -- As many of its entries pass a test as of what the trace says of its sources.
-  pub count_agrees : (test : EntryValue → Bool) → count_in test table ≡ count_at test table.capacity table.rate trace
+  pub count_agrees : (test : EntryValue → Bool) → count_in test table ≡ count_at test table.capacity trace
   count_agrees test =
       passing_entries test (names trace) (names_are_once trace) table.entries entry_is_named
       ∙ same_passing _ _ (λ ssrc. ap (is_such test) (stands ssrc)) (names trace)
@@ -46,15 +46,15 @@ module _ (table : TableValue) (trace : List TraceStep) (stands : StandsAt table 
 
 module _ (table : TableValue) (fact : Fact) (moment : ℕ) where
   abbrev next : EntryValue
-  next = entry_after table.rate fact moment (entry_for table fact)
+  next = entry_after fact moment (entry_for table fact)
 
   -- the table, where b says whether the fact changes it
   abbrev written : Bool → TableValue
   written b = if b then record table { entries = map.insert table.entries (subject fact) next } else table
 
-  same_bounds : (b : Bool) → ((written b).capacity ≡ table.capacity) × ((written b).rate ≡ table.rate)
-  same_bounds true = (refl, refl)
-  same_bounds false = (refl, refl)
+  same_bounds : (b : Bool) → (written b).capacity ≡ table.capacity
+  same_bounds true = refl
+  same_bounds false = refl
 
   get_subject : (b : Bool) → map.get (written b).entries (subject fact)
       ≡ (if b then Some next else map.get table.entries (subject fact))
@@ -74,30 +74,30 @@ module _ (table : TableValue) (fact : Fact) (moment : ℕ) where
   get_other ssrc apart false = refl
 
   get_own : (ssrc : ℕ) → (subject fact == ssrc) ≡ true → map.get (after_fact fact moment table).entries ssrc
-      ≡ kept_by table.rate fact moment (has_room table) (map.get table.entries ssrc)
+      ≡ kept_by fact moment (has_room table) (map.get table.entries ssrc)
   get_own ssrc own =
-      subst (λ s. map.get (after_fact fact moment table).entries s ≡ kept_by table.rate fact moment (has_room table)
+      subst (λ s. map.get (after_fact fact moment table).entries s ≡ kept_by fact moment (has_room table)
       (map.get table.entries s)) (eqb-true (subject fact) ssrc own) (get_subject (changes (placed table fact)))
 
 module _ (table : TableValue) (trace : List TraceStep) (fact : Fact) (moment : ℕ) (stands : StandsAt table trace) where
-  entry_follows : (ssrc : ℕ) → map.get (after_fact fact moment table).entries ssrc ≡ entry_at table.capacity table.rate
+  entry_follows : (ssrc : ℕ) → map.get (after_fact fact moment table).entries ssrc ≡ entry_at table.capacity
       (fact_came fact moment ∷ trace) ssrc
   entry_follows ssrc =
       elim (subject fact == ssrc) as (λ b. (subject fact == ssrc) ≡ b →
-      map.get (after_fact fact moment table).entries ssrc ≡ entry_at table.capacity table.rate
+      map.get (after_fact fact moment table).entries ssrc ≡ entry_at table.capacity
       (fact_came fact moment ∷ trace) ssrc) [
         | true ↦ λ own. get_own table fact moment ssrc own
-            ∙ (λ i. kept_by table.rate fact moment (room_is_there table trace stands i) (stands ssrc i))
-            ∙ sym (own_entry_at table.capacity table.rate ssrc moment fact trace own)
+            ∙ (λ i. kept_by fact moment (room_is_there table trace stands i) (stands ssrc i))
+            ∙ sym (own_entry_at table.capacity ssrc moment fact trace own)
         | false ↦ λ apart. get_other table fact moment ssrc apart (changes (placed table fact))
             ∙ stands ssrc
-            ∙ sym (other_entry_at table.capacity table.rate ssrc moment fact trace apart)
+            ∙ sym (other_entry_at table.capacity ssrc moment fact trace apart)
       ] refl
 
   pub fact_follows : StandsAt (after_fact fact moment table) (fact_came fact moment ∷ trace)
   fact_follows ssrc =
       let same = same_bounds table fact moment (changes (placed table fact)) in
-      entry_follows ssrc ∙ (λ i. entry_at (sym same.0 i) (sym same.1 i) (fact_came fact moment ∷ trace) ssrc)
+      entry_follows ssrc ∙ (λ i. entry_at (sym same i) (fact_came fact moment ∷ trace) ssrc)
 
 pub facts_follow : (facts : List Fact) (table : TableValue) (trace : List TraceStep) (moment : ℕ) →
     StandsAt table trace → StandsAt (after_facts facts moment table) (with_facts facts moment trace)
@@ -112,9 +112,9 @@ pub check_follows : (table : TableValue) (trace : List TraceStep) (horizons : Ho
 check_follows table trace horizons stands ssrc =
     get_updated (entry_after_check horizons) table.entries ssrc
     ∙ ap (option_and_then (entry_after_check horizons)) (stands ssrc)
-    ∙ sym (checked_entry_at table.capacity table.rate ssrc horizons trace)
+    ∙ sym (checked_entry_at table.capacity ssrc horizons trace)
 
 -- ---- The empty table
 
-pub none_stands : (capacity rate : ℕ) → StandsAt (no_members capacity rate) []
-none_stands capacity rate ssrc = map.get-empty nat_cmp ssrc
+pub none_stands : (capacity : ℕ) → StandsAt (no_members capacity) []
+none_stands capacity ssrc = map.get-empty nat_cmp ssrc

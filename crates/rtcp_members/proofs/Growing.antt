@@ -42,13 +42,13 @@ one_more_name test x xs = elim
 
 -- ---- Members of a trace
 
-still_member : (rate moment : ℕ) (fact : Fact) (entry : EntryValue) → is_gone fact ≡ false → is_member entry ≡ true →
-    is_member (entry_after rate fact moment entry) ≡ true
-still_member rate moment (Heard ssrc) entry stays member = member
-still_member rate moment (Told ssrc ntp rtp) entry stays member = member
-still_member rate moment (Named ssrc) entry stays member = (and_parts entry.valid _ member).1
-still_member rate moment (Gone ssrc) entry stays member = absurd (true≢false stays)
-still_member rate moment (Media ssrc seq timestamp octets) entry stays member =
+still_member : (moment : ℕ) (fact : Fact) (entry : EntryValue) → is_gone fact ≡ false → is_member entry ≡ true →
+    is_member (entry_after fact moment entry) ≡ true
+still_member moment (Heard ssrc) entry stays member = member
+still_member moment (Told ssrc ntp rtp) entry stays member = member
+still_member moment (Named ssrc) entry stays member = (and_parts entry.valid _ member).1
+still_member moment (Gone ssrc) entry stays member = absurd (true≢false stays)
+still_member moment (Media ssrc seq timestamp octets rate) entry stays member =
     let parts = and_parts entry.valid _ member in
     λ i. or_right (is_counted (taken_by entry.source seq)) entry.valid parts.0 i && parts.1 i
 
@@ -56,25 +56,25 @@ unmarked : (mark : Option ℕ) → is_none mark ≡ true → is_some mark ≡ fa
 unmarked None h = refl
 unmarked (Some m) h = absurd cc
 
-kept_member : (rate moment : ℕ) (fact : Fact) (room : Bool) (entry : Option EntryValue) → is_gone fact ≡ false →
-    is_such is_member entry ≡ true → is_such is_member (kept_by rate fact moment room entry) ≡ true
-kept_member rate moment fact room None stays member = absurd (true≢false (sym member))
-kept_member rate moment fact room (Some entry) stays member =
+kept_member : (moment : ℕ) (fact : Fact) (room : Bool) (entry : Option EntryValue) → is_gone fact ≡ false →
+    is_such is_member entry ≡ true → is_such is_member (kept_by fact moment room entry) ≡ true
+kept_member moment fact room None stays member = absurd (true≢false (sym member))
+kept_member moment fact room (Some entry) stays member =
     let parts = and_parts entry.valid _ member in
     (λ i. is_such is_member (if changes
     (if unmarked entry.mark parts.1 i then Ignored else (if stays i then Left else Kept)) then Some
-    (entry_after rate fact moment entry) else Some entry))
-    ∙ still_member rate moment fact entry stays member
+    (entry_after fact moment entry) else Some entry))
+    ∙ still_member moment fact entry stays member
 
-module _ (capacity rate : ℕ) (trace : List TraceStep) (fact : Fact) (moment : ℕ) (stays : is_gone fact ≡ false) where
-  member_stays : (ssrc : ℕ) → is_such is_member (entry_at capacity rate trace ssrc) ≡ true →
-      is_such is_member (entry_at capacity rate (fact_came fact moment ∷ trace) ssrc) ≡ true
+module _ (capacity : ℕ) (trace : List TraceStep) (fact : Fact) (moment : ℕ) (stays : is_gone fact ≡ false) where
+  member_stays : (ssrc : ℕ) → is_such is_member (entry_at capacity trace ssrc) ≡ true →
+      is_such is_member (entry_at capacity (fact_came fact moment ∷ trace) ssrc) ≡ true
   member_stays ssrc member =
       elim (subject fact == ssrc) as (λ b. (subject fact == ssrc) ≡ b →
-      is_such is_member (entry_at capacity rate (fact_came fact moment ∷ trace) ssrc) ≡ true) [
-        | true ↦ λ own. ap (is_such is_member) (own_entry_at capacity rate ssrc moment fact trace own)
-            ∙ kept_member rate moment fact (room_at capacity trace) (entry_at capacity rate trace ssrc) stays member
-        | false ↦ λ apart. ap (is_such is_member) (other_entry_at capacity rate ssrc moment fact trace apart) ∙ member
+      is_such is_member (entry_at capacity (fact_came fact moment ∷ trace) ssrc) ≡ true) [
+        | true ↦ λ own. ap (is_such is_member) (own_entry_at capacity ssrc moment fact trace own)
+            ∙ kept_member moment fact (room_at capacity trace) (entry_at capacity trace ssrc) stays member
+        | false ↦ λ apart. ap (is_such is_member) (other_entry_at capacity ssrc moment fact trace apart) ∙ member
       ] refl
 
   no_fewer_names : (test : ℕ → Bool) (known : Bool) →
@@ -82,10 +82,10 @@ module _ (capacity rate : ℕ) (trace : List TraceStep) (fact : Fact) (moment : 
   no_fewer_names test true = le_refl _
   no_fewer_names test false = one_more_name test (subject fact) (names trace)
 
-  pub members_stay : members_at capacity rate trace ≤ members_at capacity rate (fact_came fact moment ∷ trace)
+  pub members_stay : members_at capacity trace ≤ members_at capacity (fact_came fact moment ∷ trace)
   members_stay =
-      let before : ℕ → Bool = λ ssrc. is_such is_member (entry_at capacity rate trace ssrc) in
-      let next : ℕ → Bool = λ ssrc. is_such is_member (entry_at capacity rate (fact_came fact moment ∷ trace) ssrc) in
+      let before : ℕ → Bool = λ ssrc. is_such is_member (entry_at capacity trace ssrc) in
+      let next : ℕ → Bool = λ ssrc. is_such is_member (entry_at capacity (fact_came fact moment ∷ trace) ssrc) in
       let more : passing before (names trace) ≤ passing next (names trace) = more_pass before next member_stays
       (names trace) in
       let further : passing next (names trace) ≤ passing next (names (fact_came fact moment ∷ trace)) =

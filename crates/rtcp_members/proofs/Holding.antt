@@ -14,7 +14,7 @@ pub held_as_stayed : (table : TableValue) (trace : List TraceStep) (ssrc : ℕ) 
     is_some (finite.get table.entries ssrc) ≡ is_some (stay_of table.capacity trace ssrc)
 held_as_stayed table trace ssrc stands = ap is_some (stands ssrc) ∙ mapped (stay_of table.capacity trace ssrc)
   where
-    mapped : (stay : Option (List TraceStep)) → is_some (option_map (entry_of table.rate ssrc) stay) ≡ is_some stay
+    mapped : (stay : Option (List TraceStep)) → is_some (option_map (entry_of ssrc) stay) ≡ is_some stay
     mapped None = refl
     mapped (Some stay) = refl
 
@@ -26,10 +26,10 @@ whole_stay ssrc (step ∷ earlier) none =
 
 pub block_of_stay : (table : TableValue) (trace : List TraceStep) (ssrc t : ℕ) (stay : List TraceStep) →
     StandsAt table trace → stay_of table.capacity trace ssrc ≡ Some stay → mark_of ssrc stay ≡ None
-    → block_at ssrc t table ≡ block_over ssrc t (given_of table.rate ssrc stay)
+    → block_at ssrc t table ≡ block_over ssrc t (given_of ssrc stay)
 block_of_stay table trace ssrc t stay stands stays none =
     let entry : Option EntryValue →
     Option ReportBlock = option_and_then (λ (entry : EntryValue). block_for ssrc t entry.source) in
-    ap entry (stands ssrc ∙ ap (option_map (entry_of table.rate ssrc)) stays)
-    ∙ summary_suffices-block (given_of table.rate ssrc (before_mark ssrc stay)) ssrc t
-    ∙ ap (λ (own : List TraceStep). block_over ssrc t (given_of table.rate ssrc own)) (whole_stay ssrc stay none)
+    ap entry (stands ssrc ∙ ap (option_map (entry_of ssrc)) stays)
+    ∙ summary_suffices-block (given_of ssrc (before_mark ssrc stay)) ssrc t
+    ∙ ap (λ (own : List TraceStep). block_over ssrc t (given_of ssrc own)) (whole_stay ssrc stay none)

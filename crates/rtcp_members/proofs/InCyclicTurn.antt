@@ -116,10 +116,10 @@ no_due_rows (e ∷ entries) none =
     ] none
 
 -- Where no entry is due, no source is pending.
-pub none_pending : (last : Option ℕ) (capacity rate : ℕ) (entries : List Entry) (table : TableValue) →
-    table_of capacity rate entries ≡ table → IsRising entries → tally_of is_due entries ≡ 0 →
+pub none_pending : (last : Option ℕ) (capacity : ℕ) (entries : List Entry) (table : TableValue) →
+    table_of capacity entries ≡ table → IsRising entries → tally_of is_due entries ≡ 0 →
     None ≡ first_ssrc (pending last table)
-none_pending last capacity rate entries table is rising none =
+none_pending last capacity entries table is rising none =
     let rows : due_rows table ≡ [] = ap due_rows (sym is) ∙ ap (filter (λ (row : EntryRow). is_due row.1))
     (entries_of_rising entries rising) ∙ no_due_rows entries none in
     sym (ap (λ (rows : List EntryRow). first_ssrc (in_turn last rows)) rows)
@@ -139,8 +139,8 @@ first_of_both : (xs ys : List EntryRow) (first : Option ℕ) → first ≡ first
 first_of_both xs ys (Some ssrc) is = sym (some_first xs ys ssrc is)
 first_of_both xs ys None is = ap (λ rows. first_ssrc (rows ++ ys)) (sym (none_first xs (sym is)))
 
-module _ (last : Option ℕ) (capacity rate : ℕ) (entries : List Entry) (n : ℕ) (table : TableValue)
-    (is : table_of capacity rate entries ≡ table) (rising : IsRising entries) (cut : CutsAbove last entries n) where
+module _ (last : Option ℕ) (capacity : ℕ) (entries : List Entry) (n : ℕ) (table : TableValue)
+    (is : table_of capacity entries ≡ table) (rising : IsRising entries) (cut : CutsAbove last entries n) where
   abbrev due_of : List Entry → List EntryRow
   due_of xs = filter (λ (row : EntryRow). is_due row.1) (rows_of xs)
 

@@ -37,23 +37,23 @@ gap_of : (ssrc : ℕ) (entries : List Entry) (at : ℕ) (e : Entry) → IsGapFor
     IsGapFor e.ssrc entries at
 gap_of ssrc entries at e gap is = subst (λ s. IsGapFor s entries at) (sym is) gap
 
-map_inserted : (rate : ℕ) (entries : List Entry) (at : ℕ) (fact : Fact) (t : ℕ) (e : Entry) →
-    IsGapFor (subject fact) entries at → e.ssrc ≡ subject fact → entry_value e ≡ entry_after rate fact t new_entry
-    → map_of (insert entries at e) ≡ finite.insert (map_of entries) (subject fact) (entry_after rate fact t new_entry)
-map_inserted rate entries at fact t e gap its_ssrc its_value =
+map_inserted : (entries : List Entry) (at : ℕ) (fact : Fact) (t : ℕ) (e : Entry) →
+    IsGapFor (subject fact) entries at → e.ssrc ≡ subject fact → entry_value e ≡ entry_after fact t new_entry
+    → map_of (insert entries at e) ≡ finite.insert (map_of entries) (subject fact) (entry_after fact t new_entry)
+map_inserted entries at fact t e gap its_ssrc its_value =
     map_in_gap entries at e (gap_of (subject fact) entries at e gap its_ssrc)
     ∙ (λ i. finite.insert (map_of entries) (its_ssrc i) (its_value i))
 
 -- What the fact makes of the table.
-pub inserted : (capacity rate : ℕ) (entries : List Entry) (at : ℕ) (fact : Fact) (t : ℕ) (e : Entry) →
+pub inserted : (capacity : ℕ) (entries : List Entry) (at : ℕ) (fact : Fact) (t : ℕ) (e : Entry) →
     IsRising entries → IsGapFor (subject fact) entries at → is_gone fact ≡ false → length entries < capacity →
-    e.ssrc ≡ subject fact → entry_value e ≡ entry_after rate fact t new_entry
-    → (Added ≡ placed (table_of capacity rate entries) fact)
-    × (table_of capacity rate (insert entries at e) ≡ after_fact fact t (table_of capacity rate entries))
-inserted capacity rate entries at fact t e rising gap stays room its_ssrc its_value =
-    admitted capacity rate entries (insert entries at e) fact t (rising_apart entries rising)
+    e.ssrc ≡ subject fact → entry_value e ≡ entry_after fact t new_entry
+    → (Added ≡ placed (table_of capacity entries) fact)
+    × (table_of capacity (insert entries at e) ≡ after_fact fact t (table_of capacity entries))
+inserted capacity entries at fact t e rising gap stays room its_ssrc its_value =
+    admitted capacity entries (insert entries at e) fact t (rising_apart entries rising)
     (none_in_gap (subject fact) entries at gap) stays room
-    (map_inserted rate entries at fact t e gap its_ssrc its_value)
+    (map_inserted entries at fact t e gap its_ssrc its_value)
 
 pub sorted_insert : (capacity : ℕ) (entries : List Entry) (at : ℕ) (e : Entry) (ssrc : ℕ) →
     IsSortedTable capacity entries → IsGapFor ssrc entries at → e.ssrc ≡ ssrc → length entries < capacity →

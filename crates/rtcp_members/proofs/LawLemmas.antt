@@ -6,7 +6,7 @@ use Rattle.std.specs.FinMap as finite
 use Rattle.rtcp_wire.specs.declared.fact.Fact.{Fact}
 use Rattle.rtcp_wire.specs.declared.fact.Fact.TheVariants.{Heard, Named, Told}
 use Rattle.rtcp_wire.specs.Facts.{is_media}
-use Rattle.rtcp_members.specs.Traces.{TraceStep, with_facts}
+use Rattle.rtcp_members.specs.Traces.{TraceStep, source_forgotten, with_facts}
 use Rattle.rtcp_members.specs.Entries.{EntryValue, members_at, senders_at, is_such, is_member, is_sender, entry_at}
 use Rattle.rtcp_members.specs.Pending.{EntryRow, is_due_at, pending, after_blocks}
 use Rattle.rtcp_members.specs.Roles.{IsSameRole, facts_move}
@@ -16,6 +16,7 @@ use Rattle.rtcp_members.proofs.AtOnce.{once_said, once_moved}
 use Rattle.rtcp_members.proofs.Blocking.{blocks_keep_capacity}
 use Rattle.rtcp_members.proofs.Capacity.{facts_keep_bounds, blocks_keep_bounds, facts_keep_capacity}
 use Rattle.rtcp_members.proofs.Following.{facts_follow, count_agrees}
+use Rattle.rtcp_members.proofs.Forgetting.{fewer_left}
 use Rattle.rtcp_members.proofs.Packets.{few_facts}
 use Rattle.rtcp_members.proofs.Turns.{due_row}
 pub use Rattle.rtcp_members.proofs.Following.{none_stands as tables_follow_traces-none}
@@ -23,6 +24,10 @@ pub use Rattle.rtcp_members.proofs.Following.{fact_follows as tables_follow_trac
 pub use Rattle.rtcp_members.proofs.Following.{check_follows as tables_follow_traces-check}
 pub use Rattle.rtcp_members.proofs.Following.{len_is_present as counts_agree-entries}
 pub use Rattle.rtcp_members.proofs.Blocking.{block_follows as tables_follow_traces-block}
+pub use Rattle.rtcp_members.proofs.Removing.{forgetting_follows as tables_follow_traces-forgotten}
+pub use Rattle.rtcp_members.proofs.Removing.{few_forgotten as packets_are_few-forgotten}
+pub use Rattle.rtcp_members.proofs.Removing.{left_at as forgetting_goes_as_silence-left}
+pub use Rattle.rtcp_members.proofs.Forgetting.{forgotten_is_gone as forgetting_goes_as_silence-gone}
 pub use Rattle.rtcp_members.proofs.Blocking.{block_keeps_capacity as capacity_is_kept-block}
 pub use Rattle.rtcp_members.proofs.Blocking.{few_block as packets_are_few-block}
 pub use Rattle.rtcp_members.proofs.TraceTables.{table_stands as trace_has_one_table-stands}
@@ -33,9 +38,11 @@ pub use Rattle.rtcp_members.proofs.Holding.{block_of_stay as tables_hold_stays-b
 pub use Rattle.rtcp_members.proofs.Capacity.{fact_keeps_bounds as bounds_are_kept-fact}
 pub use Rattle.rtcp_members.proofs.Capacity.{check_keeps_bounds as bounds_are_kept-check}
 pub use Rattle.rtcp_members.proofs.Capacity.{block_keeps_bounds as bounds_are_kept-block}
+pub use Rattle.rtcp_members.proofs.Capacity.{forgetting_keeps_bounds as bounds_are_kept-forgotten}
 pub use Rattle.rtcp_members.proofs.Capacity.{none_within as capacity_is_kept-none}
 pub use Rattle.rtcp_members.proofs.Capacity.{fact_keeps_capacity as capacity_is_kept-fact}
 pub use Rattle.rtcp_members.proofs.Capacity.{check_keeps_capacity as capacity_is_kept-check}
+pub use Rattle.rtcp_members.proofs.Capacity.{forgetting_keeps_capacity as capacity_is_kept-forgotten}
 pub use Rattle.rtcp_members.proofs.Growing.{senders_are_members as counts_are_ordered-senders}
 pub use Rattle.rtcp_members.proofs.Growing.{members_are_entries as counts_are_ordered-members}
 pub use Rattle.rtcp_members.proofs.Growing.{check_adds_no_sender as counts_are_ordered-check_senders}
@@ -65,6 +72,8 @@ pub use Rattle.rtcp_members.proofs.RoleCounts.{steps_keep as roles_move_with_cou
 pub use Rattle.rtcp_members.proofs.RoleCounts.{block_moves_none as roles_move_with_counts-block}
 pub use Rattle.rtcp_members.proofs.Roles.{facts_alone_moved as moves_follow_traces-facts}
 pub use Rattle.rtcp_members.proofs.Roles.{check_moved as moves_follow_traces-check}
+pub use Rattle.rtcp_members.proofs.Roles.{forgetting_moved as moves_follow_traces-forgotten}
+pub use Rattle.rtcp_members.proofs.OneClock.{one_rate_each as one_clock_is_one_rate}
 
 -- ---- Tables and traces
 
@@ -74,11 +83,11 @@ pub tables_follow_traces-facts : (table : TableValue) (trace : List TraceStep) (
 tables_follow_traces-facts = λ table trace facts moment. facts_follow facts table trace moment
 
 pub counts_agree-members : (table : TableValue) (trace : List TraceStep) → StandsAt table trace →
-    members_in table ≡ members_at table.capacity table.rate trace
+    members_in table ≡ members_at table.capacity trace
 counts_agree-members = λ table trace stands. count_agrees table trace stands is_member
 
 pub counts_agree-senders : (table : TableValue) (trace : List TraceStep) → StandsAt table trace →
-    senders_in table ≡ senders_at table.capacity table.rate trace
+    senders_in table ≡ senders_at table.capacity trace
 counts_agree-senders = λ table trace stands. count_agrees table trace stands is_sender
 
 pub bounds_are_kept-facts : (table : TableValue) (facts : List Fact) (moment : ℕ) →
@@ -102,6 +111,14 @@ pub packets_are_few-facts : (packets : ℕ) (table : TableValue) (facts : List F
     HasFew packets table → HasFew packets (after_facts facts moment table)
 packets_are_few-facts = λ packets table facts moment. few_facts packets facts table moment
 
+pub forgetting_goes_as_silence-members : (capacity : ℕ) (trace : List TraceStep) (ssrc : ℕ) →
+    members_at capacity (source_forgotten ssrc ∷ trace) ≤ members_at capacity trace
+forgetting_goes_as_silence-members = fewer_left is_member
+
+pub forgetting_goes_as_silence-senders : (capacity : ℕ) (trace : List TraceStep) (ssrc : ℕ) →
+    senders_at capacity (source_forgotten ssrc ∷ trace) ≤ senders_at capacity trace
+forgetting_goes_as_silence-senders = fewer_left is_sender
+
 -- ---- Stays and senders
 
 -- ---- Turns
@@ -115,11 +132,11 @@ first_is_due-due = λ last table row rest is. search (rules, due_row last table 
 
 -- ---- Who is a member, and who sends
 
-pub roles_move_with_counts-none : (capacity rate : ℕ) (trace : List TraceStep) → members_at capacity rate trace ≡ 0 →
-    (ssrc : ℕ) → IsSameRole None (entry_at capacity rate trace ssrc)
-roles_move_with_counts-none = λ capacity rate trace none ssrc.
-    let no_member = nobody_passes is_member capacity rate trace none ssrc in
-    (sym no_member, sym (no_sender (entry_at capacity rate trace ssrc) no_member))
+pub roles_move_with_counts-none : (capacity : ℕ) (trace : List TraceStep) → members_at capacity trace ≡ 0 →
+    (ssrc : ℕ) → IsSameRole None (entry_at capacity trace ssrc)
+roles_move_with_counts-none = λ capacity trace none ssrc.
+    let no_member = nobody_passes is_member capacity trace none ssrc in
+    (sym no_member, sym (no_sender (entry_at capacity trace ssrc) no_member))
   where
     no_sender : (entry : Option EntryValue) → is_such is_member entry ≡ false → is_such is_sender entry ≡ false
     no_sender None none = refl

@@ -162,11 +162,11 @@ and_true true = refl
 and_true false = refl
 
 -- What two walks of a list find is the first pending source of its table.
-pub first_waiting : (last : Option ℕ) (capacity rate : ℕ) (entries : List Entry) (above all : Option ℕ) →
+pub first_waiting : (last : Option ℕ) (capacity : ℕ) (entries : List Entry) (above all : Option ℕ) →
     IsApart (rows_of entries)
     → above ≡ least (is_due_above last) (rows_of entries) → all ≡ least (is_due_above None) (rows_of entries)
-    → first_ssrc (pending last (table_of capacity rate entries)) ≡ (if is_some above then above else all)
-first_waiting last capacity rate entries above all apart finds finds_all =
+    → first_ssrc (pending last (table_of capacity entries)) ≡ (if is_some above then above else all)
+first_waiting last capacity entries above all apart finds finds_all =
     let rows : List EntryRow = finite.entries (map_of entries) in
     let due : List EntryRow = filter (λ row. is_due row.1) rows in
     let found : above ≡ first_ssrc (filter (is_above last) due) =
@@ -177,10 +177,10 @@ first_waiting last capacity rate entries above all apart finds finds_all =
     (rows_of entries) apart ∙ sym finds_all in
     first_in_turn last due above found ∙ ap (λ o. if is_some above then above else o) found_all
 
-pub first_waiting_in : (last : Option ℕ) (capacity rate : ℕ) (entries : List Entry) (table : TableValue)
-    (above all : Option ℕ) → IsApart (rows_of entries) → table_of capacity rate entries ≡ table
+pub first_waiting_in : (last : Option ℕ) (capacity : ℕ) (entries : List Entry) (table : TableValue)
+    (above all : Option ℕ) → IsApart (rows_of entries) → table_of capacity entries ≡ table
     → above ≡ least (is_due_above last) (rows_of entries) → all ≡ least (is_due_above None) (rows_of entries)
     → (if is_some above then above else all) ≡ first_ssrc (pending last table)
-first_waiting_in last capacity rate entries table above all apart is finds finds_all =
-    sym (first_waiting last capacity rate entries above all apart finds finds_all)
+first_waiting_in last capacity entries table above all apart is finds finds_all =
+    sym (first_waiting last capacity entries above all apart finds finds_all)
     ∙ ap (λ (t : TableValue). first_ssrc (pending last t)) is

@@ -19,6 +19,8 @@ mod Tallies
 mod LeastDue
 mod Reporting
 mod Blocking
+mod Forgetting
+mod Removing
 mod TurnsRows
 mod Turns
 mod NextDue
@@ -28,6 +30,7 @@ mod Weights
 mod Placing
 mod BoundLemmas
 mod Inserting
+mod Leaving
 mod Ranks
 mod Heaps
 mod Halving
@@ -51,3 +54,4 @@ mod Holding
 mod Roles
 mod RoleCounts
 pub mod LawLemmas
+mod OneClock

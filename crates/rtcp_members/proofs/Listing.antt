@@ -92,16 +92,16 @@ len_rows (row ∷ rows) apart =
     ∙ omega (arith, len_rows rows apart.1)
 
 -- As many as in the list are in a table that is seen as it.
-pub entries_of : (capacity rate : ℕ) (entries : List Entry) (table : TableValue) (count : ℕ) →
-    IsApart (rows_of entries) → table_of capacity rate entries ≡ table → count ≡ length entries →
+pub entries_of : (capacity : ℕ) (entries : List Entry) (table : TableValue) (count : ℕ) →
+    IsApart (rows_of entries) → table_of capacity entries ≡ table → count ≡ length entries →
     count ≡ finite.len table.entries
-entries_of capacity rate entries table count apart view is =
+entries_of capacity entries table count apart view is =
     is ∙ sym (len_rows (rows_of entries) apart ∙ length-map entries row_of)
     ∙ ap (λ (t : TableValue). finite.len t.entries) view
 
 -- ---- One entry changed
 
-same_entry : (x e : Entry) → Some x ≡ Some e → x ≡ e
+pub same_entry : (x e : Entry) → Some x ≡ Some e → x ≡ e
 same_entry x e is = ap (λ o. unwrap_or o e) is
 
 pub tied_itself : (key : ℕ) → eq_by_cmp nat_cmp key key ≡ true
@@ -124,7 +124,7 @@ found_at (x ∷ xs) (suc at) e is =
     [ true ↦ refl | false ↦ found_at xs at e is ]
 
 -- which stands after another one is of another source
-other_source : (x : Entry) (xs : List Entry) (at : ℕ) (e : Entry) → IsApart (rows_of (x ∷ xs)) →
+pub other_source : (x : Entry) (xs : List Entry) (at : ℕ) (e : Entry) → IsApart (rows_of (x ∷ xs)) →
     slice_get xs at ≡ Some e → x.ssrc ≡ e.ssrc → ⊥
 other_source x xs at e apart is same =
     absurd (not_both (ap (λ k. is_some (finite.find nat_cmp k (rows_of xs))) same ∙ found_at xs at e is)
@@ -135,7 +135,7 @@ asked_again : {X : Type 0} (b : Bool) (x y z : X) → cond b x z ≡ cond b x (c
 asked_again true x y z = refl
 asked_again false x y z = refl
 
-in_turn : {X : Type 0} (a b : Bool) (x y z : X) → (a ≡ true → b ≡ true → ⊥) →
+pub in_turn : {X : Type 0} (a b : Bool) (x y z : X) → (a ≡ true → b ≡ true → ⊥) →
     cond a x (cond b y z) ≡ cond b y (cond a x z)
 in_turn true true x y z apart = absurd (apart refl refl)
 in_turn true false x y z apart = refl

@@ -3,7 +3,7 @@ use Rattle.std.proofs.Common.{◌≡◌, ℕ, Bool, true, false, true≢false, c
 use Rattle.std.proofs.lemmas.Bool.{eqb-true, or_parts, and_parts, or_left, or_right, not-true}
 use Rattle.rtcp_wire.specs.declared.fact.Fact.{Fact}
 use Rattle.rtcp_wire.specs.Facts.{subject, is_gone}
-use Rattle.rtcp_members.specs.Traces.{TraceStep, fact_came, check_made, block_taken, is_naming, with_name, names}
+use Rattle.rtcp_members.specs.Traces.{TraceStep, fact_came, check_made, block_taken, source_forgotten, is_naming, with_name, names}
 use Rattle.rtcp_members.specs.Stays.{present_among, stay_with, stay_of}
 use Rattle.rtcp_members.proofs.Counting.{has, IsOnce}
 
@@ -22,6 +22,7 @@ names_are_once [] = tt
 names_are_once (fact_came fact moment ∷ trace) = once_with fact (names trace) (names_are_once trace)
 names_are_once (check_made horizons ∷ trace) = names_are_once trace
 names_are_once (block_taken ssrc ∷ trace) = names_are_once trace
+names_are_once (source_forgotten ssrc ∷ trace) = names_are_once trace
 
 named_with : (fact : Fact) (ssrc : ℕ) (named : List ℕ) → is_gone fact ≡ false → (subject fact == ssrc) ≡ true →
     has ssrc (with_name fact named) ≡ true
@@ -48,12 +49,14 @@ naming_is_named (fact_came fact moment) trace ssrc naming =
     named_with fact ssrc (names trace) (not-true (is_gone fact) parts.0) parts.1
 naming_is_named (check_made horizons) trace ssrc naming = absurd (true≢false (sym naming))
 naming_is_named (block_taken other) trace ssrc naming = absurd (true≢false (sym naming))
+naming_is_named (source_forgotten other) trace ssrc naming = absurd (true≢false (sym naming))
 
 pub still_named : (step : TraceStep) (trace : List TraceStep) (ssrc : ℕ) → has ssrc (names trace) ≡ true →
     has ssrc (names (step ∷ trace)) ≡ true
 still_named (fact_came fact moment) trace ssrc known = still_with fact ssrc (names trace) known
 still_named (check_made horizons) trace ssrc known = known
 still_named (block_taken other) trace ssrc known = known
+still_named (source_forgotten other) trace ssrc known = known
 
 -- ---- Stays
 

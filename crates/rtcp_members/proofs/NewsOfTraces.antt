@@ -166,7 +166,7 @@ module _ (entry : ℕ → Option EntryValue) where
 
 module _ (table : TableValue) (trace : List TraceStep) (stands : StandsAt table trace) where
   abbrev entry : ℕ → Option EntryValue
-  entry = entry_at table.capacity table.rate trace
+  entry = entry_at table.capacity trace
 
   abbrev ordered : List ℕ
   ordered = rising (names trace)
@@ -174,7 +174,7 @@ module _ (table : TableValue) (trace : List TraceStep) (stands : StandsAt table 
   present_is_ordered : (ssrc : ℕ) → is_some (entry ssrc) ≡ true → has ssrc ordered ≡ true
   present_is_ordered ssrc some =
       has_rising ssrc (names trace) ∙ present_is_named table.capacity trace ssrc
-      (sym (is_some_mapped (entry_of table.rate ssrc) (stay_of table.capacity trace ssrc)) ∙ some)
+      (sym (is_some_mapped (entry_of ssrc) (stay_of table.capacity trace ssrc)) ∙ some)
 
   are_sorted : T (finite.is_sorted nat_cmp (rows entry ordered))
   are_sorted = sorted_rows entry ordered (are_rising (names trace) (names_are_once trace))
@@ -198,43 +198,43 @@ module _ (table : TableValue) (trace : List TraceStep) (stands : StandsAt table 
 
 -- ---- News, by stays
 
-module _ (rate ssrc : ℕ) where
+module _ (ssrc : ℕ) where
   unmarked_news : (stay : List TraceStep) (mark : Option ℕ) → mark_of ssrc stay ≡ mark →
-      is_due (entry_of rate ssrc stay) ≡ (is_none (mark_of ssrc stay) && has_news_since (given_of rate ssrc stay))
+      is_due (entry_of ssrc stay) ≡ (is_none (mark_of ssrc stay) && has_news_since (given_of ssrc stay))
   unmarked_news stay None unmarked =
-      ap is_due (entry_unmarked rate ssrc stay unmarked)
-      ∙ summary_suffices-news (given_of rate ssrc stay)
-      ∙ ap (λ m. is_none m && has_news_since (given_of rate ssrc stay)) (sym unmarked)
+      ap is_due (entry_unmarked ssrc stay unmarked)
+      ∙ summary_suffices-news (given_of ssrc stay)
+      ∙ ap (λ m. is_none m && has_news_since (given_of ssrc stay)) (sym unmarked)
   unmarked_news stay (Some mark) marked =
-      ap (λ m. is_due (entry_with rate ssrc (before_mark ssrc stay) m)) marked
-      ∙ ap (λ m. is_none m && has_news_since (given_of rate ssrc stay)) (sym marked)
+      ap (λ m. is_due (entry_with ssrc (before_mark ssrc stay) m)) marked
+      ∙ ap (λ m. is_none m && has_news_since (given_of ssrc stay)) (sym marked)
 
-  due_in : (stay : Option (List TraceStep)) → is_such is_due (option_map (entry_of rate ssrc) stay) ≡ is_due_in rate
+  due_in : (stay : Option (List TraceStep)) → is_such is_due (option_map (entry_of ssrc) stay) ≡ is_due_in
       ssrc stay
   due_in None = refl
   due_in (Some stay) = unmarked_news stay (mark_of ssrc stay) refl
 
-pub due_at_trace : (capacity rate : ℕ) (trace : List TraceStep) (ssrc : ℕ) →
-    is_such is_due (entry_at capacity rate trace ssrc) ≡ is_due_by capacity rate trace ssrc
-due_at_trace capacity rate trace ssrc = due_in rate ssrc (stay_of capacity trace ssrc)
+pub due_at_trace : (capacity : ℕ) (trace : List TraceStep) (ssrc : ℕ) →
+    is_such is_due (entry_at capacity trace ssrc) ≡ is_due_by capacity trace ssrc
+due_at_trace capacity trace ssrc = due_in ssrc (stay_of capacity trace ssrc)
 
 -- ---- Turns
 
 module _ (last : Option ℕ) (table : TableValue) (trace : List TraceStep) (stands : StandsAt table trace) where
   abbrev entries : ℕ → Option EntryValue
-  entries = entry_at table.capacity table.rate trace
+  entries = entry_at table.capacity trace
 
   abbrev news : List ℕ
-  news = filter (is_due_by table.capacity table.rate trace) (rising (names trace))
+  news = filter (is_due_by table.capacity trace) (rising (names trace))
 
   due_are_news : due_rows table ≡ rows entries news
   due_are_news =
       ap (λ (t : List EntryRow). filter (λ (row : EntryRow). is_due row.1) t) (entries_in_order table trace stands)
-      ∙ rows_kept entries (λ (row : EntryRow). is_due row.1) (is_due_by table.capacity table.rate trace)
-      (λ ssrc e is. ap (is_such is_due) (sym is) ∙ due_at_trace table.capacity table.rate trace ssrc)
+      ∙ rows_kept entries (λ (row : EntryRow). is_due row.1) (is_due_by table.capacity trace)
+      (λ ssrc e is. ap (is_such is_due) (sym is) ∙ due_at_trace table.capacity trace ssrc)
       (rising (names trace))
 
-  pub pending_is_traced : pending last table ≡ pending_rows_at last table.capacity table.rate trace
+  pub pending_is_traced : pending last table ≡ pending_rows_at last table.capacity trace
   pending_is_traced =
       (λ i. filter (λ (row : EntryRow). is_after last row.0) (due_are_news i) ++ filter
       (λ (row : EntryRow). not (is_after last row.0)) (due_are_news i))
@@ -248,13 +248,13 @@ such_is_there test None h = absurd cc
 such_is_there test (Some e) h = refl
 
 -- Each source that is pending has an entry, so the rows are those of all of them.
-pub pending_have_rows : (last : Option ℕ) (capacity rate : ℕ) (trace : List TraceStep) →
-    map (λ (row : EntryRow). row.0) (pending_rows_at last capacity rate trace) ≡ pending_at last capacity rate trace
-pending_have_rows last capacity rate trace =
-    let entry : ℕ → Option EntryValue = entry_at capacity rate trace in
-    let all = have_passing entry (is_due_by capacity rate trace)
-    (λ ssrc news. such_is_there is_due (entry ssrc) (due_at_trace capacity rate trace ssrc ∙ news))
+pub pending_have_rows : (last : Option ℕ) (capacity : ℕ) (trace : List TraceStep) →
+    map (λ (row : EntryRow). row.0) (pending_rows_at last capacity trace) ≡ pending_at last capacity trace
+pending_have_rows last capacity trace =
+    let entry : ℕ → Option EntryValue = entry_at capacity trace in
+    let all = have_passing entry (is_due_by capacity trace)
+    (λ ssrc news. such_is_there is_due (entry ssrc) (due_at_trace capacity trace ssrc ∙ news))
     (rising (names trace)) in
-    ssrcs_of_rows entry (pending_at last capacity rate trace)
+    ssrcs_of_rows entry (pending_at last capacity trace)
     (All-append (Has entry) _ _ (All-filter (is_after last) (Has entry) _ all)
     (All-filter (λ ssrc. not (is_after last ssrc)) (Has entry) _ all))

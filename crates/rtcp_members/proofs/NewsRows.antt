@@ -6,14 +6,14 @@ use Rattle.rtcp_members.specs.Entries.{counted_at}
 use Rattle.rtcp_members.specs.News.{pending_at, pending_rows_at}
 
 abbrev pending : Option ℕ → List TraceStep → List ℕ
-pending last trace = pending_at last 3 8000 trace
+pending last trace = pending_at last 3 trace
 
 -- ---- Three sources sent two packets each, of which the second is counted.
 
 abbrev three_senders : List TraceStep
 three_senders =
-    fact_came (Media 1 11 0 0) 0 ∷ fact_came (Media 3 11 0 0) 0 ∷ fact_came (Media 2 11 0 0) 0
-    ∷ fact_came (Media 2 10 0 0) 0 ∷ fact_came (Media 1 10 0 0) 0 ∷ fact_came (Media 3 10 0 0) 0 ∷ []
+    fact_came (Media 1 11 0 0 8000) 0 ∷ fact_came (Media 3 11 0 0 8000) 0 ∷ fact_came (Media 2 11 0 0 8000) 0
+    ∷ fact_came (Media 2 10 0 0 8000) 0 ∷ fact_came (Media 1 10 0 0 8000) 0 ∷ fact_came (Media 3 10 0 0 8000) 0 ∷ []
 
 from_the_least : pending None three_senders ≡ 1 ∷ 2 ∷ 3 ∷ []
 from_the_least = refl
@@ -30,37 +30,37 @@ all_reported = block_taken 1 ∷ block_taken 3 ∷ block_taken 2 ∷ three_sende
 none_is_left : pending (Some 1) all_reported ≡ []
 none_is_left = refl
 
-news_again : pending (Some 1) (fact_came (Media 2 12 0 0) 0 ∷ all_reported) ≡ 2 ∷ []
+news_again : pending (Some 1) (fact_came (Media 2 12 0 0 8000) 0 ∷ all_reported) ≡ 2 ∷ []
 news_again = refl
 
 not_after_goodbye : pending None (fact_came (Gone 1) 0 ∷ three_senders) ≡ 2 ∷ 3 ∷ []
 not_after_goodbye = refl
 
 -- Those who were only heard or named, and those on probation, have none.
-no_packets : pending None (fact_came (Media 3 10 0 0) 0 ∷ fact_came (Named 2) 0 ∷ fact_came (Heard 1) 0 ∷ []) ≡ []
+no_packets : pending None (fact_came (Media 3 10 0 0 8000) 0 ∷ fact_came (Named 2) 0 ∷ fact_came (Heard 1) 0 ∷ []) ≡ []
 no_packets = refl
 
 -- A source that was dropped begins anew.
-dropped : pending None (fact_came (Media 1 12 0 0) 9 ∷ check_made (horizons_at 1 0 0) ∷ three_senders) ≡ []
+dropped : pending None (fact_came (Media 1 12 0 0 8000) 9 ∷ check_made (horizons_at 1 0 0) ∷ three_senders) ≡ []
 dropped = refl
 
-in_rows : map (λ row. row.0) (pending_rows_at (Some 1) 3 8000 three_senders) ≡ 2 ∷ 3 ∷ 1 ∷ []
+in_rows : map (λ row. row.0) (pending_rows_at (Some 1) 3 three_senders) ≡ 2 ∷ 3 ∷ 1 ∷ []
 in_rows = refl
 
 -- ---- Packets that are counted
 
-second_counts : counted_at 3 8000 (fact_came (Media 1 10 0 0) 0 ∷ []) (Media 1 11 0 0) ≡ true
+second_counts : counted_at 3 (fact_came (Media 1 10 0 0 8000) 0 ∷ []) (Media 1 11 0 0 8000) ≡ true
 second_counts = refl
 
-first_does_not : counted_at 3 8000 [] (Media 1 10 0 0) ≡ false
+first_does_not : counted_at 3 [] (Media 1 10 0 0 8000) ≡ false
 first_does_not = refl
 
-no_packet : counted_at 3 8000 three_senders (Heard 1) ≡ false
+no_packet : counted_at 3 three_senders (Heard 1) ≡ false
 no_packet = refl
 
-after_goodbye : counted_at 3 8000 (fact_came (Gone 1) 0 ∷ three_senders) (Media 1 12 0 0) ≡ false
+after_goodbye : counted_at 3 (fact_came (Gone 1) 0 ∷ three_senders) (Media 1 12 0 0 8000) ≡ false
 after_goodbye = refl
 
 -- on probation again
-after_dropping : counted_at 3 8000 (check_made (horizons_at 1 0 0) ∷ three_senders) (Media 1 12 0 0) ≡ false
+after_dropping : counted_at 3 (check_made (horizons_at 1 0 0) ∷ three_senders) (Media 1 12 0 0 8000) ≡ false
 after_dropping = refl

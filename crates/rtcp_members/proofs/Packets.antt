@@ -22,30 +22,30 @@ use Rattle.rtcp_members.proofs.Updated.{get_updated}
 abbrev pub Few : ℕ → Option EntryValue → Type 0
 Few packets entry = IfSome entry (λ e. e.source.packets ≤ packets)
 
-one_packet : (taken : Taken) (seq transit octets : ℕ) (source : SourceValue) →
-    (source_with taken seq transit octets source).packets ≡ source.packets + 1
-one_packet Counted seq transit octets source = refl
-one_packet Became seq transit octets source = refl
-one_packet Restarted seq transit octets source = refl
-one_packet Probation seq transit octets source = refl
-one_packet Bad seq transit octets source = refl
+one_packet : (taken : Taken) (seq transit octets rate : ℕ) (source : SourceValue) →
+    (source_with taken seq transit octets rate source).packets ≡ source.packets + 1
+one_packet Counted seq transit octets rate source = refl
+one_packet Became seq transit octets rate source = refl
+one_packet Restarted seq transit octets rate source = refl
+one_packet Probation seq transit octets rate source = refl
+one_packet Bad seq transit octets rate source = refl
 
 -- how many packets there are with a fact more
 abbrev with_fact : (packets : ℕ) → Fact → ℕ
 with_fact packets fact = if is_media fact then packets + 1 else packets
 
-few_after : (packets rate : ℕ) (fact : Fact) (moment : ℕ) (entry : EntryValue) → entry.source.packets ≤ packets →
-    (entry_after rate fact moment entry).source.packets ≤ with_fact packets fact
-few_after packets rate (Heard ssrc) moment entry few = few
-few_after packets rate (Told ssrc ntp rtp) moment entry few = few
-few_after packets rate (Named ssrc) moment entry few = few
-few_after packets rate (Gone ssrc) moment entry few = few
-few_after packets rate (Media ssrc seq timestamp octets) moment entry few =
+few_after : (packets : ℕ) (fact : Fact) (moment : ℕ) (entry : EntryValue) → entry.source.packets ≤ packets →
+    (entry_after fact moment entry).source.packets ≤ with_fact packets fact
+few_after packets (Heard ssrc) moment entry few = few
+few_after packets (Told ssrc ntp rtp) moment entry few = few
+few_after packets (Named ssrc) moment entry few = few
+few_after packets (Gone ssrc) moment entry few = few
+few_after packets (Media ssrc seq timestamp octets rate) moment entry few =
     omega (
       arith,
       few,
       one_packet (taken_by entry.source seq) seq (transit_of timestamp (media_units moment rate))
-          octets entry.source,
+          octets rate entry.source,
     )
 
 few_or_new : (packets : ℕ) (entry : Option EntryValue) → Few packets entry →
@@ -77,8 +77,8 @@ pub has_few : (packets : ℕ) (table : TableValue) → ((ssrc : ℕ) → Few pac
     HasFew packets table
 has_few packets table each ssrc entry found = subst (Few packets) found (each ssrc)
 
-pub few_none : (capacity rate : ℕ) → HasFew 0 (no_members capacity rate)
-few_none capacity rate = has_few 0 (no_members capacity rate)
+pub few_none : (capacity : ℕ) → HasFew 0 (no_members capacity)
+few_none capacity = has_few 0 (no_members capacity)
     (λ ssrc. subst (Few 0) (sym (map.get-empty nat_cmp ssrc)) tt)
 
 -- So is each of more packets.
@@ -89,7 +89,7 @@ few_of_more packets more table less few =
 fact_few : (packets : ℕ) (table : TableValue) (fact : Fact) (moment : ℕ) → HasFew packets table → (ssrc : ℕ) →
     Few (with_fact packets fact) (map.get (after_fact fact moment table).entries ssrc)
 fact_few packets table fact moment few ssrc =
-    let entry : EntryValue = entry_after table.rate fact moment (entry_for table fact) in
+    let entry : EntryValue = entry_after fact moment (entry_for table fact) in
     let still = few_more packets (with_fact packets fact) (map.get table.entries ssrc) (no_fewer packets fact)
     (few_at packets table few ssrc) in
     elim (changes (placed table fact)) as (λ b. Few (with_fact packets fact)
@@ -99,7 +99,7 @@ fact_few packets table fact moment few ssrc =
           (sym (map.get-insert nat_cmp_total table.entries (subject fact) entry ssrc))
           (elim (eq_by_cmp nat_cmp ssrc (subject fact)) as (λ b. Few (with_fact packets fact)
           (cond b (Some entry) (map.get table.entries ssrc))) [
-            | true ↦ few_after packets table.rate fact moment (entry_for table fact)
+            | true ↦ few_after packets fact moment (entry_for table fact)
                 (few_or_new packets (map.get table.entries (subject fact)) (few_at packets table few (subject fact)))
             | false ↦ still
           ])

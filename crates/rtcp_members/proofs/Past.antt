@@ -7,7 +7,7 @@ use Rattle.rtcp_wire.specs.declared.fact.Fact.TheVariants.{Heard, Told, Named, G
 use Rattle.rtcp_wire.specs.Facts.{subject, is_gone}
 use Rattle.rtcp_source.specs.Packets.{Given, block_made}
 use Rattle.rtcp_source.specs.Summary.{last_told}
-use Rattle.rtcp_members.specs.Traces.{TraceStep, fact_came, check_made, block_taken, is_naming, with_facts}
+use Rattle.rtcp_members.specs.Traces.{TraceStep, fact_came, check_made, block_taken, source_forgotten, is_naming, with_facts}
 use Rattle.rtcp_members.specs.Stays.{mark_at, mark_of, before_mark, step_moment, last_naming, stay_of}
 use Rattle.rtcp_members.specs.Entries.{given_by, given_of}
 use Rattle.rtcp_members.specs.Told.{StateValue, told_in_stay, TellsAbove, IsWalk}
@@ -78,6 +78,7 @@ marked_at latest ssrc (fact_came fact moment) None came before =
     marked_if latest moment (is_gone fact && subject fact == ssrc) came
 marked_at latest ssrc (check_made horizons) None came before = tt
 marked_at latest ssrc (block_taken other) None came before = tt
+marked_at latest ssrc (source_forgotten other) None came before = tt
 
 marked_by : (latest ssrc : ℕ) (stay : List TraceStep) → CameBy latest stay → IsBy latest (mark_of ssrc stay)
 marked_by latest ssrc [] came = tt
@@ -94,47 +95,48 @@ told_if : (latest : ℕ) (own : Bool) (more : Given) (given : List Given) → To
 told_if latest true more given with_more before = with_more
 told_if latest false more given with_more before = before
 
-told_with : (latest rate ssrc : ℕ) (fact : Fact) (moment : ℕ) (given : List Given) → moment ≤ latest →
-    ToldBy latest given → ToldBy latest (given_by rate ssrc fact moment given)
-told_with latest rate ssrc (Heard other) moment given came before = before
-told_with latest rate ssrc (Told other ntp rtp) moment given came before =
+told_with : (latest ssrc : ℕ) (fact : Fact) (moment : ℕ) (given : List Given) → moment ≤ latest →
+    ToldBy latest given → ToldBy latest (given_by ssrc fact moment given)
+told_with latest ssrc (Heard other) moment given came before = before
+told_with latest ssrc (Told other ntp rtp) moment given came before =
     told_if latest (other == ssrc) _ given came before
-told_with latest rate ssrc (Named other) moment given came before = before
-told_with latest rate ssrc (Gone other) moment given came before = before
-told_with latest rate ssrc (Media other seq timestamp octets) moment given came before =
+told_with latest ssrc (Named other) moment given came before = before
+told_with latest ssrc (Gone other) moment given came before = before
+told_with latest ssrc (Media other seq timestamp octets rate) moment given came before =
     told_if latest (other == ssrc) _ given before before
 
-told_by : (latest rate ssrc : ℕ) (stay : List TraceStep) → CameBy latest stay →
-    ToldBy latest (given_of rate ssrc stay)
-told_by latest rate ssrc [] came = tt
-told_by latest rate ssrc (fact_came fact moment ∷ earlier) came =
-    let before = told_by latest rate ssrc earlier came.1 in
-    told_with latest rate ssrc fact moment (given_of rate ssrc earlier) came.0 before
-told_by latest rate ssrc (check_made horizons ∷ earlier) came = told_by latest rate ssrc earlier came.1
-told_by latest rate ssrc (block_taken other ∷ earlier) came =
-    let before = told_by latest rate ssrc earlier came.1 in
-    told_if latest (other == ssrc) block_made (given_of rate ssrc earlier) before before
+told_by : (latest ssrc : ℕ) (stay : List TraceStep) → CameBy latest stay →
+    ToldBy latest (given_of ssrc stay)
+told_by latest ssrc [] came = tt
+told_by latest ssrc (fact_came fact moment ∷ earlier) came =
+    let before = told_by latest ssrc earlier came.1 in
+    told_with latest ssrc fact moment (given_of ssrc earlier) came.0 before
+told_by latest ssrc (check_made horizons ∷ earlier) came = told_by latest ssrc earlier came.1
+told_by latest ssrc (block_taken other ∷ earlier) came =
+    let before = told_by latest ssrc earlier came.1 in
+    told_if latest (other == ssrc) block_made (given_of ssrc earlier) before before
+told_by latest ssrc (source_forgotten other ∷ earlier) came = told_by latest ssrc earlier came.1
 
 -- ---- What is told
 
-stay_told_by : (latest rate ssrc : ℕ) (stay : List TraceStep) → CameBy latest stay →
-    IsToldBy latest (told_in_stay rate ssrc stay)
-stay_told_by latest rate ssrc stay came =
+stay_told_by : (latest ssrc : ℕ) (stay : List TraceStep) → CameBy latest stay →
+    IsToldBy latest (told_in_stay ssrc stay)
+stay_told_by latest ssrc stay came =
     let own = unmarked_came latest ssrc stay came in
     record {
       heard = named_by latest ssrc (before_mark ssrc stay) own;
       left = marked_by latest ssrc stay came;
-      told = told_by latest rate ssrc (before_mark ssrc stay) own;
+      told = told_by latest ssrc (before_mark ssrc stay) own;
     }
 
-module _ (latest capacity rate : ℕ) (trace : List TraceStep) (came : CameBy latest trace) where
-  pub told_of_past : (after : Option ℕ) (state : StateValue) → TellsAbove after capacity rate trace (Some state) →
+module _ (latest capacity : ℕ) (trace : List TraceStep) (came : CameBy latest trace) where
+  pub told_of_past : (after : Option ℕ) (state : StateValue) → TellsAbove after capacity trace (Some state) →
       IsToldBy latest state
   told_of_past after state tells =
       let stay = stay_came latest capacity trace state.ssrc tells.stay tells.present came in
-      subst (IsToldBy latest) (sym tells.says) (stay_told_by latest rate state.ssrc tells.stay stay)
+      subst (IsToldBy latest) (sym tells.says) (stay_told_by latest state.ssrc tells.stay stay)
 
-  pub walk_of_past : (after : Option ℕ) (states : List StateValue) → IsWalk after capacity rate trace states →
+  pub walk_of_past : (after : Option ℕ) (states : List StateValue) → IsWalk after capacity trace states →
       All (IsToldBy latest) states
   walk_of_past after [] walk = All-nil (IsToldBy latest)
   walk_of_past after (state ∷ states) walk =

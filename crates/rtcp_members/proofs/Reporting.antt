@@ -14,8 +14,8 @@ use Rattle.rtcp_members.proofs.Applying.{read_there}
 pub block_reported : (ssrc t : ℕ) (entries : List Entry) (at : ℕ) (d : Entry) (block : Option ReportBlock) →
     IsRankOf ssrc entries at
     → block ≡ block_for (slice_index_or entries at d).ssrc t (slice_index_or entries at d).source
-    → (capacity rate : ℕ) → block ≡ block_at ssrc t (table_of capacity rate entries)
-block_reported ssrc t entries at d block place is capacity rate =
+    → (capacity : ℕ) → block ≡ block_at ssrc t (table_of capacity entries)
+block_reported ssrc t entries at d block place is capacity =
     is ∙ ap (λ (y : Entry). block_for y.ssrc t y.source) (read_there ssrc entries at d place)
     ∙ ap (λ s. block_for s t place.entry.source) place.its_ssrc
     ∙ ap (option_and_then (λ (entry : EntryValue). block_for ssrc t entry.source)) (sym place.found)
@@ -24,11 +24,11 @@ pub table_reported : (ssrc : ℕ) (entries : List Entry) (at : ℕ) (d next : En
     IsRankOf ssrc entries at
     → next.ssrc ≡ (slice_index_or entries at d).ssrc →
     entry_value next ≡ reported_entry (entry_value (slice_index_or entries at d))
-    → (capacity rate : ℕ) → table_of capacity rate (set entries at next) ≡ after_block ssrc
-    (table_of capacity rate entries)
-table_reported ssrc entries at d next apart place same value capacity rate =
+    → (capacity : ℕ) → table_of capacity (set entries at next) ≡ after_block ssrc
+    (table_of capacity entries)
+table_reported ssrc entries at d next apart place same value capacity =
     let there = read_there ssrc entries at d place in
-    let table : TableValue = table_of capacity rate entries in
+    let table : TableValue = table_of capacity entries in
     ap (λ m. record table { entries = m })
     (map_set entries at place.entry next apart place.stands (same ∙ ap (λ (y : Entry). y.ssrc) there)
     ∙ (λ i. finite.insert (map_of entries) (place.its_ssrc i)

@@ -4,7 +4,7 @@ use Rattle.std.proofs.lemmas.Bool.{eqb-true, or_parts}
 use Rattle.std.proofs.lemmas.Bool.Decides.{nat_tests}
 use Rattle.rtcp_wire.specs.declared.fact.Fact.{Fact}
 use Rattle.rtcp_wire.specs.Facts.{subject, is_gone}
-use Rattle.rtcp_members.specs.Traces.{Horizons, TraceStep, fact_came, check_made, block_taken, names}
+use Rattle.rtcp_members.specs.Traces.{TraceStep, fact_came, check_made, block_taken, source_forgotten, names}
 use Rattle.rtcp_members.specs.Stays.{stay_of}
 use Rattle.rtcp_members.specs.Entries.{EntryValue, entry_of, entry_at, is_member, is_sender, is_such, count_at, members_at, senders_at}
 use Rattle.rtcp_members.specs.Pending.{reported_entry}
@@ -14,6 +14,7 @@ use Rattle.rtcp_members.proofs.Naming.{names_are_once, present_is_named, still_n
 use Rattle.rtcp_members.proofs.TraceStepLemmas.{other_entry_at, checked_entry_at}
 use Rattle.rtcp_members.proofs.Growing.{more_pass, checked_such, checked_sender}
 use Rattle.rtcp_members.proofs.Blocking.{reported_if, own_stay, other_stay}
+use Rattle.rtcp_members.proofs.Forgetting.{forgotten_entry_at, kept_such}
 
 -- ---- Two tests of keys
 
@@ -99,14 +100,14 @@ unnamed_before step trace ssrc unnamed =
 
 -- ---- Counts over the names of one step later
 
-module _ (test : EntryValue → Bool) (capacity rate : ℕ) where
+module _ (test : EntryValue → Bool) (capacity : ℕ) where
   abbrev passes : List TraceStep → ℕ → Bool
-  passes trace ssrc = is_such test (entry_at capacity rate trace ssrc)
+  passes trace ssrc = is_such test (entry_at capacity trace ssrc)
 
   not_here : (trace : List TraceStep) (ssrc : ℕ) → has ssrc (names trace) ≡ false → passes trace ssrc ≡ false
   not_here trace ssrc unnamed =
       elim (stay_of capacity trace ssrc) as (λ stay. (is_some stay ≡ true → has ssrc (names trace) ≡ true) →
-      is_such test (option_map (entry_of rate ssrc) stay) ≡ false) [
+      is_such test (option_map (entry_of ssrc) stay) ≡ false) [
         | None ↦ λ _. refl
         | Some stay ↦ λ named. absurd (true≢false (sym (named refl) ∙ unnamed))
       ] (present_is_named capacity trace ssrc)
@@ -122,22 +123,23 @@ module _ (test : EntryValue → Bool) (capacity rate : ℕ) where
       ∙ no_more (passing (passes trace) (names trace))
 
   by_later_names : (step : TraceStep) (trace : List TraceStep) →
-      passing (passes trace) (names (step ∷ trace)) ≡ count_at test capacity rate trace
+      passing (passes trace) (names (step ∷ trace)) ≡ count_at test capacity trace
   by_later_names (fact_came fact moment) trace = with_one_more fact trace
       (is_gone fact || has (subject fact) (names trace)) (λ new. (or_parts (is_gone fact) _ new).1)
   by_later_names (check_made horizons) trace = refl
   by_later_names (block_taken other) trace = refl
+  by_later_names (source_forgotten other) trace = refl
 
   -- Where nobody changes, the count stays.
   count_stays : (step : TraceStep) (trace : List TraceStep) →
       ((ssrc : ℕ) → passes trace ssrc ≡ passes (step ∷ trace) ssrc) →
-      count_at test capacity rate (step ∷ trace) ≡ count_at test capacity rate trace
+      count_at test capacity (step ∷ trace) ≡ count_at test capacity trace
   count_stays step trace same =
       same_passing (passes (step ∷ trace)) (passes trace) (λ ssrc. sym (same ssrc)) (names (step ∷ trace))
       ∙ by_later_names step trace
 
   -- Where nobody counts, nobody passes.
-  pub nobody_passes : (trace : List TraceStep) → count_at test capacity rate trace ≡ 0 → (ssrc : ℕ) →
+  pub nobody_passes : (trace : List TraceStep) → count_at test capacity trace ≡ 0 → (ssrc : ℕ) →
       passes trace ssrc ≡ false
   nobody_passes trace none ssrc =
       elim (has ssrc (names trace)) as (λ b. has ssrc (names trace) ≡ b → passes trace ssrc ≡ false) [
@@ -152,7 +154,7 @@ module _ (test : EntryValue → Bool) (capacity rate : ℕ) where
 
   -- Where the count stays, nobody changes.
   fact_keeps : (fact : Fact) (moment : ℕ) (trace : List TraceStep) →
-      count_at test capacity rate (fact_came fact moment ∷ trace) ≡ count_at test capacity rate trace → (ssrc : ℕ) →
+      count_at test capacity (fact_came fact moment ∷ trace) ≡ count_at test capacity trace → (ssrc : ℕ) →
       passes trace ssrc ≡ passes (fact_came fact moment ∷ trace) ssrc
   fact_keeps fact moment trace count ssrc =
       elim (subject fact == ssrc) as (λ b. (subject fact == ssrc) ≡ b →
@@ -163,7 +165,7 @@ module _ (test : EntryValue → Bool) (capacity rate : ℕ) where
       ] refl
     where
       others : (key : ℕ) → (subject fact == key) ≡ false → passes (fact_came fact moment ∷ trace) key ≡ passes trace key
-      others key apart = ap (is_such test) (other_entry_at capacity rate key moment fact trace apart)
+      others key apart = ap (is_such test) (other_entry_at capacity key moment fact trace apart)
 
       here : passes trace (subject fact) ≡ passes (fact_came fact moment ∷ trace) (subject fact)
       here =
@@ -177,32 +179,41 @@ module _ (test : EntryValue → Bool) (capacity rate : ℕ) where
                 (unnamed_before (fact_came fact moment) trace (subject fact) unnamed)
           ] refl
 
-  check_keeps : (horizons : Horizons) (trace : List TraceStep) →
-      ((ssrc : ℕ) → passes (check_made horizons ∷ trace) ssrc ≡ true → passes trace ssrc ≡ true) →
-      count_at test capacity rate (check_made horizons ∷ trace) ≡ count_at test capacity rate trace → (ssrc : ℕ)
-      → passes trace ssrc ≡ passes (check_made horizons ∷ trace) ssrc
-  check_keeps horizons trace fewer count ssrc =
-      elim (has ssrc (names trace)) as (λ b. has ssrc (names trace) ≡ b →
-      passes trace ssrc ≡ passes (check_made horizons ∷ trace) ssrc) [
-        | true ↦ λ named. sym (none_fails (passes trace) (passes (check_made horizons ∷ trace)) fewer (names trace)
-            count ssrc named)
-        | false ↦ λ unnamed. neither (check_made horizons) trace ssrc unnamed unnamed
+  -- Nor where a step lets nobody pass who did not before.
+  fewer_keep : (step : TraceStep) (trace : List TraceStep) →
+      ((ssrc : ℕ) → passes (step ∷ trace) ssrc ≡ true → passes trace ssrc ≡ true) →
+      count_at test capacity (step ∷ trace) ≡ count_at test capacity trace → (ssrc : ℕ)
+      → passes trace ssrc ≡ passes (step ∷ trace) ssrc
+  fewer_keep step trace fewer count ssrc =
+      elim (has ssrc (names (step ∷ trace))) as (λ b. has ssrc (names (step ∷ trace)) ≡ b →
+      passes trace ssrc ≡ passes (step ∷ trace) ssrc) [
+        | true ↦ λ named. sym (none_fails (passes trace) (passes (step ∷ trace)) fewer (names (step ∷ trace))
+            (count ∙ sym (by_later_names step trace)) ssrc named)
+        | false ↦ λ unnamed. neither step trace ssrc unnamed (unnamed_before step trace ssrc unnamed)
       ] refl
+
+  forgetting_keeps : (forgotten : ℕ) (trace : List TraceStep) →
+      count_at test capacity (source_forgotten forgotten ∷ trace) ≡ count_at test capacity trace → (ssrc : ℕ)
+      → passes trace ssrc ≡ passes (source_forgotten forgotten ∷ trace) ssrc
+  forgetting_keeps forgotten trace =
+      fewer_keep (source_forgotten forgotten) trace (λ other is.
+      kept_such test (forgotten == other) (entry_at capacity trace other)
+      (ap (is_such test) (sym (forgotten_entry_at capacity other forgotten trace)) ∙ is))
 
 -- ---- Blocks
 
 block_keeps_role : (test : EntryValue → Bool) → ((e : EntryValue) → test (reported_entry e) ≡ test e) →
-    (capacity rate reported : ℕ) (trace : List TraceStep) (ssrc : ℕ)
-    → is_such test (entry_at capacity rate trace ssrc) ≡ is_such test
-    (entry_at capacity rate (block_taken reported ∷ trace) ssrc)
-block_keeps_role test stays capacity rate reported trace ssrc =
-    elim (reported == ssrc) as (λ b. (reported == ssrc) ≡ b → is_such test (entry_at capacity rate trace ssrc)
-    ≡ is_such test (entry_at capacity rate (block_taken reported ∷ trace) ssrc)) [
+    (capacity reported : ℕ) (trace : List TraceStep) (ssrc : ℕ)
+    → is_such test (entry_at capacity trace ssrc) ≡ is_such test
+    (entry_at capacity (block_taken reported ∷ trace) ssrc)
+block_keeps_role test stays capacity reported trace ssrc =
+    elim (reported == ssrc) as (λ b. (reported == ssrc) ≡ b → is_such test (entry_at capacity trace ssrc)
+    ≡ is_such test (entry_at capacity (block_taken reported ∷ trace) ssrc)) [
       | true ↦ λ own. sym (ap (is_such test)
-          (own_stay capacity rate ssrc reported trace own (stay_of capacity trace ssrc))
-          ∙ mapped (entry_at capacity rate trace ssrc))
+          (own_stay capacity ssrc reported trace own (stay_of capacity trace ssrc))
+          ∙ mapped (entry_at capacity trace ssrc))
       | false ↦ λ apart. sym (ap (is_such test)
-          (other_stay capacity rate ssrc reported trace apart (stay_of capacity trace ssrc)))
+          (other_stay capacity ssrc reported trace apart (stay_of capacity trace ssrc)))
     ] refl
   where
     mapped : (entry : Option EntryValue) → is_such test (option_map reported_if entry) ≡ is_such test entry
@@ -214,74 +225,79 @@ block_keeps_role test stays capacity rate reported trace ssrc =
 
 -- ---- One step
 
-module _ (capacity rate : ℕ) where
+module _ (capacity : ℕ) where
   abbrev entry : List TraceStep → ℕ → Option EntryValue
-  entry trace ssrc = entry_at capacity rate trace ssrc
+  entry trace ssrc = entry_at capacity trace ssrc
 
   -- Where everyone has the same role after a step, it does not move.
   pub same_roles_stay : (step : TraceStep) (trace : List TraceStep) →
       ((ssrc : ℕ) → IsSameRole (entry trace ssrc) (entry (step ∷ trace) ssrc)) →
-      step_moves capacity rate step trace ≡ false
+      step_moves capacity step trace ≡ false
   same_roles_stay step trace same =
-      let members : members_at capacity rate (step ∷ trace) ≡ members_at capacity rate trace =
-      count_stays is_member capacity rate step trace (λ ssrc. (same ssrc).0) in
-      let senders : senders_at capacity rate (step ∷ trace) ≡ senders_at capacity rate trace =
-      count_stays is_sender capacity rate step trace (λ ssrc. (same ssrc).1) in
-      (λ i. not ((members i == members_at capacity rate trace) && (senders i == senders_at capacity rate trace)))
-      ∙ none_moves (members_at capacity rate trace) (senders_at capacity rate trace)
+      let members : members_at capacity (step ∷ trace) ≡ members_at capacity trace =
+      count_stays is_member capacity step trace (λ ssrc. (same ssrc).0) in
+      let senders : senders_at capacity (step ∷ trace) ≡ senders_at capacity trace =
+      count_stays is_sender capacity step trace (λ ssrc. (same ssrc).1) in
+      (λ i. not ((members i == members_at capacity trace) && (senders i == senders_at capacity trace)))
+      ∙ none_moves (members_at capacity trace) (senders_at capacity trace)
     where
       none_moves : (n m : ℕ) → not ((n == n) && (m == m)) ≡ false
       none_moves n m = grind (arith, nat_tests)
 
-  counts_stay : (step : TraceStep) (trace : List TraceStep) → step_moves capacity rate step trace ≡ false →
-      (members_at capacity rate (step ∷ trace) ≡ members_at capacity rate trace)
-      × (senders_at capacity rate (step ∷ trace) ≡ senders_at capacity rate trace)
-  counts_stay step trace still = both_equal (members_at capacity rate (step ∷ trace)) (members_at capacity rate trace)
-      (senders_at capacity rate (step ∷ trace)) (senders_at capacity rate trace) still
+  counts_stay : (step : TraceStep) (trace : List TraceStep) → step_moves capacity step trace ≡ false →
+      (members_at capacity (step ∷ trace) ≡ members_at capacity trace)
+      × (senders_at capacity (step ∷ trace) ≡ senders_at capacity trace)
+  counts_stay step trace still = both_equal (members_at capacity (step ∷ trace)) (members_at capacity trace)
+      (senders_at capacity (step ∷ trace)) (senders_at capacity trace) still
     where
       both_equal : (a b c d : ℕ) → not ((a == b) && (c == d)) ≡ false → (a ≡ b) × (c ≡ d)
       both_equal a b c d e = (grind (arith, nat_tests, e), grind (arith, nat_tests, e))
 
   -- Where a step does not move, everyone has the same role after it.
-  pub step_keeps : (step : TraceStep) (trace : List TraceStep) → step_moves capacity rate step trace ≡ false →
+  pub step_keeps : (step : TraceStep) (trace : List TraceStep) → step_moves capacity step trace ≡ false →
       (ssrc : ℕ) → IsSameRole (entry trace ssrc) (entry (step ∷ trace) ssrc)
   step_keeps (fact_came fact moment) trace still ssrc =
       let counts = counts_stay (fact_came fact moment) trace still in (
-        fact_keeps is_member capacity rate fact moment trace counts.0 ssrc,
-        fact_keeps is_sender capacity rate fact moment trace counts.1 ssrc,
+        fact_keeps is_member capacity fact moment trace counts.0 ssrc,
+        fact_keeps is_sender capacity fact moment trace counts.1 ssrc,
       )
   step_keeps (check_made horizons) trace still ssrc =
       let counts = counts_stay (check_made horizons) trace still in (
-        check_keeps is_member capacity rate horizons trace
+        fewer_keep is_member capacity (check_made horizons) trace
             (λ other is. checked_such is_member horizons (λ e member. member) (entry trace other)
-            (ap (is_such is_member) (sym (checked_entry_at capacity rate other horizons trace)) ∙ is)) counts.0 ssrc,
-        check_keeps is_sender capacity rate horizons trace
+            (ap (is_such is_member) (sym (checked_entry_at capacity other horizons trace)) ∙ is)) counts.0 ssrc,
+        fewer_keep is_sender capacity (check_made horizons) trace
             (λ other is. checked_sender horizons (entry trace other)
-            (ap (is_such is_sender) (sym (checked_entry_at capacity rate other horizons trace)) ∙ is)) counts.1 ssrc,
+            (ap (is_such is_sender) (sym (checked_entry_at capacity other horizons trace)) ∙ is)) counts.1 ssrc,
       )
   step_keeps (block_taken reported) trace still ssrc = (
-    block_keeps_role is_member (λ e. refl) capacity rate reported trace ssrc,
-    block_keeps_role is_sender (λ e. refl) capacity rate reported trace ssrc,
+    block_keeps_role is_member (λ e. refl) capacity reported trace ssrc,
+    block_keeps_role is_sender (λ e. refl) capacity reported trace ssrc,
   )
+  step_keeps (source_forgotten forgotten) trace still ssrc =
+      let counts = counts_stay (source_forgotten forgotten) trace still in (
+        forgetting_keeps is_member capacity forgotten trace counts.0 ssrc,
+        forgetting_keeps is_sender capacity forgotten trace counts.1 ssrc,
+      )
 
   -- A block moves nobody.
-  pub block_moves_none : (reported : ℕ) (trace : List TraceStep) → step_moves capacity rate (block_taken reported) trace
+  pub block_moves_none : (reported : ℕ) (trace : List TraceStep) → step_moves capacity (block_taken reported) trace
       ≡ false
   block_moves_none reported trace =
       same_roles_stay (block_taken reported) trace
       (λ ssrc. (
-        block_keeps_role is_member (λ e. refl) capacity rate reported trace ssrc,
-        block_keeps_role is_sender (λ e. refl) capacity rate reported trace ssrc,
+        block_keeps_role is_member (λ e. refl) capacity reported trace ssrc,
+        block_keeps_role is_sender (λ e. refl) capacity reported trace ssrc,
       ))
 
   -- ---- Some steps
 
-  pub steps_keep : (steps : ℕ) (trace : List TraceStep) → moved_within capacity rate steps trace ≡ false → (ssrc : ℕ) →
+  pub steps_keep : (steps : ℕ) (trace : List TraceStep) → moved_within capacity steps trace ≡ false → (ssrc : ℕ) →
       IsSameRole (entry (drop steps trace) ssrc) (entry trace ssrc)
   steps_keep zero trace still ssrc = (refl, refl)
   steps_keep (suc steps) [] still ssrc = (refl, refl)
   steps_keep (suc steps) (step ∷ earlier) still ssrc =
-      let parts = or_parts (step_moves capacity rate step earlier) (moved_within capacity rate steps earlier) still in
+      let parts = or_parts (step_moves capacity step earlier) (moved_within capacity steps earlier) still in
       let before = steps_keep steps earlier parts.1 ssrc in
       let last = step_keeps step earlier parts.0 ssrc in
       (before.0 ∙ last.0, before.1 ∙ last.1)

@@ -1,7 +1,7 @@
 -- Worked examples: the definitions, computed on short traces.
 use Rattle.std.proofs.Common.{◌≡◌, ℕ, Bool, true, false, List, [], ◌∷◌, is_some, refl}
 use Rattle.rtcp_wire.specs.declared.fact.Fact.TheVariants.{Heard, Named, Gone, Media}
-use Rattle.rtcp_members.specs.Traces.{horizons_at, TraceStep, fact_came, check_made}
+use Rattle.rtcp_members.specs.Traces.{horizons_at, TraceStep, fact_came, check_made, source_forgotten}
 use Rattle.rtcp_members.specs.Stays.{stay_of}
 use Rattle.rtcp_members.specs.Entries.{members_at, senders_at}
 
@@ -22,13 +22,13 @@ first_is_present = refl
 third_has_no_room : is_present full 3 ≡ false
 third_has_no_room = refl
 
-one_is_member : members_at 2 8000 full ≡ 1
+one_is_member : members_at 2 full ≡ 1
 one_is_member = refl
 
 abbrev left : List TraceStep
 left = fact_came (Heard 1) 1000001 ∷ fact_came (Gone 1) 1000000 ∷ fact_came (Gone 9) 0 ∷ full
 
-none_is_member : members_at 2 8000 left ≡ 0
+none_is_member : members_at 2 left ≡ 0
 none_is_member = refl
 
 marked_is_held : is_present (horizons 0 0 1000000 ∷ left) 1 ≡ true
@@ -46,28 +46,49 @@ third_is_added = refl
 -- ---- A sender
 
 abbrev sending : List TraceStep
-sending = fact_came (Media 4 11 0 0) 100 ∷ fact_came (Media 4 10 0 0) 0 ∷ []
+sending = fact_came (Media 4 11 0 0 8000) 100 ∷ fact_came (Media 4 10 0 0 8000) 0 ∷ []
 
-one_packet_is_none : members_at 2 8000 (fact_came (Media 4 10 0 0) 0 ∷ []) ≡ 0
+one_packet_is_none : members_at 2 (fact_came (Media 4 10 0 0 8000) 0 ∷ []) ≡ 0
 one_packet_is_none = refl
 
-sends : senders_at 2 8000 sending ≡ 1
+sends : senders_at 2 sending ≡ 1
 sends = refl
 
-still_sends : senders_at 2 8000 (horizons 0 100 0 ∷ sending) ≡ 1
+still_sends : senders_at 2 (horizons 0 100 0 ∷ sending) ≡ 1
 still_sends = refl
 
 abbrev idle : List TraceStep
 idle = horizons 0 50 0 ∷ horizons 0 101 0 ∷ horizons 0 100 0 ∷ sending
 
-no_longer_sends : senders_at 2 8000 idle ≡ 0
+no_longer_sends : senders_at 2 idle ≡ 0
 no_longer_sends = refl
 
-is_still_member : members_at 2 8000 idle ≡ 1
+is_still_member : members_at 2 idle ≡ 1
 is_still_member = refl
 
-sends_again : senders_at 2 8000 (fact_came (Media 4 12 0 0) 200 ∷ idle) ≡ 1
+sends_again : senders_at 2 (fact_came (Media 4 12 0 0 8000) 200 ∷ idle) ≡ 1
 sends_again = refl
+
+-- ---- Sources that are gone
+
+forgotten_sender_is_gone : is_present (source_forgotten 4 ∷ sending) 4 ≡ false
+forgotten_sender_is_gone = refl
+
+forgotten_sender_counts_no_more : members_at 2 (source_forgotten 4 ∷ sending) ≡ 0
+forgotten_sender_counts_no_more = refl
+
+another_is_forgotten : senders_at 2 (source_forgotten 5 ∷ sending) ≡ 1
+another_is_forgotten = refl
+
+marked_is_not_forgotten : is_present (source_forgotten 1 ∷ left) 1 ≡ true
+marked_is_not_forgotten = refl
+
+room_of_the_forgotten : is_present (fact_came (Heard 3) 0 ∷ source_forgotten 2 ∷ full) 3 ≡ true
+room_of_the_forgotten = refl
+
+-- It comes back as a newcomer, whose first packet is not counted.
+newcomer_again : members_at 2 (fact_came (Media 4 12 0 0 8000) 200 ∷ source_forgotten 4 ∷ sending) ≡ 0
+newcomer_again = refl
 
 -- ---- Silence
 

@@ -67,21 +67,21 @@ none_in_gap ssrc entries at gap = get_rows entries ssrc ∙ missing ssrc entries
     ]
 
 -- A source of which a block is due is found.
-pub due_is_found : (ssrc capacity rate : ℕ) (entries : List Entry) (table : TableValue) (r : Result ℕ ℕ) →
-    table_of capacity rate entries ≡ table → IsTrue (is_due_at ssrc table) → Locates ssrc entries r → IsOk r
-due_is_found ssrc capacity rate entries table (Ok at) is due place = refl
-due_is_found ssrc capacity rate entries table (Err at) is due absent =
+pub due_is_found : (ssrc capacity : ℕ) (entries : List Entry) (table : TableValue) (r : Result ℕ ℕ) →
+    table_of capacity entries ≡ table → IsTrue (is_due_at ssrc table) → Locates ssrc entries r → IsOk r
+due_is_found ssrc capacity entries table (Ok at) is due place = refl
+due_is_found ssrc capacity entries table (Err at) is due absent =
     absurd (not_due (ap (is_such is_due) (sym (none_in_gap ssrc entries at absent)) ∙ ap (is_due_at ssrc) is ∙ due))
   where
     not_due : false ≡ true → ⊥
     not_due e = absurd cc
 
 -- The search finds an entry exactly where the table has one.
-pub found_is_held : (ssrc capacity rate : ℕ) (entries : List Entry) (table : TableValue) (found : Result ℕ ℕ) →
-    table_of capacity rate entries ≡ table → Locates ssrc entries found
+pub found_is_held : (ssrc capacity : ℕ) (entries : List Entry) (table : TableValue) (found : Result ℕ ℕ) →
+    table_of capacity entries ≡ table → Locates ssrc entries found
     → is_ok found ≡ is_some (finite.get table.entries ssrc)
-found_is_held ssrc capacity rate entries table (Ok at) is place = sym (ap is_some place.found)
+found_is_held ssrc capacity entries table (Ok at) is place = sym (ap is_some place.found)
     ∙ ap (λ (t : TableValue). is_some (finite.get t.entries ssrc)) is
-found_is_held ssrc capacity rate entries table (Err at) is absent =
+found_is_held ssrc capacity entries table (Err at) is absent =
     sym (ap is_some (none_in_gap ssrc entries at absent)) ∙ ap (λ (t : TableValue). is_some (finite.get t.entries ssrc))
     is

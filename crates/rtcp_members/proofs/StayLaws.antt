@@ -2,8 +2,8 @@
 use Rattle.std.proofs.Common.{◌≡◌, ℕ, ◌<◌, true, false, true≢false, if◌then◌else◌, nat_lt, List, [], ◌∷◌, ◌++◌, Option, Some, None, refl, sym, ap, subst, ◌∙◌, arith}
 use Rattle.std.proofs.lemmas.Bool.{ltb-true}
 use Rattle.std.proofs.lemmas.Bool.Decides.{nat_tests}
-use Rattle.rtcp_members.specs.Traces.{TraceStep, fact_came, check_made, block_taken, is_naming, names}
-use Rattle.rtcp_members.specs.Stays.{ends_stay, present_among, stay_with, stay_of, OutlastsChecks, IsStay}
+use Rattle.rtcp_members.specs.Traces.{TraceStep, fact_came, check_made, block_taken, source_forgotten, is_naming, names}
+use Rattle.rtcp_members.specs.Stays.{ends_stay, present_among, stay_with, stay_of, OutlastsChecks, NeverForgotten, IsStay}
 
 none_is_no_stay : {X : Type 0} (stay : X) → None ≡ Some stay → ⊥
 none_is_no_stay stay e = absurd cc
@@ -25,11 +25,27 @@ outlasts_later : (ssrc : ℕ) (step : TraceStep) (stay : List TraceStep) → Out
 outlasts_later ssrc step stay all newer horizons older is = all (step ∷ newer) horizons older
     (ap (λ (t : List TraceStep). step ∷ t) is)
 
+-- The host forgets no source by a step that ends no stay.
+kept_step : (ssrc : ℕ) (step : TraceStep) (stay : List TraceStep) → ends_stay ssrc step stay ≡ false →
+    NeverForgotten ssrc stay → NeverForgotten ssrc (step ∷ stay)
+kept_step ssrc step stay stays before [] other older is =
+    let same : step ≡ source_forgotten other = cc in
+    let rest : stay ≡ older = cc in
+    (λ i. ends_stay ssrc (sym same i) (sym rest i)) ∙ stays
+kept_step ssrc step stay stays before (x ∷ newer) other older is =
+    let rest : stay ≡ newer ++ source_forgotten other ∷ older = cc in before newer other older rest
+
+kept_later : (ssrc : ℕ) (step : TraceStep) (stay : List TraceStep) → NeverForgotten ssrc (step ∷ stay) →
+    NeverForgotten ssrc stay
+kept_later ssrc step stay all newer other older is = all (step ∷ newer) other older
+    (ap (λ (t : List TraceStep). step ∷ t) is)
+
 stays_on : (ssrc : ℕ) (step : TraceStep) (stay : List TraceStep) → OutlastsChecks ssrc (step ∷ stay) →
-    ends_stay ssrc step stay ≡ false
-stays_on ssrc (fact_came fact moment) stay all = refl
-stays_on ssrc (check_made horizons) stay all = all [] horizons stay refl
-stays_on ssrc (block_taken other) stay all = refl
+    NeverForgotten ssrc (step ∷ stay) → ends_stay ssrc step stay ≡ false
+stays_on ssrc (fact_came fact moment) stay all kept = refl
+stays_on ssrc (check_made horizons) stay all kept = all [] horizons stay refl
+stays_on ssrc (block_taken other) stay all kept = refl
+stays_on ssrc (source_forgotten other) stay all kept = kept [] other stay refl
 
 -- ---- A stay is a prefix of the trace
 
@@ -38,6 +54,12 @@ outlasts_naming ssrc step naming [] horizons older is =
     let same : step ≡ check_made horizons = cc in absurd (true≢false (sym naming ∙ ap (is_naming ssrc) same))
 outlasts_naming ssrc step naming (x ∷ []) horizons older is = absurd cc
 outlasts_naming ssrc step naming (x ∷ y ∷ newer) horizons older is = absurd cc
+
+kept_naming : (ssrc : ℕ) (step : TraceStep) → is_naming ssrc step ≡ true → NeverForgotten ssrc (step ∷ [])
+kept_naming ssrc step naming [] other older is =
+    let same : step ≡ source_forgotten other = cc in absurd (true≢false (sym naming ∙ ap (is_naming ssrc) same))
+kept_naming ssrc step naming (x ∷ []) other older is = absurd cc
+kept_naming ssrc step naming (x ∷ y ∷ newer) other older is = absurd cc
 
 module _ (capacity : ℕ) (step : TraceStep) (earlier : List TraceStep) (ssrc : ℕ) where
   admitted_now : stay_of capacity earlier ssrc ≡ None → (stay : List TraceStep) →
@@ -64,6 +86,7 @@ module _ (capacity : ℕ) (step : TraceStep) (earlier : List TraceStep) (ssrc : 
                     absent = absent;
                     room = ltb-true present capacity room;
                     outlasts = subst (OutlastsChecks ssrc) (sym whole) (outlasts_naming ssrc step naming);
+                    kept = subst (NeverForgotten ssrc) (sym whole) (kept_naming ssrc step naming);
                   }
             ] refl
       ] refl
@@ -87,6 +110,7 @@ module _ (capacity : ℕ) (step : TraceStep) (earlier : List TraceStep) (ssrc : 
               absent = before.absent;
               room = before.room;
               outlasts = subst (OutlastsChecks ssrc) (sym whole) (outlasts_step ssrc step kept ends before.outlasts);
+              kept = subst (NeverForgotten ssrc) (sym whole) (kept_step ssrc step kept ends before.kept);
             }
       ] refl
 
@@ -117,19 +141,20 @@ module _ (capacity ssrc : ℕ) (admission : TraceStep) (before : List TraceStep)
       ∙ (λ i. elim (named i) [ false ↦ None | true ↦ if has_room i then Some (admission ∷ []) else None ])
 
   prefix_is_it : (since : List TraceStep) → OutlastsChecks ssrc (since ++ admission ∷ []) →
+      NeverForgotten ssrc (since ++ admission ∷ []) →
       stay_of capacity (since ++ admission ∷ before) ssrc ≡ Some (since ++ admission ∷ [])
-  prefix_is_it [] all = begins
-  prefix_is_it (step ∷ since) all =
+  prefix_is_it [] all never = begins
+  prefix_is_it (step ∷ since) all never =
       let earlier = since ++ admission ∷ before in
       let kept = since ++ admission ∷ [] in
       ap (stay_with capacity step (names earlier) (stay_of capacity earlier) ssrc)
-      (prefix_is_it since (outlasts_later ssrc step kept all))
-      ∙ ap (λ ends. if ends then None else Some (step ∷ kept)) (stays_on ssrc step kept all)
+      (prefix_is_it since (outlasts_later ssrc step kept all) (kept_later ssrc step kept never))
+      ∙ ap (λ ends. if ends then None else Some (step ∷ kept)) (stays_on ssrc step kept all never)
 
 pub prefix_is_stay : (capacity : ℕ) (trace : List TraceStep) (ssrc : ℕ) (stay : List TraceStep) →
     IsStay capacity trace ssrc stay → stay_of capacity trace ssrc ≡ Some stay
 prefix_is_stay capacity trace ssrc stay is =
     ap (λ t. stay_of capacity t ssrc) is.parts
     ∙ prefix_is_it capacity ssrc is.admission is.before is.named is.absent is.room is.since
-    (subst (OutlastsChecks ssrc) is.whole is.outlasts)
+    (subst (OutlastsChecks ssrc) is.whole is.outlasts) (subst (NeverForgotten ssrc) is.whole is.kept)
     ∙ ap Some (sym is.whole)

@@ -16,76 +16,76 @@ use Rattle.rtcp_members.specs.Tables.{entry_after}
 -- ---- The mark
 
 -- what a stay says whose part before the mark is `own`
-abbrev pub entry_with : (rate ssrc : ℕ) (own : List TraceStep) (mark : Option ℕ) → EntryValue
-entry_with rate ssrc own marked =
+abbrev pub entry_with : (ssrc : ℕ) (own : List TraceStep) (mark : Option ℕ) → EntryValue
+entry_with ssrc own marked =
     record {
-      valid = is_valid rate ssrc own;
+      valid = is_valid ssrc own;
       mark = marked;
       sighting = last_naming ssrc own;
-      sending = sending_of rate ssrc own;
-      source = summary_of (given_of rate ssrc own);
+      sending = sending_of ssrc own;
+      source = summary_of (given_of ssrc own);
     }
 
 -- what a stay without a mark says with one step more
-abbrev pub moved_entry : (rate ssrc : ℕ) → TraceStep → (stay : List TraceStep) → EntryValue
-moved_entry rate ssrc step stay = entry_with rate ssrc (if is_some (mark_at ssrc step None) then stay else step ∷ stay)
+abbrev pub moved_entry : (ssrc : ℕ) → TraceStep → (stay : List TraceStep) → EntryValue
+moved_entry ssrc step stay = entry_with ssrc (if is_some (mark_at ssrc step None) then stay else step ∷ stay)
     (mark_at ssrc step None)
 
 before_none : (ssrc : ℕ) (stay : List TraceStep) → mark_of ssrc stay ≡ None → before_mark ssrc stay ≡ stay
 before_none ssrc [] unmarked = refl
 before_none ssrc (step ∷ stay) unmarked = ap (λ m. if is_some m then before_mark ssrc stay else step ∷ stay) unmarked
 
-pub entry_unmarked : (rate ssrc : ℕ) (stay : List TraceStep) → mark_of ssrc stay ≡ None →
-    entry_of rate ssrc stay ≡ entry_with rate ssrc stay None
-entry_unmarked rate ssrc stay unmarked = λ i. entry_with rate ssrc (before_none ssrc stay unmarked i) (unmarked i)
+pub entry_unmarked : (ssrc : ℕ) (stay : List TraceStep) → mark_of ssrc stay ≡ None →
+    entry_of ssrc stay ≡ entry_with ssrc stay None
+entry_unmarked ssrc stay unmarked = λ i. entry_with ssrc (before_none ssrc stay unmarked i) (unmarked i)
 
-module _ (rate ssrc : ℕ) (step : TraceStep) (stay : List TraceStep) where
+module _ (ssrc : ℕ) (step : TraceStep) (stay : List TraceStep) where
   -- With a mark no step changes anything.
   pub entry_marked : (mark : ℕ) → mark_of ssrc stay ≡ Some mark →
-      entry_of rate ssrc (step ∷ stay) ≡ entry_of rate ssrc stay
+      entry_of ssrc (step ∷ stay) ≡ entry_of ssrc stay
   entry_marked mark marked =
-      ap (λ m. entry_with rate ssrc (if is_some (mark_at ssrc step m) then before_mark ssrc stay else step ∷ stay)
+      ap (λ m. entry_with ssrc (if is_some (mark_at ssrc step m) then before_mark ssrc stay else step ∷ stay)
       (mark_at ssrc step m)) marked
-      ∙ ap (entry_with rate ssrc (before_mark ssrc stay)) (sym marked)
+      ∙ ap (entry_with ssrc (before_mark ssrc stay)) (sym marked)
 
-  pub entry_moves : mark_of ssrc stay ≡ None → entry_of rate ssrc (step ∷ stay) ≡ moved_entry rate ssrc step stay
-  entry_moves unmarked = λ i. entry_with rate ssrc
+  pub entry_moves : mark_of ssrc stay ≡ None → entry_of ssrc (step ∷ stay) ≡ moved_entry ssrc step stay
+  entry_moves unmarked = λ i. entry_with ssrc
       (if is_some (mark_at ssrc step (unmarked i)) then before_none ssrc stay unmarked i else step ∷ stay)
       (mark_at ssrc step (unmarked i))
 
 -- ---- Facts
 
 -- A fact of the source moves what is said of it as the tables say.
-pub own_fact : (rate ssrc moment : ℕ) (fact : Fact) (stay : List TraceStep) → (subject fact == ssrc) ≡ true
-    → moved_entry rate ssrc (fact_came fact moment) stay ≡ entry_after rate fact moment (entry_with rate ssrc stay None)
-own_fact rate ssrc moment (Heard other) stay own = rw own refl
-own_fact rate ssrc moment (Told other ntp rtp) stay own = rw own refl
-own_fact rate ssrc moment (Named other) stay own = rw own refl
-own_fact rate ssrc moment (Gone other) stay own = rw own refl
-own_fact rate ssrc moment (Media other seq timestamp octets) stay own =
-    let given = given_of rate ssrc stay in
+pub own_fact : (ssrc moment : ℕ) (fact : Fact) (stay : List TraceStep) → (subject fact == ssrc) ≡ true
+    → moved_entry ssrc (fact_came fact moment) stay ≡ entry_after fact moment (entry_with ssrc stay None)
+own_fact ssrc moment (Heard other) stay own = rw own refl
+own_fact ssrc moment (Told other ntp rtp) stay own = rw own refl
+own_fact ssrc moment (Named other) stay own = rw own refl
+own_fact ssrc moment (Gone other) stay own = rw own refl
+own_fact ssrc moment (Media other seq timestamp octets rate) stay own =
+    let given = given_of ssrc stay in
     let taken : taken_in (run_of given) seq ≡ taken_by (summary_of given) seq =
     sym (summary_suffices-taken given seq) in
     let arrival = media_units moment rate in
-    let moved : summary_of (packet_came seq timestamp arrival octets ∷ given)
-    ≡ after_packet seq timestamp arrival octets (summary_of given) = summary_moves-packet seq timestamp arrival octets
-    given in
+    let moved : summary_of (packet_came seq timestamp arrival octets rate ∷ given)
+    ≡ after_packet seq timestamp arrival octets rate (summary_of given) =
+    summary_moves-packet seq timestamp arrival octets rate given in
     rw own (λ i. record {
-      valid = is_counted (taken i) || is_valid rate ssrc stay;
+      valid = is_counted (taken i) || is_valid ssrc stay;
       mark = None;
       sighting = moment;
-      sending = (if is_counted (taken i) then Some moment else sending_of rate ssrc stay);
+      sending = (if is_counted (taken i) then Some moment else sending_of ssrc stay);
       source = moved i;
     })
 
 -- A fact of another source changes nothing.
-pub other_fact : (rate ssrc moment : ℕ) (fact : Fact) (stay : List TraceStep) → (subject fact == ssrc) ≡ false
-    → moved_entry rate ssrc (fact_came fact moment) stay ≡ entry_with rate ssrc stay None
-other_fact rate ssrc moment (Heard other) stay apart = rw apart refl
-other_fact rate ssrc moment (Told other ntp rtp) stay apart = rw apart refl
-other_fact rate ssrc moment (Named other) stay apart = rw apart refl
-other_fact rate ssrc moment (Gone other) stay apart = rw apart refl
-other_fact rate ssrc moment (Media other seq timestamp octets) stay apart = rw apart refl
+pub other_fact : (ssrc moment : ℕ) (fact : Fact) (stay : List TraceStep) → (subject fact == ssrc) ≡ false
+    → moved_entry ssrc (fact_came fact moment) stay ≡ entry_with ssrc stay None
+other_fact ssrc moment (Heard other) stay apart = rw apart refl
+other_fact ssrc moment (Told other ntp rtp) stay apart = rw apart refl
+other_fact ssrc moment (Named other) stay apart = rw apart refl
+other_fact ssrc moment (Gone other) stay apart = rw apart refl
+other_fact ssrc moment (Media other seq timestamp octets rate) stay apart = rw apart refl
 
 -- ---- Checks
 
@@ -94,15 +94,15 @@ abbrev pub checked : Horizons → EntryValue → EntryValue
 checked horizons entry = record entry { sending = still_sending horizons entry.sending }
 
 -- A check that does not remove a source changes at most whether it sends, and nothing where it has a mark.
-pub check_moves_entry : (rate ssrc : ℕ) (horizons : Horizons) (stay : List TraceStep)
-    → let entry = entry_of rate ssrc stay in
-    entry_of rate ssrc (check_made horizons ∷ stay)
+pub check_moves_entry : (ssrc : ℕ) (horizons : Horizons) (stay : List TraceStep)
+    → let entry = entry_of ssrc stay in
+    entry_of ssrc (check_made horizons ∷ stay)
     ≡ (if is_some (mark_of ssrc stay) then entry else checked horizons entry)
-check_moves_entry rate ssrc horizons stay =
-    let entry = entry_of rate ssrc stay in
-    elim (mark_of ssrc stay) as (λ m. mark_of ssrc stay ≡ m → entry_of rate ssrc (check_made horizons ∷ stay)
+check_moves_entry ssrc horizons stay =
+    let entry = entry_of ssrc stay in
+    elim (mark_of ssrc stay) as (λ m. mark_of ssrc stay ≡ m → entry_of ssrc (check_made horizons ∷ stay)
     ≡ (if is_some m then entry else checked horizons entry)) [
-      | None ↦ λ unmarked. entry_moves rate ssrc (check_made horizons) stay unmarked
-          ∙ ap (checked horizons) (sym (entry_unmarked rate ssrc stay unmarked))
-      | Some mark ↦ λ marked. entry_marked rate ssrc (check_made horizons) stay mark marked
+      | None ↦ λ unmarked. entry_moves ssrc (check_made horizons) stay unmarked
+          ∙ ap (checked horizons) (sym (entry_unmarked ssrc stay unmarked))
+      | Some mark ↦ λ marked. entry_marked ssrc (check_made horizons) stay mark marked
     ] refl

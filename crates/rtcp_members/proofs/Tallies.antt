@@ -27,15 +27,15 @@ tally_rows test (e ∷ entries) =
     [ true ↦ omega (arith, tally_rows test entries) | false ↦ tally_rows test entries ]
 
 -- a count of the list is one of its table
-pub counted_in : (test : EntryValue → Bool) (capacity rate : ℕ) (entries : List Entry) → IsApart (rows_of entries) →
-    count_in test (table_of capacity rate entries) ≡ tally_of test entries
-counted_in test capacity rate entries apart = passing_rows test (rows_of entries) apart ∙ tally_rows test entries
+pub counted_in : (test : EntryValue → Bool) (capacity : ℕ) (entries : List Entry) → IsApart (rows_of entries) →
+    count_in test (table_of capacity entries) ≡ tally_of test entries
+counted_in test capacity entries apart = passing_rows test (rows_of entries) apart ∙ tally_rows test entries
 
-pub counted_at : (test : EntryValue → Bool) (capacity rate : ℕ) (entries : List Entry) (table : TableValue)
-    (count : ℕ) → IsApart (rows_of entries) → table_of capacity rate entries ≡ table → count ≡ tally_of test entries →
+pub counted_at : (test : EntryValue → Bool) (capacity : ℕ) (entries : List Entry) (table : TableValue)
+    (count : ℕ) → IsApart (rows_of entries) → table_of capacity entries ≡ table → count ≡ tally_of test entries →
     count ≡ count_in test table
-counted_at test capacity rate entries table count apart is counts = counts
-    ∙ sym (counted_in test capacity rate entries apart) ∙ ap (count_in test) is
+counted_at test capacity entries table count apart is counts = counts
+    ∙ sym (counted_in test capacity entries apart) ∙ ap (count_in test) is
 
 -- ---- After a check
 
@@ -89,7 +89,7 @@ module _ (horizons : Horizons) (entries next : List Entry) (is : next ≡ checke
   fewer_senders_checked = rw is (fewer_senders horizons entries)
 
   -- The same of a table over the list.
-  module _ (capacity rate : ℕ) (table : TableValue) (view : table_of capacity rate entries ≡ table)
+  module _ (capacity : ℕ) (table : TableValue) (view : table_of capacity entries ≡ table)
       (listed : IsListed capacity entries) where
     pub listed_checked : IsListed capacity next
     listed_checked = record {
@@ -98,13 +98,13 @@ module _ (horizons : Horizons) (entries next : List Entry) (is : next ≡ checke
       room = listed.room;
     }
 
-    pub table_checked : table_of capacity rate next ≡ after_check horizons table
+    pub table_checked : table_of capacity next ≡ after_check horizons table
     table_checked =
-        ap (table_of capacity rate) is
-        ∙ ap (λ m. record (table_of capacity rate entries) { entries = m }) (map_checked horizons entries listed.apart)
+        ap (table_of capacity) is
+        ∙ ap (λ m. record (table_of capacity entries) { entries = m }) (map_checked horizons entries listed.apart)
         ∙ ap (after_check horizons) view
 
-    len_of : (xs : List Entry) (t : TableValue) → table_of capacity rate xs ≡ t → IsApart (rows_of xs) →
+    len_of : (xs : List Entry) (t : TableValue) → table_of capacity xs ≡ t → IsApart (rows_of xs) →
         length xs ≡ finite.len t.entries
     len_of xs t same apart = sym (length-map xs row_of) ∙ sym (len_rows (rows_of xs) apart)
         ∙ ap (λ (t : TableValue). finite.len t.entries) same
@@ -114,7 +114,7 @@ module _ (horizons : Horizons) (entries next : List Entry) (is : next ≡ checke
         table_checked listed_checked.apart i
 
     module _ (before after : ℕ) (at_first : before ≡ senders_in table)
-        (at_last : after ≡ senders_in (table_of capacity rate next)) where
+        (at_last : after ≡ senders_in (table_of capacity next)) where
       pub senders_checked : before - after ≡ dropped_senders horizons table
       senders_checked = λ i. at_first i - (at_last ∙ ap senders_in table_checked) i
 
@@ -124,7 +124,7 @@ module _ (horizons : Horizons) (entries next : List Entry) (is : next ≡ checke
         at_first,
         at_last,
         ap senders_in view,
-        counted_in is_sender capacity rate entries listed.apart,
-        counted_in is_sender capacity rate next listed_checked.apart,
+        counted_in is_sender capacity entries listed.apart,
+        counted_in is_sender capacity next listed_checked.apart,
         fewer_senders_checked,
       )

@@ -65,19 +65,19 @@ entry_if_named false None named = refl
 entry_if_named false (Some entry) named = absurd (not_named (named refl))
 
 -- The table of a trace stands at it.
-pub table_stands : (capacity rate : ℕ) (trace : List TraceStep) → StandsAt (table_at capacity rate trace) trace
-table_stands capacity rate trace ssrc =
-    let entry : ℕ → Option EntryValue = entry_at capacity rate trace in
+pub table_stands : (capacity : ℕ) (trace : List TraceStep) → StandsAt (table_at capacity trace) trace
+table_stands capacity trace ssrc =
+    let entry : ℕ → Option EntryValue = entry_at capacity trace in
     map.get-from_entries nat_cmp_total (filter_map (row_by entry) (names trace)) ssrc
     ∙ found_by entry (names trace) ssrc
     ∙ entry_if_named (has ssrc (names trace)) (entry ssrc)
     (λ some. present_is_named capacity trace ssrc
-    (sym (is_some_mapped (entry_of rate ssrc) (stay_of capacity trace ssrc)) ∙ some))
+    (sym (is_some_mapped (entry_of ssrc) (stay_of capacity trace ssrc)) ∙ some))
 
 -- No other does.
 pub only_table : (table : TableValue) (trace : List TraceStep) → StandsAt table trace →
-    table ≡ table_at table.capacity table.rate trace
+    table ≡ table_at table.capacity trace
 only_table table trace stands =
     ap (λ m. record table { entries = m })
-    (map.same_map nat_cmp_total nat_cmp-IsAntisymmetric table.entries (table_at table.capacity table.rate trace).entries
-    (λ q. stands q ∙ sym (table_stands table.capacity table.rate trace q)))
+    (map.same_map nat_cmp_total nat_cmp-IsAntisymmetric table.entries (table_at table.capacity trace).entries
+    (λ q. stands q ∙ sym (table_stands table.capacity trace q)))

@@ -9,16 +9,16 @@ use Rattle.rtcp_members.specs.Tables.{EntryMap, TableValue}
 
 abbrev pub run_code : Coded RunValue
 run_code =
-    code_by (ℕ × (ℕ × (ℕ × (ℕ × (ℕ × (ℕ × (ℕ × ℕ)))))))
+    code_by (ℕ × (ℕ × (ℕ × (ℕ × (ℕ × (ℕ × (ℕ × (ℕ × ℕ))))))))
     (coded× coded_ℕ (coded× coded_ℕ (coded× coded_ℕ (coded× coded_ℕ
-    (coded× coded_ℕ (coded× coded_ℕ (coded× coded_ℕ coded_ℕ)))))))
+    (coded× coded_ℕ (coded× coded_ℕ (coded× coded_ℕ (coded× coded_ℕ coded_ℕ))))))))
     (λ r. (
       r.first,
       (
         r.greatest,
         (
           r.received,
-          (r.expected_before, (r.received_before, (r.transit, (r.jitter, r.octets)))),
+          (r.expected_before, (r.received_before, (r.transit, (r.jitter, (r.octets, r.rate))))),
         ),
       ),
     ))
@@ -30,7 +30,8 @@ run_code =
       received_before = p.1.1.1.1.0;
       transit = p.1.1.1.1.1.0;
       jitter = p.1.1.1.1.1.1.0;
-      octets = p.1.1.1.1.1.1.1;
+      octets = p.1.1.1.1.1.1.1.0;
+      rate = p.1.1.1.1.1.1.1.1;
     })
     (λ _. refl)
 
@@ -65,7 +66,6 @@ entry_code =
 
 abbrev pub table_code : Coded TableValue
 table_code =
-    code_by (ℕ × (ℕ × EntryMap)) (coded× coded_ℕ (coded× coded_ℕ (map.code coded_ℕ entry_code)))
-    (λ t. (t.capacity, (t.rate, t.entries)))
-    (λ p. record { capacity = p.0; rate = p.1.0; entries = p.1.1 })
+    code_by (ℕ × EntryMap) (coded× coded_ℕ (map.code coded_ℕ entry_code)) (λ t. (t.capacity, t.entries))
+    (λ p. record { capacity = p.0; entries = p.1 })
     (λ _. refl)

@@ -7,7 +7,7 @@ use Rattle.rtcp_clock.specs.Moments.{media_units}
 use Rattle.rtcp_source.specs.Packets.{Given, packet_came, report_came, block_made, taken_in, is_counted, run_of}
 use Rattle.rtcp_source.specs.Summary.{SourceValue, summary_of}
 use Rattle.rtcp_wire.specs.Facts.{subject}
-use Rattle.rtcp_members.specs.Traces.{Horizons, TraceStep, fact_came, check_made, block_taken, names}
+use Rattle.rtcp_members.specs.Traces.{Horizons, TraceStep, fact_came, check_made, block_taken, source_forgotten, names}
 use Rattle.rtcp_members.specs.Stays.{mark_of, before_mark, last_naming, is_before, stay_of}
 
 pub record EntryValue : Type 0 where
@@ -23,31 +23,32 @@ pub record EntryValue : Type 0 where
 
 -- ---- Of the part of a stay before the mark
 
-abbrev pub given_by : (rate ssrc : ℕ) → Fact → (moment : ℕ) → List Given → List Given
-given_by rate ssrc (Heard other) moment given = given
-given_by rate ssrc (Told other ntp rtp) moment given =
+abbrev pub given_by : (ssrc : ℕ) → Fact → (moment : ℕ) → List Given → List Given
+given_by ssrc (Heard other) moment given = given
+given_by ssrc (Told other ntp rtp) moment given =
     if other == ssrc then report_came ntp rtp moment ∷ given else given
-given_by rate ssrc (Named other) moment given = given
-given_by rate ssrc (Gone other) moment given = given
-given_by rate ssrc (Media other seq timestamp octets) moment given =
-    if other == ssrc then packet_came seq timestamp (media_units moment rate) octets ∷ given else given
+given_by ssrc (Named other) moment given = given
+given_by ssrc (Gone other) moment given = given
+given_by ssrc (Media other seq timestamp octets rate) moment given =
+    if other == ssrc then packet_came seq timestamp (media_units moment rate) octets rate ∷ given else given
 
-abbrev pub given_with : (rate ssrc : ℕ) → TraceStep → List Given → List Given
-given_with rate ssrc (fact_came fact moment) given = given_by rate ssrc fact moment given
-given_with rate ssrc (check_made horizons) given = given
-given_with rate ssrc (block_taken other) given = if other == ssrc then block_made ∷ given else given
+abbrev pub given_with : (ssrc : ℕ) → TraceStep → List Given → List Given
+given_with ssrc (fact_came fact moment) given = given_by ssrc fact moment given
+given_with ssrc (check_made horizons) given = given
+given_with ssrc (block_taken other) given = if other == ssrc then block_made ∷ given else given
+given_with ssrc (source_forgotten other) given = given
 
 -- What a stay gives of a source, with arrivals in units of the media's clock (5.1).
-abbrev pub given_of : (rate ssrc : ℕ) → List TraceStep → List Given
-given_of rate ssrc [] = []
-given_of rate ssrc (step ∷ earlier) = given_with rate ssrc step (given_of rate ssrc earlier)
+abbrev pub given_of : (ssrc : ℕ) → List TraceStep → List Given
+given_of ssrc [] = []
+given_of ssrc (step ∷ earlier) = given_with ssrc step (given_of ssrc earlier)
 
 abbrev pub is_counted_fact : (ssrc : ℕ) → Fact → List Given → Bool
 is_counted_fact ssrc (Heard other) given = false
 is_counted_fact ssrc (Told other ntp rtp) given = false
 is_counted_fact ssrc (Named other) given = false
 is_counted_fact ssrc (Gone other) given = false
-is_counted_fact ssrc (Media other seq timestamp octets) given =
+is_counted_fact ssrc (Media other seq timestamp octets rate) given =
     other == ssrc && is_counted (taken_in (run_of given) seq)
 
 -- Whether a step is a counted packet of the source, to which this was given before (A.1).
@@ -55,67 +56,70 @@ abbrev pub is_counted_by : (ssrc : ℕ) → TraceStep → List Given → Bool
 is_counted_by ssrc (fact_came fact moment) given = is_counted_fact ssrc fact given
 is_counted_by ssrc (check_made horizons) given = false
 is_counted_by ssrc (block_taken other) given = false
+is_counted_by ssrc (source_forgotten other) given = false
 
 abbrev pub gives_name : (ssrc : ℕ) → TraceStep → Bool
 gives_name ssrc (fact_came (Heard other) moment) = false
 gives_name ssrc (fact_came (Told other ntp rtp) moment) = false
 gives_name ssrc (fact_came (Named other) moment) = other == ssrc
 gives_name ssrc (fact_came (Gone other) moment) = false
-gives_name ssrc (fact_came (Media other seq timestamp octets) moment) = false
+gives_name ssrc (fact_came (Media other seq timestamp octets rate) moment) = false
 gives_name ssrc (check_made horizons) = false
 gives_name ssrc (block_taken other) = false
+gives_name ssrc (source_forgotten other) = false
 
 -- A source is valid once it gave its name, or a packet of it was counted.
-abbrev pub is_valid : (rate ssrc : ℕ) → List TraceStep → Bool
-is_valid rate ssrc [] = false
-is_valid rate ssrc (step ∷ earlier) =
-    gives_name ssrc step || is_counted_by ssrc step (given_of rate ssrc earlier) || is_valid rate ssrc earlier
+abbrev pub is_valid : (ssrc : ℕ) → List TraceStep → Bool
+is_valid ssrc [] = false
+is_valid ssrc (step ∷ earlier) =
+    gives_name ssrc step || is_counted_by ssrc step (given_of ssrc earlier) || is_valid ssrc earlier
 
 abbrev pub still_sending : Horizons → Option ℕ → Option ℕ
 still_sending horizons sending = if is_before sending horizons.idle then None else sending
 
-abbrev pub sending_with : (rate ssrc : ℕ) → TraceStep → List Given → Option ℕ → Option ℕ
-sending_with rate ssrc (fact_came fact moment) given sending =
+abbrev pub sending_with : (ssrc : ℕ) → TraceStep → List Given → Option ℕ → Option ℕ
+sending_with ssrc (fact_came fact moment) given sending =
     if is_counted_fact ssrc fact given then Some moment else sending
-sending_with rate ssrc (check_made horizons) given sending = still_sending horizons sending
-sending_with rate ssrc (block_taken other) given sending = sending
+sending_with ssrc (check_made horizons) given sending = still_sending horizons sending
+sending_with ssrc (block_taken other) given sending = sending
+sending_with ssrc (source_forgotten other) given sending = sending
 
 -- The moment of the last counted packet, as long as no check after it had a later horizon for packets.
-abbrev pub sending_of : (rate ssrc : ℕ) → List TraceStep → Option ℕ
-sending_of rate ssrc [] = None
-sending_of rate ssrc (step ∷ earlier) =
-    sending_with rate ssrc step (given_of rate ssrc earlier) (sending_of rate ssrc earlier)
+abbrev pub sending_of : (ssrc : ℕ) → List TraceStep → Option ℕ
+sending_of ssrc [] = None
+sending_of ssrc (step ∷ earlier) =
+    sending_with ssrc step (given_of ssrc earlier) (sending_of ssrc earlier)
 
 -- ---- Packets that are counted
 
 -- Whether a fact is a packet that is counted, by the stay of its source: there is one, without a mark, and
 -- the packet is counted, in the last run of what it gave or as the first of a new one (A.1).
-abbrev pub counted_in_stay : (rate : ℕ) → Fact → Option (List TraceStep) → Bool
-counted_in_stay rate fact None = false
-counted_in_stay rate fact (Some stay) =
+abbrev pub counted_in_stay : Fact → Option (List TraceStep) → Bool
+counted_in_stay fact None = false
+counted_in_stay fact (Some stay) =
     is_none (mark_of (subject fact) stay)
-    && is_counted_fact (subject fact) fact (given_of rate (subject fact) stay)
+    && is_counted_fact (subject fact) fact (given_of (subject fact) stay)
 
-abbrev pub counted_at : (capacity rate : ℕ) → List TraceStep → Fact → Bool
-counted_at capacity rate trace fact = counted_in_stay rate fact (stay_of capacity trace (subject fact))
+abbrev pub counted_at : (capacity : ℕ) → List TraceStep → Fact → Bool
+counted_at capacity trace fact = counted_in_stay fact (stay_of capacity trace (subject fact))
 
 -- ---- Entries
 
 -- what a stay says of its source
-abbrev pub entry_of : (rate ssrc : ℕ) → List TraceStep → EntryValue
-entry_of rate ssrc stay =
+abbrev pub entry_of : (ssrc : ℕ) → List TraceStep → EntryValue
+entry_of ssrc stay =
     let own = before_mark ssrc stay in
     record {
-      valid = is_valid rate ssrc own;
+      valid = is_valid ssrc own;
       mark = mark_of ssrc stay;
       sighting = last_naming ssrc own;
-      sending = sending_of rate ssrc own;
-      source = summary_of (given_of rate ssrc own);
+      sending = sending_of ssrc own;
+      source = summary_of (given_of ssrc own);
     }
 
 -- What the trace says of a source, if it is present.
-abbrev pub entry_at : (capacity rate : ℕ) → List TraceStep → (ssrc : ℕ) → Option EntryValue
-entry_at capacity rate trace ssrc = option_map (entry_of rate ssrc) (stay_of capacity trace ssrc)
+abbrev pub entry_at : (capacity : ℕ) → List TraceStep → (ssrc : ℕ) → Option EntryValue
+entry_at capacity trace ssrc = option_map (entry_of ssrc) (stay_of capacity trace ssrc)
 
 -- Members are valid and not marked (6.2.1, 6.3.7); senders are the members who send (6.3).
 abbrev pub is_member : EntryValue → Bool
@@ -129,37 +133,37 @@ is_such test None = false
 is_such test (Some entry) = test entry
 
 -- how many of the sources of a trace are such
-abbrev pub count_at : (EntryValue → Bool) → (capacity rate : ℕ) → List TraceStep → ℕ
-count_at test capacity rate trace =
-    length (filter (λ ssrc. is_such test (entry_at capacity rate trace ssrc)) (names trace))
+abbrev pub count_at : (EntryValue → Bool) → (capacity : ℕ) → List TraceStep → ℕ
+count_at test capacity trace =
+    length (filter (λ ssrc. is_such test (entry_at capacity trace ssrc)) (names trace))
 
-abbrev pub members_at : (capacity rate : ℕ) → List TraceStep → ℕ
+abbrev pub members_at : (capacity : ℕ) → List TraceStep → ℕ
 members_at = count_at is_member
 
-abbrev pub senders_at : (capacity rate : ℕ) → List TraceStep → ℕ
+abbrev pub senders_at : (capacity : ℕ) → List TraceStep → ℕ
 senders_at = count_at is_sender
 
 -- ---- Senders in other words
 
 -- The newest counted packet of a source among these steps came at this moment, and no check since it had a
 -- later horizon for packets.
-pub record IsSendingSince (rate ssrc : ℕ) (own : List TraceStep) (moment : ℕ) : Type 0 where
+pub record IsSendingSince (ssrc : ℕ) (own : List TraceStep) (moment : ℕ) : Type 0 where
   pub since : List TraceStep
   pub packet : Fact
   pub before : List TraceStep
   pub parts : own ≡ since ++ fact_came packet moment ∷ before
-  pub counted : is_counted_fact ssrc packet (given_of rate ssrc before) ≡ true
+  pub counted : is_counted_fact ssrc packet (given_of ssrc before) ≡ true
   pub newest : (newer : List TraceStep) (other : Fact) (at : ℕ) (older : List TraceStep) →
       since ≡ newer ++ fact_came other at ∷ older →
-      is_counted_fact ssrc other (given_of rate ssrc (older ++ fact_came packet moment ∷ before)) ≡ false
+      is_counted_fact ssrc other (given_of ssrc (older ++ fact_came packet moment ∷ before)) ≡ false
   pub recent : (newer : List TraceStep) (horizons : Horizons) (older : List TraceStep) →
       since ≡ newer ++ check_made horizons ∷ older →
       horizons.idle ≤ moment
 
 -- A source is a sender where it is present without a mark, and sends since some moment of its stay.
-pub record IsSenderAt (capacity rate : ℕ) (trace : List TraceStep) (ssrc : ℕ) : Type 0 where
+pub record IsSenderAt (capacity : ℕ) (trace : List TraceStep) (ssrc : ℕ) : Type 0 where
   pub stay : List TraceStep
   pub present : stay_of capacity trace ssrc ≡ Some stay
   pub unmarked : mark_of ssrc stay ≡ None
   pub moment : ℕ
-  pub sending : IsSendingSince rate ssrc stay moment
+  pub sending : IsSendingSince ssrc stay moment

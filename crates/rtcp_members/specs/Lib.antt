@@ -16,3 +16,4 @@ pub mod Looks
 pub mod Shelves
 pub mod BlockLaws
 pub mod Standing
+pub mod Clocks

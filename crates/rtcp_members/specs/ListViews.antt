@@ -45,8 +45,8 @@ rows_of entries = map row_of entries
 abbrev pub map_of : List Entry → EntryMap
 map_of entries = finite.from_entries (rows_of entries)
 
-abbrev pub table_of : (capacity rate : ℕ) → List Entry → TableValue
-table_of capacity rate entries = record { capacity = capacity; rate = rate; entries = map_of entries }
+abbrev pub table_of : (capacity : ℕ) → List Entry → TableValue
+table_of capacity entries = record { capacity = capacity; entries = map_of entries }
 
 -- how many entries pass a test
 abbrev pub tally_of : (EntryValue → Bool) → List Entry → ℕ

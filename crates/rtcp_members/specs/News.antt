@@ -10,12 +10,12 @@ use Rattle.rtcp_members.specs.Pending.{EntryRow, is_after}
 
 -- Whether a block of a source is due, by its stay: there is one, without a mark, that holds a counted packet
 -- after the source's last block, or at all if there is no block.
-abbrev pub is_due_in : (rate ssrc : ℕ) → Option (List TraceStep) → Bool
-is_due_in rate ssrc None = false
-is_due_in rate ssrc (Some stay) = is_none (mark_of ssrc stay) && has_news_since (given_of rate ssrc stay)
+abbrev pub is_due_in : (ssrc : ℕ) → Option (List TraceStep) → Bool
+is_due_in ssrc None = false
+is_due_in ssrc (Some stay) = is_none (mark_of ssrc stay) && has_news_since (given_of ssrc stay)
 
-abbrev pub is_due_by : (capacity rate : ℕ) → List TraceStep → (ssrc : ℕ) → Bool
-is_due_by capacity rate trace ssrc = is_due_in rate ssrc (stay_of capacity trace ssrc)
+abbrev pub is_due_by : (capacity : ℕ) → List TraceStep → (ssrc : ℕ) → Bool
+is_due_by capacity trace ssrc = is_due_in ssrc (stay_of capacity trace ssrc)
 
 -- ---- By rising SSRC, in turn
 
@@ -34,11 +34,11 @@ ssrcs_in_turn last ssrcs = filter (is_after last) ssrcs ++ filter (λ ssrc. not 
 
 -- The sources that a block is due of, in the turn in which they are reported after the last one that was, if
 -- there was one.
-abbrev pub pending_at : (last : Option ℕ) (capacity rate : ℕ) → List TraceStep → List ℕ
-pending_at last capacity rate trace =
-    ssrcs_in_turn last (filter (is_due_by capacity rate trace) (rising (names trace)))
+abbrev pub pending_at : (last : Option ℕ) (capacity : ℕ) → List TraceStep → List ℕ
+pending_at last capacity trace =
+    ssrcs_in_turn last (filter (is_due_by capacity trace) (rising (names trace)))
 
 -- The same sources, each with what the trace says of it.
-abbrev pub pending_rows_at : (last : Option ℕ) (capacity rate : ℕ) → List TraceStep → List EntryRow
-pending_rows_at last capacity rate trace =
-    filter_map (row_at capacity rate trace) (pending_at last capacity rate trace)
+abbrev pub pending_rows_at : (last : Option ℕ) (capacity : ℕ) → List TraceStep → List EntryRow
+pending_rows_at last capacity trace =
+    filter_map (row_at capacity trace) (pending_at last capacity trace)

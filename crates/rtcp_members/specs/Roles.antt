@@ -3,7 +3,7 @@ use Rattle.std.specs.Prelude.{ℕ, zero, suc, ◌≡◌, ◌==◌, ◌&&◌, ◌
 use Rattle.rtcp_wire.specs.declared.fact.Fact.{Fact}
 use Rattle.rtcp_members.specs.Traces.{Horizons, TraceStep}
 use Rattle.rtcp_members.specs.Entries.{EntryValue, is_member, is_sender, is_such, members_at, senders_at}
-use Rattle.rtcp_members.specs.Tables.{TableValue, after_fact, after_check, members_in, senders_in}
+use Rattle.rtcp_members.specs.Tables.{TableValue, after_fact, after_check, after_forgetting, members_in, senders_in}
 
 -- Two entries of a source, if it has them, make it the same: no member, a member that does not send, or one that does.
 abbrev pub IsSameRole : Option EntryValue → Option EntryValue → Type 0
@@ -14,17 +14,17 @@ IsSameRole before after =
 
 -- A step concerns one source, or lets some go: so it changes who is a member or who sends exactly where it changes how
 -- many are or do (law `roles_move_with_counts`).
-abbrev pub step_moves : (capacity rate : ℕ) → TraceStep → List TraceStep → Bool
-step_moves capacity rate step earlier =
-    not ((members_at capacity rate (step ∷ earlier) == members_at capacity rate earlier)
-    && (senders_at capacity rate (step ∷ earlier) == senders_at capacity rate earlier))
+abbrev pub step_moves : (capacity : ℕ) → TraceStep → List TraceStep → Bool
+step_moves capacity step earlier =
+    not ((members_at capacity (step ∷ earlier) == members_at capacity earlier)
+    && (senders_at capacity (step ∷ earlier) == senders_at capacity earlier))
 
 -- One of the newest steps of a trace, so many of them, does.
-abbrev pub moved_within : (capacity rate : ℕ) → (steps : ℕ) → List TraceStep → Bool
-moved_within capacity rate zero trace = false
-moved_within capacity rate (suc steps) [] = false
-moved_within capacity rate (suc steps) (step ∷ earlier) =
-    step_moves capacity rate step earlier || moved_within capacity rate steps earlier
+abbrev pub moved_within : (capacity : ℕ) → (steps : ℕ) → List TraceStep → Bool
+moved_within capacity zero trace = false
+moved_within capacity (suc steps) [] = false
+moved_within capacity (suc steps) (step ∷ earlier) =
+    step_moves capacity step earlier || moved_within capacity steps earlier
 
 -- ---- By the table
 
@@ -40,3 +40,6 @@ facts_move (fact ∷ facts) moment table =
 
 abbrev pub check_moves : Horizons → TableValue → Bool
 check_moves horizons table = counts_differ table (after_check horizons table)
+
+abbrev pub forgetting_moves : (ssrc : ℕ) → TableValue → Bool
+forgetting_moves ssrc table = counts_differ table (after_forgetting ssrc table)

@@ -40,20 +40,20 @@ pub record IsChanged (change : EntryValue → EntryValue) (entries next : List E
   pub value : (d : Entry) → entry_value entry ≡ change (entry_value (slice_index_or entries at d))
 
 -- What a fact makes of the entry of a rank, which is counted anew, and what is returned of it.
-pub record TakesFact (rate : ℕ) (fact : Fact) (moment : ℕ) (entries next : List Entry) (at : ℕ) (counts : Counts)
+pub record TakesFact (fact : Fact) (moment : ℕ) (entries next : List Entry) (at : ℕ) (counts : Counts)
     (applied : Applied) : Type 0 where
-  pub changed : IsChanged (entry_with_fact rate fact moment) entries next at
+  pub changed : IsChanged (entry_with_fact fact moment) entries next at
   pub recounted : AreCounts counts next
   pub place : (d : Entry) (room : Bool) →
       applied.place ≡ place_of fact (Some (entry_value (slice_index_or entries at d))) room
   pub counted : (d : Entry) → applied.counted ≡ counted_of fact (Some (entry_value (slice_index_or entries at d)))
 
 -- An entry for the source of a fact is put into a gap, as the fact makes it, and counted.
-pub record Joins (rate : ℕ) (fact : Fact) (moment : ℕ) (entries next : List Entry) (gap : ℕ)
+pub record Joins (fact : Fact) (moment : ℕ) (entries next : List Entry) (gap : ℕ)
     (counts recounted : Counts) : Type 0 where
   pub entry : Entry
   pub ssrc : entry.ssrc ≡ subject fact
-  pub value : entry_value entry ≡ entry_after rate fact moment new_entry
+  pub value : entry_value entry ≡ entry_after fact moment new_entry
   pub items : next ≡ insert entries gap entry
   pub counted : IsOneMore entry counts recounted
 

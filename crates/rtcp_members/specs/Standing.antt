@@ -30,7 +30,7 @@ IsUpTo bounds (Heard ssrc) moment = bounds.silent ≤ moment
 IsUpTo bounds (Told ssrc ntp rtp) moment = bounds.silent ≤ moment
 IsUpTo bounds (Named ssrc) moment = bounds.silent ≤ moment
 IsUpTo bounds (Gone ssrc) moment = bounds.gone ≤ moment
-IsUpTo bounds (Media ssrc seq timestamp octets) moment = (bounds.silent ≤ moment) × (bounds.idle ≤ moment)
+IsUpTo bounds (Media ssrc seq timestamp octets rate) moment = (bounds.silent ≤ moment) × (bounds.idle ≤ moment)
 
 -- No bound of the one is later than the other's.
 pub record IsNoLater (one other : Bounds) : Type 0 where
@@ -86,4 +86,4 @@ KeepsCounts (Heard ssrc) entry = Unit {0}
 KeepsCounts (Told ssrc ntp rtp) entry = Unit {0}
 KeepsCounts (Named ssrc) entry = entry.valid ≡ true
 KeepsCounts (Gone ssrc) entry = ⊥
-KeepsCounts (Media ssrc seq timestamp octets) entry = (is_sender entry ≡ true) × (is_due entry ≡ true)
+KeepsCounts (Media ssrc seq timestamp octets rate) entry = (is_sender entry ≡ true) × (is_due entry ≡ true)

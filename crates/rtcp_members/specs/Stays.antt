@@ -1,8 +1,9 @@
 -- Who is present in a session, and since when (RFC 3550, 6.3.3 to 6.3.5, 6.3.7).
--- The stay of a source is the trace from its last admission on, as long as no check removes it.
-use Rattle.std.specs.Prelude.{ℕ, ◌≡◌, ◌<◌, ◌||◌, ◌==◌, ◌&&◌, Bool, true, false, nat_lt, List, [], ◌∷◌, ◌++◌, filter, length, if◌then◌else◌, Option, Some, None, is_some}
+-- The stay of a source is the trace from its last admission on, as long as no check removes it, and the host does not
+-- say that it is gone.
+use Rattle.std.specs.Prelude.{ℕ, ◌≡◌, ◌<◌, ◌||◌, ◌==◌, ◌&&◌, Bool, true, false, nat_lt, List, [], ◌∷◌, ◌++◌, filter, length, if◌then◌else◌, Option, Some, None, is_some, is_none}
 use Rattle.rtcp_wire.specs.Facts.{subject, is_gone}
-use Rattle.rtcp_members.specs.Traces.{Horizons, TraceStep, fact_came, check_made, block_taken, is_naming, names}
+use Rattle.rtcp_members.specs.Traces.{Horizons, TraceStep, fact_came, check_made, block_taken, source_forgotten, is_naming, names}
 
 -- ---- Parts of a stay
 
@@ -11,6 +12,7 @@ mark_at ssrc step (Some mark) = Some mark
 mark_at ssrc (fact_came fact moment) None = if is_gone fact && subject fact == ssrc then Some moment else None
 mark_at ssrc (check_made horizons) None = None
 mark_at ssrc (block_taken other) None = None
+mark_at ssrc (source_forgotten other) None = None
 
 -- The mark of a source: the moment of its first goodbye.
 abbrev pub mark_of : (ssrc : ℕ) → List TraceStep → Option ℕ
@@ -27,6 +29,7 @@ abbrev pub step_moment : TraceStep → ℕ
 step_moment (fact_came fact moment) = moment
 step_moment (check_made horizons) = 0
 step_moment (block_taken ssrc) = 0
+step_moment (source_forgotten ssrc) = 0
 
 -- The moment of the last naming among these steps, 0 if there is none.
 abbrev pub last_naming : (ssrc : ℕ) → List TraceStep → ℕ
@@ -45,10 +48,13 @@ is_before (Some moment) horizon = nat_lt moment horizon
 abbrev pub is_removed : Horizons → (sighting : ℕ) (mark : Option ℕ) → Bool
 is_removed horizons sighting mark = nat_lt sighting horizons.silent || is_before mark horizons.gone
 
+-- A source that the host says is gone is present no more, unless it has a mark: then it is held until a check removes
+-- it.
 abbrev pub ends_stay : (ssrc : ℕ) → TraceStep → List TraceStep → Bool
 ends_stay ssrc (fact_came fact moment) stay = false
 ends_stay ssrc (check_made horizons) stay = is_removed horizons (last_sighting ssrc stay) (mark_of ssrc stay)
 ends_stay ssrc (block_taken other) stay = false
+ends_stay ssrc (source_forgotten other) stay = other == ssrc && is_none (mark_of ssrc stay)
 
 -- ---- Stays
 
@@ -83,8 +89,16 @@ OutlastsChecks ssrc stay =
     stay ≡ newer ++ check_made horizons ∷ older →
     is_removed horizons (last_sighting ssrc older) (mark_of ssrc older) ≡ false
 
+-- Nowhere among these steps of a stay does the host say that the source is gone, unless the source has a mark there.
+abbrev pub NeverForgotten : (ssrc : ℕ) → List TraceStep → Type 0
+NeverForgotten ssrc stay =
+    (newer : List TraceStep) (other : ℕ) (older : List TraceStep) →
+    stay ≡ newer ++ source_forgotten other ∷ older →
+    (other == ssrc && is_none (mark_of ssrc older)) ≡ false
+
 -- A stay is a prefix of the trace, newest first. Its oldest step names the source at a moment when it was
--- absent and there was room, and no check in it removes the source.
+-- absent and there was room, no check in it removes the source, and the host does not say in it that the source is
+-- gone before the source has a mark.
 pub record IsStay (capacity : ℕ) (trace : List TraceStep) (ssrc : ℕ) (stay : List TraceStep) : Type 0 where
   pub since : List TraceStep
   pub admission : TraceStep
@@ -95,3 +109,4 @@ pub record IsStay (capacity : ℕ) (trace : List TraceStep) (ssrc : ℕ) (stay :
   pub absent : stay_of capacity before ssrc ≡ None
   pub room : present_among (names before) (stay_of capacity before) < capacity
   pub outlasts : OutlastsChecks ssrc stay
+  pub kept : NeverForgotten ssrc stay

@@ -13,7 +13,7 @@ use Rattle.rtcp_members.specs.declared.table.Place.TheVariants.{Kept, Added, NoR
 use Rattle.rtcp_wire.specs.Facts.{subject, is_gone}
 use Rattle.rtcp_members.specs.Traces.{Horizons, TraceStep, names}
 use Rattle.rtcp_members.specs.Stays.{is_removed}
-use Rattle.rtcp_members.specs.Entries.{EntryValue, still_sending, entry_at, is_member, is_sender}
+use Rattle.rtcp_members.specs.Entries.{EntryValue, still_sending, entry_at, is_member, is_sender, is_such}
 
 abbrev pub EntryMap : Type 0
 EntryMap = map.FinMap nat_cmp EntryValue
@@ -21,14 +21,11 @@ EntryMap = map.FinMap nat_cmp EntryValue
 pub record TableValue : Type 0 where
   -- how many entries it may hold
   pub capacity : ℕ
-  -- units of the media's clock a second
-  pub rate : ℕ
   pub entries : EntryMap
 
--- A table that another became has its capacity and its rate.
+-- A table that another became has its capacity.
 pub record KeepsBounds (old new : TableValue) : Type 0 where
   pub capacity : new.capacity ≡ old.capacity
-  pub rate : new.rate ≡ old.rate
 
 -- ---- Facts
 
@@ -42,28 +39,28 @@ counts (Heard ssrc) source = false
 counts (Told ssrc ntp rtp) source = false
 counts (Named ssrc) source = false
 counts (Gone ssrc) source = false
-counts (Media ssrc seq timestamp octets) source = is_counted (taken_by source seq)
+counts (Media ssrc seq timestamp octets rate) source = is_counted (taken_by source seq)
 
 -- an entry without a mark, after a fact of its source
-abbrev pub entry_after : (rate : ℕ) → Fact → (moment : ℕ) → EntryValue → EntryValue
-entry_after rate (Heard ssrc) moment entry = record entry { sighting = moment }
-entry_after rate (Told ssrc ntp rtp) moment entry =
+abbrev pub entry_after : Fact → (moment : ℕ) → EntryValue → EntryValue
+entry_after (Heard ssrc) moment entry = record entry { sighting = moment }
+entry_after (Told ssrc ntp rtp) moment entry =
     record entry { sighting = moment; source = after_told ntp rtp moment entry.source }
-entry_after rate (Named ssrc) moment entry = record entry { valid = true; sighting = moment }
-entry_after rate (Gone ssrc) moment entry = record entry { mark = Some moment }
-entry_after rate (Media ssrc seq timestamp octets) moment entry =
+entry_after (Named ssrc) moment entry = record entry { valid = true; sighting = moment }
+entry_after (Gone ssrc) moment entry = record entry { mark = Some moment }
+entry_after (Media ssrc seq timestamp octets rate) moment entry =
     let counted = is_counted (taken_by entry.source seq) in
     record entry {
       valid = counted || entry.valid;
       sighting = moment;
       sending = (if counted then Some moment else entry.sending);
-      source = after_packet seq timestamp (media_units moment rate) octets entry.source;
+      source = after_packet seq timestamp (media_units moment rate) octets rate entry.source;
     }
 
 -- an entry after a fact of its source: one with a mark stays as it is
-abbrev pub entry_with_fact : (rate : ℕ) → Fact → (moment : ℕ) → EntryValue → EntryValue
-entry_with_fact rate fact moment entry =
-    if is_some entry.mark then entry else entry_after rate fact moment entry
+abbrev pub entry_with_fact : Fact → (moment : ℕ) → EntryValue → EntryValue
+entry_with_fact fact moment entry =
+    if is_some entry.mark then entry else entry_after fact moment entry
 
 -- What becomes of a fact, by the entry of its source, if it has one, and by whether there is room for one
 -- more.
@@ -102,7 +99,7 @@ abbrev pub after_fact : Fact → (moment : ℕ) → TableValue → TableValue
 after_fact fact moment table =
     if changes (placed table fact)
     then record table {
-      entries = map.insert table.entries (subject fact) (entry_after table.rate fact moment (entry_for table fact));
+      entries = map.insert table.entries (subject fact) (entry_after fact moment (entry_for table fact));
     }
     else table
 
@@ -144,6 +141,19 @@ updated step entries = map.from_entries (filter_map (updated_row step) (map.entr
 abbrev pub after_check : Horizons → TableValue → TableValue
 after_check horizons table = record table { entries = updated (entry_after_check horizons) table.entries }
 
+-- ---- Sources that are gone
+
+-- Whether the source did not say goodbye.
+abbrev pub is_unmarked : EntryValue → Bool
+is_unmarked entry = is_none entry.mark
+
+-- The table once the host said that a source is gone: without its entry, if it has one without a mark.
+abbrev pub after_forgetting : (ssrc : ℕ) → TableValue → TableValue
+after_forgetting ssrc table =
+    if is_such is_unmarked (map.get table.entries ssrc)
+    then record table { entries = map.remove table.entries ssrc }
+    else table
+
 -- ---- Counts
 
 abbrev pub count_in : (EntryValue → Bool) → TableValue → ℕ
@@ -165,22 +175,21 @@ dropped_senders horizons table = senders_in table - senders_in (after_check hori
 
 -- ---- Tables and traces
 
-abbrev pub no_members : (capacity rate : ℕ) → TableValue
-no_members capacity rate = record { capacity = capacity; rate = rate; entries = map.empty }
+abbrev pub no_members : (capacity : ℕ) → TableValue
+no_members capacity = record { capacity = capacity; entries = map.empty }
 
 -- A table equals the one computed from the whole trace, or *stands at* the trace, where it has for each
 -- source the entry of the trace.
 abbrev pub StandsAt : TableValue → List TraceStep → Type 0
-StandsAt table trace = (ssrc : ℕ) → map.get table.entries ssrc ≡ entry_at table.capacity table.rate trace ssrc
+StandsAt table trace = (ssrc : ℕ) → map.get table.entries ssrc ≡ entry_at table.capacity trace ssrc
 
 -- The table of a trace: an entry for each source that is present.
-abbrev pub row_at : (capacity rate : ℕ) → List TraceStep → (ssrc : ℕ) → Option (ℕ × EntryValue)
-row_at capacity rate trace ssrc = option_map (λ entry. (ssrc, entry)) (entry_at capacity rate trace ssrc)
+abbrev pub row_at : (capacity : ℕ) → List TraceStep → (ssrc : ℕ) → Option (ℕ × EntryValue)
+row_at capacity trace ssrc = option_map (λ entry. (ssrc, entry)) (entry_at capacity trace ssrc)
 
-abbrev pub table_at : (capacity rate : ℕ) → List TraceStep → TableValue
-table_at capacity rate trace =
+abbrev pub table_at : (capacity : ℕ) → List TraceStep → TableValue
+table_at capacity trace =
     record {
       capacity = capacity;
-      rate = rate;
-      entries = map.from_entries (filter_map (row_at capacity rate trace) (names trace));
+      entries = map.from_entries (filter_map (row_at capacity trace) (names trace));
     }

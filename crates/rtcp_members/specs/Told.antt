@@ -71,37 +71,37 @@ RiseAbove low (state ∷ states) = (is_after low state.ssrc ≡ true) × RiseAbo
 -- ---- By the trace
 
 -- What the stay of a source tells of it.
-abbrev pub told_in_stay : (rate ssrc : ℕ) → List TraceStep → StateValue
-told_in_stay rate ssrc stay =
+abbrev pub told_in_stay : (ssrc : ℕ) → List TraceStep → StateValue
+told_in_stay ssrc stay =
     record {
       ssrc = ssrc;
-      member = is_member (entry_of rate ssrc stay);
-      sender = is_sender (entry_of rate ssrc stay);
+      member = is_member (entry_of ssrc stay);
+      sender = is_sender (entry_of ssrc stay);
       left = mark_of ssrc stay;
       heard = last_sighting ssrc stay;
-      reception = reception_over (given_of rate ssrc (before_mark ssrc stay));
-      told = last_told (given_of rate ssrc (before_mark ssrc stay));
-      last_block = last_block (given_of rate ssrc (before_mark ssrc stay));
+      reception = reception_over (given_of ssrc (before_mark ssrc stay));
+      told = last_told (given_of ssrc (before_mark ssrc stay));
+      last_block = last_block (given_of ssrc (before_mark ssrc stay));
     }
 
 -- It is told of the source of least SSRC above `after` that is present.
 pub record IsNextTold
-    (after : Option ℕ) (capacity rate : ℕ) (trace : List TraceStep) (state : StateValue) : Type 0 where
+    (after : Option ℕ) (capacity : ℕ) (trace : List TraceStep) (state : StateValue) : Type 0 where
   pub above : is_after after state.ssrc ≡ true
   pub least : (ssrc : ℕ) → is_after after ssrc ≡ true → ssrc < state.ssrc → stay_of capacity trace ssrc ≡ None
   pub stay : List TraceStep
   pub present : stay_of capacity trace state.ssrc ≡ Some stay
-  pub says : state ≡ told_in_stay rate state.ssrc stay
+  pub says : state ≡ told_in_stay state.ssrc stay
 
 -- Of the sources above `after`, the one of least SSRC is told, if some is present.
-abbrev pub TellsAbove : (after : Option ℕ) (capacity rate : ℕ) → List TraceStep → Option StateValue → Type 0
-TellsAbove after capacity rate trace None =
+abbrev pub TellsAbove : (after : Option ℕ) (capacity : ℕ) → List TraceStep → Option StateValue → Type 0
+TellsAbove after capacity trace None =
     (ssrc : ℕ) → is_after after ssrc ≡ true → stay_of capacity trace ssrc ≡ None
-TellsAbove after capacity rate trace (Some state) = IsNextTold after capacity rate trace state
+TellsAbove after capacity trace (Some state) = IsNextTold after capacity trace state
 
 -- What is told to one who asks for the source above `after`, and each time for the one above the last, until nothing
 -- is told.
-abbrev pub IsWalk : (after : Option ℕ) (capacity rate : ℕ) → List TraceStep → List StateValue → Type 0
-IsWalk after capacity rate trace [] = TellsAbove after capacity rate trace None
-IsWalk after capacity rate trace (state ∷ states) =
-    TellsAbove after capacity rate trace (Some state) × IsWalk (Some state.ssrc) capacity rate trace states
+abbrev pub IsWalk : (after : Option ℕ) (capacity : ℕ) → List TraceStep → List StateValue → Type 0
+IsWalk after capacity trace [] = TellsAbove after capacity trace None
+IsWalk after capacity trace (state ∷ states) =
+    TellsAbove after capacity trace (Some state) × IsWalk (Some state.ssrc) capacity trace states

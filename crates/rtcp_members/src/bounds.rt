@@ -37,7 +37,7 @@ impl Bounds {
     {
         match fact {
             Fact::Gone(_) => self.gone = self.gone.min(t),
-            Fact::Media(_, _, _, _) => {
+            Fact::Media(_, _, _, _, _) => {
                 self.silent = self.silent.min(t);
                 self.idle = self.idle.min(t);
             }

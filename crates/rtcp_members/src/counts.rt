@@ -71,21 +71,21 @@ impl Counts {
 
     /// A fact comes to an entry that is counted, which is counted anew unless it surely counts as it did.
     #[inline(always)]
-    pub(crate) fn apply(&mut self, entry: &mut Entry, fact: Fact, t: u64, rate: u32) -> Applied
+    pub(crate) fn apply(&mut self, entry: &mut Entry, fact: Fact, t: u64) -> Applied
         requires few { IsTrue (is_media fact) → IsFew (entry_value entry.old) }
         requires among { IsAmong entry.old self.old }
         requires room { (self.old.members ≤ 1024) × (self.old.senders ≤ 1024) × (self.old.due ≤ 1024) }
         ensures place { (room : Bool) → result.place ≡ place_of fact (Some (entry_value entry.old)) room }
         ensures counted { result.counted ≡ counted_of fact (Some (entry_value entry.old)) }
         ensures ssrc { entry.new.ssrc ≡ entry.old.ssrc }
-        ensures value { entry_value entry.new ≡ entry_with_fact rate fact t (entry_value entry.old) }
+        ensures value { entry_value entry.new ≡ entry_with_fact fact t (entry_value entry.old) }
         ensures recounted { AreRecounted entry.old entry.new self.old self.new }
     {
         if entry.keeps_counts(fact) {
-            return entry.apply(fact, t, rate);
+            return entry.apply(fact, t);
         }
         self.remove(entry);
-        let applied = entry.apply(fact, t, rate);
+        let applied = entry.apply(fact, t);
         self.add(entry);
         applied
     }

@@ -98,11 +98,11 @@ impl Entry {
     /// was a packet that was counted.
     // Inlined, as the next two are, so that no test of the fact is made where its kind is known.
     #[inline(always)]
-    pub(crate) fn take_fact(&mut self, fact: Fact, t: u64, rate: u32) -> bool
+    pub(crate) fn take_fact(&mut self, fact: Fact, t: u64) -> bool
         requires { IsTrue (is_media fact) → self.old.source.packets < 2 ^ 40 }
         ensures counted { result ≡ counts fact self.old.source }
         ensures ssrc { self.new.ssrc ≡ self.old.ssrc }
-        ensures value { entry_value self.new ≡ entry_after rate fact t (entry_value self.old) }
+        ensures value { entry_value self.new ≡ entry_after fact t (entry_value self.old) }
     {
         match fact {
             Fact::Gone(_) => {
@@ -113,8 +113,8 @@ impl Entry {
             Fact::Heard(_) => {}
             Fact::Named(_) => self.valid = true,
             Fact::Told(_, ntp, rtp) => self.source.saw_sr(ntp, rtp, t),
-            Fact::Media(_, seq, timestamp, octets) => {
-                return self.take_packet(seq, timestamp, octets, t, rate);
+            Fact::Media(_, seq, timestamp, octets, rate) => {
+                return self.take_packet(seq, timestamp, octets, rate, t);
             }
         }
         self.sighting = t;
@@ -124,14 +124,16 @@ impl Entry {
     /// Takes an RTP packet of the source at the moment `t`, where the entry has no mark. Returns whether it was
     /// counted.
     #[inline(never)]
-    fn take_packet(&mut self, seq: u16, timestamp: u32, octets: u64, t: u64, rate: u32) -> bool
+    fn take_packet(&mut self, seq: u16, timestamp: u32, octets: u64, rate: u32, t: u64) -> bool
         requires { self.old.source.packets < 2 ^ 40 }
-        ensures counted { (ssrc : ℕ) → result ≡ counts (Media ssrc seq timestamp octets) self.old.source }
+        ensures counted { (ssrc : ℕ) → result ≡ counts (Media ssrc seq timestamp octets rate) self.old.source }
         ensures ssrc { self.new.ssrc ≡ self.old.ssrc }
         ensures value { (ssrc : ℕ) → entry_value self.new
-            ≡ entry_after rate (Media ssrc seq timestamp octets) t (entry_value self.old) }
+            ≡ entry_after (Media ssrc seq timestamp octets rate) t (entry_value self.old) }
     {
-        let taken = self.source.take(seq, timestamp, rtp_units(t, rate), octets);
+        let taken = self
+            .source
+            .take(seq, timestamp, rtp_units(t, rate), octets, rate);
         let counted = taken.is_counted();
         if counted {
             self.valid = true;
@@ -144,12 +146,12 @@ impl Entry {
 
     /// A fact of the entry's source comes at the moment `t`.
     #[inline(always)]
-    pub(crate) fn apply(&mut self, fact: Fact, t: u64, rate: u32) -> Applied
+    pub(crate) fn apply(&mut self, fact: Fact, t: u64) -> Applied
         requires { IsTrue (is_media fact) → self.old.source.packets < 2 ^ 40 }
         ensures place { (room : Bool) → result.place ≡ place_of fact (Some (entry_value self.old)) room }
         ensures counted { result.counted ≡ counted_of fact (Some (entry_value self.old)) }
         ensures ssrc { self.new.ssrc ≡ self.old.ssrc }
-        ensures value { entry_value self.new ≡ entry_with_fact rate fact t (entry_value self.old) }
+        ensures value { entry_value self.new ≡ entry_with_fact fact t (entry_value self.old) }
     {
         if self.mark().is_some() {
             return Applied {
@@ -161,7 +163,7 @@ impl Entry {
             Fact::Gone(_) => Place::Left,
             _ => Place::Kept,
         };
-        let counted = self.take_fact(fact, t, rate);
+        let counted = self.take_fact(fact, t);
         Applied { place, counted }
     }
 
@@ -173,7 +175,7 @@ impl Entry {
         match fact {
             Fact::Heard(_) | Fact::Told(_, _, _) => true,
             Fact::Named(_) => self.valid,
-            Fact::Media(_, _, _, _) => self.is_sender() && self.is_due(),
+            Fact::Media(_, _, _, _, _) => self.is_sender() && self.is_due(),
             Fact::Gone(_) => false,
         }
     }

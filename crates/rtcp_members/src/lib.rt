@@ -9,7 +9,7 @@
 //! simplest one, to read first. All meet the contract of `MemberTable`, so they return the same in each call.
 //!
 //! ```
-//! let mut table = SortedTable::empty(1_024, 8_000);
+//! let mut table = SortedTable::empty(1_024);
 //! assert_eq!(rt; table.apply(Fact::Heard(7), 0).place, Place::Added);
 //! assert_eq!(rt; table.members(), 0);
 //! assert_eq!(rt; table.apply(Fact::Named(7), 0).place, Place::Kept);

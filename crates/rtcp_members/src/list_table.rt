@@ -10,7 +10,7 @@ ghost use Rattle.rtcp_wire.specs.Writing.{IsWritableBlock};
 ghost use Rattle.rtcp_members.specs.Entries.{is_member, is_sender, is_such};
 ghost use Rattle.rtcp_members.specs.Pending.{is_due, is_above, block_at, after_block};
 ghost use Rattle.rtcp_members.specs.Least.{state_for, is_due_above, least, lesser_of};
-ghost use Rattle.rtcp_members.specs.Tables.{TableValue, IsApart, IsFew, no_members, placed, counted, after_fact, after_check, dropped_entries, dropped_senders, members_in, senders_in, count_in};
+ghost use Rattle.rtcp_members.specs.Tables.{TableValue, IsApart, IsFew, no_members, placed, counted, after_fact, after_check, after_forgetting, is_unmarked, dropped_entries, dropped_senders, members_in, senders_in, count_in};
 
 use crate::counts::tally;
 use crate::entry::Entry;
@@ -24,7 +24,6 @@ use std::marker::Model;
 #[derive(Drop)]
 pub struct ListTable {
     capacity: u32,
-    rate: u32,
     entries: ArrayVec<Entry, MAX_CAPACITY>,
 }
 
@@ -37,16 +36,15 @@ impl Model for ListTable {
 
     ghost coded = { table_code };
 
-    ghost view = { λ t. table_of t.capacity t.rate t.entries.items };
+    ghost view = { λ t. table_of t.capacity t.entries.items };
 
     ghost invariant = { λ t. IsListed t.capacity t.entries.items };
 }
 
 impl InlineTable for ListTable {
-    fn empty(capacity: u32, rate: u32) -> ListTable {
+    fn empty(capacity: u32) -> ListTable {
         ListTable {
             capacity,
-            rate,
             entries: ArrayVec::new(),
         }
     }
@@ -57,9 +55,9 @@ impl MemberTable for ListTable {
 
     fn apply(&mut self, fact: Fact, t: u64) -> Applied {
         if let Some(at) = rank_in(self.entries.as_slice(), fact.ssrc()) {
-            return apply_at(self.entries.as_mut_slice(), at, fact, t, self.rate);
+            return apply_at(self.entries.as_mut_slice(), at, fact, t);
         }
-        let place = admit(&mut self.entries, self.capacity, fact, t, self.rate);
+        let place = admit(&mut self.entries, self.capacity, fact, t);
         Applied {
             place,
             counted: false,
@@ -80,6 +78,13 @@ impl MemberTable for ListTable {
         Dropped {
             entries: removed,
             senders: ended,
+        }
+    }
+
+    fn forget(&mut self, ssrc: u32) -> bool {
+        match rank_in(self.entries.as_slice(), ssrc) {
+            Some(at) => forget_at(&mut self.entries, at, ssrc),
+            None => false,
         }
     }
 
@@ -122,33 +127,27 @@ impl MemberTable for ListTable {
 }
 
 /// A fact comes to the entry of its source, which stands at `at`.
-fn apply_at(entries: &mut [Entry], at: usize, fact: Fact, t: u64, rate: u32) -> Applied
+fn apply_at(entries: &mut [Entry], at: usize, fact: Fact, t: u64) -> Applied
     requires apart { IsApart (rows_of entries.old) }
     requires rank { IsRankOf (subject fact) entries.old at }
     requires few { IsTrue (is_media fact) → IfSome (finite.get (map_of entries.old) (subject fact)) IsFew }
     ensures apart { IsApart (rows_of entries.new) }
-    ensures place { (capacity : ℕ) → result.place ≡ placed (table_of capacity rate entries.old) fact }
-    ensures counted { (capacity : ℕ) → result.counted ≡ counted (table_of capacity rate entries.old) fact }
+    ensures place { (capacity : ℕ) → result.place ≡ placed (table_of capacity entries.old) fact }
+    ensures counted { (capacity : ℕ) → result.counted ≡ counted (table_of capacity entries.old) fact }
     ensures table { (capacity : ℕ) →
-        table_of capacity rate entries.new ≡ after_fact fact t (table_of capacity rate entries.old) }
+        table_of capacity entries.new ≡ after_fact fact t (table_of capacity entries.old) }
 {
-    entries[at].apply(fact, t, rate)
+    entries[at].apply(fact, t)
 }
 
 /// A fact comes whose source has no entry.
-fn admit(
-    entries: &mut ArrayVec<Entry, MAX_CAPACITY>,
-    capacity: u32,
-    fact: Fact,
-    t: u64,
-    rate: u32,
-) -> Place
+fn admit(entries: &mut ArrayVec<Entry, MAX_CAPACITY>, capacity: u32, fact: Fact, t: u64) -> Place
     requires listed { IsListed capacity entries.old.items }
     requires absent { finite.get (map_of entries.old.items) (subject fact) ≡ None }
     ensures listed { IsListed capacity entries.new.items }
-    ensures place { result ≡ placed (table_of capacity rate entries.old.items) fact }
-    ensures table { table_of capacity rate entries.new.items
-        ≡ after_fact fact t (table_of capacity rate entries.old.items) }
+    ensures place { result ≡ placed (table_of capacity entries.old.items) fact }
+    ensures table { table_of capacity entries.new.items
+        ≡ after_fact fact t (table_of capacity entries.old.items) }
 {
     if fact.is_goodbye() {
         return Place::Ignored;
@@ -157,7 +156,7 @@ fn admit(
         return Place::NoRoom;
     }
     let mut entry = Entry::new(fact.ssrc());
-    let _ = entry.take_fact(fact, t, rate);
+    let _ = entry.take_fact(fact, t);
     entries.push(entry);
     Place::Added
 }
@@ -167,6 +166,22 @@ fn drop_silent(entries: &mut ArrayVec<Entry, MAX_CAPACITY>, silent: u64, idle: u
     ensures { entries.new.items ≡ checked (horizons_at silent idle gone) entries.old.items }
 {
     entries.retain(|entry| entry.check(silent, idle, gone));
+}
+
+/// Drops the entry of a source, which stands at `at`, unless the source said goodbye. Returns whether it dropped it.
+fn forget_at(entries: &mut ArrayVec<Entry, MAX_CAPACITY>, at: usize, ssrc: u32) -> bool
+    requires apart { IsApart (rows_of entries.old.items) }
+    requires rank { IsRankOf ssrc entries.old.items at }
+    ensures listed { (capacity : ℕ) → IsListed capacity entries.old.items → IsListed capacity entries.new.items }
+    ensures held { result ≡ is_such is_unmarked (finite.get (map_of entries.old.items) ssrc) }
+    ensures table { (capacity : ℕ) →
+        table_of capacity entries.new.items ≡ after_forgetting ssrc (table_of capacity entries.old.items) }
+{
+    if entries.as_slice()[at].mark().is_some() {
+        return false;
+    }
+    entries.remove(at);
+    true
 }
 
 /// The least SSRC above `above` of a source of which a block is due.
@@ -221,10 +236,10 @@ fn report_at(entries: &mut [Entry], at: usize, ssrc: u32, t: u64) -> Block
     requires rank { IsRankOf ssrc entries.old at }
     requires due { IsTrue (is_such is_due (finite.get (map_of entries.old) ssrc)) }
     ensures apart { IsApart (rows_of entries.new) }
-    ensures block { (capacity rate : ℕ) →
-        Some (block_value result) ≡ block_at ssrc t (table_of capacity rate entries.old) }
-    ensures table { (capacity rate : ℕ) →
-        table_of capacity rate entries.new ≡ after_block ssrc (table_of capacity rate entries.old) }
+    ensures block { (capacity : ℕ) →
+        Some (block_value result) ≡ block_at ssrc t (table_of capacity entries.old) }
+    ensures table { (capacity : ℕ) →
+        table_of capacity entries.new ≡ after_block ssrc (table_of capacity entries.old) }
     ensures writable { IsWritableBlock (block_value result) }
 {
     entries[at].report(t)

@@ -3,39 +3,41 @@
 ghost use Rattle.std.specs.Prelude.{◌≡◌, ℕ, false, List, [], ◌∷◌, None, drop, length};
 ghost use Rattle.rtcp_wire.specs.declared.fact.Fact.{Fact};
 ghost use Rattle.rtcp_wire.specs.declared.fact.Fact.TheVariants.{Heard, Named, Told};
-ghost use Rattle.rtcp_members.specs.Traces.{Horizons, TraceStep, block_taken, check_made, with_facts};
+ghost use Rattle.rtcp_members.specs.Traces.{Horizons, TraceStep, block_taken, check_made, source_forgotten, with_facts};
 ghost use Rattle.rtcp_members.specs.Entries.{entry_at, members_at};
 ghost use Rattle.rtcp_members.specs.Tables.{TableValue, StandsAt, after_facts};
-ghost use Rattle.rtcp_members.specs.Roles.{IsSameRole, step_moves, moved_within, facts_move, check_moves};
+ghost use Rattle.rtcp_members.specs.Roles.{IsSameRole, step_moves, moved_within, facts_move, check_moves, forgetting_moves};
 
 /// A step changes who is a member or who sends exactly where it changes how many are members or how many send;
 /// and where none of the newest steps does, who is a member and who sends is as it was before them. A block
 /// changes neither. Where there is no member, no source is one.
 pub fn roles_move_with_counts()
-    ensures kept { (capacity rate : ℕ) (step : TraceStep) (earlier : List TraceStep) →
-        step_moves capacity rate step earlier ≡ false → (ssrc : ℕ) →
-        IsSameRole (entry_at capacity rate earlier ssrc) (entry_at capacity rate (step ∷ earlier) ssrc) }
-    ensures moved { (capacity rate : ℕ) (step : TraceStep) (earlier : List TraceStep) →
+    ensures kept { (capacity : ℕ) (step : TraceStep) (earlier : List TraceStep) →
+        step_moves capacity step earlier ≡ false → (ssrc : ℕ) →
+        IsSameRole (entry_at capacity earlier ssrc) (entry_at capacity (step ∷ earlier) ssrc) }
+    ensures moved { (capacity : ℕ) (step : TraceStep) (earlier : List TraceStep) →
         ((ssrc : ℕ) →
-        IsSameRole (entry_at capacity rate earlier ssrc) (entry_at capacity rate (step ∷ earlier) ssrc)) →
-        step_moves capacity rate step earlier ≡ false }
-    ensures within { (capacity rate : ℕ) (steps : ℕ) (trace : List TraceStep) →
-        moved_within capacity rate steps trace ≡ false → (ssrc : ℕ) →
-        IsSameRole (entry_at capacity rate (drop steps trace) ssrc) (entry_at capacity rate trace ssrc) }
-    ensures block { (capacity rate ssrc : ℕ) (trace : List TraceStep) →
-        step_moves capacity rate (block_taken ssrc) trace ≡ false }
-    ensures none { (capacity rate : ℕ) (trace : List TraceStep) → members_at capacity rate trace ≡ 0 → (ssrc : ℕ) →
-        IsSameRole None (entry_at capacity rate trace ssrc) }
+        IsSameRole (entry_at capacity earlier ssrc) (entry_at capacity (step ∷ earlier) ssrc)) →
+        step_moves capacity step earlier ≡ false }
+    ensures within { (capacity : ℕ) (steps : ℕ) (trace : List TraceStep) →
+        moved_within capacity steps trace ≡ false → (ssrc : ℕ) →
+        IsSameRole (entry_at capacity (drop steps trace) ssrc) (entry_at capacity trace ssrc) }
+    ensures block { (capacity ssrc : ℕ) (trace : List TraceStep) →
+        step_moves capacity (block_taken ssrc) trace ≡ false }
+    ensures none { (capacity : ℕ) (trace : List TraceStep) → members_at capacity trace ≡ 0 → (ssrc : ℕ) →
+        IsSameRole None (entry_at capacity trace ssrc) }
 {}
 
-/// Facts and checks change who is a member or who sends by the table where they do by the trace that it stands at.
-#[tactic(auto, using(crate::proofs::Roles::facts_alone_moved, crate::proofs::Roles::check_moved))]
+/// Facts, checks and sources that are forgotten change who is a member or who sends by the table where they do by the
+/// trace that it stands at.
 pub fn moves_follow_traces()
     ensures facts { (facts : List Fact) (moment : ℕ) (table : TableValue) (trace : List TraceStep) →
         StandsAt table trace → facts_move facts moment table
-        ≡ moved_within table.capacity table.rate (length facts) (with_facts facts moment trace) }
+        ≡ moved_within table.capacity (length facts) (with_facts facts moment trace) }
     ensures check { (table : TableValue) (trace : List TraceStep) (horizons : Horizons) → StandsAt table trace →
-        check_moves horizons table ≡ step_moves table.capacity table.rate (check_made horizons) trace }
+        check_moves horizons table ≡ step_moves table.capacity (check_made horizons) trace }
+    ensures forgotten { (table : TableValue) (trace : List TraceStep) (ssrc : ℕ) → StandsAt table trace →
+        forgetting_moves ssrc table ≡ step_moves table.capacity (source_forgotten ssrc) trace }
 {}
 
 /// A source that gives its CNAME, or tells of its clock in a sender report (RFC 3550, 6.4.1), is heard by that: both

@@ -1,12 +1,12 @@
 //! Entries by rising SSRC, that stay where they are put, with an index of them.
 
-ghost use Rattle.std.specs.Prelude.{◌≡◌, ℕ, [], ◌<◌, ◌≤◌, ◌*◌, length, slice_index_or, IfSome, IsTrue};
-ghost use Rattle.std.specs.List.{insert};
+ghost use Rattle.std.specs.Prelude.{◌≡◌, ℕ, [], ◌<◌, ◌≤◌, ◌-◌, ◌*◌, length, slice_index_or, IfSome, IsTrue, is_some};
+ghost use Rattle.std.specs.List.{insert, remove};
 ghost use Rattle.rtcp_wire.specs.Facts.{is_media};
 ghost use Rattle.rtcp_wire.specs.Views.{block_value};
 ghost use Rattle.rtcp_members.specs.declared.entry.Entry.{Entry};
 ghost use Rattle.rtcp_members.specs.Heaps.{IsIndexed, IsHeap, IsPut, in_order, entries_in, slots_in, spared_slots};
-ghost use Rattle.rtcp_members.specs.ListViews.{checked, entry_value, row_of, state_value, IsRankOf};
+ghost use Rattle.rtcp_members.specs.ListViews.{checked, entry_value, mark_in, row_of, state_value, IsRankOf};
 ghost use Rattle.rtcp_members.specs.Pending.{is_due};
 ghost use Rattle.rtcp_members.specs.Shelves.{MakesBlock, TakesFact};
 ghost use Rattle.rtcp_members.specs.SortedViews.{IsGapFor, Locates};
@@ -125,24 +125,17 @@ impl<B: Blocks> Shelf<B> {
 
     /// A fact comes to the source of a rank, which is counted anew.
     #[inline(always)]
-    pub(crate) fn apply(
-        &mut self,
-        counts: &mut Counts,
-        at: usize,
-        fact: Fact,
-        t: u64,
-        rate: u32,
-    ) -> Applied
+    pub(crate) fn apply(&mut self, counts: &mut Counts, at: usize, fact: Fact, t: u64) -> Applied
         requires stands { at < length self.old.items }
         requires counted { AreCounts counts.old self.old.items }
         requires few { (d : Entry) → IsTrue (is_media fact) →
             IsFew (entry_value (slice_index_or self.old.items at d)) }
-        ensures taken { TakesFact rate fact t self.old.items self.new.items at counts.new result }
+        ensures taken { TakesFact fact t self.old.items self.new.items at counts.new result }
         ensures room { self.new.room ≡ self.old.room }
         ensures in_place { self.new.block ≡ self.old.block }
     {
         let used = self.used;
-        apply_at(self.cells.as_mut_slice(), used, counts, at, fact, t, rate)
+        apply_at(self.cells.as_mut_slice(), used, counts, at, fact, t)
     }
 
     /// The block of the source of a rank, where one is due.
@@ -171,6 +164,31 @@ impl<B: Blocks> Shelf<B> {
         let place = lay(&mut self.cells, self.used, 2 * until, entry);
         shift(self.cells.as_mut_slice(), gap, until, Slot { ssrc, place });
         self.used += 1;
+    }
+
+    /// Whether the source of a rank said goodbye.
+    #[inline(always)]
+    pub(crate) fn is_marked_at(&self, at: usize) -> bool
+        requires { at < length self.now.items }
+        ensures { (d : Entry) → result ≡ is_some (mark_in (slice_index_or self.now.items at d)) }
+    {
+        entry_at(self.cells.as_slice(), self.used, at)
+            .mark()
+            .is_some()
+    }
+
+    /// Drops the entry of a rank, which is counted no more, and leaves its cell free.
+    pub(crate) fn remove(&mut self, counts: &mut Counts, at: usize)
+        requires stands { at < length self.old.items }
+        requires counted { AreCounts counts.old self.old.items }
+        ensures items { self.new.items ≡ remove self.old.items at }
+        ensures counted { AreCounts counts.new self.new.items }
+        ensures room { self.new.room ≡ self.old.room }
+        ensures in_place { self.new.block ≡ self.old.block }
+    {
+        let used = self.used;
+        remove_at(self.cells.as_mut_slice(), used, counts, at);
+        self.used -= 1;
     }
 
     /// Bounds of the entries which these horizons do not pass, if it finds such: then the check leaves each entry as
@@ -241,7 +259,6 @@ fn apply_at(
     at: usize,
     fact: Fact,
     t: u64,
-    rate: u32,
 ) -> Applied
     requires indexed { IsIndexed cells.old used }
     requires stands { at < used }
@@ -250,11 +267,11 @@ fn apply_at(
         IsFew (entry_value (slice_index_or (in_order cells.old used) at d)) }
     ensures indexed { IsIndexed cells.new used }
     ensures as_many { length cells.new ≡ length cells.old }
-    ensures taken { TakesFact rate fact t (in_order cells.old used) (in_order cells.new used) at counts.new result }
+    ensures taken { TakesFact fact t (in_order cells.old used) (in_order cells.new used) at counts.new result }
 {
     let place = slot_at(cells, at).place;
     let cell = &mut cells[place as usize];
-    counts.apply(&mut cell.entry, fact, t, rate)
+    counts.apply(&mut cell.entry, fact, t)
 }
 
 /// The block of the source of a rank, where one is due.
@@ -269,6 +286,36 @@ fn report_at(cells: &mut [Cell], used: usize, at: usize, t: u64) -> Block
     let place = slot_at(cells, at).place;
     let cell = &mut cells[place as usize];
     cell.entry.report(t)
+}
+
+/// Drops the entry of a rank, which is counted no more: one rank fewer is in use then.
+fn remove_at(cells: &mut [Cell], used: usize, counts: &mut Counts, at: usize)
+    requires indexed { IsIndexed cells.old used }
+    requires stands { at < used }
+    requires counted { AreCounts counts.old (in_order cells.old used) }
+    ensures indexed { IsIndexed cells.new (used - 1) }
+    ensures as_many { length cells.new ≡ length cells.old }
+    ensures items { in_order cells.new (used - 1) ≡ remove (in_order cells.old used) at }
+    ensures counted { AreCounts counts.new (in_order cells.new (used - 1)) }
+{
+    let place = slot_at(cells, at).place;
+    let cell = &mut cells[place as usize];
+    counts.remove(&cell.entry);
+    cell.entry.retire();
+    move_behind(cells, used, at);
+}
+
+/// Moves the slot of a rank behind the others in use: each from there on comes one rank down.
+fn move_behind(cells: &mut [Cell], used: usize, at: usize)
+    requires heap { IsHeap (entries_in cells.old) (slots_in cells.old) used }
+    requires stands { at < used }
+    ensures heap { IsHeap (entries_in cells.new) (slots_in cells.new) (used - 1) }
+    ensures as_many { length cells.new ≡ length cells.old }
+    ensures items { in_order cells.new (used - 1) ≡ remove (in_order cells.old used) at }
+{
+    'ranks: for rank in at..used - 1 {
+        exchange(cells, rank, rank + 1);
+    }
 }
 
 /// Bounds of the entries, where a check with these horizons leaves each as it is.

@@ -1,16 +1,18 @@
 //! A table that keeps its entries by rising SSRC, with running counts.
 
 ghost use Rattle.std.specs.Prelude.{◌≡◌, ℕ, [], ◌<◌, ◌≤◌, ◌^◌, List, length, filter, take, drop, not, IfSome, IfOk, option_map};
+ghost use Rattle.std.specs.FinMap as finite;
 ghost use Rattle.rtcp_wire.specs.Facts.{subject};
 ghost use Rattle.rtcp_members.specs.Shelves.{Joins};
 ghost use Rattle.rtcp_members.specs.Traces.{horizons_at};
 ghost use Rattle.rtcp_members.specs.Told.{first_state};
-ghost use Rattle.rtcp_members.specs.ListViews.{state_value, rows_of, table_of, tally_of};
+ghost use Rattle.rtcp_members.specs.Entries.{is_such};
+ghost use Rattle.rtcp_members.specs.ListViews.{state_value, rows_of, map_of, table_of, tally_of, IsRankOf};
 ghost use Rattle.rtcp_members.specs.SortedViews.{CutsAbove, IsRising, IsSortedTable, IsGapFor, Locates};
 ghost use Rattle.rtcp_members.specs.declared.bounds.Bounds.{Bounds as BoundsOf};
 ghost use Rattle.rtcp_members.specs.Standing.{AllStandBy, AreCounts, IsUpTo};
 ghost use Rattle.rtcp_members.specs.Pending.{is_due, is_above, first_ssrc};
-ghost use Rattle.rtcp_members.specs.Tables.{no_members, placed, after_fact, after_check, dropped_entries, dropped_senders};
+ghost use Rattle.rtcp_members.specs.Tables.{no_members, placed, after_fact, after_check, after_forgetting, is_unmarked, dropped_entries, dropped_senders};
 
 use crate::blocks::Blocks;
 use crate::bounds::Bounds;
@@ -37,7 +39,6 @@ pub struct Sorted<B: Blocks> {
     capacity: u16,
     /// Where the source of the last fact, block or telling stands, or would.
     last_rank: u16,
-    rate: u32,
     entries: Shelf<B>,
     counts: Counts,
     /// Whether walks to a source pay.
@@ -59,7 +60,7 @@ impl<B: Blocks> Model for Sorted<B> {
 
     ghost coded = { table_code };
 
-    ghost view = { λ t. table_of t.capacity t.rate t.entries.items };
+    ghost view = { λ t. table_of t.capacity t.entries.items };
 
     ghost invariant = { λ t. IsKept t.capacity t.entries.room t.counts t.bounds t.entries.items };
 }
@@ -73,44 +74,39 @@ pub type SortedTable = Sorted<ArrayVec<Cell, MAX_CAPACITY>>;
 pub type HeapTable = Sorted<Vec<Cell>>;
 
 impl InlineTable for Sorted<ArrayVec<Cell, MAX_CAPACITY>> {
-    fn empty(capacity: u32, rate: u32) -> Sorted<ArrayVec<Cell, MAX_CAPACITY>> {
-        Sorted::over(ArrayVec::new(), capacity, rate)
+    fn empty(capacity: u32) -> Sorted<ArrayVec<Cell, MAX_CAPACITY>> {
+        Sorted::over(ArrayVec::new(), capacity)
     }
 }
 
 impl Sorted<Vec<Cell>> {
-    /// A table without entries, for at most `capacity` of them, from 1 to 1,024, of a session whose media's
-    /// clock has `rate` units a second. It takes the memory for all of them here, and none later.
+    /// A table without entries, for at most `capacity` of them, from 1 to 1,024. It takes the memory
+    /// for all of them here, and none later.
     ///
     /// # Errors
     ///
     /// There is no memory.
-    pub fn with_room(
-        alloc: Global,
-        capacity: u32,
-        rate: u32,
-    ) -> Result<Sorted<Vec<Cell>>, AllocError>
+    pub fn with_room(alloc: Global, capacity: u32) -> Result<Sorted<Vec<Cell>>, AllocError>
         requires some { 1 ≤ capacity }
         requires few { capacity ≤ 1024 }
-        ensures { IfOk result (λ table. table ≡ no_members capacity rate) }
+        ensures { IfOk result (λ table. table ≡ no_members capacity) }
     {
         let cells = Vec::with_capacity(alloc, capacity as usize)?;
-        Ok(Sorted::over(cells, capacity, rate))
+        Ok(Sorted::over(cells, capacity))
     }
 }
 
 impl<B: Blocks> Sorted<B> {
     /// A table without entries, over a block without cells.
-    fn over(cells: B, capacity: u32, rate: u32) -> Sorted<B>
+    fn over(cells: B, capacity: u32) -> Sorted<B>
         requires few { B.room cells ≤ 1024 }
         requires vacant { B.cells cells ≡ [] }
         requires room { capacity ≤ B.room cells }
-        ensures { result ≡ no_members capacity rate }
+        ensures { result ≡ no_members capacity }
     {
         Sorted {
             capacity: capacity as u16,
             last_rank: 0,
-            rate,
             entries: Shelf::over(cells),
             counts: Counts::none(),
             walks: Walks::none(),
@@ -164,13 +160,13 @@ impl<B: Blocks> MemberTable for Sorted<B> {
             Ok(at) => {
                 self.last_rank = at as u16;
                 let (entries, counts) = (&mut self.entries, &mut self.counts);
-                entries.apply(counts, at, fact, t, self.rate)
+                entries.apply(counts, at, fact, t)
             }
             Err(gap) => {
                 self.last_rank = gap as u16;
                 let (entries, counts) = (&mut self.entries, &mut self.counts);
                 let capacity = u32::from(self.capacity);
-                let place = admit(entries, counts, gap, capacity, fact, t, self.rate);
+                let place = admit(entries, counts, gap, capacity, fact, t);
                 Applied {
                     place,
                     counted: false,
@@ -193,6 +189,17 @@ impl<B: Blocks> MemberTable for Sorted<B> {
             };
         }
         self.sweep(silent_before, data_before, gone_before)
+    }
+
+    fn forget(&mut self, ssrc: u32) -> bool {
+        let last_rank = usize::from(self.last_rank);
+        match search(&self.entries, &mut self.walks, last_rank, ssrc) {
+            Ok(at) => {
+                let (entries, counts) = (&mut self.entries, &mut self.counts);
+                forget_at(entries, counts, at, ssrc)
+            }
+            Err(_) => false,
+        }
     }
 
     fn holds(&self, ssrc: u32) -> bool {
@@ -367,7 +374,6 @@ fn admit<B: Blocks>(
     capacity: u32,
     fact: Fact,
     t: u64,
-    rate: u32,
 ) -> Place
     requires sorted { IsSortedTable capacity entries.old.items }
     requires counted { AreCounts counts.old entries.old.items }
@@ -377,11 +383,11 @@ fn admit<B: Blocks>(
     ensures counted { AreCounts counts.new entries.new.items }
     ensures room { capacity ≤ entries.new.room }
     ensures in_place { entries.new.block ≡ entries.old.block }
-    ensures place { result ≡ placed (table_of capacity rate entries.old.items) fact }
+    ensures place { result ≡ placed (table_of capacity entries.old.items) fact }
     ensures stand { (bounds : BoundsOf) → IsUpTo bounds fact t → AllStandBy bounds entries.old.items →
         AllStandBy bounds entries.new.items }
-    ensures table { table_of capacity rate entries.new.items
-        ≡ after_fact fact t (table_of capacity rate entries.old.items) }
+    ensures table { table_of capacity entries.new.items
+        ≡ after_fact fact t (table_of capacity entries.old.items) }
 {
     if fact.is_goodbye() {
         return Place::Ignored;
@@ -389,32 +395,48 @@ fn admit<B: Blocks>(
     if entries.len() >= capacity as usize {
         return Place::NoRoom;
     }
-    join(entries, counts, gap, fact, t, rate);
+    join(entries, counts, gap, fact, t);
     Place::Added
 }
 
 /// Puts an entry for the source of a fact into the gap for it, and counts it.
 #[inline(never)]
-fn join<B: Blocks>(
-    entries: &mut Shelf<B>,
-    counts: &mut Counts,
-    gap: usize,
-    fact: Fact,
-    t: u64,
-    rate: u32,
-)
+fn join<B: Blocks>(entries: &mut Shelf<B>, counts: &mut Counts, gap: usize, fact: Fact, t: u64)
     requires gap { IsGapFor (subject fact) entries.old.items gap }
     requires room { length entries.old.items < entries.old.room }
     requires counted { AreCounts counts.old entries.old.items }
     requires few { length entries.old.items < 1024 }
-    ensures joined { Joins rate fact t entries.old.items entries.new.items gap counts.old counts.new }
+    ensures joined { Joins fact t entries.old.items entries.new.items gap counts.old counts.new }
     ensures room { entries.new.room ≡ entries.old.room }
     ensures in_place { entries.new.block ≡ entries.old.block }
 {
     let mut entry = Entry::new(fact.ssrc());
-    let _ = entry.take_fact(fact, t, rate);
+    let _ = entry.take_fact(fact, t);
     counts.add(&entry);
     entries.insert(gap, entry);
+}
+
+/// Drops the entry of a source, which stands at `at`, unless the source said goodbye. Returns whether it dropped it.
+fn forget_at<B: Blocks>(entries: &mut Shelf<B>, counts: &mut Counts, at: usize, ssrc: u32) -> bool
+    requires rank { IsRankOf ssrc entries.old.items at }
+    requires rising { IsRising entries.old.items }
+    requires counted { AreCounts counts.old entries.old.items }
+    ensures sorted { (capacity : ℕ) → IsSortedTable capacity entries.old.items →
+        IsSortedTable capacity entries.new.items }
+    ensures counted { AreCounts counts.new entries.new.items }
+    ensures stand { (bounds : BoundsOf) → AllStandBy bounds entries.old.items →
+        AllStandBy bounds entries.new.items }
+    ensures room { entries.new.room ≡ entries.old.room }
+    ensures in_place { entries.new.block ≡ entries.old.block }
+    ensures held { result ≡ is_such is_unmarked (finite.get (map_of entries.old.items) ssrc) }
+    ensures table { (capacity : ℕ) →
+        table_of capacity entries.new.items ≡ after_forgetting ssrc (table_of capacity entries.old.items) }
+{
+    if entries.is_marked_at(at) {
+        return false;
+    }
+    entries.remove(counts, at);
+    true
 }
 
 /// How many entries have no SSRC above `above`: where the others begin. That is after the entry of `above`, if it is

@@ -4,7 +4,8 @@ ghost use Rattle.std.specs.Prelude.{◌≡◌, ◌≤◌, ◌^◌, IfSome, IsTru
 ghost use Rattle.std.specs.FinMap as map;
 ghost use Rattle.rtcp_wire.specs.Facts.{subject, is_media};
 ghost use Rattle.rtcp_members.specs.Traces.{horizons_at};
-ghost use Rattle.rtcp_members.specs.Tables.{TableValue, IsFew, no_members, placed, counted, after_fact, after_check, dropped_entries, dropped_senders, members_in, senders_in};
+ghost use Rattle.rtcp_members.specs.Entries.{is_such};
+ghost use Rattle.rtcp_members.specs.Tables.{TableValue, IsFew, no_members, placed, counted, after_fact, after_check, after_forgetting, is_unmarked, dropped_entries, dropped_senders, members_in, senders_in};
 ghost use Rattle.rtcp_wire.specs.Views.{block_value};
 ghost use Rattle.rtcp_wire.specs.Writing.{IsWritableBlock};
 ghost use Rattle.rtcp_members.specs.Pending.{pending, first_ssrc, is_due_at, block_at, after_block};
@@ -53,9 +54,9 @@ pub struct Dropped {
 
 /// A table of the other participants of a session, at most `capacity` of them.
 ///
-/// A contract sees a table as a finite map from SSRC to entry, with its capacity and the rate of the media's
-/// clock. A table *stands at* the trace of a session (`StandsAt`) where that map is the one computed from the
-/// whole trace; after each `apply`, `check` and `block_of` it stands at the trace with one step more (`laws`).
+/// A contract sees a table as a finite map from SSRC to entry, with its capacity. A table *stands at* the trace of a
+/// session (`StandsAt`) where that map is the one computed from the whole trace; after each `apply`, `check`, `forget`
+/// and `block_of` it stands at the trace with one step more (`laws`).
 pub trait MemberTable {
     ghost content: { Self → TableValue };
 
@@ -79,6 +80,13 @@ pub trait MemberTable {
             ≡ dropped_senders (horizons_at silent_before data_before gone_before) (content self.old) }
         ensures content { content self.new
             ≡ after_check (horizons_at silent_before data_before gone_before) (content self.old) };
+
+    /// Drops a source that the host knows to be gone, as a check drops one that is silent. One that said goodbye is
+    /// held as before, so that late packets do not bring it back. Returns whether the table had an entry of the source
+    /// without a goodbye; if not, nothing changed.
+    fn forget(&mut self, ssrc: u32) -> bool
+        ensures held { result ≡ is_such is_unmarked (map.get (content self.old).entries ssrc) }
+        ensures content { content self.new ≡ after_forgetting ssrc (content self.old) };
 
     /// Whether the table has an entry of this source, marked or not.
     fn holds(&self, ssrc: u32) -> bool
@@ -138,12 +146,11 @@ pub trait MemberTable {
     }
 }
 
-/// A table that has the room for its entries in itself, so that its capacity and rate are all it is made from.
+/// A table that has the room for its entries in itself, so that its capacity is all it is made from.
 pub trait InlineTable: MemberTable {
-    /// A table without entries, for at most `capacity` of them, from 1 to 1,024, of a session whose media's
-    /// clock has `rate` units a second.
-    fn empty(capacity: u32, rate: u32) -> Self
+    /// A table without entries, for at most `capacity` of them, from 1 to 1,024.
+    fn empty(capacity: u32) -> Self
         requires some { 1 ≤ capacity }
         requires few { capacity ≤ 1024 }
-        ensures { Self.content result ≡ no_members capacity rate };
+        ensures { Self.content result ≡ no_members capacity };
 }

@@ -13,27 +13,27 @@ ghost use Rattle.rtcp_members.specs.Past.{CameBy, IsToldBy};
 /// least SSRC that is present, what its stay tells. There is only one answer that the trace allows.
 pub fn told_follows_traces()
     ensures told { (after : Option ℕ) (table : TableValue) (trace : List TraceStep) → StandsAt table trace →
-        TellsAbove after table.capacity table.rate trace (state_above after table) }
-    ensures only { (after : Option ℕ) (capacity rate : ℕ) (trace : List TraceStep) (a b : Option StateValue) →
-        TellsAbove after capacity rate trace a → TellsAbove after capacity rate trace b → a ≡ b }
+        TellsAbove after table.capacity trace (state_above after table) }
+    ensures only { (after : Option ℕ) (capacity : ℕ) (trace : List TraceStep) (a b : Option StateValue) →
+        TellsAbove after capacity trace a → TellsAbove after capacity trace b → a ≡ b }
 {}
 
 /// Who asks for the source above `after`, and each time for the one above the last answer, until there is none, is
 /// told of each source above `after` that is present once, by rising SSRC.
 pub fn walks_tell_each_once()
-    ensures once { (after : Option ℕ) (capacity rate : ℕ) (trace : List TraceStep) (ssrc : ℕ)
-        (states : List StateValue) → IsWalk after capacity rate trace states →
+    ensures once { (after : Option ℕ) (capacity : ℕ) (trace : List TraceStep) (ssrc : ℕ)
+        (states : List StateValue) → IsWalk after capacity trace states →
         count_by (λ (state : StateValue). state.ssrc == ssrc) states
         ≡ (if is_after after ssrc && is_some (stay_of capacity trace ssrc) then 1 else 0) }
-    ensures rising { (after : Option ℕ) (capacity rate : ℕ) (trace : List TraceStep) (states : List StateValue) →
-        IsWalk after capacity rate trace states → RiseAbove after states }
+    ensures rising { (after : Option ℕ) (capacity : ℕ) (trace : List TraceStep) (states : List StateValue) →
+        IsWalk after capacity trace states → RiseAbove after states }
 {}
 
 /// What a table has to tell, one source after the other, is such a walk: each answer is the first of it, and what is
 /// left is the walk above that source.
 pub fn tables_tell_walks()
     ensures walk { (after : Option ℕ) (table : TableValue) (trace : List TraceStep) → StandsAt table trace →
-        IsWalk after table.capacity table.rate trace (states_above after table) }
+        IsWalk after table.capacity trace (states_above after table) }
     ensures more { (after : Option ℕ) (table : TableValue) (state : StateValue) →
         state_above after table ≡ Some state →
         states_above after table ≡ state ∷ states_above (Some state.ssrc) table }
@@ -45,11 +45,11 @@ pub fn tables_tell_walks()
 /// sighting, its goodbye and its last sender report. Facts that came by a moment came by any later one too, and further
 /// facts that come by it change nothing of that.
 pub fn told_lies_in_the_past()
-    ensures told { (latest capacity rate : ℕ) (trace : List TraceStep) → CameBy latest trace →
-        (after : Option ℕ) (state : StateValue) → TellsAbove after capacity rate trace (Some state) →
+    ensures told { (latest capacity : ℕ) (trace : List TraceStep) → CameBy latest trace →
+        (after : Option ℕ) (state : StateValue) → TellsAbove after capacity trace (Some state) →
         IsToldBy latest state }
-    ensures walk { (latest capacity rate : ℕ) (trace : List TraceStep) → CameBy latest trace →
-        (after : Option ℕ) (states : List StateValue) → IsWalk after capacity rate trace states →
+    ensures walk { (latest capacity : ℕ) (trace : List TraceStep) → CameBy latest trace →
+        (after : Option ℕ) (states : List StateValue) → IsWalk after capacity trace states →
         All (IsToldBy latest) states }
     ensures later { (earlier latest : ℕ) (trace : List TraceStep) → earlier ≤ latest → CameBy earlier trace →
         CameBy latest trace }

@@ -46,9 +46,9 @@ pub fn each_is_pending_once()
 pub fn turns_follow_traces()
     ensures sources { (last : Option ℕ) (table : TableValue) (trace : List TraceStep) → StandsAt table trace →
         map (λ (row : EntryRow). row.0) (pending last table)
-        ≡ pending_at last table.capacity table.rate trace }
+        ≡ pending_at last table.capacity trace }
     ensures rows { (last : Option ℕ) (table : TableValue) (trace : List TraceStep) → StandsAt table trace →
-        pending last table ≡ pending_rows_at last table.capacity table.rate trace }
-    ensures due { (capacity rate : ℕ) (trace : List TraceStep) (ssrc : ℕ) →
-        is_such is_due (entry_at capacity rate trace ssrc) ≡ is_due_by capacity rate trace ssrc }
+        pending last table ≡ pending_rows_at last table.capacity trace }
+    ensures due { (capacity : ℕ) (trace : List TraceStep) (ssrc : ℕ) →
+        is_such is_due (entry_at capacity trace ssrc) ≡ is_due_by capacity trace ssrc }
 {}

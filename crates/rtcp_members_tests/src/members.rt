@@ -7,6 +7,7 @@ use rtcp_members::{
 use rtcp_wire::{Block, Fact};
 use std::test::*;
 
+mod forgotten;
 mod histories;
 mod list;
 mod rooms;

@@ -13,8 +13,8 @@ mod telling;
 #[test]
 fn example(rt: HostRuntime) {
     let mut source = Source::new();
-    assert_eq!(rt; source.take(10, 0, 0, 160), Taken::Probation);
-    assert_eq!(rt; source.take(11, 160, 160, 160), Taken::Became);
+    assert_eq!(rt; source.take(10, 0, 0, 160, 8_000), Taken::Probation);
+    assert_eq!(rt; source.take(11, 160, 160, 160, 8_000), Taken::Became);
     assert_eq!(rt; source.block(9, 0).highest, 11);
 }
 

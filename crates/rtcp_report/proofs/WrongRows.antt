@@ -21,7 +21,7 @@ bye_of_283_octets law =
 
 -- Where the limit is greater, a report of 24 sources has more octets than the least limit.
 abbrev packet_came : (seq : ℕ) → EntryValue → EntryValue
-packet_came seq = entry_after 8000 (Media 9 seq 0 0) 0
+packet_came seq = entry_after (Media 9 seq 0 0 8000) 0
 
 abbrev rows : List EntryRow
 rows = replicate 24 (9, packet_came 11 (packet_came 10 new_entry))

@@ -7,7 +7,7 @@ use rtcp_report::{Sender, report};
 /// The example at the head of `rtcp_report`.
 #[test]
 fn example(rt: HostRuntime) {
-    let mut table = ListTable::empty(1_024, 8_000);
+    let mut table = ListTable::empty(1_024);
     let mut cursor = None;
     let sender = Sender {
         ssrc: 7,

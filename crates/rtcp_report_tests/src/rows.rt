@@ -44,7 +44,7 @@ pub(crate) fn no_news<T: InlineTable + Drop>(rt: &impl Abort) {
 
 /// A compound replaces what stood in the caller's room.
 pub(crate) fn in_place<T: InlineTable + Drop>(rt: &impl Abort) {
-    let mut table = T::empty(1_024, 8_000);
+    let mut table = T::empty(1_024);
     let mut cursor = None;
     let mut octets = ArrayVec::new();
     write_bye(0xaa, &[0x61; 255], &mut octets);

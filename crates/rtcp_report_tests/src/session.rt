@@ -26,7 +26,7 @@ impl<T: InlineTable> Session<T> {
     /// A session without members, whose media's clock has 8,000 units a second.
     pub(crate) fn new() -> Session<T> {
         Session {
-            table: T::empty(1024, 8000),
+            table: T::empty(1024),
             facts: 0,
             cursor: None,
         }
@@ -37,7 +37,7 @@ impl<T: MemberTable> Session<T> {
     /// An RTP packet of the source with this number.
     pub(crate) fn packet(&mut self, rt: &impl Abort, ssrc: u32, seq: u16) {
         assert!(rt; self.facts < 10_000);
-        let _ = self.table.apply(Fact::Media(ssrc, seq, 0, 0), 0);
+        let _ = self.table.apply(Fact::Media(ssrc, seq, 0, 0, 8_000), 0);
         self.facts += 1;
     }
 

@@ -13,6 +13,7 @@ enum Answer {
     Fact(Applied),
     Check(Dropped),
     Block(Option<Block>),
+    Forgotten(bool),
 }
 
 #[test]
@@ -28,10 +29,7 @@ fn answers_are_alike(rt: HostRuntime) {
 fn alike(rt: &impl Abort, alloc: Global, seed: u32) {
     let mut list: Session<ListTable> = Session::new(4);
     let mut sorted: Session<SortedTable> = Session::new(4);
-    let mut room = Session::with_table(
-        HeapTable::with_room(alloc, 4, 8_000).expect(rt, "no memory"),
-        4,
-    );
+    let mut room = Session::with_table(HeapTable::with_room(alloc, 4).expect(rt, "no memory"), 4);
     let mut draw = seed;
     let mut most = 0;
     'steps: for step in 0..500 {
@@ -46,7 +44,7 @@ fn alike(rt: &impl Abort, alloc: Global, seed: u32) {
     assert!(rt; most >= 2);
 }
 
-/// One of eight sources says something, the table is checked, or a block is made.
+/// One of eight sources says something or is forgotten, the table is checked, or a block is made.
 fn call<T: MemberTable>(session: &mut Session<T>, draw: u32, step: u16) -> Answer
     requires { session.old.facts < 100000 }
     ensures { session.new.facts ≤ session.old.facts + 1 }
@@ -59,7 +57,8 @@ fn call<T: MemberTable>(session: &mut Session<T>, draw: u32, step: u16) -> Answe
         4 => Fact::Heard(ssrc),
         5 => Fact::Named(ssrc),
         6 => Fact::Told(ssrc, u64::from(draw), draw),
-        _ => Fact::Media(ssrc, step / 16, draw, u64::from(step)),
+        7 => return Answer::Forgotten(session.forget(ssrc)),
+        _ => Fact::Media(ssrc, step / 16, draw, u64::from(step), 8_000),
     };
     Answer::Fact(session.apply(fact, t))
 }

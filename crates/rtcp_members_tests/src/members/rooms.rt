@@ -70,7 +70,7 @@ pub(crate) static ROOMS: [Script; 3] = [
     },
 ];
 
-/// A table of 1,024, named in falling order, has no room for one source more.
+/// A table of 1,024, named in falling order, has no room for one source more, until one is forgotten.
 pub(crate) fn full<T: InlineTable + Drop>(rt: &impl Abort) {
     let mut session: Session<T> = Session::new(1_024);
     'ssrcs: for below in 0..1_024 {
@@ -89,5 +89,14 @@ pub(crate) fn full<T: InlineTable + Drop>(rt: &impl Abort) {
             (Some(Place::Kept), 1_024),
             (Some(Place::Left), 1_023),
         ]
+    );
+    assert!(rt; session.forget(977) && !session.forget(1_500));
+    let seen = [
+        (session.place(Fact::Named(976), 0), session.members()),
+        (session.place(Fact::Named(977), 0), session.members()),
+    ];
+    assert_eq!(rt;
+        seen,
+        [(Some(Place::Added), 1_023), (Some(Place::NoRoom), 1_023)]
     );
 }

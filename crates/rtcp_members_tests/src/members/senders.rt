@@ -11,12 +11,12 @@ pub(crate) static SENDERS: [Script; 3] = [
         capacity: 2,
         rows: &[
             (
-                Call::Fact(Fact::Media(4, 10, 0, 0), 0),
+                Call::Fact(Fact::Media(4, 10, 0, 0, 8_000), 0),
                 Seen::At(Place::Added),
             ),
             (Call::Ask, Seen::Counts(0, 0)),
             (
-                Call::Fact(Fact::Media(4, 11, 0, 0), 100),
+                Call::Fact(Fact::Media(4, 11, 0, 0, 8_000), 100),
                 Seen::Counted(Place::Kept),
             ),
             (Call::Ask, Seen::Counts(1, 1)),
@@ -27,7 +27,7 @@ pub(crate) static SENDERS: [Script; 3] = [
             (Call::Check(200, 0, 50, 0), Seen::Dropped(0, 0)),
             (Call::Ask, Seen::Counts(1, 0)),
             (
-                Call::Fact(Fact::Media(4, 12, 0, 0), 200),
+                Call::Fact(Fact::Media(4, 12, 0, 0, 8_000), 200),
                 Seen::Counted(Place::Kept),
             ),
             (Call::Ask, Seen::Counts(1, 1)),
@@ -38,10 +38,10 @@ pub(crate) static SENDERS: [Script; 3] = [
             for its silence is",
         capacity: 2,
         rows: &[
-            (Call::Fact(Fact::Media(4, 10, 0, 0), 0), Seen::Any),
-            (Call::Fact(Fact::Media(4, 11, 0, 0), 0), Seen::Any),
-            (Call::Fact(Fact::Media(5, 10, 0, 0), 0), Seen::Any),
-            (Call::Fact(Fact::Media(5, 11, 0, 0), 0), Seen::Any),
+            (Call::Fact(Fact::Media(4, 10, 0, 0, 8_000), 0), Seen::Any),
+            (Call::Fact(Fact::Media(4, 11, 0, 0, 8_000), 0), Seen::Any),
+            (Call::Fact(Fact::Media(5, 10, 0, 0, 8_000), 0), Seen::Any),
+            (Call::Fact(Fact::Media(5, 11, 0, 0, 8_000), 0), Seen::Any),
             (Call::Ask, Seen::Counts(2, 2)),
             (Call::Fact(Fact::Gone(4), 10), Seen::At(Place::Left)),
             (Call::Ask, Seen::Counts(1, 1)),
@@ -53,19 +53,19 @@ pub(crate) static SENDERS: [Script; 3] = [
         name: "a source that was dropped and comes back is on probation again",
         capacity: 2,
         rows: &[
-            (Call::Fact(Fact::Media(4, 10, 0, 0), 0), Seen::Any),
+            (Call::Fact(Fact::Media(4, 10, 0, 0, 8_000), 0), Seen::Any),
             (
-                Call::Fact(Fact::Media(4, 11, 0, 0), 0),
+                Call::Fact(Fact::Media(4, 11, 0, 0, 8_000), 0),
                 Seen::Counted(Place::Kept),
             ),
             (Call::Check(20, 1, 0, 0), Seen::Dropped(1, 1)),
             (
-                Call::Fact(Fact::Media(4, 12, 0, 0), 20),
+                Call::Fact(Fact::Media(4, 12, 0, 0, 8_000), 20),
                 Seen::At(Place::Added),
             ),
             (Call::Ask, Seen::Counts(0, 0)),
             (
-                Call::Fact(Fact::Media(4, 13, 0, 0), 20),
+                Call::Fact(Fact::Media(4, 13, 0, 0, 8_000), 20),
                 Seen::Counted(Place::Kept),
             ),
             (Call::Ask, Seen::Counts(1, 1)),

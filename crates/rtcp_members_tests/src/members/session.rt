@@ -28,6 +28,8 @@ pub(crate) enum Call {
     Check(u64, u64, u64, u64),
     /// The block of the source that is next after one, at a moment.
     Block(Option<u32>, u64),
+    /// The host says that a source is gone.
+    Forget(u32),
     /// Whether the table has an entry of a source.
     Holds(u32),
     /// What is told of the source of least SSRC above one.
@@ -53,6 +55,8 @@ pub(crate) enum Seen {
     Whose(Option<u32>),
     /// The fraction, the lost packets and the highest number that a block says.
     Says(u8, i32, u32),
+    /// Whether a source was forgotten.
+    Forgot(bool),
     Holds(bool),
     Told(Option<SourceState>),
     LastBlock(Option<LastBlock>),
@@ -76,20 +80,20 @@ pub(crate) struct Session<T: MemberTable> {
 }
 
 impl<T: InlineTable> Session<T> {
-    /// A session of which the media's clock has 8,000 units a second.
+    /// Before the first call.
     pub(crate) fn new(capacity: u32) -> Session<T>
         requires some { 1 ≤ capacity }
         requires few { capacity ≤ 1024 }
         ensures { result.facts ≡ 0 }
     {
-        Session::with_table(T::empty(capacity, 8000), capacity)
+        Session::with_table(T::empty(capacity), capacity)
     }
 }
 
 impl<T: MemberTable> Session<T> {
     /// The same with a table that was made for it, of which the contract alone names the capacity.
     pub(crate) fn with_table(table: T, capacity: u32) -> Session<T>
-        requires { T.content table ≡ no_members capacity 8000 }
+        requires { T.content table ≡ no_members capacity }
         ensures { result.facts ≡ 0 }
     {
         let _ = capacity;
@@ -117,6 +121,7 @@ impl<T: MemberTable> Session<T> {
                 Seen::Dropped(dropped.entries, dropped.senders)
             }
             Call::Block(after, t) => said(self.block(after, t), row),
+            Call::Forget(ssrc) => Seen::Forgot(self.forget(ssrc)),
             Call::Holds(ssrc) => Seen::Holds(self.holds(ssrc)),
             Call::Above(after) => Seen::Told(self.told(after)),
             Call::LastBlock(after) => {
@@ -148,6 +153,13 @@ impl<T: MemberTable> Session<T> {
         ensures { self.new.facts ≡ self.old.facts }
     {
         self.table.check(t, silent, data, gone)
+    }
+
+    /// The host says that a source is gone. Returns whether it was there without a goodbye.
+    pub(crate) fn forget(&mut self, ssrc: u32) -> bool
+        ensures { self.new.facts ≡ self.old.facts }
+    {
+        self.table.forget(ssrc)
     }
 
     /// The block of the source that is next after this one, at the moment `t`, if any is pending.

@@ -6,7 +6,7 @@ use std::test::*;
 /// The example at the head of `rtcp_members`.
 #[test]
 fn example(rt: HostRuntime) {
-    let mut table = SortedTable::empty(1_024, 8_000);
+    let mut table = SortedTable::empty(1_024);
     assert_eq!(rt; table.apply(Fact::Heard(7), 0).place, Place::Added);
     assert_eq!(rt; table.members(), 0);
     assert_eq!(rt; table.apply(Fact::Named(7), 0).place, Place::Kept);
@@ -15,13 +15,14 @@ fn example(rt: HostRuntime) {
     assert_eq!(rt; (dropped.entries, table.members()), (1, 0));
 }
 
-/// Rooms, senders, turns, and what is told of each source.
+/// Rooms, senders, turns, what is told of each source, and those that are forgotten.
 #[test]
 fn sessions(rt: HostRuntime) {
     session::play::<SortedTable>(&rt, &rooms::ROOMS);
     session::play::<SortedTable>(&rt, &senders::SENDERS);
     session::play::<SortedTable>(&rt, &turns::TURNS);
     session::play::<SortedTable>(&rt, &told::TOLD);
+    session::play::<SortedTable>(&rt, &forgotten::FORGOTTEN);
     told::each_in_turn::<SortedTable>(&rt);
 }
 

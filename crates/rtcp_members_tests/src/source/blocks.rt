@@ -20,20 +20,20 @@ fn block_of_nine(fraction: u8, lost: i32, highest: u32) -> Block {
 #[test]
 fn lost_packets(rt: HostRuntime) {
     let mut source = Source::new();
-    let _ = source.take(1, 0, 0, 0);
-    let _ = source.take(2, 0, 0, 0);
-    let _ = source.take(3, 0, 0, 0);
-    let _ = source.take(6, 0, 0, 0);
+    let _ = source.take(1, 0, 0, 0, 8_000);
+    let _ = source.take(2, 0, 0, 0, 8_000);
+    let _ = source.take(3, 0, 0, 0, 8_000);
+    let _ = source.take(6, 0, 0, 0, 8_000);
     assert!(rt; source.block(9, 0) == block_of_nine(0x66, 2, 6));
 }
 
 #[test]
 fn repeated_packets_are_received(rt: HostRuntime) {
     let mut source = Source::new();
-    let _ = source.take(1, 0, 0, 0);
-    let _ = source.take(2, 0, 0, 0);
-    let _ = source.take(2, 0, 0, 0);
-    let _ = source.take(2, 0, 0, 0);
+    let _ = source.take(1, 0, 0, 0, 8_000);
+    let _ = source.take(2, 0, 0, 0, 8_000);
+    let _ = source.take(2, 0, 0, 0, 8_000);
+    let _ = source.take(2, 0, 0, 0, 8_000);
     // lost is ff fffe in 24 bits
     assert!(rt; source.block(9, 0) == block_of_nine(0, -2, 2));
 }
@@ -42,14 +42,14 @@ fn repeated_packets_are_received(rt: HostRuntime) {
 #[test]
 fn a_second_block(rt: HostRuntime) {
     let mut source = Source::new();
-    let _ = source.take(1, 0, 0, 0);
-    let _ = source.take(2, 0, 0, 0);
-    let _ = source.take(3, 0, 0, 0);
+    let _ = source.take(1, 0, 0, 0, 8_000);
+    let _ = source.take(2, 0, 0, 0, 8_000);
+    let _ = source.take(3, 0, 0, 0, 8_000);
     assert!(rt; source.has_news());
     assert!(rt; source.block(9, 0) == block_of_nine(0, 0, 3));
     assert!(rt; !source.has_news());
-    let _ = source.take(4, 0, 0, 0);
-    let _ = source.take(8, 0, 0, 0);
+    let _ = source.take(4, 0, 0, 0, 8_000);
+    let _ = source.take(8, 0, 0, 0, 8_000);
     assert!(rt; source.has_news());
     assert!(rt; source.block(9, 0) == block_of_nine(0x99, 3, 8));
 }
@@ -58,15 +58,15 @@ fn a_second_block(rt: HostRuntime) {
 #[test]
 fn a_restart_keeps_the_sender_report(rt: HostRuntime) {
     let mut source = Source::new();
-    let _ = source.take(1, 0, 0, 0);
-    let _ = source.take(2, 0, 0, 0);
+    let _ = source.take(1, 0, 0, 0, 8_000);
+    let _ = source.take(2, 0, 0, 0, 8_000);
     source.saw_sr(0x0000_b705_2000_0000, 0, 1_000_000);
     assert_eq!(rt; source.block(9, 1_000_000).lsr, 0xb705_2000);
-    let _ = source.take(5000, 0, 0, 0);
+    let _ = source.take(5000, 0, 0, 0, 8_000);
     assert!(rt; !source.has_news());
-    assert_eq!(rt; source.take(5001, 0, 0, 0), Taken::Restarted);
+    assert_eq!(rt; source.take(5001, 0, 0, 0, 8_000), Taken::Restarted);
     assert!(rt; source.has_news());
-    let _ = source.take(5003, 0, 0, 0);
+    let _ = source.take(5003, 0, 0, 0, 8_000);
     let block = source.block(9, 6_250_000);
     // two of 5001 to 5003 came, 5.25 seconds after the sender report
     assert_eq!(rt;
@@ -80,12 +80,12 @@ fn a_restart_keeps_the_sender_report(rt: HostRuntime) {
 #[test]
 fn jitter(rt: HostRuntime) {
     let mut source = Source::new();
-    let _ = source.take(1, 0, rtp_units(0, 8000), 0);
-    let _ = source.take(2, 160, rtp_units(20_000, 8000), 0);
+    let _ = source.take(1, 0, rtp_units(0, 8000), 0, 8_000);
+    let _ = source.take(2, 160, rtp_units(20_000, 8000), 0, 8_000);
     assert_eq!(rt; source.block(9, 0).jitter, 0);
-    let _ = source.take(3, 320, rtp_units(60_000, 8000), 0);
+    let _ = source.take(3, 320, rtp_units(60_000, 8000), 0, 8_000);
     assert_eq!(rt; source.block(9, 0).jitter, 10);
-    let _ = source.take(4, 480, rtp_units(80_000, 8000), 0);
+    let _ = source.take(4, 480, rtp_units(80_000, 8000), 0, 8_000);
     assert_eq!(rt; source.block(9, 0).jitter, 9);
 }
 
@@ -93,9 +93,9 @@ fn jitter(rt: HostRuntime) {
 #[test]
 fn jitter_over_a_wrap(rt: HostRuntime) {
     let mut source = Source::new();
-    let _ = source.take(1, 0, 0, 0);
-    let _ = source.take(2, 16, 0, 0);
+    let _ = source.take(1, 0, 0, 0, 8_000);
+    let _ = source.take(2, 16, 0, 0, 8_000);
     assert_eq!(rt; source.block(9, 0).jitter, 0);
-    let _ = source.take(3, 0, 16, 0);
+    let _ = source.take(3, 0, 16, 0, 8_000);
     assert_eq!(rt; source.block(9, 0).jitter, 2);
 }

@@ -6,9 +6,9 @@ use std::test::*;
 /// What a source makes of this packet after 10 and 11, and its block then.
 fn after_eleven(seq: u16) -> (Taken, Block) {
     let mut source = Source::new();
-    let _ = source.take(10, 0, 0, 0);
-    let _ = source.take(11, 0, 0, 0);
-    let taken = source.take(seq, 0, 0, 0);
+    let _ = source.take(10, 0, 0, 0, 8_000);
+    let _ = source.take(11, 0, 0, 0, 8_000);
+    let taken = source.take(seq, 0, 0, 0, 8_000);
     (taken, source.block(9, 0))
 }
 
@@ -29,9 +29,9 @@ fn edges_of_a_run(rt: HostRuntime) {
 fn a_run_wraps(rt: HostRuntime) {
     let mut source = Source::new();
     let taken = [
-        source.take(65534, 0, 0, 0),
-        source.take(65535, 0, 0, 0),
-        source.take(0, 0, 0, 0),
+        source.take(65534, 0, 0, 0, 8_000),
+        source.take(65535, 0, 0, 0, 8_000),
+        source.take(0, 0, 0, 0, 8_000),
     ];
     assert_eq!(rt; taken, [Taken::Probation, Taken::Became, Taken::Counted]);
     let block = source.block(9, 0);
@@ -41,7 +41,10 @@ fn a_run_wraps(rt: HostRuntime) {
 #[test]
 fn a_run_starts_after_a_wrap(rt: HostRuntime) {
     let mut source = Source::new();
-    let taken = [source.take(65535, 0, 0, 0), source.take(0, 0, 0, 0)];
+    let taken = [
+        source.take(65535, 0, 0, 0, 8_000),
+        source.take(0, 0, 0, 0, 8_000),
+    ];
     assert_eq!(rt; taken, [Taken::Probation, Taken::Became]);
     assert_eq!(rt; source.block(9, 0).highest, 0);
 }
@@ -51,10 +54,10 @@ fn a_run_starts_after_a_wrap(rt: HostRuntime) {
 fn probation_takes_two_in_a_row(rt: HostRuntime) {
     let mut source = Source::new();
     let taken = [
-        source.take(10, 0, 0, 0),
-        source.take(12, 0, 0, 0),
-        source.take(11, 0, 0, 0),
-        source.take(12, 0, 0, 0),
+        source.take(10, 0, 0, 0, 8_000),
+        source.take(12, 0, 0, 0, 8_000),
+        source.take(11, 0, 0, 0, 8_000),
+        source.take(12, 0, 0, 0, 8_000),
     ];
     let in_order = [
         Taken::Probation,
@@ -69,10 +72,10 @@ fn probation_takes_two_in_a_row(rt: HostRuntime) {
 fn strays_in_a_row_restart(rt: HostRuntime) {
     let mut source = Source::new();
     let taken = [
-        source.take(10, 0, 0, 0),
-        source.take(11, 0, 0, 0),
-        source.take(5000, 0, 0, 0),
-        source.take(5001, 0, 0, 0),
+        source.take(10, 0, 0, 0, 8_000),
+        source.take(11, 0, 0, 0, 8_000),
+        source.take(5000, 0, 0, 0, 8_000),
+        source.take(5001, 0, 0, 0, 8_000),
     ];
     assert_eq!(rt;
         taken,
@@ -91,11 +94,11 @@ fn strays_in_a_row_restart(rt: HostRuntime) {
 fn a_counted_packet_keeps_the_stray(rt: HostRuntime) {
     let mut source = Source::new();
     let taken = [
-        source.take(10, 0, 0, 0),
-        source.take(11, 0, 0, 0),
-        source.take(5000, 0, 0, 0),
-        source.take(12, 0, 0, 0),
-        source.take(5001, 0, 0, 0),
+        source.take(10, 0, 0, 0, 8_000),
+        source.take(11, 0, 0, 0, 8_000),
+        source.take(5000, 0, 0, 0, 8_000),
+        source.take(12, 0, 0, 0, 8_000),
+        source.take(5001, 0, 0, 0, 8_000),
     ];
     assert_eq!(rt;
         taken,
@@ -115,13 +118,13 @@ fn a_counted_packet_keeps_the_stray(rt: HostRuntime) {
 fn a_restart_forgets_earlier_strays(rt: HostRuntime) {
     let mut source = Source::new();
     let taken = [
-        source.take(10, 0, 0, 0),
-        source.take(11, 0, 0, 0),
-        source.take(5000, 0, 0, 0),
-        source.take(5001, 0, 0, 0),
-        source.take(8000, 0, 0, 0),
-        source.take(5001, 0, 0, 0),
-        source.take(5002, 0, 0, 0),
+        source.take(10, 0, 0, 0, 8_000),
+        source.take(11, 0, 0, 0, 8_000),
+        source.take(5000, 0, 0, 0, 8_000),
+        source.take(5001, 0, 0, 0, 8_000),
+        source.take(8000, 0, 0, 0, 8_000),
+        source.take(5001, 0, 0, 0, 8_000),
+        source.take(5002, 0, 0, 0, 8_000),
     ];
     assert_eq!(rt;
         taken,

@@ -8,20 +8,20 @@ use std::test::*;
 #[test]
 fn octets_of_counted_packets(rt: HostRuntime) {
     let mut source = Source::new();
-    let _ = source.take(1, 0, 0, 1_000);
+    let _ = source.take(1, 0, 0, 1_000, 8_000);
     assert!(rt; source.reception().is_none());
-    let _ = source.take(2, 0, 0, 20);
-    let _ = source.take(3, 0, 0, 33);
+    let _ = source.take(2, 0, 0, 20, 8_000);
+    let _ = source.take(3, 0, 0, 33, 8_000);
     // a packet that comes twice is received twice
-    let _ = source.take(3, 0, 0, 33);
+    let _ = source.take(3, 0, 0, 33, 8_000);
     assert!(rt;
         source
             .reception()
             .is_some_and(|told| (told.received, told.octets) == (3, 86))
     );
-    let _ = source.take(5000, 0, 0, 500);
+    let _ = source.take(5000, 0, 0, 500, 8_000);
     assert!(rt; source.reception().is_some_and(|told| told.octets == 86));
-    assert_eq!(rt; source.take(5001, 0, 0, 7), Taken::Restarted);
+    assert_eq!(rt; source.take(5001, 0, 0, 7, 8_000), Taken::Restarted);
     assert!(rt;
         source
             .reception()
@@ -29,7 +29,7 @@ fn octets_of_counted_packets(rt: HostRuntime) {
     );
     // a block changes nothing of it
     let _ = source.block(9, 0);
-    let _ = source.take(5002, 0, 0, 8);
+    let _ = source.take(5002, 0, 0, 8, 8_000);
     assert!(rt;
         source
             .reception()
@@ -40,9 +40,9 @@ fn octets_of_counted_packets(rt: HostRuntime) {
 #[test]
 fn octets_modulo_two_to_the_64(rt: HostRuntime) {
     let mut source = Source::new();
-    let _ = source.take(1, 0, 0, 0);
-    let _ = source.take(2, 0, 0, u64::MAX);
-    let _ = source.take(3, 0, 0, 5);
+    let _ = source.take(1, 0, 0, 0, 8_000);
+    let _ = source.take(2, 0, 0, u64::MAX, 8_000);
+    let _ = source.take(3, 0, 0, 5, 8_000);
     assert!(rt; source.reception().is_some_and(|told| told.octets == 4));
 }
 
@@ -71,9 +71,9 @@ fn timestamps_of_the_last_report(rt: HostRuntime) {
 #[test]
 fn what_the_last_block_said(rt: HostRuntime) {
     let mut source = Source::new();
-    let _ = source.take(65_534, 0, 0, 0);
-    let _ = source.take(65_535, 0, 0, 0);
-    let _ = source.take(2, 0, 0, 0);
+    let _ = source.take(65_534, 0, 0, 0, 8_000);
+    let _ = source.take(65_535, 0, 0, 0, 8_000);
+    let _ = source.take(2, 0, 0, 0, 8_000);
     assert!(rt; source.last_block().is_none());
     let _ = source.block(9, 0);
     // of 65,535 to 65,538 two came: 128 in 256 were lost
@@ -82,10 +82,10 @@ fn what_the_last_block_said(rt: HostRuntime) {
         highest: 65_538,
     };
     assert!(rt; source.last_block() == Some(first));
-    let _ = source.take(3, 0, 0, 0);
+    let _ = source.take(3, 0, 0, 0, 8_000);
     source.saw_sr(7, 8, 0);
-    let _ = source.take(5000, 0, 0, 0);
-    assert_eq!(rt; source.take(5001, 0, 0, 0), Taken::Restarted);
+    let _ = source.take(5000, 0, 0, 0, 8_000);
+    assert_eq!(rt; source.take(5001, 0, 0, 0, 8_000), Taken::Restarted);
     assert!(rt; source.last_block() == Some(first));
     let _ = source.block(9, 0);
     let second = LastBlock {

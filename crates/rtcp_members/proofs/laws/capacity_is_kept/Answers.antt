@@ -1,4 +1,4 @@
-use Rattle.rtcp_members.proofs.LawLemmas.{capacity_is_kept-none, capacity_is_kept-fact, capacity_is_kept-facts, capacity_is_kept-check, capacity_is_kept-block, capacity_is_kept-blocks}
+use Rattle.rtcp_members.proofs.LawLemmas.{capacity_is_kept-none, capacity_is_kept-fact, capacity_is_kept-facts, capacity_is_kept-check, capacity_is_kept-block, capacity_is_kept-forgotten, capacity_is_kept-blocks}
 use Rattle.rtcp_members.proofs.laws.capacity_is_kept.Goals as goal
 
 pub returns : goal.returns
@@ -8,5 +8,6 @@ returns c = record {
   facts = capacity_is_kept-facts;
   check = capacity_is_kept-check;
   block = capacity_is_kept-block;
+  forgotten = capacity_is_kept-forgotten;
   blocks = capacity_is_kept-blocks;
 }

@@ -8,14 +8,14 @@ returns-clause-apart c = apart_applied (subject c.args.fact) c.args.entries.now 
     c.apply.new.self c.requires.apart c.requires.rank c.apply.ensures.ssrc
 
 pub returns-clause-place : goal.returns-clause-place
-returns-clause-place c = place_applied c.args.entries.now c.args.at c.args.fact c.args.rate c.index-entries-at.result
+returns-clause-place c = place_applied c.args.entries.now c.args.at c.args.fact c.index-entries-at.result
     c.apply.result.place c.requires.rank c.apply.ensures.place
 
 pub returns-clause-counted : goal.returns-clause-counted
-returns-clause-counted c = counted_applied c.args.entries.now c.args.at c.args.fact c.args.rate
+returns-clause-counted c = counted_applied c.args.entries.now c.args.at c.args.fact
     c.index-entries-at.result c.apply.result.counted c.requires.rank c.apply.ensures.counted
 
 pub returns-clause-table : goal.returns-clause-table
-returns-clause-table c = table_applied c.args.entries.now c.args.at c.args.fact c.args.t c.args.rate
+returns-clause-table c = table_applied c.args.entries.now c.args.at c.args.fact c.args.t
     c.index-entries-at.result c.apply.new.self c.requires.apart c.requires.rank c.apply.ensures.ssrc
     c.apply.ensures.value

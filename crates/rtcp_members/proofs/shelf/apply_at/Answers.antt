@@ -41,7 +41,7 @@ returns-clause-taken c =
     let so = seen (goal.at.returns-clause-taken c).After-index-cells-place in
     let made = c.apply.ensures in
     record {
-      changed = changed_ranked so c.apply.new.entry made.ssrc (entry_with_fact c.args.rate c.args.fact c.args.t)
+      changed = changed_ranked so c.apply.new.entry made.ssrc (entry_with_fact c.args.fact c.args.t)
           made.value;
       recounted = recounted_ranked so c.apply.new.entry made.ssrc c.args.counts.now c.apply.new.self
           c.requires.counted made.recounted;

@@ -9,24 +9,24 @@ use Rattle.rtcp_members.proofs.sorted_table.admit.Goals as goal
 
 pub returns-then-is_goodbye-clause-place : goal.returns-then-is_goodbye-clause-place
 returns-then-is_goodbye-clause-place g c =
-    (ignored c.args.capacity c.args.rate c.args.entries.now.items c.args.fact c.args.t
+    (ignored c.args.capacity c.args.entries.now.items c.args.fact c.args.t
     (none_in_gap (subject c.args.fact) c.args.entries.now.items c.args.gap c.requires.gap) (search rules)).0
 
 pub returns-then-is_goodbye-clause-table : goal.returns-then-is_goodbye-clause-table
 returns-then-is_goodbye-clause-table g c =
-    (ignored c.args.capacity c.args.rate c.args.entries.now.items c.args.fact c.args.t
+    (ignored c.args.capacity c.args.entries.now.items c.args.fact c.args.t
     (none_in_gap (subject c.args.fact) c.args.entries.now.items c.args.gap c.requires.gap) (search rules)).1
 
 pub returns-then-len-capacity-clause-place : goal.returns-then-len-capacity-clause-place
 returns-then-len-capacity-clause-place g c =
-    (no_room c.args.capacity c.args.rate c.args.entries.now.items c.args.fact c.args.t
+    (no_room c.args.capacity c.args.entries.now.items c.args.fact c.args.t
     (rising_apart c.args.entries.now.items c.requires.sorted.rising)
     (none_in_gap (subject c.args.fact) c.args.entries.now.items c.args.gap c.requires.gap) (search rules)
     (omega (arith, c.len.ensures, c.if-len-capacity.true))).0
 
 pub returns-then-len-capacity-clause-table : goal.returns-then-len-capacity-clause-table
 returns-then-len-capacity-clause-table g c =
-    (no_room c.args.capacity c.args.rate c.args.entries.now.items c.args.fact c.args.t
+    (no_room c.args.capacity c.args.entries.now.items c.args.fact c.args.t
     (rising_apart c.args.entries.now.items c.requires.sorted.rising)
     (none_in_gap (subject c.args.fact) c.args.entries.now.items c.args.gap c.requires.gap) (search rules)
     (omega (arith, c.len.ensures, c.if-len-capacity.true))).1
@@ -45,7 +45,7 @@ returns-clause-sorted g c =
 
 pub returns-clause-place : goal.returns-clause-place
 returns-clause-place g c =
-    (inserted c.args.capacity c.args.rate c.args.entries.now.items c.args.gap c.args.fact c.args.t
+    (inserted c.args.capacity c.args.entries.now.items c.args.gap c.args.fact c.args.t
     c.join.ensures.joined.entry
     c.requires.sorted.rising c.requires.gap (search rules) (omega (arith, c.len.ensures, c.if-len-capacity.false))
     c.join.ensures.joined.ssrc c.join.ensures.joined.value).0
@@ -53,6 +53,6 @@ returns-clause-place g c =
 pub returns-clause-table : goal.returns-clause-table
 returns-clause-table g c =
     rw c.join.ensures.joined.items
-    ((inserted c.args.capacity c.args.rate c.args.entries.now.items c.args.gap c.args.fact c.args.t
+    ((inserted c.args.capacity c.args.entries.now.items c.args.gap c.args.fact c.args.t
     c.join.ensures.joined.entry c.requires.sorted.rising c.requires.gap (search rules)
     (omega (arith, c.len.ensures, c.if-len-capacity.false)) c.join.ensures.joined.ssrc c.join.ensures.joined.value).1)

@@ -3,12 +3,12 @@ use Rattle.rtcp_members.proofs.trace_laws.senders_sent_lately.Goals as goal
 
 pub returns : goal.returns
 returns c = record {
-  sending = λ rate ssrc own moment. (
-    kept_is_newest rate ssrc own moment,
-    newest_is_kept rate ssrc own moment,
+  sending = λ ssrc own moment. (
+    kept_is_newest ssrc own moment,
+    newest_is_kept ssrc own moment,
   );
-  sender = λ capacity rate trace ssrc. (
-    sender_sends capacity rate trace ssrc,
-    who_sends_is_sender capacity rate trace ssrc,
+  sender = λ capacity trace ssrc. (
+    sender_sends capacity trace ssrc,
+    who_sends_is_sender capacity trace ssrc,
   );
 }

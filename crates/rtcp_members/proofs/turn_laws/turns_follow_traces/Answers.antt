@@ -7,7 +7,7 @@ use Rattle.rtcp_members.proofs.turn_laws.turns_follow_traces.Goals as goal
 pub returns : goal.returns
 returns c = record {
   sources = λ last table trace stands. ap (map (λ (row : EntryRow). row.0))
-      (pending_is_traced last table trace stands) ∙ pending_have_rows last table.capacity table.rate trace;
+      (pending_is_traced last table trace stands) ∙ pending_have_rows last table.capacity trace;
   rows = turns_follow_traces-rows;
   due = turns_follow_traces-due;
 }

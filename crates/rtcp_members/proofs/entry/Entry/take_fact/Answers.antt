@@ -11,4 +11,4 @@ returns-in-Media-clause-counted c = c.take_packet.ensures.counted c.in-Media.fie
 pub returns-in-Media-clause-value : goal.returns-in-Media-clause-value
 returns-in-Media-clause-value c =
     c.take_packet.ensures.value c.in-Media.field-0
-    ∙ ap (λ fact. entry_after c.args.rate fact c.args.t (entry_value c.args.self.now)) (sym c.in-Media.is)
+    ∙ ap (λ fact. entry_after fact c.args.t (entry_value c.args.self.now)) (sym c.in-Media.is)

@@ -6,7 +6,7 @@ use Rattle.rtcp_members.proofs.list_table.ListTableMemberTable.block_of.Goals as
 
 pub returns-clause-block : goal.returns-clause-block
 returns-clause-block c =
-    c.report_at.ensures.block c.self.inside.capacity c.self.inside.rate
-    ∙ ap (λ entries. block_at c.args.ssrc c.args.t (table_of c.self.inside.capacity c.self.inside.rate entries))
+    c.report_at.ensures.block c.self.inside.capacity
+    ∙ ap (λ entries. block_at c.args.ssrc c.args.t (table_of c.self.inside.capacity entries))
     c.as_mut_slice.ensures.value
     ∙ ap (block_at c.args.ssrc c.args.t) c.self.view_is

@@ -16,12 +16,12 @@ overflow_sub-removed c = omega (
 pub invariant_of-self : goal.invariant_of-self
 invariant_of-self c = listed_checked (horizons_at c.args.silent_before c.args.data_before c.args.gone_before)
     c.self.inside.entries.items c.drop_silent.new.entries.items c.drop_silent.ensures c.self.inside.capacity
-    c.self.inside.rate c.args.self.now c.self.view_is c.self.invariant
+    c.args.self.now c.self.view_is c.self.invariant
 
 pub overflow_sub-ended : goal.overflow_sub-ended
 overflow_sub-ended c = fewer_senders_in (horizons_at c.args.silent_before c.args.data_before c.args.gone_before)
     c.self.inside.entries.items c.drop_silent.new.entries.items c.drop_silent.ensures c.self.inside.capacity
-    c.self.inside.rate c.args.self.now c.self.view_is c.self.invariant c.senders-senders.result c.senders.result
+    c.args.self.now c.self.view_is c.self.invariant c.senders-senders.result c.senders.result
     c.senders-senders.ensures c.senders.ensures
 
 pub returns : goal.returns
@@ -32,11 +32,11 @@ returns c =
     let is = c.drop_silent.ensures in
     record {
       entries = (λ i. c.len-entries.ensures.value i - c.len.ensures.value i)
-          ∙ dropped_checked horizons items next is c.self.inside.capacity c.self.inside.rate c.args.self.now
+          ∙ dropped_checked horizons items next is c.self.inside.capacity c.args.self.now
           c.self.view_is c.self.invariant;
-      senders = senders_checked horizons items next is c.self.inside.capacity c.self.inside.rate c.args.self.now
+      senders = senders_checked horizons items next is c.self.inside.capacity c.args.self.now
           c.self.view_is c.self.invariant c.senders-senders.result c.senders.result c.senders-senders.ensures
           c.senders.ensures;
-      content = table_checked horizons items next is c.self.inside.capacity c.self.inside.rate c.args.self.now
+      content = table_checked horizons items next is c.self.inside.capacity c.args.self.now
           c.self.view_is c.self.invariant;
     }

@@ -4,5 +4,5 @@ use Rattle.rtcp_members.proofs.Listing.{entries_of}
 use Rattle.rtcp_members.proofs.list_table.ListTableMemberTable.entries.Goals as goal
 
 pub returns : goal.returns
-returns c = entries_of c.self.inside.capacity c.self.inside.rate c.self.inside.entries.items c.args.self.now
+returns c = entries_of c.self.inside.capacity c.self.inside.entries.items c.args.self.now
     c.len.result c.self.invariant.apart c.self.view_is (search rules)

@@ -6,6 +6,6 @@ use Rattle.rtcp_members.proofs.Tallies.{counted_at}
 use Rattle.rtcp_members.proofs.list_table.ListTableMemberTable.members.Goals as goal
 
 pub returns : goal.returns
-returns c = counted_at is_member c.self.inside.capacity c.self.inside.rate c.self.inside.entries.items c.args.self.now
+returns c = counted_at is_member c.self.inside.capacity c.self.inside.entries.items c.args.self.now
     c.from.result c.self.invariant.apart c.self.view_is (c.from.ensures ∙ c.tally.ensures.members
     ∙ ap (tally_of is_member) c.as_slice.ensures.value)

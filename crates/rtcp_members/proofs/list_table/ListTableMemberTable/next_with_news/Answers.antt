@@ -7,12 +7,12 @@ use Rattle.rtcp_members.proofs.list_table.ListTableMemberTable.next_with_news.Go
 
 pub returns-in-Some : goal.returns-in-Some
 returns-in-Some c =
-    first_waiting_in c.args.after c.self.inside.capacity c.self.inside.rate c.self.inside.entries.items c.args.self.now
+    first_waiting_in c.args.after c.self.inside.capacity c.self.inside.entries.items c.args.self.now
     (Some c.in-Some.ssrc) (least (is_due_above None) (rows_of c.self.inside.entries.items))
     c.self.invariant.apart c.self.view_is (search rules) refl
 
 pub returns-in-None : goal.returns-in-None
 returns-in-None c =
-    first_waiting_in c.args.after c.self.inside.capacity c.self.inside.rate c.self.inside.entries.items c.args.self.now
+    first_waiting_in c.args.after c.self.inside.capacity c.self.inside.entries.items c.args.self.now
     None c.least_due-in-None.result
     c.self.invariant.apart c.self.view_is (search rules) (search rules)

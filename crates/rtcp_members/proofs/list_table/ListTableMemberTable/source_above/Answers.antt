@@ -6,10 +6,10 @@ use Rattle.rtcp_members.proofs.list_table.ListTableMemberTable.source_above.Goal
 
 pub returns-in-Some : goal.returns-in-Some
 returns-in-Some c =
-    told_of_least c.args.after c.self.inside.capacity c.self.inside.rate c.self.inside.entries.items c.args.self.now
+    told_of_least c.args.after c.self.inside.capacity c.self.inside.entries.items c.args.self.now
     c.self.invariant.apart c.self.view_is
     c.in-Some.ssrc (option_map state_value c.state_in.result) (search rules) (search rules)
 
 pub returns-in-None : goal.returns-in-None
-returns-in-None c = told_of_none c.args.after c.self.inside.capacity c.self.inside.rate c.self.inside.entries.items
+returns-in-None c = told_of_none c.args.after c.self.inside.capacity c.self.inside.entries.items
     c.args.self.now c.self.invariant.apart c.self.view_is (search rules)

@@ -16,7 +16,7 @@ invariant_of-self g c =
 pub returns-in-Some : goal.returns-in-Some
 returns-in-Some g c =
     let none = nothing_dropped (horizons_at c.args.silent c.args.idle c.args.gone) c.self.inside.capacity
-    c.self.inside.rate c.self.inside.entries.items c.in-Some.bounds c.args.self.now c.self.view_is
+    c.self.inside.entries.items c.in-Some.bounds c.args.self.now c.self.view_is
     c.self.invariant.sorted c.in-Some.ensures in
     record { entries = none.0; senders = none.1; content = none.2 }
 
@@ -63,9 +63,9 @@ returns g c =
     let listed = listed_of capacity items so.sorted in
     record {
       entries = (λ i. c.len-entries.ensures i - c.len.ensures i)
-          ∙ dropped_checked horizons items next is capacity c.self.inside.rate c.args.self.now c.self.view_is listed;
+          ∙ dropped_checked horizons items next is capacity c.args.self.now c.self.view_is listed;
       senders = c.from.ensures
-          ∙ senders_dropped horizons items next is capacity c.self.inside.rate c.args.self.now c.self.view_is so.sorted
+          ∙ senders_dropped horizons items next is capacity c.args.self.now c.self.view_is so.sorted
           c.self.inside.counts c.drop_silent.result.0 so.counted c.drop_silent.ensures.measured.counted;
-      content = table_checked horizons items next is capacity c.self.inside.rate c.args.self.now c.self.view_is listed;
+      content = table_checked horizons items next is capacity c.args.self.now c.self.view_is listed;
     }

@@ -25,13 +25,13 @@ returns-in-Ok g c =
     let stands = place g (goal.at.returns-in-Ok g c).In-Ok in
     let taken = c.apply.ensures.taken in
     record {
-      place = place_applied items c.in-Ok.at c.args.fact c.self.inside.rate no_entry c.apply.result.place stands
+      place = place_applied items c.in-Ok.at c.args.fact no_entry c.apply.result.place stands
           (taken.place no_entry) c.self.inside.capacity
           ∙ ap (λ (table : TableValue). placed table c.args.fact) c.self.view_is;
-      counted = counted_applied items c.in-Ok.at c.args.fact c.self.inside.rate no_entry c.apply.result.counted stands
+      counted = counted_applied items c.in-Ok.at c.args.fact no_entry c.apply.result.counted stands
           (taken.counted no_entry) c.self.inside.capacity
           ∙ ap (λ (table : TableValue). counted table c.args.fact) c.self.view_is;
-      content = table_edited c.args.fact c.args.t c.self.inside.rate items c.apply.new.self.items c.in-Ok.at stands
+      content = table_edited c.args.fact c.args.t items c.apply.new.self.items c.in-Ok.at stands
           taken.changed c.self.invariant.sorted.rising c.self.inside.capacity
           ∙ ap (after_fact c.args.fact c.args.t) c.self.view_is;
     }
@@ -44,11 +44,11 @@ invariant_of-self g c =
     let next : List Entry = c.apply.new.self.items in
     record {
       sorted = sorted_edited (subject c.args.fact) items next c.in-Ok.at
-          (entry_with_fact c.self.inside.rate c.args.fact c.args.t) stands made c.self.inside.capacity
+          (entry_with_fact c.args.fact c.args.t) stands made c.self.inside.capacity
           c.self.invariant.sorted;
       counted = c.apply.ensures.taken.recounted;
       roomy = omega (arith, c.self.invariant.roomy, c.apply.ensures.room);
-      standing = stand_with_fact c.args.fact c.args.t c.self.inside.rate items next c.in-Ok.at stands made
+      standing = stand_with_fact c.args.fact c.args.t items next c.in-Ok.at stands made
           c.lower.new.self c.lower.ensures.up_to (all_lower c.lower.new.self c.self.inside.bounds
           c.lower.ensures.no_later items c.self.invariant.standing);
     }

@@ -21,11 +21,11 @@ stands : (g : Over) (c : After-unwrap-at g) → IsRankOf c.args.ssrc c.self.insi
 stands g c = subst (Locates c.args.ssrc c.self.inside.entries.items) c.unwrap-at.ensures c.search_behind.ensures
 
 is_due_there : (g : Over) (c : After-unwrap-at g) → IsTrue (is_due_at c.args.ssrc
-    (table_of c.self.inside.capacity c.self.inside.rate c.self.inside.entries.items))
+    (table_of c.self.inside.capacity c.self.inside.entries.items))
 is_due_there g c = subst (λ (table : TableValue). IsTrue (is_due_at c.args.ssrc table)) (sym c.self.view_is) c.requires
 
 pub unwrap-at-requires : goal.unwrap-at-requires
-unwrap-at-requires g c = due_is_found c.args.ssrc c.self.inside.capacity c.self.inside.rate c.self.inside.entries.items
+unwrap-at-requires g c = due_is_found c.args.ssrc c.self.inside.capacity c.self.inside.entries.items
     c.args.self.now c.search_behind.result c.self.view_is c.requires c.search_behind.ensures
 
 pub overflow_sub-self : goal.overflow_sub-self
@@ -53,11 +53,11 @@ returns g c =
     record {
       block = block_reported c.args.ssrc c.args.t items c.unwrap-at.result no_entry
           (Some (block_value c.report.result)) place (c.report.ensures.made.block no_entry) c.self.inside.capacity
-          c.self.inside.rate ∙ ap (block_at c.args.ssrc c.args.t) c.self.view_is;
-      content = ap (table_of c.self.inside.capacity c.self.inside.rate) made.items
+          ∙ ap (block_at c.args.ssrc c.args.t) c.self.view_is;
+      content = ap (table_of c.self.inside.capacity) made.items
           ∙ table_reported c.args.ssrc items c.unwrap-at.result no_entry made.entry
           (rising_apart items c.self.invariant.sorted.rising) place (made.ssrc no_entry) (made.value no_entry)
-          c.self.inside.capacity c.self.inside.rate
+          c.self.inside.capacity
           ∙ ap (after_block c.args.ssrc) c.self.view_is;
       writable = c.report.ensures.made.writable;
     }

@@ -8,6 +8,6 @@ pub returns-then-reach : goal.returns-then-reach
 returns-then-reach g c =
     let so = c.self.invariant in
     let none = nothing_dropped (horizons_at c.args.silent_before c.args.data_before c.args.gone_before)
-    c.self.inside.capacity c.self.inside.rate c.self.inside.entries.items c.self.inside.bounds c.args.self.now
+    c.self.inside.capacity c.self.inside.entries.items c.self.inside.bounds c.args.self.now
     c.self.view_is so.sorted (record { stand = so.standing; within = c.reach.ensures c.if-reach.true }) in
     record { entries = none.0; senders = none.1; content = sym c.self.view_is ∙ none.2 }

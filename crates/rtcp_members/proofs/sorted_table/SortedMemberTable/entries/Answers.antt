@@ -4,6 +4,6 @@ use Rattle.rtcp_members.proofs.Rising.{rising_apart}
 use Rattle.rtcp_members.proofs.sorted_table.SortedMemberTable.entries.Goals as goal
 
 pub returns : goal.returns
-returns g c = entries_of c.self.inside.capacity c.self.inside.rate c.self.inside.entries.items c.args.self.now
+returns g c = entries_of c.self.inside.capacity c.self.inside.entries.items c.args.self.now
     c.len.result (rising_apart c.self.inside.entries.items c.self.invariant.sorted.rising) c.self.view_is
     c.len.ensures

@@ -9,6 +9,6 @@ overflow_cast-self g c = omega (arith, c.first_above-rank.ensures.bound, c.self.
 
 pub returns-clause-told : goal.returns-clause-told
 returns-clause-told g c =
-    told_of_sorted c.args.after c.self.inside.capacity c.self.inside.rate c.self.inside.entries.items
+    told_of_sorted c.args.after c.self.inside.capacity c.self.inside.entries.items
     c.first_above-rank.result c.args.self.now (option_map state_value c.state_at.result)
     c.self.view_is c.self.invariant.sorted.rising c.first_above-rank.ensures.rest c.state_at.ensures

@@ -21,18 +21,18 @@ pub returns-in-Some : goal.returns-in-Some
 returns-in-Some g c =
     let items : List Entry = c.self.inside.entries.items in
     let finds = found g (goal.at.returns-in-Some g c).After-first_due in
-    first_pending c.args.after c.self.inside.capacity c.self.inside.rate items c.first_above-first.result
+    first_pending c.args.after c.self.inside.capacity items c.first_above-first.result
     c.args.self.now c.self.view_is c.self.invariant.sorted.rising c.first_above-first.ensures
     (Some c.in-Some.ssrc) (first_ssrc (due_rows_of (take c.first_above-first.result items))) (cc) refl
 
 pub returns-in-None : goal.returns-in-None
 returns-in-None g c =
     let finds = found g (goal.at.returns-in-None g c).After-first_due in
-    first_pending c.args.after c.self.inside.capacity c.self.inside.rate c.self.inside.entries.items
+    first_pending c.args.after c.self.inside.capacity c.self.inside.entries.items
     c.first_above-first.result c.args.self.now c.self.view_is c.self.invariant.sorted.rising
     c.first_above-first.ensures None c.first_due-in-None.result (cc) (search rules)
 
 pub returns-then-self-eq0 : goal.returns-then-self-eq0
 returns-then-self-eq0 g c =
-    none_pending c.args.after c.self.inside.capacity c.self.inside.rate c.self.inside.entries.items c.args.self.now
+    none_pending c.args.after c.self.inside.capacity c.self.inside.entries.items c.args.self.now
     c.self.view_is c.self.invariant.sorted.rising (sym c.self.invariant.counted.due ∙ c.if-self-eq0.true)

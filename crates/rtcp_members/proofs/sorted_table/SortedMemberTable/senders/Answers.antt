@@ -7,6 +7,6 @@ use Rattle.rtcp_members.proofs.sorted_table.SortedMemberTable.senders.Goals as g
 
 pub returns : goal.returns
 returns g c =
-    counted_at is_sender c.self.inside.capacity c.self.inside.rate c.self.inside.entries.items c.args.self.now
+    counted_at is_sender c.self.inside.capacity c.self.inside.entries.items c.args.self.now
     c.from.result (rising_apart c.self.inside.entries.items c.self.invariant.sorted.rising) c.self.view_is
     (c.from.ensures ∙ c.self.invariant.counted.senders)

@@ -6,6 +6,6 @@ use Rattle.rtcp_members.proofs.sorted_table.SortedMemberTable.source_from.Goals 
 
 pub returns : goal.returns
 returns g c =
-    told_of_sorted c.args.after c.self.inside.capacity c.self.inside.rate c.self.inside.entries.items
+    told_of_sorted c.args.after c.self.inside.capacity c.self.inside.entries.items
     c.first_above.result c.args.self.now (option_map state_value c.state_at.result)
     c.self.view_is c.self.invariant.sorted.rising (search rules) (search rules)

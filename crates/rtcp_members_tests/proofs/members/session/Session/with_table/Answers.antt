@@ -5,4 +5,4 @@ use Rattle.rtcp_members.proofs.LawLemmas.{packets_are_few-none}
 use Rattle.rtcp_members_tests.proofs.members.session.Session.with_table.Goals as goal
 
 pub invariant_of-result : goal.invariant_of-result
-invariant_of-result g c = record { few = subst (HasFew 0) (sym c.requires) (packets_are_few-none c.args.capacity 8000) }
+invariant_of-result g c = record { few = subst (HasFew 0) (sym c.requires) (packets_are_few-none c.args.capacity) }

@@ -1,0 +1,47 @@
+-- The entry of the rank is read in its cell, and then its slot is the last in use.
+use Rattle.std.proofs.Common.{slice_index_or, sym, ap, subst, ◌∙◌}
+use Rattle.std.specs.List.{remove}
+use Rattle.rtcp_members.specs.Heaps.{in_order}
+use Rattle.rtcp_members.specs.Standing.{AreCounts}
+use Rattle.rtcp_members.specs.SortedViews.{IsRising}
+use Rattle.rtcp_members.proofs.Leaving.{counted_removed, leaves_written, rising_removed}
+use Rattle.rtcp_members.proofs.Ranked.{IsAtRank, at_rank, stands, among_ranked, read_ranked, written_ranked, heap_written}
+use Rattle.rtcp_members.proofs.shelf.remove_at.Goals as goal
+use Rattle.rtcp_members.proofs.shelf.remove_at.Goals.{After-index-cells-place}
+
+seen : (c : After-index-cells-place) → IsAtRank c.args.cells.now c.args.used c.args.at c.slot_at-place.result
+    (slice_index_or c.args.cells.now c.slot_at-place.result.place c.index-cells-place.result)
+seen c = at_rank c.args.cells.now c.args.used c.args.at c.slot_at-place.result c.index-cells-place.result
+    c.requires.indexed.heap c.requires.stands c.slot_at-place.ensures
+
+pub remove-requires : goal.remove-requires
+remove-requires c =
+    among_ranked (seen (goal.at.remove-requires c).After-index-cells-place) c.args.counts.now c.requires.counted
+
+pub move_behind-requires-clause-heap : goal.move_behind-requires-clause-heap
+move_behind-requires-clause-heap c =
+    heap_written (seen (goal.at.move_behind-requires-clause-heap c).After-index-cells-place) c.retire.new.self
+    c.retire.ensures.ssrc
+
+pub returns-clause-items : goal.returns-clause-items
+returns-clause-items c =
+    let so = seen (goal.at.returns-clause-items c).After-index-cells-place in
+    c.move_behind.ensures.items
+    ∙ ap (λ xs. remove xs c.args.at) (written_ranked so c.retire.new.self c.retire.ensures.ssrc)
+    ∙ leaves_written (in_order c.args.cells.now c.args.used) c.args.at c.retire.new.self
+
+pub returns-clause-indexed : goal.returns-clause-indexed
+returns-clause-indexed c =
+    let so = seen (goal.at.returns-clause-indexed c).After-index-cells-place in
+    record {
+      heap = c.move_behind.ensures.heap;
+      rising = subst IsRising (sym (returns-clause-items c))
+          (rising_removed (in_order c.args.cells.now c.args.used) c.args.at (stands so) c.requires.indexed.rising);
+    }
+
+pub returns-clause-counted : goal.returns-clause-counted
+returns-clause-counted c =
+    let so = seen (goal.at.returns-clause-counted c).After-index-cells-place in
+    subst (AreCounts c.remove.new.self) (sym (returns-clause-items c))
+    (counted_removed c.args.counts.now c.remove.new.self (in_order c.args.cells.now c.args.used) c.args.at _ (stands so)
+    (read_ranked so _) c.requires.counted c.remove.ensures)
