@@ -8,6 +8,7 @@ pub use Rattle.rtcp_timer.proofs.Sharing.{has_minimum as interval_has_minimum, i
 pub use Rattle.rtcp_timer.proofs.Quarters.{by_quarters as quarters_are_shared}
 pub use Rattle.rtcp_timer.proofs.Sides.{of_a_sender as senders_have_the_shorter_interval-senders}
 pub use Rattle.rtcp_timer.proofs.Sides.{of_another as senders_have_the_shorter_interval-others}
+pub use Rattle.rtcp_timer.proofs.Sides.{with_less as less_bandwidth_waits_longer}
 pub use Rattle.rtcp_timer.proofs.Following.{last_follows as schedule_follows_departures-last}
 pub use Rattle.rtcp_timer.proofs.Following.{next_follows as schedule_follows_departures-next}
 pub use Rattle.rtcp_timer.proofs.Following.{known_follows as schedule_follows_departures-known}

@@ -1,6 +1,6 @@
 -- Senders have the shorter of two intervals, and the others the longer.
 use Rattle.std.proofs.Common.{◌≡◌, ℕ, ◌+◌, ◌-◌, ◌*◌, ◌<◌, ◌≤◌, Bool, true, false, nat_le, max, min, if◌then◌else◌, refl, sym, ap, ◌∙◌, subst, arith}
-use Rattle.std.proofs.Math.Nat.{le_trans, mul-le-mul_right, le_of_mul-le-mul_right, max-eq_left, max-eq_right, min-eq_left, min-eq_right}
+use Rattle.std.proofs.Math.Nat.{le_trans, mul-le-mul_left, mul-le-mul_right, le_of_mul-le-mul_right, max-eq_left, max-eq_right, min-eq_left, min-eq_right}
 use Rattle.std.proofs.lemmas.Bool.{leb-true}
 use Rattle.std.proofs.lemmas.Bool.Decides.{nat_tests}
 use Rattle.rtcp_timer.specs.declared.load.Load.{Load}
@@ -92,3 +92,24 @@ module _ (load : Load) (some : 1 ≤ load.sender_bw) (some_more : 1 ≤ load.rec
   pub of_another : load.we_sent ≡ false → interval_of load ≡ max (minimum_of load.initial) (max of_others of_all)
   of_another is = ap (max (minimum_of load.initial))
       (shared ∙ ap (λ (b : Bool). if b then min of_senders of_all else max of_others of_all) is)
+
+-- ---- Less bandwidth
+
+-- Of a participant that is no sender, the interval is no shorter with less bandwidth.
+pub with_less : (load : Load) (sender_bw receiver_bw : ℕ) → load.we_sent ≡ false → load.senders ≤ load.members →
+    1 ≤ sender_bw → 1 ≤ receiver_bw → sender_bw ≤ load.sender_bw → receiver_bw ≤ load.receiver_bw →
+    interval_of load ≤ interval_of (record load { sender_bw = sender_bw; receiver_bw = receiver_bw })
+with_less load sender_bw receiver_bw is members some some_more fewer fewer_more =
+    let less : Load = record load { sender_bw = sender_bw; receiver_bw = receiver_bw } in
+    let left : ℕ = load.members - load.senders in
+    let before = of_another load (omega (arith, some, fewer)) (omega (arith, some_more, fewer_more)) members is in
+    let after = of_another less some some_more members is in
+    let others : interval_for left load.receiver_bw load ≤ interval_for left receiver_bw load =
+    no_longer load left load.receiver_bw left receiver_bw (omega (arith, some_more, fewer_more)) some_more
+    (mul-le-mul_left left fewer_more) in
+    let everyone : interval_for load.members (load.sender_bw + load.receiver_bw) load
+    ≤ interval_for load.members (sender_bw + receiver_bw) load =
+    no_longer load load.members (load.sender_bw + load.receiver_bw) load.members (sender_bw + receiver_bw)
+    (omega (arith, some, fewer)) (omega (arith, some)) (mul-le-mul_left load.members (omega (arith, fewer, fewer_more)))
+    in
+    omega (arith, before, after, others, everyone)

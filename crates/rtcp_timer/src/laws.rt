@@ -48,6 +48,14 @@ pub fn senders_have_the_shorter_interval()
         (interval_for load.members (load.sender_bw + load.receiver_bw) load)) }
 {}
 
+/// Of a participant that is no sender, the interval is no shorter with less bandwidth (RFC 3550, 6.3.1).
+#[tactic(auto, using(crate::proofs::Sides::with_less))]
+pub fn less_bandwidth_waits_longer()
+    ensures { (load : Load) (sender_bw receiver_bw : ℕ) → load.we_sent ≡ false → load.senders ≤ load.members →
+        1 ≤ sender_bw → 1 ≤ receiver_bw → sender_bw ≤ load.sender_bw → receiver_bw ≤ load.receiver_bw →
+        interval_of load ≤ interval_of (record load { sender_bw = sender_bw; receiver_bw = receiver_bw }) }
+{}
+
 /// The deterministic interval is never below the minimum, by its definition (RFC 3550, 6.2).
 #[tactic(auto, using(crate::proofs::Sharing::has_minimum))]
 pub fn interval_has_minimum()
