@@ -1,24 +1,27 @@
 -- A participant that takes an act: in each phase, and in a history.
-use Rattle.std.proofs.Common.{◌≡◌, ℕ, ◌+◌, Bool, false, Option, Some, None, option_map, Ok, Err, refl, sym, ap, ◌∙◌, subst, arith}
+use Rattle.std.proofs.Common.{◌≡◌, ℕ, ◌+◌, Bool, false, List, Option, Some, None, option_map, Ok, Err, refl, sym, ap, ◌∙◌, subst, arith}
 use Rattle.std.specs.Option.{option_or}
+use Rattle.rtcp_engine.specs.declared.changes.Change.{Change}
+use Rattle.rtcp_engine.specs.declared.pace.Pace.{Pace}
 use Rattle.rtcp_engine.specs.declared.refusal.Refusal.{Refusal}
-use Rattle.rtcp_engine.specs.Setups.{Setup}
-use Rattle.rtcp_engine.specs.Acts.{Act, moment_of}
+use Rattle.rtcp_engine.specs.Setups.{Setup, SettingsValue, settings_of, with_settings}
+use Rattle.rtcp_engine.specs.Acts.{Act, configured, moment_of}
 use Rattle.rtcp_engine.specs.Leaving.{Backoff, Life, present, backing_off, gone, leaving_count}
 use Rattle.rtcp_engine.specs.Lives.{lived, others_moved_by, others_moved_into, out_by, out_while_backing_off, out_while_present, step_into, while_backing_off, while_present}
 use Rattle.rtcp_engine.specs.Outcomes.{Outcome}
 use Rattle.rtcp_engine.specs.Changes.{NewIdentifier, Session, bye_of_change, change_by, changed_by}
-use Rattle.rtcp_engine.specs.Histories.{History, life_at, session_at, setup_at, with_act}
-use Rattle.rtcp_engine.specs.Refusals.{refusal_after, refusal_of_datagram}
+use Rattle.rtcp_engine.specs.Histories.{History, life_at, session_at, settings_after, setup_after, setup_at, with_act}
+use Rattle.rtcp_engine.specs.Refusals.{refusal_after, refusal_of_content}
 use Rattle.rtcp_engine.specs.Answers.{answer_of, step_by}
 use Rattle.rtcp_engine.specs.Promises.{Takes as Promised}
-use Rattle.rtcp_engine.specs.States.{State, Acts, Agrees, Does, IsAt, IsIn, Moves, Stays, ParticipantValue, StandsAt, Waits, called, leaving, over, refusal_by, taking_part}
+use Rattle.rtcp_engine.specs.States.{State, Acts, Agrees, Does, StandsStill, IsAt, IsIn, IsPaceOf, Moves, Stays, ParticipantValue, PhaseValue, StandsAt, Waits, called, leaving, over, refusal_by, taking_part, with_settings_in}
 use Rattle.rtcp_engine.specs.Steps.{OutValue, StepValue, answer_unless}
 use Rattle.rtcp_engine.specs.Taken.{HasWords}
 use Rattle.rtcp_engine.proofs.Agreeing.{calls_agree, with_own}
 use Rattle.rtcp_engine.proofs.Bounded.{bounds_after}
 use Rattle.rtcp_engine.proofs.LifeLemmas.{is_taking_part, is_leaving, leaving_members}
 use Rattle.rtcp_engine.proofs.AnswerLemmas.{refusal_is, refused_answer, taken_history, whole_refused}
+use Rattle.rtcp_engine.proofs.RolesChanged.{none_since}
 
 -- ---- Phases
 
@@ -71,15 +74,26 @@ outside_at {p} {w} {q} {out} {moved} act is = subst (λ (x : ParticipantValue). 
 pub same_stays : (s : State) → Stays s s
 same_stays s = record { setup = refl; latest = refl; calls = refl }
 
+-- an act that gives no settings
+abbrev pub IsPlain : Act → Type 0
+IsPlain act = (settings : SettingsValue) → settings_after act settings ≡ settings
+
+setup_stays : (act : Act) {old new : State} → IsPlain act → Stays old new → new.setup ≡ setup_after act old.setup
+setup_stays act {old} {new} plain stays =
+    stays.setup ∙ sym (ap (λ (settings : SettingsValue). with_settings settings old.setup)
+    (plain (settings_of old.setup)))
+
 -- what one does that takes part
-pub acts_from_present : {p q : ParticipantValue} {act : Act} {out : Option OutValue} {moved : Bool} →
+pub acts_from_present : {p q : ParticipantValue} {act : Act} {out : Option OutValue} {moved : Bool} → IsPlain act →
     p.phase ≡ taking_part → Stays p.presence q.presence → q.changes ≡ p.changes
     → ((outcome : Outcome) → Agrees p.presence outcome → IsAt q (while_present p.presence.setup act outcome)) →
     ((outcome : Outcome) → Agrees p.presence outcome → out ≡ out_while_present p.presence.setup act outcome)
     → ((outcome : Outcome) → Agrees p.presence outcome → moved ≡ others_moved_into p.presence.setup outcome
     (while_present p.presence.setup act outcome)) → Acts p q act out moved
-acts_from_present {p} {q} {act} {out} {moved} phase stays changes lives outs others = record {
-  stays = stays;
+acts_from_present {p} {q} {act} {out} {moved} plain phase stays changes lives outs others = record {
+  setup = setup_stays act plain stays;
+  latest = stays.latest;
+  calls = stays.calls;
   changes = changes;
   lives = at_present p phase (λ life. IsAt q (lived p.presence.setup act life)) lives;
   hands_out = at_present p phase (λ life. out ≡ out_by p.presence.setup act life) outs;
@@ -88,25 +102,29 @@ acts_from_present {p} {q} {act} {out} {moved} phase stays changes lives outs oth
 
 -- what one that goes on taking part does, by its step
 pub acts_present : {p q : ParticipantValue} {act : Act} {out : Option OutValue} {moved : Bool} {step : Setup → Outcome →
-    Outcome} → p.phase ≡ taking_part → q.phase ≡ taking_part → q.changes ≡ p.changes → Does p.presence q.presence step
+    Outcome} → IsPlain act → p.phase ≡ taking_part → q.phase ≡ taking_part → q.changes ≡ p.changes →
+    Does p.presence q.presence step
     → ((setup : Setup) (outcome : Outcome) → while_present setup act outcome ≡ present (step setup outcome)) →
     ((outcome : Outcome) → Agrees p.presence outcome → out ≡ out_while_present p.presence.setup act outcome) →
     Moves p.presence moved step → Acts p q act out moved
-acts_present {p} {q} {act} {out} {moved} {step} phase new_phase changes does lives outs moves =
-    acts_from_present phase does.stays changes (λ outcome agrees. subst (IsAt q) (sym (lives p.presence.setup outcome))
+acts_present {p} {q} {act} {out} {moved} {step} plain phase new_phase changes does lives outs moves =
+    acts_from_present plain phase does.stays changes
+    (λ outcome agrees. subst (IsAt q) (sym (lives p.presence.setup outcome))
     (new_phase, does.follows outcome agrees)) outs
     (λ outcome agrees. moves outcome agrees ∙ ap (others_moved_into p.presence.setup outcome)
     (sym (lives p.presence.setup outcome)))
 
 -- what one does that backs off
-pub acts_from_backoff : {p q : ParticipantValue} {act : Act} {out : Option OutValue} (members : ℕ) →
+pub acts_from_backoff : {p q : ParticipantValue} {act : Act} {out : Option OutValue} → IsPlain act → (members : ℕ) →
     p.phase ≡ leaving members → Stays p.presence q.presence → q.changes ≡ p.changes
     → ((outcome : Outcome) (backoff : Backoff) → Waits p.presence outcome backoff → members ≡ leaving_count backoff →
     IsAt q (while_backing_off p.presence.setup act outcome backoff))
     → ((outcome : Outcome) (backoff : Backoff) → Waits p.presence outcome backoff → members ≡ leaving_count backoff →
     out ≡ out_while_backing_off p.presence.setup act outcome backoff) → Acts p q act out false
-acts_from_backoff {p} {q} {act} {out} members phase stays changes lives outs = record {
-  stays = stays;
+acts_from_backoff {p} {q} {act} {out} plain members phase stays changes lives outs = record {
+  setup = setup_stays act plain stays;
+  latest = stays.latest;
+  calls = stays.calls;
   changes = changes;
   lives = at_backing_off p members phase (λ life. IsAt q (lived p.presence.setup act life)) lives;
   hands_out = at_backing_off p members phase (λ life. out ≡ out_by p.presence.setup act life) outs;
@@ -115,25 +133,102 @@ acts_from_backoff {p} {q} {act} {out} members phase stays changes lives outs = r
 }
 
 -- what one that backs off passes by
-pub acts_passing : {p : ParticipantValue} {act : Act} (members : ℕ) → p.phase ≡ leaving members →
+pub acts_passing : {p : ParticipantValue} {act : Act} → IsPlain act → (members : ℕ) → p.phase ≡ leaving members →
     ((setup : Setup) (outcome : Outcome) (backoff : Backoff) →
     while_backing_off setup act outcome backoff ≡ backing_off outcome backoff)
     → ((setup : Setup) (outcome : Outcome) (backoff : Backoff) → out_while_backing_off setup act outcome backoff ≡ None)
     → Acts p p act None false
-acts_passing {p} {act} members phase lives outs =
-    acts_from_backoff members phase (same_stays p.presence) refl
+acts_passing {p} {act} plain members phase lives outs =
+    acts_from_backoff plain members phase (same_stays p.presence) refl
     (λ outcome backoff waits count. subst (IsAt p) (sym (lives p.presence.setup outcome backoff))
     (phase ∙ ap leaving count, waits))
     (λ outcome backoff waits count. sym (outs p.presence.setup outcome backoff))
 
-pub acts_gone : {p : ParticipantValue} {act : Act} → p.phase ≡ over → Acts p p act None false
-acts_gone {p} {act} phase = record {
-  stays = same_stays p.presence;
+pub acts_gone : {p : ParticipantValue} {act : Act} → IsPlain act → p.phase ≡ over → Acts p p act None false
+acts_gone {p} {act} plain phase = record {
+  setup = setup_stays act plain (same_stays p.presence);
+  latest = refl;
+  calls = refl;
   changes = refl;
   lives = at_gone p phase (λ life. IsAt p (lived p.presence.setup act life)) (λ outcome. phase);
   hands_out = at_gone p phase (λ life. None ≡ out_by p.presence.setup act life) (λ outcome. refl);
   others = at_gone p phase (λ life. false ≡ others_moved_by p.presence.setup act life) (λ outcome. refl);
 }
+
+-- ---- Settings
+
+set_still : (settings : SettingsValue) (pace : Option Pace) (s : State) (o : Outcome) {paces : List Pace} →
+    StandsStill s o → StandsStill (with_settings_in settings pace s) (record o { paces = paces })
+set_still settings pace s o still = record {
+  table = still.table;
+  capacity = still.capacity;
+  own = still.own;
+  cursor = still.cursor;
+  reports = still.reports;
+}
+
+-- what one does that is given settings
+pub acts_configured : {p : ParticipantValue} (settings : SettingsValue) (pace : Option Pace) →
+    IsPaceOf p.presence pace →
+    Acts p (record p { presence = with_settings_in settings pace p.presence }) (configured p.presence.latest settings)
+    None false
+acts_configured {p} settings pace paced = record {
+  setup = refl;
+  latest = refl;
+  calls = refl;
+  changes = refl;
+  lives = lives;
+  hands_out = outs;
+  others = moves;
+}
+  where
+    act : Act
+    act = configured p.presence.latest settings
+
+    q : ParticipantValue
+    q = record p { presence = with_settings_in settings pace p.presence }
+
+    lives : (life : Life) → IsAt p life → IsAt q (lived p.presence.setup act life)
+    lives (present outcome) at = (
+      at.0,
+      record {
+        timing = at.1.timing;
+        average = at.1.average;
+        pace = paced outcome at.1;
+        still = set_still settings pace p.presence outcome at.1.still;
+      },
+    )
+    lives (backing_off outcome backoff) at = (
+      at.0,
+      record {
+        timing = at.1.timing;
+        average = at.1.average;
+        still = set_still settings pace p.presence outcome at.1.still;
+      },
+    )
+    lives (gone outcome) at = at
+
+    outs : (life : Life) → IsAt p life → None ≡ out_by p.presence.setup act life
+    outs (present outcome) at = refl
+    outs (backing_off outcome backoff) at = refl
+    outs (gone outcome) at = refl
+
+    moves : (life : Life) → IsAt p life → false ≡ others_moved_by p.presence.setup act life
+    moves (present outcome) at = none_since _ outcome.trace
+    moves (backing_off outcome backoff) at = refl
+    moves (gone outcome) at = refl
+
+-- the same of one that another became
+pub acts_set : {phase : PhaseValue} {changes : List Change} {old new : State} (settings : SettingsValue) →
+    new ≡ with_settings_in settings new.pace old → IsPaceOf old new.pace → let p : ParticipantValue = record {
+      presence = old;
+      phase = phase;
+      changes = changes;
+    } in Acts p (record p { presence = new }) (configured old.latest settings) None false
+acts_set {phase} {changes} {old} {new} settings is paced =
+    let p : ParticipantValue = record { presence = old; phase = phase; changes = changes } in
+    subst (λ (s : State). Acts p (record p { presence = s }) (configured old.latest settings) None false) (sym is)
+    (acts_configured settings new.pace paced)
 
 -- a counted call leaves a participant where it is
 call_keeps : (moment : ℕ) (p : ParticipantValue) (life : Life) → IsAt p life → IsAt (called moment p) life
@@ -174,14 +269,14 @@ acted_stands {p} {mid} {q} {act} {out} {moved} h change stands takes words at ca
         taken = (takes.taken, words, stands.is_history.taken);
       };
       session = subst (λ (c : Option NewIdentifier). let s = changed_by c (session_at h) in
-          IsIn q (record s { life = lived s.setup act s.life })) (sym takes.changes)
+          IsIn q (record s { setup = setup_after act s.setup; life = lived s.setup act s.life })) (sym takes.changes)
           (record {
-            setup = acts.stays.setup ∙ at.setup;
+            setup = acts.setup ∙ ap (setup_after act) at.setup;
             changes = acts.changes ∙ at.changes;
             life = subst (λ (setup : Setup). IsAt q (lived setup act now.life)) at.setup lives;
           });
-      latest = acts.stays.latest;
-      calls = acts.stays.calls ∙ ap (λ (n : ℕ). n + 1) (calls ∙ stands.calls) ∙ omega arith;
+      latest = acts.latest;
+      calls = acts.calls ∙ ap (λ (n : ℕ). n + 1) (calls ∙ stands.calls) ∙ omega arith;
     }
 
 pub acted_step : {mid q : ParticipantValue} {act : Act} {out : Option OutValue} {moved : Bool} (h : History)
@@ -246,12 +341,18 @@ refuses p act reason is words = record {
 pub call_refused : {p : ParticipantValue} (act : Act) {reason : Refusal} → refusal_by (moment_of act) p ≡ Some reason →
     HasWords act → Promised p act (Err reason) p
 call_refused {p} act {reason} same words =
-    refuses p act reason (λ h stands. refusal_is p h act (Some reason) (refusal_of_datagram (session_at h) act) stands
+    refuses p act reason (λ h stands. refusal_is p h act (Some reason) (refusal_of_content (session_at h) act) stands
     same refl) words
+
+-- a call that is refused for what it tells
+pub content_refused : (p : ParticipantValue) (act : Act) (reason : Refusal) → refusal_by (moment_of act) p ≡ None →
+    ((session : Session) → refusal_of_content session act ≡ Some reason) → HasWords act → Promised p act (Err reason) p
+content_refused p act reason none content words =
+    refuses p act reason (λ h stands. refusal_is p h act None (Some reason) stands none (content (session_at h))) words
 
 -- a call of the host without a datagram
 pub plain_call : (p : ParticipantValue) (act : Act) → refusal_by (moment_of act) p ≡ None →
-    ((session : Session) → refusal_of_datagram session act ≡ None) →
+    ((session : Session) → refusal_of_content session act ≡ None) →
     ((session : Session) → change_by session act ≡ None) → (h : History) → StandsAt p h → Takes h act None
 plain_call p act none datagram unchanged h stands =
     record {

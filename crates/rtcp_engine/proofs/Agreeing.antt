@@ -6,7 +6,7 @@ use Rattle.rtcp_wire.specs.RtpHeads.{RtpValue}
 use Rattle.rtcp_wire.specs.Writing.{written_all}
 use Rattle.rtcp_members.specs.Traces.{TraceStep, with_facts}
 use Rattle.rtcp_members.specs.Entries.{members_at, senders_at, counted_at}
-use Rattle.rtcp_members.specs.Tables.{StandsAt as IsTableAt, counted, after_facts, members_in, senders_in}
+use Rattle.rtcp_members.specs.Tables.{StandsAt as IsTableAt, counted, after_facts, members_in, senders_in, after_forgetting}
 use Rattle.rtcp_members.specs.Pending.{EntryRow, pending, after_blocks, blocks_of, last_reported}
 use Rattle.rtcp_members.specs.News.{pending_rows_at}
 use Rattle.std.specs.FinMap as finite
@@ -25,16 +25,16 @@ use Rattle.rtcp_engine.specs.OwnStreams.{OwnStep, OwnValue, Adds, own_of, report
 use Rattle.rtcp_engine.specs.Outcomes.{Outcome, Report, one_if, member_count, sender_count, is_initial, load_of}
 use Rattle.rtcp_engine.specs.Reporting.{last_reported_in, reporter_at, reporter_by, reported_at, report_octets}
 use Rattle.rtcp_engine.specs.Ticks as ticks
-use Rattle.rtcp_engine.specs.Arrivals.{media_fact, facts_of_media, with_media}
+use Rattle.rtcp_engine.specs.Arrivals.{media_fact, facts_of_media, rate_of, with_media}
 use Rattle.rtcp_engine.specs.States.{State, Agrees, StandsStill, with_call}
 use Rattle.rtcp_engine.proofs.LawLemmas.{last_block_is_newest}
 
 -- ---- Counts and intervals
 
 pub others_agree : (s : State) (o : Outcome) → Agrees s o →
-    members_in s.table ≡ members_at s.setup.capacity s.setup.rate o.trace
+    members_in s.table ≡ members_at s.setup.capacity o.trace
 others_agree s o a = tables.counts_agree-members s.table o.trace a.still.table
-    ∙ (λ i. members_at (a.still.capacity i) (a.still.rate i) o.trace)
+    ∙ (λ i. members_at (a.still.capacity i) o.trace)
 
 pub members_agree : (s : State) (o : Outcome) → Agrees s o → 1 + members_in s.table ≡ member_count s.setup o
 members_agree s o a = ap (λ (n : ℕ). 1 + n) (others_agree s o a)
@@ -48,30 +48,27 @@ entries_agree s o a = tables.counts_agree-entries s.table o.trace a.still.table
     ∙ ap (λ (c : ℕ). present_among (names o.trace) (stay_of c o.trace)) a.still.capacity
 
 pub tells_agree : (s : State) (o : Outcome) → Agrees s o → (after : Option ℕ) (told : Option StateValue) →
-    told ≡ state_above after s.table → TellsAbove after s.setup.capacity s.setup.rate o.trace told
+    told ≡ state_above after s.table → TellsAbove after s.setup.capacity o.trace told
 tells_agree s o a after told is =
-    subst (λ (r : ℕ). TellsAbove after s.setup.capacity r o.trace told) a.still.rate
-    (subst (λ (c : ℕ). TellsAbove after c s.table.rate o.trace told) a.still.capacity
-    (subst (λ (t : Option StateValue). TellsAbove after s.table.capacity s.table.rate o.trace t) (sym is)
-    (tables.told_follows_traces-told after s.table o.trace a.still.table)))
+    subst (λ (c : ℕ). TellsAbove after c o.trace told) a.still.capacity
+    (subst (λ (t : Option StateValue). TellsAbove after s.table.capacity o.trace t) (sym is)
+    (tables.told_follows_traces-told after s.table o.trace a.still.table))
 
 pub walks_agree : (s : State) (o : Outcome) → Agrees s o → (states : List StateValue) →
-    states ≡ states_above None s.table → IsWalk None s.setup.capacity s.setup.rate o.trace states
+    states ≡ states_above None s.table → IsWalk None s.setup.capacity o.trace states
 walks_agree s o a states is =
-    subst (λ (r : ℕ). IsWalk None s.setup.capacity r o.trace states) a.still.rate
-    (subst (λ (c : ℕ). IsWalk None c s.table.rate o.trace states) a.still.capacity
-    (subst (λ (l : List StateValue). IsWalk None s.table.capacity s.table.rate o.trace l) (sym is)
-    (tables.tables_tell_walks-walk None s.table o.trace a.still.table)))
+    subst (λ (c : ℕ). IsWalk None c o.trace states) a.still.capacity
+    (subst (λ (l : List StateValue). IsWalk None s.table.capacity o.trace l) (sym is)
+    (tables.tables_tell_walks-walk None s.table o.trace a.still.table))
 
 pub senders_agree : (s : State) (o : Outcome) → Agrees s o → senders_in s.table + one_if (is_some s.own.sending)
     ≡ sender_count s.setup o
 senders_agree s o a =
     let counts = tables.counts_agree-senders s.table o.trace a.still.table in
-    let table : senders_in s.table ≡ senders_at s.setup.capacity s.setup.rate o.trace = counts
-    ∙ ap (λ (c : ℕ). senders_at c s.table.rate o.trace) a.still.capacity
-    ∙ ap (λ (r : ℕ). senders_at s.setup.capacity r o.trace) a.still.rate in
+    let table : senders_in s.table ≡ senders_at s.setup.capacity o.trace = counts
+    ∙ ap (λ (c : ℕ). senders_at c o.trace) a.still.capacity in
     ap (λ (n : ℕ). n + one_if (is_some s.own.sending)) table
-    ∙ ap (λ (b : Bool). senders_at s.setup.capacity s.setup.rate o.trace + one_if b) (we_sent_agrees s o a)
+    ∙ ap (λ (b : Bool). senders_at s.setup.capacity o.trace + one_if b) (we_sent_agrees s o a)
 
 pub none_yet : (sent : List Report) → (length sent == 0) ≡ is_initial sent
 none_yet [] = refl
@@ -111,7 +108,6 @@ pub with_own : (s : State) (o : Outcome) {timing : Timing} {average latest calls
 with_own s o still same = record {
   table = still.table;
   capacity = still.capacity;
-  rate = still.rate;
   own = same;
   cursor = still.cursor;
   reports = still.reports;
@@ -119,7 +115,7 @@ with_own s o still same = record {
 
 pub calls_agree : (s : State) (o : Outcome) (t : ℕ) → Agrees s o → Agrees (with_call t s) o
 calls_agree s o t a =
-    record { timing = a.timing; average = a.average; still = with_own s o a.still a.still.own }
+    record { timing = a.timing; average = a.average; pace = a.pace; still = with_own s o a.still a.still.own }
 
 -- facts leave the source that was reported last
 facts_keep_cursor : (facts : List Fact) (t : ℕ) (trace : List TraceStep) →
@@ -135,12 +131,30 @@ facts_agree s o facts t a =
     record {
       timing = a.timing;
       average = a.average;
+      pace = a.pace;
       still = record {
         table = tables.tables_follow_traces-facts s.table o.trace facts t a.still.table;
         capacity = kept.capacity ∙ a.still.capacity;
-        rate = kept.rate ∙ a.still.rate;
         own = a.still.own;
         cursor = a.still.cursor ∙ sym (facts_keep_cursor facts t o.trace);
+        reports = a.still.reports;
+      };
+    }
+
+-- a source that is forgotten leaves the one that was reported last
+pub forgotten_agree : (s : State) (o : Outcome) (ssrc : ℕ) → Agrees s o →
+    Agrees (record s { table = after_forgetting ssrc s.table }) (ticks.with_forgotten ssrc o)
+forgotten_agree s o ssrc a =
+    let kept = tables.bounds_are_kept-forgotten s.table ssrc in
+    record {
+      timing = a.timing;
+      average = a.average;
+      pace = a.pace;
+      still = record {
+        table = tables.tables_follow_traces-forgotten s.table o.trace ssrc a.still.table;
+        capacity = kept.capacity ∙ a.still.capacity;
+        own = a.still.own;
+        cursor = a.still.cursor;
         reports = a.still.reports;
       };
     }
@@ -150,6 +164,7 @@ pub sizes_agree : (s : State) (o : Outcome) (size : ℕ) → Agrees s o →
 sizes_agree s o size a = record {
   timing = a.timing;
   average = ap (λ (n : ℕ). moved_average n size) a.average;
+  pace = a.pace;
   still = with_own s o a.still a.still.own;
 }
 
@@ -157,16 +172,17 @@ sizes_agree s o size a = record {
 
 pub media_agree : (s : State) (o : Outcome) (t : ℕ) (head : RtpValue) → Agrees s o →
     Agrees (record s {
-      table = after_facts (facts_of_media s.setup.ssrc head (counted s.table (media_fact head))) t
+      table = after_facts (facts_of_media s.setup.ssrc (rate_of s.setup head) head
+          (counted s.table (media_fact (rate_of s.setup head) head))) t
           s.table;
     }) (with_media s.setup t head o)
 media_agree s o t head a =
-    let counts = tables.counts_agree-counted s.table o.trace (media_fact head) a.still.table in
-    let same : counted s.table (media_fact head) ≡ counted_at s.setup.capacity s.setup.rate o.trace (media_fact head) =
-    counts ∙ ap (λ (c : ℕ). counted_at c s.table.rate o.trace (media_fact head)) a.still.capacity
-    ∙ ap (λ (r : ℕ). counted_at s.setup.capacity r o.trace (media_fact head)) a.still.rate in
-    let facts : Bool → List Fact = facts_of_media s.setup.ssrc head in
-    let is_counted = counted s.table (media_fact head) in
+    let counts = tables.counts_agree-counted s.table o.trace (media_fact (rate_of s.setup head) head) a.still.table in
+    let same : counted s.table (media_fact (rate_of s.setup head) head) ≡ counted_at s.setup.capacity o.trace
+    (media_fact (rate_of s.setup head) head) =
+    counts ∙ ap (λ (c : ℕ). counted_at c o.trace (media_fact (rate_of s.setup head) head)) a.still.capacity in
+    let facts : Bool → List Fact = facts_of_media s.setup.ssrc (rate_of s.setup head) head in
+    let is_counted = counted s.table (media_fact (rate_of s.setup head) head) in
     subst (λ (b : Bool). Agrees (record s { table = after_facts (facts is_counted) t s.table })
     (record o { trace = with_facts (facts b) t o.trace })) same
     (facts_agree s o (facts is_counted) t a)
@@ -187,12 +203,11 @@ reporters_agree : (s : State) (o : Outcome) (t : ℕ) → Agrees s o → reporte
 reporters_agree s o t a = λ i. reporter_by s.setup (a.still.own i) (a.still.reports i + 1) t
 
 pending_agree : (s : State) (o : Outcome) → Agrees s o →
-    pending s.cursor s.table ≡ pending_rows_at (last_reported_in o.trace) s.setup.capacity s.setup.rate o.trace
+    pending s.cursor s.table ≡ pending_rows_at (last_reported_in o.trace) s.setup.capacity o.trace
 pending_agree s o a =
     ap (λ (c : Option ℕ). pending c s.table) a.still.cursor
     ∙ tables.turns_follow_traces-rows (last_reported_in o.trace) s.table o.trace a.still.table
-    ∙ ap (λ (c : ℕ). pending_rows_at (last_reported_in o.trace) c s.table.rate o.trace) a.still.capacity
-    ∙ ap (λ (r : ℕ). pending_rows_at (last_reported_in o.trace) s.setup.capacity r o.trace) a.still.rate
+    ∙ ap (λ (c : ℕ). pending_rows_at (last_reported_in o.trace) c o.trace) a.still.capacity
 
 pub rows_agree : (s : State) (o : Outcome) (t : ℕ) → Agrees s o → rows_in t s ≡ reported_at s.setup t o
 rows_agree s o t a =
@@ -221,13 +236,13 @@ sent_reports_agree s o t own adds a =
       average = ap (λ (n : ℕ). moved_average n (length (octets_in t s))) a.average
           ∙ ap (λ (octets : List ℕ). moved_average (Rattle.rtcp_engine.specs.Outcomes.average_size s.setup o)
           (length octets)) (octets_agree s o t a);
+      pace = a.pace;
       still = record {
         table = subst (λ (rs : List EntryRow). IsTableAt (after_blocks (rows_in t s) s.table) (with_blocks rs o.trace))
             rows
             (reports.tables_follow_reports-stands (reporter_in t s) s.setup.limit s.cursor s.table o.trace
             a.still.table);
         capacity = kept.capacity ∙ a.still.capacity;
-        rate = kept.rate ∙ a.still.rate;
         own = adds o.own a.still.own;
         cursor = ap (λ (c : Option ℕ). last_reported c (rows_in t s)) a.still.cursor
             ∙ ap (last_reported (last_reported_in o.trace)) rows

@@ -1,11 +1,11 @@
 -- What a call comes to: whether it is refused, what is answered, and where the participant stands after it.
-use Rattle.std.proofs.Common.{◌≡◌, length, Option, Some, None, Err, sym, ap, ◌∙◌, subst}
+use Rattle.std.proofs.Common.{◌≡◌, length, Option, Some, None, Err, refl, sym, ap, ◌∙◌, subst}
 use Rattle.std.specs.Option.{option_or}
 use Rattle.rtcp_engine.specs.declared.refusal.Refusal.{Refusal}
 use Rattle.rtcp_engine.specs.Acts.{Act, moment_of}
 use Rattle.rtcp_engine.specs.Leaving.{Life, present, backing_off, gone}
 use Rattle.rtcp_engine.specs.Histories.{History, last_moment, life_at, session_at, with_act}
-use Rattle.rtcp_engine.specs.Refusals.{call_refusal, refusal_after, refusal_in, refusal_of_datagram}
+use Rattle.rtcp_engine.specs.Refusals.{call_refusal, refusal_after, refusal_in, refusal_of, refusal_of_content}
 use Rattle.rtcp_engine.specs.Steps.{answer_unless}
 use Rattle.rtcp_engine.specs.Answers.{step_by, answer_of, followed_by}
 use Rattle.rtcp_engine.specs.States.{PhaseValue, ParticipantValue, IsAt, StandsAt, refusal_by, refusal_in_phase}
@@ -23,14 +23,29 @@ refusal_at p (gone outcome) at call datagram =
 
 -- A participant refuses what its history refuses: as any call then, or for the datagram.
 pub refusal_is : (p : ParticipantValue) (h : History) (act : Act) (call datagram : Option Refusal) → StandsAt p h →
-    refusal_by (moment_of act) p ≡ call → refusal_of_datagram (session_at h) act ≡ datagram →
+    refusal_by (moment_of act) p ≡ call → refusal_of_content (session_at h) act ≡ datagram →
     refusal_after h act ≡ option_or call datagram
 refusal_is p h act call datagram stands calls datagrams =
-    let own = refusal_of_datagram (session_at h) act in
+    let own = refusal_of_content (session_at h) act in
     refusal_at p (life_at h) stands.session.life (call_refusal (moment_of act) (last_moment h.acts) (length h.acts)) own
     ∙ (λ i. option_or (refusal_in_phase p.phase
     (call_refusal (moment_of act) (sym stands.latest i) (sym stands.calls i))) own)
     ∙ (λ i. option_or (calls i) (datagrams i))
+
+none_before : (life : Life) (refusal : Option Refusal) → refusal_in life refusal ≡ None → refusal ≡ None
+none_before (present outcome) refusal none = none
+none_before (backing_off outcome backoff) refusal none = none
+none_before (gone outcome) refusal none = absurd cc
+
+pub neither : (first second : Option Refusal) → option_or first second ≡ None → (first ≡ None) × (second ≡ None)
+neither None second none = (refl, none)
+neither (Some refusal) second none = absurd cc
+
+-- an act that is taken is refused neither as any act then nor for its datagram
+pub unrefused : (history : History) (act : Act) → refusal_after history act ≡ None →
+    (call_refusal (moment_of act) (last_moment history.acts) (length history.acts) ≡ None)
+    × (refusal_of_content (session_at history) act ≡ None)
+unrefused history act none = neither _ _ (none_before (life_at history) (refusal_of history act) none)
 
 -- ---- Answers
 

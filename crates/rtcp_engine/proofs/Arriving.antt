@@ -12,7 +12,7 @@ use Rattle.rtcp_engine.specs.Identities.{may_change}
 use Rattle.rtcp_engine.specs.Changes.{NewIdentifier, Session, changing_peers, is_about, new_identifier}
 use Rattle.rtcp_engine.specs.Histories.{History, session_at}
 use Rattle.rtcp_engine.specs.Promises.{PassesOn, Takes as Promised}
-use Rattle.rtcp_engine.specs.Refusals.{fault_in, refusal_after, refusal_if, refusal_of_datagram}
+use Rattle.rtcp_engine.specs.Refusals.{fault_in, refusal_after, refusal_if, refusal_of_content}
 use Rattle.rtcp_engine.specs.Setups.{Setup}
 use Rattle.rtcp_engine.specs.States.{KeepsCapacity, ParticipantValue, StandsAt, refusal_by}
 use Rattle.rtcp_engine.specs.Views.{datagram_of}
@@ -27,7 +27,7 @@ no_fault (Rtp head) = refl
 -- It is refused for its own identifier alone.
 own_alone : (session : Session) (t peer word : ℕ) (arrival : Arrival) (own may : Bool) →
     is_about session.setup.ssrc (datagram_of arrival) ≡ own → may_change (changing_peers session) peer ≡ may
-    → refusal_of_datagram session (arrived t peer word (datagram_of arrival)) ≡ refusal_if (own && not may) OwnSsrc
+    → refusal_of_content session (arrived t peer word (datagram_of arrival)) ≡ refusal_if (own && not may) OwnSsrc
 own_alone session t peer word arrival own may owns mays = λ i. option_or (no_fault arrival i)
     (refusal_if (owns i && not (mays i)) OwnSsrc)
 

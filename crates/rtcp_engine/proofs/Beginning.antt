@@ -31,7 +31,7 @@ first_load average sender_bw receiver_bw = record {
 -- a table and numbers as they are before any act
 pub record IsStart (setup : Setup) (word : ℕ) (table : TableValue) (timing : Timing) (average : ℕ) (own : OwnValue) :
     Type 0 where
-  pub is_table : table ≡ no_members setup.capacity setup.rate
+  pub is_table : table ≡ no_members setup.capacity
   pub is_average : average ≡ average_of (first_size_of setup) []
   pub is_timing : timing ≡ schedule_at
       (transmitted 0 (drawn_interval (interval_of (first_load average setup.sender_bw setup.receiver_bw)) word) 1 ∷ [])
@@ -39,15 +39,15 @@ pub record IsStart (setup : Setup) (word : ℕ) (table : TableValue) (timing : T
 
 pub start_is_sound : (setup : Setup) (word : ℕ) (table : TableValue) (timing : Timing) (average : ℕ) (own : OwnValue) →
     IsUsable setup →
-    IsStart setup word table timing average own → IsSound (state_with setup table timing average own None 0 0 0)
+    IsStart setup word table timing average own → IsSound (state_with setup table timing average own None None 0 0 0)
 start_is_sound setup word table timing average own usable start = record {
   usable = usable;
   capacity = ap (λ (t : TableValue). t.capacity) start.is_table;
-  rate = ap (λ (t : TableValue). t.rate) start.is_table;
   room = subst (λ (t : TableValue). Rattle.std.specs.FinMap.len t.entries ≤ setup.capacity) (sym start.is_table)
-      (tables.capacity_is_kept-none setup.capacity setup.rate);
+      (tables.capacity_is_kept-none setup.capacity);
   few = subst (Rattle.rtcp_members.specs.Tables.HasFew 0) (sym start.is_table)
-      (tables.packets_are_few-none setup.capacity setup.rate);
+      (tables.packets_are_few-none setup.capacity);
+  pace = tt;
   reports = omega arith;
   calls = omega arith;
   timing = subst (λ (t : Timing). t.last ≤ 0) (sym start.is_timing) (omega arith);
@@ -57,7 +57,7 @@ start_is_sound setup word table timing average own usable start = record {
 pub start_stands : (setup : Setup) (word : ℕ) (table : TableValue) (timing : Timing) (average : ℕ) (own : OwnValue) →
     IsUsable setup → word < 2 ^ 32 →
     IsStart setup word table timing average own →
-    StandsAt (newcomer (state_with setup table timing average own None 0 0 0)) (begun setup word)
+    StandsAt (newcomer (state_with setup table timing average own None None 0 0 0)) (begun setup word)
 start_stands setup word table timing average own usable word_fits start =
     let for_senders = setup.sender_bw in
     let for_others = setup.receiver_bw in
@@ -73,11 +73,11 @@ start_stands setup word table timing average own usable word_fits start =
                 (transmitted 0 (drawn_interval (interval_of (first_load a for_senders for_others)) word) 1 ∷ []))
                 start.is_average;
             average = start.is_average;
+            pace = refl;
             still = record {
               table = subst (λ (t : TableValue). Rattle.rtcp_members.specs.Tables.StandsAt t []) (sym start.is_table)
-                  (tables.tables_follow_traces-none setup.capacity setup.rate);
+                  (tables.tables_follow_traces-none setup.capacity);
               capacity = ap (λ (t : TableValue). t.capacity) start.is_table;
-              rate = ap (λ (t : TableValue). t.rate) start.is_table;
               own = start.is_own;
               cursor = refl;
               reports = refl;

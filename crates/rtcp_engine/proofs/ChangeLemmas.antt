@@ -58,7 +58,6 @@ changed_still : (s : State) (o : Outcome) (ssrc : ℕ) → StandsStill s o →
 changed_still s o ssrc still = record {
   table = still.table;
   capacity = still.capacity;
-  rate = still.rate;
   own = own_agrees s o.own still.own;
   cursor = still.cursor;
   reports = still.reports;
@@ -72,6 +71,7 @@ changed_agrees s o ssrc a = record {
       (heard_agrees s o.own a.still.own)
       ∙ ap (λ (n : ℕ). if has_sent o.own then moved_average n (length (bye_octets s.setup)) else n) a.average
       ∙ sizes_by (has_sent o.own) _ (length (bye_octets s.setup)) o.sizes;
+  pace = a.pace;
   still = with_own (after_change ssrc s) (counted_anew o) (changed_still s o ssrc a.still)
       (own_agrees s o.own a.still.own);
 }
@@ -171,10 +171,9 @@ changed_out p setup (gone outcome) at there same = absurd (there at)
 -- ---- Tables
 
 held_by_still : {s : State} {setup : Setup} (o : Outcome) (ssrc : ℕ) → StandsStill s o → s.setup ≡ setup →
-    is_some (finite.get s.table.entries ssrc) ≡ is_some (entry_at setup.capacity setup.rate o.trace ssrc)
+    is_some (finite.get s.table.entries ssrc) ≡ is_some (entry_at setup.capacity o.trace ssrc)
 held_by_still o ssrc still same = ap is_some (still.table ssrc) ∙ (λ i. is_some
-    (entry_at ((still.capacity ∙ ap (λ (s : Setup). s.capacity) same) i)
-    ((still.rate ∙ ap (λ (s : Setup). s.rate) same) i) o.trace ssrc))
+    (entry_at ((still.capacity ∙ ap (λ (s : Setup). s.capacity) same) i) o.trace ssrc))
 
 -- the table of a participant holds who is in the table of its session
 pub held_at : (p : ParticipantValue) (setup : Setup) (ssrc : ℕ) (life : Life) → IsAt p life → (p.phase ≡ over → ⊥) →

@@ -1,29 +1,45 @@
--- What a change of identifier leaves of a session.
-use Rattle.std.proofs.Common.{◌≡◌, ℕ, List, [], ◌∷◌, Option, Some, None, refl, sym, ap, ◌∙◌, subst}
+-- What a change of identifier, and other settings, leave of a session.
+use Rattle.std.proofs.Common.{◌≡◌, ℕ, List, [], ◌∷◌, Option, Some, None, option_map, refl, sym, ap, ◌∙◌, subst}
 use Rattle.std.specs.Option.{option_or}
-use Rattle.rtcp_engine.specs.Setups.{Setup, IsUsable}
-use Rattle.rtcp_engine.specs.Acts.{Act, arrived, rtp_sent, ticked, left}
+use Rattle.rtcp_engine.specs.declared.config.ConfigError.{ConfigError}
+use Rattle.rtcp_engine.specs.declared.refusal.Refusal.TheVariants.{Settings}
+use Rattle.rtcp_engine.specs.Setups.{Setup, SettingsValue, IsUsable, settings_of, with_settings}
+use Rattle.rtcp_engine.specs.Acts.{Act, arrived, rtp_sent, ticked, left, configured, forgotten}
 use Rattle.rtcp_engine.specs.Identities.{with_ssrc}
 use Rattle.rtcp_engine.specs.Leaving.{Life, present, backing_off, gone}
 use Rattle.rtcp_engine.specs.Lives.{out_by, own_bye}
 use Rattle.rtcp_engine.specs.Changes.{NewIdentifier, Session, change_by, changed_by, changed_to}
-use Rattle.rtcp_engine.specs.Histories.{session_of}
+use Rattle.rtcp_engine.specs.Histories.{session_of, settings_after, setup_after}
+use Rattle.rtcp_engine.specs.Refusals.{refusal_of_content}
+use Rattle.rtcp_engine.specs.Taken.{AllTaken}
+use Rattle.rtcp_engine.proofs.AnswerLemmas.{unrefused}
+use Rattle.rtcp_engine.proofs.Usable.{usable_with_settings}
 
 -- ---- Setups
 
+-- a setup that has the identifier and the settings of another one
+abbrev named_and_set_as : Setup → Setup → Setup
+named_and_set_as other setup = with_ssrc other.ssrc (with_settings (settings_of other) setup)
+
 ssrc_again : (setup : Setup) (session : Session) (change : Option NewIdentifier) →
-    session.setup ≡ with_ssrc session.setup.ssrc setup →
-    (changed_by change session).setup ≡ with_ssrc (changed_by change session).setup.ssrc setup
+    session.setup ≡ named_and_set_as session.setup setup →
+    (changed_by change session).setup ≡ named_and_set_as (changed_by change session).setup setup
 ssrc_again setup session None same = same
 ssrc_again setup session (Some new) same = ap (with_ssrc new.ssrc) same
 
--- The setup of a session is the one it began with, but for the identifier.
-pub same_but_ssrc : (setup : Setup) (word : ℕ) (acts : List Act) →
-    (session_of setup word acts).setup ≡ with_ssrc (session_of setup word acts).setup.ssrc setup
-same_but_ssrc setup word [] = refl
-same_but_ssrc setup word (act ∷ earlier) =
+set_again : (setup : Setup) (act : Act) (now : Setup) → now ≡ named_and_set_as now setup →
+    setup_after act now ≡ named_and_set_as (setup_after act now) setup
+set_again setup act now same = ap (with_settings (settings_after act (settings_of now))) same
+
+-- The setup of a session is the one it began with, but for the identifier and the settings.
+pub same_but_name_and_settings : (setup : Setup) (word : ℕ) (acts : List Act) →
+    let now = (session_of setup word acts).setup in now ≡ with_ssrc now.ssrc (with_settings (settings_of now) setup)
+same_but_name_and_settings setup word [] = refl
+same_but_name_and_settings setup word (act ∷ earlier) =
     let before = session_of setup word earlier in
-    ssrc_again setup before (change_by before act) (same_but_ssrc setup word earlier)
+    let change = change_by before act in
+    set_again setup act (changed_by change before).setup
+    (ssrc_again setup before change (same_but_name_and_settings setup word earlier))
 
 -- A setup under another identifier is as usable.
 pub usable_with_ssrc : (ssrc : ℕ) (setup : Setup) → IsUsable setup → IsUsable (with_ssrc ssrc setup)
@@ -35,14 +51,40 @@ usable_with_ssrc ssrc setup u = record {
   for_senders = u.for_senders;
   for_others = u.for_others;
   rate = u.rate;
+  clocks = u.clocks;
   few_extras = u.few_extras;
   extras = u.extras;
 }
 
-pub usable_in : (setup : Setup) (word : ℕ) (acts : List Act) → IsUsable setup →
+change_usable : (session : Session) (change : Option NewIdentifier) → IsUsable session.setup →
+    IsUsable (changed_by change session).setup
+change_usable session None usable = usable
+change_usable session (Some new) usable = usable_with_ssrc new.ssrc session.setup usable
+
+no_error : (error : Option ConfigError) → option_map Settings error ≡ None → error ≡ None
+no_error None none = refl
+no_error (Some error) none = absurd cc
+
+-- Settings that are taken leave a setup as usable.
+usable_after : (session : Session) (act : Act) (setup : Setup) → IsUsable setup →
+    refusal_of_content session act ≡ None → IsUsable (setup_after act setup)
+usable_after session (arrived moment peer word datagram) setup usable none = usable
+usable_after session (rtp_sent moment timestamp octets) setup usable none = usable
+usable_after session (ticked moment first_word second_word) setup usable none = usable
+usable_after session (left moment word) setup usable none = usable
+usable_after session (forgotten moment ssrc) setup usable none = usable
+usable_after session (configured moment settings) setup usable none =
+    usable_with_settings settings setup usable (no_error _ none)
+
+pub usable_in : (setup : Setup) (word : ℕ) (acts : List Act) → IsUsable setup → AllTaken setup word acts →
     IsUsable (session_of setup word acts).setup
-usable_in setup word acts usable = subst IsUsable (sym (same_but_ssrc setup word acts))
-    (usable_with_ssrc _ setup usable)
+usable_in setup word [] usable taken = usable
+usable_in setup word (act ∷ earlier) usable taken =
+    let before = session_of setup word earlier in
+    let change = change_by before act in
+    usable_after before act (changed_by change before).setup
+    (change_usable before change (usable_in setup word earlier usable taken.2))
+    (unrefused (record { setup = setup; word = word; acts = earlier }) act taken.0).1
 
 -- ---- What is handed out
 
@@ -58,6 +100,8 @@ nothing_more session (arrived moment peer word datagram) new is setup (backing_o
 nothing_more session (rtp_sent moment timestamp octets) new is setup life = absurd cc
 nothing_more session (ticked moment first_word second_word) new is setup life = absurd cc
 nothing_more session (left moment word) new is setup life = absurd cc
+nothing_more session (configured moment settings) new is setup life = absurd cc
+nothing_more session (forgotten moment ssrc) new is setup life = absurd cc
 nothing_more session act new is setup (gone outcome) = refl
 
 pub bye_alone : (session : Session) (act : Act) (new : NewIdentifier) → change_by session act ≡ Some new →

@@ -2,7 +2,7 @@
 use Rattle.std.proofs.Common.{◌≡◌, ℕ, ◌&&◌, Bool, true, false, is_some, nat_le, List, [], ◌∷◌, ◌++◌, map, Option, Some, None, option_map, Ok, Err, if◌then◌else◌, refl, sym, ap, ◌∙◌}
 use Rattle.std.specs.Option.{option_or}
 use Rattle.rtcp_engine.specs.Setups.{Setup}
-use Rattle.rtcp_engine.specs.Acts.{rtcp, rtp, Act, arrived, rtp_sent, ticked, left, moment_of}
+use Rattle.rtcp_engine.specs.Acts.{rtcp, rtp, Act, arrived, rtp_sent, ticked, left, configured, moment_of, forgotten}
 use Rattle.rtcp_engine.specs.OwnStreams.{has_sent}
 use Rattle.rtcp_engine.specs.Outcomes.{Outcome, Report, interval_at, member_count}
 use Rattle.rtcp_engine.specs.Ticks.{checked, has_come, has_passed, reported, put_off}
@@ -76,6 +76,8 @@ one_act setup (ticked moment first_word second_word) (present outcome) sent h =
     h
 one_act setup (left moment word) (present outcome) sent h =
     leave_by setup moment word outcome sent (is_unheard outcome) (nat_le (member_count setup outcome) few_members) h
+one_act setup (configured moment settings) (present outcome) sent h = h
+one_act setup (forgotten moment ssrc) (present outcome) sent h = h
 one_act setup (arrived moment peer drawn (rtcp size reading)) (backing_off outcome backoff) sent h = h
 one_act setup (arrived moment peer drawn (rtp reading)) (backing_off outcome backoff) sent h = h
 one_act setup (rtp_sent moment timestamp octets) (backing_off outcome backoff) sent h = h
@@ -83,6 +85,8 @@ one_act setup (ticked moment first_word second_word) (backing_off outcome backof
     bye_by setup moment first_word (leaving_interval setup backoff) outcome backoff sent
     (is_bye_due setup moment first_word backoff) h
 one_act setup (left moment word) (backing_off outcome backoff) sent h = h
+one_act setup (configured moment settings) (backing_off outcome backoff) sent h = h
+one_act setup (forgotten moment ssrc) (backing_off outcome backoff) sent h = h
 one_act setup act (gone outcome) sent h = h
 
 one_step : (session : Session) (act : Act) (sent : List Sent) (change : Option NewIdentifier) →

@@ -7,20 +7,20 @@ use Rattle.rtcp_wire.specs.Facts.{facts_of}
 use Rattle.rtcp_members.specs.Entries.{EntryValue, counted_at, entry_at, members_at}
 use Rattle.rtcp_members.specs.Pending.{EntryRow}
 use Rattle.rtcp_members.specs.Roles.{IsSameRole}
-use Rattle.rtcp_members.specs.Traces.{TraceStep, block_taken, fact_came, with_facts}
+use Rattle.rtcp_members.specs.Traces.{TraceStep, block_taken, fact_came, with_facts, source_forgotten}
 use Rattle.rtcp_members.proofs.LawLemmas as tables
 use Rattle.rtcp_report.specs.Traced.{with_blocks}
-use Rattle.rtcp_engine.specs.Acts.{Act, arrived, left, rtcp, rtp, rtp_sent, ticked}
+use Rattle.rtcp_engine.specs.Acts.{Act, arrived, configured, left, rtcp, rtp, rtp_sent, ticked, forgotten}
 use Rattle.rtcp_engine.specs.Answers.{step_by}
-use Rattle.rtcp_engine.specs.Arrivals.{after, facts_of_media, media_fact}
+use Rattle.rtcp_engine.specs.Arrivals.{after, facts_of_media, media_fact, rate_of}
 use Rattle.rtcp_engine.specs.Changes.{NewIdentifier, Session, change_by, changed_by}
-use Rattle.rtcp_engine.specs.Histories.{History, session_at, session_for, with_act}
+use Rattle.rtcp_engine.specs.Histories.{History, session_at, session_for, settings_after, setup_after, with_act}
 use Rattle.rtcp_engine.specs.Leaving.{Life, backing_off, after_wait, gone, left_at, present}
 use Rattle.rtcp_engine.specs.Lives.{entry_in_life, lived, moved_since, others_moved_by}
 use Rattle.rtcp_engine.specs.Outcomes.{Outcome}
 use Rattle.rtcp_engine.proofs.LifeLemmas.{of_check, of_leave, of_wait}
 use Rattle.rtcp_engine.specs.Reporting.{reported_at}
-use Rattle.rtcp_engine.specs.Setups.{Setup}
+use Rattle.rtcp_engine.specs.Setups.{Setup, SettingsValue, settings_of, with_settings}
 use Rattle.rtcp_engine.specs.Ticks.{after_check, after_tick, checked, reported}
 use Rattle.rtcp_engine.proofs.RolesChanged.{leave_moves}
 
@@ -65,22 +65,25 @@ goes_on : (setup : Setup) (act : Act) (outcome : Outcome) → GoesOn outcome.tra
 goes_on setup (arrived t peer word (rtcp size (Ok packets))) outcome = facts_go_on (facts_of packets) t outcome.trace
 goes_on setup (arrived t peer word (rtcp size (Err fault))) outcome = goes_nowhere outcome.trace
 goes_on setup (arrived t peer word (rtp (Ok head))) outcome =
-    facts_go_on (facts_of_media setup.ssrc head (counted_at setup.capacity setup.rate outcome.trace (media_fact head)))
+    facts_go_on (facts_of_media setup.ssrc (rate_of setup head) head
+    (counted_at setup.capacity outcome.trace (media_fact (rate_of setup head) head)))
     t outcome.trace
 goes_on setup (arrived t peer word (rtp (Err fault))) outcome = goes_nowhere outcome.trace
 goes_on setup (rtp_sent t timestamp octets) outcome = goes_nowhere outcome.trace
 goes_on setup (ticked t first_word second_word) outcome =
     one_sooner (report_goes_on setup t first_word second_word (checked setup t outcome))
 goes_on setup (left t word) outcome = goes_nowhere outcome.trace
+goes_on setup (configured t settings) outcome = goes_nowhere outcome.trace
+goes_on setup (forgotten t ssrc) outcome = one_sooner (goes_nowhere (source_forgotten ssrc ∷ outcome.trace))
 
 kept_since : (setup : Setup) (before now : Outcome) → GoesOn before.trace now.trace →
     moved_since setup before now ≡ false → (ssrc : ℕ)
-    → IsSameRole (entry_at setup.capacity setup.rate before.trace ssrc)
-    (entry_at setup.capacity setup.rate now.trace ssrc)
+    → IsSameRole (entry_at setup.capacity before.trace ssrc)
+    (entry_at setup.capacity now.trace ssrc)
 kept_since setup before now on still ssrc =
-    subst (λ (trace : List TraceStep). IsSameRole (entry_at setup.capacity setup.rate trace ssrc)
-    (entry_at setup.capacity setup.rate now.trace ssrc)) (ap (λ (n : ℕ). drop n now.trace) as_many ∙ on.rest)
-    (tables.roles_move_with_counts-within setup.capacity setup.rate (length now.trace - length before.trace) now.trace
+    subst (λ (trace : List TraceStep). IsSameRole (entry_at setup.capacity trace ssrc)
+    (entry_at setup.capacity now.trace ssrc)) (ap (λ (n : ℕ). drop n now.trace) as_many ∙ on.rest)
+    (tables.roles_move_with_counts-within setup.capacity (length now.trace - length before.trace) now.trace
     still ssrc)
   where
     as_many : length now.trace - length before.trace ≡ on.more
@@ -103,12 +106,12 @@ kept_by_leave : (setup : Setup) (t word : ℕ) (outcome : Outcome) → others_mo
     ≡ false → (ssrc : ℕ)
     → IsSameRole (entry_in_life setup (present outcome) ssrc) (entry_in_life setup (left_at setup t word outcome) ssrc)
 kept_by_leave setup t word outcome still ssrc =
-    let none = no_others (members_at setup.capacity setup.rate outcome.trace)
+    let none = no_others (members_at setup.capacity outcome.trace)
     (leave_moves setup t word outcome ∙ still) in
-    subst (IsSameRole (entry_at setup.capacity setup.rate outcome.trace ssrc))
+    subst (IsSameRole (entry_at setup.capacity outcome.trace ssrc))
     (sym (nobody_left setup t word outcome ssrc))
-    (same_backwards None (entry_at setup.capacity setup.rate outcome.trace ssrc)
-    (tables.roles_move_with_counts-none setup.capacity setup.rate outcome.trace none ssrc))
+    (same_backwards None (entry_at setup.capacity outcome.trace ssrc)
+    (tables.roles_move_with_counts-none setup.capacity outcome.trace none ssrc))
 
 -- ---- Lives
 
@@ -128,12 +131,18 @@ kept_in setup (ticked t first_word second_word) (present outcome) still ssrc =
     kept_since setup outcome (after_tick setup t first_word second_word outcome)
     (goes_on setup (ticked t first_word second_word) outcome) still ssrc
 kept_in setup (left t word) (present outcome) still ssrc = kept_by_leave setup t word outcome still ssrc
+kept_in setup (configured t settings) (present outcome) still ssrc = (refl, refl)
+kept_in setup (forgotten t other) (present outcome) still ssrc =
+    kept_since setup outcome (after setup (forgotten t other) outcome) (goes_on setup (forgotten t other) outcome) still
+    ssrc
 kept_in setup (arrived t peer word (rtcp size reading)) (backing_off outcome backoff) still ssrc = (refl, refl)
 kept_in setup (arrived t peer word (rtp reading)) (backing_off outcome backoff) still ssrc = (refl, refl)
 kept_in setup (rtp_sent t timestamp octets) (backing_off outcome backoff) still ssrc = (refl, refl)
 kept_in setup (ticked t first_word second_word) (backing_off outcome backoff) still ssrc =
     subst (IsSameRole None) (sym (still_waiting setup t first_word outcome backoff ssrc)) (refl, refl)
 kept_in setup (left t word) (backing_off outcome backoff) still ssrc = (refl, refl)
+kept_in setup (configured t settings) (backing_off outcome backoff) still ssrc = (refl, refl)
+kept_in setup (forgotten t other) (backing_off outcome backoff) still ssrc = (refl, refl)
 kept_in setup act (gone outcome) still ssrc = (refl, refl)
 
 -- A change of identifier changes nothing of the others.
@@ -149,13 +158,22 @@ same_in_change session (Some new) ssrc = under session.setup new session.life
     under setup new (backing_off outcome backoff) = refl
     under setup new (gone outcome) = refl
 
+-- Nor do other settings.
+same_when_set : (settings : SettingsValue) (setup : Setup) (life : Life) (ssrc : ℕ) →
+    entry_in_life setup life ssrc ≡ entry_in_life (with_settings settings setup) life ssrc
+same_when_set settings setup (present outcome) ssrc = refl
+same_when_set settings setup (backing_off outcome backoff) ssrc = refl
+same_when_set settings setup (gone outcome) ssrc = refl
+
 pub others_kept : (history : History) (act : Act) → (step_by history act).others_changed ≡ false → (ssrc : ℕ)
     → let before = session_at history in let next = session_at (with_act history act) in
     IsSameRole (entry_in_life before.setup before.life ssrc) (entry_in_life next.setup next.life ssrc)
 others_kept history act still ssrc =
     let before = session_at history in
     let now = session_for before act in
-    subst (λ (entry : Option EntryValue). IsSameRole entry
-    (entry_in_life now.setup (lived now.setup act now.life) ssrc))
+    let life = lived now.setup act now.life in
+    subst (λ (entry : Option EntryValue). IsSameRole entry (entry_in_life (setup_after act now.setup) life ssrc))
     (sym (same_in_change before (change_by before act) ssrc))
-    (kept_in now.setup act now.life still ssrc)
+    (subst (IsSameRole (entry_in_life now.setup now.life ssrc))
+    (same_when_set (settings_after act (settings_of now.setup)) now.setup life ssrc)
+    (kept_in now.setup act now.life still ssrc))

@@ -1,6 +1,6 @@
 -- The laws of this crate as lemmas, for the proofs of the crates above: each has the name of its law, and of the
 -- clause where the law has several.
-use Rattle.std.proofs.Common.{◌≡◌, ◌↔◌, map, ℕ, ◌≤◌, ◌^◌, Bool, is_some, option_map, List, [], ◌∷◌, ◌++◌, IfSome, Option, Some, None, Ok, Err, if◌then◌else◌, refl, sym, ap, ◌∙◌, arith, inl, inr}
+use Rattle.std.proofs.Common.{◌≡◌, ◌↔◌, map, ℕ, ◌≤◌, ◌^◌, Bool, false, is_some, option_map, List, [], ◌∷◌, ◌++◌, IfSome, Option, Some, None, Ok, Err, if◌then◌else◌, refl, sym, ap, ◌∙◌, arith, inl, inr}
 use Rattle.std.specs.Option.{option_or}
 use Rattle.std.proofs.lemmas.Bool.{lt-ltb, le-ltb, cases_lt}
 use Rattle.rtcp_wire.proofs.LawLemmas as wire
@@ -10,17 +10,18 @@ use Rattle.rtcp_members.specs.Pending.{EntryRow, last_reported}
 use Rattle.rtcp_members.specs.Told.{StateValue}
 use Rattle.rtcp_report.specs.Traced.{with_blocks}
 use Rattle.rtcp_engine.specs.declared.refusal.Refusal.{Refusal}
-use Rattle.rtcp_engine.specs.Setups.{Setup, IsUsable}
+use Rattle.rtcp_engine.specs.Setups.{Setup, SettingsValue, IsUsable, with_settings}
 use Rattle.rtcp_engine.specs.Refused.{error_in}
-use Rattle.rtcp_engine.specs.Acts.{Act, moment_of, IsReading, IsRtpReading, IsTotal, IsUnique}
-use Rattle.rtcp_engine.specs.Lives.{TellsInLife, out_by, own_bye}
+use Rattle.rtcp_engine.specs.Acts.{Act, configured, moment_of, IsReading, IsRtpReading, IsTotal, IsUnique}
+use Rattle.rtcp_engine.specs.Leaving.{Life, present, backing_off, gone}
+use Rattle.rtcp_engine.specs.Lives.{TellsInLife, lived, out_by, own_bye, with_pace_in, next_in_life}
 use Rattle.rtcp_engine.specs.Changes.{NewIdentifier, Session, bye_of_change, change_by, changed_by}
 use Rattle.rtcp_engine.specs.OwnStreams.{OwnStep, packet_sent, check_passed, report_sent, counts_anew, sending_since}
 use Rattle.rtcp_engine.specs.OwnSending.{OutlastsChecks, IsSendingSince}
 use Rattle.rtcp_engine.specs.Reporting.{last_reported_in}
 use Rattle.rtcp_engine.specs.Histories.{History, brought_by, last_moment, life_at, session_at, setup_at, with_act}
 use Rattle.rtcp_engine.specs.Refusals.{refusal_after}
-use Rattle.rtcp_engine.specs.Steps.{answer_unless}
+use Rattle.rtcp_engine.specs.Steps.{OutValue, answer_unless}
 use Rattle.rtcp_engine.specs.Answers.{step_by, answer_of, followed_by}
 use Rattle.rtcp_engine.specs.Taken.{IsHistory}
 use Rattle.rtcp_engine.specs.Sent.{reports_in, deciding_interval, sent_at, sent_with, handed_out, reports_of, counted_report}
@@ -33,9 +34,16 @@ use Rattle.rtcp_engine.proofs.Waiting.{all_in_time}
 pub use Rattle.rtcp_engine.proofs.Windows.{last_in_present as last_lies_after_what_was_sent-present}
 pub use Rattle.rtcp_engine.proofs.Windows.{last_in_backoff as last_lies_after_what_was_sent-backing_off}
 pub use Rattle.rtcp_engine.proofs.Windows.{bounds_of as sent_compounds_keep_apart}
-pub use Rattle.rtcp_engine.proofs.Changing.{same_but_ssrc as changes_touch_the_identifier_alone-setup}
-pub use Rattle.rtcp_engine.proofs.Changing.{usable_in as changes_touch_the_identifier_alone-usable}
+pub use Rattle.rtcp_engine.proofs.Changing.{same_but_name_and_settings as setups_keep_the_rest-setup}
+pub use Rattle.rtcp_engine.proofs.Changing.{usable_in as setups_keep_the_rest-usable}
+pub use Rattle.rtcp_engine.proofs.Usable.{settings_refused as settings_are_refused_as_setups}
+pub use Rattle.rtcp_engine.proofs.OneClock.{one_clock as one_clock_without_others}
 pub use Rattle.rtcp_engine.proofs.Past.{walk_after as told_moments_have_passed-all}
+pub use Rattle.rtcp_engine.proofs.Pacing.{no_sooner as settings_drop_nobody_sooner-no_sooner}
+pub use Rattle.rtcp_engine.proofs.Pacing.{still_kept as settings_drop_nobody_sooner-kept}
+pub use Rattle.rtcp_engine.proofs.Pacing.{heard_lately as settings_drop_nobody_sooner-heard}
+pub use Rattle.rtcp_engine.proofs.Pacing.{present_alone as settings_drop_nobody_sooner-afterwards}
+pub use Rattle.rtcp_engine.proofs.Pacing.{paces_are_usable as settings_drop_nobody_sooner-usable}
 
 -- ---- Readings
 
@@ -186,12 +194,56 @@ last_block_is_newest (row ∷ rows) trace = last_block_is_newest rows (block_tak
 pub sends_in_time : (history : History) → IsHistory history → AllInTime history.setup history.word history.acts
 sends_in_time history is = all_in_time history.setup history.word history.acts is.usable is.word is.taken
 
-pub changes_touch_the_identifier_alone-bye : (session : Session) (act : Act) (new : NewIdentifier) →
+pub changes_bring_one_bye : (session : Session) (act : Act) (new : NewIdentifier) →
     change_by session act ≡ Some new → brought_by session act ≡ own_bye session.setup session.life
-changes_touch_the_identifier_alone-bye session act new is =
+changes_bring_one_bye session act new is =
     ap (λ (change : Option NewIdentifier). let now = changed_by change session in
     option_or (bye_of_change change session) (out_by now.setup act now.life)) is
     ∙ bye_alone session act new is
+
+-- ---- Settings
+
+settings_live : (setup : Setup) (moment : ℕ) (settings : SettingsValue) (life : Life) →
+    lived setup (configured moment settings) life ≡ with_pace_in setup moment life
+settings_live setup moment settings (present outcome) = refl
+settings_live setup moment settings (backing_off outcome backoff) = refl
+settings_live setup moment settings (gone outcome) = refl
+
+settings_send : (setup : Setup) (moment : ℕ) (settings : SettingsValue) (life : Life) →
+    out_by setup (configured moment settings) life ≡ None
+settings_send setup moment settings (present outcome) = refl
+settings_send setup moment settings (backing_off outcome backoff) = refl
+settings_send setup moment settings (gone outcome) = refl
+
+pub settings_touch_the_setup_alone-life : (history : History) (moment : ℕ) (settings : SettingsValue) →
+    life_at (with_act history (configured moment settings))
+    ≡ with_pace_in (setup_at history) moment (life_at history)
+settings_touch_the_setup_alone-life history moment settings =
+    settings_live (setup_at history) moment settings (life_at history)
+
+same_next : (setup : Setup) (moment : ℕ) (life : Life) →
+    next_in_life (with_pace_in setup moment life) ≡ next_in_life life
+same_next setup moment (present outcome) = refl
+same_next setup moment (backing_off outcome backoff) = refl
+same_next setup moment (gone outcome) = refl
+
+pub settings_touch_the_setup_alone-next : (history : History) (moment : ℕ) (settings : SettingsValue) →
+    next_in_life (life_at (with_act history (configured moment settings))) ≡ next_in_life (life_at history)
+settings_touch_the_setup_alone-next history moment settings =
+    ap next_in_life (settings_touch_the_setup_alone-life history moment settings)
+    ∙ same_next (setup_at history) moment (life_at history)
+
+pub settings_touch_the_setup_alone-sent : (history : History) (moment : ℕ) (settings : SettingsValue) →
+    sent_at (with_act history (configured moment settings)) ≡ sent_at history
+settings_touch_the_setup_alone-sent history moment settings =
+    let act = configured moment settings in
+    ap (λ (out : Option OutValue). sent_with moment (deciding_interval (session_at history) act) false out
+    ++ sent_at history)
+    (settings_send (setup_at history) moment settings (life_at history))
+
+pub settings_touch_the_setup_alone-setup : (history : History) (moment : ℕ) (settings : SettingsValue) →
+    setup_at (with_act history (configured moment settings)) ≡ with_settings settings (setup_at history)
+settings_touch_the_setup_alone-setup history moment settings = refl
 
 -- ---- What is told of sources
 

@@ -17,34 +17,18 @@ use Rattle.rtcp_engine.specs.declared.changes.Change.{Change}
 use Rattle.rtcp_engine.specs.declared.refusal.Refusal.{Refusal}
 use Rattle.rtcp_engine.specs.declared.refusal.Refusal.TheVariants.{OwnSsrc}
 use Rattle.rtcp_engine.specs.Setups.{Setup}
-use Rattle.rtcp_engine.specs.Acts.{Datagram, Act, arrived, rtp_sent, ticked, left, moment_of}
+use Rattle.rtcp_engine.specs.Acts.{Datagram, Act, arrived, rtp_sent, ticked, left, configured, moment_of, forgotten}
 use Rattle.rtcp_engine.specs.Identities.{AreApart, first_free, is_among, may_change, most_changes}
 use Rattle.rtcp_engine.specs.Leaving.{Life, present, backing_off, gone}
 use Rattle.rtcp_engine.specs.Changes.{NewIdentifier, Session, change_by, changed_by, changing_peers, identifiers, is_about, is_in_table, is_taken, most_taken, named_by, new_identifier}
 use Rattle.rtcp_engine.specs.Histories.{History, brought_by, last_moment, life_at, session_at, session_for, session_of}
-use Rattle.rtcp_engine.specs.Refusals.{call_refusal, fault_in, refusal_after, refusal_if, refusal_in, refusal_of, refusal_of_datagram}
+use Rattle.rtcp_engine.specs.Refusals.{call_refusal, fault_in, refusal_after, refusal_if, refusal_in, refusal_of, refusal_of_content}
 use Rattle.rtcp_engine.specs.Taken.{AllTaken, IsHistory}
 use Rattle.rtcp_engine.specs.Steps.{OutValue}
 use Rattle.rtcp_engine.specs.Sent.{Sent, deciding_interval, is_report, sent_over, sent_with}
 use Rattle.rtcp_engine.specs.Spacing.{is_change_bye}
+use Rattle.rtcp_engine.proofs.AnswerLemmas.{neither, unrefused}
 use Rattle.rtcp_engine.proofs.Changing.{usable_in}
-
--- ---- Refusals
-
-none_before : (life : Life) (refusal : Option Refusal) → refusal_in life refusal ≡ None → refusal ≡ None
-none_before (present outcome) refusal none = none
-none_before (backing_off outcome backoff) refusal none = none
-none_before (gone outcome) refusal none = absurd cc
-
-neither : (first second : Option Refusal) → option_or first second ≡ None → (first ≡ None) × (second ≡ None)
-neither None second none = (refl, none)
-neither (Some refusal) second none = absurd cc
-
--- an act that is taken is refused neither as any act then nor for its datagram
-pub unrefused : (history : History) (act : Act) → refusal_after history act ≡ None →
-    (call_refusal (moment_of act) (last_moment history.acts) (length history.acts) ≡ None)
-    × (refusal_of_datagram (session_at history) act ≡ None)
-unrefused history act none = neither _ _ (none_before (life_at history) (refusal_of history act) none)
 
 -- ---- Few changes
 
@@ -55,11 +39,11 @@ may_if false may is none = absurd cc
 
 -- a change is for a peer that may bring one
 may_by : (session : Session) (moment peer word : ℕ) (datagram : Datagram) →
-    refusal_of_datagram session (arrived moment peer word datagram) ≡ None →
+    refusal_of_content session (arrived moment peer word datagram) ≡ None →
     is_about session.setup.ssrc datagram ≡ true → may_change (changing_peers session) peer ≡ true
 may_by session moment peer word datagram none own = may_if _ _ own (neither (fault_in datagram) _ none).1
 
-few_after : (session : Session) (act : Act) → refusal_of_datagram session act ≡ None →
+few_after : (session : Session) (act : Act) → refusal_of_content session act ≡ None →
     length session.changes ≤ most_changes → length (session_for session act).changes ≤ most_changes
 few_after session (arrived moment peer word datagram) none few =
     cond_both (is_about session.setup.ssrc datagram) (Some _) None
@@ -73,6 +57,8 @@ few_after session (arrived moment peer word datagram) none few =
 few_after session (rtp_sent moment timestamp octets) none few = few
 few_after session (ticked moment first_word second_word) none few = few
 few_after session (left moment word) none few = few
+few_after session (configured moment settings) none few = few
+few_after session (forgotten moment ssrc) none few = few
 
 pub few_listed : (setup : Setup) (word : ℕ) (acts : List Act) → AllTaken setup word acts →
     length (session_of setup word acts).changes ≤ most_changes
@@ -88,7 +74,7 @@ not_true : (b : Bool) → not b ≡ true → b ≡ false
 not_true true h = absurd cc
 not_true false h = refl
 
-apart_after : (session : Session) (act : Act) → refusal_of_datagram session act ≡ None →
+apart_after : (session : Session) (act : Act) → refusal_of_content session act ≡ None →
     AreApart (changing_peers session) → AreApart (changing_peers (session_for session act))
 apart_after session (arrived moment peer word datagram) none apart =
     let peers = changing_peers session in
@@ -102,6 +88,8 @@ apart_after session (arrived moment peer word datagram) none apart =
 apart_after session (rtp_sent moment timestamp octets) none apart = apart
 apart_after session (ticked moment first_word second_word) none apart = apart
 apart_after session (left moment word) none apart = apart
+apart_after session (configured moment settings) none apart = apart
+apart_after session (forgotten moment ssrc) none apart = apart
 
 pub apart_listed : (setup : Setup) (word : ℕ) (acts : List Act) → AllTaken setup word acts →
     AreApart (changing_peers (session_of setup word acts))
@@ -283,22 +271,22 @@ held_is_among capacity trace named ssrc there is =
     ∙ is_member-filter number_equality held ssrc (λ other same. ap held (eqb-true ssrc other same)) named
     ∙ ap (λ (b : Bool). b && held ssrc) (sym (among_is_member named ssrc) ∙ is) ∙ there
 
-abbrev entry_is_stay : (capacity rate : ℕ) (trace : List TraceStep) (ssrc : ℕ) →
-    is_some (entry_at capacity rate trace ssrc) ≡ is_some (stay_of capacity trace ssrc)
-entry_is_stay capacity rate trace ssrc = mapped (stay_of capacity trace ssrc)
+abbrev entry_is_stay : (capacity : ℕ) (trace : List TraceStep) (ssrc : ℕ) →
+    is_some (entry_at capacity trace ssrc) ≡ is_some (stay_of capacity trace ssrc)
+entry_is_stay capacity trace ssrc = mapped (stay_of capacity trace ssrc)
   where
-    mapped : (stay : Option (List TraceStep)) → is_some (option_map (entry_of rate ssrc) stay) ≡ is_some stay
+    mapped : (stay : Option (List TraceStep)) → is_some (option_map (entry_of ssrc) stay) ≡ is_some stay
     mapped None = refl
     mapped (Some stay) = refl
 
 in_table_is_held : (setup : Setup) (life : Life) (ssrc : ℕ) → is_in_table setup life ssrc ≡ true →
     is_among (held_in setup life) ssrc ≡ true
 in_table_is_held setup (present outcome) ssrc is =
-    let there = sym (entry_is_stay setup.capacity setup.rate outcome.trace ssrc) ∙ is in
+    let there = sym (entry_is_stay setup.capacity outcome.trace ssrc) ∙ is in
     held_is_among setup.capacity outcome.trace (names outcome.trace) ssrc there
     (present_were_named_and_fit-named setup.capacity outcome.trace ssrc there)
 in_table_is_held setup (backing_off outcome backoff) ssrc is =
-    let there = sym (entry_is_stay setup.capacity setup.rate outcome.trace ssrc) ∙ is in
+    let there = sym (entry_is_stay setup.capacity outcome.trace ssrc) ∙ is in
     held_is_among setup.capacity outcome.trace (names outcome.trace) ssrc there
     (present_were_named_and_fit-named setup.capacity outcome.trace ssrc there)
 in_table_is_held setup (gone outcome) ssrc is = absurd cc
@@ -336,11 +324,11 @@ pub new_is_free : (history : History) (datagram : Datagram) (word : ℕ) → IsH
     is_taken (session_at history) datagram (new_identifier word (session_at history) datagram) ≡ false
 new_is_free history datagram word is fits few =
     new_in_session (session_at history) datagram word
-    (usable_in history.setup history.word history.acts is.usable).capacity.1
+    (usable_in history.setup history.word history.acts is.usable is.taken).capacity.1
     (few_listed history.setup history.word history.acts is.taken) fits few
 
 -- Fewer than 2^17 stand in the way, where a datagram names fewer than 2^16.
 pub few_are_taken : (history : History) (datagram : Datagram) → IsHistory history →
     length (named_by datagram) < 2 ^ 16 → most_taken (session_at history) datagram < 2 ^ 17
 few_are_taken history datagram is few =
-    omega (arith, few, (usable_in history.setup history.word history.acts is.usable).capacity.1)
+    omega (arith, few, (usable_in history.setup history.word history.acts is.usable is.taken).capacity.1)

@@ -13,8 +13,8 @@ use Rattle.rtcp_members.proofs.LawLemmas as tables
 use Rattle.rtcp_report.specs.Traced.{with_blocks}
 use Rattle.rtcp_engine.specs.declared.refusal.Refusal.{Refusal}
 use Rattle.rtcp_engine.specs.declared.refusal.Refusal.TheVariants.{Backwards, TooFar}
-use Rattle.rtcp_engine.specs.Acts.{Act, arrived, left, moment_of, rtcp, rtp, rtp_sent, ticked}
-use Rattle.rtcp_engine.specs.Arrivals.{after, facts_of_media, media_fact}
+use Rattle.rtcp_engine.specs.Acts.{Act, arrived, configured, left, moment_of, rtcp, rtp, rtp_sent, ticked, forgotten}
+use Rattle.rtcp_engine.specs.Arrivals.{after, facts_of_media, media_fact, rate_of}
 use Rattle.rtcp_engine.specs.Changes.{NewIdentifier, Session, change_by, changed_by}
 use Rattle.rtcp_engine.specs.Histories.{History, last_moment, life_at, session_of, setup_at}
 use Rattle.rtcp_engine.specs.Leaving.{Life, backing_off}
@@ -26,7 +26,7 @@ use Rattle.rtcp_engine.specs.Reporting.{reported_at}
 use Rattle.rtcp_engine.specs.Setups.{Setup}
 use Rattle.rtcp_engine.specs.Taken.{AllTaken, IsHistory}
 use Rattle.rtcp_engine.specs.Ticks.{after_check, checked, reported}
-use Rattle.rtcp_engine.proofs.NewIdentifiers.{unrefused}
+use Rattle.rtcp_engine.proofs.AnswerLemmas.{unrefused}
 use Rattle.rtcp_engine.proofs.LifeLemmas.{of_check, of_leave, of_wait}
 use Rattle.rtcp_engine.proofs.Sending.{in_time}
 
@@ -50,13 +50,16 @@ came_after setup (arrived t peer word (rtcp size (Ok packets))) outcome came =
     tables.told_lies_in_the_past-facts t t (facts_of packets) outcome.trace (omega arith) came
 came_after setup (arrived t peer word (rtcp size (Err fault))) outcome came = came
 came_after setup (arrived t peer word (rtp (Ok head))) outcome came =
-    let counted = counted_at setup.capacity setup.rate outcome.trace (media_fact head) in
-    tables.told_lies_in_the_past-facts t t (facts_of_media setup.ssrc head counted) outcome.trace (omega arith) came
+    let counted = counted_at setup.capacity outcome.trace (media_fact (rate_of setup head) head) in
+    tables.told_lies_in_the_past-facts t t (facts_of_media setup.ssrc (rate_of setup head) head counted) outcome.trace
+    (omega arith) came
 came_after setup (arrived t peer word (rtp (Err fault))) outcome came = came
 came_after setup (rtp_sent t timestamp octets) outcome came = came
 came_after setup (ticked t first_word second_word) outcome came =
     report_came setup t first_word second_word (checked setup t outcome) (omega arith, came)
 came_after setup (left t word) outcome came = came
+came_after setup (configured t settings) outcome came = came
+came_after setup (forgotten t ssrc) outcome came = (omega arith, came)
 
 -- ---- Lives
 
@@ -79,12 +82,18 @@ lives_by setup latest (ticked t first_word second_word) (present outcome) order 
     came_after setup (ticked t first_word second_word) outcome now
 lives_by setup latest (left t word) (present outcome) order came =
     of_leave (LivesBy t) setup t word outcome tt tt
+lives_by setup latest (configured t settings) (present outcome) order came =
+    tables.told_lies_in_the_past-later latest t outcome.trace order came
+lives_by setup latest (forgotten t ssrc) (present outcome) order came =
+    (omega arith, tables.told_lies_in_the_past-later latest t outcome.trace order came)
 lives_by setup latest (arrived t peer word (rtcp size reading)) (backing_off outcome backoff) order came = tt
 lives_by setup latest (arrived t peer word (rtp reading)) (backing_off outcome backoff) order came = tt
 lives_by setup latest (rtp_sent t timestamp octets) (backing_off outcome backoff) order came = tt
 lives_by setup latest (ticked t first_word second_word) (backing_off outcome backoff) order came =
     of_wait (LivesBy t) setup t first_word outcome backoff tt tt
 lives_by setup latest (left t word) (backing_off outcome backoff) order came = tt
+lives_by setup latest (configured t settings) (backing_off outcome backoff) order came = tt
+lives_by setup latest (forgotten t ssrc) (backing_off outcome backoff) order came = tt
 lives_by setup latest act (gone outcome) order came = tt
 
 -- A change of identifier changes nothing of the others.
@@ -137,7 +146,7 @@ latest_in_range setup word (act ∷ earlier) taken =
 told_in : (latest : ℕ) (setup : Setup) (low : Option ℕ) (life : Life) (state : StateValue) → LivesBy latest life →
     TellsInLife setup low life (Some state) → IsToldBy latest state
 told_in latest setup low (present outcome) state came =
-    tables.told_lies_in_the_past-told latest setup.capacity setup.rate outcome.trace came low state
+    tables.told_lies_in_the_past-told latest setup.capacity outcome.trace came low state
 told_in latest setup low (backing_off outcome backoff) state came = λ none. absurd cc
 told_in latest setup low (gone outcome) state came = λ none. absurd cc
 
@@ -147,7 +156,7 @@ none_by latest states none = subst (All (IsToldBy latest)) (sym none) (All-nil (
 walk_in : (latest : ℕ) (setup : Setup) (life : Life) (states : List StateValue) → LivesBy latest life →
     WalksInLife setup life states → All (IsToldBy latest) states
 walk_in latest setup (present outcome) states came =
-    tables.told_lies_in_the_past-walk latest setup.capacity setup.rate outcome.trace came None states
+    tables.told_lies_in_the_past-walk latest setup.capacity outcome.trace came None states
 walk_in latest setup (backing_off outcome backoff) states came = none_by latest states
 walk_in latest setup (gone outcome) states came = none_by latest states
 

@@ -6,22 +6,22 @@ use Rattle.rtcp_wire.specs.RtpHeads.{RtpValue}
 use Rattle.rtcp_wire.specs.Values.{RtcpPacket}
 use Rattle.rtcp_members.specs.Entries.{counted_at}
 use Rattle.rtcp_members.specs.Pending.{EntryRow}
-use Rattle.rtcp_members.specs.Roles.{check_moves, facts_move, moved_within, step_moves}
+use Rattle.rtcp_members.specs.Roles.{check_moves, facts_move, moved_within, step_moves, forgetting_moves}
 use Rattle.rtcp_members.specs.Tables.{counted, members_in}
-use Rattle.rtcp_members.specs.Traces.{Horizons, TraceStep, block_taken, check_made, fact_came, with_facts}
+use Rattle.rtcp_members.specs.Traces.{Horizons, TraceStep, block_taken, check_made, fact_came, with_facts, source_forgotten}
 use Rattle.rtcp_members.proofs.LawLemmas as tables
 use Rattle.rtcp_report.specs.Traced.{with_blocks}
-use Rattle.rtcp_engine.specs.Arrivals.{facts_of_media, media_fact, with_facts_of, with_media}
+use Rattle.rtcp_engine.specs.Arrivals.{facts_of_media, media_fact, rate_of, with_facts_of, with_media}
 use Rattle.rtcp_engine.specs.Leaving.{Life, left_at}
 use Rattle.rtcp_engine.specs.Lives.{has_others, moved_since, others_moved_into}
-use Rattle.rtcp_engine.specs.Outcomes.{Outcome}
+use Rattle.rtcp_engine.specs.Outcomes.{Outcome, check_interval}
 use Rattle.rtcp_engine.specs.Reporting.{reported_at}
 use Rattle.rtcp_engine.specs.Setups.{Setup}
 use Rattle.rtcp_engine.specs.States.{State, Agrees, HasOthers, Moves}
-use Rattle.rtcp_engine.specs.Ticks.{after_check, after_tick, checked, horizons_of, reported, without_silent}
+use Rattle.rtcp_engine.specs.Ticks.{after_check, after_tick, checked, horizons_of, reported, without_silent, with_forgotten}
 use Rattle.rtcp_engine.proofs.Agreeing.{others_agree}
 use Rattle.rtcp_engine.proofs.LifeLemmas.{of_check, of_leave}
-use Rattle.rtcp_engine.proofs.StepLemmas.{IsReceiverInterval, of_view, seen}
+use Rattle.rtcp_engine.proofs.StepLemmas.{IsCheckInterval, of_view, seen}
 
 -- ---- Traces
 
@@ -31,19 +31,19 @@ length_with_facts [] moment trace = omega arith
 length_with_facts (fact ∷ facts) moment trace =
     omega (arith, length_with_facts facts moment (fact_came fact moment ∷ trace))
 
-module _ (capacity rate : ℕ) where
+module _ (capacity : ℕ) where
   -- where no step is added
-  pub none_since : (trace : List TraceStep) → false ≡ moved_within capacity rate (length trace - length trace) trace
-  none_since trace = sym (ap (λ (n : ℕ). moved_within capacity rate n trace) none_more)
+  pub none_since : (trace : List TraceStep) → false ≡ moved_within capacity (length trace - length trace) trace
+  none_since trace = sym (ap (λ (n : ℕ). moved_within capacity n trace) none_more)
     where
       none_more : length trace - length trace ≡ 0
       none_more = omega arith
 
   -- where one is
-  one_since : (step : TraceStep) (trace : List TraceStep) → step_moves capacity rate step trace ≡ moved_within capacity
-      rate (length (step ∷ trace) - length trace) (step ∷ trace)
-  one_since step trace = sym (or_none (step_moves capacity rate step trace))
-      ∙ sym (ap (λ (n : ℕ). moved_within capacity rate n (step ∷ trace)) one_more)
+  one_since : (step : TraceStep) (trace : List TraceStep) → step_moves capacity step trace ≡ moved_within capacity
+      (length (step ∷ trace) - length trace) (step ∷ trace)
+  one_since step trace = sym (or_none (step_moves capacity step trace))
+      ∙ sym (ap (λ (n : ℕ). moved_within capacity n (step ∷ trace)) one_more)
     where
       one_more : length (step ∷ trace) - length trace ≡ suc 0
       one_more = omega arith
@@ -54,14 +54,14 @@ module _ (capacity rate : ℕ) where
 
   -- Blocks move nobody.
   blocks_since : (rows : List EntryRow) (before : ℕ) (trace : List TraceStep) → before ≤ length trace
-      → moved_within capacity rate (length (with_blocks rows trace) - before) (with_blocks rows trace) ≡ moved_within
-      capacity rate (length trace - before) trace
+      → moved_within capacity (length (with_blocks rows trace) - before) (with_blocks rows trace) ≡ moved_within
+      capacity (length trace - before) trace
   blocks_since [] before trace within = refl
   blocks_since (row ∷ rows) before trace within =
       blocks_since rows before (block_taken row.0 ∷ trace) (omega (arith, within))
-      ∙ ap (λ (n : ℕ). moved_within capacity rate n (block_taken row.0 ∷ trace)) one_more
-      ∙ ap (λ (b : Bool). b || moved_within capacity rate (length trace - before) trace)
-      (tables.roles_move_with_counts-block capacity rate row.0 trace)
+      ∙ ap (λ (n : ℕ). moved_within capacity n (block_taken row.0 ∷ trace)) one_more
+      ∙ ap (λ (b : Bool). b || moved_within capacity (length trace - before) trace)
+      (tables.roles_move_with_counts-block capacity row.0 trace)
     where
       one_more : length (block_taken row.0 ∷ trace) - before ≡ suc (length trace - before)
       one_more = omega (arith, within)
@@ -69,11 +69,11 @@ module _ (capacity rate : ℕ) where
 -- ---- Arrivals
 
 facts_since : (s : State) (outcome : Outcome) (facts : List Fact) (t : ℕ) → Agrees s outcome
-    → facts_move facts t s.table ≡ moved_within s.setup.capacity s.setup.rate
+    → facts_move facts t s.table ≡ moved_within s.setup.capacity
     (length (with_facts facts t outcome.trace) - length outcome.trace) (with_facts facts t outcome.trace)
 facts_since s outcome facts t a =
     tables.moves_follow_traces-facts facts t s.table outcome.trace a.still.table
-    ∙ (λ i. moved_within (a.still.capacity i) (a.still.rate i) (sym as_many i) (with_facts facts t outcome.trace))
+    ∙ (λ i. moved_within (a.still.capacity i) (sym as_many i) (with_facts facts t outcome.trace))
   where
     as_many : length (with_facts facts t outcome.trace) - length outcome.trace ≡ length facts
     as_many = omega (arith, length_with_facts facts t outcome.trace)
@@ -85,37 +85,52 @@ moves_facts {s} {w} is t size packets moved moved_is =
     (λ outcome a. moved_is ∙ facts_since s outcome (facts_of packets) t a)
 
 pub moves_media : {s w : State} → s ≡ w → (t : ℕ) (head : RtpValue) (moved : Bool) →
-    moved ≡ facts_move (facts_of_media s.setup.ssrc head (counted s.table (media_fact head))) t s.table →
+    moved ≡ facts_move (facts_of_media s.setup.ssrc (rate_of s.setup head) head
+    (counted s.table (media_fact (rate_of s.setup head) head))) t s.table →
     Moves w moved (λ setup. with_media setup t head)
 moves_media {s} {w} is t head moved moved_is =
     of_view is (λ setup outcome. moved_since setup outcome (with_media setup t head outcome)) (λ outcome a.
-    let same : counted s.table (media_fact head) ≡ counted_at s.setup.capacity s.setup.rate outcome.trace
-    (media_fact head) =
-    tables.counts_agree-counted s.table outcome.trace (media_fact head) a.still.table
-    ∙ (λ i. counted_at (a.still.capacity i) (a.still.rate i) outcome.trace (media_fact head)) in
-    moved_is ∙ ap (λ (b : Bool). facts_move (facts_of_media s.setup.ssrc head b) t s.table) same
-    ∙ facts_since s outcome (facts_of_media s.setup.ssrc head
-    (counted_at s.setup.capacity s.setup.rate outcome.trace (media_fact head))) t a)
+    let same : counted s.table (media_fact (rate_of s.setup head) head) ≡ counted_at s.setup.capacity outcome.trace
+    (media_fact (rate_of s.setup head) head) =
+    tables.counts_agree-counted s.table outcome.trace (media_fact (rate_of s.setup head) head) a.still.table
+    ∙ (λ i. counted_at (a.still.capacity i) outcome.trace (media_fact (rate_of s.setup head) head)) in
+    moved_is ∙ ap (λ (b : Bool). facts_move (facts_of_media s.setup.ssrc (rate_of s.setup head) head b) t s.table) same
+    ∙ facts_since s outcome (facts_of_media s.setup.ssrc (rate_of s.setup head) head
+    (counted_at s.setup.capacity outcome.trace (media_fact (rate_of s.setup head) head))) t a)
 
 -- ---- Ticks
 
 check_since : (s : State) (outcome : Outcome) (horizons : Horizons) → Agrees s outcome
-    → check_moves horizons s.table ≡ moved_within s.setup.capacity s.setup.rate
+    → check_moves horizons s.table ≡ moved_within s.setup.capacity
     (length (check_made horizons ∷ outcome.trace) - length outcome.trace) (check_made horizons ∷ outcome.trace)
 check_since s outcome horizons a =
     tables.moves_follow_traces-check s.table outcome.trace horizons a.still.table
-    ∙ (λ i. step_moves (a.still.capacity i) (a.still.rate i) (check_made horizons) outcome.trace)
-    ∙ one_since s.setup.capacity s.setup.rate (check_made horizons) outcome.trace
+    ∙ (λ i. step_moves (a.still.capacity i) (check_made horizons) outcome.trace)
+    ∙ one_since s.setup.capacity (check_made horizons) outcome.trace
 
-pub moves_check : {s w : State} → s ≡ w → (t td : ℕ) (moved : Bool) → IsReceiverInterval w td →
+pub moves_check : {s w : State} → s ≡ w → (t td : ℕ) (moved : Bool) → IsCheckInterval w t td →
     moved ≡ check_moves (horizons_of t td) s.table → Moves w moved (λ setup. without_silent setup t)
 moves_check {s} {w} is t td moved interval moved_is outcome agrees =
     moved_is
     ∙ ap (λ (d : ℕ). check_moves (horizons_of t d) s.table) (interval outcome agrees)
-    ∙ check_since s outcome (horizons_of t (Rattle.rtcp_engine.specs.Outcomes.receiver_interval_at w.setup outcome))
+    ∙ check_since s outcome (horizons_of t (check_interval w.setup t outcome))
     (seen is outcome agrees)
     ∙ ap (λ (setup : Setup). moved_since setup outcome (without_silent w.setup t outcome))
     (ap (λ (x : State). x.setup) is)
+
+forgotten_since : (s : State) (outcome : Outcome) (ssrc : ℕ) → Agrees s outcome
+    → forgetting_moves ssrc s.table ≡ moved_within s.setup.capacity
+    (length (source_forgotten ssrc ∷ outcome.trace) - length outcome.trace) (source_forgotten ssrc ∷ outcome.trace)
+forgotten_since s outcome ssrc a =
+    tables.moves_follow_traces-forgotten s.table outcome.trace ssrc a.still.table
+    ∙ (λ i. step_moves (a.still.capacity i) (source_forgotten ssrc) outcome.trace)
+    ∙ one_since s.setup.capacity (source_forgotten ssrc) outcome.trace
+
+pub moves_forgotten : {s w : State} → s ≡ w → (ssrc : ℕ) (moved : Bool) → moved ≡ forgetting_moves ssrc s.table →
+    Moves w moved (λ setup. with_forgotten ssrc)
+moves_forgotten {s} {w} is ssrc moved moved_is =
+    of_view is (λ setup outcome. moved_since setup outcome (with_forgotten ssrc outcome))
+    (λ outcome a. moved_is ∙ forgotten_since s outcome ssrc a)
 
 -- A report after the check moves nobody.
 report_since : (setup : Setup) (t first_word second_word : ℕ) (before outcome : Outcome) →
@@ -124,7 +139,7 @@ report_since : (setup : Setup) (t first_word second_word : ℕ) (before outcome 
 report_since setup t first_word second_word before outcome within =
     of_check (λ (now : Outcome). moved_since setup before outcome ≡ moved_since setup before now) setup t first_word
     second_word outcome refl refl
-    (sym (blocks_since setup.capacity setup.rate (reported_at setup t outcome) (length before.trace) outcome.trace
+    (sym (blocks_since setup.capacity (reported_at setup t outcome) (length before.trace) outcome.trace
     within))
 
 pub moves_tick : {s : State} (t first_word second_word : ℕ) (moved : Bool) → Moves s moved (λ setup. checked setup t) →

@@ -24,6 +24,7 @@ setup = record {
   receiver_bw =
       300;
   rate = 8000;
+  clocks = [];
   ntp_base = 0;
 }
 

@@ -17,7 +17,7 @@ use Rattle.rtcp_wire.specs.Values.{ItemValue}
 use Rattle.rtcp_engine.specs.declared.refusal.Refusal.{Refusal}
 use Rattle.rtcp_engine.specs.declared.refusal.Refusal.TheVariants.{Backwards}
 use Rattle.rtcp_engine.specs.Setups.{Setup, IsExtraItem, IsUsable}
-use Rattle.rtcp_engine.specs.Acts.{rtcp, rtp, Act, arrived, rtp_sent, ticked, left, moment_of}
+use Rattle.rtcp_engine.specs.Acts.{rtcp, rtp, Act, arrived, rtp_sent, ticked, left, configured, moment_of, forgotten}
 use Rattle.rtcp_engine.specs.Outcomes.{Outcome, is_initial, interval_at, load_of, member_count}
 use Rattle.rtcp_engine.specs.Ticks.{checked, has_come, has_passed, reported, put_off}
 use Rattle.rtcp_engine.specs.OwnStreams.{has_sent, own_of, sent_of}
@@ -31,8 +31,8 @@ use Rattle.rtcp_engine.specs.Leaving.{Backoff, Life, present, backing_off, gone,
 use Rattle.rtcp_engine.specs.Lives.{while_present, while_backing_off, lived, bye_out, out_by, own_bye, report_out, with_new_ssrc}
 use Rattle.rtcp_engine.specs.Sent.{Sent, interval_by, is_report, reports_in, sent_by, sent_over, sent_with}
 use Rattle.rtcp_engine.specs.Spacing.{HalfPasses, newest_moment, leave_moment, first_leave, IsLate}
-use Rattle.rtcp_engine.proofs.Changing.{bye_alone, nothing_more, same_but_ssrc, usable_in, usable_with_ssrc}
-use Rattle.rtcp_engine.proofs.NewIdentifiers.{unrefused}
+use Rattle.rtcp_engine.proofs.Changing.{bye_alone, nothing_more, same_but_name_and_settings, usable_in, usable_with_ssrc}
+use Rattle.rtcp_engine.proofs.AnswerLemmas.{unrefused}
 
 -- ---- Draws
 
@@ -133,7 +133,7 @@ report_is_within setup t outcome usable =
     let empty = compounds_are_small-empty setup.ssrc (sent_of setup.ntp_base setup.rate t (own_of outcome.own))
     setup.cname (extra_item setup.extras (length outcome.reports + 1)) usable.cname.1 extra in
     compounds_are_small-report (reporter_at setup t outcome) setup.limit t
-    (pending_rows_at (last_reported_in outcome.trace) setup.capacity setup.rate outcome.trace)
+    (pending_rows_at (last_reported_in outcome.trace) setup.capacity outcome.trace)
     (omega (arith, empty, usable.limit.0))
 
 bye_is_within : (setup : Setup) → IsUsable setup → length (bye_octets setup) ≤ setup.limit
@@ -312,6 +312,10 @@ still_present setup t leave (ticked moment first_word second_word) outcome sent 
 still_present setup t leave (left moment word) outcome sent usable order words h =
     leave_by setup t moment word leave outcome sent (is_unheard outcome)
     (nat_le (member_count setup outcome) few_members) usable order h
+still_present setup t leave (configured moment settings) outcome sent usable order words h =
+    passes (configured moment settings) _ h refl (later moment order h.up_to) refl refl
+still_present setup t leave (forgotten moment ssrc) outcome sent usable order words h =
+    passes (forgotten moment ssrc) _ h refl (one_more (recounted moment _) order h.up_to) refl refl
 
 -- ---- Backing off
 
@@ -385,6 +389,10 @@ still_backing_off setup t leave (ticked moment first_word second_word) outcome b
     record { came = leb-true _ moment parts.0; passed = leb-true _ moment parts.1 }) h
 still_backing_off setup t leave (left moment word) outcome backoff sent usable order words h =
     waits (left moment word) backoff h refl (later moment order h.up_to) refl
+still_backing_off setup t leave (configured moment settings) outcome backoff sent usable order words h =
+    waits (configured moment settings) backoff h refl (later moment order h.up_to) refl
+still_backing_off setup t leave (forgotten moment ssrc) outcome backoff sent usable order words h =
+    waits (forgotten moment ssrc) backoff h refl (later moment order h.up_to) refl
 
 -- ---- Changes of identifier
 
@@ -493,11 +501,11 @@ session_keeps_apart setup word [] usable taken = record {
 }
 session_keeps_apart setup word (act ∷ earlier) usable taken =
     let before = session_of setup word earlier in
-    let same = ap (λ (s : Setup). s.limit) (same_but_ssrc setup word earlier) in
+    let same = ap (λ (s : Setup). s.limit) (same_but_name_and_settings setup word earlier) in
     let earlier_apart = subst (λ (limit : ℕ). KeepsApart limit (last_moment earlier) (first_leave earlier) before.life
     (sent_over setup word earlier)) (sym same) (session_keeps_apart setup word earlier usable taken.2) in
     subst (λ (limit : ℕ). KeepsApart limit (moment_of act) (option_or (first_leave earlier) (leave_moment act))
     (session_of setup word (act ∷ earlier)).life (sent_by before act ++ sent_over setup word earlier)) same
     (step_apart before (last_moment earlier) (first_leave earlier) act (sent_over setup word earlier)
-    (change_by before act) refl (usable_in setup word earlier usable)
+    (change_by before act) refl (usable_in setup word earlier usable taken.2)
     (in_time (record { setup = setup; word = word; acts = earlier }) act taken.0) taken.1 earlier_apart)

@@ -7,13 +7,13 @@ use Rattle.rtcp_wire.specs.declared.fact.Fact.TheVariants.{Heard}
 use Rattle.rtcp_wire.specs.Facts.{is_media}
 use Rattle.rtcp_wire.specs.RtpHeads.{RtpValue}
 use Rattle.rtcp_members.specs.Traces.{Horizons}
-use Rattle.rtcp_members.specs.Tables.{TableValue, KeepsBounds, HasFew, counted, after_fact, after_facts, after_check}
+use Rattle.rtcp_members.specs.Tables.{TableValue, KeepsBounds, HasFew, counted, after_fact, after_facts, after_check, after_forgetting}
 use Rattle.rtcp_members.specs.Pending.{EntryRow, after_blocks}
 use Rattle.rtcp_members.proofs.LawLemmas as tables
 use Rattle.rtcp_report.proofs.LawLemmas.{tables_follow_reports-packets}
 use Rattle.rtcp_timer.specs.Schedules.{Timing}
 use Rattle.rtcp_engine.specs.OwnStreams.{OwnValue}
-use Rattle.rtcp_engine.specs.Arrivals.{media_fact, facts_of_csrcs, facts_of_media}
+use Rattle.rtcp_engine.specs.Arrivals.{media_fact, facts_of_csrcs, facts_of_media, rate_of}
 use Rattle.rtcp_engine.specs.States.{State, state_with, IsSound}
 
 -- a table that another became, with its bounds and room, and few packets of each source
@@ -32,13 +32,13 @@ pub record IsInStep (transmission reports latest calls : ℕ) : Type 0 where
 pub kept : {s : State} → IsSound s → (table : TableValue) (timing : Timing) (average : ℕ) (own : OwnValue)
     (cursor : Option ℕ) (reports latest calls : ℕ) →
     IsKept s.table table calls → IsInStep timing.last reports latest calls →
-    IsSound (state_with s.setup table timing average own cursor reports latest calls)
+    IsSound (state_with s.setup table timing average own cursor s.pace reports latest calls)
 kept {s} sound table timing average own cursor reports latest calls is_kept in_step = record {
   usable = sound.usable;
   capacity = is_kept.bounds.capacity ∙ sound.capacity;
-  rate = is_kept.bounds.rate ∙ sound.rate;
   room = omega (arith, is_kept.room, sound.capacity);
   few = is_kept.few;
+  pace = sound.pace;
   reports = in_step.fewer;
   calls = in_step.few;
   timing = in_step.is_past;
@@ -63,6 +63,13 @@ check_kept {s} sound horizons = record {
   bounds = tables.bounds_are_kept-check s.table horizons;
   room = tables.capacity_is_kept-check s.table horizons (few_entries sound);
   few = tables.packets_are_few-check s.calls s.table horizons sound.few;
+}
+
+pub forgotten_kept : {s : State} → IsSound s → (ssrc : ℕ) → IsKept s.table (after_forgetting ssrc s.table) s.calls
+forgotten_kept {s} sound ssrc = record {
+  bounds = tables.bounds_are_kept-forgotten s.table ssrc;
+  room = tables.capacity_is_kept-forgotten s.table ssrc (few_entries sound);
+  few = tables.packets_are_few-forgotten s.calls s.table ssrc sound.few;
 }
 
 pub blocks_kept : {s : State} → IsSound s → (rows : List EntryRow) → IsKept s.table (after_blocks rows s.table) s.calls
@@ -90,27 +97,33 @@ heard_facts own (csrc ∷ csrcs) =
     (sym (map_of_test other csrc (filter (λ ssrc. not (ssrc == own)) csrcs)))
     (one_heard other csrc (facts_of_csrcs own csrcs) (heard_facts own csrcs))
 
-few_media : (own : ℕ) (head : RtpValue) (is_counted : Bool) (table : TableValue) (t packets : ℕ) →
+few_media : (own rate : ℕ) (head : RtpValue) (is_counted : Bool) (table : TableValue) (t packets : ℕ) →
     HasFew packets table →
-    HasFew (packets + 1) (after_facts (media_fact head ∷ (if is_counted then facts_of_csrcs own head.csrcs else [])) t
+    HasFew (packets + 1) (after_facts
+    (media_fact rate head ∷ (if is_counted then facts_of_csrcs own head.csrcs else [])) t
     table)
-few_media own head true table t packets few =
-    tables.packets_are_few-facts (packets + 1) (after_fact (media_fact head) t table) (facts_of_csrcs own head.csrcs) t
+few_media own rate head true table t packets few =
+    tables.packets_are_few-facts (packets + 1) (after_fact (media_fact rate head) t table)
+    (facts_of_csrcs own head.csrcs) t
     (heard_facts own head.csrcs)
-    (tables.packets_are_few-fact packets table (media_fact head) t few)
-few_media own head false table t packets few = tables.packets_are_few-fact packets table (media_fact head) t few
+    (tables.packets_are_few-fact packets table (media_fact rate head) t few)
+few_media own rate head false table t packets few = tables.packets_are_few-fact packets table (media_fact rate head) t
+    few
 
 -- a source has a packet more, but still no more than there were calls
 pub media_kept : {s : State} → IsSound s → 0 < s.calls → HasFew (s.calls - 1) s.table → (head : RtpValue) (t : ℕ) →
-    IsKept s.table (after_facts (facts_of_media s.setup.ssrc head (counted s.table (media_fact head))) t s.table)
+    IsKept s.table (after_facts (facts_of_media s.setup.ssrc (rate_of s.setup head) head
+    (counted s.table (media_fact (rate_of s.setup head) head))) t s.table)
     s.calls
 media_kept {s} sound some few head t =
-    let facts = facts_of_media s.setup.ssrc head (counted s.table (media_fact head)) in
+    let facts = facts_of_media s.setup.ssrc (rate_of s.setup head) head
+    (counted s.table (media_fact (rate_of s.setup head) head)) in
     record {
       bounds = tables.bounds_are_kept-facts s.table facts t;
       room = tables.capacity_is_kept-facts s.table facts t (few_entries sound);
       few = tables.packets_are_few-more (s.calls - 1 + 1) s.calls (after_facts facts t s.table) (omega (arith, some))
-          (few_media s.setup.ssrc head (counted s.table (media_fact head)) s.table t (s.calls - 1) few);
+          (few_media s.setup.ssrc (rate_of s.setup head) head
+          (counted s.table (media_fact (rate_of s.setup head) head)) s.table t (s.calls - 1) few);
     }
 
 -- ---- Schedules and calls

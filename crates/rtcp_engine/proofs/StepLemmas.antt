@@ -6,20 +6,20 @@ use Rattle.rtcp_wire.specs.Facts.{facts_of}
 use Rattle.rtcp_wire.specs.RtpHeads.{RtpValue}
 use Rattle.rtcp_wire.specs.Values.{RtcpPacket}
 use Rattle.rtcp_members.specs.Traces.{Horizons}
-use Rattle.rtcp_members.specs.Tables.{TableValue, after_check, after_facts, counted}
+use Rattle.rtcp_members.specs.Tables.{TableValue, after_check, after_facts, counted, after_forgetting}
 use Rattle.rtcp_members.specs.Pending.{after_blocks, last_reported}
 use Rattle.rtcp_members.proofs.LawLemmas as tables
 use Rattle.rtcp_timer.specs.Averages.{moved_average}
 use Rattle.rtcp_timer.specs.Schedules.{Happening, Timing, after, tried, transmitted}
 use Rattle.rtcp_engine.specs.Setups.{Setup}
 use Rattle.rtcp_engine.specs.OwnStreams.{OwnValue, Adds, packet_sent, check_passed, report_sent}
-use Rattle.rtcp_engine.specs.Outcomes.{Outcome, member_count, timing_of, interval_at, receiver_interval_at}
+use Rattle.rtcp_engine.specs.Outcomes.{Outcome, member_count, timing_of, interval_at, check_interval}
 use Rattle.rtcp_engine.specs.Reporting.{report_octets}
 use Rattle.rtcp_engine.specs.Leaving.{Backoff, after_wait, backoff_from, is_bye_due, leaving_average, leaving_count, leaving_interval, leaving_load, leaving_timing, with_farewell_of}
-use Rattle.rtcp_engine.specs.Arrivals.{facts_of_media, media_fact, with_facts_of, with_media, with_packet}
-use Rattle.rtcp_engine.specs.Ticks.{horizons_of, with_check, without_silent, has_come, has_passed, is_report_due, put_off, tried_at, report_due, with_report, reported, after_check as after_check_at}
+use Rattle.rtcp_engine.specs.Arrivals.{facts_of_media, media_fact, rate_of, with_facts_of, with_media, with_packet}
+use Rattle.rtcp_engine.specs.Ticks.{horizons_of, with_check, without_silent, has_come, has_passed, is_report_due, put_off, tried_at, report_due, with_report, reported, after_check as after_check_at, with_forgotten}
 use Rattle.rtcp_engine.specs.States.{State, Agrees, Does, DoesWaiting, KeepsCapacity, Stays, Waits}
-use Rattle.rtcp_engine.proofs.Agreeing.{load, facts_agree, media_agree, sizes_agree, with_own, rows_in, octets_in, octets_agree, sent_reports_agree}
+use Rattle.rtcp_engine.proofs.Agreeing.{load, facts_agree, media_agree, sizes_agree, with_own, rows_in, octets_in, octets_agree, sent_reports_agree, forgotten_agree}
 
 -- ---- Steps one after the other
 
@@ -79,6 +79,7 @@ happens : {s : State} {outcome : Outcome} → Agrees s outcome → (happening : 
 happens {s} {outcome} a happening timing is = record {
   timing = is ∙ ap (after happening) a.timing;
   average = a.average;
+  pace = a.pace;
   still = with_own s outcome a.still a.still.own;
 }
 
@@ -167,6 +168,7 @@ due : (s : State) (setup : Setup) (t first_word second_word : ℕ) (outcome : Ou
 due s setup t first_word second_word outcome true true h a = record {
   timing = a.timing;
   average = a.average;
+  pace = a.pace;
   still = with_own s (reported setup t second_word (put_off setup t first_word outcome)) a.still a.still.own;
 }
 due s setup t first_word second_word outcome true false h a = absurd cc
@@ -182,20 +184,25 @@ checks_agree s outcome horizons own adds a =
     record {
       timing = a.timing;
       average = a.average;
+      pace = a.pace;
       still = record {
         table = tables.tables_follow_traces-check s.table outcome.trace horizons a.still.table;
         capacity = kept.capacity ∙ a.still.capacity;
-        rate = kept.rate ∙ a.still.rate;
         own = adds outcome.own a.still.own;
         cursor = a.still.cursor;
         reports = a.still.reports;
       };
     }
 
-abbrev pub IsReceiverInterval : State → ℕ → Type 0
-IsReceiverInterval w td = (outcome : Outcome) → Agrees w outcome → td ≡ receiver_interval_at w.setup outcome
+abbrev pub IsCheckInterval : State → (t td : ℕ) → Type 0
+IsCheckInterval w t td = (outcome : Outcome) → Agrees w outcome → td ≡ check_interval w.setup t outcome
 
-pub drops : {s w : State} → s ≡ w → (table : TableValue) (own : OwnValue) (t td : ℕ) → IsReceiverInterval w td →
+-- the interval at the moment of the latest call, as the parts inside have that moment
+pub inside_interval : {s w : State} {td : ℕ} → s ≡ w → IsCheckInterval w w.latest td → IsCheckInterval w s.latest td
+inside_interval {s} {w} {td} is interval outcome agrees =
+    interval outcome agrees ∙ ap (λ (x : State). check_interval w.setup x.latest outcome) (sym is)
+
+pub drops : {s w : State} → s ≡ w → (table : TableValue) (own : OwnValue) (t td : ℕ) → IsCheckInterval w t td →
     table ≡ after_check (horizons_of t td) s.table → Adds s.own own (check_passed (t - 2 * td))
     → KeepsCapacity (record s { table = table; own = own }) →
     Does w (record s { table = table; own = own }) (λ setup. without_silent setup t)
@@ -210,6 +217,15 @@ drops {s} {w} is table own t td interval table_is adds within =
           (checks_agree s outcome (horizons_of t td) own adds (seen is outcome a)));
     }
 
+pub forgets : {s w : State} → s ≡ w → (table : TableValue) (ssrc : ℕ) → table ≡ after_forgetting ssrc s.table →
+    KeepsCapacity (record s { table = table }) → Does w (record s { table = table }) (λ setup. with_forgotten ssrc)
+forgets {s} {w} is table ssrc table_is within = record {
+  stays = stays_by is refl refl refl;
+  within = within;
+  follows = λ outcome a. subst (λ (x : TableValue). Agrees (record s { table = x }) (with_forgotten ssrc outcome))
+      (sym table_is) (forgotten_agree s outcome ssrc (seen is outcome a));
+}
+
 -- ---- Sent packets
 
 pub sends : {s w : State} → s ≡ w → (own : OwnValue) (t timestamp octets : ℕ) →
@@ -223,6 +239,7 @@ sends {s} {w} is own t timestamp octets adds within = record {
       record {
         timing = a.timing;
         average = a.average;
+        pace = a.pace;
         still = with_own s outcome a.still (adds outcome.own a.still.own);
       };
 }
@@ -330,7 +347,8 @@ takes_facts {s} {w} is t size packets table average table_is average_is within =
 }
 
 pub takes_media : {s w : State} → s ≡ w → (t : ℕ) (head : RtpValue) (table : TableValue) →
-    table ≡ after_facts (facts_of_media s.setup.ssrc head (counted s.table (media_fact head))) t s.table
+    table ≡ after_facts (facts_of_media s.setup.ssrc (rate_of s.setup head) head
+    (counted s.table (media_fact (rate_of s.setup head) head))) t s.table
     → KeepsCapacity (record s { table = table }) →
     Does w (record s { table = table }) (λ setup. with_media setup t head)
 takes_media {s} {w} is t head table table_is within =

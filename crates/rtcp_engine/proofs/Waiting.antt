@@ -13,15 +13,15 @@ use Rattle.rtcp_timer.specs.Loads.{interval_of}
 use Rattle.rtcp_timer.specs.Schedules.{Happening, Timing, IsDue, IsInOrder, newest_transmission, greatest_draw, schedule_at}
 use Rattle.rtcp_timer.specs.Departures.{members_known, last_departure}
 use Rattle.rtcp_timer.proofs.LawLemmas.{due_in_time}
-use Rattle.rtcp_engine.specs.Setups.{Setup, IsUsable}
-use Rattle.rtcp_engine.specs.Acts.{rtcp, rtp, Act, arrived, rtp_sent, ticked, left, moment_of}
+use Rattle.rtcp_engine.specs.Setups.{Setup, SettingsValue, IsUsable, settings_of, with_settings}
+use Rattle.rtcp_engine.specs.Acts.{rtcp, rtp, Act, arrived, rtp_sent, ticked, left, configured, moment_of, forgotten}
 use Rattle.rtcp_engine.specs.Identities.{with_ssrc}
 use Rattle.rtcp_engine.specs.OwnStreams.{has_sent}
-use Rattle.rtcp_engine.specs.Outcomes.{Outcome, interval_at, member_count, nothing_yet}
+use Rattle.rtcp_engine.specs.Outcomes.{Outcome, interval_at, member_count, nothing_yet, with_pace}
 use Rattle.rtcp_engine.specs.Ticks.{checked, has_come, has_passed, is_report_due, put_off, reported, with_recount, with_report}
-use Rattle.rtcp_engine.specs.Arrivals.{media_fact, with_media}
+use Rattle.rtcp_engine.specs.Arrivals.{media_fact, rate_of, with_media}
 use Rattle.rtcp_engine.specs.Changes.{NewIdentifier, Session, change_by, changed_by}
-use Rattle.rtcp_engine.specs.Histories.{History, last_moment, life_at, session_of, setup_at}
+use Rattle.rtcp_engine.specs.Histories.{History, last_moment, life_at, session_of, settings_after, setup_at}
 use Rattle.rtcp_engine.specs.Refusals.{refusal_after}
 use Rattle.rtcp_engine.specs.Reporting.{bye_octets, report_octets}
 use Rattle.rtcp_engine.specs.Taken.{HasWords, AllTaken, IsHistory}
@@ -58,14 +58,14 @@ drawn_too interval greatest drawn word fits h =
 
 -- ---- Members
 
-csrcs_keep : (capacity rate moment : ℕ) (ssrcs : List ℕ) (trace : List TraceStep) →
-    members_at capacity rate trace ≤ members_at capacity rate (with_facts (map Heard ssrcs) moment trace)
-csrcs_keep capacity rate moment [] trace = omega arith
-csrcs_keep capacity rate moment (ssrc ∷ ssrcs) trace =
+csrcs_keep : (capacity moment : ℕ) (ssrcs : List ℕ) (trace : List TraceStep) →
+    members_at capacity trace ≤ members_at capacity (with_facts (map Heard ssrcs) moment trace)
+csrcs_keep capacity moment [] trace = omega arith
+csrcs_keep capacity moment (ssrc ∷ ssrcs) trace =
     omega (
       arith,
-      facts_keep_members capacity rate trace (Heard ssrc) moment refl,
-      csrcs_keep capacity rate moment ssrcs
+      facts_keep_members capacity trace (Heard ssrc) moment refl,
+      csrcs_keep capacity moment ssrcs
           (fact_came (Heard ssrc) moment ∷ trace),
     )
 
@@ -73,13 +73,13 @@ csrcs_keep capacity rate moment (ssrc ∷ ssrcs) trace =
 media_keeps : (setup : Setup) (moment : ℕ) (head : RtpValue) (outcome : Outcome) →
     member_count setup outcome ≤ member_count setup (with_media setup moment head outcome)
 media_keeps setup moment head outcome =
-    let media = media_fact head in
-    let kept = facts_keep_members setup.capacity setup.rate outcome.trace media moment refl in
+    let media = media_fact (rate_of setup head) head in
+    let kept = facts_keep_members setup.capacity outcome.trace media moment refl in
     let csrcs = filter (λ ssrc. not (ssrc == setup.ssrc)) head.csrcs in
     let now = fact_came media moment ∷ outcome.trace in
-    let others = cond_both (counted_at setup.capacity setup.rate outcome.trace media) (map Heard csrcs) []
-    (λ (facts : List Fact). members_at setup.capacity setup.rate now ≤ members_at setup.capacity setup.rate
-    (with_facts facts moment now)) (λ _. csrcs_keep setup.capacity setup.rate moment csrcs now) (λ _. omega arith) in
+    let others = cond_both (counted_at setup.capacity outcome.trace media) (map Heard csrcs) []
+    (λ (facts : List Fact). members_at setup.capacity now ≤ members_at setup.capacity
+    (with_facts facts moment now)) (λ _. csrcs_keep setup.capacity moment csrcs now) (λ _. omega arith) in
     omega (arith, kept, others)
 
 -- ---- While the participant takes part
@@ -242,6 +242,10 @@ while_present_waits setup fall greatest t (ticked moment first_word second_word)
     words.1 (tick_checks setup fall greatest t moment first_word second_word outcome order h)
 while_present_waits setup fall greatest t (left moment word) outcome order words h =
     leaves_by moment word _ words order h
+while_present_waits setup fall greatest t (configured moment settings) outcome order words h =
+    passes moment (is_fall setup (configured moment settings) (present outcome)) (with_pace setup moment outcome) refl
+    (omega arith) order h
+while_present_waits setup fall greatest t (forgotten moment ssrc) outcome order words h = recounts moment _ refl order h
 
 while_backing_off_waits : (setup : Setup) (fall greatest t : ℕ) (act : Act) (outcome : Outcome) (backoff : Backoff) →
     HasWords act → WaitsToLeave greatest backoff
@@ -257,6 +261,8 @@ while_backing_off_waits setup fall greatest t (rtp_sent moment timestamp octets)
 while_backing_off_waits setup fall greatest t (ticked moment first_word second_word) outcome backoff words h =
     waits_on setup fall moment first_word outcome backoff words.0 h
 while_backing_off_waits setup fall greatest t (left moment word) outcome backoff words h = h
+while_backing_off_waits setup fall greatest t (configured moment settings) outcome backoff words h = h
+while_backing_off_waits setup fall greatest t (forgotten moment ssrc) outcome backoff words h = h
 
 waits_after : (setup : Setup) (fall greatest t : ℕ) (act : Act) (life : Life) → t ≤ moment_of act → HasWords act →
     KeepsTime setup fall greatest t life
@@ -287,6 +293,14 @@ keeps_with_ssrc setup ssrc fall greatest t (present outcome) h =
 keeps_with_ssrc setup ssrc fall greatest t (backing_off outcome backoff) h = h
 keeps_with_ssrc setup ssrc fall greatest t (gone outcome) h = tt
 
+-- Nor do other settings.
+keeps_with_settings : (setup : Setup) (settings : SettingsValue) (fall greatest t : ℕ) (life : Life) →
+    KeepsTime setup fall greatest t life → KeepsTime (with_settings settings setup) fall greatest t life
+keeps_with_settings setup settings fall greatest t (present outcome) h =
+    record { known = h.known; fell = h.fell; drawn = h.drawn; past = h.past }
+keeps_with_settings setup settings fall greatest t (backing_off outcome backoff) h = h
+keeps_with_settings setup settings fall greatest t (gone outcome) h = tt
+
 change_keeps_time : (session : Session) (fall greatest t : ℕ) (change : Option NewIdentifier) →
     KeepsTime session.setup fall greatest t session.life → KeepsTime (changed_by change session).setup fall greatest t
     (changed_by change session).life
@@ -309,10 +323,12 @@ session_keeps_time setup word (act ∷ earlier) fits taken =
     let before = session_of setup word earlier in
     let change = change_by before act in
     let now = changed_by change before in
-    waits_after now.setup (last_fall setup word earlier) (greatest_interval setup word earlier) (last_moment earlier)
+    keeps_with_settings now.setup (settings_after act (settings_of now.setup)) _ _ (moment_of act)
+    (lived now.setup act now.life)
+    (waits_after now.setup (last_fall setup word earlier) (greatest_interval setup word earlier) (last_moment earlier)
     act now.life
     (in_time (record { setup = setup; word = word; acts = earlier }) act taken.0) taken.1
-    (change_keeps_time before _ _ _ change (session_keeps_time setup word earlier fits taken.2))
+    (change_keeps_time before _ _ _ change (session_keeps_time setup word earlier fits taken.2)))
 
 -- ---- Ticks that come late
 
@@ -403,6 +419,8 @@ in_time_after history (ticked moment first_word second_word) is taken words = λ
     (session_keeps_apart history.setup history.word history.acts is.usable is.taken)
     (session_keeps_time history.setup history.word history.acts is.word is.taken) late
 in_time_after history (left moment word) is taken words = tt
+in_time_after history (configured moment settings) is taken words = tt
+in_time_after history (forgotten moment ssrc) is taken words = tt
 
 pub all_in_time : (setup : Setup) (word : ℕ) (acts : List Act) → IsUsable setup → word < 2 ^ 32 →
     AllTaken setup word acts → AllInTime setup word acts

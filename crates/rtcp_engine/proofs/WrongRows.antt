@@ -203,7 +203,7 @@ told_only_before_the_latest : ((history : History) → IsHistory history → (af
     TellsInLife (setup_at history) after (life_at history) (Some state) →
     state.heard < last_moment history.acts) → ⊥
 told_only_before_the_latest law =
-    let sooner : 0 < 0 = law heard heard_stands None (told_in_stay 8000 0 its_stay)
+    let sooner : 0 < 0 = law heard heard_stands None (told_in_stay 0 its_stay)
     (record {
       above = refl;
       least = λ ssrc is below. absurd (omega (arith, below));

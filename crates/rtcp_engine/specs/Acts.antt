@@ -1,5 +1,5 @@
--- What a participant is told: what came, what was sent beside it, that time has passed, and that it is to
--- leave. Moments are in microseconds since the session began.
+-- What a participant is told: what came, what was sent beside it, that time has passed, that its settings change, that
+-- a source is gone, and that it is to leave. Moments are in microseconds since the session began.
 use Rattle.std.specs.Prelude.{◌≡◌, ℕ, List, length, Result, Ok, Err}
 use Rattle.rtcp_wire.specs.declared.fault.WireFault.{WireFault}
 use Rattle.rtcp_wire.specs.declared.rtp.fault.RtpFault.{RtpFault}
@@ -7,6 +7,7 @@ use Rattle.rtcp_wire.specs.Values.{RtcpPacket}
 use Rattle.rtcp_wire.specs.Grammar.{IsAccepted}
 use Rattle.rtcp_wire.specs.Faults.{IsFirstFault}
 use Rattle.rtcp_wire.specs.RtpHeads.{RtpValue, IsRtpHead, IsRtpFault}
+use Rattle.rtcp_engine.specs.Setups.{SettingsValue}
 
 -- What a datagram says that came.
 pub data Datagram : Type 0 where
@@ -24,12 +25,18 @@ pub data Act : Type 0 where
   ticked : (moment first_word second_word : ℕ) → Act
   -- the host asked the participant to leave, and gave a random word for the draw of a backoff
   left : (moment word : ℕ) → Act
+  -- the host gave other settings, which hold from then on
+  configured : (moment : ℕ) (settings : SettingsValue) → Act
+  -- the host said that another source is gone
+  forgotten : (moment ssrc : ℕ) → Act
 
 abbrev pub moment_of : Act → ℕ
 moment_of (arrived moment peer word datagram) = moment
 moment_of (rtp_sent moment timestamp octets) = moment
 moment_of (ticked moment first_word second_word) = moment
 moment_of (left moment word) = moment
+moment_of (configured moment settings) = moment
+moment_of (forgotten moment ssrc) = moment
 
 -- an RTCP datagram came with these octets, which say so
 abbrev pub rtcp_came : (moment peer word : ℕ) (octets : List ℕ) → Result (List RtcpPacket) WireFault → Act
@@ -73,6 +80,10 @@ pub data EventValue : Type 0 where
   time_passed : (moment first_word second_word : ℕ) → EventValue
   -- the host asked the participant to leave, and gave a random word
   leave_asked : (moment word : ℕ) → EventValue
+  -- the host gave other settings
+  settings_given : (moment : ℕ) (settings : SettingsValue) → EventValue
+  -- the host said that another source is gone
+  forget_asked : (moment ssrc : ℕ) → EventValue
 
 -- The act of an event: what the octets of a datagram say stands in it.
 abbrev pub IsActOfEvent : EventValue → Act → Type 0
@@ -84,3 +95,5 @@ IsActOfEvent (rtp_arrived moment peer word octets) act =
 IsActOfEvent (packet_sent moment timestamp octets) act = act ≡ rtp_sent moment timestamp octets
 IsActOfEvent (time_passed moment first_word second_word) act = act ≡ ticked moment first_word second_word
 IsActOfEvent (leave_asked moment word) act = act ≡ left moment word
+IsActOfEvent (settings_given moment settings) act = act ≡ configured moment settings
+IsActOfEvent (forget_asked moment ssrc) act = act ≡ forgotten moment ssrc

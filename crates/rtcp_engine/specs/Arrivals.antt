@@ -9,12 +9,12 @@ use Rattle.rtcp_wire.specs.Facts.{facts_of}
 use Rattle.rtcp_wire.specs.RtpHeads.{RtpValue}
 use Rattle.rtcp_members.specs.Traces.{with_facts}
 use Rattle.rtcp_members.specs.Entries.{counted_at}
-use Rattle.rtcp_engine.specs.Setups.{Setup}
-use Rattle.rtcp_engine.specs.Acts.{Datagram, rtcp, rtp, Act, arrived, rtp_sent, ticked, left}
+use Rattle.rtcp_engine.specs.Setups.{Setup, rate_among}
+use Rattle.rtcp_engine.specs.Acts.{Datagram, rtcp, rtp, Act, arrived, rtp_sent, ticked, left, configured, forgotten}
 use Rattle.rtcp_engine.specs.OwnStreams.{packet_sent, counts_anew, has_sent}
 use Rattle.rtcp_engine.specs.Reporting.{bye_octets}
-use Rattle.rtcp_engine.specs.Outcomes.{Outcome}
-use Rattle.rtcp_engine.specs.Ticks.{with_recount, after_tick}
+use Rattle.rtcp_engine.specs.Outcomes.{Outcome, with_pace}
+use Rattle.rtcp_engine.specs.Ticks.{with_recount, after_tick, without_source}
 
 -- ---- Arrivals
 
@@ -27,8 +27,13 @@ with_facts_of t size packets outcome =
 abbrev pub with_compound : Setup → (t size : ℕ) → List RtcpPacket → Outcome → Outcome
 with_compound setup t size packets outcome = with_recount setup t (with_facts_of t size packets outcome)
 
-abbrev pub media_fact : RtpValue → Fact
-media_fact head = Media head.ssrc head.sequence head.timestamp (length head.payload)
+-- An RTP packet, whose timestamp counts in units of a clock of this rate.
+abbrev pub media_fact : (rate : ℕ) → RtpValue → Fact
+media_fact rate head = Media head.ssrc head.sequence head.timestamp (length head.payload) rate
+
+-- the rate of the clock of its payload type
+abbrev pub rate_of : Setup → RtpValue → ℕ
+rate_of setup head = rate_among setup.clocks setup.rate head.payload_type
 
 -- what the contributing sources give, but for the participant itself
 abbrev pub facts_of_csrcs : (own : ℕ) → (csrcs : List ℕ) → List Fact
@@ -36,14 +41,15 @@ facts_of_csrcs own csrcs = map Heard (filter (λ ssrc. not (ssrc == own)) csrcs)
 
 -- The facts of an RTP packet that came (6.3.3): the packet, and if it is counted, its contributing sources
 -- too.
-abbrev pub facts_of_media : (own : ℕ) → RtpValue → (is_counted : Bool) → List Fact
-facts_of_media own head is_counted =
-    media_fact head ∷ (if is_counted then facts_of_csrcs own head.csrcs else [])
+abbrev pub facts_of_media : (own rate : ℕ) → RtpValue → (is_counted : Bool) → List Fact
+facts_of_media own rate head is_counted =
+    media_fact rate head ∷ (if is_counted then facts_of_csrcs own head.csrcs else [])
 
 abbrev pub with_media : Setup → (t : ℕ) → RtpValue → Outcome → Outcome
 with_media setup t head outcome =
-    let is_counted = counted_at setup.capacity setup.rate outcome.trace (media_fact head) in
-    record outcome { trace = with_facts (facts_of_media setup.ssrc head is_counted) t outcome.trace }
+    let rate = rate_of setup head in
+    let is_counted = counted_at setup.capacity outcome.trace (media_fact rate head) in
+    record outcome { trace = with_facts (facts_of_media setup.ssrc rate head is_counted) t outcome.trace }
 
 -- What a datagram with a fault would change is nothing, and so no history holds one.
 abbrev pub with_reading : Setup → (t size : ℕ) → Result (List RtcpPacket) WireFault → Outcome → Outcome
@@ -76,10 +82,14 @@ with_change setup outcome =
 
 -- ---- Acts
 
--- (A leave ends the participation whose outcome this is, and adds nothing to it.)
+-- (A leave ends the participation whose outcome this is, and adds nothing to it. Settings change the setup: members,
+-- average and schedule stay, each interval is computed with the setup of its act, and only the pace of checks is
+-- noted.)
 abbrev pub after : Setup → Act → Outcome → Outcome
 after setup (arrived moment peer word datagram) outcome = with_datagram setup moment datagram outcome
 after setup (rtp_sent moment timestamp octets) outcome = with_packet moment timestamp octets outcome
 after setup (ticked moment first_word second_word) outcome =
     after_tick setup moment first_word second_word outcome
 after setup (left moment word) outcome = outcome
+after setup (configured moment settings) outcome = with_pace setup moment outcome
+after setup (forgotten moment ssrc) outcome = without_source setup moment ssrc outcome

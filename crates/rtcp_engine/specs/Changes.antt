@@ -48,8 +48,8 @@ named_by (rtp (Err fault)) = []
 
 -- whether the table has an entry of a source, marked or not: in a backoff as it stood at the leave
 abbrev pub is_in_table : Setup → Life → (ssrc : ℕ) → Bool
-is_in_table setup (present outcome) ssrc = is_some (entry_at setup.capacity setup.rate outcome.trace ssrc)
-is_in_table setup (backing_off outcome backoff) ssrc = is_some (entry_at setup.capacity setup.rate outcome.trace ssrc)
+is_in_table setup (present outcome) ssrc = is_some (entry_at setup.capacity outcome.trace ssrc)
+is_in_table setup (backing_off outcome backoff) ssrc = is_some (entry_at setup.capacity outcome.trace ssrc)
 is_in_table setup (gone outcome) ssrc = false
 
 -- An identifier is taken if the participant has or had it, if the table has it, or if the datagram names it.

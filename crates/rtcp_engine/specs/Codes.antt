@@ -6,7 +6,8 @@ use Rattle.rtcp_members.specs.Codes.{table_code}
 use Rattle.rtcp_timer.specs.Schedules.{Timing}
 use Rattle.rtcp_wire.specs.Values.{ItemValue}
 use Rattle.rtcp_engine.specs.declared.changes.Change.{Change}
-use Rattle.rtcp_engine.specs.Setups.{Setup}
+use Rattle.rtcp_engine.specs.declared.pace.Pace.{Pace}
+use Rattle.rtcp_engine.specs.Setups.{Setup, ClockValue}
 use Rattle.rtcp_engine.specs.OwnStreams.{PacketValue, OwnValue}
 use Rattle.rtcp_engine.specs.States.{State, PhaseValue, taking_part, leaving, over, ParticipantValue}
 
@@ -15,19 +16,25 @@ item_code =
     code_by (ℕ × List ℕ) (coded× coded_ℕ (coded_list coded_ℕ)) (λ i. (i.kind, i.text))
     (λ p. record { kind = p.0; text = p.1 }) (λ _. refl)
 
+abbrev pub clock_code : Coded ClockValue
+clock_code =
+    code_by (ℕ × ℕ) (coded× coded_ℕ coded_ℕ) (λ c. (c.payload_type, c.rate))
+    (λ p. record { payload_type = p.0; rate = p.1 }) (λ _. refl)
+
 abbrev pub setup_code : Coded Setup
 setup_code =
-    code_by (ℕ × (List ℕ × (List ItemValue × (ℕ × (ℕ × (ℕ × (ℕ × (ℕ × ℕ))))))))
+    code_by (ℕ × (List ℕ × (List ItemValue × (ℕ × (ℕ × (ℕ × (ℕ × (ℕ × (ℕ × List ClockValue)))))))))
     (coded× coded_ℕ (coded× (coded_list coded_ℕ)
     (coded× (coded_list item_code)
-    (coded× coded_ℕ (coded× coded_ℕ (coded× coded_ℕ (coded× coded_ℕ (coded× coded_ℕ coded_ℕ))))))))
+    (coded× coded_ℕ (coded× coded_ℕ (coded× coded_ℕ (coded× coded_ℕ (coded× coded_ℕ
+    (coded× coded_ℕ (coded_list clock_code))))))))))
     (λ s. (
       s.ssrc,
       (
         s.cname,
         (
           s.extras,
-          (s.capacity, (s.limit, (s.sender_bw, (s.receiver_bw, (s.rate, s.ntp_base))))),
+          (s.capacity, (s.limit, (s.sender_bw, (s.receiver_bw, (s.rate, (s.ntp_base, s.clocks)))))),
         ),
       ),
     ))
@@ -41,7 +48,8 @@ setup_code =
           p.1.1.1.1.1.0;
       receiver_bw = p.1.1.1.1.1.1.0;
       rate = p.1.1.1.1.1.1.1.0;
-      ntp_base = p.1.1.1.1.1.1.1.1;
+      ntp_base = p.1.1.1.1.1.1.1.1.0;
+      clocks = p.1.1.1.1.1.1.1.1.1;
     })
     (λ _. refl)
 
@@ -63,13 +71,22 @@ own_code =
     (λ p. record { sending = p.0; newest = p.1.0; packets = p.1.1.0; octets = p.1.1.1.0; heard = p.1.1.1.1 })
     (λ _. refl)
 
+abbrev pub pace_code : Coded Pace
+pace_code =
+    code_by (ℕ × (ℕ × ℕ)) (coded× coded_ℕ (coded× coded_ℕ coded_ℕ)) (λ p. (p.sender_bw, (p.receiver_bw, p.until)))
+    (λ p. record { sender_bw = p.0; receiver_bw = p.1.0; until = p.1.1 }) (λ _. refl)
+
 abbrev pub state_code : Coded State
 state_code =
-    code_by (Setup × (TableValue × (Timing × (ℕ × (OwnValue × (Option ℕ × (ℕ × (ℕ × ℕ))))))))
+    code_by (Setup × (TableValue × (Timing × (ℕ × (OwnValue × (Option ℕ × (Option Pace × (ℕ × (ℕ × ℕ)))))))))
     (coded× setup_code (coded× table_code
     (coded× timing_code (coded× coded_ℕ
-    (coded× own_code (coded× (coded_option coded_ℕ) (coded× coded_ℕ (coded× coded_ℕ coded_ℕ))))))))
-    (λ s. (s.setup, (s.table, (s.timing, (s.average, (s.own, (s.cursor, (s.reports, (s.latest, s.calls)))))))))
+    (coded× own_code (coded× (coded_option coded_ℕ)
+    (coded× (coded_option pace_code) (coded× coded_ℕ (coded× coded_ℕ coded_ℕ)))))))))
+    (λ s. (
+      s.setup,
+      (s.table, (s.timing, (s.average, (s.own, (s.cursor, (s.pace, (s.reports, (s.latest, s.calls)))))))),
+    ))
     (λ p. record {
       setup = p.0;
       table = p.1.0;
@@ -77,9 +94,10 @@ state_code =
       average = p.1.1.1.0;
       own = p.1.1.1.1.0;
       cursor = p.1.1.1.1.1.0;
-      reports = p.1.1.1.1.1.1.0;
-      latest = p.1.1.1.1.1.1.1.0;
-      calls = p.1.1.1.1.1.1.1.1;
+      pace = p.1.1.1.1.1.1.0;
+      reports = p.1.1.1.1.1.1.1.0;
+      latest = p.1.1.1.1.1.1.1.1.0;
+      calls = p.1.1.1.1.1.1.1.1.1;
     })
     (λ _. refl)
 

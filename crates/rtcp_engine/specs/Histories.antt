@@ -1,8 +1,8 @@
 -- What the acts of a session come to, from its beginning on. A history is a list of acts, newest first.
 use Rattle.std.specs.Prelude.{ℕ, Bool, List, [], ◌∷◌, Option}
 use Rattle.std.specs.Option.{option_or}
-use Rattle.rtcp_engine.specs.Setups.{Setup}
-use Rattle.rtcp_engine.specs.Acts.{Act, moment_of}
+use Rattle.rtcp_engine.specs.Setups.{Setup, SettingsValue, settings_of, with_settings}
+use Rattle.rtcp_engine.specs.Acts.{Act, configured, moment_of}
 use Rattle.rtcp_engine.specs.Outcomes.{beginning}
 use Rattle.rtcp_engine.specs.Steps.{OutValue}
 use Rattle.rtcp_engine.specs.Leaving.{Life, present}
@@ -30,8 +30,19 @@ last_moment (act ∷ earlier) = moment_of act
 abbrev pub session_for : Session → Act → Session
 session_for session act = changed_by (change_by session act) session
 
+-- the settings after an act
+abbrev pub settings_after : Act → SettingsValue → SettingsValue
+settings_after (configured moment settings) before = settings
+settings_after act before = before
+
+-- the setup after an act, whose rest stays
+abbrev pub setup_after : Act → Setup → Setup
+setup_after act setup = with_settings (settings_after act (settings_of setup)) setup
+
 abbrev pub after_act : Session → Act → Session
-after_act session act = let now = session_for session act in record now { life = lived now.setup act now.life }
+after_act session act =
+    let now = session_for session act in
+    record now { setup = setup_after act now.setup; life = lived now.setup act now.life }
 
 -- The compound that an act brings: the BYE of an identifier that it gives up, or else its own.
 abbrev pub brought_by : Session → Act → Option OutValue
@@ -53,7 +64,7 @@ session_of setup word (act ∷ earlier) = after_act (session_of setup word earli
 abbrev pub session_at : History → Session
 session_at history = session_of history.setup history.word history.acts
 
--- the setup under the present identifier
+-- the setup under the present identifier, with the present settings
 abbrev pub setup_at : History → Setup
 setup_at history = (session_at history).setup
 

@@ -4,9 +4,9 @@ use Rattle.std.specs.Prelude.{ℕ, ◌+◌, ◌≤◌, Bool, false, IsTrue, is_s
 use Rattle.rtcp_clock.specs.Intervals.{longest_draw}
 use Rattle.rtcp_timer.specs.Loads.{interval_of}
 use Rattle.rtcp_engine.specs.Setups.{Setup}
-use Rattle.rtcp_engine.specs.Acts.{Act, rtcp, arrived, ticked, left, moment_of}
+use Rattle.rtcp_engine.specs.Acts.{Act, rtcp, arrived, ticked, left, forgotten, moment_of}
 use Rattle.rtcp_engine.specs.Outcomes.{Outcome, interval_at, member_count, nothing_yet}
-use Rattle.rtcp_engine.specs.Ticks.{checked, is_report_due, with_report}
+use Rattle.rtcp_engine.specs.Ticks.{checked, is_report_due, with_report, without_source}
 use Rattle.rtcp_engine.specs.Arrivals.{with_reading}
 use Rattle.rtcp_engine.specs.Histories.{History, brought_by, life_at, session_at, session_for, session_of, setup_at}
 use Rattle.rtcp_engine.specs.Leaving.{Backoff, Life, present, backing_off, gone, leaving_interval, leaving_load}
@@ -15,14 +15,16 @@ use Rattle.rtcp_engine.specs.Spacing.{newest_moment}
 
 -- ---- Falls
 
--- the session after a compound that came or the check of a tick: all that can lower the members
+-- the session after a compound that came, the check of a tick, or a source that is forgotten: all that can lower the
+-- members
 abbrev pub recounted_by : Setup → Act → Outcome → Outcome
 recounted_by setup (arrived moment peer word (rtcp size reading)) outcome =
     with_reading setup moment size reading outcome
 recounted_by setup (ticked moment first_word second_word) outcome = checked setup moment outcome
+recounted_by setup (forgotten moment ssrc) outcome = without_source setup moment ssrc outcome
 recounted_by setup act outcome = outcome
 
--- A fall is a compound or a check after which there are fewer members than before it.
+-- A fall is a compound, a check or a source that is forgotten, after which there are fewer members than before it.
 abbrev pub is_fall : Setup → Act → Life → Bool
 is_fall setup act (present outcome) =
     nat_lt (member_count setup (recounted_by setup act outcome)) (member_count setup outcome)

@@ -20,6 +20,7 @@ pub mod Spacing
 pub mod InTime
 pub mod Views
 pub mod Taken
+pub mod Pacing
 pub mod OwnValues
 pub mod States
 pub mod Sayings

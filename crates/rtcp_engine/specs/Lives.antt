@@ -12,7 +12,7 @@ use Rattle.rtcp_engine.specs.Setups.{Setup}
 use Rattle.rtcp_engine.specs.Acts.{Act, rtcp, arrived, ticked, left}
 use Rattle.rtcp_engine.specs.OwnStreams.{has_sent}
 use Rattle.rtcp_engine.specs.Reporting.{bye_octets}
-use Rattle.rtcp_engine.specs.Outcomes.{Outcome, member_count, sender_count, timing_of}
+use Rattle.rtcp_engine.specs.Outcomes.{Outcome, member_count, sender_count, timing_of, with_pace}
 use Rattle.rtcp_engine.specs.Arrivals.{after, with_change}
 use Rattle.rtcp_engine.specs.Steps.{OutValue, StepValue}
 use Rattle.rtcp_engine.specs.Ticks.{checked, report_due}
@@ -48,6 +48,12 @@ with_new_ssrc setup (backing_off outcome backoff) =
     backing_off (counted_anew outcome) (after_own_bye setup outcome backoff)
 with_new_ssrc setup (gone outcome) = gone outcome
 
+-- Other settings note the pace of checks, as long as the participant takes part.
+abbrev pub with_pace_in : Setup → (t : ℕ) → Life → Life
+with_pace_in setup t (present outcome) = present (with_pace setup t outcome)
+with_pace_in setup t (backing_off outcome backoff) = backing_off outcome backoff
+with_pace_in setup t (gone outcome) = gone outcome
+
 -- ---- Counts, with the participant among them until it is gone
 
 abbrev pub members_in_life : Setup → Life → ℕ
@@ -68,7 +74,7 @@ entries_in_life setup (gone outcome) = 0
 
 -- what the participant tells of a source goes by this, if it tells of it
 abbrev pub entry_in_life : Setup → Life → (ssrc : ℕ) → Option EntryValue
-entry_in_life setup (present outcome) ssrc = entry_at setup.capacity setup.rate outcome.trace ssrc
+entry_in_life setup (present outcome) ssrc = entry_at setup.capacity outcome.trace ssrc
 entry_in_life setup (backing_off outcome backoff) ssrc = None
 entry_in_life setup (gone outcome) ssrc = None
 
@@ -76,13 +82,13 @@ entry_in_life setup (gone outcome) ssrc = None
 -- In a backoff it follows nobody any more, so nobody is told from its leave on.
 abbrev pub TellsInLife : Setup → (after : Option ℕ) → Life → Option StateValue → Type 0
 TellsInLife setup after (present outcome) told =
-    TellsAbove after setup.capacity setup.rate outcome.trace told
+    TellsAbove after setup.capacity outcome.trace told
 TellsInLife setup after (backing_off outcome backoff) told = told ≡ None
 TellsInLife setup after (gone outcome) told = told ≡ None
 
 -- what is told of all sources, one after the other
 abbrev pub WalksInLife : Setup → Life → List StateValue → Type 0
-WalksInLife setup (present outcome) states = IsWalk None setup.capacity setup.rate outcome.trace states
+WalksInLife setup (present outcome) states = IsWalk None setup.capacity outcome.trace states
 WalksInLife setup (backing_off outcome backoff) states = states ≡ []
 WalksInLife setup (gone outcome) states = states ≡ []
 
@@ -90,12 +96,12 @@ WalksInLife setup (gone outcome) states = states ≡ []
 
 -- whether some other source is a member
 abbrev pub has_others : Setup → Outcome → Bool
-has_others setup outcome = not (members_at setup.capacity setup.rate outcome.trace == 0)
+has_others setup outcome = not (members_at setup.capacity outcome.trace == 0)
 
 -- Whether one of the steps since changed who of the others is a member, or who of them sends.
 abbrev pub moved_since : Setup → (before after : Outcome) → Bool
 moved_since setup before after =
-    moved_within setup.capacity setup.rate (length after.trace - length before.trace) after.trace
+    moved_within setup.capacity (length after.trace - length before.trace) after.trace
 
 -- the same of a life that began as this outcome: nobody is told of from a leave on
 abbrev pub others_moved_into : Setup → (before : Outcome) → Life → Bool

@@ -1,6 +1,6 @@
 -- What a session has come to: what happened to its members, its own stream, its compounds and its schedule.
 -- Lists are newest first.
-use Rattle.std.specs.Prelude.{ℕ, ◌+◌, Bool, true, false, List, [], ◌∷◌, if◌then◌else◌, None}
+use Rattle.std.specs.Prelude.{ℕ, ◌+◌, ◌*◌, ◌≤◌, Bool, true, false, nat_lt, min, List, [], ◌∷◌, if◌then◌else◌, Option, Some, None}
 use Rattle.rtcp_clock.specs.Intervals.{drawn_interval}
 use Rattle.rtcp_members.specs.Traces.{TraceStep}
 use Rattle.rtcp_members.specs.Entries.{members_at, senders_at}
@@ -11,6 +11,7 @@ use Rattle.rtcp_timer.specs.declared.load.Load.{Load}
 use Rattle.rtcp_timer.specs.Averages.{average_of}
 use Rattle.rtcp_timer.specs.Loads.{interval_of}
 use Rattle.rtcp_timer.specs.Schedules.{Happening, transmitted, Timing, schedule_at}
+use Rattle.rtcp_engine.specs.declared.pace.Pace.{Pace}
 use Rattle.rtcp_engine.specs.Setups.{Setup}
 use Rattle.rtcp_engine.specs.OwnStreams.{OwnStep, we_sent}
 
@@ -29,12 +30,14 @@ pub record Outcome : Type 0 where
   -- what happened to the schedule
   pub happenings : List Happening
   pub reports : List Report
+  -- the bandwidths before each change of settings, and until when checks go by them too
+  pub paces : List Pace
 
 -- ---- Counts
 
 -- the members, the participant among them (RFC 3550, 6.2.1)
 abbrev pub member_count : Setup → Outcome → ℕ
-member_count setup outcome = 1 + members_at setup.capacity setup.rate outcome.trace
+member_count setup outcome = 1 + members_at setup.capacity outcome.trace
 
 abbrev pub one_if : Bool → ℕ
 one_if b = if b then 1 else 0
@@ -42,7 +45,7 @@ one_if b = if b then 1 else 0
 -- the senders, the participant among them if it is one
 abbrev pub sender_count : Setup → Outcome → ℕ
 sender_count setup outcome =
-    senders_at setup.capacity setup.rate outcome.trace + one_if (we_sent outcome.own)
+    senders_at setup.capacity outcome.trace + one_if (we_sent outcome.own)
 
 -- ---- The average and the interval
 
@@ -75,9 +78,52 @@ load_of setup outcome = record {
 abbrev pub interval_at : Setup → Outcome → ℕ
 interval_at setup outcome = interval_of (load_of setup outcome)
 
--- The same for a participant that is no sender, which the horizons of a check go by (6.3.5).
+-- The same for a participant that is no sender.
+abbrev pub receiver_load : Setup → Outcome → Load
+receiver_load setup outcome = record (load_of setup outcome) { we_sent = false }
+
 abbrev pub receiver_interval_at : Setup → Outcome → ℕ
-receiver_interval_at setup outcome = interval_of (record (load_of setup outcome) { we_sent = false })
+receiver_interval_at setup outcome = interval_of (receiver_load setup outcome)
+
+-- ---- The pace of checks
+
+abbrev pub newest_pace : List Pace → Option Pace
+newest_pace [] = None
+newest_pace (pace ∷ earlier) = Some pace
+
+-- Where bandwidths changed lately, others may still report at the former pace: until then each bandwidth is the lesser.
+abbrev pub slowed_by : (t : ℕ) → Option Pace → Load → Load
+slowed_by t None load = load
+slowed_by t (Some pace) load =
+    if nat_lt t pace.until
+    then record load {
+      sender_bw = min load.sender_bw pace.sender_bw;
+      receiver_bw = min load.receiver_bw pace.receiver_bw;
+    }
+    else load
+
+abbrev pub check_load : Setup → (t : ℕ) → Outcome → Load
+check_load setup t outcome = slowed_by t (newest_pace outcome.paces) (receiver_load setup outcome)
+
+-- The interval that the horizons of a check at the moment `t` go by (6.3.5): that of a participant that is no sender,
+-- with the lesser bandwidths.
+abbrev pub check_interval : Setup → (t : ℕ) → Outcome → ℕ
+check_interval setup t outcome = interval_of (check_load setup t outcome)
+
+-- The bandwidths that checks went by up to the moment `t`, at which they change. Five of their intervals later each
+-- source that is still there has reported at the new pace.
+abbrev pub pace_at : Setup → (t : ℕ) → Outcome → Pace
+pace_at setup t outcome =
+    let load = check_load setup t outcome in
+    record { sender_bw = load.sender_bw; receiver_bw = load.receiver_bw; until = t + 5 * interval_of load }
+
+-- the bandwidths of the setup change
+abbrev pub with_pace : Setup → (t : ℕ) → Outcome → Outcome
+with_pace setup t outcome = record outcome { paces = pace_at setup t outcome ∷ outcome.paces }
+
+-- Bandwidths that an interval can be computed with.
+abbrev pub IsPace : Pace → Type 0
+IsPace pace = (16 ≤ pace.sender_bw) × (16 ≤ pace.receiver_bw)
 
 abbrev pub timing_of : Outcome → Timing
 timing_of outcome = schedule_at outcome.happenings
@@ -85,7 +131,7 @@ timing_of outcome = schedule_at outcome.happenings
 -- ---- The start
 
 abbrev pub nothing_yet : Outcome
-nothing_yet = record { trace = []; own = []; sizes = []; happenings = []; reports = [] }
+nothing_yet = record { trace = []; own = []; sizes = []; happenings = []; reports = []; paces = [] }
 
 -- A session begins as if its one member, the participant, had sent a compound at 0 (6.3.2).
 abbrev pub beginning : Setup → (word : ℕ) → Outcome

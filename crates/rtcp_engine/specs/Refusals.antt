@@ -1,9 +1,10 @@
 -- Why an act is refused after the acts that were taken before, if it is.
-use Rattle.std.specs.Prelude.{ℕ, ◌-◌, ◌^◌, ◌&&◌, not, Bool, nat_lt, nat_le, length, if◌then◌else◌, Option, Some, None, Ok, Err}
+use Rattle.std.specs.Prelude.{ℕ, ◌-◌, ◌^◌, ◌&&◌, not, Bool, nat_lt, nat_le, length, if◌then◌else◌, Option, Some, None, option_map, Ok, Err}
 use Rattle.std.specs.Option.{option_or}
 use Rattle.rtcp_engine.specs.declared.refusal.Refusal.{Refusal}
-use Rattle.rtcp_engine.specs.declared.refusal.Refusal.TheVariants.{Left, Backwards, TooFar, TooMany, Wire, Rtp, OwnSsrc}
-use Rattle.rtcp_engine.specs.Acts.{Datagram, rtcp, rtp, Act, arrived, moment_of}
+use Rattle.rtcp_engine.specs.declared.refusal.Refusal.TheVariants.{Left, Backwards, TooFar, TooMany, Wire, Rtp, OwnSsrc, Settings}
+use Rattle.rtcp_engine.specs.Refused.{settings_error}
+use Rattle.rtcp_engine.specs.Acts.{Datagram, rtcp, rtp, Act, arrived, configured, moment_of}
 use Rattle.rtcp_engine.specs.Identities.{may_change}
 use Rattle.rtcp_engine.specs.Leaving.{Life, present, backing_off, gone}
 use Rattle.rtcp_engine.specs.Changes.{Session, changing_peers, is_about}
@@ -33,18 +34,20 @@ abbrev pub refusal_as_own : Session → (peer : ℕ) → Datagram → Option Ref
 refusal_as_own session peer datagram =
     refusal_if (is_about session.setup.ssrc datagram && not (may_change (changing_peers session) peer)) OwnSsrc
 
-abbrev pub refusal_of_datagram : Session → Act → Option Refusal
-refusal_of_datagram session (arrived moment peer word datagram) =
-    option_or (fault_in datagram) (refusal_as_own session peer datagram)
-refusal_of_datagram session act = None
-
 -- ---- Acts
 
--- why an act is refused by one that is not gone: as any act then, or else for its datagram
+-- why an act is refused for what it tells: a datagram, or settings
+abbrev pub refusal_of_content : Session → Act → Option Refusal
+refusal_of_content session (arrived moment peer word datagram) =
+    option_or (fault_in datagram) (refusal_as_own session peer datagram)
+refusal_of_content session (configured moment settings) = option_map Settings (settings_error settings)
+refusal_of_content session act = None
+
+-- why an act is refused by one that is not gone: as any act then, or else for what it tells
 abbrev pub refusal_of : History → Act → Option Refusal
 refusal_of history act =
     option_or (call_refusal (moment_of act) (last_moment history.acts) (length history.acts))
-    (refusal_of_datagram (session_at history) act)
+    (refusal_of_content (session_at history) act)
 
 -- One that is gone takes nothing more, whatever else is wrong with an act.
 abbrev pub refusal_in : Life → Option Refusal → Option Refusal

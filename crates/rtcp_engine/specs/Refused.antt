@@ -4,7 +4,7 @@ use Rattle.std.specs.List.{list_all}
 use Rattle.rtcp_wire.specs.Values.{ItemValue}
 use Rattle.rtcp_engine.specs.declared.config.ConfigError.{ConfigError}
 use Rattle.rtcp_engine.specs.declared.config.ConfigError.TheVariants.{Cname, Capacity, Limit, Bandwidth, Rate, Item}
-use Rattle.rtcp_engine.specs.Setups.{Setup, is_within, is_extra_item}
+use Rattle.rtcp_engine.specs.Setups.{Setup, SettingsValue, is_within, is_extra_item, is_clock}
 
 -- whether these may be given beside the CNAME
 abbrev pub are_extras : List ItemValue → Bool
@@ -24,6 +24,14 @@ error_in setup =
     else (if not (is_within 1 1024 setup.capacity) then Some Capacity
     else (if not (is_limit setup.limit) then Some Limit
     else (if not (is_bandwidth setup.sender_bw && is_bandwidth setup.receiver_bw) then Some Bandwidth
-    else (if not (is_within 1 (2 ^ 20) setup.rate) then Some Rate
+    else (if not (is_within 1 (2 ^ 20) setup.rate && list_all is_clock setup.clocks) then Some Rate
     else (if not (are_extras setup.extras) then Some Item
     else None)))))
+
+-- Why settings are refused: for the reason for which a setup with them is (law `settings_are_refused_as_setups`).
+abbrev pub settings_error : SettingsValue → Option ConfigError
+settings_error settings =
+    if not (is_bandwidth settings.sender_bw && is_bandwidth settings.receiver_bw) then Some Bandwidth
+    else (if not (list_all is_clock settings.clocks) then Some Rate
+    else (if not (are_extras settings.extras) then Some Item
+    else None))

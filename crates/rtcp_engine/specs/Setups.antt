@@ -1,6 +1,17 @@
 -- How a participant is set up.
-use Rattle.std.specs.Prelude.{ℕ, ◌≡◌, ◌≤◌, ◌%◌, ◌^◌, ◌&&◌, Bool, nat_le, List, All, length}
+use Rattle.std.specs.Prelude.{ℕ, ◌≡◌, ◌==◌, ◌≤◌, ◌%◌, ◌^◌, ◌&&◌, Bool, nat_le, List, [], ◌∷◌, All, length, if◌then◌else◌}
 use Rattle.rtcp_wire.specs.Values.{ItemValue}
+
+-- The clock in which the timestamps of a payload type count (RFC 3550, 5.1): it has so many units a second.
+pub record ClockValue : Type 0 where
+  pub payload_type : ℕ
+  pub rate : ℕ
+
+-- The rate of the clock of a payload type: that of the first of these clocks that is its own, or else the usual one.
+abbrev pub rate_among : List ClockValue → (usual payload_type : ℕ) → ℕ
+rate_among [] usual payload_type = usual
+rate_among (clock ∷ clocks) usual payload_type =
+    if clock.payload_type == payload_type then clock.rate else rate_among clocks usual payload_type
 
 pub record Setup : Type 0 where
   -- its SSRC
@@ -16,10 +27,39 @@ pub record Setup : Type 0 where
   -- the RTCP bandwidth of the session, in octets a second
   pub sender_bw : ℕ
   pub receiver_bw : ℕ
-  -- units of the media's clock a second
+  -- units a second of the clock of its own media, and of those payload types of which nothing else is said
   pub rate : ℕ
+  -- the clocks of other payload types
+  pub clocks : List ClockValue
   -- the NTP timestamp of moment 0
   pub ntp_base : ℕ
+
+-- What a host may change of a setup in a running session: the bandwidths of the session (RFC 3556), the clocks of its
+-- payload types, and what the participant says of itself beside its CNAME (RFC 3550, 6.5).
+pub record SettingsValue : Type 0 where
+  pub sender_bw : ℕ
+  pub receiver_bw : ℕ
+  pub clocks : List ClockValue
+  pub extras : List ItemValue
+
+abbrev pub settings_of : Setup → SettingsValue
+settings_of setup =
+    record {
+      sender_bw = setup.sender_bw;
+      receiver_bw = setup.receiver_bw;
+      clocks = setup.clocks;
+      extras = setup.extras;
+    }
+
+-- the rest of a setup, with these settings
+abbrev pub with_settings : SettingsValue → Setup → Setup
+with_settings settings setup =
+    record setup {
+      sender_bw = settings.sender_bw;
+      receiver_bw = settings.receiver_bw;
+      clocks = settings.clocks;
+      extras = settings.extras;
+    }
 
 abbrev pub is_within : (least most number : ℕ) → Bool
 is_within least most number = nat_le least number && nat_le number most
@@ -34,6 +74,12 @@ is_extra_item item = is_within 2 8 item.kind && nat_le (length item.text) 255
 abbrev pub IsExtraItem : ItemValue → Type 0
 IsExtraItem item = IsWithin 2 8 item.kind × (length item.text ≤ 255)
 
+abbrev pub is_clock : ClockValue → Bool
+is_clock clock = is_within 1 (2 ^ 20) clock.rate
+
+abbrev pub IsClock : ClockValue → Type 0
+IsClock clock = IsWithin 1 (2 ^ 20) clock.rate
+
 -- What a participant takes.
 pub record IsUsable (setup : Setup) : Type 0 where
   pub cname : IsWithin 1 255 (length setup.cname)
@@ -43,5 +89,6 @@ pub record IsUsable (setup : Setup) : Type 0 where
   pub for_senders : IsWithin 16 (2 ^ 30) setup.sender_bw
   pub for_others : IsWithin 16 (2 ^ 30) setup.receiver_bw
   pub rate : IsWithin 1 (2 ^ 20) setup.rate
+  pub clocks : All IsClock setup.clocks
   pub few_extras : length setup.extras ≤ 7
   pub extras : All IsExtraItem setup.extras

@@ -1,20 +1,21 @@
 -- What a participant keeps of its history: a table and a few numbers, and its phase.
-use Rattle.std.specs.Prelude.{ℕ, ◌+◌, ◌-◌, ◌≡◌, ◌≤◌, ◌<◌, ◌^◌, Bool, List, [], length, if◌then◌else◌, Option, Some, None}
+use Rattle.std.specs.Prelude.{ℕ, ◌+◌, ◌-◌, ◌≡◌, ◌≤◌, ◌<◌, ◌^◌, Bool, List, [], length, if◌then◌else◌, Option, Some, None, IfSome}
 use Rattle.std.specs.FinMap as map
 use Rattle.rtcp_members.specs.Tables.{TableValue, HasFew, StandsAt as IsTableAt}
 use Rattle.rtcp_timer.specs.Averages.{moved_average}
 use Rattle.rtcp_timer.specs.Schedules.{Timing}
 use Rattle.rtcp_engine.specs.declared.changes.Change.{Change}
+use Rattle.rtcp_engine.specs.declared.pace.Pace.{Pace}
 use Rattle.rtcp_engine.specs.declared.refusal.Refusal.{Refusal}
 use Rattle.rtcp_engine.specs.declared.refusal.Refusal.TheVariants.{Left}
-use Rattle.rtcp_engine.specs.Setups.{Setup, IsUsable}
+use Rattle.rtcp_engine.specs.Setups.{Setup, SettingsValue, IsUsable, with_settings}
 use Rattle.rtcp_engine.specs.Identities.{with_ssrc}
 use Rattle.rtcp_engine.specs.OwnStreams.{OwnValue, own_of}
 use Rattle.rtcp_engine.specs.OwnValues.{own_anew}
-use Rattle.rtcp_engine.specs.Outcomes.{Outcome, average_size, timing_of}
+use Rattle.rtcp_engine.specs.Outcomes.{Outcome, average_size, newest_pace, pace_at, timing_of, IsPace}
 use Rattle.rtcp_engine.specs.Reporting.{bye_octets, last_reported_in}
 use Rattle.rtcp_engine.specs.Changes.{Session}
-use Rattle.rtcp_engine.specs.Histories.{History, last_moment, session_at}
+use Rattle.rtcp_engine.specs.Histories.{History, last_moment, session_at, setup_after}
 use Rattle.rtcp_engine.specs.Refusals.{call_refusal}
 use Rattle.rtcp_engine.specs.Leaving.{Backoff, Life, present, backing_off, gone, leaving_count, leaving_timing, leaving_average}
 use Rattle.rtcp_engine.specs.Lives.{has_others, lived, moved_since, others_moved_by, out_by}
@@ -31,6 +32,8 @@ pub record State : Type 0 where
   pub own : OwnValue
   -- the source that was reported last
   pub cursor : Option ℕ
+  -- the bandwidths before the newest change of settings, and until when checks go by them too
+  pub pace : Option Pace
   -- how many reports were sent
   pub reports : ℕ
   -- the moment of the latest call
@@ -38,15 +41,16 @@ pub record State : Type 0 where
   -- how many calls were taken
   pub calls : ℕ
 
-abbrev pub state_with : Setup → TableValue → Timing → (average : ℕ) → OwnValue → Option ℕ → (reports latest calls : ℕ) →
-    State
-state_with setup table timing average own cursor reports latest calls = record {
+abbrev pub state_with : Setup → TableValue → Timing → (average : ℕ) → OwnValue → (cursor : Option ℕ) → Option Pace →
+    (reports latest calls : ℕ) → State
+state_with setup table timing average own cursor pace reports latest calls = record {
   setup = setup;
   table = table;
   timing = timing;
   average = average;
   own = own;
   cursor = cursor;
+  pace = pace;
   reports = reports;
   latest = latest;
   calls = calls;
@@ -57,7 +61,6 @@ state_with setup table timing average own cursor reports latest calls = record {
 pub record StandsStill (state : State) (outcome : Outcome) : Type 0 where
   pub table : IsTableAt state.table outcome.trace
   pub capacity : state.table.capacity ≡ state.setup.capacity
-  pub rate : state.table.rate ≡ state.setup.rate
   pub own : state.own ≡ own_of outcome.own
   pub cursor : state.cursor ≡ last_reported_in outcome.trace
   pub reports : state.reports ≡ length outcome.reports
@@ -66,6 +69,7 @@ pub record StandsStill (state : State) (outcome : Outcome) : Type 0 where
 pub record Agrees (state : State) (outcome : Outcome) : Type 0 where
   pub timing : state.timing ≡ timing_of outcome
   pub average : state.average ≡ average_size state.setup outcome
+  pub pace : state.pace ≡ newest_pace outcome.paces
   pub still : StandsStill state outcome
 
 -- One call more, at a moment.
@@ -135,15 +139,26 @@ with_own_bye state =
 abbrev pub after_change : (ssrc : ℕ) → State → State
 after_change ssrc state = record (with_own_bye state) { setup = with_ssrc ssrc state.setup; own = own_anew state.own }
 
+-- ---- Settings
+
+-- It has other settings, and checks go by this pace too.
+abbrev pub with_settings_in : SettingsValue → Option Pace → State → State
+with_settings_in settings pace state = record state { setup = with_settings settings state.setup; pace = pace }
+
+-- the pace is that of the outcome once the settings change
+abbrev pub IsPaceOf : State → Option Pace → Type 0
+IsPaceOf state pace =
+    (outcome : Outcome) → Agrees state outcome → pace ≡ Some (pace_at state.setup state.latest outcome)
+
 -- ---- Soundness
 
 -- What holds of every participant that takes part or did.
 pub record IsSound (state : State) : Type 0 where
   pub usable : IsUsable state.setup
   pub capacity : state.table.capacity ≡ state.setup.capacity
-  pub rate : state.table.rate ≡ state.setup.rate
   pub room : map.len state.table.entries ≤ state.setup.capacity
   pub few : HasFew state.calls state.table
+  pub pace : IfSome state.pace IsPace
   pub reports : state.reports ≤ state.calls
   pub calls : state.calls < 2 ^ 40
   pub timing : state.timing.last ≤ state.latest
@@ -192,10 +207,12 @@ refusal_by moment participant =
     refusal_in_phase participant.phase (call_refusal moment participant.presence.latest participant.presence.calls)
 
 -- A participant whose call was counted does as its session does with an act, hands this out, and says whether the act
--- changed who of the others is there or sends.
+-- changed who of the others is there or sends. Its settings change where the act gives others.
 pub record Acts
     (old new : ParticipantValue) (act : Act) (out : Option OutValue) (others_changed : Bool) : Type 0 where
-  pub stays : Stays old.presence new.presence
+  pub setup : new.presence.setup ≡ setup_after act old.presence.setup
+  pub latest : new.presence.latest ≡ old.presence.latest
+  pub calls : new.presence.calls ≡ old.presence.calls
   pub changes : new.changes ≡ old.changes
   pub lives : (life : Life) → IsAt old life → IsAt new (lived old.presence.setup act life)
   pub hands_out : (life : Life) → IsAt old life → out ≡ out_by old.presence.setup act life

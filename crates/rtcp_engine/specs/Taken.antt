@@ -1,7 +1,7 @@
 -- Histories that a participant can have.
 use Rattle.std.specs.Prelude.{◌≡◌, ℕ, ◌<◌, ◌^◌, List, [], ◌∷◌, length, None}
 use Rattle.rtcp_engine.specs.Setups.{Setup, IsUsable}
-use Rattle.rtcp_engine.specs.Acts.{Datagram, Act, arrived, rtp_sent, ticked, left}
+use Rattle.rtcp_engine.specs.Acts.{Datagram, Act, arrived, rtp_sent, ticked, left, configured, forgotten}
 use Rattle.rtcp_engine.specs.Changes.{named_by}
 use Rattle.rtcp_engine.specs.Histories.{History}
 use Rattle.rtcp_engine.specs.Refusals.{refusal_after}
@@ -10,12 +10,19 @@ use Rattle.rtcp_engine.specs.Refusals.{refusal_after}
 abbrev pub NamesFew : Datagram → Type 0
 NamesFew datagram = length (named_by datagram) < 2 ^ 31
 
--- The words of an act have 32 bits.
+-- The words of an act, and an SSRC that the host tells, have 32 bits.
 abbrev pub HasWords : Act → Type 0
 HasWords (arrived moment peer word datagram) = word < 2 ^ 32
 HasWords (rtp_sent moment timestamp octets) = (timestamp < 2 ^ 32) × (octets < 2 ^ 32)
 HasWords (ticked moment first_word second_word) = (first_word < 2 ^ 32) × (second_word < 2 ^ 32)
 HasWords (left moment word) = word < 2 ^ 32
+HasWords (configured moment settings) = Unit {0}
+HasWords (forgotten moment ssrc) = ssrc < 2 ^ 32
+
+-- An act gives no clocks of payload types.
+abbrev pub GivesNoClocks : Act → Type 0
+GivesNoClocks (configured moment settings) = settings.clocks ≡ []
+GivesNoClocks act = Unit {0}
 
 -- Each act was taken when it came.
 abbrev pub AllTaken : Setup → (word : ℕ) → List Act → Type 0

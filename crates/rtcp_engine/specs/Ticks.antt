@@ -2,18 +2,27 @@
 -- is due.
 use Rattle.std.specs.Prelude.{ℕ, ◌+◌, ◌-◌, ◌*◌, ◌&&◌, Bool, nat_le, List, ◌∷◌, if◌then◌else◌, length, Option, Some, None}
 use Rattle.rtcp_clock.specs.Intervals.{drawn_interval}
-use Rattle.rtcp_members.specs.Traces.{Horizons, horizons_at, check_made}
+use Rattle.rtcp_members.specs.Traces.{Horizons, horizons_at, check_made, source_forgotten}
 use Rattle.rtcp_report.specs.Traced.{with_blocks}
 use Rattle.rtcp_timer.specs.Schedules.{transmitted, tried, recounted}
 use Rattle.rtcp_engine.specs.Setups.{Setup}
 use Rattle.rtcp_engine.specs.OwnStreams.{check_passed, report_sent}
-use Rattle.rtcp_engine.specs.Outcomes.{Outcome, member_count, interval_at, receiver_interval_at, timing_of}
+use Rattle.rtcp_engine.specs.Outcomes.{Outcome, member_count, interval_at, check_interval, timing_of}
 use Rattle.rtcp_engine.specs.Reporting.{reported_at, report_octets}
 
 -- The members are counted again, since some may have departed (6.3.4).
 abbrev pub with_recount : Setup → (t : ℕ) → Outcome → Outcome
 with_recount setup t outcome =
     record outcome { happenings = recounted t (member_count setup outcome) ∷ outcome.happenings }
+
+-- ---- Sources that the host knows to be gone
+
+abbrev pub with_forgotten : (ssrc : ℕ) → Outcome → Outcome
+with_forgotten ssrc outcome = record outcome { trace = source_forgotten ssrc ∷ outcome.trace }
+
+-- A source goes as one that was silent for too long: the members are counted again (6.3.4).
+abbrev pub without_source : Setup → (t ssrc : ℕ) → Outcome → Outcome
+without_source setup t ssrc outcome = with_recount setup t (with_forgotten ssrc outcome)
 
 -- ---- Checks
 
@@ -31,7 +40,7 @@ with_check horizons outcome =
 
 -- Those who are silent for too long are dropped.
 abbrev pub without_silent : Setup → (t : ℕ) → Outcome → Outcome
-without_silent setup t outcome = with_check (horizons_of t (receiver_interval_at setup outcome)) outcome
+without_silent setup t outcome = with_check (horizons_of t (check_interval setup t outcome)) outcome
 
 abbrev pub checked : Setup → (t : ℕ) → Outcome → Outcome
 checked setup t outcome = with_recount setup t (without_silent setup t outcome)

@@ -1,7 +1,9 @@
 -- What the crate's types say, as values of the definitions.
 use Rattle.std.specs.Prelude.{ℕ, ◌<◌, ◌^◌, length, List, [], ◌∷◌, map, Option, None, option_map, Result, Ok, Err}
 use Rattle.rtcp_report.specs.Views.{item_value}
+use Rattle.rtcp_engine.specs.declared.clock.Clock.{Clock}
 use Rattle.rtcp_engine.specs.declared.config.Config.{Config}
+use Rattle.rtcp_engine.specs.declared.settings.Settings.{Settings}
 use Rattle.rtcp_engine.specs.declared.participant.Phase.{Phase}
 use Rattle.rtcp_engine.specs.declared.participant.Phase.TheVariants.{Present, BackingOff, Gone}
 use Rattle.rtcp_engine.specs.declared.refusal.Refusal.{Refusal}
@@ -12,9 +14,9 @@ use Rattle.rtcp_engine.specs.declared.step.Told.{Told}
 use Rattle.rtcp_engine.specs.declared.arrival.Arrival.{Arrival}
 use Rattle.rtcp_engine.specs.declared.arrival.Arrival.TheVariants.{Rtcp, Rtp}
 use Rattle.rtcp_engine.specs.declared.event.Event.{Event}
-use Rattle.rtcp_engine.specs.declared.event.Event.TheVariants.{ArriveRtcp, ArriveRtp, SentRtp, Tick, Leave}
-use Rattle.rtcp_engine.specs.Setups.{Setup}
-use Rattle.rtcp_engine.specs.Acts.{Datagram, rtcp, rtp, Act, EventValue, rtcp_arrived, rtp_arrived, packet_sent, time_passed, leave_asked, IsActOfEvent}
+use Rattle.rtcp_engine.specs.declared.event.Event.TheVariants.{ArriveRtcp, ArriveRtp, SentRtp, Tick, Leave, Configure, Forget}
+use Rattle.rtcp_engine.specs.Setups.{Setup, SettingsValue, ClockValue}
+use Rattle.rtcp_engine.specs.Acts.{Datagram, rtcp, rtp, Act, EventValue, rtcp_arrived, rtp_arrived, packet_sent, time_passed, leave_asked, settings_given, forget_asked, IsActOfEvent}
 use Rattle.rtcp_engine.specs.Changes.{named_by}
 use Rattle.rtcp_engine.specs.Steps.{OutValue, StepValue, AnswerValue}
 use Rattle.rtcp_engine.specs.States.{PhaseValue, taking_part, leaving, over}
@@ -23,6 +25,9 @@ abbrev pub phase_value : Phase → PhaseValue
 phase_value Present = taking_part
 phase_value (BackingOff members) = leaving members
 phase_value Gone = over
+
+abbrev pub clock_value : Clock → ClockValue
+clock_value clock = record { payload_type = clock.payload_type; rate = clock.rate }
 
 abbrev pub setup_of : Config → Setup
 setup_of config = record {
@@ -34,7 +39,16 @@ setup_of config = record {
   sender_bw = config.sender_bw;
   receiver_bw = config.receiver_bw;
   rate = config.rate;
+  clocks = map clock_value config.clocks.items;
   ntp_base = config.ntp_base;
+}
+
+abbrev pub settings_value : Settings → SettingsValue
+settings_value settings = record {
+  sender_bw = settings.sender_bw;
+  receiver_bw = settings.receiver_bw;
+  clocks = map clock_value settings.clocks.items;
+  extras = map item_value settings.extras.items;
 }
 
 -- ---- Arrivals
@@ -107,6 +121,8 @@ event_value (ArriveRtp now peer word bytes) = rtp_arrived now peer word bytes.no
 event_value (SentRtp now timestamp octets) = packet_sent now timestamp octets
 event_value (Tick now first_word second_word) = time_passed now first_word second_word
 event_value (Leave now word) = leave_asked now word
+event_value (Configure now settings) = settings_given now (settings_value settings.now)
+event_value (Forget now ssrc) = forget_asked now ssrc
 
 abbrev pub IsActOf : Event → Act → Type 0
 IsActOf event act = IsActOfEvent (event_value event) act

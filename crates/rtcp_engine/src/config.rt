@@ -4,17 +4,27 @@ ghost use Rattle.std.specs.Prelude.{◌≡◌, ◌≤◌, ◌-◌, ◌/◌, ℕ,
 ghost use Rattle.rtcp_report.specs.Views.{item_value};
 ghost use Rattle.rtcp_engine.specs.Setups.{is_within as within, is_extra_item};
 ghost use Rattle.rtcp_engine.specs.Refused.{error_in, is_bandwidth as is_bandwidth_for, is_limit as is_limit_for, are_extras as extras_are};
+ghost use Rattle.rtcp_engine.specs.Arrivals.{rate_of};
 ghost use Rattle.rtcp_engine.specs.Views.{setup_of};
 
+use crate::clock::{Clock, are_clocks, rate_among};
 use arrayvec::ArrayVec;
 use rtcp_report::Item;
+use rtcp_wire::RtpHead;
 use thiserror::Error;
 
 /// How a participant is configured: the session as its host knows it.
+// Fields lie in memory in this order: what each RTP packet reads lies side by side, the clocks' number before the SSRC.
 #[derive(Debug, Drop)]
 pub struct Config {
+    /// The clocks of other payload types (RFC 3551), of which the first counts where there are several. The jitter of a
+    /// source is in units of the clock of its newest packet (RFC 7160, 4.3).
+    pub clocks: ArrayVec<Clock, 16>,
     /// Its SSRC, which is to be chosen at random (RFC 3550, 8.1).
     pub ssrc: u32,
+    /// The units a second of the clock in which the RTP timestamps of its own media count, and those of payload types
+    /// that are none of `clocks`, from 1 to 2^20.
+    pub rate: u32,
     /// Its CNAME, from 1 to 255 octets (RFC 3550, 6.5.1). Nothing checks that it is UTF-8.
     pub cname: ArrayVec<u8, 255>,
     /// What else it says of itself, in turn, in every third report: items of types 2 to 8 (RFC 3550, 6.5.2 to
@@ -30,8 +40,6 @@ pub struct Config {
     pub sender_bw: u32,
     /// That for the RTCP of the others.
     pub receiver_bw: u32,
-    /// The units a second of the clock that RTP timestamps count in, from 1 to 2^20.
-    pub rate: u32,
     /// The NTP timestamp of moment 0: seconds since 1900 in the upper 32 bits, their fraction in the lower.
     pub ntp_base: u64,
 }
@@ -51,7 +59,7 @@ pub enum ConfigError {
     /// C4. One of the bandwidths is none of 16 to 2^30.
     #[error("RTCP bandwidth of senders or of receivers is none of 16 to 2^30 octets a second")]
     Bandwidth,
-    /// C5. The clock's rate is none of 1 to 2^20.
+    /// C5. A clock's rate is none of 1 to 2^20.
     #[error("clock rate is none of 1 to 2^20")]
     Rate,
     /// C6. The type of an extra item is none of 2 to 8.
@@ -97,7 +105,7 @@ impl Config {
         if !is_bandwidth(self.sender_bw) || !is_bandwidth(self.receiver_bw) {
             return Some(ConfigError::Bandwidth);
         }
-        if !is_within(1, 1 << 20, self.rate) {
+        if !is_within(1, 1 << 20, self.rate) || !are_clocks(&self.clocks) {
             return Some(ConfigError::Rate);
         }
         if !are_extras(&self.extras) {
@@ -105,17 +113,28 @@ impl Config {
         }
         None
     }
+
+    /// The rate of the clock in which the timestamp of an RTP packet counts.
+    #[inline(always)]
+    pub(crate) fn rate_of(&self, head: &RtpHead<'_>) -> u32
+        ensures { result ≡ rate_of (setup_of self.now) head.now }
+    {
+        if self.clocks.is_empty() {
+            return self.rate;
+        }
+        rate_among(&self.clocks, self.rate, head.payload_type())
+    }
 }
 
 /// Whether a number lies between two others, both included.
-fn is_within(least: u32, most: u32, number: u32) -> bool
+pub(crate) fn is_within(least: u32, most: u32, number: u32) -> bool
     ensures { result ≡ within least most number }
 {
     least <= number && number <= most
 }
 
 /// Whether a bandwidth may be given.
-fn is_bandwidth(bandwidth: u32) -> bool
+pub(crate) fn is_bandwidth(bandwidth: u32) -> bool
     ensures { result ≡ is_bandwidth_for bandwidth }
 {
     is_within(16, 1 << 30, bandwidth)
@@ -129,7 +148,7 @@ fn is_limit(limit: u32) -> bool
 }
 
 /// Whether these may be given beside the CNAME.
-fn are_extras(items: &[Item]) -> bool
+pub(crate) fn are_extras(items: &[Item]) -> bool
     ensures { result ≡ extras_are (map item_value items.now) }
 {
     if items.len() > 7 {

@@ -6,6 +6,7 @@ ghost use Rattle.rtcp_engine.specs.Promises.{Spares, Takes};
 ghost use Rattle.rtcp_engine.specs.Views.{answer_value, kind_told, reply_value, IsActOf};
 
 use crate::participant::Participant;
+use crate::settings::Settings;
 use crate::step::{Answer, Reply};
 use arrayvec::ArrayVec;
 use rtcp_members::MemberTable;
@@ -61,6 +62,20 @@ pub enum Event<'a> {
         /// A random word, for the draw of a backoff.
         w: u32,
     },
+    /// [`configure`](crate::Participant::configure).
+    Configure {
+        /// When the host gives them.
+        now: u64,
+        /// What holds from then on.
+        settings: &'a Settings,
+    },
+    /// [`forget`](crate::Participant::forget).
+    Forget {
+        /// When the host asks.
+        now: u64,
+        /// The source that is gone.
+        ssrc: u32,
+    },
 }
 
 impl<T: MemberTable> Participant<T> {
@@ -111,6 +126,8 @@ impl<T: MemberTable> Participant<T> {
             } => self.sent_rtp_told(now, rtp_ts, payload),
             Event::Tick { now, w1, w2 } => self.tick_into(now, w1, w2, octets),
             Event::Leave { now, w } => self.leave_into(now, w, octets),
+            Event::Configure { now, settings } => self.configure_told(now, settings),
+            Event::Forget { now, ssrc } => self.forget_told(now, ssrc),
         }
     }
 }

@@ -3,26 +3,32 @@
 
 ghost use Rattle.std.specs.Prelude.{◌≡◌, ◌↔◌, ◌≤◌, ◌^◌, ◌<◌, ℕ, ◌+◌, ◌*◌, ◌%◌, map, List, [], ◌++◌, length, slice_get, All, IfSome, Option, Some, None, false};
 ghost use Rattle.rtcp_wire.specs.Values.{ItemValue};
+ghost use Rattle.rtcp_members.specs.Clocks.{HasOneClock};
 ghost use Rattle.rtcp_members.specs.Traces.{TraceStep};
 ghost use Rattle.rtcp_members.specs.Past.{IsToldBy};
 ghost use Rattle.rtcp_members.specs.Pending.{EntryRow, last_reported};
 ghost use Rattle.rtcp_members.specs.Told.{StateValue};
 ghost use Rattle.rtcp_report.specs.Traced.{with_blocks};
-ghost use Rattle.rtcp_engine.specs.Setups.{Setup, IsUsable};
-ghost use Rattle.rtcp_engine.specs.Refused.{error_in};
-ghost use Rattle.rtcp_engine.specs.Acts.{Datagram, Act, IsReading, IsRtpReading, IsTotal, IsUnique, moment_of};
+ghost use Rattle.rtcp_engine.specs.Setups.{Setup, SettingsValue, IsUsable, settings_of, with_settings};
+ghost use Rattle.rtcp_engine.specs.Refused.{error_in, settings_error};
+ghost use Rattle.rtcp_engine.specs.Acts.{Datagram, Act, configured, IsReading, IsRtpReading, IsTotal, IsUnique, moment_of};
 ghost use Rattle.rtcp_engine.specs.OwnStreams.{OwnStep, sending_since};
 ghost use Rattle.rtcp_engine.specs.OwnSending.{IsSendingSince};
 ghost use Rattle.rtcp_engine.specs.Reporting.{extra_item, last_reported_in};
-ghost use Rattle.rtcp_engine.specs.Outcomes.{Outcome, timing_of};
+ghost use Rattle.rtcp_engine.specs.Outcomes.{Outcome, check_interval, newest_pace, receiver_interval_at, timing_of, IsPace};
+ghost use Rattle.rtcp_engine.specs.Pacing.{IsPaced, unpaced};
+ghost use Rattle.rtcp_engine.specs.Ticks.{horizons_of};
+ghost use Rattle.rtcp_engine.specs.declared.pace.Pace.{Pace};
+ghost use Rattle.rtcp_members.specs.Stays.{is_removed};
 ghost use Rattle.rtcp_engine.specs.Histories.{History, brought_by, last_moment, life_at, session_at, session_of, setup_at, with_act};
 ghost use Rattle.rtcp_engine.specs.Leaving.{Backoff, present, backing_off, leaving_timing};
 ghost use Rattle.rtcp_engine.specs.Refusals.{refusal_after};
 ghost use Rattle.rtcp_engine.specs.Answers.{answer_of, followed_by};
-ghost use Rattle.rtcp_engine.specs.Lives.{TellsInLife, WalksInLife, own_bye};
+ghost use Rattle.rtcp_engine.specs.Lives.{TellsInLife, WalksInLife, next_in_life, own_bye, with_pace_in};
 ghost use Rattle.rtcp_engine.specs.Changes.{NewIdentifier, Session, change_by, changing_peers, is_taken, new_identifier};
 ghost use Rattle.rtcp_engine.specs.Identities.{AreApart, IsFirstFree, with_ssrc};
-ghost use Rattle.rtcp_engine.specs.Taken.{IsHistory, NamesFew};
+ghost use Rattle.std.specs.List.{AllByRecursion};
+ghost use Rattle.rtcp_engine.specs.Taken.{AllTaken, GivesNoClocks, IsHistory, NamesFew};
 ghost use Rattle.rtcp_engine.specs.Sent.{reports_in, deciding_interval, sent_at, handed_out, reports_of, counted_report};
 ghost use Rattle.rtcp_engine.specs.Spacing.{newest_moment, LiesAfter, KeepsBounds};
 ghost use Rattle.rtcp_engine.specs.InTime.{AllInTime};
@@ -63,14 +69,66 @@ pub fn new_identifiers_are_free()
         IsFirstFree (is_taken session datagram) word (new_identifier word session datagram) }
 {}
 
-/// A change of identifier leaves the rest of the setup as it was, and hands out nothing but the BYE of the old one
-/// (RFC 3550, 8.2).
-pub fn changes_touch_the_identifier_alone()
+/// Settings are refused exactly where a setup with them is, and for the same reason.
+#[tactic(auto, using(crate::proofs::LawLemmas::settings_are_refused_as_setups))]
+pub fn settings_are_refused_as_setups()
+    ensures { (settings : SettingsValue) (setup : Setup) → IsUsable setup →
+        settings_error settings ≡ error_in (with_settings settings setup) }
+{}
+
+/// Acts change nothing of a setup but the identifier and the settings, and acts that are taken leave it usable
+/// (RFC 3550, 8.2; RFC 3556).
+pub fn setups_keep_the_rest()
     ensures setup { (setup : Setup) (word : ℕ) (acts : List Act) → let now = (session_of setup word acts).setup in
-        now ≡ with_ssrc now.ssrc setup }
-    ensures usable { (setup : Setup) (word : ℕ) (acts : List Act) → IsUsable setup →
+        now ≡ with_ssrc now.ssrc (with_settings (settings_of now) setup) }
+    ensures usable { (setup : Setup) (word : ℕ) (acts : List Act) → IsUsable setup → AllTaken setup word acts →
         IsUsable (session_of setup word acts).setup }
-    ensures bye { (session : Session) (act : Act) (new : NewIdentifier) → change_by session act ≡ Some new →
+{}
+
+/// Other settings change the setup, and note the pace of checks: members, average and schedule stay, nothing is sent,
+/// and the next moment to ask is the same (RFC 3550, 6.3).
+pub fn settings_touch_the_setup_alone()
+    ensures life { (history : History) (moment : ℕ) (settings : SettingsValue) →
+        life_at (with_act history (configured moment settings))
+        ≡ with_pace_in (setup_at history) moment (life_at history) }
+    ensures next { (history : History) (moment : ℕ) (settings : SettingsValue) →
+        next_in_life (life_at (with_act history (configured moment settings))) ≡ next_in_life (life_at history) }
+    ensures sent { (history : History) (moment : ℕ) (settings : SettingsValue) →
+        sent_at (with_act history (configured moment settings)) ≡ sent_at history }
+    ensures setup { (history : History) (moment : ℕ) (settings : SettingsValue) →
+        setup_at (with_act history (configured moment settings)) ≡ with_settings settings (setup_at history) }
+{}
+
+/// Other settings drop nobody sooner, however much more bandwidth they bring (RFC 3550, 6.3.5). For five intervals a
+/// check goes by an interval that is no shorter than the one by the former settings: so it drops no source that the
+/// same check by the former settings would keep, and a source that reports once in each interval before and after the
+/// change stays. From then on checks go by the present settings alone.
+pub fn settings_drop_nobody_sooner()
+    ensures no_sooner { (history : History) (moment t : ℕ) (settings : SettingsValue) (before later : Outcome) →
+        IsPaced history moment t settings before later →
+        check_interval (setup_at history) t (unpaced before later)
+        ≤ check_interval (with_settings settings (setup_at history)) t later }
+    ensures kept { (history : History) (moment t : ℕ) (settings : SettingsValue) (before later : Outcome) →
+        IsPaced history moment t settings before later → (sighting : ℕ) (mark : Option ℕ) →
+        is_removed (horizons_of t (check_interval (setup_at history) t (unpaced before later))) sighting mark ≡ false →
+        is_removed (horizons_of t (check_interval (with_settings settings (setup_at history)) t later)) sighting mark
+        ≡ false }
+    ensures heard { (history : History) (moment t : ℕ) (settings : SettingsValue) (before later : Outcome) →
+        IsPaced history moment t settings before later → (sighting : ℕ) →
+        t ≤ sighting + 5 * check_interval (setup_at history) t (unpaced before later) →
+        is_removed (horizons_of t (check_interval (with_settings settings (setup_at history)) t later)) sighting None
+        ≡ false }
+    ensures afterwards { (setup : Setup) (t : ℕ) (outcome : Outcome) (pace : Pace) →
+        newest_pace outcome.paces ≡ Some pace → pace.until ≤ t →
+        check_interval setup t outcome ≡ receiver_interval_at setup outcome }
+    ensures usable { (history : History) (outcome : Outcome) → IsHistory history →
+        life_at history ≡ present outcome → IfSome (newest_pace outcome.paces) IsPace }
+{}
+
+/// A change of identifier hands out nothing but the BYE of the old one (RFC 3550, 8.2).
+#[tactic(auto, using(crate::proofs::LawLemmas::changes_bring_one_bye))]
+pub fn changes_bring_one_bye()
+    ensures { (session : Session) (act : Act) (new : NewIdentifier) → change_by session act ≡ Some new →
         brought_by session act ≡ own_bye session.setup session.life }
 {}
 
@@ -153,6 +211,15 @@ pub fn told_moments_have_passed()
         WalksInLife (setup_at history) (life_at history) states →
         All (IsToldBy (last_moment history.acts)) states }
     ensures range { (history : History) → IsHistory history → last_moment history.acts ≤ 2 ^ 50 }
+{}
+
+/// Where nothing is said of the clocks of payload types, all RTP packets that came count in units of clocks of one
+/// rate, the usual one. So each source has the jitter of its whole run, in units of that clock (rtcp_members's law
+/// `one_clock_is_one_rate`): it is as if there were no payload types.
+pub fn one_clock_without_others()
+    ensures { (setup : Setup) (word : ℕ) (acts : List Act) (outcome : Outcome) → setup.clocks ≡ [] →
+        AllByRecursion GivesNoClocks acts → (session_of setup word acts).life ≡ present outcome →
+        HasOneClock setup.rate outcome.trace }
 {}
 
 /// The source that was reported last is that of the newest block, over any number of blocks.

@@ -8,7 +8,7 @@ ghost use Rattle.rtcp_members.specs.Tables.{no_members};
 ghost use Rattle.rtcp_wire.specs.RtpHeads.{RtpValue};
 ghost use Rattle.rtcp_members.specs.ListViews.{state_value};
 ghost use Rattle.rtcp_engine.specs.declared.config.ConfigError.{ConfigError as Error};
-ghost use Rattle.rtcp_engine.specs.Acts.{rtcp_came, rtp_came, rtp_sent, ticked, left, IsReading, IsRtpReading};
+ghost use Rattle.rtcp_engine.specs.Acts.{rtcp_came, rtp_came, rtp_sent, ticked, left, configured, forgotten, IsReading, IsRtpReading};
 ghost use Rattle.rtcp_engine.specs.Histories.{History, life_at, setup_at};
 ghost use Rattle.rtcp_engine.specs.Lives.{members_in_life, senders_in_life, entries_in_life, TellsInLife, WalksInLife, next_in_life};
 ghost use Rattle.rtcp_engine.specs.Refused.{error_in};
@@ -16,11 +16,12 @@ ghost use Rattle.rtcp_engine.specs.States.{KeepsCapacity, StandsAt};
 ghost use Rattle.rtcp_engine.specs.InTime.{IsOverdue};
 ghost use Rattle.rtcp_engine.specs.Promises.{Spares, Takes};
 ghost use Rattle.rtcp_engine.specs.Taken.{begun};
-ghost use Rattle.rtcp_engine.specs.Views.{setup_of, answer_value};
+ghost use Rattle.rtcp_engine.specs.Views.{setup_of, answer_value, settings_value};
 
 use crate::changes::Changes;
 use crate::config::{Config, ConfigError};
 use crate::presence::Presence;
+use crate::settings::Settings;
 use crate::step::Answer;
 use arrayvec::ArrayVec;
 use rtcp_members::{InlineTable, MemberTable, SourceState, Sources};
@@ -88,18 +89,18 @@ impl<T: InlineTable> Participant<T> {
         if let Some(error) = config.error() {
             return Err(error);
         }
-        let table = T::empty(config.capacity, config.rate);
+        let table = T::empty(config.capacity);
         Ok(Participant::with_table(config, table, word))
     }
 }
 
 impl<T: MemberTable> Participant<T> {
     /// A participant of a session that begins now, at moment 0, over an empty table that was made for the
-    /// configuration's capacity and rate. The configuration is one that `Config::error` does not refuse. `word` is a
+    /// configuration's capacity. The configuration is one that `Config::error` does not refuse. `word` is a
     /// random word, for the draw of the first interval. Call `tick` at `next`.
     pub fn with_table(config: Config, table: T, word: u32) -> Participant<T>
         requires usable { error_in (setup_of config) ≡ None }
-        requires vacant { T.content table ≡ no_members config.capacity config.rate }
+        requires vacant { T.content table ≡ no_members config.capacity }
         ensures begins { StandsAt result (begun (setup_of config) word) }
         ensures within { KeepsCapacity result.presence }
     {
@@ -302,6 +303,51 @@ impl<T: MemberTable> Participant<T> {
     {
         let mut octets = ArrayVec::new();
         match self.leave_into(now, w, &mut octets) {
+            Ok(told) => Ok(told.step(octets)),
+            Err(refusal) => Err(refusal),
+        }
+    }
+
+    /// Gives the participant other settings at the moment `now`: the bandwidths of the session, and what it says of
+    /// itself beside its CNAME. They hold from then on, in a backoff too: each interval that is computed later is
+    /// computed by these bandwidths, and each report that is made later says these items.
+    ///
+    /// What is known of the session stays: its members, the average and the schedule, so that no report comes sooner
+    /// by this call. With less bandwidth the next report is put off once its moment comes, as its interval is
+    /// computed anew then (RFC 3550, 6.3.6); with more it comes at its moment, and those after it sooner. Until five
+    /// of the former intervals have passed, checks go by the lesser bandwidths, so that nobody who still reports at
+    /// the former pace is dropped (6.3.5).
+    ///
+    /// # Errors
+    ///
+    /// The first of E1 to E4 and E8 that applies. Then the participant is unchanged.
+    pub fn configure(&mut self, now: u64, settings: &Settings) -> Answer
+        ensures takes { Takes self.old (configured now (settings_value settings.now)) (answer_value result) self.new }
+        ensures spares { Spares self.old result self.new }
+    {
+        let octets = ArrayVec::new();
+        match self.configure_told(now, settings) {
+            Ok(told) => Ok(told.step(octets)),
+            Err(refusal) => Err(refusal),
+        }
+    }
+
+    /// Tells that another source is gone, as its host knows by other means, such as signalling. Its entry goes as if
+    /// the source had been silent for too long at the moment `now` (RFC 3550, 6.3.5): it is no member and no sender any
+    /// more, the members are counted again (6.3.4), and there is room for another source. Named again, it comes as a
+    /// new one.
+    ///
+    /// Nothing changes where the source has no entry, said goodbye, or is the participant itself, and in a backoff.
+    ///
+    /// # Errors
+    ///
+    /// The first of E1 to E4 that applies. Then the participant is unchanged.
+    pub fn forget(&mut self, now: u64, ssrc: u32) -> Answer
+        ensures takes { Takes self.old (forgotten now ssrc) (answer_value result) self.new }
+        ensures spares { Spares self.old result self.new }
+    {
+        let octets = ArrayVec::new();
+        match self.forget_told(now, ssrc) {
             Ok(told) => Ok(told.step(octets)),
             Err(refusal) => Err(refusal),
         }

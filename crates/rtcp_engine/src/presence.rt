@@ -14,6 +14,7 @@ ghost use Rattle.rtcp_engine.specs.Refusals.{call_refusal};
 
 use crate::config::Config;
 use crate::own::OwnStream;
+use crate::pace::Pace;
 use crate::refusal::Refusal;
 use crate::table::member_count;
 use rtcp_members::{MemberTable, SourceState, Sources};
@@ -22,6 +23,8 @@ use rtcp_timer::{Average, Load, Schedule, interval};
 use std::marker::Model;
 
 mod arrivals;
+mod configuring;
+mod forgetting;
 mod identifier;
 mod leaving;
 mod ticks;
@@ -34,8 +37,8 @@ const MAX_CALLS: u64 = (1 << 40) - 1;
 
 /// What a participant knows of its session, up to its leave. From then on the members and the own stream stand
 /// still, and average and schedule are those of the backoff. The SSRC of `config` is the present one.
-// Fields lie in memory in this order: what each RTP packet reads comes first, up to the SSRC at the start of the
-// configuration, which has 2 KB, so that it takes few cache lines.
+// Fields lie in memory in this order: what each RTP packet reads comes first, up to the SSRC and the rate near the
+// start of the configuration, which has 2 KB, so that it takes few cache lines.
 #[derive(Drop)]
 pub(crate) struct Presence<T: MemberTable> {
     /// the moment of the latest call that was taken
@@ -49,6 +52,8 @@ pub(crate) struct Presence<T: MemberTable> {
     average: Average,
     /// the source of the last block that was sent
     cursor: Option<u32>,
+    /// the bandwidths before the newest change of settings, and until when checks go by them too
+    pace: Option<Pace>,
     /// how many reports were sent
     reports: u64,
 }
@@ -63,12 +68,12 @@ impl<T: MemberTable> Model for Presence<T> {
     ghost coded = { state_code };
 
     ghost view = { λ p.
-        state_with (setup_of p.config) (T.content p.table) p.schedule p.average p.own p.cursor p.reports p.latest
-        p.calls };
+        state_with (setup_of p.config) (T.content p.table) p.schedule p.average p.own p.cursor p.pace p.reports
+        p.latest p.calls };
 
     ghost invariant = { λ p. IsSound (
-        state_with (setup_of p.config) (T.content p.table) p.schedule p.average p.own p.cursor p.reports p.latest
-        p.calls) };
+        state_with (setup_of p.config) (T.content p.table) p.schedule p.average p.own p.cursor p.pace p.reports
+        p.latest p.calls) };
 }
 
 impl<T: MemberTable> Presence<T> {
@@ -76,7 +81,7 @@ impl<T: MemberTable> Presence<T> {
     /// not refused. `word` is a random word, for the draw of the first interval. Call `tick` at `next`.
     pub(crate) fn with_table(config: Config, table: T, word: u32) -> Presence<T>
         requires usable { error_in (setup_of config) ≡ None }
-        requires vacant { T.content table ≡ no_members config.capacity config.rate }
+        requires vacant { T.content table ≡ no_members config.capacity }
         ensures begins { StandsAt (newcomer result) (begun (setup_of config) word) }
         ensures within { KeepsCapacity result }
     {
@@ -96,6 +101,7 @@ impl<T: MemberTable> Presence<T> {
             average,
             own: OwnStream::new(),
             cursor: None,
+            pace: None,
             reports: 0,
             latest: 0,
             calls: 0,

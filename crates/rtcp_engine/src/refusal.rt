@@ -1,5 +1,6 @@
 //! Why a call was refused.
 
+use crate::config::ConfigError;
 use rtcp_wire::{RtpFault, WireFault};
 use thiserror::Error;
 
@@ -29,4 +30,7 @@ pub enum Refusal {
     /// so before, or eight did.
     #[error("datagram names the participant's own SSRC (RFC 3550, 8.2)")]
     OwnSsrc,
+    /// E8. The settings are none that a configuration may have: this is the reason.
+    #[error("{0}")]
+    Settings(ConfigError),
 }

@@ -3,8 +3,8 @@
 ghost use Rattle.std.specs.Prelude.{◌≡◌, ◌≤◌, ◌<◌, ◌+◌, ◌^◌, ℕ, IfSome, IsTrue};
 ghost use Rattle.std.specs.FinMap as map;
 ghost use Rattle.rtcp_wire.specs.Facts.{is_media, subject};
-ghost use Rattle.rtcp_members.specs.Roles.{check_moves, counts_differ, facts_move};
-ghost use Rattle.rtcp_members.specs.Tables.{HasFew, IsFew, after_check, after_fact, after_facts, counted, members_in, senders_in};
+ghost use Rattle.rtcp_members.specs.Roles.{check_moves, forgetting_moves, counts_differ, facts_move};
+ghost use Rattle.rtcp_members.specs.Tables.{HasFew, IsFew, after_check, after_forgetting, after_fact, after_facts, counted, members_in, senders_in};
 ghost use Rattle.rtcp_members.specs.Traces.{horizons_at};
 ghost use Rattle.rtcp_engine.specs.Arrivals.{facts_of_csrcs, facts_of_media, media_fact};
 
@@ -20,24 +20,27 @@ pub(crate) fn member_count<T: MemberTable>(table: &T) -> u32
     1 + table.members()
 }
 
-/// Applies an RTP packet, and its contributing sources but for the participant itself, `own`, if it is counted. Returns
-/// whether that changed who is a member or who sends.
+/// Applies an RTP packet, whose timestamp counts in units of a clock of this rate, and its contributing sources but for
+/// the participant itself, `own`, if it is counted. Returns whether that changed who is a member or who sends.
 // Inlined, as `Participant::take_datagram`.
 #[inline(always)]
 pub(crate) fn apply_media<T: MemberTable>(
     table: &mut T,
     head: &RtpHead<'_>,
     own: u32,
+    rate: u32,
     t: u64,
 ) -> bool
     requires { (packets : ℕ) × (packets < 2 ^ 40) × HasFew packets (T.content table.old) }
     ensures content { T.content table.new ≡ after_facts
-        (facts_of_media own head.now (counted (T.content table.old) (media_fact head.now))) t (T.content table.old) }
+        (facts_of_media own rate head.now (counted (T.content table.old) (media_fact rate head.now))) t
+        (T.content table.old) }
     ensures moved { result ≡ facts_move
-        (facts_of_media own head.now (counted (T.content table.old) (media_fact head.now))) t (T.content table.old) }
+        (facts_of_media own rate head.now (counted (T.content table.old) (media_fact rate head.now))) t
+        (T.content table.old) }
 {
     let octets = head.payload().len() as u64;
-    let packet = Fact::Media(head.ssrc(), head.sequence(), head.timestamp(), octets);
+    let packet = Fact::Media(head.ssrc(), head.sequence(), head.timestamp(), octets, rate);
     let effect = apply_fact(table, packet, t);
     if !effect.counted {
         return effect.moved;
@@ -78,6 +81,16 @@ pub(crate) fn check<T: MemberTable>(
 {
     let before = Counts::of(table);
     table.check(now, silent_before, data_before, gone_before);
+    Counts::of(table) != before
+}
+
+/// Lets a source go that the host knows to be gone, and returns whether that changed who is a member or who sends.
+pub(crate) fn forget<T: MemberTable>(table: &mut T, ssrc: u32) -> bool
+    ensures content { T.content table.new ≡ after_forgetting ssrc (T.content table.old) }
+    ensures moved { result ≡ forgetting_moves ssrc (T.content table.old) }
+{
+    let before = Counts::of(table);
+    table.forget(ssrc);
     Counts::of(table) != before
 }
 

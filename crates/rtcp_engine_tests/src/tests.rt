@@ -21,6 +21,7 @@ mod rows;
 mod runs;
 mod session;
 mod sorted;
+mod telling;
 
 use session::{
     BYE, Call, OURS, REPORT, REPORT_OF_BB, Row, Script, Seen, Session, Setup, USUAL, config,

@@ -3,12 +3,12 @@
 //! it was, and so does a call without a compound.
 
 ghost use Rattle.std.specs.Prelude.{◌≡◌, ◌≤◌, ◌<◌, ◌^◌, ℕ, List, None, Ok, length, true, false, Result, IfOk, IfSome, IsTrue, is_some};
-ghost use Rattle.rtcp_engine.specs.Acts.{arrived, left, rtcp, rtp_sent, ticked, rtcp_came, rtp, rtp_came, IsReading, IsRtpReading};
+ghost use Rattle.rtcp_engine.specs.Acts.{arrived, configured, forgotten, left, rtcp, rtp_sent, ticked, rtcp_came, rtp, rtp_came, IsReading, IsRtpReading};
 ghost use Rattle.rtcp_engine.specs.Changes.{is_about};
 ghost use Rattle.rtcp_engine.specs.Histories.{History};
 ghost use Rattle.rtcp_engine.specs.Promises.{Spares, Takes, PassesOn};
 ghost use Rattle.rtcp_engine.specs.States.{Admits, KeepsCapacity, StandsAt, refusal_by};
-ghost use Rattle.rtcp_engine.specs.Views.{datagram_of, kind_told, reply_value, size_of, told_value};
+ghost use Rattle.rtcp_engine.specs.Views.{datagram_of, kind_told, reply_value, settings_value, size_of, told_value};
 ghost use Rattle.rtcp_wire.specs.declared.fault.WireFault.{WireFault as Fault};
 ghost use Rattle.rtcp_wire.specs.declared.rtp.fault.RtpFault.{RtpFault as HeadFault};
 ghost use Rattle.rtcp_wire.specs.Values.{RtcpPacket};
@@ -18,6 +18,7 @@ ghost use Rattle.rtcp_engine.specs.InTime.{IsOverdue};
 use super::{Participant, Phase};
 use crate::arrival::Arrival;
 use crate::refusal::Refusal;
+use crate::settings::Settings;
 use crate::step::{Brought, NOTHING, Reply, Told};
 use arrayvec::ArrayVec;
 use rtcp_members::MemberTable;
@@ -211,6 +212,50 @@ impl<T: MemberTable> Participant<T> {
         self.take_call(now);
         let brought = self.take_leave(w, octets);
         Ok(self.told(brought))
+    }
+
+    /// [`configure`](Participant::configure), which never has a compound: so it takes no room for one.
+    ///
+    /// # Errors
+    ///
+    /// The first of E1 to E4 and E8 that applies. Then the participant is unchanged.
+    pub fn configure_told(&mut self, now: u64, settings: &Settings) -> Reply
+        ensures takes { (room : List ℕ) →
+            Takes self.old (configured now (settings_value settings.now)) (reply_value room result) self.new }
+        ensures empty { kind_told result ≡ None }
+        ensures spares { Spares self.old result self.new }
+    {
+        if let Some(refusal) = self.refusal(now) {
+            return Err(refusal);
+        }
+        if let Some(error) = settings.error() {
+            return Err(Refusal::Settings(error));
+        }
+        self.take_call(now);
+        self.take_settings(settings);
+        let told = self.told(NOTHING);
+        Ok(told)
+    }
+
+    /// [`forget`](Participant::forget), which never has a compound: so it takes no room for one.
+    ///
+    /// # Errors
+    ///
+    /// The first of E1 to E4 that applies. Then the participant is unchanged.
+    pub fn forget_told(&mut self, now: u64, ssrc: u32) -> Reply
+        ensures takes { (room : List ℕ) → Takes self.old (forgotten now ssrc) (reply_value room result) self.new }
+        ensures empty { kind_told result ≡ None }
+        ensures spares { Spares self.old result self.new }
+    {
+        if let Some(refusal) = self.refusal(now) {
+            return Err(refusal);
+        }
+        self.take_call(now);
+        let others_changed = self.take_forget(ssrc);
+        Ok(self.told(Brought {
+            out: None,
+            others_changed,
+        }))
     }
 
     /// Why a call at the moment `now` is refused, whatever it tells.

@@ -2,13 +2,15 @@
 //! datagram and a sent packet are told that moment again: these calls are frequent, and have it at hand.
 
 ghost use Rattle.std.specs.Prelude.{◌≡◌, ◌≤◌, ◌<◌, ◌-◌, ℕ, None, false};
-ghost use Rattle.rtcp_engine.specs.Acts.{arrived, left, rtp_sent, ticked};
+ghost use Rattle.rtcp_engine.specs.Acts.{arrived, configured, forgotten, left, rtp_sent, ticked};
+ghost use Rattle.rtcp_engine.specs.Refused.{settings_error};
 ghost use Rattle.rtcp_engine.specs.States.{Acts, Admits, KeepsCapacity, called};
-ghost use Rattle.rtcp_engine.specs.Views.{datagram_of, out_with, size_of};
+ghost use Rattle.rtcp_engine.specs.Views.{datagram_of, out_with, settings_value, size_of};
 ghost use Rattle.rtcp_members.specs.Tables.{HasFew};
 
 use super::{Participant, Phase};
 use crate::arrival::Arrival;
+use crate::settings::Settings;
 use crate::step::{Brought, NOTHING};
 use arrayvec::ArrayVec;
 use rtcp_members::MemberTable;
@@ -102,6 +104,29 @@ impl<T: MemberTable> Participant<T> {
             }
             Phase::BackingOff(_) => NOTHING,
             Phase::Gone => NOTHING,
+        }
+    }
+
+    /// Takes other settings, whatever the phase.
+    pub(super) fn take_settings(&mut self, settings: &Settings)
+        requires { settings_error (settings_value settings.now) ≡ None }
+        ensures new { Acts self.old self.new (configured self.old.presence.latest (settings_value settings.now)) None
+            false }
+        ensures within { KeepsCapacity self.new.presence }
+    {
+        self.presence.configure(settings);
+    }
+
+    /// Lets a source go, as long as the participant takes part. Returns whether that changed who of the others is a
+    /// member or who sends.
+    pub(super) fn take_forget(&mut self, ssrc: u32) -> bool
+        ensures new { Acts self.old self.new (forgotten self.old.presence.latest ssrc) None result }
+        ensures within { KeepsCapacity self.new.presence }
+    {
+        match self.phase {
+            Phase::Present => self.presence.forget(ssrc),
+            Phase::BackingOff(_) => false,
+            Phase::Gone => false,
         }
     }
 }

@@ -83,6 +83,7 @@ impl<T: MemberTable> Presence<T> {
         ensures new { Does self.old self.new (λ setup. with_media setup now head.now) }
         ensures moved { Moves self.old result (λ setup. with_media setup now head.now) }
     {
-        apply_media(&mut self.table, head, self.config.ssrc, now)
+        let rate = self.config.rate_of(head);
+        apply_media(&mut self.table, head, self.config.ssrc, rate, now)
     }
 }

@@ -1,6 +1,6 @@
 //! What a participant does as time passes (RFC 3550, 6.3.4 to 6.3.6).
 
-ghost use Rattle.std.specs.Prelude.{◌≡◌, ◌≤◌, ◌<◌, ◌-◌, ◌^◌, length, Option, None, option_map};
+ghost use Rattle.std.specs.Prelude.{◌≡◌, ◌≤◌, ◌<◌, ◌-◌, ◌^◌, ◌*◌, length, Option, None, option_map};
 ghost use Rattle.rtcp_wire.specs.Writing.{written_all};
 ghost use Rattle.rtcp_members.specs.Pending.{after_blocks, last_reported as last_of};
 ghost use Rattle.rtcp_report.specs.Sizes.{reported_rows, report_of};
@@ -8,7 +8,7 @@ ghost use Rattle.rtcp_engine.specs.Setups.{IsUsable};
 ghost use Rattle.rtcp_engine.specs.Lives.{report_out};
 ghost use Rattle.rtcp_engine.specs.Views.{setup_of, out_with};
 ghost use Rattle.rtcp_engine.specs.States.{Agrees, Does, Moves};
-ghost use Rattle.rtcp_engine.specs.Outcomes.{Outcome, receiver_interval_at};
+ghost use Rattle.rtcp_engine.specs.Outcomes.{Outcome, check_interval, check_load};
 ghost use Rattle.rtcp_engine.specs.Reporting.{report_octets, reporter_by};
 ghost use Rattle.rtcp_engine.specs.Ticks.{with_recount, without_silent, checked, is_report_due, report_due, with_report, drawn_anew, reported, tried_at, after_check, after_tick};
 
@@ -16,6 +16,7 @@ use super::Presence;
 use crate::config::Config;
 use crate::extra::extra_item;
 use crate::own::OwnStream;
+use crate::pace::slowed;
 use crate::step::{Brought, OutKind};
 use crate::table::check;
 use arrayvec::ArrayVec;
@@ -70,7 +71,7 @@ impl<T: MemberTable> Presence<T> {
         ensures reports { self.new.reports ≡ self.old.reports }
     {
         let now = self.latest;
-        let td = self.receiver_interval();
+        let td = self.check_interval();
         let idle = now.saturating_sub(2 * td);
         let moved = check(
             &mut self.table,
@@ -92,16 +93,29 @@ impl<T: MemberTable> Presence<T> {
         self.schedule.departed(self.latest, members);
     }
 
-    /// The deterministic interval of a participant that is no sender.
-    fn receiver_interval(&self) -> u64
+    /// The interval that the horizons of a check go by.
+    fn check_interval(&self) -> u64
         ensures exact { (outcome : Outcome) → Agrees self.now outcome →
-            result ≡ receiver_interval_at self.now.setup outcome }
+            result ≡ check_interval self.now.setup self.now.latest outcome }
         ensures bounded { result < 2 ^ 49 }
     {
-        interval(&Load {
+        interval(&self.check_load())
+    }
+
+    /// What that interval depends on: it is one of a participant that is no sender.
+    pub(super) fn check_load(&self) -> Load
+        ensures exact { (outcome : Outcome) → Agrees self.now outcome →
+            result ≡ check_load self.now.setup self.now.latest outcome }
+        ensures members { result.members ≤ 65535 }
+        ensures average { result.avg ≤ 256 * 65563 }
+        ensures some_for_senders { 16 ≤ result.sender_bw }
+        ensures some_for_others { 16 ≤ result.receiver_bw }
+    {
+        let receiver = Load {
             we_sent: false,
             ..self.load()
-        })
+        };
+        slowed(self.pace, self.latest, receiver)
     }
 
     /// Writes a report if one is due, and draws the next interval; else puts it off, if its moment has come.

@@ -9,7 +9,7 @@ use std::mem::size_of;
 /// What one participant takes beside its table's room.
 #[test]
 fn size(rt: HostRuntime) {
-    assert!(rt; size_of::<Participant<HeapTable>>() < 2_600);
+    assert!(rt; size_of::<Participant<HeapTable>>() < 2_760);
 }
 
 /// A participant with such a table begins, changes its identifier, and tells who is there.
@@ -30,7 +30,7 @@ fn begun(rt: &impl Abort, alloc: Global) -> Session<HeapTable> {
     if config.error().is_some() {
         panic!(rt; "the configuration is refused");
     }
-    let table = HeapTable::with_room(alloc, config.capacity, config.rate);
+    let table = HeapTable::with_room(alloc, config.capacity);
     let table = table.expect(rt, "no memory");
     let participant = Participant::with_table(config, table, 0);
     Session { participant }

@@ -9,6 +9,13 @@ fn sessions(rt: HostRuntime) {
     session::play::<ListTable>(&rt, &leaving::LEAVES);
     session::play::<ListTable>(&rt, &changes::CHANGES);
     session::play::<ListTable>(&rt, &listing::ROLES);
+    session::play::<ListTable>(&rt, &telling::TELLING);
+}
+
+/// A sender that changes its clock.
+#[test]
+fn clocks(rt: HostRuntime) {
+    telling::clocks::<ListTable>(&rt);
 }
 
 /// Compounds in the room of the caller.

@@ -144,3 +144,37 @@ fn left(rt: HostRuntime) {
     assert!(&rt; matches!(sink.answers.get(2), Some(Err(Refusal::Left))));
     session.plays(&rt, "gone", &[(Call::Ask, Seen::LeavesSilently)]);
 }
+
+/// What the host tells beside: other settings, and a source that is gone.
+#[test]
+fn told(rt: HostRuntime) {
+    let mut session = Session::<ListTable>::usual(&rt);
+    session.plays(&rt, "named", &[(Call::Named(0, 9), Seen::Counts(2, 0))]);
+    let mut sink = empty_sink(rt.alloc());
+    let slow = session::settings(16, 16, false);
+    let events = [
+        Event::Configure {
+            now: 500_000,
+            settings: &slow,
+        },
+        Event::Configure {
+            now: 499_999,
+            settings: &slow,
+        },
+        Event::Forget {
+            now: 500_000,
+            ssrc: 9,
+        },
+    ];
+    let ran = run(&mut session.participant, &events, &mut sink);
+    assert_eq!(&rt; ran.taken, 3);
+    let kinds = sink.answers.iter().map(|answer| answer.is_ok());
+    for (kind, expected) in kinds.zip([true, false, true]) {
+        assert!(&rt; kind == expected);
+    }
+    let rows = [
+        (Call::Ask, Seen::Is(1, 0, 1_026_037)),
+        (Call::Tick(1_026_037, 0, 0), Seen::Is(1, 0, 1_231_245)),
+    ];
+    session.plays(&rt, "after the run", &rows);
+}

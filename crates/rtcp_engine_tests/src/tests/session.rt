@@ -68,6 +68,11 @@ pub(crate) enum Call<'a> {
     Leave(u64, u32),
     /// An RTP packet of 160 octets that the host sent at a moment, with a timestamp.
     Sent(u64, u32),
+    /// Other settings: their moment, octets a second of RTCP for senders and for others, and whether a TOOL `t` is
+    /// said.
+    Configure(u64, u32, u32, bool),
+    /// A source is gone: a moment, and its SSRC.
+    Forget(u64, u32),
     /// An RTCP datagram: its moment, its peer, a word, and its octets.
     Rtcp(u64, u64, u32, &'a [u8]),
     /// An RTP datagram.
@@ -128,6 +133,7 @@ pub(crate) fn config() -> Config {
         sender_bw: 100,
         receiver_bw: 300,
         rate: 8_000,
+        clocks: ArrayVec::new(),
         ntp_base: 0,
     }
 }
@@ -137,12 +143,29 @@ fn configured(setup: &Setup) -> Config {
     let mut config = config();
     config.capacity = setup.capacity;
     (config.sender_bw, config.receiver_bw) = setup.bandwidths;
-    if setup.has_tool {
+    config.extras = tool(setup.has_tool);
+    config
+}
+
+/// Settings without clocks.
+pub(crate) fn settings(sender_bw: u32, receiver_bw: u32, has_tool: bool) -> Settings {
+    Settings {
+        sender_bw,
+        receiver_bw,
+        clocks: ArrayVec::new(),
+        extras: tool(has_tool),
+    }
+}
+
+/// A TOOL with the text `t`, or no item.
+fn tool(is_there: bool) -> ArrayVec<Item, 7> {
+    let mut items = ArrayVec::new();
+    if is_there {
         let mut text = ArrayVec::new();
         let _ = text.try_push(b't');
-        let _ = config.extras.try_push(Item { kind: 6, text });
+        let _ = items.try_push(Item { kind: 6, text });
     }
-    config
+    items
 }
 
 /// Each session, over a table of this type.
@@ -212,6 +235,11 @@ impl<T: MemberTable> Session<T> {
             Call::Tick(now, w1, w2) => self.participant.tick(now, w1, w2),
             Call::Leave(now, w) => self.participant.leave(now, w),
             Call::Sent(now, rtp_ts) => self.participant.sent_rtp(now, rtp_ts, 160),
+            Call::Configure(now, senders, others, has_tool) => {
+                let settings = settings(senders, others, has_tool);
+                self.participant.configure(now, &settings)
+            }
+            Call::Forget(now, ssrc) => self.participant.forget(now, ssrc),
             Call::Rtcp(now, peer, w, bytes) => self.participant.arrive_rtcp(now, peer, w, bytes),
             Call::Rtp(now, peer, w, bytes) => self.participant.arrive_rtp(now, peer, w, bytes),
             Call::Named(now, ssrc) => self.named(now, ssrc),

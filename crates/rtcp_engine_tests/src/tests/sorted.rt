@@ -16,6 +16,13 @@ fn sessions(rt: HostRuntime) {
     session::play::<SortedTable>(&rt, &leaving::LEAVES);
     session::play::<SortedTable>(&rt, &changes::CHANGES);
     session::play::<SortedTable>(&rt, &listing::ROLES);
+    session::play::<SortedTable>(&rt, &telling::TELLING);
+}
+
+/// A sender that changes its clock.
+#[test]
+fn clocks(rt: HostRuntime) {
+    telling::clocks::<SortedTable>(&rt);
 }
 
 /// Compounds in the room of the caller.

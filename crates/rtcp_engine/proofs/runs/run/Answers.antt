@@ -3,7 +3,8 @@ use Rattle.std.proofs.lemmas.List.{append_assoc, length-append}
 use Rattle.rtcp_engine.specs.Histories.{History}
 use Rattle.rtcp_engine.specs.Steps.{AnswerValue}
 use Rattle.rtcp_engine.specs.Answers.{answer_of, answers_to, followed_by_all}
-use Rattle.rtcp_engine.specs.Views.{answer_value}
+use Rattle.rtcp_engine.specs.declared.event.Event.{Event}
+use Rattle.rtcp_engine.specs.Views.{answer_value, IsActOf}
 use Rattle.rtcp_engine.specs.States.{StandsAt}
 use Rattle.rtcp_engine.proofs.LawLemmas.{sent_compounds_keep_apart, sends_in_time}
 use Rattle.rtcp_engine.proofs.OneMore.{answers_more, followed_more, next_act, of_no_error}
@@ -16,7 +17,8 @@ returns-then-is_err-clause-stands g c history acts h are =
     let told = followed_by_all history (take c.events.taken acts) in
     subst (λ (hs : History). StandsAt c.tell-answer.new.self hs)
     (sym (ap (followed_by_all history) next.more ∙ followed_more history (take c.events.taken acts) next.act))
-    ((c.tell-answer.ensures.takes next.act (next.is_act _)).stands told (c.events.invariant.stands history acts h are))
+    ((c.tell-answer.ensures.takes next.act (subst (λ (event : Event). IsActOf event next.act) (sym c.event-item.is)
+    (next.is_act c.event-item.result))).stands told (c.events.invariant.stands history acts h are))
 
 pub returns-then-is_err-clause-not_too_late : goal.returns-then-is_err-clause-not_too_late
 returns-then-is_err-clause-not_too_late g c history acts h are =
@@ -49,7 +51,9 @@ events-preserved g c =
           c.events-test.true are in
           let told = followed_by_all history (take c.events.taken acts) in
           let before = answers_to history (take c.events.taken acts) in
-          let one = (c.tell-answer.ensures.takes next.act (next.is_act _)).answer told
+          let one = (c.tell-answer.ensures.takes next.act
+          (subst (λ (event : Event). IsActOf event next.act) (sym c.event-item.is)
+          (next.is_act c.event-item.result))).answer told
           (c.events.invariant.stands history acts h are) in
           let start = g.S.Sink.content c.args.sink.now in
           of_no_error c.put.result none c.put.ensures.taken
@@ -65,6 +69,8 @@ events-preserved g c =
           let told = followed_by_all history (take c.events.taken acts) in
           subst (λ (hs : History). StandsAt c.tell-answer.new.self hs)
           (sym (ap (followed_by_all history) next.more ∙ followed_more history (take c.events.taken acts) next.act))
-          ((c.tell-answer.ensures.takes next.act (next.is_act _)).stands told
+          ((c.tell-answer.ensures.takes next.act
+          (subst (λ (event : Event). IsActOf event next.act) (sym c.event-item.is)
+          (next.is_act c.event-item.result))).stands told
           (c.events.invariant.stands history acts h are));
     }

@@ -14,7 +14,7 @@ returns-then-byes-eq0-clause-new g c now peer word =
     let counted : c.count_byes-byes.result ≡ min 65535 n = c.count_byes-byes.ensures
     ∙ ap (λ (packets : List RtcpPacket). min 65535 (bye_count packets)) c.packets.ensures in
     let none : (n == 0) ≡ true = eq-eqb n 0 (omega (arith, counted, c.if-byes-eq0.true)) in
-    acts_from_backoff c.args.members c.requires.phase (same_stays p.presence) refl
+    acts_from_backoff (λ settings. refl) c.args.members c.requires.phase (same_stays p.presence) refl
     (λ outcome backoff waits count. subst
     (λ (b : Bool). IsAt p (backing_off outcome (if b then backoff else with_farewell_of n c.args.size backoff)))
     (sym none) (c.requires.phase ∙ ap leaving count, waits))
@@ -33,7 +33,7 @@ returns-clause-new g c now peer word =
       changes = c.self.inside.changes.list.items;
     } in
     let more = c.min.ensures ∙ ap (λ (m : ℕ). min 65535 (c.args.members + m)) counted in
-    outside c.self.view_is (acts_from_backoff c.args.members phase c.hear_farewell.ensures.stays refl
+    outside c.self.view_is (acts_from_backoff (λ settings. refl) c.args.members phase c.hear_farewell.ensures.stays refl
     (λ outcome backoff waits count.
     subst (λ (b : Bool). IsAt q (backing_off outcome (if b then backoff else with_farewell_of n c.args.size backoff)))
     (sym some) (

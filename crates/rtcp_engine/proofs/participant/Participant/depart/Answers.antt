@@ -26,7 +26,7 @@ leaves : {p w q : ParticipantValue} {word : ℕ} {out : Option OutValue} {others
 leaves {p} {w} {q} {word} {out} {others} unheard few is phase there stays changes unheards fews at outs =
     let s = p.presence in
     outside_at (λ (x : ParticipantValue). left x.presence.latest word) is
-    (acts_from_present (ap (λ (x : ParticipantValue). x.phase) is ∙ phase) stays changes
+    (acts_from_present (λ settings. refl) (ap (λ (x : ParticipantValue). x.phase) is ∙ phase) stays changes
     (λ o agrees. subst (IsAt q) (sym (left_lives s.setup s.latest word o unheard (few o) (unheards o agrees)
     (fews o agrees))) (at o agrees))
     (λ o agrees. outs o ∙ sym (left_byes s.setup o unheard (few o) (unheards o agrees) (fews o agrees)))

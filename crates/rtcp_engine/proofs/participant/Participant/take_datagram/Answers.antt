@@ -9,7 +9,8 @@ use Rattle.rtcp_engine.proofs.participant.Participant.take_datagram.Goals as goa
 pub returns-in-Present-clause-new : goal.returns-in-Present-clause-new
 returns-in-Present-clause-new g c peer word =
     let phase = ap phase_value c.in-Present.is in
-    outside c.self.view_is (acts_present phase phase refl c.take_datagram.ensures.new (λ setup outcome. refl)
+    outside c.self.view_is (acts_present (λ settings. refl) phase phase refl c.take_datagram.ensures.new
+    (λ setup outcome. refl)
     (λ outcome agrees. refl) c.take_datagram.ensures.moved)
 
 pub returns-in-Rtcp-clause-new : goal.returns-in-Rtcp-clause-new

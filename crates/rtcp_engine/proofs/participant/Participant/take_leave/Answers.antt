@@ -6,11 +6,13 @@ use Rattle.rtcp_engine.proofs.participant.Participant.take_leave.Goals as goal
 
 pub returns-in-BackingOff-clause-new : goal.returns-in-BackingOff-clause-new
 returns-in-BackingOff-clause-new g c =
-    acts_passing _ (sym (ap (λ (p : ParticipantValue). p.phase) c.self.view_is) ∙ ap phase_value c.in-BackingOff.is)
+    acts_passing (λ settings. refl) _ (sym (ap (λ (p : ParticipantValue). p.phase) c.self.view_is)
+    ∙ ap phase_value c.in-BackingOff.is)
     (λ setup outcome backoff. refl) (λ setup outcome backoff. refl)
 
 pub returns-in-Gone-clause-new : goal.returns-in-Gone-clause-new
-returns-in-Gone-clause-new g c = acts_gone (sym (ap (λ (p : ParticipantValue). p.phase) c.self.view_is)
+returns-in-Gone-clause-new g c = acts_gone (λ settings. refl)
+    (sym (ap (λ (p : ParticipantValue). p.phase) c.self.view_is)
     ∙ ap phase_value c.in-Gone.is)
 
 pub returns-in-Present-clause-new : goal.returns-in-Present-clause-new

@@ -9,11 +9,12 @@ pub returns-in-Present-clause-new : goal.returns-in-Present-clause-new
 returns-in-Present-clause-new g c =
     let phase = ap phase_value c.in-Present.is in
     outside_at (λ (p : ParticipantValue). ticked p.presence.latest c.args.w1 c.args.w2) c.self.view_is
-    (acts_present phase phase refl c.tick.ensures.new (λ setup outcome. refl) c.tick.ensures.report
+    (acts_present (λ settings. refl) phase phase refl c.tick.ensures.new (λ setup outcome. refl) c.tick.ensures.report
     c.tick.ensures.moved)
 
 pub returns-in-Gone-clause-new : goal.returns-in-Gone-clause-new
-returns-in-Gone-clause-new g c = acts_gone (sym (ap (λ (p : ParticipantValue). p.phase) c.self.view_is)
+returns-in-Gone-clause-new g c = acts_gone (λ settings. refl)
+    (sym (ap (λ (p : ParticipantValue). p.phase) c.self.view_is)
     ∙ ap phase_value c.in-Gone.is)
 
 pub returns-in-BackingOff-clause-new : goal.returns-in-BackingOff-clause-new

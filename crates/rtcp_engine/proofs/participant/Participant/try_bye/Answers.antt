@@ -19,7 +19,7 @@ returns-then-not-expire_backoff-clause-new g c w2 =
       changes = c.self.inside.changes.list.items;
     } in
     outside_at (λ (p : ParticipantValue). ticked p.presence.latest c.args.w1 w2) c.self.view_is
-    (acts_from_backoff c.args.members phase c.expire_backoff.ensures.new.stays refl
+    (acts_from_backoff (λ settings. refl) c.args.members phase c.expire_backoff.ensures.new.stays refl
     (λ outcome backoff waits count.
     let due = sym (c.expire_backoff.ensures.due outcome backoff waits count) ∙ c.if-not-expire_backoff.true in
     subst (λ (b : Bool). IsAt q (if b then gone outcome else backing_off outcome
@@ -40,7 +40,7 @@ returns-clause-new g c w2 =
       changes = c.self.inside.changes.list.items;
     } in
     outside_at (λ (p : ParticipantValue). ticked p.presence.latest c.args.w1 w2) c.self.view_is
-    (acts_from_backoff c.args.members phase c.expire_backoff.ensures.new.stays refl
+    (acts_from_backoff (λ settings. refl) c.args.members phase c.expire_backoff.ensures.new.stays refl
     (λ outcome backoff waits count.
     let due = sym (c.expire_backoff.ensures.due outcome backoff waits count) ∙ c.if-not-expire_backoff.false in
     subst (λ (b : Bool). IsAt q (if b then gone outcome else backing_off outcome

@@ -5,7 +5,7 @@ use Rattle.rtcp_engine.specs.OwnStreams.{Adds, check_passed}
 use Rattle.rtcp_engine.specs.States.{Moves}
 use Rattle.rtcp_engine.specs.Ticks.{horizons_of, without_silent}
 use Rattle.rtcp_engine.proofs.Soundness.{IsKept, check_kept, no_call, kept}
-use Rattle.rtcp_engine.proofs.StepLemmas.{at_latest, does_at, drops}
+use Rattle.rtcp_engine.proofs.StepLemmas.{at_latest, does_at, drops, inside_interval}
 use Rattle.rtcp_engine.proofs.RolesChanged.{moves_check}
 use Rattle.rtcp_members.specs.Roles.{check_moves}
 use Rattle.rtcp_engine.proofs.presence.Presence.drop_silent.Goals as goal
@@ -24,21 +24,21 @@ pub returns-clause-new : goal.returns-clause-new
 returns-clause-new g c =
     let inside = c.self.inside in
     let table : g.T.MemberTable.content c.check-moved.new.table ≡ after_check
-    (horizons_of inside.latest c.receiver_interval-td.result) (g.T.MemberTable.content inside.table) =
+    (horizons_of inside.latest c.check_interval-td.result) (g.T.MemberTable.content inside.table) =
     c.check-moved.ensures.content ∙ (λ i. after_check
     (horizons_at (c.saturating_sub.ensures i) (c.saturating_sub-idle.ensures i) (c.saturating_sub-2.ensures i))
     (g.T.MemberTable.content inside.table)) in
     does_at c.self.view_is (λ t setup. without_silent setup t)
     (drops c.self.view_is (g.T.MemberTable.content c.check-moved.new.table) c.check.new.self inside.latest
-    c.receiver_interval-td.result c.receiver_interval-td.ensures.exact
+    c.check_interval-td.result (inside_interval c.self.view_is c.check_interval-td.ensures.exact)
     table (subst (λ (idle : ℕ). Adds inside.own c.check.new.self (check_passed idle)) c.saturating_sub-idle.ensures
     c.check.ensures) (invariant_of-self g c).room)
 
 pub returns-clause-moved : goal.returns-clause-moved
 returns-clause-moved g c =
     at_latest c.self.view_is (λ t. Moves c.args.self.now c.check-moved.result (λ setup. without_silent setup t))
-    (moves_check c.self.view_is c.self.inside.latest c.receiver_interval-td.result c.check-moved.result
-    c.receiver_interval-td.ensures.exact
+    (moves_check c.self.view_is c.self.inside.latest c.check_interval-td.result c.check-moved.result
+    (inside_interval c.self.view_is c.check_interval-td.ensures.exact)
     (c.check-moved.ensures.moved ∙ (λ i. check_moves
     (horizons_at (c.saturating_sub.ensures i) (c.saturating_sub-idle.ensures i) (c.saturating_sub-2.ensures i))
     (g.T.MemberTable.content c.self.inside.table))))

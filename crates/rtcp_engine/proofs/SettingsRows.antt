@@ -1,0 +1,75 @@
+-- Worked rows: sessions whose host changes the settings.
+use Rattle.std.proofs.Common.{◌≡◌, List, [], ◌∷◌, Err, refl}
+use Rattle.rtcp_engine.specs.declared.config.ConfigError.TheVariants.{Bandwidth, Rate, Item}
+use Rattle.rtcp_engine.specs.declared.refusal.Refusal.TheVariants.{Settings}
+use Rattle.rtcp_engine.specs.Setups.{SettingsValue}
+use Rattle.rtcp_engine.specs.Acts.{configured, ticked}
+use Rattle.rtcp_engine.specs.Answers.{answers_to}
+use Rattle.rtcp_engine.specs.Histories.{History}
+use Rattle.rtcp_engine.proofs.Rows.{setup, start, start_of, named_came, ok, moved, sends, empty_report}
+
+-- With these the interval of one member is 3 seconds, where its minimum is less.
+abbrev slow : SettingsValue
+slow = record { sender_bw = 16; receiver_bw = 16; clocks = []; extras = [] }
+
+-- The moment to ask again stays; the report is put off there, as its interval is computed anew.
+lower : answers_to start (configured 500000 slow ∷ ticked 1026037 0 0 ∷ ticked 1231245 0 0 ∷ [])
+    ≡ ok 1 0 0 1026037 ∷ ok 1 0 0 1231245 ∷ sends 1 0 0 3283319 empty_report ∷ []
+lower = refl
+
+-- Where it is put off by less bandwidth, more of it does not bring it sooner.
+higher : answers_to start (configured 500000 slow ∷ ticked 1026037 4294967295 0
+    ∷ configured 1026037 (record slow { receiver_bw = 300 }) ∷ ticked 3693732 0 0 ∷ ticked 3693733 0 0 ∷ [])
+    ≡ ok 1 0 0 1026037 ∷ ok 1 0 0 3693733 ∷ ok 1 0 0 3693733 ∷ ok 1 0 0 3693733
+    ∷ sends 1 0 0 5745807 empty_report ∷ []
+higher = refl
+
+-- What no configuration may have is refused, and changes nothing.
+refused : answers_to start (configured 0 (record slow { receiver_bw = 15 })
+    ∷ configured 0 (record slow { clocks = record { payload_type = 0; rate = 0 } ∷ [] })
+    ∷ configured 0 (record slow { extras = record { kind = 1; text = [] } ∷ [] }) ∷ ticked 1026037 0 0 ∷ [])
+    ≡ Err (Settings Bandwidth) ∷ Err (Settings Rate) ∷ Err (Settings Item) ∷ sends 1 0 0 3078111 empty_report ∷ []
+refused = refl
+
+-- The third report carries an item that was given after the second one.
+described : answers_to start (ticked 1026037 0 0 ∷ ticked 3078111 0 0
+    ∷ configured 3078111 (record {
+      sender_bw = 100;
+      receiver_bw = 300;
+      clocks = [];
+      extras = record { kind = 6; text = 116 ∷ [] } ∷ [];
+    })
+    ∷ ticked 5130185 0 0 ∷ [])
+    ≡ sends 1 0 0 3078111 empty_report ∷ sends 1 0 0 5130185 empty_report ∷ ok 1 0 0 5130185 ∷ sends 1 0 0 7182259
+    (128 ∷ 201 ∷ 0 ∷ 1 ∷ 0 ∷ 0 ∷ 0 ∷ 170 ∷ 129 ∷ 202 ∷ 0 ∷ 3 ∷ 0 ∷ 0 ∷ 0 ∷ 170 ∷ 1 ∷ 1 ∷ 97 ∷ 6 ∷ 1 ∷ 116 ∷ 0 ∷ 0
+    ∷ []) ∷ []
+described = refl
+
+-- ---- The pace of checks
+
+-- A session of this bandwidth, in which the interval of two members is 6 seconds,
+abbrev slow_start : History
+slow_start = start_of (record setup { sender_bw = 16; receiver_bw = 16 })
+
+-- becomes one of the least interval, 2.5 seconds before the first report, and 5 seconds after it.
+abbrev fast : SettingsValue
+fast = record { sender_bw = 160; receiver_bw = 160; clocks = []; extras = [] }
+
+-- A source that was last heard 20 seconds ago, so less than five of the former intervals, is kept: five of the present
+-- ones are 12.5 seconds.
+raised : answers_to slow_start (named_came 0 9 ∷ configured 20000000 fast ∷ ticked 20000000 0 0 ∷ [])
+    ≡ moved (ok 2 0 1 1231245) ∷ ok 2 0 1 1231245 ∷ sends 2 0 1 22052074 empty_report ∷ []
+raised = refl
+
+-- The former pace counts for five of its intervals, 30 seconds, and no longer.
+former_for_thirty_seconds : answers_to slow_start (named_came 0 9 ∷ configured 20000000 fast ∷ ticked 20000000 0 0
+    ∷ named_came 20000001 9 ∷ ticked 49999999 0 0 ∷ ticked 50000000 0 0 ∷ [])
+    ≡ moved (ok 2 0 1 1231245) ∷ ok 2 0 1 1231245 ∷ sends 2 0 1 22052074 empty_report ∷ ok 2 0 1 22052074
+    ∷ sends 2 0 1 52052073 empty_report ∷ moved (ok 1 0 0 51026036) ∷ []
+former_for_thirty_seconds = refl
+
+-- Settings that change again meanwhile, other items say, do not end it.
+set_twice : answers_to slow_start (named_came 0 9 ∷ configured 20000000 fast ∷ configured 20000000 fast
+    ∷ ticked 20000000 0 0 ∷ [])
+    ≡ moved (ok 2 0 1 1231245) ∷ ok 2 0 1 1231245 ∷ ok 2 0 1 1231245 ∷ sends 2 0 1 22052074 empty_report ∷ []
+set_twice = refl

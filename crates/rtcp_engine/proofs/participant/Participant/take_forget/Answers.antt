@@ -1,0 +1,24 @@
+use Rattle.std.proofs.Common.{◌∙◌, refl, ap, sym}
+use Rattle.rtcp_engine.specs.Acts.{forgotten}
+use Rattle.rtcp_engine.specs.States.{ParticipantValue}
+use Rattle.rtcp_engine.specs.Views.{phase_value}
+use Rattle.rtcp_engine.proofs.ActLemmas.{acts_present, acts_passing, acts_gone, outside_at}
+use Rattle.rtcp_engine.proofs.participant.Participant.take_forget.Goals as goal
+
+pub returns-in-Present-clause-new : goal.returns-in-Present-clause-new
+returns-in-Present-clause-new g c =
+    let phase = ap phase_value c.in-Present.is in
+    outside_at (λ (p : ParticipantValue). forgotten p.presence.latest c.args.ssrc) c.self.view_is
+    (acts_present (λ settings. refl) phase phase refl c.forget.ensures.new (λ setup outcome. refl)
+    (λ outcome agrees. refl) c.forget.ensures.moved)
+
+pub returns-in-BackingOff-clause-new : goal.returns-in-BackingOff-clause-new
+returns-in-BackingOff-clause-new g c =
+    acts_passing (λ settings. refl) _ (sym (ap (λ (p : ParticipantValue). p.phase) c.self.view_is)
+    ∙ ap phase_value c.in-BackingOff.is)
+    (λ setup outcome backoff. refl) (λ setup outcome backoff. refl)
+
+pub returns-in-Gone-clause-new : goal.returns-in-Gone-clause-new
+returns-in-Gone-clause-new g c = acts_gone (λ settings. refl)
+    (sym (ap (λ (p : ParticipantValue). p.phase) c.self.view_is)
+    ∙ ap phase_value c.in-Gone.is)

@@ -1,0 +1,12 @@
+use Rattle.std.proofs.Common.{ap}
+use Rattle.rtcp_engine.specs.Acts.{configured}
+use Rattle.rtcp_engine.specs.States.{ParticipantValue}
+use Rattle.rtcp_engine.specs.Views.{settings_value}
+use Rattle.rtcp_engine.proofs.ActLemmas.{acts_set, outside_at}
+use Rattle.rtcp_engine.proofs.participant.Participant.take_settings.Goals as goal
+
+pub returns-clause-new : goal.returns-clause-new
+returns-clause-new g c =
+    let settings = settings_value c.args.settings.now in
+    outside_at (λ (p : ParticipantValue). configured p.presence.latest settings) c.self.view_is
+    (acts_set settings c.configure.ensures.new c.configure.ensures.pace)

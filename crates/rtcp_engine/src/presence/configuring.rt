@@ -1,0 +1,45 @@
+//! What a participant does as its host gives it other settings (RFC 3550, 6.2, 6.3.1).
+
+ghost use Rattle.std.specs.Prelude.{◌≡◌, None};
+ghost use Rattle.rtcp_engine.specs.Outcomes.{Outcome, pace_at, IsPace};
+ghost use Rattle.rtcp_engine.specs.Refused.{settings_error};
+ghost use Rattle.rtcp_engine.specs.States.{Agrees, IsPaceOf, KeepsCapacity, with_settings_in};
+ghost use Rattle.rtcp_engine.specs.Views.{settings_value};
+
+use super::Presence;
+use crate::pace::Pace;
+use crate::settings::{Settings, copied, copied_clocks};
+use rtcp_members::MemberTable;
+use rtcp_timer::interval;
+
+impl<T: MemberTable> Presence<T> {
+    /// Takes other settings at the moment of the latest call. Members, average and schedule stay as they are: the next
+    /// interval that is computed is the first by the new bandwidths, and the next RTP packet that comes the first by
+    /// the new clocks. Checks go by the former bandwidths too, until all others had time to report at the new pace.
+    pub(crate) fn configure(&mut self, settings: &Settings)
+        requires { settings_error (settings_value settings.now) ≡ None }
+        ensures new { self.new ≡ with_settings_in (settings_value settings.now) self.new.pace self.old }
+        ensures pace { IsPaceOf self.old self.new.pace }
+        ensures within { KeepsCapacity self.new }
+    {
+        self.pace = Some(self.pace_now());
+        self.config.sender_bw = settings.sender_bw;
+        self.config.receiver_bw = settings.receiver_bw;
+        self.config.clocks = copied_clocks(&settings.clocks);
+        self.config.extras = copied(&settings.extras);
+    }
+
+    /// The bandwidths that checks go by now, for as long as a source may be silent.
+    fn pace_now(&self) -> Pace
+        ensures exact { (outcome : Outcome) → Agrees self.now outcome →
+            result ≡ pace_at self.now.setup self.now.latest outcome }
+        ensures usable { IsPace result }
+    {
+        let load = self.check_load();
+        Pace {
+            sender_bw: load.sender_bw,
+            receiver_bw: load.receiver_bw,
+            until: self.latest + 5 * interval(&load),
+        }
+    }
+}
