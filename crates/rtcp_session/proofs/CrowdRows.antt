@@ -2,7 +2,7 @@
 -- senders and 16 for the others, and each compound has 48 octets with its headers. Each hears of the others, and
 -- reports as soon as it may. Two that do not send RTP send as many reports as a crowd may: with 243,655 in place of
 -- 243,656 they would be one too many, as without the one report that each may send besides.
-use Rattle.std.proofs.Common.{◌≡◌, ◌==◌, ◌<◌, ◌^◌, ℕ, ◌+◌, ◌*◌, ◌/◌, List, [], ◌∷◌, ◌&&◌, not, nat_le, nat_lt, length, map, All, Bool, true, false, Option, Some, None, is_some, Ok, Err, refl, arith}
+use Rattle.std.proofs.Common.{◌≡◌, ◌≤◌, ◌==◌, ◌<◌, ◌^◌, ℕ, ◌+◌, ◌*◌, ◌/◌, List, [], ◌∷◌, ◌&&◌, not, nat_le, nat_lt, length, map, All, Bool, true, false, Option, Some, None, is_some, Ok, Err, refl, arith}
 use Rattle.std.specs.List.{list_all}
 use Rattle.std.proofs.lemmas.Bool.{and_parts, leb-true, ltb-true, eqb-true}
 use Rattle.std.proofs.lemmas.List.Elements.{All-nil, All-cons, All-weaker}
@@ -14,16 +14,16 @@ use Rattle.rtcp_members.specs.Entries.{entry_at, is_member, is_such}
 use Rattle.rtcp_timer.specs.declared.load.Load.{Load}
 use Rattle.rtcp_timer.specs.Averages.{with_headers}
 use Rattle.rtcp_engine.specs.Setups.{Setup}
-use Rattle.rtcp_engine.specs.Acts.{Act, arrived, rtcp, rtp, rtp_sent, ticked, left}
+use Rattle.rtcp_engine.specs.Acts.{Act, arrived, rtcp, rtp, rtp_sent, ticked, left, configured, forgotten}
 use Rattle.rtcp_engine.specs.Histories.{History}
 use Rattle.rtcp_engine.specs.Outcomes.{Outcome, first_size_of}
 use Rattle.rtcp_engine.specs.Refused.{error_in}
 use Rattle.rtcp_engine.specs.Refusals.{refusal_after}
 use Rattle.rtcp_engine.specs.Taken.{HasWords, AllTaken, IsHistory}
 use Rattle.rtcp_engine.specs.Sent.{reports_in, sent_at}
-use Rattle.rtcp_session.specs.Windows.{in_window, later_ones, intervals_of, Decided, load_at, HasSize, Joined, decided_within, later_within}
+use Rattle.rtcp_session.specs.Windows.{in_window, later_ones, intervals_of, Decided, load_at, decided_at, HasSize, Joined, decided_within, later_within}
 use Rattle.rtcp_engine.proofs.LawLemmas.{usable_is_unrefused}
-use Rattle.rtcp_session.specs.Crowds.{total_reports, total_as, those_as, alike_in, shares_within, AreHeard, Terms, CountsMost, TakesPart, IsCrowd, carried_in}
+use Rattle.rtcp_session.specs.Crowds.{HasAtMost, total_reports, total_as, those_as, alike_in, shares_within, AreHeard, Terms, CountsMost, TakesPart, IsCrowd, carried_in}
 
 -- ---- Participants
 
@@ -37,6 +37,7 @@ setup_of ssrc = record {
   sender_bw = 16;
   receiver_bw = 16;
   rate = 8000;
+  clocks = [];
   ntp_base = 0;
 }
 
@@ -93,16 +94,16 @@ room_for_two : 2 * 121828 * 2462489 * (256 * 16) / (100000 * 1000000) ≡ 24576
 room_for_two = refl
 
 -- The other is heard, and counted.
-hears_other : (outcome : Outcome) → is_such is_member (entry_at 1024 8000 outcome.trace 187) ≡ true →
+hears_other : (outcome : Outcome) → is_such is_member (entry_at 1024 outcome.trace 187) ≡ true →
     AreHeard is_member (setup_of 170) outcome (187 ∷ [])
 unfolding IsDistinct
 hears_other outcome is = record {
   apart = (tt, tt);
-  heard = All-cons (λ (ssrc : ℕ). is_such is_member (entry_at 1024 8000 outcome.trace ssrc) ≡ true) 187 [] is
-      (All-nil (λ (ssrc : ℕ). is_such is_member (entry_at 1024 8000 outcome.trace ssrc) ≡ true));
+  heard = All-cons (λ (ssrc : ℕ). is_such is_member (entry_at 1024 outcome.trace ssrc) ≡ true) 187 [] is
+      (All-nil (λ (ssrc : ℕ). is_such is_member (entry_at 1024 outcome.trace ssrc) ≡ true));
 }
 
-is_heard : map (λ decided. is_such is_member (entry_at 1024 8000 decided.outcome.trace 187))
+is_heard : map (λ decided. is_such is_member (entry_at 1024 decided.outcome.trace 187))
     (later_within 2462496 2462489 (who_hears 187 170)) ≡ true ∷ []
 is_heard = refl
 
@@ -175,6 +176,8 @@ has_words (arrived moment peer word datagram) = nat_lt word (2 ^ 32)
 has_words (rtp_sent moment timestamp octets) = nat_lt timestamp (2 ^ 32) && nat_lt octets (2 ^ 32)
 has_words (ticked moment first_word second_word) = nat_lt first_word (2 ^ 32) && nat_lt second_word (2 ^ 32)
 has_words (left moment word) = nat_lt word (2 ^ 32)
+has_words (configured moment settings) = true
+has_words (forgotten moment ssrc) = nat_lt ssrc (2 ^ 32)
 
 below : (one other : ℕ) → (nat_lt one (2 ^ 32) && nat_lt other (2 ^ 32)) ≡ true → (one < 2 ^ 32) × (other < 2 ^ 32)
 below one other is =
@@ -186,6 +189,8 @@ words (arrived moment peer word datagram) is = ltb-true word (2 ^ 32) is
 words (rtp_sent moment timestamp octets) is = below timestamp octets is
 words (ticked moment first_word second_word) is = below first_word second_word is
 words (left moment word) is = ltb-true word (2 ^ 32) is
+words (configured moment settings) is = tt
+words (forgotten moment ssrc) is = ltb-true ssrc (2 ^ 32) is
 
 none : {A : Type 0} (found : Option A) → not (is_some found) ≡ true → found ≡ None
 none None is = refl
@@ -231,11 +236,35 @@ large least (arrived moment peer word (rtp reading)) is = tt
 large least (rtp_sent moment timestamp octets) is = tt
 large least (ticked moment first_word second_word) is = tt
 large least (left moment word) is = tt
+large least (configured moment settings) is = tt
+large least (forgotten moment ssrc) is = tt
 
 -- what a test says of each
 pub each : {A : Type 0} (test : A → Bool) (P : A → Type 0) → ((x : A) → test x ≡ true → P x) → (all : List A) →
     list_all test all ≡ true → All P all
 each {A} test P says all is = All-weaker (λ (x : A). test x ≡ true) P says all (AllPass-from_list_all test all is)
+
+-- whether a setup has at most this bandwidth
+abbrev pub has_at_most : Terms → Setup → Bool
+has_at_most terms setup = nat_le setup.sender_bw terms.sender_bw && nat_le setup.receiver_bw terms.receiver_bw
+
+pub bandwidth_of : (terms : Terms) (setup : Setup) → has_at_most terms setup ≡ true → HasAtMost terms setup
+bandwidth_of terms setup is =
+    let parts = and_parts (nat_le setup.sender_bw terms.sender_bw) (nat_le setup.receiver_bw terms.receiver_bw) is in
+    record {
+      for_senders = leb-true setup.sender_bw terms.sender_bw parts.0;
+      for_others = leb-true setup.receiver_bw terms.receiver_bw parts.1;
+    }
+
+-- the same of each report
+abbrev pub keeps_to : Terms → List Decided → Bool
+keeps_to terms all = list_all (λ decided. has_at_most terms decided.setup) all
+
+pub bandwidths_of : (terms : Terms) (all : List Decided) → keeps_to terms all ≡ true →
+    All (λ decided. HasAtMost terms decided.setup) all
+bandwidths_of terms all is =
+    each (λ (decided : Decided). has_at_most terms decided.setup)
+    (λ (decided : Decided). HasAtMost terms decided.setup) (λ decided. bandwidth_of terms decided.setup) all is
 
 module _ (terms : Terms) (from width : ℕ) (all : List Joined) where
   abbrev counts_most : Load → Bool
@@ -253,8 +282,8 @@ module _ (terms : Terms) (from width : ℕ) (all : List Joined) where
       }
 
   abbrev tests : Joined → List Bool
-  tests joined = is_history joined.history ∷ (joined.history.setup.sender_bw == terms.sender_bw)
-      ∷ (joined.history.setup.receiver_bw == terms.receiver_bw)
+  tests joined = is_history joined.history
+      ∷ keeps_to terms (decided_at joined.history)
       ∷ nat_le terms.size (with_headers (first_size_of joined.history.setup))
       ∷ list_all (is_large terms.size) joined.history.acts
       ∷ list_all (λ decided. counts_most (load_at decided)) (later_within from width joined) ∷ []
@@ -268,14 +297,13 @@ module _ (terms : Terms) (from width : ℕ) (all : List Joined) where
       let passed = AllPass-from_list_all (λ (passed : Bool). passed) (tests joined) is in
       record {
         stands = stands joined.history (passed 0 true (omega arith));
-        for_senders = eqb-true setup.sender_bw terms.sender_bw (passed 1 true (omega arith));
-        for_others = eqb-true setup.receiver_bw terms.receiver_bw (passed 2 true (omega arith));
-        own = leb-true terms.size (with_headers (first_size_of setup)) (passed 3 true (omega arith));
+        bandwidth = bandwidths_of terms (decided_at joined.history) (passed 1 true (omega arith));
+        own = leb-true terms.size (with_headers (first_size_of setup)) (passed 2 true (omega arith));
         sizes = each (is_large terms.size) (HasSize terms.size) (large terms.size) joined.history.acts
-            (passed 4 true (omega arith));
+            (passed 3 true (omega arith));
         counts = each (λ (decided : Decided). counts_most (load_at decided))
             (λ (decided : Decided). CountsMost terms.percent from width all (load_at decided))
-            (λ decided. counts (load_at decided)) (later_within from width joined) (passed 5 true (omega arith));
+            (λ decided. counts (load_at decided)) (later_within from width joined) (passed 4 true (omega arith));
       }
 
   pub crowd_of : list_all takes_part all ≡ true → IsCrowd terms from width all

@@ -7,7 +7,7 @@ use Rattle.rtcp_timer.specs.Loads.{interval_of, minimum_of}
 use Rattle.rtcp_timer.proofs.LawLemmas.{interval_has_minimum}
 use Rattle.rtcp_engine.specs.declared.changes.Change.{Change}
 use Rattle.rtcp_engine.specs.Setups.{Setup}
-use Rattle.rtcp_engine.specs.Acts.{Act, arrived, rtp_sent, ticked, left, moment_of}
+use Rattle.rtcp_engine.specs.Acts.{Act, arrived, rtp_sent, ticked, left, configured, moment_of, forgotten}
 use Rattle.rtcp_engine.specs.OwnStreams.{has_sent}
 use Rattle.rtcp_engine.specs.Outcomes.{Outcome, load_of, member_count}
 use Rattle.rtcp_engine.specs.Ticks.{checked, report_due}
@@ -18,7 +18,7 @@ use Rattle.rtcp_engine.specs.Changes.{NewIdentifier, Session, bye_of_change, cha
 use Rattle.rtcp_engine.specs.Histories.{History, session_of}
 use Rattle.rtcp_engine.specs.Steps.{OutValue}
 use Rattle.rtcp_engine.specs.Sent.{Sent, interval_by, is_report, reports_in, sent_with, sent_by, sent_over, sent_at}
-use Rattle.rtcp_engine.proofs.LawLemmas.{changes_touch_the_identifier_alone-bye}
+use Rattle.rtcp_engine.proofs.LawLemmas.{changes_bring_one_bye}
 use Rattle.rtcp_session.specs.Windows.{later_ones, Decided, load_at, outcome_by, decided_with, decided_by, decided_over, decided_at, Joined, is_inside, reports_within, decided_within, later_within}
 
 -- ---- Acts without a report
@@ -50,12 +50,16 @@ none_alone setup (rtp_sent moment timestamp octets) (present outcome) h = refl
 none_alone setup (ticked moment first_word second_word) (present outcome) h = absurd cc
 none_alone setup (left moment word) (present outcome) h = none_of_leave moment (is_unheard outcome)
     (nat_le (member_count setup outcome) few_members) (bye_octets setup)
+none_alone setup (configured moment settings) (present outcome) h = refl
+none_alone setup (forgotten moment ssrc) (present outcome) h = refl
 none_alone setup (arrived moment peer word datagram) (backing_off outcome backoff) h = refl
 none_alone setup (rtp_sent moment timestamp octets) (backing_off outcome backoff) h = refl
 none_alone setup (ticked moment first_word second_word) (backing_off outcome backoff) h =
     none_of_bye moment (leaving_interval setup backoff) false (is_bye_due setup moment first_word backoff)
     (bye_octets setup)
 none_alone setup (left moment word) (backing_off outcome backoff) h = refl
+none_alone setup (configured moment settings) (backing_off outcome backoff) h = refl
+none_alone setup (forgotten moment ssrc) (backing_off outcome backoff) h = refl
 none_alone setup act (gone outcome) h = refl
 
 none_by : (session : Session) (act : Act) (change : Option NewIdentifier) → change_by session act ≡ change →
@@ -74,7 +78,7 @@ none_by session act (Some new) is h =
     brought session act new is =
         sym (ap (λ (change : Option NewIdentifier). let now = changed_by change session in
         option_or (bye_of_change change session) (out_by now.setup act now.life)) is)
-        ∙ changes_touch_the_identifier_alone-bye session act new is
+        ∙ changes_bring_one_bye session act new is
 
 -- ---- Reports with what they were decided by
 

@@ -11,7 +11,7 @@ use Rattle.rtcp_session.specs.Crowds.{AreHeard, has_role, Terms}
 use Rattle.rtcp_session.specs.Waits.{Wait, wait_between, waits_over, waits_within, all_waits, is_open, open_at, reports_next_as, waits_as, HearsWaiting}
 use Rattle.rtcp_session.specs.Deliveries.{ComeWithin, HasHeard, IsKept, is_named_in, opened_after, waits_after, IsCountedAfter, Knows, EndsAfter, KnowEachOther, IsDelivered}
 use Rattle.rtcp_session.proofs.Pacing.{more_if, filter_cons}
-use Rattle.rtcp_session.proofs.Waited.{waits_are, one_open}
+use Rattle.rtcp_session.proofs.Waited.{widest, has_widest, waits_are, one_open}
 use Rattle.rtcp_session.proofs.Hearing.{same, those_heard_wait}
 use Rattle.rtcp_session.proofs.Knowing.{named_are_members}
 use Rattle.rtcp_session.proofs.Taking.{taken_are_known}
@@ -24,10 +24,10 @@ ssrc_of wait = wait.next.setup.ssrc
 -- For its report a participant takes another for a member, and for one in its own role if that reports next so.
 record TakesFor (own other : Decided) : Type 0 where
   apart : (other.setup.ssrc == own.setup.ssrc) ≡ false
-  member : is_such is_member (entry_at own.setup.capacity own.setup.rate own.outcome.trace other.setup.ssrc) ≡ true
+  member : is_such is_member (entry_at own.setup.capacity own.outcome.trace other.setup.ssrc) ≡ true
   role : (load_at other).we_sent ≡ (load_at own).we_sent →
       is_such (has_role (load_at own).we_sent)
-      (entry_at own.setup.capacity own.setup.rate own.outcome.trace other.setup.ssrc) ≡ true
+      (entry_at own.setup.capacity own.outcome.trace other.setup.ssrc) ≡ true
 
 -- A member that is no sender is a listener.
 in_role : (sender : Bool) (entry : Option EntryValue) → is_such is_member entry ≡ true →
@@ -52,11 +52,11 @@ named_from joined moment ssrc is heard k d inside later =
 pub heard_are_members : (joined : Joined) (moment ssrc : ℕ) → IsHistory joined.history → HasHeard moment ssrc joined →
     All (λ decided. moment < joined.start + decided.report.moment →
     IsKept decided.setup.capacity ssrc decided.outcome.trace →
-    is_such is_member (entry_at decided.setup.capacity decided.setup.rate decided.outcome.trace ssrc) ≡ true)
+    is_such is_member (entry_at decided.setup.capacity decided.outcome.trace ssrc) ≡ true)
     (decided_at joined.history)
 heard_are_members joined moment ssrc is heard k d inside later kept =
     let decided : Decided = get_or (decided_at joined.history) k d in
-    named_are_members decided.setup.capacity decided.setup.rate ssrc decided.outcome.trace
+    named_are_members decided.setup.capacity ssrc decided.outcome.trace
     (named_from joined moment ssrc is heard k d inside later) kept
 
 -- What holds of each report holds of the one that each waits for, at the moment when the wait ends.
@@ -87,14 +87,14 @@ takes from width joined is k d inside =
     λ its knows.
     let known = for_waits_within (λ (decided : Decided). knows.by < joined.start + decided.report.moment →
     IsKept decided.setup.capacity (ssrc_of its) decided.outcome.trace →
-    is_such is_member (entry_at decided.setup.capacity decided.setup.rate decided.outcome.trace (ssrc_of its)) ≡ true)
+    is_such is_member (entry_at decided.setup.capacity decided.outcome.trace (ssrc_of its)) ≡ true)
     from width joined (heard_are_members joined knows.by (ssrc_of its) is knows.comes) k d inside in
     let before = knows.before in
     let member = known.holds (omega (arith, before, known.ends)) knows.kept in
     record {
       apart = knows.apart;
       member = member;
-      role = λ same. in_role (load_at wait.next).we_sent (entry_at wait.next.setup.capacity wait.next.setup.rate
+      role = λ same. in_role (load_at wait.next).we_sent (entry_at wait.next.setup.capacity
           wait.next.outcome.trace (ssrc_of its)) member (knows.role same);
     }
 
@@ -183,7 +183,7 @@ module _ (delay moment : ℕ) where
   one_waits : (from width : ℕ) (joined : Joined) → IsHistory joined.history →
       length (waiting from width joined) ≤ 1
   one_waits from width joined is =
-      let waits = waits_are from width joined is in
+      let waits = waits_are widest from width joined (has_widest joined is) in
       let soon = one_open moment joined.start (decided_within from width joined)
       (λ k d inside. (waits k d inside).order) in
       let fewer = fewer_late (waits_within from width joined) in
@@ -383,7 +383,7 @@ module _ (delay moment : ℕ) where
       let taken = others_taken wait waits h in
       record {
         apart = are_distinct (others_of wait waits) (some_apart (is_other (ssrc_of wait)) waits apart);
-        heard = All-map (λ (ssrc : ℕ). is_such is_member (entry_at own.setup.capacity own.setup.rate own.outcome.trace
+        heard = All-map (λ (ssrc : ℕ). is_such is_member (entry_at own.setup.capacity own.outcome.trace
             ssrc) ≡ true) ssrc_of (others_of wait waits) (λ k d inside. (taken k d inside).member);
       }
 
@@ -404,7 +404,7 @@ module _ (delay moment : ℕ) where
       (filter_passes (reports_next_as role) waits) in
       record {
         apart = are_distinct (others_of wait those) (some_apart (is_other (ssrc_of wait)) those kept);
-        heard = All-map (λ (ssrc : ℕ). is_such (has_role role) (entry_at own.setup.capacity own.setup.rate
+        heard = All-map (λ (ssrc : ℕ). is_such (has_role role) (entry_at own.setup.capacity
             own.outcome.trace ssrc) ≡ true) ssrc_of (others_of wait those)
             (λ k d inside. (taken k d inside).role (role_is role (get_or (others_of wait those) k d)
             (alike k d inside)));
@@ -437,8 +437,9 @@ delivered_are_counted delay terms from width all is =
     record {
       each = λ k d inside. record {
         stands = (is.each k d inside).stands;
-        for_senders = (is.each k d inside).for_senders;
-        for_others = (is.each k d inside).for_others;
+        bandwidth = λ at e within.
+            let its = (is.each k d inside).bandwidth at e within in
+            record { for_senders = its.for_senders; for_others = its.for_others };
       };
       counted = those_heard_wait 100 (waits_after delay from width all)
           (λ k d inside. waiting_hears delay (get_or (waits_after delay from width all) k d).until from width all stand

@@ -7,7 +7,7 @@ use Rattle.rtcp_wire.specs.declared.fact.Fact.TheVariants.{Heard, Told, Named, G
 use Rattle.rtcp_wire.specs.Facts.{facts_of}
 use Rattle.rtcp_members.specs.Traces.{TraceStep}
 use Rattle.rtcp_members.specs.Entries.{entry_at, is_such, is_sender}
-use Rattle.rtcp_engine.specs.Acts.{Act, arrived, rtcp, rtp, rtp_sent, ticked, left}
+use Rattle.rtcp_engine.specs.Acts.{Act, arrived, rtcp, rtp, rtp_sent, ticked, left, configured, forgotten}
 use Rattle.rtcp_session.specs.Windows.{Joined, load_at}
 use Rattle.rtcp_session.specs.Crowds.{Terms}
 use Rattle.rtcp_session.specs.Waits.{Wait, all_waits, waits_within}
@@ -22,14 +22,14 @@ is_name ssrc (Heard other) = false
 is_name ssrc (Told other ntp stamp) = false
 is_name ssrc (Named other) = other == ssrc
 is_name ssrc (Gone other) = false
-is_name ssrc (Media other seq timestamp octets) = false
+is_name ssrc (Media other seq timestamp octets rate) = false
 
 name_is : (ssrc : ℕ) (fact : Fact) → is_name ssrc fact ≡ true → fact ≡ Named ssrc
 name_is ssrc (Heard other) is = absurd cc
 name_is ssrc (Told other ntp stamp) is = absurd cc
 name_is ssrc (Named other) is = ap Named (eqb-true other ssrc is)
 name_is ssrc (Gone other) is = absurd cc
-name_is ssrc (Media other seq timestamp octets) is = absurd cc
+name_is ssrc (Media other seq timestamp octets rate) is = absurd cc
 
 abbrev later : {A : Type 0} (first : A) (xs : List A) (x : A) → Contains xs x → Contains (first ∷ xs) x
 later {A} first xs x (k, inside, is) = (suc k, omega (arith, inside), is)
@@ -52,6 +52,8 @@ brings moment ssrc start (arrived at peer word (rtp reading)) = false
 brings moment ssrc start (rtp_sent at timestamp octets) = false
 brings moment ssrc start (ticked at first_word second_word) = false
 brings moment ssrc start (left at word) = false
+brings moment ssrc start (configured at settings) = false
+brings moment ssrc start (forgotten at other) = false
 
 module _ (moment ssrc : ℕ) (joined : Joined) where
   -- so far, by the acts up to one of them
@@ -77,6 +79,8 @@ module _ (moment ssrc : ℕ) (joined : Joined) where
   one_brought (rtp_sent at timestamp octets) earlier is = absurd cc
   one_brought (ticked at first_word second_word) earlier is = absurd cc
   one_brought (left at word) earlier is = absurd cc
+  one_brought (configured at settings) earlier is = absurd cc
+  one_brought (forgotten at other) earlier is = absurd cc
 
   brought : (acts : List Act) → list_any (brings moment ssrc joined.start) acts ≡ true →
       HasHeard moment ssrc (up_to acts)
@@ -163,7 +167,7 @@ same_of false false is = refl
 abbrev pub knows_role : (wait its : Wait) → Bool
 knows_role wait its =
     not (is_same (load_at its.next).we_sent (load_at wait.next).we_sent)
-    || is_same (is_such is_sender (entry_at wait.next.setup.capacity wait.next.setup.rate wait.next.outcome.trace
+    || is_same (is_such is_sender (entry_at wait.next.setup.capacity wait.next.outcome.trace
     its.next.setup.ssrc)) (load_at wait.next).we_sent
 
 abbrev pub differs : (wait its : Wait) → Bool
@@ -208,11 +212,11 @@ kept_of wait its is =
 
 pub role_of : (wait its : Wait) → knows_role wait its ≡ true →
     (load_at its.next).we_sent ≡ (load_at wait.next).we_sent →
-    is_such is_sender (entry_at wait.next.setup.capacity wait.next.setup.rate wait.next.outcome.trace
+    is_such is_sender (entry_at wait.next.setup.capacity wait.next.outcome.trace
     its.next.setup.ssrc) ≡ (load_at wait.next).we_sent
 role_of wait its is same =
     by (load_at its.next).we_sent (load_at wait.next).we_sent
-    (is_such is_sender (entry_at wait.next.setup.capacity wait.next.setup.rate wait.next.outcome.trace
+    (is_such is_sender (entry_at wait.next.setup.capacity wait.next.outcome.trace
     its.next.setup.ssrc)) same is
   where
     by : (other own taken : Bool) → other ≡ own → (not (is_same other own) || is_same taken own) ≡ true → taken ≡ own

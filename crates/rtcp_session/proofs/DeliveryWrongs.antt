@@ -27,47 +27,47 @@ use Rattle.rtcp_session.proofs.DeliveryRows.{not_so, comes, HeardBefore, comes_o
 abbrev two_named : List TraceStep
 two_named = fact_came (Named 2) 200 ∷ fact_came (Named 1) 100 ∷ []
 
-without_room : ((capacity rate ssrc : ℕ) (trace : List TraceStep) → is_named_in ssrc trace ≡ true →
+without_room : ((capacity ssrc : ℕ) (trace : List TraceStep) → is_named_in ssrc trace ≡ true →
     All (λ past. is_dropped capacity ssrc past ≡ false) (pasts_of trace) →
     All (λ step. says_goodbye ssrc step ≡ false) trace →
-    is_such is_member (entry_at capacity rate trace ssrc) ≡ true) → ⊥
+    is_such is_member (entry_at capacity trace ssrc) ≡ true) → ⊥
 without_room law =
-    both_ways (is_such is_member (entry_at 1 8000 two_named 2)) refl
-    (law 1 8000 2 two_named refl (never_dropped_of 1 2 two_named refl) (no_bye_of 2 two_named refl))
+    both_ways (is_such is_member (entry_at 1 two_named 2)) refl
+    (law 1 2 two_named refl (never_dropped_of 1 2 two_named refl) (no_bye_of 2 two_named refl))
 
 -- one that is silent for too long is none,
 abbrev fell_silent : List TraceStep
 fell_silent = check_made (horizons_at 1000 1000 0) ∷ fact_came (Named 1) 100 ∷ []
 
-without_hearing : ((capacity rate ssrc : ℕ) (trace : List TraceStep) → is_named_in ssrc trace ≡ true →
+without_hearing : ((capacity ssrc : ℕ) (trace : List TraceStep) → is_named_in ssrc trace ≡ true →
     All (λ past. has_room capacity ssrc past ≡ true) (pasts_of trace) →
     All (λ step. says_goodbye ssrc step ≡ false) trace →
-    is_such is_member (entry_at capacity rate trace ssrc) ≡ true) → ⊥
+    is_such is_member (entry_at capacity trace ssrc) ≡ true) → ⊥
 without_hearing law =
-    both_ways (is_such is_member (entry_at 8 8000 fell_silent 1)) refl
-    (law 8 8000 1 fell_silent refl (room_of 8 1 fell_silent refl) (no_bye_of 1 fell_silent refl))
+    both_ways (is_such is_member (entry_at 8 fell_silent 1)) refl
+    (law 8 1 fell_silent refl (room_of 8 1 fell_silent refl) (no_bye_of 1 fell_silent refl))
 
 -- nor one that said goodbye,
 abbrev said_goodbye : List TraceStep
 said_goodbye = fact_came (Gone 1) 200 ∷ fact_came (Named 1) 100 ∷ []
 
-without_staying : ((capacity rate ssrc : ℕ) (trace : List TraceStep) → is_named_in ssrc trace ≡ true →
+without_staying : ((capacity ssrc : ℕ) (trace : List TraceStep) → is_named_in ssrc trace ≡ true →
     All (λ past. has_room capacity ssrc past ≡ true) (pasts_of trace) →
     All (λ past. is_dropped capacity ssrc past ≡ false) (pasts_of trace) →
-    is_such is_member (entry_at capacity rate trace ssrc) ≡ true) → ⊥
+    is_such is_member (entry_at capacity trace ssrc) ≡ true) → ⊥
 without_staying law =
-    both_ways (is_such is_member (entry_at 8 8000 said_goodbye 1)) refl
-    (law 8 8000 1 said_goodbye refl (room_of 8 1 said_goodbye refl) (never_dropped_of 8 1 said_goodbye refl))
+    both_ways (is_such is_member (entry_at 8 said_goodbye 1)) refl
+    (law 8 1 said_goodbye refl (room_of 8 1 said_goodbye refl) (never_dropped_of 8 1 said_goodbye refl))
 
 -- nor one that was only heard.
 abbrev only_heard : List TraceStep
 only_heard = fact_came (Heard 1) 100 ∷ []
 
-without_name : ((capacity rate ssrc : ℕ) (trace : List TraceStep) → IsKept capacity ssrc trace →
-    is_such is_member (entry_at capacity rate trace ssrc) ≡ true) → ⊥
+without_name : ((capacity ssrc : ℕ) (trace : List TraceStep) → IsKept capacity ssrc trace →
+    is_such is_member (entry_at capacity trace ssrc) ≡ true) → ⊥
 without_name law =
-    both_ways (is_such is_member (entry_at 8 8000 only_heard 1)) refl
-    (law 8 8000 1 only_heard (record {
+    both_ways (is_such is_member (entry_at 8 only_heard 1)) refl
+    (law 8 1 only_heard (record {
       room = room_of 8 1 only_heard refl;
       never_silent = never_dropped_of 8 1 only_heard refl;
       no_bye = no_bye_of 1 only_heard refl;
@@ -75,11 +75,11 @@ without_name law =
 
 -- Two packets in a row make a sender.
 abbrev two_packets : List TraceStep
-two_packets = fact_came (Media 1 10 0 20) 200 ∷ fact_came (Media 1 9 0 20) 100 ∷ []
+two_packets = fact_came (Media 1 10 0 20 8000) 200 ∷ fact_came (Media 1 9 0 20 8000) 100 ∷ []
 
-without_rtp : ((capacity rate ssrc : ℕ) (trace : List TraceStep) →
-    is_such is_sender (entry_at capacity rate trace ssrc) ≡ false) → ⊥
-without_rtp law = both_ways (is_such is_sender (entry_at 8 8000 two_packets 1)) (law 8 8000 1 two_packets) refl
+without_rtp : ((capacity ssrc : ℕ) (trace : List TraceStep) →
+    is_such is_sender (entry_at capacity trace ssrc) ≡ false) → ⊥
+without_rtp law = both_ways (is_such is_sender (entry_at 8 two_packets 1)) (law 8 1 two_packets) refl
 
 -- A compound that comes at the moment of a report, and after it, is not known to it.
 abbrev just_after : History
@@ -191,7 +191,7 @@ record Unheard (joined : Joined) (wait its : Wait) : Type 0 where
   kept : IsKept wait.next.setup.capacity its.next.setup.ssrc wait.next.outcome.trace
   apart : (its.next.setup.ssrc == wait.next.setup.ssrc) ≡ false
   role : (load_at its.next).we_sent ≡ (load_at wait.next).we_sent →
-      is_such is_sender (entry_at wait.next.setup.capacity wait.next.setup.rate wait.next.outcome.trace
+      is_such is_sender (entry_at wait.next.setup.capacity wait.next.outcome.trace
       its.next.setup.ssrc) ≡ (load_at wait.next).we_sent
 
 unheard_of : (joined : Joined) (wait its : Wait) →
@@ -221,7 +221,7 @@ record Unkept (joined : Joined) (wait its : Wait) : Type 0 where
   heard : HeardBefore joined wait its
   apart : (its.next.setup.ssrc == wait.next.setup.ssrc) ≡ false
   role : (load_at its.next).we_sent ≡ (load_at wait.next).we_sent →
-      is_such is_sender (entry_at wait.next.setup.capacity wait.next.setup.rate wait.next.outcome.trace
+      is_such is_sender (entry_at wait.next.setup.capacity wait.next.outcome.trace
       its.next.setup.ssrc) ≡ (load_at wait.next).we_sent
 
 abbrev unkept : Joined → (wait its : Wait) → Bool

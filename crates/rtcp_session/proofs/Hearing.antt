@@ -37,28 +37,28 @@ one_of P (first ∷ others) h number is = by (number == first) refl (one_of P ot
     by true here later = subst P (sym (eqb-true number first here)) (All-head P first others h)
     by false apart later = later (sym (ap (λ (b : Bool). b || is_in same others number) apart) ∙ is)
 
-there_is : (test : EntryValue → Bool) (rate ssrc : ℕ) (stay : Option (List TraceStep)) →
-    is_such test (option_map (entry_of rate ssrc) stay) ≡ true → is_some stay ≡ true
-there_is test rate ssrc None is = absurd cc
-there_is test rate ssrc (Some stay) is = refl
+there_is : (test : EntryValue → Bool) (ssrc : ℕ) (stay : Option (List TraceStep)) →
+    is_such test (option_map (entry_of ssrc) stay) ≡ true → is_some stay ≡ true
+there_is test ssrc None is = absurd cc
+there_is test ssrc (Some stay) is = refl
 
-heard_counted : (test : EntryValue → Bool) (capacity rate : ℕ) (trace : List TraceStep) (ssrcs : List ℕ) →
+heard_counted : (test : EntryValue → Bool) (capacity : ℕ) (trace : List TraceStep) (ssrcs : List ℕ) →
     IsDistinct same ssrcs
-    → All (λ ssrc. is_such test (entry_at capacity rate trace ssrc) ≡ true) ssrcs →
-    length ssrcs ≤ count_at test capacity rate trace
-heard_counted test capacity rate trace ssrcs apart heard =
+    → All (λ ssrc. is_such test (entry_at capacity trace ssrc) ≡ true) ssrcs →
+    length ssrcs ≤ count_at test capacity trace
+heard_counted test capacity trace ssrcs apart heard =
     length-le_from_is_member same_equiv ssrcs (filter counts (names trace)) apart
     (λ ssrc is. kept ssrc (one_of (λ (s : ℕ). counts s ≡ true) ssrcs heard ssrc is))
   where
     counts : ℕ → Bool
-    counts ssrc = is_such test (entry_at capacity rate trace ssrc)
+    counts ssrc = is_such test (entry_at capacity trace ssrc)
 
     alike : (one other : ℕ) → (one == other) ≡ true → counts one ≡ counts other
     alike one other is = ap counts (eqb-true one other is)
 
     kept : (ssrc : ℕ) → counts ssrc ≡ true → is_in same (filter counts (names trace)) ssrc ≡ true
     kept ssrc is =
-        let there : is_some (stay_of capacity trace ssrc) ≡ true = there_is test rate ssrc (stay_of capacity trace ssrc)
+        let there : is_some (stay_of capacity trace ssrc) ≡ true = there_is test ssrc (stay_of capacity trace ssrc)
         is in
         let named : list_any (λ named. named == ssrc) (names trace) ≡ true = present_were_named_and_fit-named capacity
         trace ssrc there in
@@ -89,14 +89,14 @@ two_kinds f g h one (n ∷ rest) = by (f n) (g n) (h n) (one n) (two_kinds f g h
     by false false true is before = absurd (omega (arith, is))
     by false false false is before = before
 
-members_are : (capacity rate : ℕ) (trace : List TraceStep) →
-    members_at capacity rate trace ≡ senders_at capacity rate trace + count_at is_listener capacity rate trace
-members_are capacity rate trace =
+members_are : (capacity : ℕ) (trace : List TraceStep) →
+    members_at capacity trace ≡ senders_at capacity trace + count_at is_listener capacity trace
+members_are capacity trace =
     two_kinds (such is_member) (such is_sender) (such is_listener)
-    (λ ssrc. by_entry ssrc (entry_at capacity rate trace ssrc)) (names trace)
+    (λ ssrc. by_entry ssrc (entry_at capacity trace ssrc)) (names trace)
   where
     such : (EntryValue → Bool) → ℕ → Bool
-    such test ssrc = is_such test (entry_at capacity rate trace ssrc)
+    such test ssrc = is_such test (entry_at capacity trace ssrc)
 
     by_both : (ssrc : ℕ) (member sends : Bool) →
         length (cond member (ssrc ∷ []) []) ≡ length (cond (member && sends) (ssrc ∷ []) []) + length
@@ -116,21 +116,21 @@ members_are capacity rate trace =
 pub heard_members : (setup : Setup) (outcome : Outcome) (ssrcs : List ℕ) → AreHeard is_member setup outcome ssrcs →
     1 + length ssrcs ≤ (load_of setup outcome).members
 heard_members setup outcome ssrcs h =
-    let counted = heard_counted is_member setup.capacity setup.rate outcome.trace ssrcs h.apart h.heard in
+    let counted = heard_counted is_member setup.capacity outcome.trace ssrcs h.apart h.heard in
     omega (arith, counted)
 
 pub heard_senders : (setup : Setup) (outcome : Outcome) (ssrcs : List ℕ) → AreHeard is_sender setup outcome ssrcs →
     one_if (we_sent outcome.own) + length ssrcs ≤ (load_of setup outcome).senders
 heard_senders setup outcome ssrcs h =
-    let counted = heard_counted is_sender setup.capacity setup.rate outcome.trace ssrcs h.apart h.heard in
+    let counted = heard_counted is_sender setup.capacity outcome.trace ssrcs h.apart h.heard in
     omega (arith, counted)
 
 pub heard_listeners : (setup : Setup) (outcome : Outcome) (ssrcs : List ℕ) → AreHeard is_listener setup outcome ssrcs
     → one_if (not (we_sent outcome.own)) + length ssrcs
     ≤ (load_of setup outcome).members - (load_of setup outcome).senders
 heard_listeners setup outcome ssrcs h =
-    let counted = heard_counted is_listener setup.capacity setup.rate outcome.trace ssrcs h.apart h.heard in
-    let others = members_are setup.capacity setup.rate outcome.trace in
+    let counted = heard_counted is_listener setup.capacity outcome.trace ssrcs h.apart h.heard in
+    let others = members_are setup.capacity outcome.trace in
     let own = one (we_sent outcome.own) in
     omega (arith, counted, others, own)
   where

@@ -7,7 +7,6 @@ use Rattle.std.proofs.lemmas.List.{length-append, length-map}
 use Rattle.std.proofs.lemmas.List.Elements.{All-nil, All-cons, All-append, All-head, All-tail, All-filter, filter-append, filter_passes}
 use Rattle.std.proofs.lemmas.List.Filters.{length-filter_both}
 use Rattle.std.proofs.lemmas.List.Sums.{sum_by-cons}
-use Rattle.rtcp_engine.specs.Setups.{Setup}
 use Rattle.rtcp_engine.specs.Taken.{IsHistory}
 use Rattle.rtcp_engine.specs.Spacing.{AreSpaced}
 use Rattle.rtcp_engine.proofs.LawLemmas.{sent_compounds_keep_apart}
@@ -15,12 +14,12 @@ use Rattle.rtcp_session.specs.Windows.{Decided, load_at, decided_at, Joined, is_
 use Rattle.rtcp_session.specs.Crowds.{total_reports, Terms, carried_in}
 use Rattle.rtcp_session.specs.Waits.{Wait, waits_within, all_waits, reports_next_as, waits_as, rtcp_bw, HasBandwidth, IsCounted, HasAverage, HasSizes}
 use Rattle.rtcp_session.specs.Joins.{join_over, all_joins, joins_in, joins_within, reports_during, CountsJoining, began_before}
-use Rattle.rtcp_session.proofs.Deciding.{report_of, reports_decided_within, some_interval, reports_decided, intervals_decided}
-use Rattle.rtcp_session.proofs.Loads.{loads_of_setup, averages_of_sizes}
+use Rattle.rtcp_session.proofs.Deciding.{report_of, reports_decided_within, some_interval, reports_decided}
+use Rattle.rtcp_session.proofs.Loads.{averages_of_sizes}
 use Rattle.rtcp_session.proofs.Pacing.{more_if, filter_cons, one_and_later}
 use Rattle.rtcp_session.proofs.Covering.{HasRoom, all_inside}
 use Rattle.rtcp_session.proofs.Waiting.{IsWait, sender_shares, other_shares}
-use Rattle.rtcp_session.proofs.Waited.{IsGood, as_many}
+use Rattle.rtcp_session.proofs.Waited.{IsGood, good_ones, widest, has_widest, as_many}
 use Rattle.rtcp_session.proofs.Sessions.{waits_keep}
 
 -- ---- One first report
@@ -29,30 +28,30 @@ use Rattle.rtcp_session.proofs.Sessions.{waits_keep}
 abbrev IsLong : (S R : ℕ) → Wait → Type 0
 IsLong S R wait = IsWait 100000 (2 * 121828) S R 0 wait.until wait
 
-first_is_long : (setup : Setup) (start : ℕ) (all : List Decided) → AreSpaced (map report_of all) →
-    All (IsGood setup) all → All (IsLong setup.sender_bw setup.receiver_bw) (join_over start all)
-first_is_long setup start [] spaced good = All-nil (IsLong setup.sender_bw setup.receiver_bw)
-first_is_long setup start (first ∷ []) spaced good =
-    let one = All-head (IsGood setup) first [] good in
+first_is_long : (terms : Terms) (start : ℕ) (all : List Decided) → AreSpaced (map report_of all) →
+    All (IsGood terms) all → All (IsLong terms.sender_bw terms.receiver_bw) (join_over start all)
+first_is_long terms start [] spaced good = All-nil (IsLong terms.sender_bw terms.receiver_bw)
+first_is_long terms start (first ∷ []) spaced good =
+    let one = All-head (IsGood terms) first [] good in
     let far = spaced.0 in
     let some = some_interval first one.0 in
     let join : Wait = record { since = start; until = start + first.report.moment; next = first } in
-    All-cons (IsLong setup.sender_bw setup.receiver_bw) join []
+    All-cons (IsLong terms.sender_bw terms.receiver_bw) join []
     (record {
       after = omega arith;
       order = omega (arith, far, some);
       before = omega arith;
       long = subst (λ (n : ℕ). 100000 * n ≤ 2 * 121828 * ((start + first.report.moment) - start)) one.0
           (omega (arith, far));
-      for_senders = one.1.for_senders;
-      for_others = one.1.for_others;
+      for_senders = omega (arith, one.1.for_senders, one.2.for_senders);
+      for_others = omega (arith, one.1.for_others, one.2.for_others);
       some = one.1.some;
       some_more = one.1.some_more;
       ordered = one.1.ordered;
     })
-    (All-nil (IsLong setup.sender_bw setup.receiver_bw))
-first_is_long setup start (newest ∷ before ∷ earlier) spaced good =
-    first_is_long setup start (before ∷ earlier) spaced.1 (All-tail (IsGood setup) newest (before ∷ earlier) good)
+    (All-nil (IsLong terms.sender_bw terms.receiver_bw))
+first_is_long terms start (newest ∷ before ∷ earlier) spaced good =
+    first_is_long terms start (before ∷ earlier) spaced.1 (All-tail (IsGood terms) newest (before ∷ earlier) good)
 
 of_first : (P : Decided → Type 0) (start : ℕ) (all : List Decided) → All P all →
     All (λ wait. P wait.next) (join_over start all)
@@ -68,24 +67,13 @@ spaced_in : (joined : Joined) → IsHistory joined.history → AreSpaced (map re
 spaced_in joined is =
     subst AreSpaced (sym (reports_decided joined.history)) (sent_compounds_keep_apart joined.history is).spaced
 
-good_in : (joined : Joined) → IsHistory joined.history →
-    All (IsGood joined.history.setup) (decided_at joined.history)
-good_in joined is =
-    let loads = loads_of_setup joined.history is in
-    let intervals = intervals_decided joined.history in
-    λ k d inside. (intervals k d inside, loads k d inside)
-
 -- ---- All first reports
 
 one_joins : (terms : Terms) (joined : Joined) → HasBandwidth terms joined →
     All (IsLong terms.sender_bw terms.receiver_bw) (join_over joined.start (decided_at joined.history))
 one_joins terms joined has =
-    subst (λ (b : ℕ). All (IsLong b terms.receiver_bw)
-    (join_over joined.start (decided_at joined.history))) has.for_senders
-    (subst (λ (b : ℕ). All (IsLong joined.history.setup.sender_bw b)
-    (join_over joined.start (decided_at joined.history))) has.for_others
-    (first_is_long joined.history.setup joined.start (decided_at joined.history) (spaced_in joined has.stands)
-    (good_in joined has.stands)))
+    first_is_long terms joined.start (decided_at joined.history) (spaced_in joined has.stands)
+    (good_ones terms joined has)
 
 joins_are : (terms : Terms) (all : List Joined) → All (HasBandwidth terms) all →
     All (IsLong terms.sender_bw terms.receiver_bw) (all_joins all)
@@ -234,9 +222,9 @@ module _ (terms : Terms) (from width : ℕ) (all : List Joined) where
 -- ---- All reports
 
 -- Of one that began in a window its first report lies there, if any does.
-module _ (setup : Setup) (from width start : ℕ) where
+module _ (terms : Terms) (from width start : ℕ) where
   low : (decided : Decided) (earlier : List Decided) → AreSpaced (map report_of (decided ∷ earlier)) →
-      All (IsGood setup) (decided ∷ earlier) → from ≤ start → start + decided.report.moment ≤ from + width →
+      All (IsGood terms) (decided ∷ earlier) → from ≤ start → start + decided.report.moment ≤ from + width →
       1 ≤ length (filter (joins_in from width) (join_over start (decided ∷ earlier)))
   low decided [] spaced good began inside =
       let join : Wait = record { since = start; until = start + decided.report.moment; next = decided } in
@@ -247,11 +235,11 @@ module _ (setup : Setup) (from width start : ℕ) where
       omega (arith, all, one)
   low decided (before ∷ earlier) spaced good began inside =
       let far = spaced.0 in
-      let some = some_interval decided (All-head (IsGood setup) decided (before ∷ earlier) good).0 in
-      low before earlier spaced.1 (All-tail (IsGood setup) decided (before ∷ earlier) good) began
+      let some = some_interval decided (All-head (IsGood terms) decided (before ∷ earlier) good).0 in
+      low before earlier spaced.1 (All-tail (IsGood terms) decided (before ∷ earlier) good) began
       (omega (arith, inside, far, some))
 
-  first_inside : (all : List Decided) → AreSpaced (map report_of all) → All (IsGood setup) all → from ≤ start →
+  first_inside : (all : List Decided) → AreSpaced (map report_of all) → All (IsGood terms) all → from ≤ start →
       1 ≤ length (filter (λ decided. is_inside from width start decided.report) all) →
       1 ≤ length (filter (joins_in from width) (join_over start all))
   first_inside [] spaced good began some = absurd (omega (arith, some))
@@ -271,7 +259,7 @@ module _ (setup : Setup) (from width start : ℕ) where
       let all = filter_cons (λ (decided : Decided). is_inside from width start decided.report) decided
       (before ∷ earlier) in
       by (is_inside from width start decided.report) refl (omega (arith, all, some))
-      (first_inside (before ∷ earlier) spaced.1 (All-tail (IsGood setup) decided (before ∷ earlier) good) began)
+      (first_inside (before ∷ earlier) spaced.1 (All-tail (IsGood terms) decided (before ∷ earlier) good) began)
     where
       by : (inside : Bool) → is_inside from width start decided.report ≡ inside →
           1 ≤ more_if inside
@@ -301,8 +289,8 @@ one_total from width joined is n =
     (length (waits_within from width joined))
     (length (filter (joins_in from width) (join_over joined.start (decided_at joined.history))))
     (omega (arith, one, many))
-    (λ began some. first_inside joined.history.setup from width joined.start (decided_at joined.history)
-    (spaced_in joined is) (good_in joined is) began (omega (arith, some, same, mapped)))
+    (λ began some. first_inside widest from width joined.start (decided_at joined.history)
+    (spaced_in joined is) (good_ones widest joined (has_widest joined is)) began (omega (arith, some, same, mapped)))
   where
     some_or_zero : (m : ℕ) → (m ≡ 0) ⊎ (1 ≤ m)
     some_or_zero m = elim (cases_lt 0 m) [

@@ -6,7 +6,7 @@ use Rattle.rtcp_wire.specs.declared.fact.Fact.{Fact}
 use Rattle.rtcp_wire.specs.declared.fact.Fact.TheVariants.{Heard, Told, Named, Gone, Media}
 use Rattle.rtcp_wire.specs.Facts.{subject, is_media}
 use Rattle.rtcp_source.specs.Packets.{Given, taken_in, is_counted, run_of}
-use Rattle.rtcp_members.specs.Traces.{TraceStep, fact_came, check_made, block_taken, is_naming, names}
+use Rattle.rtcp_members.specs.Traces.{TraceStep, fact_came, check_made, block_taken, is_naming, names, source_forgotten}
 use Rattle.rtcp_members.specs.Stays.{mark_at, mark_of, before_mark, present_among, stay_of, stay_with, ends_stay}
 use Rattle.rtcp_members.specs.Entries.{gives_name, given_of, is_counted_fact, is_counted_by, sending_of, still_sending, is_sender, is_valid, entry_of, entry_at, is_member, is_such}
 use Rattle.rtcp_session.specs.Deliveries.{brings_rtp, is_named_in, says_goodbye, pasts_of, has_room, ends_by, is_dropped, IsKept}
@@ -18,9 +18,10 @@ naming ssrc (fact_came (Heard other) moment) is = absurd cc
 naming ssrc (fact_came (Told other ntp rtp) moment) is = absurd cc
 naming ssrc (fact_came (Named other) moment) is = is
 naming ssrc (fact_came (Gone other) moment) is = absurd cc
-naming ssrc (fact_came (Media other seq timestamp octets) moment) is = absurd cc
+naming ssrc (fact_came (Media other seq timestamp octets rate) moment) is = absurd cc
 naming ssrc (check_made horizons) is = absurd cc
 naming ssrc (block_taken other) is = absurd cc
+naming ssrc (source_forgotten other) is = absurd cc
 
 -- a step that is no goodbye leaves no mark
 unmarked_by : (ssrc : ℕ) (step : TraceStep) (stay : List TraceStep) → says_goodbye ssrc step ≡ false →
@@ -29,17 +30,18 @@ unmarked_by ssrc (fact_came fact moment) stay quiet none =
     ap (mark_at ssrc (fact_came fact moment)) none ∙ ap (λ (b : Bool). cond b (Some moment) None) quiet
 unmarked_by ssrc (check_made horizons) stay quiet none = ap (mark_at ssrc (check_made horizons)) none
 unmarked_by ssrc (block_taken other) stay quiet none = ap (mark_at ssrc (block_taken other)) none
+unmarked_by ssrc (source_forgotten other) stay quiet none = ap (mark_at ssrc (source_forgotten other)) none
 
 -- ---- Members
 
 -- a stay of one that is a member
-pub record IsThere (rate ssrc : ℕ) (stay : List TraceStep) : Type 0 where
+pub record IsThere (ssrc : ℕ) (stay : List TraceStep) : Type 0 where
   pub unmarked : mark_of ssrc stay ≡ None
-  pub valid : is_valid rate ssrc stay ≡ true
+  pub valid : is_valid ssrc stay ≡ true
 
-abbrev HasStay : (rate ssrc : ℕ) → Option (List TraceStep) → Type 0
-HasStay rate ssrc None = ⊥
-HasStay rate ssrc (Some stay) = IsThere rate ssrc stay
+abbrev HasStay : (ssrc : ℕ) → Option (List TraceStep) → Type 0
+HasStay ssrc None = ⊥
+HasStay ssrc (Some stay) = IsThere ssrc stay
 
 -- Where a source is present at all, it has no mark.
 abbrev IsUnmarked : (ssrc : ℕ) → Option (List TraceStep) → Type 0
@@ -70,19 +72,19 @@ stays_unmarked ssrc step admits (Some stay) quiet none = by (ends_stay ssrc step
     by true = tt
     by false = unmarked_by ssrc step stay quiet none
 
-valid_now : (rate ssrc : ℕ) (step : TraceStep) (stay : List TraceStep) → gives_name ssrc step ≡ true →
-    is_valid rate ssrc (step ∷ stay) ≡ true
-valid_now rate ssrc step stay gives =
-    by (gives_name ssrc step) (is_counted_by ssrc step (given_of rate ssrc stay)) (is_valid rate ssrc stay) gives
+valid_now : (ssrc : ℕ) (step : TraceStep) (stay : List TraceStep) → gives_name ssrc step ≡ true →
+    is_valid ssrc (step ∷ stay) ≡ true
+valid_now ssrc step stay gives =
+    by (gives_name ssrc step) (is_counted_by ssrc step (given_of ssrc stay)) (is_valid ssrc stay) gives
   where
     by : (a b c : Bool) → a ≡ true → (a || b || c) ≡ true
     by true b c is = refl
     by false b c is = absurd cc
 
-still_valid : (rate ssrc : ℕ) (step : TraceStep) (stay : List TraceStep) → is_valid rate ssrc stay ≡ true →
-    is_valid rate ssrc (step ∷ stay) ≡ true
-still_valid rate ssrc step stay valid =
-    by (gives_name ssrc step) (is_counted_by ssrc step (given_of rate ssrc stay)) (is_valid rate ssrc stay) valid
+still_valid : (ssrc : ℕ) (step : TraceStep) (stay : List TraceStep) → is_valid ssrc stay ≡ true →
+    is_valid ssrc (step ∷ stay) ≡ true
+still_valid ssrc step stay valid =
+    by (gives_name ssrc step) (is_counted_by ssrc step (given_of ssrc stay)) (is_valid ssrc stay) valid
   where
     by : (a b c : Bool) → c ≡ true → (a || b || c) ≡ true
     by true b c is = refl
@@ -90,28 +92,28 @@ still_valid rate ssrc step stay valid =
     by false false c is = is
 
 -- The step that gives the CNAME.
-named_now : (rate ssrc : ℕ) (step : TraceStep) (stay : Option (List TraceStep)) (admits : Bool) →
+named_now : (ssrc : ℕ) (step : TraceStep) (stay : Option (List TraceStep)) (admits : Bool) →
     gives_name ssrc step ≡ true → (is_some stay || admits) ≡ true → ends_by ssrc step stay ≡ false →
-    says_goodbye ssrc step ≡ false → IsUnmarked ssrc stay → HasStay rate ssrc (stay_by ssrc step admits stay)
-named_now rate ssrc step None admits gives room lasts quiet none =
-    subst (λ (b : Bool). HasStay rate ssrc (elim b [ false ↦ None | true ↦ if admits then Some (step ∷ []) else None ]))
+    says_goodbye ssrc step ≡ false → IsUnmarked ssrc stay → HasStay ssrc (stay_by ssrc step admits stay)
+named_now ssrc step None admits gives room lasts quiet none =
+    subst (λ (b : Bool). HasStay ssrc (elim b [ false ↦ None | true ↦ if admits then Some (step ∷ []) else None ]))
     (sym (naming ssrc step gives))
-    (subst (λ (b : Bool). HasStay rate ssrc (if b then Some (step ∷ []) else None)) (sym room)
-    (record { unmarked = unmarked_by ssrc step [] quiet refl; valid = valid_now rate ssrc step [] gives }))
-named_now rate ssrc step (Some stay) admits gives room lasts quiet none =
-    subst (λ (b : Bool). HasStay rate ssrc (if b then None else Some (step ∷ stay))) (sym lasts)
-    (record { unmarked = unmarked_by ssrc step stay quiet none; valid = valid_now rate ssrc step stay gives })
+    (subst (λ (b : Bool). HasStay ssrc (if b then Some (step ∷ []) else None)) (sym room)
+    (record { unmarked = unmarked_by ssrc step [] quiet refl; valid = valid_now ssrc step [] gives }))
+named_now ssrc step (Some stay) admits gives room lasts quiet none =
+    subst (λ (b : Bool). HasStay ssrc (if b then None else Some (step ∷ stay))) (sym lasts)
+    (record { unmarked = unmarked_by ssrc step stay quiet none; valid = valid_now ssrc step stay gives })
 
 -- A later one.
-still_there : (rate ssrc : ℕ) (step : TraceStep) (stay : Option (List TraceStep)) (admits : Bool) →
-    ends_by ssrc step stay ≡ false → says_goodbye ssrc step ≡ false → HasStay rate ssrc stay →
-    HasStay rate ssrc (stay_by ssrc step admits stay)
-still_there rate ssrc step None admits lasts quiet is = absurd is
-still_there rate ssrc step (Some stay) admits lasts quiet is =
-    subst (λ (b : Bool). HasStay rate ssrc (if b then None else Some (step ∷ stay))) (sym lasts)
+still_there : (ssrc : ℕ) (step : TraceStep) (stay : Option (List TraceStep)) (admits : Bool) →
+    ends_by ssrc step stay ≡ false → says_goodbye ssrc step ≡ false → HasStay ssrc stay →
+    HasStay ssrc (stay_by ssrc step admits stay)
+still_there ssrc step None admits lasts quiet is = absurd is
+still_there ssrc step (Some stay) admits lasts quiet is =
+    subst (λ (b : Bool). HasStay ssrc (if b then None else Some (step ∷ stay))) (sym lasts)
     (record {
       unmarked = unmarked_by ssrc step stay quiet is.unmarked;
-      valid = still_valid rate ssrc step stay is.valid;
+      valid = still_valid ssrc step stay is.valid;
     })
 
 stay_is : (capacity ssrc : ℕ) (step : TraceStep) (earlier : List TraceStep) →
@@ -158,10 +160,10 @@ kept_before capacity ssrc step earlier kept = record {
   no_bye = All-tail (Stays ssrc) step earlier kept.no_bye;
 }
 
-named_are_there : (capacity rate ssrc : ℕ) (trace : List TraceStep) → is_named_in ssrc trace ≡ true →
-    IsKept capacity ssrc trace → HasStay rate ssrc (stay_of capacity trace ssrc)
-named_are_there capacity rate ssrc [] named kept = absurd cc
-named_are_there capacity rate ssrc (step ∷ earlier) named kept =
+named_are_there : (capacity ssrc : ℕ) (trace : List TraceStep) → is_named_in ssrc trace ≡ true →
+    IsKept capacity ssrc trace → HasStay ssrc (stay_of capacity trace ssrc)
+named_are_there capacity ssrc [] named kept = absurd cc
+named_are_there capacity ssrc (step ∷ earlier) named kept =
     let before = kept_before capacity ssrc step earlier kept in
     let admits : Bool = nat_lt (present_among (names earlier) (stay_of capacity earlier)) capacity in
     let lasts : ends_by ssrc step (stay_of capacity earlier ssrc) ≡ false =
@@ -169,20 +171,20 @@ named_are_there capacity rate ssrc (step ∷ earlier) named kept =
     let quiet = All-head (Stays ssrc) step earlier kept.no_bye in
     let room : (is_some (stay_of capacity earlier ssrc) || admits) ≡ true =
     newest_past (HasRoom capacity ssrc) earlier before.room in
-    subst (HasStay rate ssrc) (sym (stay_is capacity ssrc step earlier))
+    subst (HasStay ssrc) (sym (stay_is capacity ssrc step earlier))
     (by (gives_name ssrc step) refl admits lasts quiet room (all_unmarked capacity ssrc earlier before.no_bye) named
-    (λ earlier_named. named_are_there capacity rate ssrc earlier earlier_named before))
+    (λ earlier_named. named_are_there capacity ssrc earlier earlier_named before))
   where
     by : (gives : Bool) → gives_name ssrc step ≡ gives → (admits : Bool) →
         ends_by ssrc step (stay_of capacity earlier ssrc) ≡ false → says_goodbye ssrc step ≡ false →
         (is_some (stay_of capacity earlier ssrc) || admits) ≡ true → IsUnmarked ssrc (stay_of capacity earlier ssrc) →
         (gives || is_named_in ssrc earlier) ≡ true →
-        (is_named_in ssrc earlier ≡ true → HasStay rate ssrc (stay_of capacity earlier ssrc)) →
-        HasStay rate ssrc (stay_by ssrc step admits (stay_of capacity earlier ssrc))
+        (is_named_in ssrc earlier ≡ true → HasStay ssrc (stay_of capacity earlier ssrc)) →
+        HasStay ssrc (stay_by ssrc step admits (stay_of capacity earlier ssrc))
     by true is admits lasts quiet room unmarked named before =
-        named_now rate ssrc step (stay_of capacity earlier ssrc) admits is room lasts quiet unmarked
+        named_now ssrc step (stay_of capacity earlier ssrc) admits is room lasts quiet unmarked
     by false is admits lasts quiet room unmarked named before =
-        still_there rate ssrc step (stay_of capacity earlier ssrc) admits lasts quiet (before named)
+        still_there ssrc step (stay_of capacity earlier ssrc) admits lasts quiet (before named)
 
 -- ---- Entries
 
@@ -191,18 +193,18 @@ all_before ssrc [] none = refl
 all_before ssrc (step ∷ earlier) none =
     ap (λ (mark : Option ℕ). if is_some mark then before_mark ssrc earlier else step ∷ earlier) none
 
-pub named_are_members : (capacity rate ssrc : ℕ) (trace : List TraceStep) → is_named_in ssrc trace ≡ true →
-    IsKept capacity ssrc trace → is_such is_member (entry_at capacity rate trace ssrc) ≡ true
-named_are_members capacity rate ssrc trace named kept =
-    by (stay_of capacity trace ssrc) (named_are_there capacity rate ssrc trace named kept)
+pub named_are_members : (capacity ssrc : ℕ) (trace : List TraceStep) → is_named_in ssrc trace ≡ true →
+    IsKept capacity ssrc trace → is_such is_member (entry_at capacity trace ssrc) ≡ true
+named_are_members capacity ssrc trace named kept =
+    by (stay_of capacity trace ssrc) (named_are_there capacity ssrc trace named kept)
   where
-    by : (stay : Option (List TraceStep)) → HasStay rate ssrc stay →
-        is_such is_member (option_map (entry_of rate ssrc) stay) ≡ true
+    by : (stay : Option (List TraceStep)) → HasStay ssrc stay →
+        is_such is_member (option_map (entry_of ssrc) stay) ≡ true
     by None is = absurd is
     by (Some stay) is =
-        let valid : is_valid rate ssrc (before_mark ssrc stay) ≡ true =
-        ap (is_valid rate ssrc) (all_before ssrc stay is.unmarked) ∙ is.valid in
-        and_from (is_valid rate ssrc (before_mark ssrc stay)) (is_none (mark_of ssrc stay)) valid
+        let valid : is_valid ssrc (before_mark ssrc stay) ≡ true =
+        ap (is_valid ssrc) (all_before ssrc stay is.unmarked) ∙ is.valid in
+        and_from (is_valid ssrc (before_mark ssrc stay)) (is_none (mark_of ssrc stay)) valid
         (ap (λ (mark : Option ℕ). is_none mark) is.unmarked)
 
 -- ---- Those who send no RTP
@@ -250,31 +252,33 @@ uncounted ssrc (Heard other) given quiet = refl
 uncounted ssrc (Told other ntp rtp) given quiet = refl
 uncounted ssrc (Named other) given quiet = refl
 uncounted ssrc (Gone other) given quiet = refl
-uncounted ssrc (Media other seq timestamp octets) given quiet =
+uncounted ssrc (Media other seq timestamp octets rate) given quiet =
     ap (λ (b : Bool). b && is_counted (taken_in (run_of given) seq)) quiet
 
-sends_none : (rate ssrc : ℕ) (own : List TraceStep) → All (IsQuiet ssrc) own → sending_of rate ssrc own ≡ None
-sends_none rate ssrc [] h = refl
-sends_none rate ssrc (fact_came fact moment ∷ earlier) h =
-    let rest = sends_none rate ssrc earlier (All-tail (IsQuiet ssrc) (fact_came fact moment) earlier h) in
-    ap (λ (b : Bool). if b then Some moment else sending_of rate ssrc earlier)
-    (uncounted ssrc fact (given_of rate ssrc earlier) (All-head (IsQuiet ssrc) (fact_came fact moment) earlier h))
+sends_none : (ssrc : ℕ) (own : List TraceStep) → All (IsQuiet ssrc) own → sending_of ssrc own ≡ None
+sends_none ssrc [] h = refl
+sends_none ssrc (fact_came fact moment ∷ earlier) h =
+    let rest = sends_none ssrc earlier (All-tail (IsQuiet ssrc) (fact_came fact moment) earlier h) in
+    ap (λ (b : Bool). if b then Some moment else sending_of ssrc earlier)
+    (uncounted ssrc fact (given_of ssrc earlier) (All-head (IsQuiet ssrc) (fact_came fact moment) earlier h))
     ∙ rest
-sends_none rate ssrc (check_made horizons ∷ earlier) h =
-    ap (still_sending horizons) (sends_none rate ssrc earlier (All-tail (IsQuiet ssrc) (check_made horizons) earlier h))
-sends_none rate ssrc (block_taken other ∷ earlier) h =
-    sends_none rate ssrc earlier (All-tail (IsQuiet ssrc) (block_taken other) earlier h)
+sends_none ssrc (check_made horizons ∷ earlier) h =
+    ap (still_sending horizons) (sends_none ssrc earlier (All-tail (IsQuiet ssrc) (check_made horizons) earlier h))
+sends_none ssrc (block_taken other ∷ earlier) h =
+    sends_none ssrc earlier (All-tail (IsQuiet ssrc) (block_taken other) earlier h)
+sends_none ssrc (source_forgotten other ∷ earlier) h =
+    sends_none ssrc earlier (All-tail (IsQuiet ssrc) (source_forgotten other) earlier h)
 
-pub silent_are_no_senders : (capacity rate ssrc : ℕ) (trace : List TraceStep) →
+pub silent_are_no_senders : (capacity ssrc : ℕ) (trace : List TraceStep) →
     All (λ step. brings_rtp ssrc step ≡ false) trace →
-    is_such is_sender (entry_at capacity rate trace ssrc) ≡ false
-silent_are_no_senders capacity rate ssrc trace h =
+    is_such is_sender (entry_at capacity trace ssrc) ≡ false
+silent_are_no_senders capacity ssrc trace h =
     by (stay_of capacity trace ssrc) (quiet_stay capacity ssrc trace h)
   where
     by : (stay : Option (List TraceStep)) → IsQuietStay ssrc stay →
-        is_such is_sender (option_map (entry_of rate ssrc) stay) ≡ false
+        is_such is_sender (option_map (entry_of ssrc) stay) ≡ false
     by None quiet = refl
     by (Some stay) quiet =
-        and_right (is_member (entry_of rate ssrc stay)) (is_some (sending_of rate ssrc (before_mark ssrc stay)))
+        and_right (is_member (entry_of ssrc stay)) (is_some (sending_of ssrc (before_mark ssrc stay)))
         (ap (λ (sending : Option ℕ). is_some sending)
-        (sends_none rate ssrc (before_mark ssrc stay) (quiet_before ssrc stay quiet)))
+        (sends_none ssrc (before_mark ssrc stay) (quiet_before ssrc stay quiet)))

@@ -8,12 +8,11 @@ use Rattle.rtcp_timer.specs.Averages.{with_headers}
 use Rattle.rtcp_engine.specs.Acts.{Act, arrived, rtcp, rtp_sent, ticked, left}
 use Rattle.rtcp_engine.specs.Reporting.{bye_octets}
 use Rattle.rtcp_engine.specs.Leaving.{Farewell, leaving_count}
+use Rattle.rtcp_engine.specs.Taken.{IsHistory}
 use Rattle.rtcp_session.specs.Windows.{Joined}
-use Rattle.rtcp_session.specs.Crowds.{Terms, carried_in}
-use Rattle.rtcp_session.specs.Waits.{HasBandwidth}
+use Rattle.rtcp_session.specs.Crowds.{Terms, HasAtMost, carried_in}
 use Rattle.rtcp_session.specs.Partings.{ByeWait, all_bye_waits, bye_during, bye_waits_within, CountsByes, HasByeSizes, ByesAreCounted}
-use Rattle.rtcp_session.proofs.CrowdRows.{joined_with, each}
-use Rattle.rtcp_session.proofs.WaitRows.{goes_by, bandwidths}
+use Rattle.rtcp_session.proofs.CrowdRows.{joined_with, each, stands, is_history, has_at_most, bandwidth_of}
 
 -- a compound that names fifty, as of a mixer
 abbrev chunks : ℕ → List ChunkValue
@@ -86,15 +85,29 @@ module _ (terms : Terms) (from width : ℕ) (all : List Joined) where
             (λ farewell. leb-true terms.size (with_headers farewell.size)) leave.parting.backoff.farewells parts.1;
       }) leaves
 
-  leaves_counted : (list_all (goes_by terms from width all) all
+  abbrev within_bandwidth : ByeWait → Bool
+  within_bandwidth leave = has_at_most terms leave.parting.setup
+
+  bounded : list_all within_bandwidth leaves ≡ true → All (λ leave. HasAtMost terms leave.parting.setup) leaves
+  bounded = each within_bandwidth (λ (leave : ByeWait). HasAtMost terms leave.parting.setup)
+      (λ leave. bandwidth_of terms leave.parting.setup) leaves
+
+  stand : list_all (λ joined. is_history joined.history) all ≡ true → All (λ joined. IsHistory joined.history) all
+  stand = each (λ (joined : Joined). is_history joined.history) (λ (joined : Joined). IsHistory joined.history)
+      (λ joined. stands joined.history) all
+
+  leaves_counted : (list_all (λ joined. is_history joined.history) all && list_all within_bandwidth leaves
       && (list_all are_large leaves && list_all counts leaves))
       ≡ true → ByesAreCounted terms from width all
   leaves_counted is =
-      let parts = and_parts (list_all (goes_by terms from width all) all)
+      let whole = and_parts (list_all (λ joined. is_history joined.history) all && list_all within_bandwidth leaves)
       (list_all are_large leaves && list_all counts leaves) is in
-      let more = and_parts (list_all are_large leaves) (list_all counts leaves) parts.1 in
+      let parts = and_parts (list_all (λ joined. is_history joined.history) all) (list_all within_bandwidth leaves)
+      whole.0 in
+      let more = and_parts (list_all are_large leaves) (list_all counts leaves) whole.1 in
       record {
-        each = bandwidths terms from width all parts.0;
+        stand = stand parts.0;
+        bandwidth = bounded parts.1;
         sizes = large more.0;
         counted = counted more.1;
       }
@@ -131,30 +144,34 @@ leaves_as_if_counted law =
     omega (arith, one, two_deaf)
 
 uncounted_leaves : ((terms : Terms) (from width : ℕ) (all : List Joined) → 1 ≤ terms.size →
-    All (HasBandwidth terms) all → All (HasByeSizes terms.size) (bye_waits_within from width all) →
+    All (λ joined. IsHistory joined.history) all →
+    All (λ leave. HasAtMost terms leave.parting.setup) (bye_waits_within from width all) →
+    All (HasByeSizes terms.size) (bye_waits_within from width all) →
     length (bye_waits_within from width all) ≤ carried_in width terms.receiver_bw terms) → ⊥
 uncounted_leaves law =
     let one : length (bye_waits_within 20007 1436453 both_deaf) ≤ 1 =
-    law leaving 20007 1436453 both_deaf (omega arith) (bandwidths leaving 0 0 both_deaf refl)
-    (large leaving 20007 1436453 both_deaf refl) in
+    law leaving 20007 1436453 both_deaf (omega arith) (stand leaving 0 0 both_deaf refl)
+    (bounded leaving 20007 1436453 both_deaf refl) (large leaving 20007 1436453 both_deaf refl) in
     omega (arith, one, two_deaf)
 
 leaves_of_any_size : ((terms : Terms) (from width : ℕ) (all : List Joined) → 1 ≤ terms.size →
-    All (HasBandwidth terms) all →
+    All (λ joined. IsHistory joined.history) all →
+    All (λ leave. HasAtMost terms leave.parting.setup) (bye_waits_within from width all) →
     All (CountsByes terms.percent (bye_waits_within from width all)) (bye_waits_within from width all) →
     length (bye_waits_within from width all) ≤ carried_in width terms.receiver_bw terms) → ⊥
 leaves_of_any_size law =
     let none : length (bye_waits_within 20007 2872905 both) ≤ 0 =
     law (record leaving { size = 560 }) 20007 2872905 both (omega arith)
-    (bandwidths (record leaving { size = 560 }) 0 0 both refl) (counted leaving 20007 2872905 both refl) in
+    (stand (record leaving { size = 560 }) 0 0 both refl)
+    (bounded (record leaving { size = 560 }) 20007 2872905 both refl) (counted leaving 20007 2872905 both refl) in
     omega (arith, none, as_many_as_may)
 
 leaves_of_any_bandwidth : ((terms : Terms) (from width : ℕ) (all : List Joined) → 1 ≤ terms.size →
-    All (HasByeSizes terms.size) (bye_waits_within from width all) →
+    All (λ joined. IsHistory joined.history) all → All (HasByeSizes terms.size) (bye_waits_within from width all) →
     All (CountsByes terms.percent (bye_waits_within from width all)) (bye_waits_within from width all) →
     length (bye_waits_within from width all) ≤ carried_in width terms.receiver_bw terms) → ⊥
 leaves_of_any_bandwidth law =
     let one : length (bye_waits_within 20007 2872905 both) ≤ 1 =
-    law (record leaving { receiver_bw = 15 }) 20007 2872905 both (omega arith)
+    law (record leaving { receiver_bw = 15 }) 20007 2872905 both (omega arith) (stand leaving 0 0 both refl)
     (large leaving 20007 2872905 both refl) (counted leaving 20007 2872905 both refl) in
     omega (arith, one, as_many_as_may)

@@ -1,6 +1,6 @@
 -- What is known of each load of a history: whose bandwidths it has, that senders are members, and how small its average
 -- is.
-use Rattle.std.proofs.Common.{◌≡◌, ℕ, ◌+◌, ◌*◌, ◌≤◌, Bool, true, false, List, [], ◌∷◌, length, All, Option, Some, None, Ok, Err, nat_le, if◌then◌else◌, refl, sym, ap, arith, subst}
+use Rattle.std.proofs.Common.{◌≡◌, ℕ, ◌+◌, ◌*◌, ◌≤◌, ◌^◌, Bool, true, false, List, [], ◌∷◌, length, All, Option, Some, None, Ok, Err, nat_le, if◌then◌else◌, refl, sym, ap, arith, subst}
 use Rattle.std.proofs.lemmas.Bool.{cond_both}
 use Rattle.std.proofs.lemmas.List.{length-append}
 use Rattle.std.proofs.lemmas.List.Concat.{flat_map-append}
@@ -21,8 +21,7 @@ use Rattle.rtcp_report.proofs.LawLemmas.{size_is_that_of_the_octets}
 use Rattle.rtcp_timer.specs.declared.load.Load.{Load}
 use Rattle.rtcp_timer.specs.Averages.{with_headers, average_of}
 use Rattle.rtcp_engine.specs.Setups.{Setup, IsUsable}
-use Rattle.rtcp_engine.specs.Acts.{Act, Datagram, rtcp, rtp, arrived, rtp_sent, ticked, left}
-use Rattle.rtcp_engine.specs.Identities.{with_ssrc}
+use Rattle.rtcp_engine.specs.Acts.{Act, Datagram, rtcp, rtp, arrived, rtp_sent, ticked, left, configured, forgotten}
 use Rattle.rtcp_engine.specs.OwnStreams.{has_sent, we_sent}
 use Rattle.rtcp_engine.specs.Outcomes.{Outcome, first_size_of, load_of, member_count, one_if}
 use Rattle.rtcp_engine.specs.Ticks.{checked, after_tick, has_come, has_passed, put_off, reported}
@@ -32,19 +31,19 @@ use Rattle.rtcp_engine.specs.Lives.{lived, with_new_ssrc}
 use Rattle.rtcp_engine.specs.Changes.{NewIdentifier, Session, change_by, changed_by}
 use Rattle.rtcp_engine.specs.Reporting.{bye_octets, report_octets, reporter_at, reported_at, extra_item}
 use Rattle.rtcp_engine.specs.Histories.{History, session_of}
-use Rattle.rtcp_engine.specs.Taken.{IsHistory}
-use Rattle.rtcp_engine.proofs.LawLemmas.{changes_touch_the_identifier_alone-setup}
+use Rattle.rtcp_engine.specs.Taken.{AllTaken, IsHistory}
+use Rattle.rtcp_engine.proofs.LawLemmas.{setups_keep_the_rest-setup, setups_keep_the_rest-usable}
 use Rattle.rtcp_session.specs.Windows.{load_at, decided_at, HasSize}
 use Rattle.rtcp_session.proofs.Deciding.{such_over}
 
 -- ---- Roles
 
 -- No more of the others send than are members.
-others_ordered : (capacity rate : ℕ) (trace : List TraceStep) →
-    senders_at capacity rate trace ≤ members_at capacity rate trace
-others_ordered capacity rate trace =
-    let table = table_at capacity rate trace in
-    let stands = trace_has_one_table-stands capacity rate trace in
+others_ordered : (capacity : ℕ) (trace : List TraceStep) →
+    senders_at capacity trace ≤ members_at capacity trace
+others_ordered capacity trace =
+    let table = table_at capacity trace in
+    let stands = trace_has_one_table-stands capacity trace in
     let members = counts_agree-members table trace stands in
     let senders = counts_agree-senders table trace stands in
     let ordered = counts_are_ordered-senders table in
@@ -56,7 +55,7 @@ one_at_most false = omega arith
 
 pub ordered : (setup : Setup) (outcome : Outcome) → (load_of setup outcome).senders ≤ (load_of setup outcome).members
 ordered setup outcome =
-    let others = others_ordered setup.capacity setup.rate outcome.trace in
+    let others = others_ordered setup.capacity outcome.trace in
     let own = one_at_most (we_sent outcome.own) in
     omega (arith, others, own)
 
@@ -68,33 +67,32 @@ pub record IsLoadOf (setup : Setup) (load : Load) : Type 0 where
   pub for_others : load.receiver_bw ≡ setup.receiver_bw
   pub some : 1 ≤ load.sender_bw
   pub some_more : 1 ≤ load.receiver_bw
+  pub most : load.sender_bw ≤ 2 ^ 30
+  pub most_of_others : load.receiver_bw ≤ 2 ^ 30
   pub ordered : load.senders ≤ load.members
 
-of_setup : (setup now : Setup) (outcome : Outcome) → now ≡ with_ssrc now.ssrc setup → IsUsable setup →
-    IsLoadOf setup (load_of now outcome)
-of_setup setup now outcome same usable =
-    let senders : now.sender_bw ≡ setup.sender_bw = ap (λ (s : Setup). s.sender_bw) same in
-    let others : now.receiver_bw ≡ setup.receiver_bw = ap (λ (s : Setup). s.receiver_bw) same in
-    record {
-      for_senders = senders;
-      for_others = others;
-      some = omega (arith, senders, usable.for_senders.0);
-      some_more = omega (arith, others, usable.for_others.0);
-      ordered = ordered now outcome;
-    }
+of_setup : (now : Setup) (outcome : Outcome) → IsUsable now → IsLoadOf now (load_of now outcome)
+of_setup now outcome usable = record {
+  for_senders = refl;
+  for_others = refl;
+  some = omega (arith, usable.for_senders.0);
+  some_more = omega (arith, usable.for_others.0);
+  most = usable.for_senders.1;
+  most_of_others = usable.for_others.1;
+  ordered = ordered now outcome;
+}
 
-pub loads_of_setup : (history : History) → IsHistory history → All (λ decided. IsLoadOf history.setup (load_at decided))
-    (decided_at history)
-loads_of_setup history is =
+-- The load of each report is one of the setup of that moment.
+pub loads_of_setups : (history : History) → IsHistory history →
+    All (λ decided. IsLoadOf decided.setup (load_at decided)) (decided_at history)
+loads_of_setups history is =
     let setup = history.setup in
-    such_over (λ (acts : List Act). Unit {0})
-    (λ (now : Setup) (outcome : Outcome). IsLoadOf setup (load_of now outcome)) setup history.word
-    (λ act earlier h. tt)
-    (λ moment earlier outcome h is_present.
+    such_over (AllTaken setup history.word) (λ (now : Setup) (outcome : Outcome). IsLoadOf now (load_of now outcome))
+    setup history.word (λ act earlier taken. taken.2)
+    (λ moment earlier outcome taken is_present.
     let now = (session_of setup history.word earlier).setup in
-    of_setup setup now (checked now moment outcome)
-    (changes_touch_the_identifier_alone-setup setup history.word earlier) is.usable)
-    history.acts tt
+    of_setup now (checked now moment outcome) (setups_keep_the_rest-usable setup history.word earlier is.usable taken))
+    history.acts is.taken
 
 -- ---- Averages
 
@@ -201,12 +199,16 @@ lived_large least setup (left moment word) (present outcome) own large h =
     cond_both (is_unheard outcome) (gone outcome) _ (AreLargeIn least) (λ _. tt)
     (λ _. cond_both (nat_le (member_count setup outcome) few_members) (gone outcome) _ (AreLargeIn least) (λ _. tt)
     (λ _. tt))
+lived_large least setup (configured moment settings) (present outcome) own large h = h
+lived_large least setup (forgotten moment ssrc) (present outcome) own large h = h
 lived_large least setup (arrived moment peer word (rtcp size reading)) (backing_off outcome backoff) own large h = tt
 lived_large least setup (arrived moment peer word (rtp reading)) (backing_off outcome backoff) own large h = tt
 lived_large least setup (rtp_sent moment timestamp octets) (backing_off outcome backoff) own large h = tt
 lived_large least setup (ticked moment first_word second_word) (backing_off outcome backoff) own large h =
     cond_both (is_bye_due setup moment first_word backoff) (gone outcome) _ (AreLargeIn least) (λ _. tt) (λ _. tt)
 lived_large least setup (left moment word) (backing_off outcome backoff) own large h = tt
+lived_large least setup (configured moment settings) (backing_off outcome backoff) own large h = tt
+lived_large least setup (forgotten moment ssrc) (backing_off outcome backoff) own large h = tt
 lived_large least setup act (gone outcome) own large h = tt
 
 renamed_large : (least : ℕ) (setup : Setup) (life : Life) → IsLarge least (first_size_of setup) →
@@ -231,7 +233,7 @@ same_first session (Some new) = refl
 
 firsts_same : (setup : Setup) (word : ℕ) (acts : List Act) → first_size_of (session_of setup word acts).setup
     ≡ first_size_of setup
-firsts_same setup word acts = ap first_size_of (changes_touch_the_identifier_alone-setup setup word acts)
+firsts_same setup word acts = ap first_size_of (setups_keep_the_rest-setup setup word acts)
 
 large_over : (least : ℕ) (setup : Setup) (word : ℕ) (acts : List Act) → IsLarge least (first_size_of setup) →
     All (HasSize least) acts → AreLargeIn least (session_of setup word acts).life

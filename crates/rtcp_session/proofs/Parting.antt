@@ -1,6 +1,5 @@
 -- What is known of each BYE after a backoff: its interval is that of its load, and half of it, over 1.21828, passes
--- from
--- the leave on.
+-- from the leave on.
 use Rattle.std.proofs.Common.{◌≡◌, ℕ, ◌+◌, ◌-◌, ◌*◌, ◌<◌, ◌≤◌, ◌^◌, nat_le, Bool, true, false, List, [], ◌∷◌, length, map, get_or, filter, All, Option, Some, None, is_some, if◌then◌else◌, refl, sym, ap, ◌∙◌, arith, subst}
 use Rattle.std.specs.Option.{option_or}
 use Rattle.std.proofs.Math.Nat.{mul-le-mul, mul-le-mul_left}
@@ -14,9 +13,8 @@ use Rattle.rtcp_timer.specs.Averages.{with_headers}
 use Rattle.rtcp_timer.specs.Loads.{interval_of}
 use Rattle.rtcp_timer.proofs.LawLemmas.{interval_has_minimum}
 use Rattle.rtcp_engine.specs.declared.changes.Change.{Change}
-use Rattle.rtcp_engine.specs.Setups.{Setup}
-use Rattle.rtcp_engine.specs.Acts.{Datagram, Act, arrived, rtp_sent, ticked, left}
-use Rattle.rtcp_engine.specs.Identities.{with_ssrc}
+use Rattle.rtcp_engine.specs.Setups.{Setup, IsUsable}
+use Rattle.rtcp_engine.specs.Acts.{Datagram, Act, arrived, rtp_sent, ticked, left, configured, forgotten}
 use Rattle.rtcp_engine.specs.OwnStreams.{has_sent}
 use Rattle.rtcp_engine.specs.Outcomes.{Outcome}
 use Rattle.rtcp_engine.specs.Reporting.{bye_octets}
@@ -27,10 +25,9 @@ use Rattle.rtcp_engine.specs.Histories.{History, session_of}
 use Rattle.rtcp_engine.specs.Taken.{AllTaken, IsHistory}
 use Rattle.rtcp_engine.specs.Sent.{Sent, interval_by, sent_with, sent_by, sent_over, sent_at}
 use Rattle.rtcp_engine.specs.Spacing.{HalfPasses, first_leave, is_last_bye}
-use Rattle.rtcp_engine.proofs.LawLemmas.{sent_compounds_keep_apart, changes_touch_the_identifier_alone-setup, last_lies_after_what_was_sent-backing_off}
+use Rattle.rtcp_engine.proofs.LawLemmas.{sent_compounds_keep_apart, setups_keep_the_rest-usable, last_lies_after_what_was_sent-backing_off}
 use Rattle.rtcp_session.specs.Windows.{Joined}
-use Rattle.rtcp_session.specs.Crowds.{Terms, carried_in}
-use Rattle.rtcp_session.specs.Waits.{HasBandwidth}
+use Rattle.rtcp_session.specs.Crowds.{Terms, HasAtMost, carried_in}
 use Rattle.rtcp_session.specs.Partings.{Parting, parting_load, partings_in, partings_over, partings_at, ByeWait, bye_wait_of, all_bye_waits, bye_during, is_bye_wait_in, bye_waits_within, CountsByes, HasByeSizes}
 use Rattle.rtcp_session.proofs.Loads.{IsLoadOf, floor}
 use Rattle.rtcp_session.proofs.Sharing.{interval_of_others}
@@ -107,6 +104,8 @@ module _ (Q : Parting → Type 0) where
       by_tick setup backoff moment first_word (is_bye_due setup moment first_word backoff) refl
       (h moment first_word second_word refl)
   in_backoff setup changes outcome backoff (left moment word) h = All-nil Q
+  in_backoff setup changes outcome backoff (configured moment settings) h = All-nil Q
+  in_backoff setup changes outcome backoff (forgotten moment ssrc) h = All-nil Q
 
   in_life : (setup : Setup) (changes : List Change) (life : Life) (act : Act) →
       ((outcome : Outcome) (backoff : Backoff) (moment first_word second_word : ℕ) →
@@ -141,29 +140,28 @@ module _ (Q : Parting → Type 0) where
 -- ---- One parting
 
 -- what is known of each
-pub record IsParting (setup : Setup) (parting : Parting) : Type 0 where
+pub record IsParting (parting : Parting) : Type 0 where
   pub interval : parting.bye.interval ≡ interval_of (parting_load parting)
   pub half : HalfPasses parting.backoff.since parting.bye.moment parting.bye.interval
-  pub load : IsLoadOf setup (parting_load parting)
+  pub load : IsLoadOf parting.setup (parting_load parting)
 
 pub partings_are : (history : History) → IsHistory history →
-    All (IsParting history.setup) (partings_at history)
+    All IsParting (partings_at history)
 partings_are history is =
     let setup = history.setup in
     let word = history.word in
-    over_acts (IsParting setup) (AllTaken setup word) setup word (λ act earlier taken. taken.2)
+    over_acts IsParting (AllTaken setup word) setup word (λ act earlier taken. taken.2)
     (λ outcome backoff moment first_word second_word earlier taken backs_off due.
     let now = (session_of setup word earlier).setup in
     one earlier outcome backoff moment first_word now taken.2 backs_off due
-    (changes_touch_the_identifier_alone-setup setup word earlier))
+    (setups_keep_the_rest-usable setup word earlier is.usable taken.2))
     history.acts is.taken
   where
     one : (earlier : List Act) (outcome : Outcome) (backoff : Backoff) (moment word : ℕ) (now : Setup) →
         AllTaken history.setup history.word earlier →
         (session_of history.setup history.word earlier).life ≡ backing_off outcome backoff →
-        is_bye_due now moment word backoff ≡ true → now ≡ with_ssrc now.ssrc history.setup →
-        IsParting history.setup (parting_at moment now backoff)
-    one earlier outcome backoff moment word now taken backs_off due same =
+        is_bye_due now moment word backoff ≡ true → IsUsable now → IsParting (parting_at moment now backoff)
+    one earlier outcome backoff moment word now taken backs_off due usable =
         let before : IsHistory (record history { acts = earlier }) =
         record { usable = is.usable; word = is.word; taken = taken } in
         let last = (last_lies_after_what_was_sent-backing_off (record history { acts = earlier }) outcome backoff before
@@ -173,16 +171,16 @@ partings_are history is =
         (nat_le ((leaving_timing backoff).last + draw) moment) due in
         let passed = leb-true ((leaving_timing backoff).last + draw) moment parts.1 in
         let half = half_draw (leaving_interval now backoff) word in
-        let senders : now.sender_bw ≡ history.setup.sender_bw = ap (λ (s : Setup). s.sender_bw) same in
-        let others : now.receiver_bw ≡ history.setup.receiver_bw = ap (λ (s : Setup). s.receiver_bw) same in
         record {
           interval = refl;
           half = omega (arith, last, passed, half);
           load = record {
-            for_senders = senders;
-            for_others = others;
-            some = omega (arith, senders, is.usable.for_senders.0);
-            some_more = omega (arith, others, is.usable.for_others.0);
+            for_senders = refl;
+            for_others = refl;
+            some = omega (arith, usable.for_senders.0);
+            some_more = omega (arith, usable.for_others.0);
+            most = usable.for_senders.1;
+            most_of_others = usable.for_others.1;
             ordered = omega arith;
           };
         }
@@ -228,51 +226,51 @@ partings_wait history is =
 
 -- ---- All leaves
 
-record IsLeave (terms : Terms) (leave : ByeWait) : Type 0 where
+record IsLeave (leave : ByeWait) : Type 0 where
   order : leave.since < leave.until
   half : 100000 * interval_of (parting_load leave.parting) ≤ 2 * 121828 * (leave.until - leave.since)
-  for_others : (parting_load leave.parting).receiver_bw ≡ terms.receiver_bw
+  for_others : (parting_load leave.parting).receiver_bw ≡ leave.parting.setup.receiver_bw
   some : 1 ≤ (parting_load leave.parting).sender_bw
   some_more : 1 ≤ (parting_load leave.parting).receiver_bw
 
-one_leave : (terms : Terms) (setup : Setup) (start : ℕ) (parting : Parting) → setup.receiver_bw ≡ terms.receiver_bw →
-    IsParting setup parting → IsLeave terms (bye_wait_of start parting)
-one_leave terms setup start parting same is =
+one_leave : (start : ℕ) (parting : Parting) → IsParting parting → IsLeave (bye_wait_of start parting)
+one_leave start parting is =
     let half : 100000 * interval_of (parting_load parting) ≤ 2 * 121828 * (parting.bye.moment - parting.backoff.since) =
     subst (λ (n : ℕ). 100000 * n ≤ 2 * 121828 * (parting.bye.moment - parting.backoff.since)) is.interval is.half in
     let least : 2500000 ≤ interval_of (parting_load parting) = interval_has_minimum (parting_load parting) in
     record {
       order = omega (arith, half, least);
       half = omega (arith, half);
-      for_others = is.load.for_others ∙ same;
+      for_others = is.load.for_others;
       some = is.load.some;
       some_more = is.load.some_more;
     }
 
-leaves_are : (terms : Terms) (all : List Joined) → All (HasBandwidth terms) all →
-    All (IsLeave terms) (all_bye_waits all)
-leaves_are terms [] h = All-nil (IsLeave terms)
-leaves_are terms (joined ∷ others) h =
-    let one = All-head (HasBandwidth terms) joined others h in
-    let partings = partings_are joined.history one.stands in
-    All-append (IsLeave terms) (map (bye_wait_of joined.start) (partings_at joined.history)) (all_bye_waits others)
-    (All-map (IsLeave terms) (bye_wait_of joined.start) (partings_at joined.history)
-    (λ k d inside. one_leave terms joined.history.setup joined.start (get_or (partings_at joined.history) k d)
-    one.for_others (partings k d inside)))
-    (leaves_are terms others (All-tail (HasBandwidth terms) joined others h))
+abbrev Stands : Joined → Type 0
+Stands joined = IsHistory joined.history
 
-has_room : (from : ℕ) (terms : Terms) (leaves : List ByeWait) (leave : ByeWait) → IsLeave terms leave →
-    CountsByes terms.percent leaves leave → HasByeSizes terms.size leave →
+leaves_are : (all : List Joined) → All Stands all → All IsLeave (all_bye_waits all)
+leaves_are [] h = All-nil IsLeave
+leaves_are (joined ∷ others) h =
+    let partings = partings_are joined.history (All-head Stands joined others h) in
+    All-append IsLeave (map (bye_wait_of joined.start) (partings_at joined.history)) (all_bye_waits others)
+    (All-map IsLeave (bye_wait_of joined.start) (partings_at joined.history)
+    (λ k d inside. one_leave joined.start (get_or (partings_at joined.history) k d) (partings k d inside)))
+    (leaves_are others (All-tail Stands joined others h))
+
+has_room : (from : ℕ) (terms : Terms) (leaves : List ByeWait) (leave : ByeWait) → IsLeave leave →
+    HasAtMost terms leave.parting.setup → CountsByes terms.percent leaves leave → HasByeSizes terms.size leave →
     HasRoom ByeWait (λ (leave : ByeWait). leave.since) (λ (leave : ByeWait). leave.until) from
     (100 * 100000 * 1000000 * terms.size) (terms.percent * (2 * 121828 * terms.receiver_bw)) leaves leave
-has_room from terms leaves leave is counts sizes = record {
+has_room from terms leaves leave is bandwidth counts sizes = record {
   order = is.order;
   fits = room (length (filter (bye_during leave) leaves)) (leaving_count leave.parting.backoff)
       (leaving_average leave.parting.setup leave.parting.backoff.farewells)
       (interval_of (parting_load leave.parting)) (leave.until - leave.since) terms.receiver_bw counts large
-      (subst (λ (b : ℕ). 1000000 * (leaving_count leave.parting.backoff - 0) *
-      leaving_average leave.parting.setup leave.parting.backoff.farewells
-      ≤ interval_of (parting_load leave.parting) * (256 * b)) is.for_others
+      (more (leaving_count leave.parting.backoff - 0)
+      (leaving_average leave.parting.setup leave.parting.backoff.farewells) (interval_of (parting_load leave.parting))
+      (parting_load leave.parting).receiver_bw terms.receiver_bw
+      (omega (arith, is.for_others, bandwidth.for_others))
       (interval_of_others (parting_load leave.parting) is.some is.some_more (omega arith) refl).0) is.half;
 }
   where
@@ -281,6 +279,12 @@ has_room from terms leaves leave is counts sizes = record {
         (map (λ farewell. farewell.size) leave.parting.backoff.farewells) sizes.own
         (All-map (λ (size : ℕ). terms.size ≤ with_headers size) (λ (farewell : Farewell). farewell.size)
         leave.parting.backoff.farewells sizes.sizes)
+
+    more : (n avg interval b c : ℕ) → b ≤ c → 1000000 * n * avg ≤ interval * (256 * b) →
+        1000000 * n * avg ≤ interval * (256 * c)
+    more n avg interval b c less h =
+        let up : interval * b ≤ interval * c = mul-le-mul_left interval less in
+        omega (arith, up, h)
 
     room : (inside n avg interval span b : ℕ) → 100 * inside ≤ terms.percent * n → 256 * terms.size ≤ avg →
         1000000 * (n - 0) * avg ≤ interval * (256 * b) → 100000 * interval ≤ 2 * 121828 * span →
@@ -296,17 +300,19 @@ has_room from terms leaves leave is counts sizes = record {
         mul-le-mul_left (terms.percent * b) half in
         omega (arith, one, two, three)
 
-pub few_leave : (terms : Terms) (from width : ℕ) (all : List Joined) → 1 ≤ terms.size → All (HasBandwidth terms) all →
+pub few_leave : (terms : Terms) (from width : ℕ) (all : List Joined) → 1 ≤ terms.size → All Stands all →
+    All (λ leave. HasAtMost terms leave.parting.setup) (bye_waits_within from width all) →
     All (CountsByes terms.percent (bye_waits_within from width all)) (bye_waits_within from width all) →
     All (HasByeSizes terms.size) (bye_waits_within from width all) →
     length (bye_waits_within from width all) ≤ carried_in width terms.receiver_bw terms
-few_leave terms from width all some each counts sizes =
+few_leave terms from width all some stand bandwidth counts sizes =
     let leaves = bye_waits_within from width all in
-    let are = All-filter (is_bye_wait_in from width) (IsLeave terms) (all_bye_waits all) (leaves_are terms all each) in
+    let are = All-filter (is_bye_wait_in from width) IsLeave (all_bye_waits all) (leaves_are all stand) in
     let fit = all_inside ByeWait (λ (leave : ByeWait). leave.since) (λ (leave : ByeWait). leave.until) from
     (100 * 100000 * 1000000 * terms.size) (terms.percent * (2 * 121828 * terms.receiver_bw)) leaves
     (λ k d inside.
-    has_room from terms leaves (get_or leaves k d) (are k d inside) (counts k d inside) (sizes k d inside)) width
+    has_room from terms leaves (get_or leaves k d) (are k d inside) (bandwidth k d inside) (counts k d inside)
+    (sizes k d inside)) width
     (filter_passes (is_bye_wait_in from width) (all_bye_waits all)) in
     le-div (length leaves) (terms.percent * (2 * 121828 * width * terms.receiver_bw))
     (100 * 100000 * 1000000 * terms.size) (omega (arith, some)) (omega (arith, fit))

@@ -11,9 +11,9 @@ use Rattle.rtcp_timer.specs.Loads.{interval_for, interval_of, minimum_of}
 use Rattle.rtcp_timer.proofs.LawLemmas.{senders_have_the_shorter_interval-others}
 use Rattle.rtcp_engine.specs.Taken.{IsHistory}
 use Rattle.rtcp_session.specs.Windows.{Decided, load_at, Joined, later_within}
-use Rattle.rtcp_session.specs.Crowds.{later_as, share_of_others, shares_within, total_shares, SharesBandwidth}
+use Rattle.rtcp_session.specs.Crowds.{later_as, share_of_others, shares_within, total_shares, LeavesOthers, SharesBandwidth}
 use Rattle.rtcp_session.proofs.Deciding.{IsOfLoad, each_later, later_intervals}
-use Rattle.rtcp_session.proofs.Loads.{IsLoadOf, loads_of_setup}
+use Rattle.rtcp_session.proofs.Loads.{IsLoadOf, loads_of_setups}
 use Rattle.rtcp_session.proofs.Pacing.{spans_of, spans_fit}
 
 -- ---- Roles
@@ -97,51 +97,52 @@ weighed c b weight (decided ∷ earlier) h =
     plus : (w ws i is : ℕ) → c * w ≤ b * i → c * ws ≤ b * is → c * (w + ws) ≤ b * (i + is)
     plus w ws i is one rest = omega (arith, one, rest)
 
-pub shares_fit : (joined : Joined) (from width : ℕ) → IsHistory joined.history →
-    100000 * 1000000 * shares_within from width joined ≤ 2 * 121828 * width * (256 * joined.history.setup.receiver_bw)
-shares_fit joined from width is =
-    let b : ℕ = 256 * joined.history.setup.receiver_bw in
+pub shares_fit : (joined : Joined) (from width receiver_bw : ℕ) → IsHistory joined.history →
+    All (LeavesOthers receiver_bw) (later_within from width joined) →
+    100000 * 1000000 * shares_within from width joined ≤ 2 * 121828 * width * (256 * receiver_bw)
+shares_fit joined from width receiver_bw is leaves =
+    let b : ℕ = 256 * receiver_bw in
     let others : List Decided = later_as false from width joined in
-    let loads = each_as (λ (decided : Decided). IsLoadOf joined.history.setup (load_at decided)) false from width joined
-    (each_later (λ (decided : Decided). IsLoadOf joined.history.setup (load_at decided)) from width joined
-    (loads_of_setup joined.history is)) in
+    let loads = each_as (λ (decided : Decided). IsLoadOf decided.setup (load_at decided)) false from width joined
+    (each_later (λ (decided : Decided). IsLoadOf decided.setup (load_at decided)) from width joined
+    (loads_of_setups joined.history is)) in
+    let most = each_as (LeavesOthers receiver_bw) false from width joined leaves in
     let intervals = each_as IsOfLoad false from width joined (later_intervals from width joined) in
     let sends = sent_so false from width joined in
     let each : All (λ decided. 1000000 * share_of_others (load_at decided) ≤ b * decided.report.interval) others =
-    λ k d inside. one (get_or others k d) (loads k d inside) (intervals k d inside) (sends k d inside) in
+    λ k d inside.
+    one (get_or others k d) (loads k d inside) (most k d inside) (intervals k d inside) (sends k d inside) in
     let fit = mul-le-mul_left b (spans_fit_as false from width joined is) in
     chain (shares_within from width joined) (spans_of others) b
     (weighed 1000000 b (λ (decided : Decided). share_of_others (load_at decided)) others each) fit
   where
-    turned : (n avg interval bw : ℕ) → 1000000 * n * avg ≤ interval * (256 * bw) →
-        1000000 * (n * avg) ≤ 256 * bw * interval
-    turned n avg interval bw h = omega (arith, h)
+    turned : (n avg interval bw most : ℕ) → 1000000 * n * avg ≤ interval * (256 * bw) →
+        interval * bw ≤ interval * most → 1000000 * (n * avg) ≤ 256 * most * interval
+    turned n avg interval bw most h k = omega (arith, h, k)
 
-    one : (decided : Decided) → IsLoadOf joined.history.setup (load_at decided) → IsOfLoad decided →
-        (load_at decided).we_sent ≡ false
-        → 1000000 * share_of_others (load_at decided) ≤ 256 * joined.history.setup.receiver_bw * decided.report.interval
-    one decided load interval sends =
+    one : (decided : Decided) → IsLoadOf decided.setup (load_at decided) → LeavesOthers receiver_bw decided →
+        IsOfLoad decided → (load_at decided).we_sent ≡ false →
+        1000000 * share_of_others (load_at decided) ≤ 256 * receiver_bw * decided.report.interval
+    one decided load most interval sends =
         let keeps = interval_of_others (load_at decided) load.some load.some_more load.ordered sends in
-        subst (λ (n : ℕ). 1000000 * share_of_others (load_at decided) ≤ 256 * joined.history.setup.receiver_bw * n)
-        (sym interval)
-        (subst (λ (n : ℕ). 1000000 * share_of_others (load_at decided) ≤ 256 * n * interval_of (load_at decided))
-        load.for_others
+        subst (λ (n : ℕ). 1000000 * share_of_others (load_at decided) ≤ 256 * receiver_bw * n) (sym interval)
         (turned ((load_at decided).members - (load_at decided).senders) (load_at decided).avg
-        (interval_of (load_at decided)) (load_at decided).receiver_bw keeps.0))
+        (interval_of (load_at decided)) (load_at decided).receiver_bw receiver_bw keeps.0
+        (mul-le-mul_left (interval_of (load_at decided)) most))
 
     chain : (weight sum b : ℕ) → 1000000 * weight ≤ b * sum → b * (100000 * sum) ≤ b * (2 * 121828 * width) →
         100000 * 1000000 * weight ≤ 2 * 121828 * width * b
     chain weight sum b h k = omega (arith, h, k)
 
-pub total_shares_fit : (all : List Joined) (from width receiver_bw : ℕ) → All (SharesBandwidth receiver_bw) all
-    → 100000 * 1000000 * total_shares from width all ≤ length all * (2 * 121828 * width * (256 * receiver_bw))
+pub total_shares_fit : (all : List Joined) (from width receiver_bw : ℕ) →
+    All (SharesBandwidth from width receiver_bw) all →
+    100000 * 1000000 * total_shares from width all ≤ length all * (2 * 121828 * width * (256 * receiver_bw))
 total_shares_fit [] from width receiver_bw h = omega arith
 total_shares_fit (joined ∷ others) from width receiver_bw h =
-    let one = All-head (SharesBandwidth receiver_bw) joined others h in
-    let fit = subst (λ (n : ℕ). 100000 * 1000000 * shares_within from width joined ≤ 2 * 121828 * width * (256 * n))
-    one.for_others (shares_fit joined from width one.stands) in
+    let one = All-head (SharesBandwidth from width receiver_bw) joined others h in
+    let fit = shares_fit joined from width receiver_bw one.stands one.for_others in
     let rest = total_shares_fit others from width receiver_bw
-    (All-tail (SharesBandwidth receiver_bw) joined others h) in
+    (All-tail (SharesBandwidth from width receiver_bw) joined others h) in
     let total = sum_by-cons (shares_within from width) joined others in
     plus (shares_within from width joined) (total_shares from width others) (total_shares from width (joined ∷ others))
     (length others) (2 * 121828 * width * (256 * receiver_bw)) total fit rest

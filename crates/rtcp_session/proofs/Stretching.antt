@@ -21,7 +21,7 @@ use Rattle.rtcp_session.proofs.Pacing.{more_if, filter_cons}
 use Rattle.rtcp_session.proofs.Compounds.{nine_more_each}
 use Rattle.rtcp_session.proofs.Sessions.{few_of, one_each, octets_each, octets_waited, percent_of}
 use Rattle.rtcp_session.proofs.Waiting.{IsWait, averages_fit, others_averages_fit}
-use Rattle.rtcp_session.proofs.Waited.{waits_are, all_are_waits, all_later, fewer_both}
+use Rattle.rtcp_session.proofs.Waited.{widest, has_widest, waits_are, all_are_waits, all_later, fewer_both}
 
 -- ---- The least wait
 
@@ -102,7 +102,7 @@ last_long start (newest ∷ before ∷ earlier) few ordered =
 pub waits_last : (from width : ℕ) (joined : Joined) → IsHistory joined.history →
     All LastsLong (waits_within from width joined)
 waits_last from width joined is =
-    let waits = waits_are from width joined is in
+    let waits = waits_are widest from width joined (has_widest joined is) in
     last_long joined.start (decided_within from width joined)
     (some_few (λ decided. is_inside from width joined.start decided.report) (decided_at joined.history)
     (all_few joined.history is)) (λ k d inside. (waits k d inside).order)

@@ -7,26 +7,26 @@ use Rattle.rtcp_wire.specs.declared.fact.Fact.{Fact}
 use Rattle.rtcp_wire.specs.declared.fact.Fact.TheVariants.{Named}
 use Rattle.rtcp_wire.specs.Values.{RtcpPacket}
 use Rattle.rtcp_wire.specs.Facts.{facts_of}
-use Rattle.rtcp_members.specs.Traces.{TraceStep, fact_came, check_made, block_taken, with_facts}
+use Rattle.rtcp_members.specs.Traces.{TraceStep, fact_came, check_made, block_taken, with_facts, source_forgotten}
 use Rattle.rtcp_members.specs.Entries.{gives_name, counted_at}
 use Rattle.rtcp_members.specs.Pending.{EntryRow}
 use Rattle.rtcp_report.specs.Traced.{with_blocks}
 use Rattle.rtcp_engine.specs.declared.refusal.Refusal.{Refusal}
 use Rattle.rtcp_engine.specs.declared.refusal.Refusal.TheVariants.{Backwards}
 use Rattle.rtcp_engine.specs.Setups.{Setup}
-use Rattle.rtcp_engine.specs.Acts.{Act, Datagram, rtcp, rtp, arrived, rtp_sent, ticked, left, moment_of}
+use Rattle.rtcp_engine.specs.Acts.{Act, Datagram, rtcp, rtp, arrived, rtp_sent, ticked, left, configured, moment_of, forgotten}
 use Rattle.rtcp_engine.specs.declared.changes.Change.{Change}
 use Rattle.rtcp_engine.specs.Steps.{OutValue}
 use Rattle.rtcp_engine.specs.Sent.{Sent, is_report, reports_in, sent_with}
-use Rattle.rtcp_engine.specs.Outcomes.{Outcome, member_count, receiver_interval_at, interval_at}
+use Rattle.rtcp_engine.specs.Outcomes.{Outcome, member_count, check_interval, interval_at}
 use Rattle.rtcp_engine.specs.Ticks.{checked, report_due, horizons_of, after_tick, has_come, has_passed, put_off, reported}
 use Rattle.rtcp_engine.specs.Reporting.{reported_at}
-use Rattle.rtcp_engine.specs.Arrivals.{with_datagram, facts_of_media, media_fact}
+use Rattle.rtcp_engine.specs.Arrivals.{with_datagram, facts_of_media, media_fact, rate_of}
 use Rattle.rtcp_engine.specs.Leaving.{Life, present, backing_off, gone, few_members, is_bye_due, is_unheard}
 use Rattle.rtcp_engine.specs.Lives.{lived, report_out, with_new_ssrc}
 use Rattle.rtcp_engine.specs.Changes.{NewIdentifier, Session, change_by, changed_by}
 use Rattle.rtcp_engine.specs.Histories.{History, last_moment, session_at, session_of}
-use Rattle.rtcp_engine.specs.Refusals.{refusal_after, refusal_in, refusal_of_datagram, call_refusal}
+use Rattle.rtcp_engine.specs.Refusals.{refusal_after, refusal_in, refusal_of_content, call_refusal}
 use Rattle.rtcp_engine.specs.Taken.{AllTaken, IsHistory}
 use Rattle.rtcp_session.specs.Windows.{Decided, decided_by, decided_over, decided_at}
 use Rattle.rtcp_session.specs.Deliveries.{is_named_in}
@@ -82,13 +82,14 @@ module _ (ssrc : ℕ) where
   arrived_known setup t (rtcp size (Ok packets)) outcome is = more_facts (facts_of packets) t outcome.trace is
   arrived_known setup t (rtcp size (Err fault)) outcome is = is
   arrived_known setup t (rtp (Ok head)) outcome is =
-      more_facts (facts_of_media setup.ssrc head
-      (counted_at setup.capacity setup.rate outcome.trace (media_fact head))) t outcome.trace is
+      let rate : ℕ = rate_of setup head in
+      more_facts (facts_of_media setup.ssrc rate head
+      (counted_at setup.capacity outcome.trace (media_fact rate head))) t outcome.trace is
   arrived_known setup t (rtp (Err fault)) outcome is = is
 
   checked_known : (setup : Setup) (t : ℕ) (outcome : Outcome) → Knows outcome.trace →
       Knows (checked setup t outcome).trace
-  checked_known setup t outcome is = one_more (check_made (horizons_of t (receiver_interval_at setup outcome)))
+  checked_known setup t outcome is = one_more (check_made (horizons_of t (check_interval setup t outcome)))
       outcome.trace is
 
   ticked_known : (setup : Setup) (t first_word second_word : ℕ) (outcome : Outcome) → Knows outcome.trace →
@@ -113,12 +114,17 @@ module _ (ssrc : ℕ) where
   lived_known setup (left moment word) (present outcome) is =
       cond_both (is_unheard outcome) (gone outcome) _ KnowsIn (λ _. tt)
       (λ _. cond_both (nat_le (member_count setup outcome) few_members) (gone outcome) _ KnowsIn (λ _. tt) (λ _. tt))
+  lived_known setup (configured moment settings) (present outcome) is = is
+  lived_known setup (forgotten moment ssrc) (present outcome) is =
+      one_more (source_forgotten ssrc) outcome.trace is
   lived_known setup (arrived moment peer word (rtcp size reading)) (backing_off outcome backoff) is = tt
   lived_known setup (arrived moment peer word (rtp reading)) (backing_off outcome backoff) is = tt
   lived_known setup (rtp_sent moment timestamp octets) (backing_off outcome backoff) is = tt
   lived_known setup (ticked moment first_word second_word) (backing_off outcome backoff) is =
       cond_both (is_bye_due setup moment first_word backoff) (gone outcome) _ KnowsIn (λ _. tt) (λ _. tt)
   lived_known setup (left moment word) (backing_off outcome backoff) is = tt
+  lived_known setup (configured moment settings) (backing_off outcome backoff) is = tt
+  lived_known setup (forgotten moment ssrc) (backing_off outcome backoff) is = tt
   lived_known setup act (gone outcome) is = tt
 
   renamed_known : (setup : Setup) (life : Life) → KnowsIn life → KnowsIn (with_new_ssrc setup life)
@@ -184,7 +190,7 @@ in_time history act none =
     (in_order (nat_lt (moment_of act) (last_moment history.acts)) _
     (call_taken (session_at history).life
     (call_refusal (moment_of act) (last_moment history.acts) (length history.acts))
-    (refusal_of_datagram (session_at history) act) none))
+    (refusal_of_content (session_at history) act) none))
 
 abbrev IsBy : (latest : ℕ) → Decided → Type 0
 IsBy latest decided = decided.report.moment ≤ latest

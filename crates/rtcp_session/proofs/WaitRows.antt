@@ -1,17 +1,17 @@
 -- Worked rows: who waits when, and whom it counts.
 use Rattle.std.proofs.Common.{◌≡◌, ◌==◌, ℕ, ◌+◌, ◌*◌, ◌/◌, ◌≤◌, ◌&&◌, List, [], ◌∷◌, nat_le, length, map, replicate, All, Bool, true, false, Ok, None, refl, arith}
 use Rattle.std.specs.List.{list_all}
-use Rattle.std.proofs.lemmas.Bool.{and_parts, leb-true, eqb-true}
+use Rattle.std.proofs.lemmas.Bool.{and_parts, leb-true}
 use Rattle.std.proofs.lemmas.List.Elements.{All-head, All-map, All-weaker}
 use Rattle.std.proofs.lemmas.List.Sums.{AllPass-from_list_all}
 use Rattle.rtcp_wire.specs.Values.{rr, sdes, bye}
 use Rattle.rtcp_timer.specs.declared.load.Load.{Load}
 use Rattle.rtcp_engine.specs.Setups.{Setup}
 use Rattle.rtcp_engine.specs.Acts.{Act, arrived, rtcp, rtp_sent, ticked, left}
-use Rattle.rtcp_session.specs.Windows.{Joined, Decided, load_at, later_within}
+use Rattle.rtcp_session.specs.Windows.{Joined, Decided, load_at, decided_at, later_within}
 use Rattle.rtcp_session.specs.Crowds.{alike_in, CountsMost, TakesPart, IsCrowd, Terms, total_reports, carried_in}
 use Rattle.rtcp_session.specs.Waits.{Wait, all_waits, averages_of, open_at, waits_as, CountsWaiting, AreCounted, HasBandwidth, IsCounted, rtcp_bw}
-use Rattle.rtcp_session.proofs.CrowdRows.{crowd_of, setup_of, named_came, packet_came, joined_with, who_hears, terms, pair, stands, is_history, each}
+use Rattle.rtcp_session.proofs.CrowdRows.{crowd_of, setup_of, named_came, packet_came, joined_with, who_hears, terms, pair, stands, is_history, each, keeps_to, bandwidths_of}
 
 -- ---- They count each other, by a test that computes
 
@@ -64,20 +64,17 @@ module _ (terms : Terms) (from width : ℕ) (all : List Joined) where
   waits = all_waits from width all
 
   abbrev tests : Joined → List Bool
-  tests joined = is_history joined.history ∷ (joined.history.setup.sender_bw == terms.sender_bw)
-      ∷ (joined.history.setup.receiver_bw == terms.receiver_bw) ∷ []
+  tests joined = is_history joined.history ∷ keeps_to terms (decided_at joined.history) ∷ []
 
   abbrev pub goes_by : Joined → Bool
   goes_by joined = list_all (λ passed. passed) (tests joined)
 
   bandwidth : (joined : Joined) → goes_by joined ≡ true → HasBandwidth terms joined
   bandwidth joined is =
-      let setup = joined.history.setup in
       let passed = AllPass-from_list_all (λ (passed : Bool). passed) (tests joined) is in
       record {
         stands = stands joined.history (passed 0 true (omega arith));
-        for_senders = eqb-true setup.sender_bw terms.sender_bw (passed 1 true (omega arith));
-        for_others = eqb-true setup.receiver_bw terms.receiver_bw (passed 2 true (omega arith));
+        bandwidth = bandwidths_of terms (decided_at joined.history) (passed 1 true (omega arith));
       }
 
   pub bandwidths : list_all goes_by all ≡ true → All (HasBandwidth terms) all

@@ -1,6 +1,6 @@
 -- The waits of the participants of a session: each is long for its load, and no two of one participant are open at
 -- once.
-use Rattle.std.proofs.Common.{◌≡◌, ℕ, suc, ◌+◌, ◌-◌, ◌*◌, ◌<◌, ◌≤◌, ◌&&◌, nat_le, nat_lt, not, Bool, true, false, cond, List, [], ◌∷◌, ◌++◌, length, map, get_or, filter, All, refl, sym, ap, ◌∙◌, arith, subst}
+use Rattle.std.proofs.Common.{◌≡◌, ℕ, suc, ◌+◌, ◌-◌, ◌*◌, ◌^◌, ◌<◌, ◌≤◌, ◌&&◌, nat_le, nat_lt, not, Bool, true, false, cond, List, [], ◌∷◌, ◌++◌, length, map, get_or, filter, All, refl, sym, ap, ◌∙◌, arith, subst}
 use Rattle.std.specs.List.{sum_by}
 use Rattle.std.proofs.Math.Nat.{le_trans, mul-le-mul_left}
 use Rattle.std.proofs.lemmas.Bool.{and_parts, leb-true, leb-false, ltb-true}
@@ -8,26 +8,26 @@ use Rattle.std.proofs.lemmas.List.{length-append}
 use Rattle.std.proofs.lemmas.List.Elements.{All-nil, All-cons, All-append, All-head, All-tail, All-filter, filter-append}
 use Rattle.std.proofs.lemmas.List.Sums.{sum_by-cons}
 use Rattle.rtcp_timer.specs.declared.load.Load.{Load}
-use Rattle.rtcp_engine.specs.Setups.{Setup}
 use Rattle.rtcp_engine.specs.Taken.{IsHistory}
 use Rattle.rtcp_engine.specs.Spacing.{AreSpaced, newest_moment}
 use Rattle.rtcp_engine.proofs.LawLemmas.{sent_compounds_keep_apart}
 use Rattle.rtcp_session.specs.Windows.{later_ones, Decided, load_at, decided_at, Joined, is_inside, decided_within, later_within}
-use Rattle.rtcp_session.specs.Crowds.{sent_as, later_as, total_as, those_as, Terms, CountsMost, IsCrowd}
+use Rattle.rtcp_session.specs.Crowds.{sent_as, later_as, total_as, those_as, Terms, HasAtMost, CountsMost, IsCrowd}
 use Rattle.rtcp_session.specs.Waits.{Wait, wait_between, waits_over, waits_within, all_waits, is_open, open_at, reports_next_as, waits_as, CountsWaiting, HasBandwidth, IsCounted}
 use Rattle.rtcp_session.proofs.Deciding.{report_of, IsOfLoad, some_interval, reports_decided, intervals_decided}
-use Rattle.rtcp_session.proofs.Loads.{IsLoadOf, loads_of_setup}
+use Rattle.rtcp_session.proofs.Loads.{IsLoadOf, loads_of_setups}
 use Rattle.rtcp_session.proofs.Pacing.{more_if, filter_cons}
 use Rattle.rtcp_session.proofs.Waiting.{IsWait}
 
 -- ---- One participant
 
-abbrev pub IsGood : Setup → Decided → Type 0
-IsGood setup decided = IsOfLoad decided × IsLoadOf setup (load_at decided)
+abbrev pub IsGood : Terms → Decided → Type 0
+IsGood terms decided =
+    IsOfLoad decided × IsLoadOf decided.setup (load_at decided) × HasAtMost terms decided.setup
 
-module _ (setup : Setup) (from width start : ℕ) where
+module _ (terms : Terms) (from width start : ℕ) where
   abbrev IsOf : Wait → Type 0
-  IsOf wait = IsWait 100000 (2 * 121828) setup.sender_bw setup.receiver_bw from width wait
+  IsOf wait = IsWait 100000 (2 * 121828) terms.sender_bw terms.receiver_bw from width wait
 
   -- the reports of the window so far, with the moment of the newest of all
   abbrev Fit : (newest : ℕ) → List Decided → Type 0
@@ -40,7 +40,7 @@ module _ (setup : Setup) (from width start : ℕ) where
   later_fit newest moment [] order h = tt
   later_fit newest moment (decided ∷ earlier) order h = (omega (arith, order, h.0), h.1, h.2, h.3)
 
-  one_wait : (newest : ℕ) (decided before : Decided) → IsGood setup decided →
+  one_wait : (newest : ℕ) (decided before : Decided) → IsGood terms decided →
       newest ≤ decided.report.moment →
       100000 * decided.report.interval ≤ 2 * 121828 * (decided.report.moment - newest) →
       start + decided.report.moment ≤ from + width → before.report.moment ≤ newest →
@@ -54,14 +54,14 @@ module _ (setup : Setup) (from width start : ℕ) where
         before = until;
         long = subst (λ (n : ℕ). 100000 * n ≤ 2 * 121828 * ((start + decided.report.moment) -
             (start + before.report.moment))) good.0 (omega (arith, far, older, order));
-        for_senders = good.1.for_senders;
-        for_others = good.1.for_others;
+        for_senders = omega (arith, good.1.for_senders, good.2.for_senders);
+        for_others = omega (arith, good.1.for_others, good.2.for_others);
         some = good.1.some;
         some_more = good.1.some_more;
         ordered = good.1.ordered;
       }
 
-  one_fits : (newest : ℕ) (decided : Decided) (within : List Decided) → IsGood setup decided →
+  one_fits : (newest : ℕ) (decided : Decided) (within : List Decided) → IsGood terms decided →
       newest ≤ decided.report.moment →
       100000 * decided.report.interval ≤ 2 * 121828 * (decided.report.moment - newest) →
       from ≤ start + decided.report.moment → start + decided.report.moment ≤ from + width → Fit newest within →
@@ -77,7 +77,7 @@ module _ (setup : Setup) (from width start : ℕ) where
 
   fit_by : (newest : ℕ) (decided : Decided) (within : List Decided) (inside : Bool) →
       (nat_le from (start + decided.report.moment) && nat_le (start + decided.report.moment) (from + width)) ≡ inside
-      → IsGood setup decided → newest ≤ decided.report.moment →
+      → IsGood terms decided → newest ≤ decided.report.moment →
       100000 * decided.report.interval ≤ 2 * 121828 * (decided.report.moment - newest) → Fit newest within →
       Fit decided.report.moment (cond inside (decided ∷ within) within)
   fit_by newest decided within true is good order far h =
@@ -86,35 +86,53 @@ module _ (setup : Setup) (from width start : ℕ) where
   fit_by newest decided within false is good order far h =
       later_fit newest decided.report.moment within order h
 
-  fit_all : (all : List Decided) → AreSpaced (map report_of all) → All (IsGood setup) all →
+  fit_all : (all : List Decided) → AreSpaced (map report_of all) → All (IsGood terms) all →
       Fit (newest_moment (map report_of all)) (filter (λ decided. is_inside from width start decided.report) all)
   fit_all [] spaced good = tt
   fit_all (decided ∷ earlier) spaced good =
       let far = spaced.0 in
-      let one = All-head (IsGood setup) decided earlier good in
+      let one = All-head (IsGood terms) decided earlier good in
       let some = some_interval decided one.0 in
       fit_by (newest_moment (map report_of earlier)) decided
       (filter (λ decided. is_inside from width start decided.report) earlier)
       (is_inside from width start decided.report) refl one (omega (arith, far, some)) far
-      (fit_all earlier spaced.1 (All-tail (IsGood setup) decided earlier good))
+      (fit_all earlier spaced.1 (All-tail (IsGood terms) decided earlier good))
 
   fit_in : (newest : ℕ) (within : List Decided) → Fit newest within → All IsOf (waits_over start within)
   fit_in newest [] h = All-nil IsOf
   fit_in newest (decided ∷ earlier) h = h.3
 
-pub waits_are : (from width : ℕ) (joined : Joined) → IsHistory joined.history →
-    All (IsWait 100000 (2 * 121828) joined.history.setup.sender_bw joined.history.setup.receiver_bw from width)
-    (waits_within from width joined)
-waits_are from width joined is =
+-- each report of a participant with its load, and the bandwidth then
+pub good_ones : (terms : Terms) (joined : Joined) → HasBandwidth terms joined →
+    All (IsGood terms) (decided_at joined.history)
+good_ones terms joined has =
+    let loads = loads_of_setups joined.history has.stands in
+    let intervals = intervals_decided joined.history in
+    λ k d inside. (intervals k d inside, loads k d inside, has.bandwidth k d inside)
+
+-- the greatest bandwidth that there is
+pub widest : Terms
+widest = record { sender_bw = 2 ^ 30; receiver_bw = 2 ^ 30; size = 0; percent = 0 }
+
+pub has_widest : (joined : Joined) → IsHistory joined.history → HasBandwidth widest joined
+unfolding widest
+has_widest joined is =
+    let loads = loads_of_setups joined.history is in
+    record {
+      stands = is;
+      bandwidth = λ k d inside.
+          record { for_senders = (loads k d inside).most; for_others = (loads k d inside).most_of_others };
+    }
+
+pub waits_are : (terms : Terms) (from width : ℕ) (joined : Joined) → HasBandwidth terms joined →
+    All (IsWait 100000 (2 * 121828) terms.sender_bw terms.receiver_bw from width) (waits_within from width joined)
+waits_are terms from width joined has =
     let history = joined.history in
     let all : List Decided = decided_at history in
     let spaced : AreSpaced (map report_of all) =
-    subst AreSpaced (sym (reports_decided history)) (sent_compounds_keep_apart history is).spaced in
-    let loads = loads_of_setup history is in
-    let intervals = intervals_decided history in
-    fit_in history.setup from width joined.start (newest_moment (map report_of all)) (decided_within from width joined)
-    (fit_all history.setup from width joined.start all spaced
-    (λ k d inside. (intervals k d inside, loads k d inside)))
+    subst AreSpaced (sym (reports_decided history)) (sent_compounds_keep_apart history has.stands).spaced in
+    fit_in terms from width joined.start (newest_moment (map report_of all)) (decided_within from width joined)
+    (fit_all terms from width joined.start all spaced (good_ones terms joined has))
 
 -- ---- All participants
 
@@ -127,11 +145,7 @@ all_are_waits terms from width (joined ∷ others) h =
     All-append (IsWait 100000 (2 * 121828) terms.sender_bw terms.receiver_bw from width)
     (waits_within from width joined)
     (all_waits from width others)
-    (subst (λ (b : ℕ). All (IsWait 100000 (2 * 121828) b terms.receiver_bw from width) (waits_within from width joined))
-    one.for_senders
-    (subst (λ (b : ℕ). All (IsWait 100000 (2 * 121828) joined.history.setup.sender_bw b from width)
-    (waits_within from width joined))
-    one.for_others (waits_are from width joined one.stands)))
+    (waits_are terms from width joined one)
     rest
 
 -- ---- Waits and later reports
@@ -272,7 +286,7 @@ Stands joined = IsHistory joined.history
 one_each : (from width moment : ℕ) (joined : Joined) → Stands joined →
     length (open_at moment (waits_within from width joined)) ≤ 1
 one_each from width moment joined is =
-    let waits = waits_are from width joined is in
+    let waits = waits_are widest from width joined (has_widest joined is) in
     one_open moment joined.start (decided_within from width joined) (λ k d inside. (waits k d inside).order)
 
 open_in : (from width moment : ℕ) (joined : Joined) (others : List Joined) →
@@ -391,7 +405,7 @@ pub crowd_is_counted : (terms : Terms) (from width : ℕ) (all : List Joined) �
 crowd_is_counted terms from width all crowd = record {
   each = λ k d inside.
       let part = crowd k d inside in
-      record { stands = part.stands; for_senders = part.for_senders; for_others = part.for_others };
+      record { stands = part.stands; bandwidth = part.bandwidth };
   counted = λ k d inside.
       crowd_counts terms.percent from width all (λ k d inside. (crowd k d inside).stands)
       (λ k d inside. (crowd k d inside).counts) (get_or (all_waits from width all) k d).until;

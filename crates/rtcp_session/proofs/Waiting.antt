@@ -22,8 +22,8 @@ pub record IsWait (unit pace sender_bw receiver_bw from width : ℕ) (wait : Wai
   pub order : wait.since < wait.until
   pub before : wait.until ≤ from + width
   pub long : unit * interval_of (load_at wait.next) ≤ pace * (wait.until - wait.since)
-  pub for_senders : (load_at wait.next).sender_bw ≡ sender_bw
-  pub for_others : (load_at wait.next).receiver_bw ≡ receiver_bw
+  pub for_senders : (load_at wait.next).sender_bw ≤ sender_bw
+  pub for_others : (load_at wait.next).receiver_bw ≤ receiver_bw
   pub some : 1 ≤ (load_at wait.next).sender_bw
   pub some_more : 1 ≤ (load_at wait.next).receiver_bw
   pub ordered : (load_at wait.next).senders ≤ (load_at wait.next).members
@@ -45,6 +45,14 @@ carried unit pace n m avg percent b interval span counted keeps long =
     let three : percent * b * (unit * interval) ≤ percent * b * (pace * span) =
     mul-le-mul_left (percent * b) long in
     omega (arith, one, two, three)
+
+-- What a bandwidth carries a greater one does.
+widened : (unit pace percent n b c avg span : ℕ) → b ≤ c →
+    100 * unit * 1000000 * n * avg ≤ percent * (pace * (256 * b)) * span →
+    100 * unit * 1000000 * n * avg ≤ percent * (pace * (256 * c)) * span
+widened unit pace percent n b c avg span less h =
+    let up : percent * pace * span * b ≤ percent * pace * span * c = mul-le-mul_left (percent * pace * span) less in
+    omega (arith, up, h)
 
 -- Another share carries one from each of others that are no more for their bandwidth.
 carried_too : (unit pace n b m d avg percent span : ℕ) → 1 ≤ b → m * b ≤ n * d →
@@ -144,17 +152,18 @@ module _ (unit pace percent S R from width : ℕ) where
       elim (of_sender Keeps (nat_le (load.senders * (load.sender_bw + load.receiver_bw))
       (load.members * load.sender_bw)) load.we_sent sends (interval_keeps_to_share load is.some is.some_more)) [
         | inl keeps ↦
-            inl (subst (λ (b : ℕ). Carries unit pace percent n b wait) is.for_senders
+            inl (widened unit pace percent n load.sender_bw S load.avg (span_of wait) is.for_senders
             (carried unit pace n load.senders load.avg percent load.sender_bw (interval_of load) (span_of wait) alike
             keeps
             is.long))
         | inr keeps ↦
-            inr (subst (λ (b : ℕ). Carries unit pace percent m b wait) (both_are load is.for_senders is.for_others)
+            inr (widened unit pace percent m (load.sender_bw + load.receiver_bw) (S + R) load.avg (span_of wait)
+            (both_are load is.for_senders is.for_others)
             (carried unit pace m load.members load.avg percent (load.sender_bw + load.receiver_bw) (interval_of load)
             (span_of wait) among_all keeps is.long))
       ]
     where
-      both_are : (load : Load) → load.sender_bw ≡ S → load.receiver_bw ≡ R → load.sender_bw + load.receiver_bw ≡ S + R
+      both_are : (load : Load) → load.sender_bw ≤ S → load.receiver_bw ≤ R → load.sender_bw + load.receiver_bw ≤ S + R
       both_are load one other = omega (arith, one, other)
 
   pub other_shares : (n m : ℕ) (wait : Wait) → IsOf wait → (load_at wait.next).we_sent ≡ false →
@@ -164,19 +173,20 @@ module _ (unit pace percent S R from width : ℕ) where
   other_shares n m wait is sends alike among_all =
       let load = load_at wait.next in
       let keeps = interval_of_others load is.some is.some_more is.ordered sends in (
-        subst (λ (b : ℕ). Carries unit pace percent n b wait) is.for_others
+        widened unit pace percent n load.receiver_bw R load.avg (span_of wait) is.for_others
             (carried unit pace n (load.members - load.senders) load.avg percent load.receiver_bw (interval_of load)
             (span_of wait)
             alike keeps.0 is.long),
-        subst (λ (b : ℕ). Carries unit pace percent m b wait) (both_are load is.for_senders is.for_others)
+        widened unit pace percent m (load.sender_bw + load.receiver_bw) (S + R) load.avg (span_of wait)
+            (both_are load is.for_senders is.for_others)
             (carried unit pace m load.members load.avg percent (load.sender_bw + load.receiver_bw) (interval_of load)
             (span_of wait) among_all keeps.1 is.long),
       )
     where
-      both_are : (load : Load) → load.sender_bw ≡ S → load.receiver_bw ≡ R → load.sender_bw + load.receiver_bw ≡ S + R
+      both_are : (load : Load) → load.sender_bw ≤ S → load.receiver_bw ≤ R → load.sender_bw + load.receiver_bw ≤ S + R
       both_are load one other = omega (arith, one, other)
 
-  some_sender : (load : Load) → 1 ≤ load.sender_bw → load.sender_bw ≡ S → 1 ≤ S
+  some_sender : (load : Load) → 1 ≤ load.sender_bw → load.sender_bw ≤ S → 1 ≤ S
   some_sender load some same = omega (arith, some, same)
 
   -- While senders are few for their part of the bandwidth, each carries in its role.

@@ -203,7 +203,7 @@ nobody_heard : AreHeard is_member (setup_of 1) nothing_yet []
 unfolding IsDistinct
 nobody_heard = record {
   apart = tt;
-  heard = All-nil (λ (ssrc : ℕ). is_such is_member (entry_at 1024 8000 [] ssrc) ≡ true);
+  heard = All-nil (λ (ssrc : ℕ). is_such is_member (entry_at 1024 [] ssrc) ≡ true);
 }
 
 itself_twice : ((setup : Setup) (outcome : Outcome) (ssrcs : List ℕ) → AreHeard is_member setup outcome ssrcs →

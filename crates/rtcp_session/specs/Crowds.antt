@@ -9,7 +9,7 @@ use Rattle.rtcp_engine.specs.Setups.{Setup}
 use Rattle.rtcp_engine.specs.Outcomes.{Outcome, first_size_of}
 use Rattle.rtcp_engine.specs.Taken.{IsHistory}
 use Rattle.rtcp_engine.specs.Sent.{Sent}
-use Rattle.rtcp_session.specs.Windows.{Decided, load_at, Joined, HasSize, compounds_within, reports_within, later_within}
+use Rattle.rtcp_session.specs.Windows.{Decided, load_at, decided_at, Joined, HasSize, compounds_within, reports_within, later_within}
 
 -- ---- Totals
 
@@ -77,20 +77,30 @@ shares_within from width joined =
 abbrev pub total_shares : (from width : ℕ) → List Joined → ℕ
 total_shares from width all = sum_by (shares_within from width) all
 
--- one of a session with this bandwidth for those that do not send
-pub record SharesBandwidth (receiver_bw : ℕ) (joined : Joined) : Type 0 where
+-- When a report was sent, the session had at most this bandwidth for those that do not send.
+abbrev pub LeavesOthers : (receiver_bw : ℕ) → Decided → Type 0
+LeavesOthers receiver_bw decided = decided.setup.receiver_bw ≤ receiver_bw
+
+-- one of a session with at most this bandwidth for those that do not send, at each of its reports in the window but the
+-- oldest
+pub record SharesBandwidth (from width receiver_bw : ℕ) (joined : Joined) : Type 0 where
   pub stands : IsHistory joined.history
-  pub for_others : joined.history.setup.receiver_bw ≡ receiver_bw
+  pub for_others : All (LeavesOthers receiver_bw) (later_within from width joined)
 
 -- ---- Crowds
 
--- What the participants of a session go by: its RTCP bandwidth; a size, headers included, below which no average is, or
--- no compound, as each law says; and how many percent of those whom each counts there may be.
+-- What the participants of a session go by: its greatest RTCP bandwidth; a size, headers included, below which no
+-- average is, or no compound, as each law says; and how many percent of those whom each counts there may be.
 pub record Terms : Type 0 where
   pub sender_bw : ℕ
   pub receiver_bw : ℕ
   pub size : ℕ
   pub percent : ℕ
+
+-- a setup with at most this bandwidth
+pub record HasAtMost (terms : Terms) (setup : Setup) : Type 0 where
+  pub for_senders : setup.sender_bw ≤ terms.sender_bw
+  pub for_others : setup.receiver_bw ≤ terms.receiver_bw
 
 -- All are at most so many percent of the members that a load counts; and so are those who report in its role.
 pub record CountsMost (percent from width : ℕ) (all : List Joined) (load : Load) : Type 0 where
@@ -100,8 +110,7 @@ pub record CountsMost (percent from width : ℕ) (all : List Joined) (load : Loa
 -- A participant that goes by these terms, and counts so many at each of its reports in the window but the oldest.
 pub record TakesPart (terms : Terms) (from width : ℕ) (all : List Joined) (joined : Joined) : Type 0 where
   pub stands : IsHistory joined.history
-  pub for_senders : joined.history.setup.sender_bw ≡ terms.sender_bw
-  pub for_others : joined.history.setup.receiver_bw ≡ terms.receiver_bw
+  pub bandwidth : All (λ decided. HasAtMost terms decided.setup) (decided_at joined.history)
   pub own : terms.size ≤ with_headers (first_size_of joined.history.setup)
   pub sizes : All (HasSize terms.size) joined.history.acts
   pub counts : All (λ decided. CountsMost terms.percent from width all (load_at decided))
@@ -120,7 +129,7 @@ carried_in width bandwidth terms =
 -- These sources are such, by what a session has come to, and no two of them are the same.
 pub record AreHeard (test : EntryValue → Bool) (setup : Setup) (outcome : Outcome) (ssrcs : List ℕ) : Type 0 where
   pub apart : IsDistinct (λ (one other : ℕ). one == other) ssrcs
-  pub heard : All (λ ssrc. is_such test (entry_at setup.capacity setup.rate outcome.trace ssrc) ≡ true) ssrcs
+  pub heard : All (λ ssrc. is_such test (entry_at setup.capacity outcome.trace ssrc) ≡ true) ssrcs
 
 -- a member that does not send
 abbrev pub is_listener : EntryValue → Bool

@@ -7,7 +7,7 @@ use Rattle.rtcp_wire.specs.declared.fact.Fact.TheVariants.{Named}
 use Rattle.rtcp_wire.specs.Values.{RtcpPacket}
 use Rattle.rtcp_wire.specs.Facts.{subject, is_gone, is_media, facts_of}
 use Rattle.rtcp_wire.specs.Writing.{written_all}
-use Rattle.rtcp_members.specs.Traces.{TraceStep, fact_came, check_made, block_taken, names}
+use Rattle.rtcp_members.specs.Traces.{TraceStep, fact_came, check_made, block_taken, names, source_forgotten}
 use Rattle.rtcp_members.specs.Stays.{present_among, stay_of, ends_stay}
 use Rattle.rtcp_members.specs.Entries.{gives_name, is_such, is_sender, entry_at}
 use Rattle.rtcp_engine.specs.Acts.{arrived, rtcp}
@@ -24,8 +24,8 @@ opened_after delay wait = record wait { since = wait.since + delay }
 abbrev pub waits_after : (delay from width : ℕ) → List Joined → List Wait
 waits_after delay from width all = map (opened_after delay) (all_waits from width all)
 
--- A session of one bandwidth, in which those who wait in the window count so many of each other, but for those whose
--- report before was sent less than a delay ago.
+-- A session of at most this bandwidth, in which those who wait in the window count so many of each other, but for those
+-- whose report before was sent less than a delay ago.
 pub record IsCountedAfter (delay : ℕ) (terms : Terms) (from width : ℕ) (all : List Joined) : Type 0 where
   pub each : All (HasBandwidth terms) all
   pub counted : AreCounted terms.percent (waits_after delay from width all)
@@ -56,6 +56,7 @@ abbrev pub says_goodbye : (ssrc : ℕ) → TraceStep → Bool
 says_goodbye ssrc (fact_came fact moment) = is_gone fact && subject fact == ssrc
 says_goodbye ssrc (check_made horizons) = false
 says_goodbye ssrc (block_taken other) = false
+says_goodbye ssrc (source_forgotten other) = false
 
 -- a trace as it was after each of its steps, and before the first
 abbrev pub pasts_of : List TraceStep → List (List TraceStep)
@@ -71,13 +72,14 @@ abbrev pub ends_by : (ssrc : ℕ) → TraceStep → Option (List TraceStep) → 
 ends_by ssrc step None = false
 ends_by ssrc step (Some stay) = ends_stay ssrc step stay
 
--- The newest step is a check, which drops a source that was present: it was silent for too long, or said goodbye.
+-- The newest step drops a source that was present: a check, to which it was silent for too long, or said goodbye; or
+-- the host, which told that it is gone.
 abbrev pub is_dropped : (capacity ssrc : ℕ) → List TraceStep → Bool
 is_dropped capacity ssrc [] = false
 is_dropped capacity ssrc (step ∷ earlier) = ends_by ssrc step (stay_of capacity earlier ssrc)
 
 -- Nothing in a trace keeps a source out, or takes it away: there was always room for it, no check found it silent for
--- too long, and it did not say goodbye (RFC 3550, 6.3.3 to 6.3.5, 6.3.7).
+-- too long, the host did not let it go, and it did not say goodbye (RFC 3550, 6.3.3 to 6.3.5, 6.3.7).
 pub record IsKept (capacity ssrc : ℕ) (trace : List TraceStep) : Type 0 where
   pub room : All (λ past. has_room capacity ssrc past ≡ true) (pasts_of trace)
   pub never_silent : All (λ past. is_dropped capacity ssrc past ≡ false) (pasts_of trace)
@@ -88,6 +90,7 @@ abbrev pub brings_rtp : (ssrc : ℕ) → TraceStep → Bool
 brings_rtp ssrc (fact_came fact moment) = is_media fact && subject fact == ssrc
 brings_rtp ssrc (check_made horizons) = false
 brings_rtp ssrc (block_taken other) = false
+brings_rtp ssrc (source_forgotten other) = false
 
 -- ---- Compounds that come
 
@@ -126,7 +129,7 @@ pub record Knows (joined : Joined) (wait its : Wait) : Type 0 where
   pub apart : (its.next.setup.ssrc == wait.next.setup.ssrc) ≡ false
   pub role : (load_at its.next).we_sent ≡ (load_at wait.next).we_sent →
       is_such is_sender
-      (entry_at wait.next.setup.capacity wait.next.setup.rate wait.next.outcome.trace its.next.setup.ssrc)
+      (entry_at wait.next.setup.capacity wait.next.outcome.trace its.next.setup.ssrc)
       ≡ (load_at wait.next).we_sent
 
 -- A wait ends more than a delay after another began.
@@ -139,7 +142,7 @@ KnowEachOther delay from width one other =
     All (λ wait. All (λ its. EndsAfter delay its wait → EndsAfter delay wait its →
     Knows one wait its × Knows other its wait) (waits_within from width other)) (waits_within from width one)
 
--- A session of one bandwidth, in which reports come to the others within a delay, and these keep their source.
+-- A session of at most this bandwidth, in which reports come to the others within a delay, and these keep their source.
 pub record IsDelivered (delay : ℕ) (terms : Terms) (from width : ℕ) (all : List Joined) : Type 0 where
   pub soon : delay < least_wait
   pub each : All (HasBandwidth terms) all

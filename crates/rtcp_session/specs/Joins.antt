@@ -44,8 +44,8 @@ pub record HearsJoining (percent : ℕ) (joins : List Wait) (join : Wait) : Type
 abbrev pub began_before : (from : ℕ) → List Joined → List Joined
 began_before from all = filter (λ joined. nat_lt joined.start from) all
 
--- A session of one bandwidth, in which those who join in the window count each other's first reports to that extent,
--- and the average by which each sends its own is at least the size of the terms.
+-- A session of at most this bandwidth, in which those who join in the window count each other's first reports to that
+-- extent, and the average by which each sends its own is at least the size of the terms.
 pub record JoinsAreCounted (terms : Terms) (from width : ℕ) (all : List Joined) : Type 0 where
   pub each : All (HasBandwidth terms) all
   pub averages : All (HasAverage terms.size) (joins_within from width all)

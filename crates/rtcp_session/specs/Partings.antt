@@ -9,10 +9,10 @@ use Rattle.rtcp_engine.specs.Reporting.{bye_octets}
 use Rattle.rtcp_engine.specs.Leaving.{Backoff, Life, present, backing_off, gone, leaving_count, leaving_load}
 use Rattle.rtcp_engine.specs.Histories.{History, session_of}
 use Rattle.rtcp_engine.specs.Sent.{Sent, sent_by}
+use Rattle.rtcp_engine.specs.Taken.{IsHistory}
 use Rattle.rtcp_engine.specs.Spacing.{is_last_bye}
 use Rattle.rtcp_session.specs.Windows.{Joined}
-use Rattle.rtcp_session.specs.Crowds.{Terms}
-use Rattle.rtcp_session.specs.Waits.{HasBandwidth}
+use Rattle.rtcp_session.specs.Crowds.{Terms, HasAtMost}
 
 -- ---- Partings
 
@@ -83,9 +83,10 @@ pub record HasByeSizes (size : ℕ) (leave : ByeWait) : Type 0 where
   pub own : size ≤ with_headers (length (bye_octets leave.parting.setup))
   pub sizes : All (λ farewell. size ≤ with_headers farewell.size) leave.parting.backoff.farewells
 
--- A session of one bandwidth, in which those who leave in the window count each other's BYEs to that extent, and no
--- compound with a BYE is smaller than the size of the terms.
+-- A session in which those who leave in the window count each other's BYEs to that extent, have at most the bandwidth
+-- of the terms at these, and no compound with a BYE is smaller than the size of the terms.
 pub record ByesAreCounted (terms : Terms) (from width : ℕ) (all : List Joined) : Type 0 where
-  pub each : All (HasBandwidth terms) all
+  pub stand : All (λ joined. IsHistory joined.history) all
+  pub bandwidth : All (λ leave. HasAtMost terms leave.parting.setup) (bye_waits_within from width all)
   pub sizes : All (HasByeSizes terms.size) (bye_waits_within from width all)
   pub counted : All (CountsByes terms.percent (bye_waits_within from width all)) (bye_waits_within from width all)

@@ -8,8 +8,8 @@ use Rattle.rtcp_timer.specs.declared.load.Load.{Load}
 use Rattle.rtcp_timer.specs.Averages.{with_headers}
 use Rattle.rtcp_engine.specs.Outcomes.{first_size_of}
 use Rattle.rtcp_engine.specs.Taken.{IsHistory}
-use Rattle.rtcp_session.specs.Windows.{Decided, load_at, HasSize, Joined, decided_within}
-use Rattle.rtcp_session.specs.Crowds.{alike_in, AreHeard, has_role, Terms}
+use Rattle.rtcp_session.specs.Windows.{Decided, load_at, decided_at, HasSize, Joined, decided_within}
+use Rattle.rtcp_session.specs.Crowds.{alike_in, AreHeard, has_role, Terms, HasAtMost}
 
 -- ---- Waits
 
@@ -78,13 +78,12 @@ AreCounted percent waits =
 abbrev pub rtcp_bw : Terms → ℕ
 rtcp_bw terms = terms.sender_bw + terms.receiver_bw
 
--- a participant that goes by this bandwidth
+-- a participant that has at most this bandwidth at each of its reports
 pub record HasBandwidth (terms : Terms) (joined : Joined) : Type 0 where
   pub stands : IsHistory joined.history
-  pub for_senders : joined.history.setup.sender_bw ≡ terms.sender_bw
-  pub for_others : joined.history.setup.receiver_bw ≡ terms.receiver_bw
+  pub bandwidth : All (λ decided. HasAtMost terms decided.setup) (decided_at joined.history)
 
--- A session of one bandwidth, in which those who wait in the window count each other to that extent.
+-- A session of at most this bandwidth, in which those who wait in the window count each other to that extent.
 pub record IsCounted (terms : Terms) (from width : ℕ) (all : List Joined) : Type 0 where
   pub each : All (HasBandwidth terms) all
   pub counted : AreCounted terms.percent (all_waits from width all)

@@ -48,16 +48,16 @@ pub fn those_who_report_become_members()
         Contains (facts_of packets) (Named ssrc) →
         All (λ decided. at < decided.report.moment → is_named_in ssrc decided.outcome.trace ≡ true)
         (decided_at history) }
-    ensures members { (capacity rate ssrc : ℕ) (trace : List TraceStep) → is_named_in ssrc trace ≡ true →
-        IsKept capacity ssrc trace → is_such is_member (entry_at capacity rate trace ssrc) ≡ true }
+    ensures members { (capacity ssrc : ℕ) (trace : List TraceStep) → is_named_in ssrc trace ≡ true →
+        IsKept capacity ssrc trace → is_such is_member (entry_at capacity trace ssrc) ≡ true }
     ensures heard { (joined : Joined) (moment ssrc : ℕ) → IsHistory joined.history → HasHeard moment ssrc joined →
         All (λ decided. moment < joined.start + decided.report.moment →
         IsKept decided.setup.capacity ssrc decided.outcome.trace →
-        is_such is_member (entry_at decided.setup.capacity decided.setup.rate decided.outcome.trace ssrc) ≡ true)
+        is_such is_member (entry_at decided.setup.capacity decided.outcome.trace ssrc) ≡ true)
         (decided_at joined.history) }
-    ensures listeners { (capacity rate ssrc : ℕ) (trace : List TraceStep) →
+    ensures listeners { (capacity ssrc : ℕ) (trace : List TraceStep) →
         All (λ step. brings_rtp ssrc step ≡ false) trace →
-        is_such is_sender (entry_at capacity rate trace ssrc) ≡ false }
+        is_such is_sender (entry_at capacity trace ssrc) ≡ false }
 {}
 
 /// A delay stretches the window. If those who wait for their next reports count each other once a delay has passed
@@ -92,16 +92,16 @@ pub fn delays_stretch_the_window()
 /// If the reports of each participant come to the others within a delay, the session keeps to its RTCP bandwidth, with
 /// the window stretched by that delay (RFC 3550, 6.2, 6.3.1). No number of members is assumed, and no draw.
 ///
-/// The premise (`IsDelivered`): all have the same two bandwidths. Take any two participants whose waits for a next
-/// report overlap for longer than the delay, which is below 2,052,074 microseconds. Before its own next report, each
-/// has taken a compound of the other, under the SSRC of the other's next report. (It has, where each report comes
-/// within the delay and nobody changes its SSRC in between: the clause `within`.) Each always had room for the other,
-/// never dropped it, and took no BYE of it; their SSRCs differ. Where both next report as senders, each takes the other
-/// for a sender; where neither does, for none.
+/// The premise (`IsDelivered`): each has at most these two bandwidths at each of its reports. Take any two participants
+/// whose waits for a next report overlap for longer than the delay, which is below 2,052,074 microseconds. Before its
+/// own next report, each has taken a compound of the other, under the SSRC of the other's next report. (It has, where
+/// each report comes within the delay and nobody changes its SSRC in between: the clause `within`.) Each always had
+/// room for the other, never dropped it, and took no BYE of it; their SSRCs differ. Where both next report as senders,
+/// each takes the other for a sender; where neither does, for none.
 ///
 /// The law is about any list of participants of a session. So it may be told of those that neither join nor leave in a
-/// window, nor begin or cease to send there, whoever else does. What the others cost, `sessions_keep_to_their_bandwidth`
-/// says by its `percent`.
+/// window, nor begin or cease to send there, whoever else does. What the others cost,
+/// `sessions_keep_to_their_bandwidth` says by its `percent`.
 pub fn delivered_sessions_keep_to_their_bandwidth()
     ensures within { (delay from width : ℕ) (one joined : Joined) → ComeWithin delay from width one joined →
         All (λ its. HasHeard (its.since + delay) its.next.setup.ssrc joined) (waits_within from width one) }

@@ -26,6 +26,7 @@ ghost use Rattle.rtcp_session.specs.Windows.{
   HasSize,
   Joined,
   reports_within,
+  later_within,
 };
 ghost use Rattle.rtcp_session.specs.Crowds.{
   total_reports,
@@ -37,6 +38,7 @@ ghost use Rattle.rtcp_session.specs.Crowds.{
   shares_within,
   total_shares,
   SharesBandwidth,
+  LeavesOthers,
   AreHeard,
   is_listener,
   HearsMost,
@@ -84,12 +86,14 @@ pub fn totals_keep_to_the_intervals()
 /// A participant leaves the others that it counts their part of the bandwidth in each window: if each of those that it
 /// counts as such as do not send had sent a compound of average size for each report there that it sends as one of
 /// them, its oldest there left out, they would have used at most 2.43656 times the bandwidth that they share (RFC 3550,
-/// 6.3.1). Of several participants it is so in sum, whatever each of them counts.
+/// 6.3.1). Of several participants it is so in sum, whatever each of them counts. Where the bandwidth changes, it is
+/// the greatest at these reports.
 pub fn windows_keep_to_the_share()
-    ensures one { (joined : Joined) (from width : ℕ) → IsHistory joined.history →
-        100000 * 1000000 * shares_within from width joined
-        ≤ 2 * 121828 * width * (256 * joined.history.setup.receiver_bw) }
-    ensures all { (all : List Joined) (from width receiver_bw : ℕ) → All (SharesBandwidth receiver_bw) all →
+    ensures one { (joined : Joined) (from width receiver_bw : ℕ) → IsHistory joined.history →
+        All (LeavesOthers receiver_bw) (later_within from width joined) →
+        100000 * 1000000 * shares_within from width joined ≤ 2 * 121828 * width * (256 * receiver_bw) }
+    ensures all { (all : List Joined) (from width receiver_bw : ℕ) →
+        All (SharesBandwidth from width receiver_bw) all →
         100000 * 1000000 * total_shares from width all
         ≤ length all * (2 * 121828 * width * (256 * receiver_bw)) }
 {}

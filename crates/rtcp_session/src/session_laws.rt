@@ -37,9 +37,10 @@ ghost use Rattle.rtcp_session.specs.Partings.{parting_load, partings_at, bye_wai
 /// intervals were computed add up to at most 2.43656 times what the bandwidth carries in the window. Those of reports
 /// that were sent as a receiver keep so to the receivers' part (RFC 3550, 6.2, 6.3.1).
 ///
-/// The premise (`IsCounted`): all have the same two bandwidths. Whenever a participant sends a report, those that then
-/// wait, between two of their reports in the window, are at most `percent` per cent of the members that each of them
-/// counts when it sends its next report. The same is asked of those that report next in its role.
+/// The premise (`IsCounted`): each has at most these two bandwidths at each of its reports. Whenever a participant
+/// sends a report, those that then wait, between two of their reports in the window, are at most `percent` per cent of
+/// the members that each of them counts when it sends its next report. The same is asked of those that report next in
+/// its role.
 ///
 /// Nothing is assumed of draws. 2.43656 is 1.21828 over one half: the shortest draw is half the interval, where the
 /// mean draw is all of it, and both are divided by 1.21828. All moments are those of one clock. Averages are in 1/256
@@ -88,7 +89,8 @@ pub fn those_who_wait_are_counted()
 /// window are at most these, the later ones, and one of each participant that began before it: three terms, together
 /// `2S + 3R` in place of `S + R`, if S and R are the parts of the bandwidth.
 ///
-/// The premise (`JoinsAreCounted`): all have the same two bandwidths, and no average at a first report is below a size.
+/// The premise (`JoinsAreCounted`): each has at most these two bandwidths at each of its reports, and no average at a
+/// first report is below a size.
 /// The first reports sent in a participant's role, after its start and up to its own, are at most `percent` per cent of
 /// those whom it counts in that role. They are, if those who sent them are members to it in that role.
 pub fn joining_together_does_not_flood()
@@ -115,8 +117,9 @@ pub fn joining_together_does_not_flood()
 /// window, the BYEs are at most 2.43656 times as many as the receivers' part of the bandwidth carries in that time (RFC
 /// 3550, 6.3.7).
 ///
-/// The premise (`ByesAreCounted`): all have the same two bandwidths, and no compound with a BYE is below a size. The
-/// BYEs that go out after a participant's leave and up to its own are at most `percent` per cent of those it counts.
+/// The premise (`ByesAreCounted`): each has at most these two bandwidths at its BYE, and no compound with a BYE is
+/// below a size. The BYEs that go out after a participant's leave and up to its own are at most `percent` per cent of
+/// those it counts.
 pub fn leaving_together_does_not_flood()
     ensures one { (history : History) → IsHistory history → length (partings_at history) ≤ 1 }
     ensures intervals { (history : History) → IsHistory history →

@@ -8,4 +8,5 @@ pub returns-clause-intervals : goal.returns-clause-intervals
 returns-clause-intervals c = partings_wait
 
 pub returns-clause-byes : goal.returns-clause-byes
-returns-clause-byes c = λ terms from width all some is. few_leave terms from width all some is.each is.counted is.sizes
+returns-clause-byes c =
+    λ terms from width all some is. few_leave terms from width all some is.stand is.bandwidth is.counted is.sizes
