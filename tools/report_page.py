@@ -6,7 +6,7 @@ from dataclasses import dataclass
 
 import report_plots as plots
 from report_plots import fault_of, milliseconds, seconds
-from report_session import JOINED, SAID_BYE, TIMED_OUT, Heard, Session
+from report_session import DISMISSED, JOINED, SAID_BYE, TIMED_OUT, Heard, Session
 from report_svg import BLUE, FAINT, GREEN, ORANGE, PURPLE, RED, SHAPES, WIDTH, number, plural, shown
 
 from participant import HEADERS, SECOND
@@ -42,6 +42,8 @@ MEANINGS = {
     "E1": "this participant has left", "E2": "the moment lies before the latest one", "E3": "the moment is beyond 2^50",
     "E4": "too many calls",
     "E7": "it names this participant's SSRC, from a peer that did so before or after eight changes",
+    "C4": "a bandwidth that is none of 16 to 2^30", "C5": "a clock whose rate is none of 1 to 2^20",
+    "C6": "an item whose type is none of 2 to 8",
     "F1": "fewer than 4 octets are left", "F2": "the version of RTCP is not 2",
     "F3": "the first packet is neither an SR nor an RR", "F4": "the first packet has padding",
     "F5": "a packet is longer than what is left", "F6": "padding that cannot be",
@@ -108,6 +110,7 @@ def facts(session: Session) -> str:
         ("RTCP bandwidth", f"{number(session.bandwidth)} octets a second: {number(options['sender-bw'])} for senders, "
                            f"{number(options['receiver-bw'])} for the others"),
         ("Media clock", f"{number(options['rate'])} units a second"),
+        *([("Other settings from", ", ".join(map(seconds, session.settings)))] if session.settings else []),
         ("Room for other sources", f"{number(options['capacity'])}; largest report {number(options['limit'])} octets"),
         ("Datagrams in", f"{datagrams(session, 'rtcp')}; {datagrams(session, 'rtp')}"),
         ("RTCP in", share(session, session.came)),
@@ -159,7 +162,8 @@ def refusals(session: Session) -> str:
     """A row for each kind of call and fault."""
     if not session.refused:
         return ""
-    names = {"rtcp": "RTCP datagram", "rtp": "RTP datagram", "sent": "RTP packet sent"}
+    names = {"rtcp": "RTCP datagram", "rtp": "RTP datagram", "sent": "RTP packet sent", "configure": "other settings",
+             "forget": "source that is gone"}
     counts = Counter((fault_of(refused.reason), refused.call) for refused in session.refused)
     rows = "".join(f'<tr><td class="number">{number(count)}</td><td>{names.get(call, call)}</td><td>{shown(fault)}</td>'
                    f"<td>{meaning(fault)}</td></tr>\n" for (fault, call), count in counts.most_common())
@@ -182,8 +186,11 @@ def members(session: Session) -> str:
     if session.leave is not None:
         words += (" From the leave on (shaded) the other sources are not tracked: the members are then 0, or, before a "
                   "BYE that has to wait, 1 plus the BYEs that came.")
-    head = section("Members and senders", words, ("line", BLUE, "members"), ("line", ORANGE, "senders"),
-                   ("up", GREEN, "a source joined"), ("down", ORANGE, "it said BYE"), ("cross", RED, "it timed out"))
+    entries = [("line", BLUE, "members"), ("line", ORANGE, "senders"), ("up", GREEN, "a source joined"),
+               ("down", ORANGE, "it said BYE"), ("cross", RED, "it timed out")]
+    if any(what == DISMISSED for _, _, what in session.changes):
+        entries.append(("down", PURPLE, "the host said that it is gone"))
+    head = section("Members and senders", words, *entries)
     return head + plots.members_plot(session)
 
 
@@ -258,7 +265,7 @@ def row(session: Session, source: Heard) -> str:
     lost = jitter = trip = "–"
     if source.receptions:
         latest = source.receptions[-1]
-        lost, jitter = number(latest.lost), f"{milliseconds(session, latest.jitter):,.2f}"
+        lost, jitter = number(latest.lost), f"{milliseconds(latest):,.2f}"
     if source.round_trips:
         trip = f"{1000 * source.round_trips[-1][1]:,.2f}"
     cells = [f"<code>{source.ssrc:08x}</code>", name_of(source.cname), f"{source.first / 1e6:,.3f}",
@@ -272,8 +279,8 @@ def fate(session: Session, source: Heard) -> str:
     """How a source left, or that it is there."""
     if source.state == SAID_BYE:
         return f"BYE at {seconds(source.since)}"
-    if source.state == TIMED_OUT:
-        return f"timed out at {seconds(source.since)}"
+    if source.state in (TIMED_OUT, DISMISSED):
+        return f"{source.state} at {seconds(source.since)}"
     if source.state == JOINED:
         return "there" if session.leave is None else "there at the leave"
     return "never a member"

@@ -3,7 +3,7 @@ from __future__ import annotations
 
 from collections import defaultdict
 
-from report_session import JOINED, SAID_BYE, TIMED_OUT, Heard, Report, Session
+from report_session import DISMISSED, JOINED, SAID_BYE, TIMED_OUT, Heard, Reception, Report, Session
 from report_svg import BLUE, FAINT, GREEN, INSIDE, LEFT, ORANGE, PURPLE, RED, Panel, Plot, number, plural, ticks
 
 MOST_FAULTS = 8  # lanes of refused datagrams, the last one for all the other faults
@@ -47,11 +47,13 @@ def members_plot(session: Session) -> str:
     line(panel, panel.steps(senders, session.end), ORANGE)
     panel.name_right([(members[-1][1], plural(members[-1][1], "member"), BLUE),
                       (senders[-1][1], plural(senders[-1][1], "sender"), ORANGE)])
-    looks = {JOINED: ("up", GREEN), SAID_BYE: ("down", ORANGE), TIMED_OUT: ("cross", RED)}
+    looks = {JOINED: ("up", GREEN), SAID_BYE: ("down", ORANGE), TIMED_OUT: ("cross", RED),
+             DISMISSED: ("down", PURPLE)}
     for what, look in looks.items():
         marks = [(moment, f"{ssrc:08x} {what} at {seconds(moment)}")
                  for moment, ssrc, kind in session.changes if kind == what]
-        plot.lane(what, marks, *look)
+        if marks or what != DISMISSED:
+            plot.lane(what, marks, *look)
     if taken := session.identifiers[1:]:
         marks = [(moment, f"this participant became {ssrc:08x} at {seconds(moment)}") for moment, ssrc in taken]
         plot.lane("SSRC changed", marks, "diamond", PURPLE)
@@ -133,7 +135,7 @@ def source_plot(session: Session, source: Heard) -> str:
     plot = empty_plot(session)
     if source.receptions:
         loss_panel(plot, session, source)
-        jitter_panel(plot, session, source)
+        jitter_panel(plot, source)
     if source.round_trips:
         round_trip_panel(plot, source)
     return plot.svg(f"Loss, jitter and round trips of {source.ssrc:08x}")
@@ -159,8 +161,8 @@ def loss_panel(plot: Plot, session: Session, source: Heard) -> None:
     other.marks(((*point, title) for point, title in zip(lost, titles)), "dot", BLUE)
 
 
-def jitter_panel(plot: Plot, session: Session, source: Heard) -> None:
-    points = [(reception.moment, milliseconds(session, reception.jitter)) for reception in source.receptions]
+def jitter_panel(plot: Plot, source: Heard) -> None:
+    points = [(reception.moment, milliseconds(reception)) for reception in source.receptions]
     panel = plot.panel(60, upper([value for _, value in points], 1), "jitter, ms")
     panel.scale(2)
     line(panel, panel.joined(points), GREEN)
@@ -181,6 +183,6 @@ def round_trip_panel(plot: Plot, source: Heard) -> None:
     panel.marks(titled("round trip", trips), "dot", PURPLE)
 
 
-def milliseconds(session: Session, units: int) -> float:
-    """A time in units of the media clock."""
-    return 1000 * units / session.options["rate"]
+def milliseconds(reception: Reception) -> float:
+    """The jitter that was reported."""
+    return 1000 * reception.jitter / reception.rate

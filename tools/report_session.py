@@ -2,9 +2,10 @@
 
 Members, senders, compounds, refusals and changes of SSRC are those of the answers. Which source joined, said BYE or
 timed out is in no answer, but follows from the datagrams by the rules of docs/PROTOCOL.md ("Members", "A tick"): a
-source joins with its CNAME or its first counted packet, if the table has room for it; it leaves with its BYE; and it
-times out at the first tick that finds its latest sighting more than five deterministic intervals ago. After each call
-the members found in this way must be as many as the answer says, or the session is not reported."""
+source joins with its CNAME or its first counted packet, if the table has room for it; it leaves with its BYE, or as
+the host says that it is gone; and it times out at the first tick that finds its latest sighting more than five
+deterministic intervals ago. After each call the members found in this way must be as many as the answer says, or the
+session is not reported."""
 from __future__ import annotations
 
 import re
@@ -19,7 +20,7 @@ import decoder
 import participant
 from participant import HEADERS, MINIMUM, SECOND, SHORT_MINIMUM
 
-JOINED, SAID_BYE, TIMED_OUT = "joined", "said BYE", "timed out"
+JOINED, SAID_BYE, TIMED_OUT, DISMISSED = "joined", "said BYE", "timed out", "dismissed"
 BYE_IS_KEPT = 5 * SECOND  # a source that said BYE stays in the table for so long
 SENDER_REPORT, RECEIVER_REPORT, DESCRIPTION = 200, 201, 202
 CNAME = 1  # the type of its item
@@ -69,7 +70,7 @@ class Refused:
     """A call that was refused."""
 
     moment: int
-    call: str  # rtcp, rtp, sent, tick, leave
+    call: str  # rtcp, rtp, sent, tick, leave, configure, forget
     reason: str
 
     @property
@@ -102,7 +103,8 @@ class Reception:
     moment: int
     fraction: int  # of 256
     lost: int
-    jitter: int  # in units of the media clock
+    jitter: int  # in units of the clock of the source's newest packet
+    rate: int  # of this clock, in units a second
 
 
 @dataclass(slots=True)
@@ -115,7 +117,7 @@ class Heard:
     cname: bytes | None = None
     packets: int = 0
     compounds: int = 0
-    state: str = ""  # the latest of joined, said BYE, timed out; none if it never became a member
+    state: str = ""  # the latest of joined, said BYE, timed out, dismissed; none if it never became a member
     since: int = 0  # the moment of this
     receptions: list[Reception] = field(default_factory=list)
     round_trips: list[tuple[int, float]] = field(default_factory=list)  # moments, seconds
@@ -157,12 +159,13 @@ class Table:
         self.members += not was_member
         return not was_member
 
-    def take_packet(self, ssrc: int, sequence: int, moment: int) -> tuple[bool, bool]:
-        """Takes an RTP packet. Says whether it is counted, and whether the source joins by it."""
+    def take_packet(self, ssrc: int, sequence: int, rate: int, moment: int) -> tuple[bool, bool]:
+        """Takes an RTP packet, whose clock has this rate. Says whether it is counted, and whether the source joins by
+        it."""
         if (source := self.hear(ssrc, moment)) is None:
             return False, False
         was_member = source.is_member()
-        is_counted = source.take(sequence, 0, 0, moment)
+        is_counted = source.take(sequence, 0, rate, 0, moment)
         joins = is_counted and not was_member
         self.members += joins
         return is_counted, joins
@@ -176,6 +179,15 @@ class Table:
         source.left = self.goodbyes[ssrc] = moment
         self.members -= was_member
         return was_member
+
+    def forget(self, ssrc: int) -> bool:
+        """Drops a source that has not said BYE. Says whether a member goes by it."""
+        source = self.sources.get(ssrc)
+        if source is None or source.left is not None:
+            return False
+        self.members -= source.is_member()
+        del self.sources[ssrc]
+        return source.is_member()
 
     def drop(self, heard_before: int, left_before: int) -> list[int]:
         """Drops those heard last, or gone, before these moments. The members among them."""
@@ -215,8 +227,11 @@ class Session:
         self.left: int | None = None
         self.end = 0  # the latest moment
         self.table = Table(options["capacity"])
+        self.settings: list[int] = []  # moments at which the host gave other ones
+        self._bandwidths, self._clocks = (options["sender-bw"], options["receiver-bw"]), options["clock"]
+        self._pace = *self._bandwidths, 0  # bandwidths by which checks go too, and until when
         self._calls = {"rtcp": self._rtcp, "rtp": self._rtp, "sent": self._sent, "tick": self._tick,
-                       "leave": self._leave}
+                       "leave": self._leave, "configure": self._configure, "forget": self._forget}
         self._told: set[tuple[int, int]] = set()  # the SSRC and the LSR of each sender report
         named = participant.source_description(options["ssrc"], [(CNAME, options["cname"])])
         self.average = 256 * (8 + len(named) + HEADERS)
@@ -228,7 +243,7 @@ class Session:
         self.lines[kind] += 1
         if answer.refusal:
             self.refused.append(Refused(moment, kind, answer.refusal))
-            if answer.refusal.startswith(("E5", "E6", "E7")):  # the moment was examined before
+            if answer.refusal.startswith(("E5", "E6", "E7", "E8")):  # the moment was examined before
                 self.end = max(self.end, moment)
             return
         self.end = moment
@@ -246,7 +261,7 @@ class Session:
 
     @property
     def bandwidth(self) -> int:
-        """That of RTCP, in octets a second."""
+        """That of RTCP at the start, in octets a second."""
         return self.options["sender-bw"] + self.options["receiver-bw"]
 
     def _is_own(self, ssrc: int) -> bool:
@@ -259,10 +274,23 @@ class Session:
         self.handed_out.append(Compound(moment, len(answer.out), kind))
         self._move_average(len(answer.out))
 
-    def _interval(self, members: int, senders: int, is_sender: bool) -> int:
+    def _interval(self, members: int, senders: int, is_sender: bool, bandwidths: tuple[int, int]) -> int:
         minimum = MINIMUM if self.reports else SHORT_MINIMUM
-        return participant.deterministic_interval(members, senders, is_sender, self.average,
-                                                  self.options["sender-bw"], self.options["receiver-bw"], minimum)
+        return participant.deterministic_interval(members, senders, is_sender, self.average, *bandwidths, minimum)
+
+    def _paced(self, moment: int) -> tuple[int, int]:
+        """The bandwidths that a check goes by."""
+        senders, others, until = self._pace
+        if moment >= until:
+            return self._bandwidths
+        return min(self._bandwidths[0], senders), min(self._bandwidths[1], others)
+
+    def _check_interval(self, moment: int) -> int:
+        _, members, senders = self.counts[-1]  # before the call
+        return self._interval(members, senders, False, self._paced(moment))
+
+    def _rate_of(self, kind: int) -> int:
+        return next((rate for one, rate in self._clocks if one == kind), self.options["rate"])
 
     def _change(self, moment: int, ssrc: int, what: str) -> None:
         self.changes.append((moment, ssrc, what))
@@ -323,7 +351,8 @@ class Session:
         self._hear(ssrc, moment).packets += 1
         if self.leave is not None:
             return
-        is_counted, joins = self.table.take_packet(ssrc, sequence, moment)
+        rate = self._rate_of(participant.payload_type(octets))
+        is_counted, joins = self.table.take_packet(ssrc, sequence, rate, moment)
         if joins:
             self._change(moment, ssrc, JOINED)
         for csrc in csrcs if is_counted else []:
@@ -338,8 +367,7 @@ class Session:
     def _tick(self, answer: Answer, moment: int, *words: int) -> None:
         if self.leave is not None:
             return
-        _, members, senders = self.counts[-1]  # before the check
-        interval = self._interval(members, senders, False)
+        interval = self._check_interval(moment)
         for ssrc in self.table.drop(moment - 5 * interval, moment + 1 - BYE_IS_KEPT):
             self._change(moment, ssrc, TIMED_OUT)
         if answer.kind == "report":
@@ -348,7 +376,7 @@ class Session:
     def _take_report(self, moment: int, answer: Answer) -> None:
         is_sender = answer.out[1] == SENDER_REPORT
         before = self.reports[-1].moment if self.reports else 0
-        computed = self._interval(answer.members, answer.senders, is_sender)
+        computed = self._interval(answer.members, answer.senders, is_sender, self._bandwidths)
         self.reports.append(Report(moment, moment - before, computed))
         self._hand_out(moment, answer, "SR" if is_sender else "RR")
         for kind, count, body in decoder.packets(answer.out):
@@ -356,12 +384,25 @@ class Session:
                 self._told.add((self.identifiers[-1][1], int.from_bytes(body[6:10], "big")))
             if kind in (SENDER_REPORT, RECEIVER_REPORT):
                 for ssrc, fraction, lost, _, jitter, *_ in blocks_of(kind, count, body):
-                    reception = Reception(moment, int(fraction), int(lost), int(jitter))
+                    rate = self.table.sources[int(ssrc, 16)].rates[-1]
+                    reception = Reception(moment, int(fraction), int(lost), int(jitter), rate)
                     self.heard[int(ssrc, 16)].receptions.append(reception)
 
     def _leave(self, answer: Answer, moment: int, word: int) -> None:
         if self.leave is None:
             self.leave, self.counts_before_leave = moment, list(self.counts)
+
+
+    def _configure(self, _: Answer, moment: int, *settings) -> None:
+        if self.leave is None:
+            self._pace = *self._paced(moment), moment + 5 * self._check_interval(moment)
+        senders, others, self._clocks, _ = settings
+        self._bandwidths = senders, others
+        self.settings.append(moment)
+
+    def _forget(self, _: Answer, moment: int, ssrc: int) -> None:
+        if self.leave is None and self.table.forget(ssrc):
+            self._change(moment, ssrc, DISMISSED)
 
 
 def blocks_of(kind: int, count: int, body: bytes) -> list[list[str]]:

@@ -106,7 +106,7 @@ fn answers(alloc: Global, table: &str, call: Call, row: Row) -> Option<Digest> {
             if let Some(_) = config.error() {
                 return None;
             }
-            let table = HeapTable::with_room(alloc, config.capacity, config.rate).ok()?;
+            let table = HeapTable::with_room(alloc, config.capacity).ok()?;
             let mut participant = Participant::with_table(config, table, WORD);
             Some(Caller::new(row).answers(call, &mut participant))
         }
@@ -135,6 +135,7 @@ fn configured(sources: u32) -> Config {
         sender_bw: 1 << 20,
         receiver_bw: 1 << 20,
         rate: 8_000,
+        clocks: ArrayVec::new(),
         ntp_base: 0xeead_0eea_0000_0000,
     }
 }

@@ -11,6 +11,13 @@ pair (Ok x) out a b c d first second one two =
     ∙ append_assoc out (a ++ b ++ c) d
 pair (Err e) out a b c d first second one two = two
 
+-- the same with a text between them
+pub pair_around : {E : Type 0} (r : Result (Unit {0}) E) (out a b between c d first next second : List ℕ)
+    → first ≡ out ++ a ++ b → next ≡ first ++ between → OnOk r (second ≡ next ++ c ++ d)
+    → OnOk r (second ≡ out ++ (a ++ b ++ between ++ c ++ d))
+pair_around (Ok x) out a b between c d first next second one two three = rw (three, two, one) (simp append_assoc)
+pair_around (Err x) out a b between c d first next second one two three = three
+
 -- five parts
 pub five : {E : Type 0} (r : Result (Unit {0}) E) (out a b c d e n1 n2 n3 n4 n5 : List ℕ) → n1 ≡ out ++ a → n2 ≡ n1 ++ b
     → n3 ≡ n2 ++ c → n4 ≡ n3 ++ d → OnOk r (n5 ≡ n4 ++ e) → OnOk r (n5 ≡ out ++ (a ++ b ++ c ++ d ++ e))

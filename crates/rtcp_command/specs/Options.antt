@@ -1,20 +1,21 @@
 -- What the options that configure a participant and those of `rtcp replay` say, and the first that is refused.
-use Rattle.std.specs.Prelude.{◌≡◌, ℕ, ◌/◌, ◌^◌, ◌-◌, nat_le, min, List, [], ◌∷◌, ◌++◌, length, if◌then◌else◌, Option, Some, None, option_map, option_and_then, unwrap_or, Result, Ok, Err, codes}
+use Rattle.std.specs.Prelude.{◌≡◌, ℕ, ◌/◌, ◌^◌, ◌-◌, nat_le, min, List, [], ◌∷◌, ◌++◌, length, map, if◌then◌else◌, Option, Some, None, option_map, option_and_then, unwrap_or, Result, Ok, Err, codes}
 use Rattle.std.specs.Borrow.{Bor}
 use Rattle.std.specs.Int.{w32, w64}
 use Rattle.std.specs.Option.{ok_or}
-use Rattle.std.specs.Result.{result_ok}
-use Rattle.hex.specs.Hex.{decode_of}
+use Rattle.clap.specs.declared.parser.matches.Found.{Found}
+use Rattle.clap.specs.Matches.{first_value, matched_of, raw_values}
 use Rattle.rtcp_wire.specs.Values.{ItemValue}
-use Rattle.rtcp_engine.specs.Setups.{Setup}
+use Rattle.rtcp_engine.specs.Setups.{ClockValue, Setup}
 use Rattle.rtcp_engine.specs.Views.{setup_of}
 use Rattle.rtcp_command.specs.declared.options.Options.{Options}
 use Rattle.rtcp_command.specs.declared.orders.TextOrder.{TextOrder}
 use Rattle.rtcp_command.specs.declared.orders.TextOrder.TheVariants.{Check, Replay}
 use Rattle.rtcp_command.specs.declared.orders.OrderFault.{OrderFault}
 use Rattle.rtcp_command.specs.declared.orders.OrderFault.TheVariants.{Clap, Option as BadOption, Memory}
-use Rattle.rtcp_text.specs.Numerals.{decimal_in, hex_in}
+use Rattle.rtcp_text.specs.Numerals.{decimal_in, hex_in, hex_text_in}
 use Rattle.rtcp_text.specs.Results.{◌>>=◌}
+use Rattle.rtcp_text.specs.SettingsFields.{clock_in, few_in}
 
 -- ---- Texts
 
@@ -28,6 +29,8 @@ pub record OptionTexts : Type 0 where
   pub sender_bw : Option (List ℕ)
   pub receiver_bw : Option (List ℕ)
   pub rate : List ℕ
+  -- one for each time that the option is given
+  pub clocks : List (List ℕ)
   pub ntp : List ℕ
   pub name : Option (List ℕ)
   pub email : Option (List ℕ)
@@ -40,6 +43,13 @@ pub record OptionTexts : Type 0 where
 abbrev pub text_given : Option (Bor (List ℕ)) → Option (List ℕ)
 text_given given = option_map (λ text. text.now) given
 
+abbrev pub texts_in : Bor (List (Bor (List ℕ))) → List (List ℕ)
+texts_in given = map (λ text. text.now) given.now
+
+abbrev pub texts_given : Option (Bor (List (Bor (List ℕ)))) → List (List ℕ)
+texts_given None = []
+texts_given (Some given) = texts_in given
+
 abbrev pub texts_of : Options → OptionTexts
 texts_of options = record {
   ssrc = options.ssrc.now;
@@ -50,6 +60,7 @@ texts_of options = record {
   sender_bw = text_given options.sender_bw;
   receiver_bw = text_given options.receiver_bw;
   rate = options.rate.now;
+  clocks = texts_given options.clocks;
   ntp = options.ntp.now;
   name = text_given options.name;
   email = text_given options.email;
@@ -64,25 +75,30 @@ texts_of options = record {
 abbrev pub text_found : (List ℕ → Option (List ℕ)) → (name : List ℕ) → List ℕ
 text_found found name = unwrap_or (found name) []
 
--- the texts that a command line gives
-abbrev pub texts_found : (List ℕ → Option (List ℕ)) → OptionTexts
+-- all texts that it gives an option
+abbrev pub values_found : Found → (name : List ℕ) → List (List ℕ)
+values_found found name = unwrap_or (option_map raw_values (matched_of found name)) []
+
+-- the texts that a command line gives: the first of each option, and all of an option that may be given again
+abbrev pub texts_found : Found → OptionTexts
 texts_found found = record {
-  ssrc = text_found found (codes "ssrc");
-  cname = text_found found (codes "cname");
-  capacity = text_found found (codes "capacity");
-  limit = text_found found (codes "limit");
-  session_bps = text_found found (codes "session-bps");
-  sender_bw = found (codes "sender-bw");
-  receiver_bw = found (codes "receiver-bw");
-  rate = text_found found (codes "rate");
-  ntp = text_found found (codes "ntp");
-  name = found (codes "name");
-  email = found (codes "email");
-  phone = found (codes "phone");
-  loc = found (codes "loc");
-  tool = found (codes "tool");
-  note = found (codes "note");
-  private = found (codes "priv");
+  ssrc = text_found (first_value found) (codes "ssrc");
+  cname = text_found (first_value found) (codes "cname");
+  capacity = text_found (first_value found) (codes "capacity");
+  limit = text_found (first_value found) (codes "limit");
+  session_bps = text_found (first_value found) (codes "session-bps");
+  sender_bw = first_value found (codes "sender-bw");
+  receiver_bw = first_value found (codes "receiver-bw");
+  rate = text_found (first_value found) (codes "rate");
+  clocks = values_found found (codes "clock");
+  ntp = text_found (first_value found) (codes "ntp");
+  name = first_value found (codes "name");
+  email = first_value found (codes "email");
+  phone = first_value found (codes "phone");
+  loc = first_value found (codes "loc");
+  tool = first_value found (codes "tool");
+  note = first_value found (codes "note");
+  private = first_value found (codes "priv");
 }
 
 -- ---- Values
@@ -91,9 +107,14 @@ texts_found found = record {
 abbrev pub text_in : List ℕ → Option (List ℕ)
 text_in text = if nat_le (length text) 255 then Some text else None
 
--- at most 255 octets, in hex of either case
-abbrev pub hex_text_in : List ℕ → Option (List ℕ)
-hex_text_in text = if nat_le (length text) 510 then result_ok (decode_of text) else None
+-- the clock of a payload type, which is below 128 (RFC 3550, 5.1)
+abbrev pub clock_given : List ℕ → Option ClockValue
+clock_given text =
+    option_and_then (λ clock. if nat_le clock.payload_type 127 then Some clock else None) (clock_in text)
+
+-- at most 16
+abbrev pub clocks_given : List (List ℕ) → Option (List ClockValue)
+clocks_given texts = few_in 16 clock_given texts
 
 -- RTCP's bandwidth, 5 per cent of the session's, in octets a second: a quarter of it is for senders, and the rest for
 -- the others
@@ -152,6 +173,7 @@ setup_in texts = do
   sender_bw ← bandwidth_in (codes "sender-bw") (share_of_senders session_bps) texts.sender_bw
   receiver_bw ← bandwidth_in (codes "receiver-bw") (share_of_others session_bps) texts.receiver_bw
   rate ← ok_or (decimal_in 32 texts.rate) (codes "rate")
+  clocks ← ok_or (clocks_given texts.clocks) (codes "clock")
   ntp ← ok_or (hex_in w64 texts.ntp) (codes "ntp")
   extras ← extras_in texts
   Ok (record {
@@ -163,6 +185,7 @@ setup_in texts = do
     sender_bw = sender_bw;
     receiver_bw = receiver_bw;
     rate = rate;
+    clocks = clocks;
     ntp_base = ntp;
   })
 

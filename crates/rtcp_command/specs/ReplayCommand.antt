@@ -4,7 +4,8 @@ use Rattle.std.specs.Fmt.{decimal}
 use Rattle.std.specs.List.{flat_map}
 use Rattle.hex.specs.Hex.{encode_lower}
 use Rattle.rtcp_wire.specs.Values.{ItemValue}
-use Rattle.rtcp_engine.specs.Setups.{Setup}
+use Rattle.rtcp_engine.specs.Setups.{ClockValue, Setup}
+use Rattle.rtcp_text.specs.SettingsFields.{clock_text}
 use Rattle.rtcp_text.specs.Text.{hex_word, hex_long}
 
 -- A text between single quotes (39), in which a shell takes each octet as it is. A single quote ends them, stands after
@@ -39,8 +40,14 @@ abbrev pub bandwidths_text : Setup → List ℕ
 bandwidths_text setup =
     codes " --sender-bw " ++ decimal setup.sender_bw ++ codes " --receiver-bw " ++ decimal setup.receiver_bw
 
+-- the option of a payload type's clock
+abbrev pub clock_option_text : ClockValue → List ℕ
+clock_option_text clock = codes " --clock " ++ clock_text clock
+
 abbrev pub clocks_text : Setup → List ℕ
-clocks_text setup = codes " --rate " ++ decimal setup.rate ++ codes " --ntp " ++ hex_long setup.ntp_base
+clocks_text setup =
+    codes " --rate " ++ decimal setup.rate ++ flat_map clock_option_text setup.clocks
+    ++ codes " --ntp " ++ hex_long setup.ntp_base
 
 -- the options of a configuration
 abbrev pub setup_text : Setup → List ℕ

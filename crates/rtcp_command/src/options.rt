@@ -1,16 +1,18 @@
 //! The options of `rtcp replay` and of `rtcp listen`.
 
-ghost use Rattle.std.specs.Prelude.{◌≡◌, ◌≤◌, ◌<◌, ◌+◌, ◌++◌, ℕ, List, Ok, Err, Some, OnOk, IfOk, IfErr, IfSome, [], length, option_map, string_bytes, codes};
+ghost use Rattle.std.specs.Prelude.{◌≡◌, ◌≤◌, ◌<◌, ◌+◌, ◌++◌, ℕ, List, Ok, Err, Some, OnOk, IfOk, IfErr, IfSome, [], length, map, option_map, string_bytes, codes};
 ghost use Rattle.rtcp_wire.specs.Values.{ItemValue};
-ghost use Rattle.rtcp_engine.specs.Views.{setup_of};
+ghost use Rattle.rtcp_engine.specs.Views.{clock_value, setup_of};
 ghost use Rattle.rtcp_command.specs.Listening.{HasTurns, IsListenOrder, link_texts_of, listen_in, listening_of, turns_in};
-ghost use Rattle.rtcp_command.specs.Options.{bandwidth_in, extras_in, hex_text_in, item_in, lines_in, replay_in, setup_in, text_given, text_in, texts_of, with_extras};
+ghost use Rattle.rtcp_command.specs.Options.{bandwidth_in, clock_given, clocks_given, extras_in, item_in, lines_in, replay_in, setup_in, text_given, text_in, texts_in, texts_of, with_extras};
+ghost use Rattle.rtcp_text.specs.Numerals.{hex_text_in};
 
 use crate::endpoint::read_endpoint;
 use crate::orders::{Order, OrderFault};
 use arrayvec::ArrayVec;
-use rtcp_engine::{Config, Item, rtcp_bw_of, shares_of};
-use rtcp_text::numerals::{read_decimal, read_long, read_short_decimal, read_word};
+use rtcp_engine::{Clock, Config, Item, rtcp_bw_of, shares_of};
+use rtcp_text::numerals::{read_decimal, read_hex_text, read_long, read_short_decimal, read_word};
+use rtcp_text::settings_fields::read_clock;
 use std::alloc::{AllocError, Global};
 use std::net::SocketAddrV4;
 
@@ -19,7 +21,7 @@ const MAX_TURNS: u32 = 1_000_000;
 
 /// The texts of the options that configure a participant, as a command line or their defaults give them.
 #[derive(Clone, Copy, Debug)]
-pub(crate) struct Options<'a> {
+pub(crate) struct Options<'m, 'a> {
     pub(crate) ssrc: &'a str,
     pub(crate) cname: &'a str,
     pub(crate) capacity: &'a str,
@@ -28,6 +30,7 @@ pub(crate) struct Options<'a> {
     pub(crate) sender_bw: Option<&'a str>,
     pub(crate) receiver_bw: Option<&'a str>,
     pub(crate) rate: &'a str,
+    pub(crate) clocks: Option<&'m [&'a str]>,
     pub(crate) ntp: &'a str,
     pub(crate) name: Option<&'a str>,
     pub(crate) email: Option<&'a str>,
@@ -58,7 +61,7 @@ pub(crate) struct LinkOptions<'a> {
 /// The name of the first option that is refused, in the order of the fields above and then `word` and `lines`,
 /// without its dashes.
 pub(crate) fn read_replay(
-    options: Options<'_>,
+    options: Options<'_, '_>,
     word: &str,
     lines: &str,
 ) -> Result<(Config, u32, u32), &'static str>
@@ -91,7 +94,7 @@ pub(crate) fn read_lines(text: &str) -> Option<u32>
 /// - [`OrderFault::Memory`] where memory for the name of the record's file is refused.
 pub(crate) fn read_listen(
     alloc: Global,
-    options: Options<'_>,
+    options: Options<'_, '_>,
     link: LinkOptions<'_>,
 ) -> Result<Order, OrderFault>
     ensures read { IsListenOrder result (listen_in (texts_of options.entry) (link_texts_of link.entry)) }
@@ -128,7 +131,7 @@ struct Session {
 /// # Errors
 ///
 /// The name of the first option that is refused, without its dashes.
-fn read_session(options: Options<'_>, link: LinkOptions<'_>) -> Result<Session, &'static str>
+fn read_session(options: Options<'_, '_>, link: LinkOptions<'_>) -> Result<Session, &'static str>
     ensures read { IfOk result (λ session. listen_in (texts_of options.entry) (link_texts_of link.entry)
         ≡ Ok (listening_of session (text_given link.entry.recording))) }
     ensures turns { IfOk result (λ session. (1 ≤ session.turns) × (session.turns ≤ 1000000)) }
@@ -179,7 +182,7 @@ fn read_turns(text: &str) -> Option<u32>
     }
 }
 
-fn read_config(options: Options<'_>) -> Result<Config, &'static str>
+fn read_config(options: Options<'_, '_>) -> Result<Config, &'static str>
     ensures read { IfOk result (λ config. setup_in (texts_of options.entry) ≡ Ok (setup_of config)) }
     ensures refused { IfErr result (λ name. setup_in (texts_of options.entry) ≡ Err name.now) }
 {
@@ -192,6 +195,7 @@ fn read_config(options: Options<'_>) -> Result<Config, &'static str>
     let sender_bw = read_bandwidth(options.sender_bw, "sender-bw", senders)?;
     let receiver_bw = read_bandwidth(options.receiver_bw, "receiver-bw", others)?;
     let rate = read_short_decimal(options.rate.as_bytes()).ok_or("rate")?;
+    let clocks = read_clocks(options.clocks.unwrap_or(&[])).ok_or("clock")?;
     let ntp_base = read_long(options.ntp.as_bytes()).ok_or("ntp")?;
     let mut config = Config {
         ssrc,
@@ -202,10 +206,35 @@ fn read_config(options: Options<'_>) -> Result<Config, &'static str>
         sender_bw,
         receiver_bw,
         rate,
+        clocks,
         ntp_base,
     };
     add_extras(&mut config, options)?;
     Ok(config)
+}
+
+/// The clocks that options give, at most 16.
+fn read_clocks(given: &[&str]) -> Option<ArrayVec<Clock, 16>>
+    ensures { option_map (λ clocks. map clock_value clocks.items) result ≡ clocks_given (texts_in given.entry) }
+{
+    let mut clocks = ArrayVec::new();
+    'clocks: for text in given {
+        let clock = read_given_clock(text)?;
+        clocks.try_push(clock).ok()?;
+    }
+    Some(clocks)
+}
+
+/// The clock that an option gives: its payload type is below 128.
+fn read_given_clock(text: &str) -> Option<Clock>
+    ensures { option_map clock_value result ≡ clock_given text.now }
+{
+    let clock = read_clock(text.as_bytes())?;
+    if clock.payload_type <= 127 {
+        Some(clock)
+    } else {
+        None
+    }
 }
 
 /// A bandwidth, in octets a second: what the option says, if it is given, or else this share. The greatest number
@@ -224,7 +253,7 @@ fn read_bandwidth(given: Option<&str>, name: &'static str, share: u64) -> Result
 }
 
 /// Adds the extra items of the options that are given, in the order of their types.
-fn add_extras(config: &mut Config, options: Options<'_>) -> Result<(), &'static str>
+fn add_extras(config: &mut Config, options: Options<'_, '_>) -> Result<(), &'static str>
     requires { (setup_of config.old).extras ≡ [] }
     ensures added { OnOk result ((items : List ItemValue) × (extras_in (texts_of options.entry) ≡ Ok items)
         × (setup_of config.new ≡ with_extras (setup_of config.old) items)) }
@@ -274,7 +303,7 @@ fn add_private(config: &mut Config, given: Option<&str>) -> Result<(), &'static 
     let Some(given) = given else {
         return Ok(());
     };
-    let text = read_hex_text(given).ok_or("priv")?;
+    let text = read_hex_text(given.as_bytes()).ok_or("priv")?;
     config.extras.push(Item { kind: 8, text });
     Ok(())
 }
@@ -285,20 +314,5 @@ fn read_text(text: &str) -> Option<ArrayVec<u8, 255>>
 {
     let mut octets = ArrayVec::new();
     octets.try_extend_from_slice(text.as_bytes()).ok()?;
-    Some(octets)
-}
-
-/// At most 255 octets, in hex of either case.
-fn read_hex_text(text: &str) -> Option<ArrayVec<u8, 255>>
-    ensures { option_map (λ read. read.items) result ≡ hex_text_in text.now }
-{
-    if text.len() > 510 {
-        return None;
-    }
-    let mut buffer = [0; 255];
-    let decoded = &mut buffer[..text.len() / 2];
-    hex::decode_to_slice(text, decoded).ok()?;
-    let mut octets = ArrayVec::new();
-    octets.try_extend_from_slice(decoded).ok()?;
     Some(octets)
 }

@@ -3,12 +3,12 @@
 ghost use Rattle.std.specs.Prelude.{◌≡◌, ◌++◌, IfOk, OnOk};
 ghost use Rattle.std.specs.Fmt.{decimal};
 ghost use Rattle.std.specs.List.{flat_map};
-ghost use Rattle.rtcp_engine.specs.Views.{setup_of};
+ghost use Rattle.rtcp_engine.specs.Views.{clock_value, setup_of};
 ghost use Rattle.rtcp_report.specs.Views.{item_value};
 ghost use Rattle.rtcp_text.specs.Text.{hex_long, hex_word};
-ghost use Rattle.rtcp_command.specs.ReplayCommand.{bandwidths_text, clocks_text, item_name, item_text, name_text, quoted, quoted_octet, replay_command, setup_text, sizes_text};
+ghost use Rattle.rtcp_command.specs.ReplayCommand.{bandwidths_text, clock_option_text, clocks_text, item_name, item_text, name_text, quoted, quoted_octet, replay_command, setup_text, sizes_text};
 
-use rtcp_engine::{Config, Item};
+use rtcp_engine::{Clock, Config, Item};
 use rtcp_text::text::digits::{push_decimal, push_long, push_octets, push_word};
 use std::alloc::{AllocError, Global};
 
@@ -70,12 +70,34 @@ fn push_bandwidths(out: &mut Vec<u8>, config: &Config) -> Result<(), AllocError>
     push_number(out, b" --receiver-bw ", config.receiver_bw)
 }
 
-/// Appends the options of the media's clock and of the wall clock.
+/// Appends the options of the media's clocks and of the wall clock.
 fn push_clocks(out: &mut Vec<u8>, config: &Config) -> Result<(), AllocError>
     ensures { OnOk result (out.new.items ≡ out.old.items ++ clocks_text (setup_of config.now)) }
 {
     push_number(out, b" --rate ", config.rate)?;
+    push_payload_clocks(out, &config.clocks)?;
     push_timestamp(out, b" --ntp ", config.ntp_base)
+}
+
+/// Appends the options of payload types' clocks.
+fn push_payload_clocks(out: &mut Vec<u8>, clocks: &[Clock]) -> Result<(), AllocError>
+    ensures { OnOk result (out.new.items
+        ≡ out.old.items ++ flat_map (λ clock. clock_option_text (clock_value clock)) clocks.now) }
+{
+    for clock in clocks {
+        push_payload_clock(out, *clock)?;
+    }
+    Ok(())
+}
+
+/// Appends the option of a payload type's clock.
+fn push_payload_clock(out: &mut Vec<u8>, clock: Clock) -> Result<(), AllocError>
+    ensures { OnOk result (out.new.items ≡ out.old.items ++ clock_option_text (clock_value clock)) }
+{
+    out.extend_from_slice(b" --clock ")?;
+    push_decimal(out, u64::from(clock.payload_type))?;
+    out.push(b':')?;
+    push_decimal(out, u64::from(clock.rate))
 }
 
 /// Appends an option and its word in hex.

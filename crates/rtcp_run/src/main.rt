@@ -128,8 +128,8 @@ fn run_listen(rt: &HostRuntime, session: Session) -> Result<End, RunFault>
     if let Some(error) = session.config.error() {
         return Err(RunFault::Config(error));
     }
-    let (capacity, rate) = (session.config.capacity, session.config.rate);
-    let table = HeapTable::with_room(alloc, capacity, rate).map_err(|_| RunFault::Memory)?;
+    let capacity = session.config.capacity;
+    let table = HeapTable::with_room(alloc, capacity).map_err(|_| RunFault::Memory)?;
     let recorder = match &session.recording {
         Some(file) => Some(begin_record(rt, &session.config, word, file)?),
         None => None,

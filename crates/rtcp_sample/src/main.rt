@@ -48,6 +48,7 @@ fn config() -> Option<Config> {
         sender_bw: u32::try_from(sender_bw).ok()?,
         receiver_bw: u32::try_from(receiver_bw).ok()?,
         rate: 48_000,
+        clocks: ArrayVec::new(),
         ntp_base: 0xeead_0eea_0000_0000,
     })
 }

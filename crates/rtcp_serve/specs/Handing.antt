@@ -1,6 +1,6 @@
 -- What a participant hands out over a session, and what its link was given and told. Lists are newest first.
 use Rattle.std.specs.Prelude.{ℕ, List, [], ◌∷◌, ◌++◌, Option, Some, None, Ok, Err}
-use Rattle.rtcp_engine.specs.Acts.{Act, rtcp_came, rtp_came, rtp_sent, ticked, left, EventValue, rtcp_arrived, rtp_arrived, packet_sent, time_passed, leave_asked}
+use Rattle.rtcp_engine.specs.Acts.{Act, rtcp_came, rtp_came, rtp_sent, ticked, left, configured, forgotten, EventValue, rtcp_arrived, rtp_arrived, packet_sent, time_passed, leave_asked, settings_given, forget_asked}
 use Rattle.rtcp_engine.specs.Histories.{History}
 use Rattle.rtcp_engine.specs.Steps.{OutValue, AnswerValue}
 use Rattle.rtcp_engine.specs.Answers.{answer_of, followed_by}
@@ -45,6 +45,8 @@ act_in reader (rtp_arrived moment peer word octets) = rtp_came moment peer word 
 act_in reader (packet_sent moment timestamp octets) = rtp_sent moment timestamp octets
 act_in reader (time_passed moment first_word second_word) = ticked moment first_word second_word
 act_in reader (leave_asked moment word) = left moment word
+act_in reader (settings_given moment settings) = configured moment settings
+act_in reader (forget_asked moment ssrc) = forgotten moment ssrc
 
 -- the acts of all events
 abbrev pub acts_in : Reader → List Telling → List Act

@@ -1,6 +1,6 @@
 -- The lines of an event and its answer, as `rtcp listen --show` writes them.
 use Rattle.std.specs.Prelude.{◌≡◌, ℕ, List, [], ◌∷◌, ◌++◌, Option, Some, None, Ok, Err, codes}
-use Rattle.rtcp_engine.specs.Acts.{EventValue, rtcp_arrived, rtp_arrived, packet_sent, time_passed, leave_asked}
+use Rattle.rtcp_engine.specs.Acts.{EventValue, rtcp_arrived, rtp_arrived, packet_sent, time_passed, leave_asked, settings_given, forget_asked}
 use Rattle.rtcp_engine.specs.Steps.{OutValue, AnswerValue}
 use Rattle.rtcp_engine.specs.declared.refusal.Refusal.{Refusal}
 use Rattle.rtcp_text.specs.AnswerText.{refusal_text}
@@ -43,6 +43,8 @@ ShowsEvent (rtp_arrived moment peer word octets) answer text = text ≡ rtp_text
 ShowsEvent (packet_sent moment timestamp octets) answer text = text ≡ told_text moment answer
 ShowsEvent (time_passed moment first_word second_word) answer text = text ≡ told_text moment answer
 ShowsEvent (leave_asked moment word) answer text = text ≡ told_text moment answer
+ShowsEvent (settings_given moment settings) answer text = text ≡ told_text moment answer
+ShowsEvent (forget_asked moment ssrc) answer text = text ≡ told_text moment answer
 
 -- ---- What was answered
 
@@ -70,6 +72,8 @@ moment_of_event (rtp_arrived moment peer word octets) = moment
 moment_of_event (packet_sent moment timestamp octets) = moment
 moment_of_event (time_passed moment first_word second_word) = moment
 moment_of_event (leave_asked moment word) = moment
+moment_of_event (settings_given moment settings) = moment
+moment_of_event (forget_asked moment ssrc) = moment
 
 -- what came, and then what was answered
 abbrev pub ShowsBoth : (to : ℕ) → EventValue → AnswerValue → List ℕ → Type 0

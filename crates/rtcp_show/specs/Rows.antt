@@ -1,5 +1,5 @@
 -- The row of a source, as `rtcp listen --show` writes it.
-use Rattle.std.specs.Prelude.{ℕ, ◌*◌, ◌/◌, Bool, true, false, List, [], ◌∷◌, ◌++◌, if◌then◌else◌, Option, Some, None, codes}
+use Rattle.std.specs.Prelude.{ℕ, ◌*◌, ◌/◌, Bool, true, false, List, [], ◌∷◌, ◌++◌, max, if◌then◌else◌, Option, Some, None, codes}
 use Rattle.std.specs.Fmt.{decimal, signed_decimal}
 use Rattle.std.specs.List.{flat_map}
 use Rattle.core.specs.Char.Escape.{escape_ascii}
@@ -27,12 +27,12 @@ left_text (Some moment) = codes " left=" ++ moment_text moment
 abbrev pub standing_text : StateValue → List ℕ
 standing_text state = sends_text state.sender ++ (if state.member then [] else left_text state.left)
 
--- Jitter is in units of the media's clock, which has `rate` a second.
-abbrev pub reception_text : (rate : ℕ) → Option ReceptionValue → List ℕ
-reception_text rate None = []
-reception_text rate (Some reception) =
+-- Jitter is in units of the clock of the newest packet, which has at least one a second.
+abbrev pub reception_text : Option ReceptionValue → List ℕ
+reception_text None = []
+reception_text (Some reception) =
     codes " packets=" ++ decimal reception.received ++ codes " lost=" ++ signed_decimal reception.lost
-    ++ codes " jitter=" ++ time_text (reception.jitter * 1000000 / rate)
+    ++ codes " jitter=" ++ time_text (reception.jitter * 1000000 / max reception.rate 1)
 
 abbrev pub trip_text : Option ℕ → List ℕ
 trip_text None = []
@@ -45,15 +45,15 @@ cname_text (Some cname) = codes " cname=" ++ 34 ∷ flat_map escape_ascii cname 
 
 -- ---- Rows
 
-abbrev pub row_text : (rate : ℕ) → StateValue → NoteValue → List ℕ
-row_text rate state note =
-    codes "source=" ++ hex_word state.ssrc ++ standing_text state ++ reception_text rate state.reception
+abbrev pub row_text : StateValue → NoteValue → List ℕ
+row_text state note =
+    codes "source=" ++ hex_word state.ssrc ++ standing_text state ++ reception_text state.reception
     ++ trip_text note.trip ++ cname_text note.cname ++ 10 ∷ []
 
 abbrev pub counts_text : (members senders : ℕ) → List ℕ
 counts_text members senders = codes "members=" ++ decimal members ++ codes " senders=" ++ decimal senders ++ 10 ∷ []
 
 -- the counts, and a row for each source, with what is noted of it
-abbrev pub sources_text : (rate members senders : ℕ) → (note : ℕ → NoteValue) → List StateValue → List ℕ
-sources_text rate members senders note states =
-    counts_text members senders ++ flat_map (λ state. row_text rate state (note state.ssrc)) states
+abbrev pub sources_text : (members senders : ℕ) → (note : ℕ → NoteValue) → List StateValue → List ℕ
+sources_text members senders note states =
+    counts_text members senders ++ flat_map (λ state. row_text state (note state.ssrc)) states

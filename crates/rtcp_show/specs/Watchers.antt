@@ -1,5 +1,5 @@
 -- What a clause reads of a watcher, and of a link that it watches.
-use Rattle.std.specs.Prelude.{◌≡◌, ◌⊎◌, ℕ, max, List, [], ◌∷◌, ◌++◌, Option}
+use Rattle.std.specs.Prelude.{◌≡◌, ◌⊎◌, ℕ, List, [], ◌∷◌, ◌++◌, Option}
 use Rattle.rtcp_members.specs.Told.{StateValue}
 use Rattle.rtcp_engine.specs.Histories.{History, life_at, setup_at}
 use Rattle.rtcp_engine.specs.Lives.{WalksInLife, members_in_life, senders_in_life}
@@ -31,19 +31,18 @@ pub record KeepsSession {W : Type 0} (before after : Watcher W) : Type 0 where
   pub participant : watched_by after ≡ watched_by before
   pub terms : terms_of after ≡ terms_of before
 
--- Who is there after a history, at a moment and after a space (32), with notes of them. A clock has at least one unit a
--- second.
-pub record ShowsSources (rate moment : ℕ) (history : History) (text : List ℕ) : Type 0 where
+-- Who is there after a history, at a moment and after a space (32), with notes of them.
+pub record ShowsSources (moment : ℕ) (history : History) (text : List ℕ) : Type 0 where
   pub states : List StateValue
   pub walk : WalksInLife (setup_at history) (life_at history) states
   pub noted : ℕ → NoteValue
-  pub says : text ≡ moment_text moment ++ 32 ∷ sources_text (max rate 1)
+  pub says : text ≡ moment_text moment ++ 32 ∷ sources_text
       (members_in_life (setup_at history) (life_at history)) (senders_in_life (setup_at history) (life_at history))
       noted states
 
 -- nothing, or who is there
-abbrev pub ShowsThose : (rate moment : ℕ) → History → List ℕ → Type 0
-ShowsThose rate moment history text = (text ≡ []) ⊎ ShowsSources rate moment history text
+abbrev pub ShowsThose : (moment : ℕ) → History → List ℕ → Type 0
+ShowsThose moment history text = (text ≡ []) ⊎ ShowsSources moment history text
 
 -- the link inside
 abbrev pub link_of : {L W : Type 0} → Shown L W → L

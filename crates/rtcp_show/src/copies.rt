@@ -5,7 +5,7 @@ ghost use Rattle.rtcp_engine.specs.Views.{setup_of};
 ghost use Rattle.rtcp_report.specs.Views.{item_value};
 
 use arrayvec::ArrayVec;
-use rtcp_engine::{Config, Item};
+use rtcp_engine::{Clock, Config, Item};
 
 /// The same configuration again.
 pub(crate) fn copy_of(config: &Config) -> Config
@@ -20,6 +20,7 @@ pub(crate) fn copy_of(config: &Config) -> Config
         sender_bw: config.sender_bw,
         receiver_bw: config.receiver_bw,
         rate: config.rate,
+        clocks: clocks_of(&config.clocks),
         ntp_base: config.ntp_base,
     }
 }
@@ -45,4 +46,13 @@ fn items_of(items: &ArrayVec<Item, 7>) -> ArrayVec<Item, 7>
         });
     }
     copies
+}
+
+/// The same clocks again.
+fn clocks_of(clocks: &ArrayVec<Clock, 16>) -> ArrayVec<Clock, 16>
+    ensures { result.items ≡ clocks.now.items }
+{
+    let mut copy = ArrayVec::new();
+    let _ = copy.try_extend_from_slice(clocks);
+    copy
 }

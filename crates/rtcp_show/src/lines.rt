@@ -45,7 +45,9 @@ pub(crate) fn moment_of(event: &Event<'_>) -> u64
         | Event::ArriveRtp { now, .. }
         | Event::SentRtp { now, .. }
         | Event::Tick { now, .. }
-        | Event::Leave { now, .. } => *now,
+        | Event::Leave { now, .. }
+        | Event::Configure { now, .. }
+        | Event::Forget { now, .. } => *now,
     }
 }
 
@@ -62,8 +64,11 @@ fn push_event(out: &mut Vec<u8>, event: &Event<'_>, answer: &Answer) -> Result<(
             ..
         } => push_rtcp(out, *now, *peer, bytes, answer),
         Event::ArriveRtp { now, peer, .. } => push_rtp(out, *now, *peer, answer),
-        Event::SentRtp { now, .. } | Event::Tick { now, .. } | Event::Leave { now, .. } =>
-            push_told(out, *now, answer),
+        Event::SentRtp { now, .. }
+        | Event::Tick { now, .. }
+        | Event::Leave { now, .. }
+        | Event::Configure { now, .. }
+        | Event::Forget { now, .. } => push_told(out, *now, answer),
     }
 }
 

@@ -1,6 +1,6 @@
 //! The row of a source.
 
-ghost use Rattle.std.specs.Prelude.{◌≡◌, ◌≤◌, ◌++◌, ◌∷◌, [], List, OnOk, option_map};
+ghost use Rattle.std.specs.Prelude.{◌≡◌, ◌++◌, ◌∷◌, [], List, OnOk, option_map};
 ghost use Rattle.std.specs.Fmt.{decimal};
 ghost use Rattle.std.specs.List.{flat_map};
 ghost use Rattle.core.specs.Char.Escape.{escape_ascii};
@@ -25,20 +25,18 @@ use std::alloc::AllocError;
 /// Appends the members, the senders and the rows of all sources.
 pub(crate) fn push_sources<T: MemberTable>(
     out: &mut Vec<u8>,
-    rate: u32,
     participant: &Participant<T>,
     notes: &Notes,
 ) -> Result<(), AllocError>
-    requires { 1 ≤ rate }
     ensures { (history : History) → StandsAt participant.now history →
         OnOk result ((states : List StateValue) × WalksInLife (setup_at history) (life_at history) states
-        × (out.new.items ≡ out.old.items ++ sources_text rate
+        × (out.new.items ≡ out.old.items ++ sources_text
         (members_in_life (setup_at history) (life_at history)) (senders_in_life (setup_at history) (life_at history))
         (noted_in notes.now) states)) }
 {
     push_counts(out, participant.members(), participant.senders())?;
     for state in participant.sources() {
-        push_noted_row(out, rate, &state, notes)?;
+        push_noted_row(out, &state, notes)?;
     }
     Ok(())
 }
@@ -56,23 +54,17 @@ fn push_counts(out: &mut Vec<u8>, members: u32, senders: u32) -> Result<(), Allo
 }
 
 /// Appends the row of a source, with what is noted of it.
-fn push_noted_row(
-    out: &mut Vec<u8>,
-    rate: u32,
-    state: &SourceState,
-    notes: &Notes,
-) -> Result<(), AllocError>
-    requires { 1 ≤ rate }
+fn push_noted_row(out: &mut Vec<u8>, state: &SourceState, notes: &Notes) -> Result<(), AllocError>
     ensures { OnOk result (out.new.items
-        ≡ out.old.items ++ row_text rate (state_value state.now) (noted_in notes.now state.now.ssrc)) }
+        ≡ out.old.items ++ row_text (state_value state.now) (noted_in notes.now state.now.ssrc)) }
 {
     match notes.get(state.ssrc) {
-        Some(note) => push_row(out, rate, state, note),
-        None => push_row(out, rate, state, &Note::new()),
+        Some(note) => push_row(out, state, note),
+        None => push_row(out, state, &Note::new()),
     }
 }
 
-/// Appends the row of a source, of a session whose media's clock has `rate` units a second:
+/// Appends the row of a source:
 ///
 /// ```text
 /// source=00000007 sends=yes packets=150 lost=2 jitter=0.413ms round-trip=12.110ms cname="a@b"
@@ -85,20 +77,14 @@ fn push_noted_row(
 /// # Errors
 ///
 /// `AllocError` where memory is refused. It is then left open how much of the text was appended.
-pub fn push_row(
-    out: &mut Vec<u8>,
-    rate: u32,
-    state: &SourceState,
-    note: &Note,
-) -> Result<(), AllocError>
-    requires { 1 ≤ rate }
+pub fn push_row(out: &mut Vec<u8>, state: &SourceState, note: &Note) -> Result<(), AllocError>
     ensures { OnOk result (out.new.items
-        ≡ out.old.items ++ row_text rate (state_value state.now) (note_value note.now)) }
+        ≡ out.old.items ++ row_text (state_value state.now) (note_value note.now)) }
 {
     out.extend_from_slice(b"source=")?;
     push_word(out, state.ssrc)?;
     push_standing(out, state)?;
-    push_reception(out, rate, state.reception)?;
+    push_reception(out, state.reception)?;
     push_trip(out, note.trip)?;
     push_cname(out, &note.cname)?;
     out.push(b'\n')?;
@@ -135,14 +121,9 @@ fn push_left(out: &mut Vec<u8>, left: Option<u64>) -> Result<(), AllocError>
 }
 
 /// Appends how the packets of a source are received, if one was counted.
-fn push_reception(
-    out: &mut Vec<u8>,
-    rate: u32,
-    reception: Option<Reception>,
-) -> Result<(), AllocError>
-    requires { 1 ≤ rate }
+fn push_reception(out: &mut Vec<u8>, reception: Option<Reception>) -> Result<(), AllocError>
     ensures { OnOk result (out.new.items
-        ≡ out.old.items ++ reception_text rate (option_map reception_value reception)) }
+        ≡ out.old.items ++ reception_text (option_map reception_value reception)) }
 {
     let Some(reception) = reception else {
         return Ok(());
@@ -151,7 +132,7 @@ fn push_reception(
     push_decimal(out, reception.received)?;
     out.extend_from_slice(b" lost=")?;
     push_signed(out, reception.lost)?;
-    let jitter = u64::from(reception.jitter) * 1_000_000 / u64::from(rate);
+    let jitter = u64::from(reception.jitter) * 1_000_000 / u64::from(reception.rate.max(1));
     push_time(out, b" jitter=", jitter)
 }
 

@@ -35,8 +35,6 @@ const SECOND: u64 = 1_000_000;
 /// What a watcher knows of a session from its start.
 #[derive(Clone, Copy, Debug)]
 pub(crate) struct Terms {
-    /// The units a second of the media's clock.
-    rate: u32,
     /// The NTP timestamp of moment 0.
     ntp_base: u64,
     /// The number of the peer to which compounds go.
@@ -85,17 +83,15 @@ impl<W: Drop> Watcher<W> {
         requires few { config.now.capacity ≤ 1024 }
         ensures begins { IfOk result (λ watcher. StandsAt (watched_by watcher) (begun (setup_of config.now) word)) }
         ensures terms { IfOk result (λ watcher. terms_of watcher ≡ record {
-          rate = config.now.rate;
           ntp_base = config.now.ntp_base;
           to = ipv4_bits (v4_ip to) * 65536 + v4_port to;
         }) }
         ensures writer { IfOk result (λ watcher. writer_of watcher ≡ writer) }
     {
-        let table = HeapTable::with_room(alloc, config.capacity, config.rate)?;
+        let table = HeapTable::with_room(alloc, config.capacity)?;
         Ok(Watcher {
             participant: Participant::with_table(copy_of(config), table, word),
             terms: Terms {
-                rate: config.rate,
                 ntp_base: config.ntp_base,
                 to: u64::from(to.ip().to_bits()) * 65_536 + u64::from(to.port()),
             },
@@ -135,7 +131,7 @@ impl<W: Write> Watcher<W> {
         ensures written { (history : History) → StandsAt (watched_by self.new) history →
             OnOk result ((lines those : List ℕ)
             × ShowsBoth (terms_of self.old).to (event_value event.now) (answer_value answer.now) lines
-            × ShowsThose (terms_of self.old).rate (moment_in (event_value event.now)) history those
+            × ShowsThose (moment_in (event_value event.now)) history those
             × Appends (held_by W.contents self.old) (held_by W.contents self.new) (lines ++ those)) }
     {
         let shown = self.show_event(event, answer);
@@ -236,7 +232,7 @@ impl<W: Write> Watcher<W> {
     fn show_sources(&mut self, now: u64) -> Result<(), TextFault>
         ensures keeps { KeepsSession self.old self.new }
         ensures written { (history : History) → StandsAt (watched_by self.old) history →
-            OnOk result ((those : List ℕ) × ShowsThose (terms_of self.old).rate now history those
+            OnOk result ((those : List ℕ) × ShowsThose now history those
             × Appends (held_by W.contents self.old) (held_by W.contents self.new) those) }
     {
         if now / SECOND <= self.second {
@@ -256,11 +252,10 @@ impl<W: Write> Watcher<W> {
         ensures keeps { KeepsSession self.old self.new }
         ensures writer { writer_of self.new ≡ writer_of self.old }
         ensures composed { (history : History) → StandsAt (watched_by self.old) history →
-            result ≡ Ok true → ShowsSources (terms_of self.old).rate now history self.new.text.items }
+            result ≡ Ok true → ShowsSources now history self.new.text.items }
     {
         self.next_rows.clear();
-        let rate = self.terms.rate.max(1);
-        push_sources(&mut self.next_rows, rate, &self.participant, &self.notes)?;
+        push_sources(&mut self.next_rows, &self.participant, &self.notes)?;
         if self.next_rows == self.rows {
             return Ok(false);
         }

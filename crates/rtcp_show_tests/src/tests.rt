@@ -39,6 +39,7 @@ pub(crate) fn config() -> Config {
         sender_bw: 100,
         receiver_bw: 300,
         rate: 8_000,
+        clocks: ArrayVec::new(),
         ntp_base: 0,
     }
 }

@@ -4,7 +4,8 @@ use Rattle.std.specs.Fmt.{digits}
 use Rattle.hex.specs.Hex.{encode_with}
 use Rattle.rtcp_wire.specs.declared.fault.FaultReason.TheVariants.{Short}
 use Rattle.rtcp_wire.specs.declared.rtp.fault.RtpFault.TheVariants.{PayloadType}
-use Rattle.rtcp_engine.specs.declared.refusal.Refusal.TheVariants.{Left, Backwards, TooFar, TooMany, Wire, Rtp, OwnSsrc}
+use Rattle.rtcp_engine.specs.declared.refusal.Refusal.TheVariants.{Left, Backwards, TooFar, TooMany, Wire, Rtp, OwnSsrc, Settings}
+use Rattle.rtcp_engine.specs.declared.config.ConfigError.TheVariants.{Bandwidth, Rate, Item}
 use Rattle.rtcp_engine.specs.declared.step.OutKind.TheVariants.{Report, Bye}
 use Rattle.rtcp_engine.specs.Taken.{begun}
 use Rattle.rtcp_text.specs.AnswerText.{start_text, answer_text}
@@ -25,6 +26,7 @@ opens : opening (begun (record {
       100;
   receiver_bw = 300;
   rate = 8000;
+  clocks = [];
   ntp_base = 0;
 }) 0)
     ≡ codes "start members=1 senders=0 next=1026037" ++ 10 ∷ []
@@ -137,3 +139,12 @@ rtp = refl
 
 own_ssrc : answer_text (Err OwnSsrc) ≡ codes "refused E7 OwnSsrc" ++ 10 ∷ []
 own_ssrc = refl
+
+settings : answer_text (Err (Settings Bandwidth)) ≡ codes "refused E8 Settings: C4 Bandwidth" ++ 10 ∷ []
+settings = refl
+
+settings_with_rate : answer_text (Err (Settings Rate)) ≡ codes "refused E8 Settings: C5 Rate" ++ 10 ∷ []
+settings_with_rate = refl
+
+settings_with_item : answer_text (Err (Settings Item)) ≡ codes "refused E8 Settings: C6 Item" ++ 10 ∷ []
+settings_with_item = refl

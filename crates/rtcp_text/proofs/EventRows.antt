@@ -2,7 +2,7 @@
 use Rattle.std.proofs.Common.{◌≡◌, [], ◌∷◌, Ok, Err, refl, codes}
 use Rattle.hex.specs.Hex.{decode_pairs}
 use Rattle.rtcp_text.specs.declared.fault.LineFault.TheVariants.{Words, Hex, Number}
-use Rattle.rtcp_engine.specs.Acts.{rtcp_arrived, rtp_arrived, packet_sent, time_passed, leave_asked}
+use Rattle.rtcp_engine.specs.Acts.{rtcp_arrived, rtp_arrived, packet_sent, time_passed, leave_asked, settings_given, forget_asked}
 use Rattle.rtcp_text.specs.EventLines.{event_in}
 
 -- The empty datagram.
@@ -144,3 +144,103 @@ short_line = refl
 
 without_word : event_in (codes "rtp 0 7 -") ≡ Err Words
 without_word = refl
+
+-- ---- Settings
+
+-- Two clocks, an item and one without a text.
+settings : event_in (codes "configure 7 16 1073741824 0:8000,127:90000 2:6A6f,3:") ≡ Ok (settings_given 7 (record {
+  sender_bw = 16;
+  receiver_bw = 1073741824;
+  clocks = record { payload_type = 0; rate = 8000 } ∷ record { payload_type = 127; rate = 90000 } ∷ [];
+  extras = record { kind = 2; text = 106 ∷ 111 ∷ [] } ∷ record { kind = 3; text = [] } ∷ [];
+}))
+unfolding decode_pairs
+settings = refl
+
+-- No clocks and no items, and bandwidths that no session may have.
+bare_settings : event_in (codes "configure 0 0 4294967295 - -") ≡ Ok
+    (settings_given 0 (record { sender_bw = 0; receiver_bw = 4294967295; clocks = []; extras = [] }))
+bare_settings = refl
+
+-- Types that no item and no packet may have.
+greatest_types : event_in (codes "configure 0 16 16 255:4294967295 255:00") ≡ Ok (settings_given 0 (record {
+  sender_bw = 16;
+  receiver_bw = 16;
+  clocks = record { payload_type = 255; rate = 4294967295 } ∷ [];
+  extras = record { kind = 255; text = 0 ∷ [] } ∷ [];
+}))
+unfolding decode_pairs
+greatest_types = refl
+
+bandwidth_too_great : event_in (codes "configure 0 16 4294967296 - -") ≡ Err Number
+bandwidth_too_great = refl
+
+payload_type_too_great : event_in (codes "configure 0 16 16 256:8000 -") ≡ Err Number
+payload_type_too_great = refl
+
+rate_too_great : event_in (codes "configure 0 16 16 0:4294967296 -") ≡ Err Number
+rate_too_great = refl
+
+clock_without_rate : event_in (codes "configure 0 16 16 8000 -") ≡ Err Number
+clock_without_rate = refl
+
+clock_with_two_rates : event_in (codes "configure 0 16 16 0:8000:8000 -") ≡ Err Number
+clock_with_two_rates = refl
+
+no_clocks : event_in (codes "configure 0 16 16  -") ≡ Err Number
+no_clocks = refl
+
+comma_at_end : event_in (codes "configure 0 16 16 0:8000, -") ≡ Err Number
+comma_at_end = refl
+
+hyphen_among_clocks : event_in (codes "configure 0 16 16 0:8000,- -") ≡ Err Number
+hyphen_among_clocks = refl
+
+sixteen_clocks : event_in
+    (codes "configure 0 16 16 0:1,1:1,2:1,3:1,4:1,5:1,6:1,7:1,8:1,9:1,10:1,11:1,12:1,13:1,14:1,15:1 zz") ≡ Err Hex
+unfolding decode_pairs
+sixteen_clocks = refl
+
+seventeen_clocks : event_in
+    (codes "configure 0 16 16 0:1,1:1,2:1,3:1,4:1,5:1,6:1,7:1,8:1,9:1,10:1,11:1,12:1,13:1,14:1,15:1,16:1 zz")
+    ≡ Err Number
+seventeen_clocks = refl
+
+kind_too_great : event_in (codes "configure 0 16 16 - 256:61") ≡ Err Hex
+kind_too_great = refl
+
+odd_text : event_in (codes "configure 0 16 16 - 2:616") ≡ Err Hex
+unfolding decode_pairs
+odd_text = refl
+
+item_without_colon : event_in (codes "configure 0 16 16 - 2") ≡ Err Hex
+item_without_colon = refl
+
+no_items : event_in (codes "configure 0 16 16 - ") ≡ Err Hex
+no_items = refl
+
+eight_items : event_in (codes "configure 0 16 16 - 2:,3:,4:,5:,6:,7:,8:,2:") ≡ Err Hex
+unfolding decode_pairs
+eight_items = refl
+
+-- The clocks count before the items.
+clocks_first : event_in (codes "configure 0 16 16 x zz") ≡ Err Number
+clocks_first = refl
+
+without_items : event_in (codes "configure 0 16 16 -") ≡ Err Words
+without_items = refl
+
+-- ---- Dismissals
+
+dismissal : event_in (codes "forget 18446744073709551615 0000000A") ≡ Ok (forget_asked 18446744073709551615 10)
+unfolding decode_pairs
+dismissal = refl
+
+dismissal_without_ssrc : event_in (codes "forget 0") ≡ Err Words
+dismissal_without_ssrc = refl
+
+dismissal_of_two : event_in (codes "forget 0 0000000A 0000000B") ≡ Err Words
+dismissal_of_two = refl
+
+dismissal_with_seven_digits : event_in (codes "forget 0 000000A") ≡ Err Hex
+dismissal_with_seven_digits = refl

@@ -1,127 +1,31 @@
 -- The line of an event is read as that event.
-use Rattle.std.proofs.Common.{option_map, ◌≡◌, ◌≢◌, ℕ, suc, ◌+◌, ◌*◌, ◌<◌, ◌≤◌, ◌^◌, ◌==◌, ◌&&◌, Bool, true, false, nat_le, nat_lt, List, [], ◌∷◌, ◌++◌, length, All, if◌then◌else◌, Option, Some, None, Result, Ok, Err, codes, w32, refl, sym, ap, subst, ◌∙◌, arith, lit<, lit≤, zero, map, length-append, append_assoc}
+use Rattle.std.proofs.Common.{option_map, ◌≡◌, ◌≢◌, ℕ, ◌+◌, ◌<◌, ◌≤◌, ◌^◌, ◌==◌, Bool, true, false, nat_lt, List, [], ◌∷◌, ◌++◌, length, All, if◌then◌else◌, Option, Some, None, Result, Ok, Err, codes, w32, refl, sym, ap, subst, ◌∙◌, arith, lit<, lit≤, map, length-append, append_assoc}
 use Rattle.std.specs.Fmt.{decimal}
-use Rattle.std.specs.Char.{is_digit}
 use Rattle.std.specs.Int.{to_be_bytes, from_be_bytes}
 use Rattle.std.specs.List.{flat_map, list_all}
 use Rattle.std.specs.Option.{ok_or}
-use Rattle.std.specs.Result.{result_ok, result_unwrap_or}
+use Rattle.std.specs.Result.{result_ok}
 use Rattle.std.specs.Str.{bytes_eq}
-use Rattle.std.specs.Str.Parse.{AllDigits, digits_value}
-use Rattle.std.proofs.lemmas.Bool.{and_from, and_parts, cond-true, false_from_ne_true, lt-ltb, le-leb, ltb-true}
-use Rattle.std.proofs.lemmas.Fmt.{decimal_is_IsNumeral, length-decimal-le}
-use Rattle.std.proofs.lemmas.Bool.Decides.{nat_tests}
+use Rattle.std.proofs.lemmas.Bool.{ltb-true}
+use Rattle.std.proofs.lemmas.Fmt.{length-decimal-le}
 use Rattle.std.proofs.lemmas.List.Elements.{All-weaker, All-cons, All-nil, All-append, All-head, All-tail}
 use Rattle.std.proofs.lemmas.List.Sums.{AllPass-from_list_all}
-use Rattle.std.proofs.lemmas.List.Splits.{slice_split_at, slice_split_none}
-use Rattle.std.proofs.lemmas.Nat.{from_be_bytes-to_be_bytes_4}
-use Rattle.std.proofs.lemmas.Str.Parse.{digit_from_value}
-use Rattle.std.proofs.lemmas.Slice.Eq.{bytes_eq-Decides}
-use Rattle.hex.specs.Hex.{IsBytes, decode_of, decode_sized, encode_lower, is_hex_digit, lower_digits}
+use Rattle.hex.specs.Hex.{IsBytes, decode_of, decode_sized, lower_digits}
 use Rattle.hex.specs.declared.error.FromHexError.{FromHexError}
-use Rattle.hex.proofs.HexLemmas.{decode_of-encode_lower, decode_of-ok, decode_sized-encode_lower, decode_sized-ok, decode_sized-twice, length-encode_with}
-use Rattle.rtcp_engine.specs.Acts.{EventValue, rtcp_arrived, rtp_arrived, packet_sent, time_passed, leave_asked}
+use Rattle.hex.proofs.HexLemmas.{decode_of-ok, decode_sized-ok, decode_sized-twice, length-encode_with}
+use Rattle.rtcp_engine.specs.Acts.{EventValue, rtcp_arrived, rtp_arrived, packet_sent, time_passed, leave_asked, settings_given, forget_asked}
 use Rattle.rtcp_text.specs.declared.event_line.LineKind.{LineKind}
-use Rattle.rtcp_text.specs.declared.event_line.LineKind.TheVariants.{Rtcp, Rtp, Sent, Ticked, Left}
+use Rattle.rtcp_text.specs.declared.event_line.LineKind.TheVariants.{Rtcp, Rtp, Sent, Ticked, Left, Configured, Forgotten}
 use Rattle.rtcp_text.specs.declared.fault.LineFault.{LineFault}
 use Rattle.rtcp_text.specs.declared.fault.LineFault.TheVariants.{Hex, Number}
-use Rattle.rtcp_text.specs.Numerals.{is_decimal, decimal_in, hex_in, datagram_in}
-use Rattle.rtcp_text.specs.EventLines.{fields_of, event_in, event_of, event_text, arrival_fields, event_fields, spaced, datagram_text, moment_in, peer_in, short_in, word_in, octets_in, arrival, sending, tick, leave, kind_named, event_with, datagram_in_event, IsCallable}
+use Rattle.rtcp_text.specs.Numerals.{hex_in, datagram_in}
+use Rattle.rtcp_text.specs.EventLines.{fields_of, event_in, event_of, event_text, arrival_fields, event_fields, spaced, datagram_text, moment_in, peer_in, short_in, word_in, octets_in, arrival, sending, tick, leave, configuring, forgetting, settings_in, kind_named, event_with, datagram_in_event, IsCallable}
 use Rattle.rtcp_text.specs.Lines.{lines_of, HasNoLineFeed}
-use Rattle.rtcp_text.specs.Results.{◌>>=◌}
+use Rattle.rtcp_text.specs.SettingsFields.{clocks_text, items_text}
 use Rattle.rtcp_text.specs.Text.{hex_word}
+use Rattle.rtcp_text.proofs.FieldTextLemmas.{IsField, EachIsField, fields_of-spaced, decimal_field, decimal_read_back, word_read_back, word_field, datagram_read_back, datagram_field, bind_ok, ok_inside, read_below}
+use Rattle.rtcp_text.proofs.SettingsLemmas.{settings_read, settings_are, clocks_short, items_short, settings_callable}
 use Rattle.rtcp_text.proofs.LinesLemmas.{lines_of-line}
-use Rattle.rtcp_text.proofs.NumeralLemmas.{test-from_AllDigits}
-
--- ---- Fields
-
--- Digits and a hyphen lie above a space (32) and a line feed (10).
-abbrev pub IsField : List ℕ → Type 0
-IsField field = All (λ octet. 32 < octet) field
-
-no_space : (octet : ℕ) → 32 < octet → (octet == 32) ≡ false
-no_space octet above = grind (arith, nat_tests, above)
-
-without_spaces : (field : List ℕ) → IsField field → All (λ octet. (octet == 32) ≡ false) field
-without_spaces field h = All-weaker (λ octet. 32 < octet) (λ octet. (octet == 32) ≡ false) no_space field h
-
-abbrev pub EachIsField : List (List ℕ) → Type 0
-EachIsField [] = Unit {0}
-EachIsField (field ∷ fields) = IsField field × EachIsField fields
-
-fields_of-spaced : (field : List ℕ) (others : List (List ℕ)) → EachIsField (field ∷ others)
-    → fields_of (spaced (field ∷ others)) ≡ field ∷ others
-fields_of-spaced field [] h = slice_split_none (λ octet. octet == 32) field (without_spaces field h.0)
-fields_of-spaced field (next ∷ others) h =
-    slice_split_at (λ octet. octet == 32) field 32 (spaced (next ∷ others)) (without_spaces field h.0) refl
-    ∙ ap (λ fields. field ∷ fields) (fields_of-spaced next others h.1)
-
-digits_field : (text : List ℕ) → AllDigits 10 text → IsField text
-digits_field [] all = All-nil (λ octet. 32 < octet)
-digits_field (digit ∷ digits) all =
-    let range = digit_from_value digit all.0 in
-    All-cons (λ octet. 32 < octet) digit digits (omega (arith, range)) (digits_field digits all.1)
-
-pub decimal_field : (n : ℕ) → n < 2 ^ 64 → IsField (decimal n)
-decimal_field n small = digits_field (decimal n) (decimal_is_IsNumeral n small).0.1
-
-hex_digit_field : (octet : ℕ) → is_hex_digit octet ≡ true → 32 < octet
-hex_digit_field octet h = grind (arith, nat_tests, h)
-
-pub hex_field : (octets : List ℕ) → IsBytes octets → IsField (encode_lower octets)
-hex_field octets bytes =
-    All-weaker (λ octet. is_hex_digit octet ≡ true) (λ octet. 32 < octet) hex_digit_field (encode_lower octets)
-    (decode_of-ok (encode_lower octets) octets (decode_of-encode_lower octets bytes)).1
-
--- ---- Fields are read back
-
-pub decimal_read_back : (bits n : ℕ) → n < 2 ^ 64 → n < 2 ^ bits → decimal_in bits (decimal n) ≡ Some n
-decimal_read_back bits n small fits =
-    let numeral = decimal_is_IsNumeral n small in
-    let text : List ℕ = decimal n in
-    let few : length text ≤ 20 = length-decimal-le 20 n (lit< tt) (omega (arith, small)) small in
-    let all = test-from_AllDigits text numeral.0.1 in
-    let short = and_from (nat_le 1 (length text)) (nat_le (length text) 20)
-    (le-leb 1 (length text) (omega (arith, numeral.0.0))) (le-leb (length text) 20 few) in
-    let digits = and_from (nat_le 1 (length text) && nat_le (length text) 20)
-    (list_all (λ d. is_digit d 10) text) short all in
-    let below = lt-ltb (digits_value 10 text) (2 ^ bits) (subst (λ (m : ℕ). m < 2 ^ bits) (sym numeral.1) fits) in
-    cond-true (is_decimal text && nat_lt (digits_value 10 text) (2 ^ bits)) (Some (digits_value 10 text)) None
-    (and_from (is_decimal text) (nat_lt (digits_value 10 text) (2 ^ bits)) digits below)
-    ∙ ap Some numeral.1
-
-word_bytes : (n : ℕ) → IsBytes (to_be_bytes w32 n)
-word_bytes n zero = omega arith
-word_bytes n (suc zero) = omega arith
-word_bytes n (suc (suc zero)) = omega arith
-word_bytes n (suc (suc (suc zero))) = omega arith
-word_bytes n (suc (suc (suc (suc i)))) = omega arith
-
-pub word_read_back : (n : ℕ) → n < 2 ^ 32 → hex_in w32 (hex_word n) ≡ Some n
-word_read_back n small =
-    ap (λ r. option_map (from_be_bytes w32) (result_ok r))
-    (decode_sized-encode_lower (to_be_bytes w32 n) 4 refl (word_bytes n))
-    ∙ ap Some (from_be_bytes-to_be_bytes_4 n small)
-
-pub word_field : (n : ℕ) → IsField (hex_word n)
-word_field n = hex_field (to_be_bytes w32 n) (word_bytes n)
-
-pub datagram_read_back : (octets : List ℕ) → IsBytes octets → datagram_in (datagram_text octets) ≡ Some octets
-datagram_read_back [] bytes = refl
-datagram_read_back (octet ∷ octets) bytes =
-    let text : List ℕ = encode_lower (octet ∷ octets) in
-    let long : length text ≡ 2 * suc (length octets) = length-encode_with lower_digits (octet ∷ octets) in
-    let no_hyphen : bytes_eq text (codes "-") ≡ false =
-    false_from_ne_true (bytes_eq text (codes "-"))
-    (λ yes. omega (arith, long, ap length ((bytes_eq-Decides text (codes "-")).0 yes))) in
-    let some : (length text == 0) ≡ false = grind (arith, nat_tests, long) in
-    ap (λ b. if b then Some [] else (if length text == 0 then None else result_ok (decode_of text))) no_hyphen
-    ∙ ap (λ b. if b then None else result_ok (decode_of text)) some
-    ∙ ap result_ok (decode_of-encode_lower (octet ∷ octets) bytes)
-
-pub datagram_field : (octets : List ℕ) → IsBytes octets → IsField (datagram_text octets)
-datagram_field [] bytes = All-cons (λ octet. 32 < octet) 45 [] (lit< tt) (All-nil (λ octet. 32 < octet))
-datagram_field (octet ∷ octets) bytes = hex_field (octet ∷ octets) bytes
 
 -- ---- Lines are read back
 
@@ -170,6 +74,10 @@ event_are (time_passed moment first second) h =
     (name_field (codes "tick") refl, (decimal_field moment h.0, (word_field first, (word_field second, tt))))
 event_are (leave_asked moment word) h =
     (name_field (codes "leave") refl, (decimal_field moment h.0, (word_field word, tt)))
+event_are (settings_given moment settings) h =
+    (name_field (codes "configure") refl, (decimal_field moment h.0, settings_are settings h.1))
+event_are (forget_asked moment ssrc) h =
+    (name_field (codes "forget") refl, (decimal_field moment h.0, (word_field ssrc, tt)))
 
 -- ---- Lines are read back
 
@@ -181,6 +89,8 @@ fields_read (packet_sent moment timestamp octets) h =
 fields_read (time_passed moment first second) h =
     rw (moment_read moment h.0, word_read first h.1, word_read second h.2) refl
 fields_read (leave_asked moment word) h = rw (moment_read moment h.0, word_read word h.1) refl
+fields_read (settings_given moment settings) h = rw (moment_read moment h.0, settings_read settings h.1) refl
+fields_read (forget_asked moment ssrc) h = rw (moment_read moment h.0, word_read ssrc h.1) refl
 
 fields_of_event : (event : EventValue) → EachIsField (event_fields event) → fields_of (event_text event)
     ≡ event_fields event
@@ -261,6 +171,19 @@ short_line (leave_asked moment word) h few = within 35 _ (lit≤ tt)
     (longer 29 5 (codes "leave") _ _ (lit< tt)
     (longer 8 20 (decimal moment) (hex_word word) _ (decimal_short moment h.0)
     (last_short 8 (hex_word word) (word_short word))))
+short_line (settings_given moment settings) h few = within 4472 _ (lit≤ tt)
+    (longer 4462 9 (codes "configure") _ _ (lit< tt)
+    (longer 4441 20 (decimal moment) (decimal settings.sender_bw) _ (decimal_short moment h.0)
+    (longer 4420 20 (decimal settings.sender_bw) (decimal settings.receiver_bw) _
+    (decimal_short settings.sender_bw (omega (arith, h.1.for_senders)))
+    (longer 4399 20 (decimal settings.receiver_bw) (clocks_text settings.clocks) _
+    (decimal_short settings.receiver_bw (omega (arith, h.1.for_others)))
+    (longer 3725 673 (clocks_text settings.clocks) (items_text settings.extras) _ (clocks_short settings h.1)
+    (last_short 3725 (items_text settings.extras) (items_short settings h.1)))))))
+short_line (forget_asked moment ssrc) h few = within 36 _ (lit≤ tt)
+    (longer 29 6 (codes "forget") _ _ (lit< tt)
+    (longer 8 20 (decimal moment) (hex_word ssrc) _ (decimal_short moment h.0)
+    (last_short 8 (hex_word ssrc) (word_short ssrc))))
 
 -- ---- A record
 
@@ -276,26 +199,6 @@ record_read (event ∷ events) h =
     ∙ ap (λ others. Ok event ∷ others) (record_read events (All-tail IsCallable event events h))
 
 -- ---- What is read can be told
-
-bind_ok : {A B : Type 0} (r : Result A LineFault) (f : A → Result B LineFault) (y : B) → (r >>= f) ≡ Ok y
-    → (x : A) × (r ≡ Ok x) × (f x ≡ Ok y)
-bind_ok (Ok x) f y h = (x, refl, h)
-bind_ok (Err fault) f y h = cc h
-
-ok_inside : {A : Type 0} (x y : A) → ◌≡◌ {A = Result A LineFault} (Ok x) (Ok y) → x ≡ y
-ok_inside x y same = ap (λ r. result_unwrap_or r x) same
-
-read_below : (bits : ℕ) (text : List ℕ) (fault : LineFault) (n : ℕ) → ok_or (decimal_in bits text) fault ≡ Ok n
-    → n < 2 ^ bits
-read_below bits text fault n h = go (is_decimal text && nat_lt (digits_value 10 text) (2 ^ bits)) refl h
-  where
-    go : (b : Bool) → (is_decimal text && nat_lt (digits_value 10 text) (2 ^ bits)) ≡ b
-        → ok_or (if b then Some (digits_value 10 text) else None) fault ≡ Ok n → n < 2 ^ bits
-    go true is same =
-        let small = ltb-true (digits_value 10 text) (2 ^ bits)
-        (and_parts (is_decimal text) (nat_lt (digits_value 10 text) (2 ^ bits)) is).1 in
-        subst (λ (m : ℕ). m < 2 ^ bits) (ok_inside _ n same) small
-    go false is same = cc same
 
 read_word : (text : List ℕ) (fault : LineFault) (n : ℕ) → ok_or (hex_in w32 text) fault ≡ Ok n → n < 2 ^ 32
 read_word text fault n h = go (decode_sized text 4) refl h
@@ -374,6 +277,22 @@ leave_callable (a ∷ b ∷ []) event h =
     (read_below 64 a Number moment.0 moment.1, read_word b Hex word.0 word.1)
 leave_callable fields event h = cc h
 
+configuring_callable : (fields : List (List ℕ)) (event : EventValue) → configuring fields ≡ Ok event → IsCallable event
+configuring_callable (a ∷ b ∷ c ∷ d ∷ e ∷ []) event h =
+    let moment = bind_ok (moment_in a) _ event h in
+    let settings = bind_ok (settings_in b c d e) _ event moment.2 in
+    subst IsCallable (ok_inside (settings_given moment.0 settings.0) event settings.2)
+    (read_below 64 a Number moment.0 moment.1, settings_callable b c d e settings.0 settings.1)
+configuring_callable fields event h = cc h
+
+forgetting_callable : (fields : List (List ℕ)) (event : EventValue) → forgetting fields ≡ Ok event → IsCallable event
+forgetting_callable (a ∷ b ∷ []) event h =
+    let moment = bind_ok (moment_in a) _ event h in
+    let ssrc = bind_ok (word_in b) _ event moment.2 in
+    subst IsCallable (ok_inside (forget_asked moment.0 ssrc.0) event ssrc.2)
+    (read_below 64 a Number moment.0 moment.1, read_word b Hex ssrc.0 ssrc.1)
+forgetting_callable fields event h = cc h
+
 kind_callable : (kind : Option LineKind) (fields : List (List ℕ)) (event : EventValue) → event_with kind fields
     ≡ Ok event → IsCallable event
 kind_callable None fields event h = cc h
@@ -384,6 +303,8 @@ kind_callable (Some Rtp) fields event h =
 kind_callable (Some Sent) fields event h = sending_callable fields event h
 kind_callable (Some Ticked) fields event h = tick_callable fields event h
 kind_callable (Some Left) fields event h = leave_callable fields event h
+kind_callable (Some Configured) fields event h = configuring_callable fields event h
+kind_callable (Some Forgotten) fields event h = forgetting_callable fields event h
 
 fields_callable : (fields : List (List ℕ)) (event : EventValue) → event_of fields ≡ Ok event → IsCallable event
 fields_callable [] event h = cc h

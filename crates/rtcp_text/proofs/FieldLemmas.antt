@@ -3,25 +3,41 @@ use Rattle.std.proofs.Common.{◌≡◌, ℕ, zero, suc, ◌<◌, ◌==◌, true
 use Rattle.std.specs.List.{onto_first}
 use Rattle.rtcp_text.specs.declared.event_line.LineKind.{LineKind}
 use Rattle.rtcp_text.specs.EventLines.{fields_of, kind_named, event_with, event_of, event_in}
+use Rattle.rtcp_text.specs.SettingsFields.{parts_at}
+
+-- The first part ends before the first separator.
+pub parts_at-split : (separator : ℕ) (octets : List ℕ) (end : ℕ) → end < length octets
+    → (slice_index octets end == separator) ≡ true → ((k : ℕ) → k < end → (slice_index octets k == separator) ≡ false)
+    → parts_at separator octets ≡ take end octets ∷ parts_at separator (drop (suc end) octets)
+parts_at-split separator [] end within found before = absurd (omega arith)
+parts_at-split separator (octet ∷ octets) zero within found before =
+    ap (λ b. cond b ([] ∷ parts_at separator octets) (onto_first octet (parts_at separator octets))) found
+parts_at-split separator (octet ∷ octets) (suc end) within found before =
+    ap (λ b. cond b ([] ∷ parts_at separator octets) (onto_first octet (parts_at separator octets)))
+    (before 0 (omega arith))
+    ∙ ap (onto_first octet)
+    (parts_at-split separator octets end (omega arith) found (λ k lt. before (suc k) (omega arith)))
+
+-- A text without separators is one part.
+pub parts_at-whole : (separator : ℕ) (octets : List ℕ)
+    → ((k : ℕ) → k < length octets → (slice_index octets k == separator) ≡ false) →
+    parts_at separator octets ≡ octets ∷ []
+parts_at-whole separator [] none = refl
+parts_at-whole separator (octet ∷ octets) none =
+    ap (λ b. cond b ([] ∷ parts_at separator octets) (onto_first octet (parts_at separator octets)))
+    (none 0 (omega arith))
+    ∙ ap (onto_first octet) (parts_at-whole separator octets (λ k lt. none (suc k) (omega arith)))
 
 -- The first field ends before the first space.
 pub fields_of-split : (octets : List ℕ) (end : ℕ) → end < length octets → (slice_index octets end == 32) ≡ true
     → ((k : ℕ) → k < end → (slice_index octets k == 32) ≡ false) →
     fields_of octets ≡ take end octets ∷ fields_of (drop (suc end) octets)
-fields_of-split [] end within space before = absurd (omega arith)
-fields_of-split (octet ∷ octets) zero within space before =
-    ap (λ b. cond b ([] ∷ fields_of octets) (onto_first octet (fields_of octets))) space
-fields_of-split (octet ∷ octets) (suc end) within space before =
-    ap (λ b. cond b ([] ∷ fields_of octets) (onto_first octet (fields_of octets))) (before 0 (omega arith))
-    ∙ ap (onto_first octet) (fields_of-split octets end (omega arith) space (λ k lt. before (suc k) (omega arith)))
+fields_of-split = parts_at-split 32
 
 -- A line without spaces is one field.
 pub fields_of-whole : (octets : List ℕ) → ((k : ℕ) → k < length octets → (slice_index octets k == 32) ≡ false) →
     fields_of octets ≡ octets ∷ []
-fields_of-whole [] none = refl
-fields_of-whole (octet ∷ octets) none =
-    ap (λ b. cond b ([] ∷ fields_of octets) (onto_first octet (fields_of octets))) (none 0 (omega arith))
-    ∙ ap (onto_first octet) (fields_of-whole octets (λ k lt. none (suc k) (omega arith)))
+fields_of-whole = parts_at-whole 32
 
 -- The event of a line by its first field.
 pub event_in-named : (line name : List ℕ) (fields : List (List ℕ)) (kind : LineKind) → fields_of line ≡ name ∷ fields →

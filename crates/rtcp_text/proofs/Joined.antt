@@ -1,8 +1,10 @@
 -- Texts with a separator between each two of them, one more text at a time.
-use Rattle.std.proofs.Common.{◌≡◌, ℕ, Bool, true, false, List, [], ◌∷◌, ◌++◌, map, refl, sym, ap, ◌∙◌, append_assoc}
+use Rattle.std.proofs.Common.{◌≡◌, ℕ, Bool, true, false, List, [], ◌∷◌, ◌++◌, ◌==◌, length, map, refl, sym, ap, ◌∙◌, append_assoc}
+use Rattle.std.specs.Borrow.{Bor}
 use Rattle.std.specs.Iterator.{Drains, YieldsFirstBy}
 use Rattle.std.specs.List.{join_with_byte}
 use Rattle.std.proofs.lemmas.List.{map_push, append-nil}
+use Rattle.rtcp_text.specs.SettingsFields.{list_text}
 
 -- no values
 abbrev pub is_none : {X : Type 0} → List X → Bool
@@ -50,3 +52,16 @@ texts_given view text all [] drains = ap (map text) (sym (drains.1.1 ∙ drains.
 texts_given view text all (x ∷ given) (last, (before, (left, first, others), ends)) =
     ap (λ (texts : List (List ℕ)). text (view x) ∷ texts)
     (texts_given view text left given (last, (before, others, ends))) ∙ ap (map text) (sym first)
+
+-- The texts of some values that a slice gives are a list of these values.
+pub list_text-joined : {A B : Type 0} (text : B → List ℕ) (value : A → B) (given : List (Bor A)) (all : List A)
+    → map (λ x. x.now) given ≡ all → false ≡ (length all == 0)
+    → join_with_byte 44 (map (λ x. text (value x.now)) given) ≡ list_text text (map value all)
+list_text-joined text value [] all same some = absurd (cc (ap length same))
+list_text-joined {A = A} text value (x ∷ given) all same some =
+    ap (λ (texts : List (List ℕ)). join_with_byte 44 (text (value x.now) ∷ texts)) (texts_of given)
+    ∙ ap (λ (values : List A). list_text text (map value values)) same
+  where
+    texts_of : (xs : List (Bor A)) → map (λ y. text (value y.now)) xs ≡ map text (map value (map (λ y. y.now) xs))
+    texts_of [] = refl
+    texts_of (y ∷ ys) = ap (λ (texts : List (List ℕ)). text (value y.now) ∷ texts) (texts_of ys)

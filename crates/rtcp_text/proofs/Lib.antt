@@ -8,14 +8,17 @@ mod DigitText
 mod EventRows
 mod EventTextLemmas
 mod FieldLemmas
+mod FieldTextLemmas
 mod Joined
 pub mod LawLemmas
 mod LinesLemmas
+pub mod ListLemmas
 mod NumeralLemmas
 mod ProgressLemmas
 mod ReplayLemmas
 mod RunLemmas
 mod SessionLemmas
+mod SettingsLemmas
 mod SpaceLemmas
 mod TailLemmas
 mod TextLemmas

@@ -1,7 +1,7 @@
 -- The text of a session: each line says one act or has one fault, and what holds a participant answers as its history
 -- does.
 use Rattle.std.proofs.Common.{◌≡◌, ℕ, ◌⊎◌, inl, inr, List, [], ◌++◌, Option, Result, Ok, Err, refl, sym, ◌∙◌, ap, subst, append_assoc}
-use Rattle.rtcp_engine.specs.Acts.{Act, rtcp_came, rtp_came, rtp_sent, ticked, left as asked_to_leave, EventValue, rtcp_arrived, rtp_arrived, packet_sent, time_passed, leave_asked, IsActOfEvent}
+use Rattle.rtcp_engine.specs.Acts.{Act, rtcp_came, rtp_came, rtp_sent, ticked, left as asked_to_leave, configured, forgotten, EventValue, rtcp_arrived, rtp_arrived, packet_sent, time_passed, leave_asked, settings_given, forget_asked, IsActOfEvent}
 use Rattle.rtcp_engine.specs.Steps.{AnswerValue}
 use Rattle.rtcp_engine.specs.Answers.{answer_of, followed_by}
 use Rattle.rtcp_engine.specs.Histories.{History}
@@ -28,6 +28,8 @@ act_exists (rtp_arrived moment peer word octets) =
 act_exists (packet_sent moment timestamp octets) = (rtp_sent moment timestamp octets, refl)
 act_exists (time_passed moment first_word second_word) = (ticked moment first_word second_word, refl)
 act_exists (leave_asked moment word) = (asked_to_leave moment word, refl)
+act_exists (settings_given moment settings) = (configured moment settings, refl)
+act_exists (forget_asked moment ssrc) = (forgotten moment ssrc, refl)
 
 one_act : (event : EventValue) (act act' : Act) → IsActOfEvent event act → IsActOfEvent event act' → act ≡ act'
 one_act (rtcp_arrived moment peer word octets) act act' h k = h.2 ∙ ap (rtcp_came moment peer word octets)
@@ -37,6 +39,8 @@ one_act (rtp_arrived moment peer word octets) act act' h k = h.2
 one_act (packet_sent moment timestamp octets) act act' h k = h ∙ sym k
 one_act (time_passed moment first_word second_word) act act' h k = h ∙ sym k
 one_act (leave_asked moment word) act act' h k = h ∙ sym k
+one_act (settings_given moment settings) act act' h k = h ∙ sym k
+one_act (forget_asked moment ssrc) act act' h k = h ∙ sym k
 
 -- ---- Each line has an answer or a fault, and only one
 

@@ -4,8 +4,10 @@ use Rattle.std.specs.Fmt.{decimal}
 use Rattle.hex.specs.Hex.{encode_lower}
 use Rattle.rtcp_wire.specs.declared.rtp.fault.RtpFault.{RtpFault}
 use Rattle.rtcp_wire.specs.declared.rtp.fault.RtpFault.TheVariants.{Short, Version, PayloadType, Extension, Padding}
+use Rattle.rtcp_engine.specs.declared.config.ConfigError.{ConfigError}
+use Rattle.rtcp_engine.specs.declared.config.ConfigError.TheVariants.{Cname, Capacity, Limit, Bandwidth, Rate, Item}
 use Rattle.rtcp_engine.specs.declared.refusal.Refusal.{Refusal}
-use Rattle.rtcp_engine.specs.declared.refusal.Refusal.TheVariants.{Left, Backwards, TooFar, TooMany, Wire, Rtp, OwnSsrc}
+use Rattle.rtcp_engine.specs.declared.refusal.Refusal.TheVariants.{Left, Backwards, TooFar, TooMany, Wire, Rtp, OwnSsrc, Settings}
 use Rattle.rtcp_engine.specs.declared.step.OutKind.{OutKind}
 use Rattle.rtcp_engine.specs.declared.step.OutKind.TheVariants.{Report, Bye}
 use Rattle.rtcp_engine.specs.Steps.{OutValue, StepValue, AnswerValue}
@@ -51,6 +53,15 @@ rtp_fault_text PayloadType = codes "G3 PayloadType"
 rtp_fault_text Extension = codes "G4 Extension"
 rtp_fault_text Padding = codes "G5 Padding"
 
+-- why a configuration is refused
+abbrev pub config_text : ConfigError → List ℕ
+config_text Cname = codes "C1 Cname"
+config_text Capacity = codes "C2 Capacity"
+config_text Limit = codes "C3 Limit"
+config_text Bandwidth = codes "C4 Bandwidth"
+config_text Rate = codes "C5 Rate"
+config_text Item = codes "C6 Item"
+
 abbrev pub refusal_text : Refusal → List ℕ
 refusal_text Left = codes "E1 Left"
 refusal_text Backwards = codes "E2 Backwards"
@@ -59,6 +70,7 @@ refusal_text TooMany = codes "E4 TooMany"
 refusal_text (Wire fault) = codes "E5 Wire: " ++ fault_words fault
 refusal_text (Rtp fault) = codes "E6 Rtp: " ++ rtp_fault_text fault
 refusal_text OwnSsrc = codes "E7 OwnSsrc"
+refusal_text (Settings error) = codes "E8 Settings: " ++ config_text error
 
 -- ---- Lines
 

@@ -7,13 +7,15 @@ use Rattle.std.specs.List.{slice_split}
 use Rattle.std.specs.Option.{ok_or}
 use Rattle.std.specs.Str.{bytes_eq}
 use Rattle.hex.specs.Hex.{IsBytes, encode_lower}
-use Rattle.rtcp_engine.specs.Acts.{EventValue, rtcp_arrived, rtp_arrived, packet_sent, time_passed, leave_asked}
+use Rattle.rtcp_engine.specs.Setups.{SettingsValue}
+use Rattle.rtcp_engine.specs.Acts.{EventValue, rtcp_arrived, rtp_arrived, packet_sent, time_passed, leave_asked, settings_given, forget_asked}
 use Rattle.rtcp_text.specs.declared.event_line.LineKind.{LineKind}
-use Rattle.rtcp_text.specs.declared.event_line.LineKind.TheVariants.{Rtcp, Rtp, Sent, Ticked, Left}
+use Rattle.rtcp_text.specs.declared.event_line.LineKind.TheVariants.{Rtcp, Rtp, Sent, Ticked, Left, Configured, Forgotten}
 use Rattle.rtcp_text.specs.declared.fault.LineFault.{LineFault}
 use Rattle.rtcp_text.specs.declared.fault.LineFault.TheVariants.{Words, Hex, Number}
 use Rattle.rtcp_text.specs.Numerals.{decimal_in, hex_in, datagram_in}
 use Rattle.rtcp_text.specs.Results.{◌>>=◌}
+use Rattle.rtcp_text.specs.SettingsFields.{AreSettingsOfFields, clocks_in, items_in, settings_fields}
 use Rattle.rtcp_text.specs.Text.{hex_word}
 
 -- ---- Fields
@@ -77,6 +79,36 @@ leave (moment ∷ word ∷ []) = do
   Ok (leave_asked now random)
 leave _ = Err Words
 
+-- The two bandwidths, the clocks and the items.
+abbrev pub settings_in : (senders others clocks items : List ℕ) → Result SettingsValue LineFault
+settings_in senders others clocks items = do
+  for_senders ← short_in senders
+  for_others ← short_in others
+  rates ← ok_or (clocks_in clocks) Number
+  extras ← ok_or (items_in items) Hex
+  Ok (record { sender_bw = for_senders; receiver_bw = for_others; clocks = rates; extras = extras })
+
+abbrev pub configuring : List (List ℕ) → Result EventValue LineFault
+configuring (moment ∷ senders ∷ others ∷ clocks ∷ items ∷ []) = do
+  now ← moment_in moment
+  settings ← settings_in senders others clocks items
+  Ok (settings_given now settings)
+configuring _ = Err Words
+
+abbrev pub forgetting : List (List ℕ) → Result EventValue LineFault
+forgetting (moment ∷ ssrc ∷ []) = do
+  now ← moment_in moment
+  source ← word_in ssrc
+  Ok (forget_asked now source)
+forgetting _ = Err Words
+
+-- what the first field of a line names, of what a host seldom tells
+abbrev pub seldom_named : List ℕ → Option LineKind
+seldom_named name =
+    if bytes_eq name (codes "configure") then Some Configured
+    else (if bytes_eq name (codes "forget") then Some Forgotten
+    else None)
+
 -- what the first field of a line names
 abbrev pub kind_named : List ℕ → Option LineKind
 kind_named name =
@@ -85,7 +117,7 @@ kind_named name =
     else (if bytes_eq name (codes "sent") then Some Sent
     else (if bytes_eq name (codes "tick") then Some Ticked
     else (if bytes_eq name (codes "leave") then Some Left
-    else None))))
+    else seldom_named name))))
 
 -- by the kind of the line, with the fields after the first
 abbrev pub event_with : Option LineKind → List (List ℕ) → Result EventValue LineFault
@@ -95,6 +127,8 @@ event_with (Some Rtp) fields = arrival rtp_arrived fields
 event_with (Some Sent) fields = sending fields
 event_with (Some Ticked) fields = tick fields
 event_with (Some Left) fields = leave fields
+event_with (Some Configured) fields = configuring fields
+event_with (Some Forgotten) fields = forgetting fields
 
 abbrev pub event_of : List (List ℕ) → Result EventValue LineFault
 event_of [] = Err Words
@@ -129,12 +163,14 @@ event_fields (packet_sent moment timestamp octets) =
 event_fields (time_passed moment first_word second_word) =
     codes "tick" ∷ decimal moment ∷ hex_word first_word ∷ hex_word second_word ∷ []
 event_fields (leave_asked moment word) = codes "leave" ∷ decimal moment ∷ hex_word word ∷ []
+event_fields (settings_given moment settings) = codes "configure" ∷ decimal moment ∷ settings_fields settings
+event_fields (forget_asked moment ssrc) = codes "forget" ∷ decimal moment ∷ hex_word ssrc ∷ []
 
 -- The line of an event, without its line feed.
 abbrev pub event_text : EventValue → List ℕ
 event_text event = spaced (event_fields event)
 
--- The numbers of an event are those of its call: 64 bits for moments and peers, 32 for the rest.
+-- The numbers of an event are those of its call: 64 bits for moments and peers, 8 for types, 32 for the rest.
 abbrev pub IsCallable : EventValue → Type 0
 IsCallable (rtcp_arrived moment peer word octets) =
     (moment < 2 ^ 64) × (peer < 2 ^ 64) × (word < 2 ^ 32) × IsBytes octets
@@ -144,6 +180,8 @@ IsCallable (packet_sent moment timestamp octets) = (moment < 2 ^ 64) × (timesta
 IsCallable (time_passed moment first_word second_word) =
     (moment < 2 ^ 64) × (first_word < 2 ^ 32) × (second_word < 2 ^ 32)
 IsCallable (leave_asked moment word) = (moment < 2 ^ 64) × (word < 2 ^ 32)
+IsCallable (settings_given moment settings) = (moment < 2 ^ 64) × AreSettingsOfFields settings
+IsCallable (forget_asked moment ssrc) = (moment < 2 ^ 64) × (ssrc < 2 ^ 32)
 
 -- the octets of the datagram that an event brings
 abbrev pub datagram_in_event : EventValue → List ℕ
@@ -152,3 +190,5 @@ datagram_in_event (rtp_arrived moment peer word octets) = octets
 datagram_in_event (packet_sent moment timestamp octets) = []
 datagram_in_event (time_passed moment first_word second_word) = []
 datagram_in_event (leave_asked moment word) = []
+datagram_in_event (settings_given moment settings) = []
+datagram_in_event (forget_asked moment ssrc) = []

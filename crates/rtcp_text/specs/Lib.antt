@@ -2,6 +2,7 @@ pub mod Text
 pub mod AnswerText
 pub mod Numerals
 pub mod Results
+pub mod SettingsFields
 pub mod EventLines
 pub mod Lines
 pub mod Check

@@ -30,3 +30,7 @@ abbrev pub datagram_in : List ℕ → Option (List ℕ)
 datagram_in text =
     if bytes_eq text (codes "-") then Some []
     else (if length text == 0 then None else result_ok (decode_of text))
+
+-- At most 255 octets, two digits an octet.
+abbrev pub hex_text_in : List ℕ → Option (List ℕ)
+hex_text_in text = if nat_le (length text) 510 then result_ok (decode_of text) else None

@@ -1,17 +1,20 @@
 //! A line of a session, as `rtcp replay` reads it.
 
 ghost use Rattle.std.specs.Prelude.{◌≡◌, ◌==◌, ◌<◌, ℕ, true, false, length, slice_index, List, ◌∷◌, [], Ok, Err, IfOk, IfErr, IfSome, IfNone};
-ghost use Rattle.rtcp_engine.specs.Acts.{EventValue};
-ghost use Rattle.rtcp_engine.specs.Views.{event_value};
-ghost use Rattle.rtcp_text.specs.EventLines.{arrival, event_in, fields_left, fields_of, kind_named, leave, moment_in, octets_in, sending, tick};
+ghost use Rattle.rtcp_engine.specs.Acts.{EventValue, settings_given};
+ghost use Rattle.rtcp_engine.specs.Views.{event_value, settings_value};
+ghost use Rattle.rtcp_text.specs.EventLines.{arrival, configuring, event_in, fields_left, fields_of, forgetting, kind_named, leave, moment_in, octets_in, seldom_named, sending, tick};
 ghost use Rattle.rtcp_text.specs.declared.event_line.EventFault.TheVariants.{Line};
 ghost use Rattle.rtcp_text.specs.declared.fault.LineFault.{LineFault as Fault};
 
 use crate::digit_pairs::{DecodeFault, decode};
 use crate::fault::LineFault;
 use crate::numerals::{read_decimal, read_short_decimal, read_word};
+use crate::settings_fields::{read_clocks, read_items};
+use arrayvec::ArrayVec;
 use memchr::memchr;
-use rtcp_engine::Event;
+use rtcp_engine::{Event, Settings};
+use std::alloc::Global;
 use std::simd::prelude::*;
 use thiserror::Error;
 
@@ -37,16 +40,37 @@ impl From<LineFault> for EventFault {
     }
 }
 
-/// The event that a line says. The octets of its datagram, if it has one, go into `datagram`, a buffer that
-/// is kept from line to line.
+/// What an event borrows that a line says, kept from line to line: the octets of its datagram, and settings.
+#[derive(Drop)]
+pub struct EventBuffers {
+    datagram: Vec<u8>,
+    settings: Settings,
+}
+
+impl EventBuffers {
+    /// Buffers without octets and settings.
+    pub fn new(alloc: Global) -> EventBuffers {
+        EventBuffers {
+            datagram: Vec::new(alloc),
+            settings: Settings {
+                sender_bw: 0,
+                receiver_bw: 0,
+                clocks: ArrayVec::new(),
+                extras: ArrayVec::new(),
+            },
+        }
+    }
+}
+
+/// The event that a line says. What it borrows goes into `buffers`.
 ///
 /// # Errors
 ///
 /// - [`EventFault::Line`] where the line has a fault: the first one.
 /// - [`EventFault::Memory`] where memory is refused.
 ///
-/// After an error it is left open what the buffer holds.
-pub fn read_event<'a>(line: &[u8], datagram: &'a mut Vec<u8>) -> Result<Event<'a>, EventFault>
+/// After an error it is left open what the buffers hold.
+pub fn read_event<'a>(line: &[u8], buffers: &'a mut EventBuffers) -> Result<Event<'a>, EventFault>
     ensures event { IfOk result (λ event. event_in line.now ≡ Ok (event_value event)) }
     ensures fault { (fault : Fault) → result ≡ Err (Line fault) → event_in line.now ≡ Err fault }
 {
@@ -54,7 +78,7 @@ pub fn read_event<'a>(line: &[u8], datagram: &'a mut Vec<u8>) -> Result<Event<'a
     let fields = Fields { rest };
     match kind_of(name).ok_or(LineFault::Words)? {
         LineKind::Rtcp => {
-            let came = read_arrival(fields, datagram)?;
+            let came = read_arrival(fields, &mut buffers.datagram)?;
             Ok(Event::ArriveRtcp {
                 now: came.now,
                 peer: came.peer,
@@ -63,7 +87,7 @@ pub fn read_event<'a>(line: &[u8], datagram: &'a mut Vec<u8>) -> Result<Event<'a
             })
         }
         LineKind::Rtp => {
-            let came = read_arrival(fields, datagram)?;
+            let came = read_arrival(fields, &mut buffers.datagram)?;
             Ok(Event::ArriveRtp {
                 now: came.now,
                 peer: came.peer,
@@ -74,6 +98,15 @@ pub fn read_event<'a>(line: &[u8], datagram: &'a mut Vec<u8>) -> Result<Event<'a
         LineKind::Sent => Ok(read_sending(fields)?),
         LineKind::Ticked => Ok(read_tick(fields)?),
         LineKind::Left => Ok(read_leave(fields)?),
+        LineKind::Configured => {
+            let (now, settings) = read_configuring(fields)?;
+            buffers.settings = settings;
+            Ok(Event::Configure {
+                now,
+                settings: &buffers.settings,
+            })
+        }
+        LineKind::Forgotten => Ok(read_forgetting(fields)?),
     }
 }
 
@@ -90,6 +123,10 @@ enum LineKind {
     Ticked,
     /// The participant is to leave.
     Left,
+    /// The host gave other settings.
+    Configured,
+    /// A source is gone.
+    Forgotten,
 }
 
 /// What the first field of a line names.
@@ -102,7 +139,20 @@ fn kind_of(name: &[u8]) -> Option<LineKind>
         b"sent" => Some(LineKind::Sent),
         b"tick" => Some(LineKind::Ticked),
         b"leave" => Some(LineKind::Left),
-        _ => None,
+        _ => seldom_kind_of(name),
+    }
+}
+
+/// What the first field of a line names, of what a host seldom tells.
+fn seldom_kind_of(name: &[u8]) -> Option<LineKind>
+    ensures { result ≡ seldom_named name.now }
+{
+    if name == b"configure".as_slice() {
+        Some(LineKind::Configured)
+    } else if name == b"forget".as_slice() {
+        Some(LineKind::Forgotten)
+    } else {
+        None
     }
 }
 
@@ -201,6 +251,46 @@ fn read_leave(mut fields: Fields<'_>) -> Result<Event<'static>, LineFault>
     Ok(Event::Leave {
         now: read_moment(moment)?,
         w: read_word(word).ok_or(LineFault::Hex)?,
+    })
+}
+
+/// The moment and the settings of a line that gives settings.
+fn read_configuring(mut fields: Fields<'_>) -> Result<(u64, Settings), LineFault>
+    ensures given { IfOk result (λ given.
+        configuring (fields_left fields.entry.rest) ≡ Ok (settings_given given.0 (settings_value given.1))) }
+    ensures fault { IfErr result (λ fault. configuring (fields_left fields.entry.rest) ≡ Err fault) }
+{
+    let (Some(moment), Some(senders), Some(others), Some(clocks), Some(items), None) = (
+        fields.next(),
+        fields.next(),
+        fields.next(),
+        fields.next(),
+        fields.next(),
+        fields.next(),
+    ) else {
+        return Err(LineFault::Words);
+    };
+    let now = read_moment(moment)?;
+    let settings = Settings {
+        sender_bw: read_short_decimal(senders).ok_or(LineFault::Number)?,
+        receiver_bw: read_short_decimal(others).ok_or(LineFault::Number)?,
+        clocks: read_clocks(clocks).ok_or(LineFault::Number)?,
+        extras: read_items(items).ok_or(LineFault::Hex)?,
+    };
+    Ok((now, settings))
+}
+
+/// The event of a source that is gone.
+fn read_forgetting(mut fields: Fields<'_>) -> Result<Event<'static>, LineFault>
+    ensures event { IfOk result (λ event. forgetting (fields_left fields.entry.rest) ≡ Ok (event_value event)) }
+    ensures fault { IfErr result (λ fault. forgetting (fields_left fields.entry.rest) ≡ Err fault) }
+{
+    let (Some(moment), Some(ssrc), None) = (fields.next(), fields.next(), fields.next()) else {
+        return Err(LineFault::Words);
+    };
+    Ok(Event::Forget {
+        now: read_moment(moment)?,
+        ssrc: read_word(ssrc).ok_or(LineFault::Hex)?,
     })
 }
 

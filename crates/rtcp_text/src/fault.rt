@@ -1,5 +1,8 @@
 //! How a run over text ends where it does not end well.
 
+ghost use Rattle.std.specs.Prelude.{◌≡◌};
+ghost use Rattle.rtcp_text.specs.AnswerText.{config_text};
+
 use rtcp_engine::ConfigError;
 use std::fmt;
 use thiserror::Error;
@@ -66,7 +69,9 @@ impl fmt::Display for ReplayFault {
 }
 
 /// The number of a rule of configurations and its name.
-pub fn config_name(error: ConfigError) -> &'static str {
+pub fn config_name(error: ConfigError) -> &'static str
+    ensures { result.now ≡ config_text error }
+{
     match error {
         ConfigError::Cname => "C1 Cname",
         ConfigError::Capacity => "C2 Capacity",

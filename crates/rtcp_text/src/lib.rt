@@ -11,11 +11,11 @@
 //! assert_eq!(rt; text.as_slice(), b"ok RR(00000007,[],0)\nF1 Short at 0\n".as_slice());
 //! ```
 //!
-//! `specs/` defines the texts of packets and faults (`Text`), of answers (`AnswerText`), of event lines (`EventLines`)
-//! and of whole inputs (`Lines`, `Check`, `Replay`). `laws` states that each input has one text.
+//! `specs/` defines the texts of packets and faults (`Text`), of answers (`AnswerText`), of event lines (`EventLines`,
+//! `SettingsFields`) and of whole inputs (`Lines`, `Check`, `Replay`). `laws` states that each input has one text.
 //!
-//! The modules `answerer`, `blocks`, `event_line`, `numerals` and `text` are parts for programs with texts of their
-//! own, and for the tests.
+//! The modules `answerer`, `blocks`, `event_line`, `numerals`, `settings_fields` and `text` are parts for programs with
+//! texts of their own, and for the tests.
 #![tactic(auto)]
 
 mod answer;
@@ -32,6 +32,7 @@ pub mod numerals;
 mod player;
 pub mod record;
 pub mod replay;
+pub mod settings_fields;
 pub mod text;
 mod writing;
 

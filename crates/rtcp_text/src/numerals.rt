@@ -1,10 +1,12 @@
 //! Numbers as fields of a line and options of a command line write them.
 
-ghost use Rattle.std.specs.Prelude.{◌≡◌, ◌<◌, ◌≤◌, length, MatchOption};
+ghost use Rattle.std.specs.Prelude.{◌≡◌, ◌<◌, ◌≤◌, length, option_map, MatchOption};
 ghost use Rattle.std.specs.Char.{digit_value};
 ghost use Rattle.std.specs.Int.{w32, w64};
 ghost use Rattle.std.specs.Str.Parse.{AllDigits, digits_value};
-ghost use Rattle.rtcp_text.specs.Numerals.{decimal_in, hex_in};
+ghost use Rattle.rtcp_text.specs.Numerals.{decimal_in, hex_in, hex_text_in};
+
+use arrayvec::ArrayVec;
 
 /// The most digits of a decimal number. That is as many as the greatest number of 64 bits has.
 const MAX_DIGITS: usize = 20;
@@ -53,6 +55,13 @@ pub fn read_short_decimal(text: &[u8]) -> Option<u32>
     u32::try_from(read_decimal(text)?).ok()
 }
 
+/// The number that 1 to 20 decimal digits write, unless it takes more than 8 bits.
+pub(crate) fn read_small_decimal(text: &[u8]) -> Option<u8>
+    ensures { result ≡ decimal_in 8 text.now }
+{
+    u8::try_from(read_decimal(text)?).ok()
+}
+
 /// The number that eight hex digits of either case write.
 pub fn read_word(text: &[u8]) -> Option<u32>
     ensures { result ≡ hex_in w32 text.now }
@@ -69,4 +78,19 @@ pub fn read_long(text: &[u8]) -> Option<u64>
     let mut octets = [0; 8];
     hex::decode_to_slice(text, &mut octets).ok()?;
     Some(u64::from_be_bytes(octets))
+}
+
+/// At most 255 octets, in hex of either case.
+pub fn read_hex_text(text: &[u8]) -> Option<ArrayVec<u8, 255>>
+    ensures { option_map (λ read. read.items) result ≡ hex_text_in text.now }
+{
+    if text.len() > 510 {
+        return None;
+    }
+    let mut buffer = [0; 255];
+    let decoded = &mut buffer[..text.len() / 2];
+    hex::decode_to_slice(text, decoded).ok()?;
+    let mut octets = ArrayVec::new();
+    octets.try_extend_from_slice(decoded).ok()?;
+    Some(octets)
 }

@@ -3,7 +3,7 @@
 ghost use Rattle.std.specs.Prelude.{◌≡◌};
 
 use crate::answerer::Answerer;
-use crate::event_line::{EventFault, read_event};
+use crate::event_line::{EventBuffers, EventFault, read_event};
 use crate::fault::TextFault;
 use crate::text::push_reply;
 use arrayvec::ArrayVec;
@@ -12,23 +12,23 @@ use rtcp_members::MemberTable;
 use rtcp_wire::MAX_COMPOUND;
 use std::alloc::{AllocError, Global};
 
-/// Tells a participant the event of each line. The buffer of the datagrams and the room for compounds are kept
+/// Tells a participant the event of each line. The buffers of the events and the room for compounds are kept
 /// from line to line.
 #[derive(Drop)]
 pub(crate) struct Player<T: MemberTable> {
     participant: Participant<T>,
-    datagram: Vec<u8>,
+    buffers: EventBuffers,
     compound: ArrayVec<u8, MAX_COMPOUND>,
 }
 
 impl<T: MemberTable> Player<T> {
-    /// A player with an empty buffer and an empty room.
+    /// A player with empty buffers and an empty room.
     pub(crate) fn new(alloc: Global, participant: Participant<T>) -> Self
         ensures { result.participant ≡ participant }
     {
         Player {
             participant,
-            datagram: Vec::new(alloc),
+            buffers: EventBuffers::new(alloc),
             compound: ArrayVec::new(),
         }
     }
@@ -42,7 +42,7 @@ impl<T: MemberTable + Drop> Answerer for Player<T> {
     ghost refuses = { IsNoEvent };
 
     fn compose(&mut self, number: u64, line: &[u8], text: &mut Vec<u8>) -> Result<(), TextFault> {
-        let event = match read_event(line, &mut self.datagram) {
+        let event = match read_event(line, &mut self.buffers) {
             Ok(event) => event,
             Err(EventFault::Line(fault)) => {
                 return Err(TextFault::Text {

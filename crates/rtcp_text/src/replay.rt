@@ -139,7 +139,7 @@ pub fn replay_up_to<R: Read, W: Write>(
     if let Some(error) = config.error() {
         return Err(ReplayFault::Config(error));
     }
-    let Ok(table) = HeapTable::with_room(alloc, config.capacity, config.rate) else {
+    let Ok(table) = HeapTable::with_room(alloc, config.capacity) else {
         return Err(ReplayFault::Run(TextFault::Memory));
     };
     let participant = Participant::with_table(config, table, word);

@@ -19,6 +19,7 @@ mod goodbyes;
 mod joined;
 mod others;
 mod reports;
+mod settings;
 mod tail;
 
 pub(crate) use answers::push_reply;

@@ -42,6 +42,7 @@ pub fn configured(setup: Setup) -> Config {
         sender_bw: senders,
         receiver_bw: setup.bandwidth - senders,
         rate: 8_000,
+        clocks: ArrayVec::new(),
         ntp_base: 0xeead_0eea_0000_0000,
     }
 }
@@ -57,7 +58,7 @@ impl Host {
         if let Some(_) = config.error() {
             return Ok(None);
         }
-        let table = HeapTable::with_room(alloc, config.capacity, config.rate)?;
+        let table = HeapTable::with_room(alloc, config.capacity)?;
         let participant = Participant::with_table(config, table, setup.word);
         let next = participant.next().unwrap_or(u64::MAX);
         Ok(Some(Host {

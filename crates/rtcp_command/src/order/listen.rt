@@ -138,7 +138,7 @@ pub(super) fn subcommand<'a>(alloc: Global) -> Result<Command<'a>, AllocError> {
 /// - [`OrderFault::Option`] with the first option whose value is refused.
 /// - [`OrderFault::Memory`] where memory is refused.
 pub(super) fn order(alloc: Global, matches: &ArgMatches<'_>) -> Result<Order, OrderFault>
-    ensures read { IsListenOrder result (listen_in (texts_found (first_value (found_of matches.now)))
+    ensures read { IsListenOrder result (listen_in (texts_found (found_of matches.now))
         (link_texts_found (first_value (found_of matches.now)))) }
     ensures turns { IfOk result HasTurns }
 {

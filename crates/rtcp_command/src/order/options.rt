@@ -17,6 +17,8 @@ pub(super) enum Absent {
     Is(&'static str),
     /// Nothing.
     Nothing,
+    /// No texts: the option may be given again, and then has one more.
+    IsEmpty,
     /// The option takes no value: it is a flag, whose text is `true` where it is given, and else `false`.
     IsFlag,
 }
@@ -25,7 +27,7 @@ pub(super) enum Absent {
 pub(super) type Row = (&'static str, &'static str, Absent, &'static str);
 
 /// The options that configure a participant, in the order in which they are looked at.
-pub(super) const PARTICIPANT: [Row; 16] = [
+pub(super) const PARTICIPANT: [Row; 17] = [
     ("ssrc", "HEX", Absent::Refused, "SSRC, 8 hex digits"),
     ("cname", "TEXT", Absent::Refused, "CNAME, 1 to 255 octets"),
     (
@@ -63,6 +65,12 @@ pub(super) const PARTICIPANT: [Row; 16] = [
         "N",
         Absent::Is("8000"),
         "Units a second of the media's clock, 1 to 1048576",
+    ),
+    (
+        "clock",
+        "PT:RATE",
+        Absent::IsEmpty,
+        "Clock of a payload type, 0 to 127, in units a second, up to 16 times",
     ),
     (
         "ntp",
@@ -104,6 +112,7 @@ pub(super) fn with_options<'a>(
             Absent::Refused => valued(option, value).required(true),
             Absent::Is(text) => valued(option, value).default_value(text),
             Absent::Nothing => valued(option, value),
+            Absent::IsEmpty => option.value_name(value).action(ArgAction::Append),
             Absent::IsFlag => option.action(ArgAction::SetTrue),
         })?;
     }
@@ -116,8 +125,8 @@ fn valued<'a>(option: Arg<'a>, value: &'a str) -> Arg<'a> {
 }
 
 /// The texts of the options that configure a participant.
-pub(super) fn participant<'a>(matches: &ArgMatches<'a>) -> Options<'a>
-    ensures { texts_of result ≡ texts_found (first_value (found_of matches.now)) }
+pub(super) fn participant<'m, 'a>(matches: &'m ArgMatches<'a>) -> Options<'m, 'a>
+    ensures { texts_of result ≡ texts_found (found_of matches.now) }
 {
     Options {
         ssrc: given(matches, "ssrc"),
@@ -128,6 +137,7 @@ pub(super) fn participant<'a>(matches: &ArgMatches<'a>) -> Options<'a>
         sender_bw: matches.get_str("sender-bw"),
         receiver_bw: matches.get_str("receiver-bw"),
         rate: given(matches, "rate"),
+        clocks: matches.get_strs("clock"),
         ntp: given(matches, "ntp"),
         name: matches.get_str("name"),
         email: matches.get_str("email"),

@@ -22,6 +22,11 @@ Pipe in one event a line, with its moment in microseconds since the session bega
     sent MOMENT TIMESTAMP OCTETS  the host sent an RTP packet with so many octets of payload
     tick MOMENT WORD WORD         the host asks what is due, with two random words
     leave MOMENT WORD             the host asks the participant to leave, with a random word
+    configure MOMENT SENDERS OTHERS CLOCKS ITEMS
+                                  the host gives other settings: the two bandwidths in octets a
+                                  second, clocks as 96:90000, and items as 6:72617474, in hex,
+                                  each list with commas, or - where it is empty
+    forget MOMENT SSRC            the host says that a source is gone
 
 PEER is a number below 2^64 for where a datagram came from, and its random word is for a new SSRC.
 
@@ -75,7 +80,7 @@ pub(super) fn subcommand<'a>(alloc: Global) -> Result<Command<'a>, AllocError> {
 ///
 /// [`OrderFault::Option`] with the first option whose value is refused.
 pub(super) fn order(matches: &ArgMatches<'_>) -> Result<TextOrder, OrderFault>
-    ensures { IsReplayOrder result (replay_in (texts_found (first_value (found_of matches.now)))
+    ensures { IsReplayOrder result (replay_in (texts_found (found_of matches.now))
         (text_found (first_value (found_of matches.now)) (codes "word"))
         (text_found (first_value (found_of matches.now)) (codes "lines"))) }
 {

@@ -212,6 +212,37 @@ fn has_extras(rt: &impl Abort, config: &Config, extras: &[(u8, &[u8])], row: usi
     }
 }
 
+/// Clocks are taken in their order: 16 of them, and no more.
+#[test]
+fn clocks(rt: HostRuntime) -> Result<(), Fail> {
+    let alloc = rt.alloc();
+    let some = [
+        "--clock",
+        "96:90000",
+        "--clock=0:0",
+        "--clock",
+        "0127:4294967295",
+        "--clock",
+        "96:1",
+    ];
+    let (config, _) = replayed(alloc, &with(alloc, REQUIRED, &some)?)?;
+    let want = [(96, 90_000), (0, 0), (127, u32::MAX), (96, 1)];
+    assert_eq!(rt; config.clocks.len(), want.len());
+    for (clock, (payload_type, rate)) in config.clocks.iter().zip(&want) {
+        assert_eq!(rt; (clock.payload_type, clock.rate), (*payload_type, *rate));
+    }
+    let mut words = with(alloc, REQUIRED, &[])?;
+    let (config, _) = replayed(alloc, &words)?;
+    assert!(rt; config.clocks.is_empty());
+    for _ in 0..16 {
+        words.extend_from_slice(&["--clock", "1:2"])?;
+    }
+    let (config, _) = replayed(alloc, &words)?;
+    assert_eq!(rt; config.clocks.len(), 16);
+    words.extend_from_slice(&["--clock", "1:2"])?;
+    refused_at(&rt, alloc, &words, "clock")
+}
+
 /// Texts of items of 255 octets are taken, and longer ones are not.
 #[test]
 fn longest_texts(rt: HostRuntime) -> Result<(), Fail> {
@@ -239,7 +270,7 @@ fn longest_texts(rt: HostRuntime) -> Result<(), Fail> {
 }
 
 /// Words, options after them, and the option that is refused.
-static REFUSED: [(&[&str], &[&str], &str); 43] = [
+static REFUSED: [(&[&str], &[&str], &str); 52] = [
     (REQUIRED, &["--capacity", "4294967296"], "capacity"),
     (REQUIRED, &["--capacity", ""], "capacity"),
     (REQUIRED, &["--capacity", "+1"], "capacity"),
@@ -266,6 +297,19 @@ static REFUSED: [(&[&str], &[&str], &str); 43] = [
         "receiver-bw",
     ),
     (REQUIRED, &["--rate", "4294967296"], "rate"),
+    (REQUIRED, &["--clock", "8000"], "clock"),
+    (REQUIRED, &["--clock", ""], "clock"),
+    (REQUIRED, &["--clock", "128:8000"], "clock"),
+    (REQUIRED, &["--clock", "0:4294967296"], "clock"),
+    (REQUIRED, &["--clock", "0:8000:1"], "clock"),
+    (REQUIRED, &["--clock", "0:8000,8:8000"], "clock"),
+    (
+        REQUIRED,
+        &["--clock", "0:8000", "--clock", "x:8000"],
+        "clock",
+    ),
+    (REQUIRED, &["--ntp", "", "--clock", ""], "clock"),
+    (REQUIRED, &["--clock", "", "--rate", ""], "rate"),
     (REQUIRED, &["--ntp", "000000000000000"], "ntp"),
     (REQUIRED, &["--ntp", "00000000000000000"], "ntp"),
     (REQUIRED, &["--ntp", "000000000000000g"], "ntp"),

@@ -2,7 +2,7 @@
 
 use arrayvec::ArrayVec;
 use rtcp_command::replay_command::replay_line;
-use rtcp_engine::{Config, Item};
+use rtcp_engine::{Clock, Config, Item};
 use std::test::Fail;
 
 /// A text of at most 255 octets.
@@ -32,6 +32,7 @@ fn config() -> Config {
         sender_bw: 100,
         receiver_bw: 300,
         rate: 8000,
+        clocks: ArrayVec::new(),
         ntp_base: 0x0102_0304_0506_0708,
     }
 }
@@ -43,6 +44,23 @@ fn quoted(rt: HostRuntime) -> Result<(), Fail> {
     let want = "rtcp replay --ssrc 000000aa --cname '$a b'\\''' --capacity 1024 --limit 1472 \
         --sender-bw 100 --receiver-bw 300 --rate 8000 --ntp 0102030405060708 \
         --tool 'it'\\''s 1' --priv 00ff --word 000000bb --lines 4294967295 < 'my record'\n";
+    assert_eq!(rt; line.as_slice(), want.as_bytes());
+    Ok(())
+}
+
+/// Each clock is an option, in their order.
+#[test]
+fn clocks(rt: HostRuntime) -> Result<(), Fail> {
+    let mut config = config();
+    config.cname = text(b"a");
+    config.extras = ArrayVec::new();
+    for (payload_type, rate) in [(96, 90_000), (0, 8_000)] {
+        let _ = config.clocks.try_push(Clock { payload_type, rate });
+    }
+    let line = replay_line(rt.alloc(), &config, 0xbb, "call")?;
+    let want = "rtcp replay --ssrc 000000aa --cname 'a' --capacity 1024 --limit 1472 \
+        --sender-bw 100 --receiver-bw 300 --rate 8000 --clock 96:90000 --clock 0:8000 \
+        --ntp 0102030405060708 --word 000000bb --lines 4294967295 < 'call'\n";
     assert_eq!(rt; line.as_slice(), want.as_bytes());
     Ok(())
 }

@@ -40,6 +40,7 @@ pub(crate) fn participant(rt: &impl Abort) -> Participant<SortedTable> {
         sender_bw: 100,
         receiver_bw: 300,
         rate: 8_000,
+        clocks: ArrayVec::new(),
         ntp_base: 0,
     };
     match Participant::new(config, 0) {

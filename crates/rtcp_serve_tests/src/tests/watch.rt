@@ -160,6 +160,8 @@ fn happening_of(alloc: Global, event: &Event<'_>) -> Result<Happening, AllocErro
         } => Ok(Happening::SentRtp(now, rtp_ts, octets)),
         Event::Tick { now, w1, w2 } => Ok(Happening::Tick(now, w1, w2)),
         Event::Leave { now, w } => Ok(Happening::Leave(now, w)),
+        // What only a host tells is not noted: `serve` never tells it.
+        Event::Configure { .. } | Event::Forget { .. } => Err(AllocError),
     }
 }
 

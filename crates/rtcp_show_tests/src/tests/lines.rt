@@ -1,7 +1,8 @@
 //! The lines of events and their answers.
 
 use super::{PEER, named, same, taken};
-use rtcp_engine::{Answer, Event, Refusal};
+use arrayvec::ArrayVec;
+use rtcp_engine::{Answer, ConfigError, Event, Refusal, Settings};
 use rtcp_show::push_lines;
 use rtcp_wire::{FaultReason, RtpFault, WireFault};
 use std::alloc::Global;
@@ -79,6 +80,41 @@ fn media(rt: HostRuntime) -> Result<(), Fail> {
         &event,
         &Err(Refusal::Rtp(RtpFault::Short)),
         want,
+    )
+}
+
+/// So are settings and dismissals.
+#[test]
+fn hosts(rt: HostRuntime) -> Result<(), Fail> {
+    let settings = Settings {
+        sender_bw: 16,
+        receiver_bw: 0,
+        clocks: ArrayVec::new(),
+        extras: ArrayVec::new(),
+    };
+    let configure = Event::Configure {
+        now: 5_000_000,
+        settings: &settings,
+    };
+    let forget = Event::Forget {
+        now: 5_000_000,
+        ssrc: 7,
+    };
+    shows(&rt, rt.alloc(), &configure, &taken(None, None), "")?;
+    shows(&rt, rt.alloc(), &forget, &taken(None, None), "")?;
+    shows(
+        &rt,
+        rt.alloc(),
+        &configure,
+        &Err(Refusal::Settings(ConfigError::Bandwidth)),
+        "5.000000 refused E8 Settings: C4 Bandwidth\n",
+    )?;
+    shows(
+        &rt,
+        rt.alloc(),
+        &forget,
+        &Err(Refusal::Backwards),
+        "5.000000 refused E2 Backwards\n",
     )
 }
 

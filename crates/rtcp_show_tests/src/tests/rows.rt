@@ -25,7 +25,7 @@ fn state() -> SourceState {
 /// The row of a source.
 fn row(alloc: Global, state: &SourceState, note: &Note) -> Result<Vec<u8>, Fail> {
     let mut text = Vec::new(alloc);
-    push_row(&mut text, 90_000, state, note)?;
+    push_row(&mut text, state, note)?;
     Ok(text)
 }
 
@@ -69,6 +69,7 @@ fn receptions(rt: HostRuntime) -> Result<(), Fail> {
         lost: -3,
         highest: 9,
         jitter: 91,
+        rate: 90_000,
     });
     let note = Note {
         cname: None,

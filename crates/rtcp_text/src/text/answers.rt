@@ -2,12 +2,14 @@
 
 ghost use Rattle.std.specs.Prelude.{◌≡◌, ◌+◌, ◌≤◌, ◌++◌, OnOk, codes, drop, option_map};
 ghost use Rattle.rtcp_engine.specs.Views.{answer_value, out_value, out_with, reply_value, step_value, told_value};
+ghost use Rattle.rtcp_engine.specs.declared.refusal.Refusal.TheVariants.{Settings};
 ghost use Rattle.rtcp_text.specs.AnswerText.{answer_text, changed_text, counts_text, kind_text, next_text, out_text, refusal_text, rtp_fault_text, start_text, step_text};
 
 use super::digits::{push_octets, push_word};
 use super::push_fault_words;
 use super::tail::Tail;
-use rtcp_engine::{Answer, Out, OutKind, Refusal, Reply, Step, Told};
+use crate::fault::config_name;
+use rtcp_engine::{Answer, ConfigError, Out, OutKind, Refusal, Reply, Step, Told};
 use rtcp_wire::RtpFault;
 use std::alloc::AllocError;
 
@@ -188,7 +190,17 @@ fn push_refusal(out: &mut Vec<u8>, refusal: &Refusal) -> Result<(), AllocError>
             out.extend_from_slice(rtp_fault_name(*fault).as_bytes())
         }
         Refusal::OwnSsrc => out.extend_from_slice(b"E7 OwnSsrc"),
+        Refusal::Settings(error) => push_settings_refusal(out, *error),
     }
+}
+
+/// Appends that settings were refused, and why.
+fn push_settings_refusal(out: &mut Vec<u8>, error: ConfigError) -> Result<(), AllocError>
+    ensures { OnOk result (out.new.items ≡ out.old.items ++ refusal_text (Settings error)) }
+{
+    out.extend_from_slice(b"E8 Settings: ")?;
+    out.extend_from_slice(config_name(error).as_bytes())?;
+    Ok(())
 }
 
 /// The number of a rule of RTP heads and its name.

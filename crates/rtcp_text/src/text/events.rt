@@ -6,6 +6,7 @@ ghost use Rattle.rtcp_engine.specs.Views.{event_value};
 ghost use Rattle.rtcp_text.specs.EventLines.{arrival_fields, datagram_text, event_text, spaced};
 
 use super::digits::{push_decimal, push_octets, push_word};
+use super::settings::push_settings;
 use rtcp_engine::Event;
 use std::alloc::AllocError;
 
@@ -65,6 +66,14 @@ fn push_fields(out: &mut Vec<u8>, event: &Event<'_>) -> Result<(), AllocError>
         Event::Leave { now, w } => {
             push_start(out, b"leave ", now)?;
             push_word(out, w)
+        }
+        Event::Configure { now, settings } => {
+            push_start(out, b"configure ", now)?;
+            push_settings(out, settings)
+        }
+        Event::Forget { now, ssrc } => {
+            push_start(out, b"forget ", now)?;
+            push_word(out, ssrc)
         }
     }
 }

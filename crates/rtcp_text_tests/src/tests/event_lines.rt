@@ -1,13 +1,13 @@
 //! Lines that say events.
 
 use super::same;
-use rtcp_engine::Event;
+use rtcp_engine::{Clock, Event};
 use rtcp_text::LineFault;
-use rtcp_text::event_line::{EventFault, read_event};
+use rtcp_text::event_line::{EventBuffers, EventFault, read_event};
 use std::test::Fail;
 
 /// Lines, each with its first fault.
-static FAULTS: [(&str, LineFault); 56] = [
+static FAULTS: [(&str, LineFault); 93] = [
     ("rtcp 18446744073709551616 1 00000000 -", LineFault::Number),
     ("rtp 000000000000000000007 1 00000000 80", LineFault::Number),
     ("sent 5 4294967296 0", LineFault::Number),
@@ -66,13 +66,58 @@ static FAULTS: [(&str, LineFault); 56] = [
     ("rtcp 0 zz 0000000 zz", LineFault::Number),
     ("rtcp zz 1 0000000 zz", LineFault::Number),
     ("rtp 0 1  80", LineFault::Hex),
+    // Settings.
+    ("configure 0 16 16 -", LineFault::Words),
+    ("configure 0 16 16 - - -", LineFault::Words),
+    ("configure 0 16 16 -  ", LineFault::Words),
+    ("CONFIGURE 0 16 16 - -", LineFault::Words),
+    ("configure x x x x zz", LineFault::Number),
+    ("configure 0 4294967296 16 - -", LineFault::Number),
+    ("configure 0 16 4294967296 - -", LineFault::Number),
+    ("configure 0  16 - -", LineFault::Number),
+    ("configure 0 16 16  -", LineFault::Number),
+    ("configure 0 16 16 -- -", LineFault::Number),
+    ("configure 0 16 16 8000 -", LineFault::Number),
+    ("configure 0 16 16 0:8000: -", LineFault::Number),
+    ("configure 0 16 16 :8000 -", LineFault::Number),
+    ("configure 0 16 16 0: -", LineFault::Number),
+    ("configure 0 16 16 256:8000 -", LineFault::Number),
+    ("configure 0 16 16 0:4294967296 -", LineFault::Number),
+    ("configure 0 16 16 0:8000, -", LineFault::Number),
+    ("configure 0 16 16 ,0:8000 -", LineFault::Number),
+    ("configure 0 16 16 0:8000,- -", LineFault::Number),
+    ("configure 0 16 16 0:8000;1:8000 -", LineFault::Number),
+    (
+        "configure 0 16 16 0:1,1:1,2:1,3:1,4:1,5:1,6:1,7:1,8:1,9:1,10:1,11:1,12:1,13:1,14:1,15:1,16:1 zz",
+        LineFault::Number,
+    ),
+    ("configure 0 16 16 0:x zz", LineFault::Number),
+    ("configure 0 16 16 - ", LineFault::Hex),
+    ("configure 0 16 16 - 2", LineFault::Hex),
+    ("configure 0 16 16 - :61", LineFault::Hex),
+    ("configure 0 16 16 - 256:61", LineFault::Hex),
+    ("configure 0 16 16 - 2:6", LineFault::Hex),
+    ("configure 0 16 16 - 2:6g", LineFault::Hex),
+    ("configure 0 16 16 - 2:-", LineFault::Hex),
+    ("configure 0 16 16 - 2:61:61", LineFault::Hex),
+    ("configure 0 16 16 - 2:61,", LineFault::Hex),
+    (
+        "configure 0 16 16 - 2:,3:,4:,5:,6:,7:,8:,2:",
+        LineFault::Hex,
+    ),
+    // Dismissals.
+    ("forget 0", LineFault::Words),
+    ("forget 0 0000000a 0000000b", LineFault::Words),
+    ("forget 0 000000a", LineFault::Hex),
+    ("forget 0 00000000a", LineFault::Hex),
+    ("forget x 0000000g", LineFault::Number),
 ];
 
 #[test]
 fn faults(rt: HostRuntime) -> Result<(), Fail> {
-    let mut datagram = Vec::new(rt.alloc());
+    let mut buffers = EventBuffers::new(rt.alloc());
     for (line, want) in &FAULTS {
-        let fault = read_event(line.as_bytes(), &mut datagram).err();
+        let fault = read_event(line.as_bytes(), &mut buffers).err();
         assert_eq!(rt; fault, Some(EventFault::Line(*want)), "{line}");
     }
     Ok(())
@@ -80,10 +125,10 @@ fn faults(rt: HostRuntime) -> Result<(), Fail> {
 
 #[test]
 fn datagrams(rt: HostRuntime) -> Result<(), Fail> {
-    let mut datagram = Vec::new(rt.alloc());
+    let mut buffers = EventBuffers::new(rt.alloc());
     match read_event(
         b"rtcp 18446744073709551615 18446744073709551615 0000000A 80C9f0",
-        &mut datagram,
+        &mut buffers,
     )? {
         Event::ArriveRtcp {
             now,
@@ -98,7 +143,7 @@ fn datagrams(rt: HostRuntime) -> Result<(), Fail> {
     }
     match read_event(
         b"rtp 00000000000000000007 00000000000000000008 fFfFfFfF -",
-        &mut datagram,
+        &mut buffers,
     )? {
         Event::ArriveRtp {
             now,
@@ -116,8 +161,8 @@ fn datagrams(rt: HostRuntime) -> Result<(), Fail> {
 
 #[test]
 fn numbers(rt: HostRuntime) -> Result<(), Fail> {
-    let mut datagram = Vec::new(rt.alloc());
-    match read_event(b"sent 5 4294967295 160", &mut datagram)? {
+    let mut buffers = EventBuffers::new(rt.alloc());
+    match read_event(b"sent 5 4294967295 160", &mut buffers)? {
         Event::SentRtp {
             now,
             rtp_ts,
@@ -125,13 +170,89 @@ fn numbers(rt: HostRuntime) -> Result<(), Fail> {
         } => assert_eq!(rt; (now, rtp_ts, octets), (5, u32::MAX, 160)),
         _ => Err::<(), &str>("no packet sent")?,
     }
-    match read_event(b"tick 1026037 0000000a fFfFfFfF", &mut datagram)? {
+    match read_event(b"tick 1026037 0000000a fFfFfFfF", &mut buffers)? {
         Event::Tick { now, w1, w2 } => assert_eq!(rt; (now, w1, w2), (1_026_037, 10, u32::MAX)),
         _ => Err::<(), &str>("no tick")?,
     }
-    match read_event(b"leave 10000000 0000000A", &mut datagram)? {
+    match read_event(b"leave 10000000 0000000A", &mut buffers)? {
         Event::Leave { now, w } => assert_eq!(rt; (now, w), (10_000_000, 10)),
         _ => Err::<(), &str>("no leave")?,
+    }
+    Ok(())
+}
+
+/// A clock, as a line has it.
+fn clock(payload_type: u8, rate: u32) -> Clock {
+    Clock { payload_type, rate }
+}
+
+#[test]
+fn settings(rt: HostRuntime) -> Result<(), Fail> {
+    let mut buffers = EventBuffers::new(rt.alloc());
+    let line = b"configure 5 16 1073741824 255:4294967295,0:8000 255:4aFF,2:,2:61";
+    let Event::Configure { now, settings } = read_event(line, &mut buffers)? else {
+        return Err("no settings")?;
+    };
+    assert_eq!(rt;
+        (now, settings.sender_bw, settings.receiver_bw),
+        (5, 16, 1 << 30)
+    );
+    assert_eq!(rt;
+        settings.clocks.as_slice(),
+        [clock(255, u32::MAX), clock(0, 8_000)].as_slice()
+    );
+    let kinds = [255, 2, 2];
+    let texts: [&[u8]; 3] = [&[0x4a, 0xff], &[], b"a"];
+    assert_eq!(rt; settings.extras.len(), 3);
+    for (i, item) in settings.extras.iter().enumerate() {
+        assert_eq!(rt; item.kind, kinds[i]);
+        same(&rt, &item.text, texts[i], "an item");
+    }
+    // Nothing of one line is left in the next.
+    let Event::Configure { settings, .. } = read_event(b"configure 5 0 0 - -", &mut buffers)? else {
+        return Err("no bare settings")?;
+    };
+    assert_eq!(rt; (settings.sender_bw, settings.receiver_bw), (0, 0));
+    assert!(rt; settings.clocks.is_empty() && settings.extras.is_empty());
+    Ok(())
+}
+
+/// Sixteen clocks and seven items, one of them with the longest text there is; and one that is too long.
+#[test]
+fn most_settings(rt: HostRuntime) -> Result<(), Fail> {
+    let mut buffers = EventBuffers::new(rt.alloc());
+    for (octets, is_read) in [(255, true), (256, false)] {
+        let mut line = Vec::new(rt.alloc());
+        line.extend_from_slice(b"configure 0 16 16 0:1")?;
+        for _ in 1..16 {
+            line.extend_from_slice(b",127:90000")?;
+        }
+        line.extend_from_slice(b" 2:,3:,4:,5:,6:,7:,8:")?;
+        for _ in 0..octets {
+            line.extend_from_slice(b"5a")?;
+        }
+        match read_event(&line, &mut buffers) {
+            Ok(Event::Configure { settings, .. }) => {
+                assert!(rt; is_read);
+                assert_eq!(rt; (settings.clocks.len(), settings.extras.len()), (16, 7));
+                assert_eq!(rt; settings.extras[6].text.len(), 255);
+            }
+            Ok(_) => Err::<(), &str>("no settings")?,
+            Err(fault) => {
+                assert!(rt; !is_read);
+                assert_eq!(rt; fault, EventFault::Line(LineFault::Hex));
+            }
+        }
+    }
+    Ok(())
+}
+
+#[test]
+fn dismissals(rt: HostRuntime) -> Result<(), Fail> {
+    let mut buffers = EventBuffers::new(rt.alloc());
+    match read_event(b"forget 18446744073709551615 0000000A", &mut buffers)? {
+        Event::Forget { now, ssrc } => assert_eq!(rt; (now, ssrc), (u64::MAX, 10)),
+        _ => Err::<(), &str>("no dismissal")?,
     }
     Ok(())
 }

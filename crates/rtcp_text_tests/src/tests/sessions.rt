@@ -47,6 +47,7 @@ pub(super) fn plain() -> Config {
         sender_bw: 100,
         receiver_bw: 300,
         rate: 8000,
+        clocks: ArrayVec::new(),
         ntp_base: 0,
     }
 }

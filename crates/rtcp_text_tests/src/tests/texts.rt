@@ -2,7 +2,7 @@
 
 use super::same;
 use arrayvec::ArrayVec;
-use rtcp_engine::{Event, Out, OutKind, Refusal, Step};
+use rtcp_engine::{ConfigError, Event, Out, OutKind, Refusal, Step};
 use rtcp_text::text::digits::{push_decimal, push_octets, push_signed};
 use rtcp_text::text::{
     push_accepted, push_answer, push_event, push_fault, push_packet, push_start,
@@ -63,9 +63,6 @@ enum Said {
     /// The line of that datagram.
     Accepted(&'static [&'static [u8]]),
     Fault(FaultReason, usize),
-    Event(Event<'static>),
-    /// The lines of several, one after the other.
-    Events(&'static [Event<'static>]),
     /// The line of a start, with the next moment.
     Start(u64),
     /// The line of a call that was taken, by its members, its senders, the next moment, the new SSRC and the octets of
@@ -82,7 +79,7 @@ const ITEM: WireFault = WireFault {
 };
 
 /// Each kind of text, as docs/FORMATS.md describes them.
-static TEXTS: [(Said, &str); 53] = [
+static TEXTS: [(Said, &str); 50] = [
     // numbers
     (Said::Number(0), "0"),
     (Said::Number(9), "9"),
@@ -169,62 +166,6 @@ static TEXTS: [(Said, &str); 53] = [
     (Said::Fault(FaultReason::Item, 100), "F8 Item at 100\n"),
     (Said::Fault(FaultReason::Reason, 20), "F9 Reason at 20\n"),
     (Said::Fault(FaultReason::TooLong, 0), "F10 TooLong at 0\n"),
-    // each kind of event
-    (
-        Said::Event(Event::ArriveRtcp {
-            now: 0,
-            peer: 139_637_976_798_093,
-            w: 0xbb,
-            bytes: &EMPTY_REPORT,
-        }),
-        "rtcp 0 139637976798093 000000bb 80c9000101234567\n",
-    ),
-    (
-        Said::Event(Event::ArriveRtp {
-            now: 1_125_899_906_842_624,
-            peer: u64::MAX,
-            w: u32::MAX,
-            bytes: &[],
-        }),
-        "rtp 1125899906842624 18446744073709551615 ffffffff -\n",
-    ),
-    (
-        Said::Event(Event::SentRtp {
-            now: 20_000,
-            rtp_ts: u32::MAX,
-            octets: 160,
-        }),
-        "sent 20000 4294967295 160\n",
-    ),
-    (
-        Said::Event(Event::Tick {
-            now: 1_026_037,
-            w1: 0,
-            w2: 0x89ab_cdef,
-        }),
-        "tick 1026037 00000000 89abcdef\n",
-    ),
-    (
-        Said::Event(Event::Leave {
-            now: 2_000_000,
-            w: 1,
-        }),
-        "leave 2000000 00000001\n",
-    ),
-    (
-        Said::Events(&[
-            Event::Tick {
-                now: 1_026_037,
-                w1: 0,
-                w2: 0x89ab_cdef,
-            },
-            Event::Leave {
-                now: 2_000_000,
-                w: 1,
-            },
-        ]),
-        "tick 1026037 00000000 89abcdef\nleave 2000000 00000001\n",
-    ),
     // answers
     (
         Said::Start(1_026_037),
@@ -267,6 +208,18 @@ static TEXTS: [(Said, &str); 53] = [
         "refused E6 Rtp: G5 Padding\n",
     ),
     (Said::Refused(Refusal::OwnSsrc), "refused E7 OwnSsrc\n"),
+    (
+        Said::Refused(Refusal::Settings(ConfigError::Bandwidth)),
+        "refused E8 Settings: C4 Bandwidth\n",
+    ),
+    (
+        Said::Refused(Refusal::Settings(ConfigError::Rate)),
+        "refused E8 Settings: C5 Rate\n",
+    ),
+    (
+        Said::Refused(Refusal::Settings(ConfigError::Item)),
+        "refused E8 Settings: C6 Item\n",
+    ),
 ];
 
 /// The octets of these parts, one after the other.
@@ -284,14 +237,6 @@ fn push_last(alloc: Global, out: &mut Vec<u8>, parts: &[&[u8]]) -> Result<(), Fa
     for packet in Compound::read(&octets)?.packets() {
         out.clear();
         push_packet(out, &packet)?;
-    }
-    Ok(())
-}
-
-/// Writes the lines of events, one after the other.
-fn push_events(out: &mut Vec<u8>, events: &[Event<'_>]) -> Result<(), AllocError> {
-    for event in events {
-        push_event(out, event)?;
     }
     Ok(())
 }
@@ -334,8 +279,6 @@ fn text_of(alloc: Global, said: &Said) -> Result<Vec<u8>, Fail> {
             push_accepted(&mut out, &Compound::read(&datagram(alloc, parts)?)?)?
         }
         Said::Fault(reason, place) => push_fault(&mut out, &WireFault { reason, place })?,
-        Said::Event(event) => push_event(&mut out, &event)?,
-        Said::Events(events) => push_events(&mut out, events)?,
         Said::Start(next) => push_start(&mut out, Some(next))?,
         Said::Step(members, senders, next, changed, report) => {
             push_step(&mut out, (members, senders), next, changed, report)?
@@ -351,6 +294,73 @@ fn texts(rt: HostRuntime) -> Result<(), Fail> {
     for (said, want) in &TEXTS {
         let out = text_of(rt.alloc(), said)?;
         same(&rt, out.as_slice(), want.as_bytes(), want);
+    }
+    Ok(())
+}
+
+/// Datagrams that came, each with its line.
+fn arrivals() -> [(Event<'static>, &'static str); 2] {
+    [
+        (
+            Event::ArriveRtcp {
+                now: 0,
+                peer: 139_637_976_798_093,
+                w: 0xbb,
+                bytes: &EMPTY_REPORT,
+            },
+            "rtcp 0 139637976798093 000000bb 80c9000101234567\n",
+        ),
+        (
+            Event::ArriveRtp {
+                now: 1_125_899_906_842_624,
+                peer: u64::MAX,
+                w: u32::MAX,
+                bytes: &[],
+            },
+            "rtp 1125899906842624 18446744073709551615 ffffffff -\n",
+        ),
+    ]
+}
+
+/// What else a participant is told, each with its line.
+fn calls() -> [(Event<'static>, &'static str); 4] {
+    let sent = Event::SentRtp {
+        now: 20_000,
+        rtp_ts: u32::MAX,
+        octets: 160,
+    };
+    let tick = Event::Tick {
+        now: 1_026_037,
+        w1: 0,
+        w2: 0x89ab_cdef,
+    };
+    let leave = Event::Leave {
+        now: 2_000_000,
+        w: 1,
+    };
+    let forget = Event::Forget {
+        now: 3_000_000,
+        ssrc: 0x89ab_cdef,
+    };
+    [
+        (sent, "sent 20000 4294967295 160\n"),
+        (tick, "tick 1026037 00000000 89abcdef\n"),
+        (leave, "leave 2000000 00000001\n"),
+        (forget, "forget 3000000 89abcdef\n"),
+    ]
+}
+
+/// The line of each kind of event, alone and after others. Settings are in `records`.
+#[test]
+fn events(rt: HostRuntime) -> Result<(), Fail> {
+    let (mut all, mut want_all) = (Vec::new(rt.alloc()), Vec::new(rt.alloc()));
+    for (event, want) in arrivals().iter().chain(&calls()) {
+        let mut out = Vec::new(rt.alloc());
+        push_event(&mut out, event)?;
+        same(&rt, &out, want.as_bytes(), want);
+        push_event(&mut all, event)?;
+        want_all.extend_from_slice(want.as_bytes())?;
+        same(&rt, &all, &want_all, want);
     }
     Ok(())
 }

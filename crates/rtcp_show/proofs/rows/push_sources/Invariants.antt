@@ -9,7 +9,7 @@ abbrev pub invariant-loop-state : goal.invariant-loop-state
 invariant-loop-state g l = record {
   can : (goal.iterator-loop-state g).can_next l.state-iterator;
   finite : (goal.iterator-loop-state g).is_finite l.state-iterator;
-  written : l.out.items ++ flat_map (λ state. row_text l.rate state (noted_in l.notes state.ssrc)) l.state-iterator
-      ≡ l.initial.out.items ++ flat_map (λ state. row_text l.rate state (noted_in l.notes state.ssrc))
+  written : l.out.items ++ flat_map (λ state. row_text state (noted_in l.notes state.ssrc)) l.state-iterator
+      ≡ l.initial.out.items ++ flat_map (λ state. row_text state (noted_in l.notes state.ssrc))
       l.initial.state-iterator;
 }

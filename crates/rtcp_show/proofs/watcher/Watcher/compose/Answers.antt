@@ -12,5 +12,5 @@ returns-clause-composed g c =
       noted = noted_in c.args.self.now.notes;
       says = said _ _ _ _ _ _ _ _ _ c.clear-2.ensures.items c.in_ok-push_moment.ensures c.in_ok-push.ensures.items
           c.in_ok-extend_from_slice.ensures.items c.deref.ensures.value c.clear.ensures.items
-          (rw c.max-rate.ensures at listed.2);
+          listed.2;
     }

@@ -17,7 +17,7 @@ returns-in-Ok-clause-written g c =
     let in_the_end = held_by g.W.Write.contents c.show_sources-listed.new.self in
     let terms = terms_of c.args.self.now in
     let Lines : List ℕ → Type 0 = ShowsBoth terms.to (event_value c.args.event.now) (answer_value c.args.answer.now) in
-    let Those : List ℕ → Type 0 = ShowsThose terms.rate (moment_of_event (event_value c.args.event.now)) history in
+    let Those : List ℕ → Type 0 = ShowsThose (moment_of_event (event_value c.args.event.now)) history in
     let first : (lines : List ℕ) × Lines lines × Appends at_first between lines = c.in-Ok.ensures.written in
     let before = subst (λ participant. StandsAt participant history) c.show_sources-listed.ensures.keeps.participant
     stands in
